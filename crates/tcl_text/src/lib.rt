@@ -1,0 +1,4 @@
+//! The texts of the Tcl command language: shared texts, and lists written in texts.
+#![tactic(auto)]
+
+pub mod text;
