@@ -2,4 +2,5 @@
 #![tactic(auto)]
 
 pub mod fault;
+mod scan;
 pub mod script;

@@ -1,0 +1,17 @@
+-- Texts and what they end in.
+use Rattle.std.specs.Prelude.{◌≡◌, ℕ, ◌==◌, ◌≤◌, Bool, true, false, List, [], ◌∷◌, ◌++◌, length}
+
+-- a text ends with another
+pub record EndsWith (s rest : List ℕ) : Type 0 where
+  pub front : List ℕ
+  pub whole : s ≡ front ++ rest
+
+-- whether a text begins with a byte
+abbrev pub begins_with : ℕ → List ℕ → Bool
+begins_with b [] = false
+begins_with b (c ∷ s) = c == b
+
+-- a text that begins with no ASCII character: it is empty, or another character comes
+abbrev pub IsNotAscii : List ℕ → Type 0
+IsNotAscii [] = Unit {0}
+IsNotAscii (b ∷ s) = 128 ≤ b

@@ -1,0 +1,119 @@
+//! The forms of a script's text that hold no other: white space, comments, names, words in braces.
+ghost use Rattle.std.specs.Prelude.{◌≡◌, ◌∷◌, [], ◌<◌, ◌≤◌, ◌==◌, length, true, false, Ok, Err, MatchOption, take, drop};
+ghost use Rattle.tcl_parser.specs.Characters.{is_white, is_separator, is_command_end, is_name_character, is_substitution};
+ghost use Rattle.tcl_parser.specs.Runs.{ends_run, run_of, after_run};
+ghost use Rattle.tcl_parser.specs.Texts.{EndsWith, begins_with, IsNotAscii};
+ghost use Rattle.tcl_parser.specs.Reading.{before};
+
+/// Where a run of characters that stand for themselves stands, which says what ends it.
+#[derive(Clone, Copy)]
+pub enum Run {
+    /// A comment.
+    Comment,
+    /// A word in braces.
+    Braces,
+    /// The name of a variable in braces.
+    VariableName,
+    /// The index of an element.
+    Index,
+    /// A word in quotes.
+    Quotes,
+    /// A word by itself; the flag says whether it is in brackets.
+    Bare(bool),
+}
+
+/// White space between words: space, tab, vertical tab, form feed and carriage return.
+pub fn is_white(byte: u8) -> bool
+    ensures { result ≡ is_white byte }
+{
+    byte == b' ' || byte == b'\t' || byte == 11 || byte == 12 || byte == b'\r'
+}
+
+/// What separates commands: a newline and a semicolon.
+pub fn is_separator(byte: u8) -> bool
+    ensures { result ≡ is_separator byte }
+{
+    byte == b'\n' || byte == b';'
+}
+
+/// What ends a command: a separator, and in brackets the close bracket.
+pub fn is_command_end(inside: bool, byte: u8) -> bool
+    ensures { result ≡ is_command_end inside byte }
+{
+    is_separator(byte) || (inside && byte == b']')
+}
+
+/// A letter, a digit or an underscore.
+fn is_name_character(byte: u8) -> bool
+    ensures { result ≡ is_name_character byte }
+{
+    byte.is_ascii_lowercase() || byte.is_ascii_uppercase() || byte.is_ascii_digit() || byte == b'_'
+}
+
+/// Where substitution begins.
+fn is_substitution(byte: u8) -> bool
+    ensures { result ≡ is_substitution byte }
+{
+    byte == b'$' || byte == b'[' || byte == b'\\'
+}
+
+impl Run {
+    /// Whether a byte ends the run.
+    fn ends_at(self, byte: u8) -> bool
+        ensures { result ≡ ends_run self byte }
+    {
+        match self {
+            Run::Comment => byte == b'\n' || byte == b'\\',
+            Run::Braces => byte == b'{' || byte == b'}' || byte == b'\\',
+            Run::VariableName => byte == b'}',
+            Run::Index => is_substitution(byte) || byte == b')',
+            Run::Quotes => is_substitution(byte) || byte == b'"',
+            Run::Bare(inside) => {
+                is_substitution(byte) || is_white(byte) || is_command_end(inside, byte)
+            }
+        }
+    }
+}
+
+/// The run that a text begins with, perhaps an empty one, and what follows it.
+pub fn split_run(text: &str, run: Run) -> (&str, &str)
+    ensures front { result.0.now ≡ run_of run text.now }
+    ensures rest { result.1.now ≡ after_run run text.now }
+{
+    let bytes = text.as_bytes();
+    let mut count = 0;
+    'bytes: while count < bytes.len() && !run.ends_at(bytes[count]) {
+        count += 1;
+    }
+    text.split_at(count)
+}
+
+/// The ASCII character that a text begins with, and what follows it.
+pub fn split_ascii(text: &str) -> Option<(u8, &str)>
+    ensures { MatchOption result (IsNotAscii text.now) (λ x. text.now ≡ x.0 ∷ x.1.now) }
+{
+    let bytes = text.as_bytes();
+    if bytes.is_empty() || bytes[0] >= 128 {
+        return None;
+    }
+    let (_, rest) = text.split_at(1);
+    Some((bytes[0], rest))
+}
+
+/// What follows an ASCII character that a text begins with.
+pub fn strip_byte(text: &str, byte: u8) -> Option<&str>
+    requires { byte < 128 }
+    ensures { MatchOption result (begins_with byte text.now ≡ false) (λ rest. text.now ≡ byte ∷ rest.now) }
+{
+    let (first, rest) = split_ascii(text)?;
+    if first == byte { Some(rest) } else { None }
+}
+
+/// The front of a text, up to a rest that it ends with.
+pub fn before<'a>(text: &'a str, rest: &str) -> &'a str
+    requires { EndsWith text.now rest.now }
+    ensures { result.now ≡ before text.now rest.now }
+{
+    let (front, _) = text.split_at(text.len() - rest.len());
+    front
+}
