@@ -1,9 +1,9 @@
 //! The forms of a script's text that hold no other: white space, comments, names, words in braces.
-ghost use Rattle.std.specs.Prelude.{◌≡◌, ◌∷◌, [], ◌<◌, ◌≤◌, ◌==◌, length, true, false, Ok, Err, MatchOption, take, drop};
+ghost use Rattle.std.specs.Prelude.{◌≡◌, ◌∷◌, [], ◌<◌, ◌≤◌, ◌==◌, length, true, false, Ok, Err, MatchOption, IfSome, IfNone, take, drop};
 ghost use Rattle.tcl_parser.specs.Characters.{is_white, is_separator, is_command_end, is_name_character, is_substitution};
 ghost use Rattle.tcl_parser.specs.Runs.{ends_run, run_of, after_run};
-ghost use Rattle.tcl_parser.specs.Texts.{EndsWith, begins_with, IsNotAscii};
-ghost use Rattle.tcl_parser.specs.Reading.{before};
+ghost use Rattle.tcl_parser.specs.Texts.{EndsWith, begins_with, IsNotAscii, after_ascii};
+ghost use Rattle.tcl_parser.specs.Reading.{before, after_white, after_gap, after_command, word_ends, command_ends};
 
 /// Where a run of characters that stand for themselves stands, which says what ends it.
 #[derive(Clone, Copy)]
@@ -90,7 +90,8 @@ pub fn split_run(text: &str, run: Run) -> (&str, &str)
 
 /// The ASCII character that a text begins with, and what follows it.
 pub fn split_ascii(text: &str) -> Option<(u8, &str)>
-    ensures { MatchOption result (IsNotAscii text.now) (λ x. text.now ≡ x.0 ∷ x.1.now) }
+    ensures split { MatchOption result (IsNotAscii text.now) (λ x. text.now ≡ x.0 ∷ x.1.now) }
+    ensures ascii { IfSome result (λ x. x.0 < 128) }
 {
     let bytes = text.as_bytes();
     if bytes.is_empty() || bytes[0] >= 128 {
@@ -116,4 +117,125 @@ pub fn before<'a>(text: &'a str, rest: &str) -> &'a str
 {
     let (front, _) = text.split_at(text.len() - rest.len());
     front
+}
+
+/// What follows white space that a text begins with, as far as one character or a backslash-newline.
+fn strip_white(text: &str) -> Option<&str>
+    ensures on { IfSome result (λ rest. after_white text.now ≡ after_white rest.now) }
+    ensures shorter { IfSome result (λ rest. length rest.now < length text.now) }
+    ensures none { IfNone result (after_white text.now ≡ text.now) }
+{
+    let (first, rest) = split_ascii(text)?;
+    if is_white(first) {
+        return Some(rest);
+    }
+    if first != b'\\' {
+        return None;
+    }
+    let after = strip_byte(rest, b'\n')?;
+    Some(after)
+}
+
+/// What follows the white space that a text begins with. A backslash-newline counts as white.
+pub fn skip_white(text: &str) -> &str
+    ensures { result.now ≡ after_white text.now }
+{
+    let mut rest = text;
+    'white: while let Some(after) = strip_white(rest) {
+        rest = after;
+    }
+    rest
+}
+
+/// What follows the ASCII character that a text begins with, or the text where there is none.
+fn skip_ascii(text: &str) -> &str
+    ensures { result.now ≡ after_ascii text.now }
+{
+    match split_ascii(text) {
+        Some((_, rest)) => rest,
+        None => text,
+    }
+}
+
+/// What follows a comment and its newline.
+fn skip_comment(text: &str) -> &str
+    ensures rest { after_gap true text.now ≡ after_gap false result.now }
+    ensures shorter { length result.now ≤ length text.now }
+{
+    let mut rest = text;
+    'comment: loop {
+        let (_, stop) = split_run(rest, Run::Comment);
+        let Some((byte, after)) = split_ascii(stop) else {
+            return stop;
+        };
+        if byte == b'\n' {
+            return after;
+        }
+        rest = skip_ascii(after);
+    }
+}
+
+/// What follows what may stand before a command, as far as one character, a backslash-newline or a comment.
+fn strip_gap(text: &str) -> Option<&str>
+    ensures on { IfSome result (λ rest. after_gap false text.now ≡ after_gap false rest.now) }
+    ensures shorter { IfSome result (λ rest. length rest.now < length text.now) }
+    ensures none { IfNone result (after_gap false text.now ≡ text.now) }
+{
+    let (first, rest) = split_ascii(text)?;
+    if is_white(first) || is_separator(first) {
+        return Some(rest);
+    }
+    if first == b'#' {
+        return Some(skip_comment(rest));
+    }
+    if first != b'\\' {
+        return None;
+    }
+    let after = strip_byte(rest, b'\n')?;
+    Some(after)
+}
+
+/// What follows the white space, the separators and the comments that a text begins with.
+pub fn skip_gap(text: &str) -> &str
+    ensures { result.now ≡ after_gap false text.now }
+{
+    let mut rest = text;
+    'gap: while let Some(after) = strip_gap(rest) {
+        rest = after;
+    }
+    rest
+}
+
+/// Whether a word that isn't in quotes or braces can't go on: white space, a command's end or the text's end comes.
+pub fn word_ends(inside: bool, text: &str) -> bool
+    ensures { result ≡ word_ends inside text.now }
+{
+    match split_ascii(text) {
+        None => text.is_empty(),
+        Some((first, rest)) => {
+            is_white(first)
+                || is_command_end(inside, first)
+                || (first == b'\\' && strip_byte(rest, b'\n').is_some())
+        }
+    }
+}
+
+/// Whether a command ends, where no white space comes.
+pub fn command_ends(inside: bool, text: &str) -> bool
+    ensures { result ≡ command_ends inside text.now }
+{
+    match split_ascii(text) {
+        None => text.is_empty(),
+        Some((first, _)) => is_command_end(inside, first),
+    }
+}
+
+/// What follows a command's end, of which a close bracket is left.
+pub fn skip_command_end(text: &str) -> &str
+    ensures { result.now ≡ after_command text.now }
+{
+    match split_ascii(text) {
+        Some((first, rest)) if is_separator(first) => rest,
+        _ => text,
+    }
 }
