@@ -1,2 +1,4 @@
 mod RunLemmas
 mod GapLemmas
+mod NameLemmas
+mod BraceLemmas

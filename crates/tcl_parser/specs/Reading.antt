@@ -1,7 +1,7 @@
 -- What a script reads as: the commands of a text, in order, and the fault that comes after them.
 use Rattle.std.specs.Prelude.{ℕ, zero, suc, ◌+◌, ◌-◌, ◌==◌, nat_lt, Bool, true, false, ◌&&◌, ◌||◌, not, cond, List, [], ◌∷◌, ◌++◌, length, take, drop, take_while, Option, Some, None, Result, Ok, Err}
 use Rattle.std.specs.List.{prefix_len}
-use Rattle.tcl_text.specs.Backslash.{escape, escape_rest}
+use Rattle.tcl_text.specs.Backslash.{escape, escape_rest, is_blank}
 use Rattle.tcl_parser.specs.declared.fault.Fault.{Fault}
 use Rattle.tcl_parser.specs.declared.fault.Fault.TheVariants.{CloseBrace, VariableBrace, CloseQuote, CloseBracket, AfterBrace, AfterQuote, CloseParenthesis, TooDeep}
 use Rattle.tcl_parser.specs.declared.script.Part.{Part}
@@ -89,9 +89,6 @@ after_command (b ∷ s) = cond (is_separator b) s (b ∷ s)
 abbrev pub put : List ℕ → Result (List ℕ × List ℕ) Fault → Result (List ℕ × List ℕ) Fault
 put bs (Ok read) = Ok (bs ++ read.0, read.1)
 put bs (Err f) = Err f
-
-abbrev pub is_blank : ℕ → Bool
-is_blank b = (b == 32) || (b == 9)
 
 unfoldable pub in_braces : Bool → ℕ → List ℕ → Result (List ℕ × List ℕ) Fault
 in_braces joining depth [] = Err CloseBrace

@@ -1,9 +1,13 @@
 //! The forms of a script's text that hold no other: white space, comments, names, words in braces.
-ghost use Rattle.std.specs.Prelude.{◌≡◌, ◌∷◌, [], ◌<◌, ◌≤◌, ◌==◌, length, true, false, Ok, Err, MatchOption, IfSome, IfNone, take, drop};
+ghost use Rattle.std.specs.Prelude.{◌≡◌, ◌∷◌, [], ◌+◌, ◌^◌, ◌<◌, ◌≤◌, ◌==◌, length, true, false, Ok, Err, MatchOption, MatchResult, IfOk, IfSome, IfNone, take, drop};
 ghost use Rattle.tcl_parser.specs.Characters.{is_white, is_separator, is_command_end, is_name_character, is_substitution};
 ghost use Rattle.tcl_parser.specs.Runs.{ends_run, run_of, after_run};
 ghost use Rattle.tcl_parser.specs.Texts.{EndsWith, begins_with, IsNotAscii, after_ascii};
-ghost use Rattle.tcl_parser.specs.Reading.{before, after_white, after_gap, after_command, word_ends, command_ends};
+ghost use Rattle.tcl_parser.specs.Reading.{before, after_white, after_gap, after_command, word_ends, command_ends, is_expanded, after_name, in_braces};
+ghost use Rattle.tcl_parser.specs.Braces.{read_on, GoesOn};
+
+use crate::fault::Fault;
+use tcl_text::backslash::read_escape;
 
 /// Where a run of characters that stand for themselves stands, which says what ends it.
 #[derive(Clone, Copy)]
@@ -237,5 +241,109 @@ pub fn skip_command_end(text: &str) -> &str
     match split_ascii(text) {
         Some((first, rest)) if is_separator(first) => rest,
         _ => text,
+    }
+}
+
+/// What follows `{*}`, where it marks the word behind it: it stands directly before that word.
+pub fn strip_mark(inside: bool, text: &str) -> Option<&str>
+    ensures marks { IfSome result (λ rest. is_expanded inside text.now ≡ true) }
+    ensures rest { IfSome result (λ rest. rest.now ≡ drop 3 text.now) }
+    ensures none { IfNone result (is_expanded inside text.now ≡ false) }
+{
+    let rest = strip_byte(text, b'{')?;
+    let rest = strip_byte(rest, b'*')?;
+    let rest = strip_byte(rest, b'}')?;
+    if word_ends(inside, rest) {
+        None
+    } else {
+        Some(rest)
+    }
+}
+
+/// What follows a character of a name, or two colons, and whether that ends a run of two or more colons. The flag says
+/// that such a run stands before the text.
+fn strip_name(colons: bool, text: &str) -> Option<(bool, &str)>
+    ensures on { IfSome result (λ x. after_name colons text.now ≡ after_name x.0 x.1.now) }
+    ensures shorter { IfSome result (λ x. length x.1.now < length text.now) }
+    ensures none { IfNone result (after_name colons text.now ≡ text.now) }
+{
+    let (byte, rest) = split_ascii(text)?;
+    if is_name_character(byte) {
+        return Some((false, rest));
+    }
+    if byte != b':' {
+        return None;
+    }
+    if colons {
+        return Some((true, rest));
+    }
+    let rest = strip_byte(rest, b':')?;
+    Some((true, rest))
+}
+
+/// What follows the name that a text begins with, perhaps an empty one: letters, digits, underscores and runs of two or
+/// more colons, as `Tcl(n)`, rule 8, has it.
+pub fn skip_name(text: &str) -> &str
+    ensures rest { result.now ≡ after_name false text.now }
+    ensures ends { EndsWith text.now result.now }
+{
+    let mut rest = text;
+    let mut colons = false;
+    'name: while let Some((run, after)) = strip_name(colons, rest) {
+        colons = run;
+        rest = after;
+    }
+    rest
+}
+
+/// A piece of a word in braces, and what follows it.
+pub enum BracePiece<'a> {
+    /// The close brace of the word.
+    Close(&'a str),
+    /// Characters that stand for themselves; then how many braces are open inside the word, and what follows.
+    Characters(&'a str, usize, &'a str),
+    /// A backslash-newline with the spaces and tabs after it, which is one space.
+    Line(&'a str),
+}
+
+/// A piece of a word in braces, from a place in it at which `depth` braces are open inside the word.
+///
+/// # Errors
+/// The text ends inside the word.
+pub fn next_in_braces(text: &str, depth: usize) -> Result<BracePiece<'_>, Fault>
+    requires { depth + length text.now < 2 ^ 64 }
+    ensures reads { MatchResult result (λ piece. in_braces false depth text.now ≡ read_on depth piece) (λ fault. in_braces false depth text.now ≡ Err fault) }
+    ensures goes_on { IfOk result (λ piece. GoesOn depth text.now piece) }
+{
+    let (run, stop) = split_run(text, Run::Braces);
+    if !run.is_empty() {
+        return Ok(BracePiece::Characters(run, depth, stop));
+    }
+    let Some((byte, rest)) = split_ascii(stop) else {
+        return Err(Fault::CloseBrace);
+    };
+    match byte {
+        b'}' if depth == 0 => Ok(BracePiece::Close(rest)),
+        b'}' => Ok(BracePiece::Characters("}", depth - 1, rest)),
+        b'{' => Ok(BracePiece::Characters("{", depth + 1, rest)),
+        _ => Ok(backslash_in_braces(stop, rest, depth)),
+    }
+}
+
+/// What a backslash in a word in braces is, with what follows the backslash.
+fn backslash_in_braces<'a>(text: &'a str, rest: &'a str, depth: usize) -> BracePiece<'a>
+    requires { text.now ≡ 92 ∷ rest.now }
+    ensures reads { in_braces false depth text.now ≡ read_on depth result }
+    ensures goes_on { GoesOn depth text.now result }
+{
+    match strip_byte(rest, b'\n') {
+        Some(_) => {
+            let (_, after) = read_escape(rest);
+            BracePiece::Line(after)
+        }
+        None => {
+            let after = skip_ascii(rest);
+            BracePiece::Characters(before(text, after), depth, after)
+        }
     }
 }
