@@ -1,6 +1,5 @@
 -- Words in braces, piece by piece.
-use Rattle.std.proofs.Common.{◌≡◌, ◌≢◌, ℕ, zero, suc, ◌+◌, ◌-◌, ◌<◌, ◌≤◌, ◌∙◌, Bool, true, false, cond, nat_lt, not, ◌&&◌, ◌||◌, ◌==◌, List, [], ◌∷◌, ◌++◌, length, take, drop, Result, Ok, Err, refl, ap, sym, inl, inr, arith, add-one, add_comm, length-append}
-use Rattle.std.proofs.Math.Seq.{take-append_seam}
+use Rattle.std.proofs.Common.{◌≡◌, ◌≢◌, ℕ, zero, suc, ◌+◌, ◌-◌, ◌<◌, ◌≤◌, ◌∙◌, Bool, true, false, cond, nat_lt, not, ◌&&◌, ◌||◌, ◌==◌, List, [], ◌∷◌, ◌++◌, length, take, drop, Result, Ok, Err, refl, ap, sym, inl, inr, arith, add-one, add_comm}
 use Rattle.std.specs.List.{prefix_len}
 use Rattle.std.proofs.lemmas.Bool.{cases_Bool, cases_lt, lt-ltb, le-ltb, ne_eqb, or_parts, and_left}
 use Rattle.std.proofs.lemmas.Bool.Decides.{nat_tests}
@@ -12,7 +11,7 @@ use Rattle.tcl_parser.specs.Texts.{EndsWith, begins_with, IsNotAscii, after_asci
 use Rattle.tcl_parser.specs.Runs.{ends_run, run_of, after_run, run_len}
 use Rattle.tcl_parser.specs.Reading.{put, in_braces, before}
 use Rattle.tcl_parser.proofs.RunLemmas.{after_run_goes_on, after_run_stops, run_of_goes_on, run_of_stops, after_passes, after_stops}
-use Rattle.tcl_parser.proofs.NameLemmas.{EndsWith-more, EndsWith-itself}
+use Rattle.tcl_parser.proofs.EndLemmas.{EndsWith-more, EndsWith-itself, before-front}
 
 pub put-put : (b : ℕ) (bs : List ℕ) (r : Result (List ℕ × List ℕ) Fault) → put (b ∷ []) (put bs r) ≡ put (b ∷ bs) r
 put-put b bs (Ok x) = refl
@@ -135,21 +134,16 @@ lone_step : (depth : ℕ) → in_braces false depth (92 ∷ []) ≡ put (92 ∷ 
 unfolding in_braces
 lone_step depth = refl
 
-before_cons : (x rest : List ℕ) → before (x ++ rest) rest ≡ x
-before_cons x rest =
-    let n : length (x ++ rest) - length rest ≡ length x = omega (arith, length-append x rest) in
-    ap (λ k. take k (x ++ rest)) n ∙ take-append_seam x rest
-
 backslash_step : (depth : ℕ) (t : List ℕ) → begins_with 10 t ≡ false → in_braces false depth (92 ∷ t) ≡ put (before (92 ∷ t) (after_ascii t)) (in_braces false depth (after_ascii t))
 backslash_step depth [] h = lone_step depth
 backslash_step depth (c ∷ u) h =
     elim (cases_lt c 128) [
       inl small ↦
         let test : nat_lt c 128 ≡ true = lt-ltb _ _ small in
-        rw test (pair_step depth c u h ∙ ap (λ x. put x (in_braces false depth u)) (sym (before_cons (92 ∷ c ∷ []) u)))
+        rw test (pair_step depth c u h ∙ ap (λ x. put x (in_braces false depth u)) (sym (before-front (92 ∷ c ∷ []) u)))
     | inr large ↦
         let test : nat_lt c 128 ≡ false = le-ltb _ _ large in
-        rw test (pair_step depth c u h ∙ sym (put-put 92 (c ∷ []) (in_braces false depth u)) ∙ ap (put (92 ∷ [])) (sym (plain_in_braces depth c u (grind (arith, nat_tests)))) ∙ ap (λ x. put x (in_braces false depth (c ∷ u))) (sym (before_cons (92 ∷ []) (c ∷ u))))
+        rw test (pair_step depth c u h ∙ sym (put-put 92 (c ∷ []) (in_braces false depth u)) ∙ ap (put (92 ∷ [])) (sym (plain_in_braces depth c u (grind (arith, nat_tests)))) ∙ ap (λ x. put x (in_braces false depth (c ∷ u))) (sym (before-front (92 ∷ []) (c ∷ u))))
     ]
 
 pub backslash_in_braces : (depth : ℕ) (s t after front : List ℕ) → s ≡ 92 ∷ t → begins_with 10 t ≡ false → after ≡ after_ascii t → front ≡ before s after → in_braces false depth s ≡ put front (in_braces false depth after)

@@ -1,4 +1,7 @@
+mod EndLemmas
 mod RunLemmas
 mod GapLemmas
 mod NameLemmas
 mod BraceLemmas
+mod SeveralLemmas
+mod PartLemmas

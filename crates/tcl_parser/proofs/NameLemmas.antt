@@ -4,6 +4,7 @@ use Rattle.std.proofs.lemmas.Bool.{cases_Bool, ne_eqb, or_parts}
 use Rattle.std.proofs.lemmas.Bool.Decides.{nat_tests}
 use Rattle.tcl_parser.specs.Characters.{is_name_character}
 use Rattle.tcl_parser.specs.Texts.{EndsWith, begins_with, IsNotAscii}
+use Rattle.tcl_parser.proofs.EndLemmas.{EndsWith-more, EndsWith-itself, EndsWith-cond}
 use Rattle.tcl_parser.specs.Reading.{after_name, is_expanded, word_ends}
 
 -- ## Names
@@ -57,24 +58,14 @@ name_stops_end colons [] h = refl
 name_stops_end colons (b ∷ t) h = name_stops_at colons b t (grind (arith, nat_tests)) (grind (arith, nat_tests))
 
 -- a text ends with what follows the name that it begins with
-pub EndsWith-more : (b : ℕ) (s rest : List ℕ) → EndsWith s rest → EndsWith (b ∷ s) rest
-EndsWith-more b s rest h = record { front = b ∷ h.front; whole = ap (λ x. b ∷ x) h.whole }
-
-pub EndsWith-itself : (s : List ℕ) → EndsWith s s
-EndsWith-itself s = record { front = []; whole = refl }
-
-chosen : (b : Bool) (s x y : List ℕ) → EndsWith s x → EndsWith s y → EndsWith s (cond b x y)
-chosen true s x y h k = h
-chosen false s x y h k = k
-
 pub EndsWith-after_name : (colons : Bool) (s : List ℕ) → EndsWith s (after_name colons s)
 unfolding after_name
 EndsWith-after_name colons [] = EndsWith-itself []
-EndsWith-after_name colons (b ∷ []) = chosen _ _ _ _ (EndsWith-more b [] [] (EndsWith-itself [])) (EndsWith-itself (b ∷ []))
+EndsWith-after_name colons (b ∷ []) = EndsWith-cond _ _ _ _ (EndsWith-more b [] [] (EndsWith-itself [])) (EndsWith-itself (b ∷ []))
 EndsWith-after_name colons (b ∷ c ∷ s) =
-    chosen _ _ _ _ (EndsWith-more b (c ∷ s) _ (EndsWith-after_name false (c ∷ s)))
-    (chosen _ _ _ _ (EndsWith-more b (c ∷ s) _ (EndsWith-after_name true (c ∷ s)))
-    (chosen _ _ _ _ (EndsWith-more b (c ∷ s) _ (EndsWith-more c s _ (EndsWith-after_name true s)))
+    EndsWith-cond _ _ _ _ (EndsWith-more b (c ∷ s) _ (EndsWith-after_name false (c ∷ s)))
+    (EndsWith-cond _ _ _ _ (EndsWith-more b (c ∷ s) _ (EndsWith-after_name true (c ∷ s)))
+    (EndsWith-cond _ _ _ _ (EndsWith-more b (c ∷ s) _ (EndsWith-more c s _ (EndsWith-after_name true s)))
     (EndsWith-itself (b ∷ c ∷ s))))
 
 -- ## The mark

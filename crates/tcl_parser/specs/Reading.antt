@@ -9,6 +9,7 @@ use Rattle.tcl_parser.specs.declared.script.Part.TheVariants.{Literal, Variable,
 use Rattle.tcl_parser.specs.Words.{WordRead, Reading}
 use Rattle.tcl_parser.specs.declared.scan.Run.{Run}
 use Rattle.tcl_parser.specs.declared.scan.Run.TheVariants.{VariableName, Index, Quotes, Bare}
+use Rattle.tcl_parser.specs.Texts.{begins_with}
 use Rattle.tcl_parser.specs.Runs.{run_of, after_run}
 use Rattle.tcl_parser.specs.Characters.{newline, quote, hash, dollar, open_parenthesis, close_parenthesis, asterisk, colon, open_bracket, backslash, close_bracket, open_brace, close_brace, is_white, is_separator, is_command_end, is_name_character, is_substitution}
 use Rattle.tcl_parser.specs.Several.{Turn, over, next, Several, several}
@@ -256,8 +257,7 @@ read_commands level s = several (command_turn level) (suc (length s)) s
 
 -- a script in brackets has to end at a close bracket
 abbrev pub closing : List ℕ → Result (List ℕ) Fault
-closing [] = Err CloseBracket
-closing (b ∷ s) = Ok (b ∷ s)
+closing s = cond (begins_with close_bracket s) (Ok s) (Err CloseBracket)
 
 -- What follows a bracketed script, from its close bracket on, where so many brackets may still stand inside one another.
 unfoldable pub after_script : ℕ → List ℕ → Result (List ℕ) Fault
