@@ -5,3 +5,4 @@ mod NameLemmas
 mod BraceLemmas
 mod SeveralLemmas
 mod PartLemmas
+mod WordLemmas

@@ -66,3 +66,15 @@ after_shorter text_of s (Err f) later rest falls n h e = cc
 pub several-shorter : {A S : Type 0} (text_of : S → List ℕ) (turn : S → Result (Turn A S) Fault) → AllFall text_of turn → (n : ℕ) (s : S) (rest : List ℕ) → ((x : List ℕ) → turn s ≡ Ok (over x) → ⊥) → (several turn (suc n) s).ended ≡ Ok rest → length rest < length (text_of s)
 several-shorter text_of turn falls n s rest on e =
     after_shorter text_of (text_of s) (turn s) (several turn n) rest (falls s) on (λ t. several-ends text_of turn falls n t rest) (sym (ap (λ x. x.ended) (unfold_several turn n s)) ∙ e)
+
+-- less follows where a thing was read
+after_some : {A S : Type 0} (text_of : S → List ℕ) (s : List ℕ) (r : Result (Turn A S) Fault) (later : S → Several A) (rest : List ℕ) (a : A) (others : List A) → Falls text_of s r → ((t : S) → (later t).ended ≡ Ok rest → EndsWith (text_of t) rest) → (and_then r later).items ≡ a ∷ others → (and_then r later).ended ≡ Ok rest → length rest < length s
+after_some text_of s (Ok (over x)) later rest a others falls h i e = cc
+after_some text_of s (Ok (next b t)) later rest a others falls h i e = let l = EndsWith-length (text_of t) rest (h t e) in let m = falls.1 in omega arith
+after_some text_of s (Err f) later rest a others falls h i e = cc
+
+pub several-some : {A S : Type 0} (text_of : S → List ℕ) (turn : S → Result (Turn A S) Fault) → AllFall text_of turn → (n : ℕ) (s : S) (rest : List ℕ) (a : A) (others : List A) → (several turn n s).items ≡ a ∷ others → (several turn n s).ended ≡ Ok rest → length rest < length (text_of s)
+unfolding several
+several-some text_of turn falls zero s rest a others i e = cc
+several-some text_of turn falls (suc n) s rest a others i e =
+    after_some text_of (text_of s) (turn s) (several turn n) rest a others (falls s) (λ t. several-ends text_of turn falls n t rest) i e
