@@ -8,7 +8,7 @@ use Rattle.std.proofs.lemmas.Str.{IsCharBoundary-before_ascii, IsCharBoundary-en
 use Rattle.tcl_parser.specs.declared.scan.Run.{Run}
 use Rattle.tcl_parser.specs.declared.scan.Run.TheVariants.{Comment, Braces, VariableName, Index, Quotes, Bare}
 use Rattle.tcl_parser.specs.Runs.{ends_run, run_len, run_of, after_run}
-use Rattle.tcl_parser.specs.Texts.{IsNotAscii}
+use Rattle.tcl_parser.specs.Texts.{IsNotAscii, begins_with}
 
 -- one more element passes
 pub prefix_len_grows : (p : ℕ → Bool) (s : List ℕ) (n : ℕ) → n ≤ prefix_len p s → n < length s → p (get_or s n 0) ≡ true → n + 1 ≤ prefix_len p s
@@ -98,3 +98,8 @@ after_run_end run s (b ∷ t) e h = let small = ends_run_ascii run b (after_run_
 
 pub after_run_len : (run : Run) (s t : List ℕ) → t ≡ after_run run s → length t ≤ length s
 after_run_len run s t e = omega (arith, ap length e, length-drop (run_len run s) s)
+
+-- where no close brace comes, the text ends
+pub no_close_brace : (s stop : List ℕ) → stop ≡ after_run VariableName s → begins_with 125 stop ≡ false → stop ≡ []
+no_close_brace s [] e h = refl
+no_close_brace s (b ∷ t) e h = absurd (false≢true (sym h ∙ after_run_head VariableName s t b (sym e)))

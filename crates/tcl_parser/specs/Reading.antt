@@ -202,11 +202,10 @@ abbrev pub closed : Bool → Fault → List Part × List ℕ → Result (List Pa
 closed inside fault read = cond (word_ends inside read.1) (Ok read) (Err fault)
 
 abbrev pub read_word_parts : Level → List ℕ → Result (List Part × List ℕ) Fault
-read_word_parts level [] = Ok ([], [])
-read_word_parts level (b ∷ s) =
-    cond (b == quote) (joined_parts (read_parts level true (zero, s)) >>= closed level.inside AfterQuote)
-    (cond (b == open_brace) (in_braces false 0 s >>= λ read. closed level.inside AfterBrace (with_literal read.0 [], read.1))
-    (joined_parts (read_parts level false (zero, b ∷ s))))
+read_word_parts level s =
+    cond (begins_with quote s) (joined_parts (read_parts level true (zero, drop 1 s)) >>= closed level.inside AfterQuote)
+    (cond (begins_with open_brace s) (in_braces false 0 (drop 1 s) >>= λ read. closed level.inside AfterBrace (with_literal read.0 [], read.1))
+    (joined_parts (read_parts level false (zero, s))))
 
 -- whether `{*}` marks the word behind it: it stands directly before that word
 abbrev pub is_expanded : Bool → List ℕ → Bool

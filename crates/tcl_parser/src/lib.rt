@@ -3,4 +3,5 @@
 
 pub mod fault;
 mod scan;
+mod skip;
 pub mod script;
