@@ -6,3 +6,4 @@ mod BraceLemmas
 mod SeveralLemmas
 mod PartLemmas
 mod WordLemmas
+mod SkipLemmas

@@ -1,5 +1,5 @@
 -- The parts of words leave ends of the text.
-use Rattle.std.proofs.Common.{◌≡◌, ℕ, zero, suc, ◌+◌, ◌-◌, ◌<◌, ◌≤◌, ◌∙◌, Bool, true, false, cond, ◌==◌, List, [], ◌∷◌, ◌++◌, length, take, drop, Result, Ok, Err, refl, ap, sym, subst, inl, inr, arith, length-drop}
+use Rattle.std.proofs.Common.{◌≡◌, ℕ, zero, suc, ◌+◌, ◌-◌, ◌<◌, ◌≤◌, ◌∙◌, Bool, true, false, cond, ◌==◌, List, [], ◌∷◌, ◌++◌, length, take, drop, Option, Some, None, Result, Ok, Err, refl, ap, sym, subst, inl, inr, arith, length-drop}
 use Rattle.std.proofs.lemmas.Bool.{cases_Bool, or_from, or_parts}
 use Rattle.std.proofs.lemmas.Bool.Decides.{nat_tests}
 use Rattle.tcl_text.specs.Backslash.{escape, escape_rest}
@@ -12,7 +12,7 @@ use Rattle.tcl_parser.specs.Characters.{is_white, is_command_end, is_substitutio
 use Rattle.tcl_parser.specs.Texts.{EndsWith}
 use Rattle.tcl_parser.specs.Runs.{ends_run, run_of, after_run, run_len}
 use Rattle.tcl_parser.specs.Several.{Turn, over, next, Several, several, and_then}
-use Rattle.tcl_parser.specs.Reading.{Level, Place, PartTurn, part_turn, braced_variable, named_variable, after_dollar, script_turn, plain_turn, substituted, read_part, read_parts, run_at, after_name, before, word_ends}
+use Rattle.tcl_parser.specs.Reading.{Level, Place, PartTurn, part_turn, braced_variable, named_variable, after_dollar, script_turn, plain_turn, substituted, end_or, read_part, read_parts, run_at, after_name, before, word_ends}
 use Rattle.tcl_parser.proofs.EndLemmas.{EndsWith-itself, EndsWith-more, EndsWith-drop, EndsWith-trans, EndsWith-length}
 use Rattle.tcl_parser.proofs.NameLemmas.{EndsWith-after_name}
 use Rattle.tcl_parser.proofs.RunLemmas.{after_run_goes_on}
@@ -105,24 +105,25 @@ Turns-from_Reads indexes s (Ok (over rest)) h = absurd h
 Turns-from_Reads indexes s (Ok (next p (deeper, rest))) h = h
 Turns-from_Reads indexes s (Err f) h = tt
 
-Turns-cond : (b : Bool) (indexes : ℕ) (s : List ℕ) (x y : PartTurn) → (b ≡ true → Turns indexes s x) → (b ≡ false → Turns indexes s y) → Turns indexes s (cond b x y)
-Turns-cond true indexes s x y h k = h refl
-Turns-cond false indexes s x y h k = k refl
+-- where the end comes, and where it doesn't
+end_or-turns : (b : Bool) (indexes : ℕ) (s : List ℕ) (turn : Turn Part Place) (other : PartTurn) → (b ≡ true → Turns indexes s (Ok turn)) → (b ≡ false → Turns indexes s other) → Turns indexes s (end_or (cond b (Some turn) None) other)
+end_or-turns true indexes s turn other h k = h refl
+end_or-turns false indexes s turn other h k = k refl
 
 pub read_part-turns : (level : Level) (quoted : Bool) (indexes : ℕ) (s : List ℕ) → LeavesEnds level.nested → Turns indexes s (read_part level quoted (indexes, s))
 read_part-turns level quoted (suc indexes) [] ends = tt
 read_part-turns level quoted (suc indexes) (b ∷ s) ends =
     let l = EndsWith-more b s s (EndsWith-itself s) in
     let closes : EndsWith (b ∷ s) s × (length s < length (b ∷ s)) × (indexes + length s ≤ suc indexes + length (b ∷ s)) = (l, omega arith, omega arith) in
-    Turns-cond (b == 41) (suc indexes) (b ∷ s) (part_turn EndElement indexes s) _ (λ _. closes)
+    end_or-turns (b == 41) (suc indexes) (b ∷ s) (next EndElement (indexes, s)) _ (λ _. closes)
     (λ n. Turns-from_Reads (suc indexes) (b ∷ s) _ (substituted-reads level quoted (suc indexes) b s ends (plain_in_index level.inside quoted indexes b n)))
 read_part-turns level true zero [] ends = tt
 read_part-turns level true zero (b ∷ s) ends =
-    Turns-cond (b == 34) zero (b ∷ s) (Ok (over s)) _ (λ _. EndsWith-more b s s (EndsWith-itself s))
+    end_or-turns (b == 34) zero (b ∷ s) (over s) _ (λ _. EndsWith-more b s s (EndsWith-itself s))
     (λ n. Turns-from_Reads zero (b ∷ s) _ (substituted-reads level true zero b s ends (plain_in_quotes level.inside b n)))
 read_part-turns level false zero [] ends = EndsWith-itself []
 read_part-turns level false zero (b ∷ s) ends =
-    Turns-cond (word_ends level.inside (b ∷ s)) zero (b ∷ s) (Ok (over (b ∷ s))) _ (λ _. EndsWith-itself (b ∷ s))
+    end_or-turns (word_ends level.inside (b ∷ s)) zero (b ∷ s) (over (b ∷ s)) _ (λ _. EndsWith-itself (b ∷ s))
     (λ n. Turns-from_Reads zero (b ∷ s) _ (substituted-reads level false zero b s ends (plain_in_word level.inside b s n)))
 
 Falls-from_Turns : (indexes : ℕ) (s : List ℕ) (turn : PartTurn) → Turns indexes s turn → Falls (λ (p : Place). p.1) s turn
@@ -147,7 +148,7 @@ read_parts-ends level quoted indexes s rest ends e = several-ends (λ (p : Place
 word_goes_on : (level : Level) (b : ℕ) (s rest : List ℕ) → LeavesEnds level.nested → word_ends level.inside (b ∷ s) ≡ false → read_part level false (zero, b ∷ s) ≡ Ok (over rest) → ⊥
 word_goes_on level b s rest ends n e =
     let reads = substituted-reads level false zero b s ends (plain_in_word level.inside b s n) in
-    let same : substituted level false zero (b ∷ s) ≡ Ok (over rest) = sym (ap (λ t. cond t (Ok (over (b ∷ s))) (substituted level false zero (b ∷ s))) n) ∙ e in
+    let same : substituted level false zero (b ∷ s) ≡ Ok (over rest) = sym (ap (λ t. end_or (cond t (Some (over (b ∷ s))) None) (substituted level false zero (b ∷ s))) n) ∙ e in
     subst (Reads zero (b ∷ s)) same reads
 
 pub bare_word-shorter : (level : Level) (b : ℕ) (s rest : List ℕ) → LeavesEnds level.nested → word_ends level.inside (b ∷ s) ≡ false → (read_parts level false (zero, b ∷ s)).ended ≡ Ok rest → length rest < length (b ∷ s)

@@ -167,25 +167,34 @@ run_at inside false zero = Bare inside
 abbrev pub plain_turn : Run → ℕ → List ℕ → PartTurn
 plain_turn run indexes s = part_turn (Literal (run_of run s)) indexes (after_run run s)
 
+-- what the text lacks where it ends in an index or in quotes
+abbrev pub missing : ℕ → Fault
+missing zero = CloseQuote
+missing (suc indexes) = CloseParenthesis
+
 -- A part, where what it stands in doesn't end.
 abbrev pub substituted : Level → Bool → ℕ → List ℕ → PartTurn
-substituted level quoted indexes [] = Err CloseParenthesis
+substituted level quoted indexes [] = Err (missing indexes)
 substituted level quoted indexes (b ∷ s) =
     cond (b == dollar) (after_dollar indexes s)
     (cond (b == open_bracket) (script_turn indexes s (level.nested s))
     (cond (b == backslash) (part_turn (Literal (escape s).meaning) indexes (escape_rest s))
     (plain_turn (run_at level.inside quoted indexes) indexes (b ∷ s))))
 
--- A part of a word, which stands in quotes or doesn't, or the word's end. In an index its close parenthesis is all that ends it.
+-- What ends that in which a part would stand: an index its close parenthesis, a word in quotes its close quote, and
+-- another word white space, a command's end or the text's.
+abbrev pub part_end : Bool → Bool → Place → Option (Turn Part Place)
+part_end inside quoted (suc indexes, s) = cond (begins_with close_parenthesis s) (Some (next EndElement (indexes, drop 1 s))) None
+part_end inside true (zero, s) = cond (begins_with quote s) (Some (over (drop 1 s))) None
+part_end inside false (zero, s) = cond (word_ends inside s) (Some (over s)) None
+
+abbrev pub end_or : Option (Turn Part Place) → PartTurn → PartTurn
+end_or (Some turn) other = Ok turn
+end_or None other = other
+
+-- A part of a word, which stands in quotes or doesn't, or the end of an index or of the word.
 abbrev pub read_part : Level → Bool → Place → PartTurn
-read_part level quoted (suc indexes, []) = Err CloseParenthesis
-read_part level quoted (suc indexes, b ∷ s) =
-    cond (b == close_parenthesis) (part_turn EndElement indexes s) (substituted level quoted (suc indexes) (b ∷ s))
-read_part level true (zero, []) = Err CloseQuote
-read_part level true (zero, b ∷ s) =
-    cond (b == quote) (Ok (over s)) (substituted level true zero (b ∷ s))
-read_part level false (zero, s) =
-    cond (word_ends level.inside s) (Ok (over s)) (substituted level false zero s)
+read_part level quoted (indexes, s) = end_or (part_end level.inside quoted (indexes, s)) (substituted level quoted indexes s)
 
 -- the parts of a word from a place on
 unfoldable pub read_parts : Level → Bool → Place → Several Part
