@@ -2,6 +2,7 @@
 #![tactic(auto)]
 
 pub mod fault;
+pub mod reader;
 mod scan;
-mod skip;
 pub mod script;
+mod skip;

@@ -30,7 +30,7 @@ skip_command-words-preserved t c =
     let is = words_word c.args.brackets c.words.rest.now c.skip_white-start.result.now _ w.word c.skip_white-start.ensures ends w.is in
     let i = c.words.invariant in
     record {
-      utf8 = c.skip_word.utf8;
+      utf8 = search rules;
       reads = sym (ap (λ x. x.ended) is) ∙ i.reads;
       some = i.some ∙ ap (λ x. c.words.some || is_some_list x.items) is ∙ sym (or-true c.words.some)
     }
@@ -98,3 +98,4 @@ skip_word-returns-in-Some t c = subst (Gives (λ (r : Bor (List ℕ)). r.now) c.
 
 pub skip_word-returns-in-None : goal.skip_word-returns-in-None
 skip_word-returns-in-None t c = subst (Gives (λ (r : Bor (List ℕ)). r.now) c.skip_word_parts-in-None.result) (sym (word_unmarked c.args.brackets c.args.text.now c.in-None.ensures.none)) c.skip_word_parts-in-None.ensures
+
