@@ -7,3 +7,4 @@ mod SeveralLemmas
 mod PartLemmas
 mod WordLemmas
 mod SkipLemmas
+mod ReadLemmas

@@ -233,12 +233,14 @@ pub fn parse(alloc: Global, text: &str) -> Result<Script, AllocError>
                 commands.push(Command { words })?;
                 rest = after;
             }
-            Err(Stop::Memory) => return Err(AllocError),
-            Err(Stop::Fault(fault)) => {
-                return Ok(Script {
-                    commands,
-                    fault: Some(fault),
-                });
+            Err(stop) => {
+                return match stop {
+                    Stop::Memory => Err(AllocError),
+                    Stop::Fault(fault) => Ok(Script {
+                        commands,
+                        fault: Some(fault),
+                    }),
+                };
             }
         }
     }
