@@ -4,7 +4,11 @@ use Rattle.std.specs.Char.{encode_utf8, is_digit}
 use Rattle.std.proofs.lemmas.Bool.{cases_lt, lt-ltb, le-ltb}
 use Rattle.std.proofs.lemmas.Bool.Decides.{nat_tests}
 use Rattle.std.proofs.lemmas.Str.{encode_ascii}
-use Rattle.tcl_text.specs.Backslash.{Escape, escape, escape_of, escape_by, escape_rest, first_len, character, number_value, number_len}
+use Rattle.std.specs.List.{prefix_len}
+use Rattle.std.proofs.Common.{Bool, false, cond, suc, ◌==◌, length-take}
+use Rattle.std.proofs.lemmas.List.Sums.{prefix_len-le-length}
+use Rattle.tcl_text.proofs.Fronts.{number_len-le}
+use Rattle.tcl_text.specs.Backslash.{is_blank, hexadecimal, Escape, escape, escape_of, escape_by, escape_rest, first_len, character, number_value, number_len}
 
 -- a character that begins none of the sequences of its own
 pub escape_by-other : (b : ℕ) (s : List ℕ) (itself : Escape) → 128 ≤ b → escape_by b s itself ≡ itself
@@ -19,7 +23,7 @@ unfolding escape
 escape_ascii text rest c e t small is =
     let split : text ≡ c ∷ rest = t ∙ ap (λ x. x ++ rest) (encode_ascii c small) in
     let one = ascii_len c small in
-    let by : escape (c ∷ rest) ≡ escape_by c rest (escape_of (c ∷ []) 1) = ap (λ n. escape_by c rest (escape_of (take n (c ∷ rest)) n)) one in
+    let by : escape (c ∷ rest) ≡ escape_by c rest (escape_of (c ∷ []) 1) = ap (λ n. escape_by c rest (escape_of (take n (c ∷ rest)) (length (take n (c ∷ rest))))) one in
     (split, ap escape split ∙ by ∙ is)
 
 -- what a function returns for it
@@ -66,10 +70,10 @@ lone text e = record {
 long_by : (b n : ℕ) (own rest : List ℕ) → 128 ≤ b → first_len b ≡ n → length (b ∷ own) ≡ n → Returns ((b ∷ own) ++ rest) (b ∷ own) rest
 unfolding escape
 long_by b n own rest high len is =
-    let whole = escape_by-other b (own ++ rest) (escape_of (take (first_len b) ((b ∷ own) ++ rest)) (first_len b)) high in
-    let n_is : first_len b ≡ length (b ∷ own) = len ∙ sym is in
-    let front : take (first_len b) ((b ∷ own) ++ rest) ≡ b ∷ own = take_at (b ∷ own) rest (first_len b) (sym n_is) in
-    let back : drop (first_len b) ((b ∷ own) ++ rest) ≡ rest = drop_at (b ∷ own) rest (first_len b) (sym n_is) in
+    let own_is : List ℕ = take (first_len b) ((b ∷ own) ++ rest) in
+    let whole = escape_by-other b (own ++ rest) (escape_of own_is (length own_is)) high in
+    let front : take (first_len b) ((b ∷ own) ++ rest) ≡ b ∷ own = take_at (b ∷ own) rest (first_len b) (is ∙ sym len) in
+    let back : drop (length (take (first_len b) ((b ∷ own) ++ rest))) ((b ∷ own) ++ rest) ≡ rest = ap (λ k. drop (length k) ((b ∷ own) ++ rest)) front ∙ drop_at (b ∷ own) rest (length (b ∷ own)) refl in
     record {
       meaning_is = sym (ap (λ (x : Escape). x.meaning) whole ∙ front);
       rest_is = sym (ap (λ (x : Escape). drop x.taken ((b ∷ own) ++ rest)) whole ∙ back);
@@ -118,3 +122,33 @@ octal text rest c t small digit =
     let same = ap (λ x. escape_of (encode_utf8 (character (number_value 3 8 255 x))) (number_len 3 8 255 x)) h.0 in
     let is : escape_of (encode_utf8 (character (number_value 3 8 255 text))) (number_len 3 8 255 text) ≡ escape text = same ∙ sym h.1 in
     record { meaning_is = ap (λ (x : Escape). x.meaning) is; rest_is = ap (λ (x : Escape). drop x.taken text) is }
+
+within : (n : ℕ) (t : Bool) (x y : Escape) → x.taken ≤ n → y.taken ≤ n → (cond t x y).taken ≤ n
+within n true x y a b = a
+within n false x y a b = b
+
+hexadecimal-taken : (letter width greatest : ℕ) (s : List ℕ) → (hexadecimal letter width greatest s).taken ≤ suc (length s)
+hexadecimal-taken letter width greatest s =
+    within (suc (length s)) (number_len width 16 greatest s == 0) _ _ (omega arith) (omega (arith, (number_len-le 16 greatest width s).1))
+
+-- a sequence is a part of the text
+pub escape-taken : (s : List ℕ) → (escape s).taken ≤ length s
+unfolding escape
+escape-taken [] = omega arith
+escape-taken (b ∷ s) =
+    let n : ℕ = suc (length s) in
+    let one : 1 ≤ suc (length s) = omega arith in
+    let blanks : suc (prefix_len is_blank s) ≤ suc (length s) = omega (arith, prefix_len-le-length is_blank s) in
+    let own : length (take (first_len b) (b ∷ s)) ≤ suc (length s) = omega (arith, length-take (first_len b) (b ∷ s)) in
+    within n (is_digit b 8) _ _ (number_len-le 8 255 3 (b ∷ s)).1
+    (within n (b == 97) _ _ one
+    (within n (b == 98) _ _ one
+    (within n (b == 102) _ _ one
+    (within n (b == 110) _ _ one
+    (within n (b == 114) _ _ one
+    (within n (b == 116) _ _ one
+    (within n (b == 118) _ _ one
+    (within n (b == 10) _ _ blanks
+    (within n (b == 120) _ _ (hexadecimal-taken 120 2 255 s)
+    (within n (b == 117) _ _ (hexadecimal-taken 117 4 0xFFFF s)
+    (within n (b == 85) _ _ (hexadecimal-taken 85 8 0x10_FFFF s) own)))))))))))

@@ -7,6 +7,7 @@ use Rattle.std.proofs.lemmas.List.Sums.{prefix_len-le-length, prefix_len_passes,
 use Rattle.std.proofs.lemmas.Bool.Decides.{nat_tests}
 use Rattle.std.proofs.lemmas.Bool.{lt-ltb, ltb-true, and_parts, and_from, cases_lt, cases_eq, cases_Bool, leb-true, false≢true}
 use Rattle.std.proofs.lemmas.Int.Digits.{digits_value_more}
+use Rattle.tcl_text.specs.Lists.{is_white}
 use Rattle.tcl_text.specs.Backslash.{is_number, number_len, is_blank}
 
 -- one more element passes
@@ -121,3 +122,6 @@ ends_more base greatest n s l h = let d = h.digits in omega (arith, prefix_len-l
 
 pub blank_is_ascii : (b : ℕ) → is_blank b ≡ true → b < 128
 blank_is_ascii b h = grind (arith, nat_tests)
+
+pub white_is_ascii : (b : ℕ) → is_white b ≡ true → b < 128
+white_is_ascii b h = grind (arith, nat_tests)

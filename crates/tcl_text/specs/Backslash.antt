@@ -1,5 +1,5 @@
 -- Backslash sequences: what a backslash means with the bytes that follow it.
-use Rattle.std.specs.Prelude.{ℕ, zero, suc, Bool, ◌&&◌, ◌||◌, cond, nat_le, ◌==◌, List, [], ◌∷◌, take, drop}
+use Rattle.std.specs.Prelude.{ℕ, zero, suc, Bool, ◌&&◌, ◌||◌, cond, nat_le, ◌==◌, List, [], ◌∷◌, length, take, drop}
 use Rattle.std.specs.List.{prefix_len}
 use Rattle.std.specs.Int.{is_in_range}
 use Rattle.std.specs.Char.{encode_utf8, is_digit}
@@ -64,7 +64,7 @@ first_len b = suc (continuation_len b)
 -- The sequence of a backslash and what follows it. A backslash at the end of a text is itself.
 unfoldable pub escape : List ℕ → Escape
 escape [] = escape_of (92 ∷ []) 0
-escape (b ∷ s) = escape_by b s (escape_of (take (first_len b) (b ∷ s)) (first_len b))
+escape (b ∷ s) = escape_by b s (escape_of (take (first_len b) (b ∷ s)) (length (take (first_len b) (b ∷ s))))
 
 -- what follows the sequence
 abbrev pub escape_rest : List ℕ → List ℕ

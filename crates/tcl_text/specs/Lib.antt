@@ -1,1 +1,2 @@
 pub mod Backslash
+pub mod Lists

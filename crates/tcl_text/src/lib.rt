@@ -2,4 +2,5 @@
 #![tactic(auto)]
 
 pub mod backslash;
+pub mod list;
 pub mod text;
