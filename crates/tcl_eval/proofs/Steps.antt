@@ -10,7 +10,7 @@ use Rattle.tcl_eval.specs.declared.ending.StopKind.{StopKind}
 use Rattle.tcl_eval.specs.declared.builtin.Builtin.{Builtin}
 use Rattle.tcl_eval.specs.declared.interruption.Interruption.{Interruption}
 use Rattle.tcl_eval.specs.declared.interruption.Interruption.TheVariants as interruption
-use Rattle.tcl_eval.specs.declared.eval.OpenElement.{OpenElement}
+use Rattle.tcl_eval.specs.declared.evaluation.OpenElement.{OpenElement}
 use Rattle.tcl_eval.specs.Reading.{Part, Literal, Variable, Element, EndElement, WordRead, Fault, Reading, read_script}
 use Rattle.tcl_eval.specs.Reading as reading
 use Rattle.tcl_eval.specs.Messages.{ok, error, either, fits, too_long, result_of, failure, bad_name, no_such_variable, wrong_args}

@@ -8,7 +8,7 @@ use Rattle.tcl_eval.specs.declared.interruption.Interruption.TheVariants as inte
 use Rattle.tcl_eval.specs.declared.interpreter.Interpreter.{Interpreter}
 use Rattle.tcl_eval.specs.declared.ending.Refused.{Refused}
 use Rattle.tcl_eval.specs.declared.ending.Refused.TheVariants as refused
-use Rattle.tcl_eval.specs.declared.eval.OpenElement.{OpenElement}
+use Rattle.tcl_eval.specs.declared.evaluation.OpenElement.{OpenElement}
 use Rattle.tcl_eval.specs.Messages.{ok, error}
 use Rattle.tcl_eval.specs.Acts.{State, Open}
 

@@ -4,9 +4,13 @@
 mod builtin;
 mod commands;
 pub mod ending;
-pub mod eval;
+pub mod evaluation;
 pub mod interpreter;
 mod interruption;
 mod messages;
 mod names;
 mod reading;
+
+pub use ending::{Completion, End, Refused, StopKind};
+pub use evaluation::eval;
+pub use interpreter::Interpreter;

@@ -5,7 +5,7 @@ use Rattle.tcl_eval.specs.Runs.{returns}
 use Rattle.tcl_eval.specs.Messages.{failure}
 use Rattle.tcl_eval.specs.declared.ending.End.TheVariants.{Done}
 use Rattle.tcl_eval.proofs.Steps.{Interrupts-more, at_prog, at_end}
-use Rattle.tcl_eval.proofs.eval.finish.Goals as goal
+use Rattle.tcl_eval.proofs.evaluation.finish.Goals as goal
 
 pub returns-in-None : goal.returns-in-None
 returns-in-None c =

@@ -10,7 +10,7 @@ use Rattle.tcl_eval.specs.View.{state_of, opens}
 use Rattle.tcl_eval.specs.declared.ending.End.TheVariants.{Done}
 use Rattle.tcl_eval.proofs.Steps
 use Rattle.tcl_eval.proofs.Steps.{at_prog, at_end, at_state, item_on, none_on, err_exit, IfEnded-more, Interrupts-more}
-use Rattle.tcl_eval.proofs.eval.+eval.Goals as goal
+use Rattle.tcl_eval.proofs.evaluation.+eval.Goals as goal
 
 -- commands' words
 

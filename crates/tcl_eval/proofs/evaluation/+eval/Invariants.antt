@@ -3,7 +3,7 @@ use Rattle.std.specs.String.{string_bytes}
 use Rattle.tcl_eval.specs.Acts.{prog, Commands, Words, Parts}
 use Rattle.tcl_eval.specs.View.{state_of, IsSteady, opens}
 use Rattle.tcl_eval.proofs.Steps.{Leads}
-use Rattle.tcl_eval.proofs.eval.+eval.Given as goal
+use Rattle.tcl_eval.proofs.evaluation.+eval.Given as goal
 
 abbrev pub decreases-eval_script : goal.decreases-eval_script
 decreases-eval_script l = 8 * (1000 - l.interpreter.now.depth)

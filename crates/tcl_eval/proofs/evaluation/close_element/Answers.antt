@@ -7,7 +7,7 @@ use Rattle.tcl_eval.specs.Messages.{failure, bad_name}
 use Rattle.tcl_eval.specs.View.{open_of, opens}
 use Rattle.tcl_eval.specs.declared.ending.End.TheVariants.{Done}
 use Rattle.tcl_eval.proofs.Steps.{Interrupts-more, at_prog, at_end, opens-push}
-use Rattle.tcl_eval.proofs.eval.close_element.Goals as goal
+use Rattle.tcl_eval.proofs.evaluation.close_element.Goals as goal
 
 pub returns-in_ok-written-in-Some : goal.returns-in_ok-written-in-Some
 returns-in_ok-written-in-Some c =
