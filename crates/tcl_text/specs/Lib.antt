@@ -1,2 +1,3 @@
 pub mod Backslash
 pub mod Lists
+pub mod Reading

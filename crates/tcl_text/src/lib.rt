@@ -2,5 +2,6 @@
 #![tactic(auto)]
 
 pub mod backslash;
+pub mod characters;
 pub mod list;
 pub mod text;
