@@ -5,3 +5,4 @@ pub mod Names
 pub mod Acts
 pub mod Runs
 pub mod View
+pub mod Laws

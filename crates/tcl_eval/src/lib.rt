@@ -7,6 +7,7 @@ pub mod ending;
 pub mod evaluation;
 pub mod interpreter;
 mod interruption;
+pub mod laws;
 mod messages;
 mod names;
 mod reading;

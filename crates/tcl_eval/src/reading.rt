@@ -7,11 +7,17 @@ ghost use Rattle.tcl_eval.specs.Runs.{Ends};
 ghost use Rattle.tcl_eval.specs.Reading.{read_script as read_commands, list_of};
 ghost use Rattle.tcl_eval.specs.Faults as faults;
 ghost use Rattle.tcl_eval.specs.View.{Interrupts, IfEnded};
+ghost use Rattle.std.specs.declared.result.Result.{Result};
+ghost use Rattle.tcl_text.specs.declared.list.ListFault.{ListFault};
+ghost use Rattle.tcl_text.specs.Reading.{Fails};
 
 use crate::interruption::Interruption;
+use crate::messages;
 use std::alloc::{AllocError, Global};
 use tcl_parser::fault::Fault;
 use tcl_parser::script::Script;
+use tcl_text::list;
+use tcl_text::list::{ListError, ListFault};
 use tcl_text::text::Text;
 
 /// The commands of a script, and the fault after them.
@@ -40,15 +46,51 @@ pub fn fault_text(alloc: Global, fault: Fault) -> Result<Text, AllocError>
     Text::new(alloc, text)
 }
 
+/// The message of a list's fault.
+fn list_fault_text(alloc: Global, fault: &ListFault) -> Result<Text, AllocError>
+    ensures { IfOk result (λ text. text ≡ faults.list_fault_text fault.now) }
+{
+    match fault {
+        ListFault::UnmatchedBrace => Text::new(alloc, "unmatched open brace in list"),
+        ListFault::UnmatchedQuote => Text::new(alloc, "unmatched open quote in list"),
+        ListFault::AfterBrace(text) => messages::about(
+            alloc,
+            "list element in braces followed by \"",
+            text.as_str(),
+            "\" instead of space",
+        ),
+        ListFault::AfterQuote(text) => messages::about(
+            alloc,
+            "list element in quotes followed by \"",
+            text.as_str(),
+            "\" instead of space",
+        ),
+    }
+}
+
+/// The error that a text is no list, for want of memory or for this fault.
+fn list_failure(alloc: Global, error: ListError) -> Interruption
+    ensures { (read : Result (List (List ℕ)) ListFault) → Fails error read → Interrupts result (λ e. (k : List (List ℕ) → Prog) → Ends (listed read k) e) }
+{
+    match error {
+        ListError::Memory => Interruption::Memory,
+        ListError::Fault(fault) => match list_fault_text(alloc, &fault) {
+            Ok(message) => messages::failure(alloc, message),
+            Err(_) => Interruption::Memory,
+        },
+    }
+}
+
 /// The elements of a list, or the error that it is none.
 pub fn read_list(alloc: Global, text: &str) -> Result<Vec<Text>, Interruption>
     ensures { MatchResult result
         (λ texts. list_of text.now ≡ Ok texts.items)
         (λ i. Interrupts i (λ e. (k : List (List ℕ) → Prog) → Ends (listed (list_of text.now) k) e)) }
 {
-    let _ = alloc;
-    let _ = text;
-    Err(Interruption::Memory)
+    match list::read_list(alloc, text) {
+        Ok(texts) => Ok(texts),
+        Err(error) => Err(list_failure(alloc, error)),
+    }
 }
 
 /// The list of these elements, or the error that it is too long.
