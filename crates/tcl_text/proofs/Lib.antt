@@ -1,8 +1,11 @@
 pub mod Counting
 pub mod Elements
 pub mod Escapes
+pub mod Forms
 pub mod Fronts
+pub mod Pushes
 pub mod Runs
 pub mod Spellings
 pub mod Steps
 pub mod Turns
+pub mod Writings

@@ -4,4 +4,5 @@
 pub mod backslash;
 pub mod characters;
 pub mod list;
+mod list_writing;
 pub mod text;
