@@ -1,7 +1,7 @@
 -- What a script reads as: the commands of a text, in order, and the fault that comes after them.
 use Rattle.std.specs.Prelude.{ℕ, zero, suc, ◌+◌, ◌-◌, ◌==◌, nat_lt, Bool, true, false, ◌&&◌, ◌||◌, not, cond, List, [], ◌∷◌, ◌++◌, length, take, drop, take_while, Option, Some, None, Result, Ok, Err}
 use Rattle.std.specs.List.{prefix_len}
-use Rattle.tcl_text.specs.Backslash.{escape, escape_rest}
+use Rattle.tcl_text.specs.Backslash.{escape, escape_rest, is_blank}
 use Rattle.tcl_parser.specs.declared.fault.Fault.{Fault}
 use Rattle.tcl_parser.specs.declared.fault.Fault.TheVariants.{CloseBrace, VariableBrace, CloseQuote, CloseBracket, AfterBrace, AfterQuote, CloseParenthesis, TooDeep}
 use Rattle.tcl_parser.specs.declared.script.Part.{Part}
@@ -9,6 +9,7 @@ use Rattle.tcl_parser.specs.declared.script.Part.TheVariants.{Literal, Variable,
 use Rattle.tcl_parser.specs.Words.{WordRead, Reading}
 use Rattle.tcl_parser.specs.declared.scan.Run.{Run}
 use Rattle.tcl_parser.specs.declared.scan.Run.TheVariants.{VariableName, Index, Quotes, Bare}
+use Rattle.tcl_parser.specs.Texts.{begins_with}
 use Rattle.tcl_parser.specs.Runs.{run_of, after_run}
 use Rattle.tcl_parser.specs.Characters.{newline, quote, hash, dollar, open_parenthesis, close_parenthesis, asterisk, colon, open_bracket, backslash, close_bracket, open_brace, close_brace, is_white, is_separator, is_command_end, is_name_character, is_substitution}
 use Rattle.tcl_parser.specs.Several.{Turn, over, next, Several, several}
@@ -90,9 +91,6 @@ abbrev pub put : List ℕ → Result (List ℕ × List ℕ) Fault → Result (Li
 put bs (Ok read) = Ok (bs ++ read.0, read.1)
 put bs (Err f) = Err f
 
-abbrev pub is_blank : ℕ → Bool
-is_blank b = (b == 32) || (b == 9)
-
 unfoldable pub in_braces : Bool → ℕ → List ℕ → Result (List ℕ × List ℕ) Fault
 in_braces joining depth [] = Err CloseBrace
 in_braces joining depth (b ∷ []) = cond ((b == close_brace) && (depth == 0)) (Ok ([], [])) (Err CloseBrace)
@@ -169,25 +167,34 @@ run_at inside false zero = Bare inside
 abbrev pub plain_turn : Run → ℕ → List ℕ → PartTurn
 plain_turn run indexes s = part_turn (Literal (run_of run s)) indexes (after_run run s)
 
+-- what the text lacks where it ends in an index or in quotes
+abbrev pub missing : ℕ → Fault
+missing zero = CloseQuote
+missing (suc indexes) = CloseParenthesis
+
 -- A part, where what it stands in doesn't end.
 abbrev pub substituted : Level → Bool → ℕ → List ℕ → PartTurn
-substituted level quoted indexes [] = Err CloseParenthesis
+substituted level quoted indexes [] = Err (missing indexes)
 substituted level quoted indexes (b ∷ s) =
     cond (b == dollar) (after_dollar indexes s)
     (cond (b == open_bracket) (script_turn indexes s (level.nested s))
     (cond (b == backslash) (part_turn (Literal (escape s).meaning) indexes (escape_rest s))
     (plain_turn (run_at level.inside quoted indexes) indexes (b ∷ s))))
 
--- A part of a word, which stands in quotes or doesn't, or the word's end. In an index its close parenthesis is all that ends it.
+-- What ends that in which a part would stand: an index its close parenthesis, a word in quotes its close quote, and
+-- another word white space, a command's end or the text's.
+abbrev pub part_end : Bool → Bool → Place → Option (Turn Part Place)
+part_end inside quoted (suc indexes, s) = cond (begins_with close_parenthesis s) (Some (next EndElement (indexes, drop 1 s))) None
+part_end inside true (zero, s) = cond (begins_with quote s) (Some (over (drop 1 s))) None
+part_end inside false (zero, s) = cond (word_ends inside s) (Some (over s)) None
+
+abbrev pub end_or : Option (Turn Part Place) → PartTurn → PartTurn
+end_or (Some turn) other = Ok turn
+end_or None other = other
+
+-- A part of a word, which stands in quotes or doesn't, or the end of an index or of the word.
 abbrev pub read_part : Level → Bool → Place → PartTurn
-read_part level quoted (suc indexes, []) = Err CloseParenthesis
-read_part level quoted (suc indexes, b ∷ s) =
-    cond (b == close_parenthesis) (part_turn EndElement indexes s) (substituted level quoted (suc indexes) (b ∷ s))
-read_part level true (zero, []) = Err CloseQuote
-read_part level true (zero, b ∷ s) =
-    cond (b == quote) (Ok (over s)) (substituted level true zero (b ∷ s))
-read_part level false (zero, s) =
-    cond (word_ends level.inside s) (Ok (over s)) (substituted level false zero s)
+read_part level quoted (indexes, s) = end_or (part_end level.inside quoted (indexes, s)) (substituted level quoted indexes s)
 
 -- the parts of a word from a place on
 unfoldable pub read_parts : Level → Bool → Place → Several Part
@@ -204,11 +211,10 @@ abbrev pub closed : Bool → Fault → List Part × List ℕ → Result (List Pa
 closed inside fault read = cond (word_ends inside read.1) (Ok read) (Err fault)
 
 abbrev pub read_word_parts : Level → List ℕ → Result (List Part × List ℕ) Fault
-read_word_parts level [] = Ok ([], [])
-read_word_parts level (b ∷ s) =
-    cond (b == quote) (joined_parts (read_parts level true (zero, s)) >>= closed level.inside AfterQuote)
-    (cond (b == open_brace) (in_braces false 0 s >>= λ read. closed level.inside AfterBrace (with_literal read.0 [], read.1))
-    (joined_parts (read_parts level false (zero, b ∷ s))))
+read_word_parts level s =
+    cond (begins_with quote s) (joined_parts (read_parts level true (zero, drop 1 s)) >>= closed level.inside AfterQuote)
+    (cond (begins_with open_brace s) (in_braces false 0 (drop 1 s) >>= λ read. closed level.inside AfterBrace (with_literal read.0 [], read.1))
+    (joined_parts (read_parts level false (zero, s))))
 
 -- whether `{*}` marks the word behind it: it stands directly before that word
 abbrev pub is_expanded : Bool → List ℕ → Bool
@@ -259,8 +265,7 @@ read_commands level s = several (command_turn level) (suc (length s)) s
 
 -- a script in brackets has to end at a close bracket
 abbrev pub closing : List ℕ → Result (List ℕ) Fault
-closing [] = Err CloseBracket
-closing (b ∷ s) = Ok (b ∷ s)
+closing s = cond (begins_with close_bracket s) (Ok s) (Err CloseBracket)
 
 -- What follows a bracketed script, from its close bracket on, where so many brackets may still stand inside one another.
 unfoldable pub after_script : ℕ → List ℕ → Result (List ℕ) Fault

@@ -2,5 +2,7 @@
 #![tactic(auto)]
 
 pub mod fault;
+pub mod reader;
 mod scan;
 pub mod script;
+mod skip;
