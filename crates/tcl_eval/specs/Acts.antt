@@ -6,8 +6,7 @@ use Rattle.indexmap.specs.IndexMap.{insert_entry}
 use Rattle.tcl_eval.specs.declared.ending.Completion.{Completion}
 use Rattle.tcl_eval.specs.declared.builtin.Builtin.{Builtin}
 use Rattle.tcl_eval.specs.declared.builtin.Builtin.TheVariants as builtin
-use Rattle.tcl_eval.specs.Reading.{Part, Literal, Variable, Element, EndElement, WordRead, Fault, read_script, ListFault, list_of}
-use Rattle.tcl_eval.specs.Faults.{fault_text, list_fault_text, written}
+use Rattle.tcl_eval.specs.Reading.{Part, Literal, Variable, Element, EndElement, WordRead, Fault, read_script, message_of, ListFault, list_of, fault_message, written_list}
 use Rattle.tcl_eval.specs.Reading as reading
 use Rattle.tcl_eval.specs.Messages.{ok, error, either, fits, too_long, result_of, failure, invalid_command, bad_name, no_such_variable, wrong_args}
 use Rattle.tcl_eval.specs.Names.{global_name, scalar_name, element_text}
@@ -100,7 +99,7 @@ reads name k = named (scalar_name name) name (λ plain. Look plain (λ o. found 
 -- on with the elements of a list, or the fault
 abbrev pub listed : Result (List (List ℕ)) ListFault → (List (List ℕ) → Prog) → Prog
 listed (Ok texts) k = k texts
-listed (Err fault) k = fails (list_fault_text fault)
+listed (Err fault) k = fails (fault_message fault)
 
 -- on with the words that a word's text stands for
 abbrev pub spread : Bool → List ℕ → (List (List ℕ) → Prog) → Prog
@@ -117,7 +116,7 @@ set _ = fails (wrong_args (codes "set varName ?newValue?"))
 abbrev pub command : Option Builtin → List ℕ → List (List ℕ) → Prog
 command None name args = fails (invalid_command name)
 command (Some builtin.Set) name args = set args
-command (Some builtin.List) name args = Ret (result_of (written args))
+command (Some builtin.List) name args = Ret (result_of (written_list args))
 
 -- the built-in command of this name
 abbrev pub builtin_of : List ℕ → Option Builtin
@@ -130,7 +129,7 @@ call (name ∷ args) = named (global_name name) name (λ plain. command (builtin
 -- after the last command of a script
 abbrev pub over : Option Fault → List ℕ → Prog
 over None last = Ret (ok last)
-over (Some fault) last = fails (fault_text fault)
+over (Some fault) last = fails (message_of fault)
 
 -- a command whose words are there
 abbrev pub charged : List (List ℕ) → Prog

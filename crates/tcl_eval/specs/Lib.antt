@@ -1,5 +1,4 @@
 pub mod Reading
-pub mod Faults
 pub mod Messages
 pub mod Names
 pub mod Acts

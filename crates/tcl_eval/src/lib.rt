@@ -15,3 +15,6 @@ mod reading;
 pub use ending::{Completion, End, Refused, StopKind};
 pub use evaluation::eval;
 pub use interpreter::Interpreter;
+
+#[cfg(test)]
+mod tests;

@@ -51,7 +51,7 @@ pub fn checked(alloc: Global, text: String) -> Result<Text, Interruption>
 }
 
 /// A message about an offending text.
-pub fn about(alloc: Global, before: &str, offending: &str, after: &str) -> Result<Text, AllocError>
+fn about(alloc: Global, before: &str, offending: &str, after: &str) -> Result<Text, AllocError>
     ensures { IfOk result (λ made. made ≡ before.now ++ offending.now ++ after.now) }
 {
     let mut message = String::from_str(alloc, before)?;

@@ -4,8 +4,7 @@ ghost use Rattle.tcl_eval.specs.declared.ending.End.TheVariants.{Done};
 ghost use Rattle.tcl_eval.specs.Messages.{result_of};
 ghost use Rattle.tcl_eval.specs.Acts.{Prog, listed};
 ghost use Rattle.tcl_eval.specs.Runs.{Ends};
-ghost use Rattle.tcl_eval.specs.Reading.{read_script as read_commands, list_of};
-ghost use Rattle.tcl_eval.specs.Faults as faults;
+ghost use Rattle.tcl_eval.specs.Reading.{read_script as read_commands, message_of, list_of, written_list};
 ghost use Rattle.tcl_eval.specs.View.{Interrupts, IfEnded};
 ghost use Rattle.std.specs.declared.result.Result.{Result};
 ghost use Rattle.tcl_text.specs.declared.list.ListFault.{ListFault};
@@ -15,6 +14,7 @@ use crate::interruption::Interruption;
 use crate::messages;
 use std::alloc::{AllocError, Global};
 use tcl_parser::fault::Fault;
+use tcl_parser::reader::parse;
 use tcl_parser::script::Script;
 use tcl_text::list;
 use tcl_text::list::{ListError, ListFault};
@@ -24,48 +24,14 @@ use tcl_text::text::Text;
 pub fn read_script(alloc: Global, script: &str) -> Result<Script, AllocError>
     ensures { IfOk result (λ read. read ≡ read_commands script.now) }
 {
-    let _ = alloc;
-    let _ = script;
-    Err(AllocError)
+    parse(alloc, script)
 }
 
 /// The message of a script's fault.
 pub fn fault_text(alloc: Global, fault: Fault) -> Result<Text, AllocError>
-    ensures { IfOk result (λ text. text ≡ faults.fault_text fault) }
+    ensures { IfOk result (λ text. text ≡ message_of fault) }
 {
-    let text = match fault {
-        Fault::CloseBrace => "missing close-brace",
-        Fault::VariableBrace => "missing close-brace for variable name",
-        Fault::CloseQuote => "missing \"",
-        Fault::CloseBracket => "missing close-bracket",
-        Fault::AfterBrace => "extra characters after close-brace",
-        Fault::AfterQuote => "extra characters after close-quote",
-        Fault::CloseParenthesis => "missing )",
-        Fault::TooDeep => "too many nested brackets",
-    };
-    Text::new(alloc, text)
-}
-
-/// The message of a list's fault.
-fn list_fault_text(alloc: Global, fault: &ListFault) -> Result<Text, AllocError>
-    ensures { IfOk result (λ text. text ≡ faults.list_fault_text fault.now) }
-{
-    match fault {
-        ListFault::UnmatchedBrace => Text::new(alloc, "unmatched open brace in list"),
-        ListFault::UnmatchedQuote => Text::new(alloc, "unmatched open quote in list"),
-        ListFault::AfterBrace(text) => messages::about(
-            alloc,
-            "list element in braces followed by \"",
-            text.as_str(),
-            "\" instead of space",
-        ),
-        ListFault::AfterQuote(text) => messages::about(
-            alloc,
-            "list element in quotes followed by \"",
-            text.as_str(),
-            "\" instead of space",
-        ),
-    }
+    Text::new(alloc, fault.message())
 }
 
 /// The error that a text is no list, for want of memory or for this fault.
@@ -74,7 +40,7 @@ fn list_failure(alloc: Global, error: ListError) -> Interruption
 {
     match error {
         ListError::Memory => Interruption::Memory,
-        ListError::Fault(fault) => match list_fault_text(alloc, &fault) {
+        ListError::Fault(fault) => match fault.message(alloc) {
             Ok(message) => messages::failure(alloc, message),
             Err(_) => Interruption::Memory,
         },
@@ -95,9 +61,7 @@ pub fn read_list(alloc: Global, text: &str) -> Result<Vec<Text>, Interruption>
 
 /// The list of these elements, or the error that it is too long.
 pub fn write_list(alloc: Global, texts: &[Text]) -> Result<Text, Interruption>
-    ensures { IfEnded result (λ e. e ≡ Done (result_of (faults.written texts.now))) }
+    ensures { IfEnded result (λ e. e ≡ Done (result_of (written_list texts.now))) }
 {
-    let _ = alloc;
-    let _ = texts;
-    Err(Interruption::Memory)
+    messages::checked(alloc, list::write_list(alloc, texts)?)
 }

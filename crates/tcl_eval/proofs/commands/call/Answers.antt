@@ -4,7 +4,7 @@ use Rattle.tcl_eval.specs.Acts.{call, builtin_of}
 use Rattle.tcl_eval.specs.Messages.{ok, result_of, failure, invalid_command}
 use Rattle.tcl_eval.specs.View.{state_of}
 use Rattle.tcl_eval.specs.Runs.{Runs, returns}
-use Rattle.tcl_eval.specs.Faults.{written}
+use Rattle.tcl_eval.specs.Reading.{written_list}
 use Rattle.tcl_eval.specs.declared.builtin.Builtin.TheVariants as builtin
 use Rattle.tcl_eval.specs.declared.ending.End.TheVariants.{Done}
 use Rattle.tcl_eval.proofs.Steps.{Interrupts-more, IfEnded-more, call-bad, call-is, at_prog, at_end, no_item}
@@ -23,7 +23,7 @@ pub returns-in-Some-List-clause-runs : goal.returns-in-Some-List-clause-runs
 returns-in-Some-List-clause-runs c =
     let some : global_name c.name-item.result ≡ Some c.in-Some.plain = search rules in
     let known : Some builtin.List ≡ builtin_of c.in-Some.plain = search rules in
-    IfEnded-more c.write_list.result (λ e. e ≡ Done (result_of (written (take (length c.args.words.now - 1) (drop 1 c.args.words.now))))) (λ e. Runs (state_of c.args.interpreter.now) (call c.args.words.now) (state_of c.args.interpreter.now) e) (λ e d. at_prog (call-is c.args.words.now c.name-item.result c.in-Some.plain (Some builtin.List) (omega arith) c.name-item.is some known) (at_end d returns)) c.write_list.ensures
+    IfEnded-more c.write_list.result (λ e. e ≡ Done (result_of (written_list (take (length c.args.words.now - 1) (drop 1 c.args.words.now))))) (λ e. Runs (state_of c.args.interpreter.now) (call c.args.words.now) (state_of c.args.interpreter.now) e) (λ e d. at_prog (call-is c.args.words.now c.name-item.result c.in-Some.plain (Some builtin.List) (omega arith) c.name-item.is some known) (at_end d returns)) c.write_list.ensures
 
 pub returns-clause-runs : goal.returns-clause-runs
 returns-clause-runs c =
