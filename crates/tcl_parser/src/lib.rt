@@ -6,3 +6,6 @@ pub mod reader;
 mod scan;
 pub mod script;
 mod skip;
+
+#[cfg(test)]
+mod tests;
