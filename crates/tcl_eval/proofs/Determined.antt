@@ -1,5 +1,5 @@
 -- A program has at most one run from a state.
-use Rattle.std.proofs.Common.{◌≡◌, ℕ, ◌+◌, ◌<◌, ◌≤◌, ◌⊎◌, inl, inr, refl, sym, ap, subst, arith}
+use Rattle.std.proofs.Common.{◌≡◌, ◌+◌, ◌<◌, ◌≤◌, ◌⊎◌, inl, inr, refl, sym, ap, subst, arith}
 use Rattle.tcl_eval.specs.declared.ending.Completion.{Completion}
 use Rattle.tcl_eval.specs.declared.ending.End.{End}
 use Rattle.tcl_eval.specs.declared.ending.End.TheVariants.{Done, Stopped}
