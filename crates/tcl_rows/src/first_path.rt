@@ -109,7 +109,7 @@ fn brackets_nest_200_deep(rt: HostRuntime) -> Result<(), Fail> {
 #[test]
 fn every_beginning_of_a_script_is_read_and_run(rt: HostRuntime) -> Result<(), Fail> {
     for (script, _, _) in ROWS {
-        for end in 0..=script.len() {
+        for end in 0..script.len() {
             let Some(beginning) = script.get(..end) else {
                 continue;
             };
