@@ -8,3 +8,4 @@ mod PartLemmas
 mod WordLemmas
 mod SkipLemmas
 mod ReadLemmas
+mod GrammarLemmas
