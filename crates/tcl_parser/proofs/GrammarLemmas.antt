@@ -352,7 +352,7 @@ and-true : (b : Bool) → (b && true) ≡ b
 and-true true = refl
 and-true false = refl
 
-name_stops : (colons : Bool) (s : List ℕ) → name_goes_on colons s ≡ false → after_name colons s ≡ s
+pub name_stops : (colons : Bool) (s : List ℕ) → name_goes_on colons s ≡ false → after_name colons s ≡ s
 name_stops colons [] h = no_name colons
 name_stops true (b ∷ t) h = let p = or_parts _ _ h in names.name_stops_at true b t p.0 (sym (and-true (b == 58)) ∙ p.1)
 name_stops false (b ∷ t) h =

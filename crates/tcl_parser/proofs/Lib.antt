@@ -9,3 +9,4 @@ mod WordLemmas
 mod SkipLemmas
 mod ReadLemmas
 mod GrammarLemmas
+mod PartRules

@@ -105,7 +105,7 @@ module _ (inside : Bool) (Ends : List ℕ → List ℕ → Type 0) where
   pub data OnePart (quoted : Bool) (indexes : ℕ) : List ℕ → Part → ℕ → List ℕ → Type 0 where
     backslash_sequence : {s : List ℕ} → OnePart quoted indexes (backslash ∷ s) (Literal (escape s).meaning) indexes (escape_rest s)
     script : {s x rest : List ℕ} → s ≡ x ++ close_bracket ∷ rest → Ends s rest → OnePart quoted indexes (open_bracket ∷ s) (Script x) indexes rest
-    braced_variable : {s x rest : List ℕ} → s ≡ x ++ close_brace ∷ rest → Lacks (λ b. b == close_brace) x → OnePart quoted indexes (dollar ∷ open_brace ∷ s) (Variable x) indexes rest
+    variable_in_braces : {s x rest : List ℕ} → s ≡ x ++ close_brace ∷ rest → Lacks (λ b. b == close_brace) x → OnePart quoted indexes (dollar ∷ open_brace ∷ s) (Variable x) indexes rest
     variable : {b : ℕ} {s x rest : List ℕ} → Name false s (b ∷ x) rest → begins_with open_parenthesis rest ≡ false → OnePart quoted indexes (dollar ∷ s) (Variable (b ∷ x)) indexes rest
     element : {s x rest : List ℕ} → Name false s x (open_parenthesis ∷ rest) → OnePart quoted indexes (dollar ∷ s) (Element x) (suc indexes) rest
     lone_dollar : {s : List ℕ} → begins_variable s ≡ false → OnePart quoted indexes (dollar ∷ s) (Literal (dollar ∷ [])) indexes s
@@ -129,18 +129,18 @@ module _ (inside : Bool) (Ends : List ℕ → List ℕ → Type 0) where
   -- WordParts s ps rest: s is a word behind its mark, with the parts ps, and then rest. Behind its close quote or brace
   -- comes white space, a command's end or the text's end. Literals are joined.
   pub data WordParts : List ℕ → List Part → List ℕ → Type 0 where
-    in_quotes : {s rest : List ℕ} {ps : List Part} → Parts true zero s ps rest → word_ends inside rest ≡ true → WordParts (quote ∷ s) (joined ps) rest
-    in_braces : {s x rest : List ℕ} → Braced zero s x rest → word_ends inside rest ≡ true → WordParts (open_brace ∷ s) (with_literal x []) rest
-    bare : {s rest : List ℕ} {ps : List Part} → begins_with quote s ≡ false → begins_with open_brace s ≡ false → Parts false zero s ps rest → WordParts s (joined ps) rest
+    word_in_quotes : {s rest : List ℕ} {ps : List Part} → Parts true zero s ps rest → word_ends inside rest ≡ true → WordParts (quote ∷ s) (joined ps) rest
+    word_in_braces : {s x rest : List ℕ} → Braced zero s x rest → word_ends inside rest ≡ true → WordParts (open_brace ∷ s) (with_literal x []) rest
+    bare_word : {s rest : List ℕ} {ps : List Part} → begins_with quote s ≡ false → begins_with open_brace s ≡ false → Parts false zero s ps rest → WordParts s (joined ps) rest
 
   -- Mark s expand rest: `{*}` marks the word at s, or doesn't, and rest is the word itself.
   pub data Mark : List ℕ → Bool → List ℕ → Type 0 where
-    marked : {s : List ℕ} → word_ends inside s ≡ false → Mark (open_brace ∷ asterisk ∷ close_brace ∷ s) true s
-    unmarked : {s : List ℕ} → is_expanded inside s ≡ false → Mark s false s
+    mark_stands : {s : List ℕ} → word_ends inside s ≡ false → Mark (open_brace ∷ asterisk ∷ close_brace ∷ s) true s
+    no_mark : {s : List ℕ} → is_expanded inside s ≡ false → Mark s false s
 
   -- Word s w rest: s is the word w, and then rest.
   pub data Word : List ℕ → WordRead → List ℕ → Type 0 where
-    word : {expand : Bool} {s t rest : List ℕ} {ps : List Part} → Mark s expand t → WordParts t ps rest → Word s (record { parts = ps; expand = expand }) rest
+    one_word : {expand : Bool} {s t rest : List ℕ} {ps : List Part} → Mark s expand t → WordParts t ps rest → Word s (record { parts = ps; expand = expand }) rest
 
   -- ## Commands
 
@@ -198,7 +198,7 @@ module _ (inside : Bool) (Ends : List ℕ → List ℕ → Type 0) (Fails : List
   pub data ScriptFault : List ℕ → Fault → Type 0 where
     bracket_open : {s : List ℕ} → ScriptEnds inside Ends s [] → ScriptFault s CloseBracket
     command_fails : {s : List ℕ} {fault : Fault} → FaultAt s fault → ScriptFault s fault
-    after_command : {s t : List ℕ} {w : WordRead} {ws : List WordRead} {fault : Fault} → ReadsAt inside Ends s (w ∷ ws) t → ScriptFault t fault → ScriptFault s fault
+    command_before : {s t : List ℕ} {w : WordRead} {ws : List WordRead} {fault : Fault} → ReadsAt inside Ends s (w ∷ ws) t → ScriptFault t fault → ScriptFault s fault
 
 -- ## Brackets in brackets
 
