@@ -23,7 +23,7 @@ use Rattle.tcl_parser.specs.Grammar.PartFault.{name_open, script_fails}
 use Rattle.tcl_parser.specs.Grammar.PartsFault.{index_open, quotes_open, part_fails, after_index, after_part}
 use Rattle.tcl_parser.proofs.EndLemmas.{before-front, before-whole}
 use Rattle.tcl_parser.proofs.RunLemmas.{run_of_goes_on, after_run_goes_on}
-use Rattle.tcl_parser.proofs.PartLemmas.{LeavesEnds, Turns, read_part-turns, read_parts-is}
+use Rattle.tcl_parser.proofs.PartLemmas.{LeavesEnds, Turns, read_part-turns, read_parts-is, plain_in_index, plain_in_quotes, plain_in_word}
 use Rattle.tcl_parser.proofs.GrammarLemmas.{is_eq, after_name-Name, whole-Name, Name-before, name_stops, run-Lacks, Lacks-run_of, Meets-after_run}
 
 -- ## What the rules say the function reads
@@ -227,3 +227,95 @@ module _ (level : Level) (Ends : List ℕ → List ℕ → Type 0) (Fails : List
       (λ d. Said-cond (b == 91) quoted indexes (b ∷ s) (script_turn indexes s (level.nested s)) _ (λ k. Said-at quoted indexes b 91 s _ (is_eq b 91 k) (said_script quoted indexes s (level.nested s) refl))
       (λ o. Said-cond (b == 92) quoted indexes (b ∷ s) (part_turn (Literal (escape s).meaning) indexes (escape_rest s)) _ (λ k. Said-at quoted indexes b 92 s (part_turn (Literal (escape s).meaning) indexes (escape_rest s)) (is_eq b 92 k) backslash_sequence)
       (λ l. said_characters quoted indexes b s (plain (or_from _ _ (or_from _ _ d o) l)))))
+
+  -- ## The parts of a word
+
+  goes_on : (quoted : Bool) (indexes : ℕ) (s : List ℕ) → part_ends level.inside Ends quoted indexes s ≡ false → part_end level.inside quoted (indexes, s) ≡ None
+  goes_on quoted (suc indexes) s h = ap (λ b. cond b (Some (next EndElement (indexes, drop 1 s))) None) h
+  goes_on true zero s h = ap (λ b. cond b (Some (over (drop 1 s))) None) h
+  goes_on false zero s h = ap (λ b. cond b (Some (over s)) None) h
+
+  read_one : {quoted : Bool} {indexes deeper : ℕ} {s rest : List ℕ} {p : Part} → part_ends level.inside Ends quoted indexes s ≡ false → OnePart level.inside Ends quoted indexes s p deeper rest → read_part level quoted (indexes, s) ≡ Ok (next p (deeper, rest))
+  read_one {quoted = quoted} {indexes = indexes} {s = s} e h = ap (λ end. end_or end (substituted level quoted indexes s)) (goes_on quoted indexes s e) ∙ one_part h
+
+  read_fault : {s : List ℕ} {f : Fault} (quoted : Bool) (indexes : ℕ) → part_ends level.inside Ends quoted indexes s ≡ false → PartFault level.inside Ends Fails s f → read_part level quoted (indexes, s) ≡ Err f
+  read_fault {s = s} quoted indexes e h = ap (λ end. end_or end (substituted level quoted indexes s)) (goes_on quoted indexes s e) ∙ part_fault quoted indexes h
+
+  read_over : (s : List ℕ) → word_ends level.inside s ≡ true → read_part level false (zero, s) ≡ Ok (over s)
+  read_over s h = ap (λ b. end_or (cond b (Some (over s)) None) (substituted level false zero s)) h
+
+  by_turn : (quoted : Bool) (indexes : ℕ) (s : List ℕ) (turn : PartTurn) → read_part level quoted (indexes, s) ≡ turn → read_parts level quoted (indexes, s) ≡ and_then turn (read_parts level quoted)
+  by_turn quoted indexes s turn e = read_parts-is level quoted (indexes, s) agrees.leaves ∙ ap (λ t. and_then t (read_parts level quoted)) e
+
+  pub parts_read : {quoted : Bool} {indexes : ℕ} {s rest : List ℕ} {ps : List Part} → Parts level.inside Ends quoted indexes s ps rest → read_parts level quoted (indexes, s) ≡ record { items = ps; ended = Ok rest }
+  parts_read (word_over {s = s} h) = by_turn false zero s (Ok (over s)) (read_over s h)
+  parts_read (quotes_close {s = s}) = by_turn true zero (34 ∷ s) (Ok (over s)) refl
+  parts_read (index_closes {quoted = quoted} {indexes = indexes} {s = s} h) = by_turn quoted (suc indexes) (41 ∷ s) (Ok (next EndElement (indexes, s))) refl ∙ ap (led_by EndElement) (parts_read h)
+  parts_read (part_first {quoted = quoted} {indexes = indexes} {deeper = deeper} {s = s} {t = t} {p = p} e o h) = by_turn quoted indexes s (Ok (next p (deeper, t))) (read_one e o) ∙ ap (led_by p) (parts_read h)
+
+  pub parts_fail : {quoted : Bool} {indexes : ℕ} {s : List ℕ} {f : Fault} → PartsFault level.inside Ends Fails quoted indexes s f → (read_parts level quoted (indexes, s)).ended ≡ Err f
+  parts_fail (index_open {quoted = quoted} {indexes = indexes}) = ap (λ x. x.ended) (by_turn quoted (suc indexes) [] (Err CloseParenthesis) refl)
+  parts_fail quotes_open = ap (λ x. x.ended) (by_turn true zero [] (Err CloseQuote) refl)
+  parts_fail (part_fails {quoted = quoted} {indexes = indexes} {s = s} {fault = f} e h) = ap (λ x. x.ended) (by_turn quoted indexes s (Err f) (read_fault quoted indexes e h))
+  parts_fail (after_index {quoted = quoted} {indexes = indexes} {s = s} h) = ap (λ x. x.ended) (by_turn quoted (suc indexes) (41 ∷ s) (Ok (next EndElement (indexes, s))) refl) ∙ parts_fail h
+  parts_fail (after_part {quoted = quoted} {indexes = indexes} {deeper = deeper} {s = s} {t = t} {p = p} e o h) = ap (λ x. x.ended) (by_turn quoted indexes s (Ok (next p (deeper, t))) (read_one e o)) ∙ parts_fail h
+
+  -- what a turn says, whatever comes after it
+  abbrev Turned : Bool → ℕ → List ℕ → PartTurn → Type 0
+  Turned quoted indexes s (Ok (over rest)) = Parts level.inside Ends quoted indexes s [] rest
+  Turned quoted indexes s (Ok (next p (deeper, t))) =
+      ((ps : List Part) (rest : List ℕ) → Parts level.inside Ends quoted deeper t ps rest → Parts level.inside Ends quoted indexes s (p ∷ ps) rest)
+      × ((f : Fault) → PartsFault level.inside Ends Fails quoted deeper t f → PartsFault level.inside Ends Fails quoted indexes s f)
+  Turned quoted indexes s (Err f) = PartsFault level.inside Ends Fails quoted indexes s f
+
+  turned_by : (quoted : Bool) (indexes : ℕ) (s : List ℕ) (turn : PartTurn) → part_ends level.inside Ends quoted indexes s ≡ false → Said quoted indexes s turn → Turned quoted indexes s turn
+  turned_by quoted indexes s (Ok (over rest)) e h = absurd h
+  turned_by quoted indexes s (Ok (next p (deeper, t))) e h = (λ ps rest k. part_first e h k, λ f k. after_part e h k)
+  turned_by quoted indexes s (Err f) e h = part_fails e h
+
+  ended_or : (b quoted : Bool) (indexes : ℕ) (s : List ℕ) (turn : Turn Part Place) (other : PartTurn) → (b ≡ true → Turned quoted indexes s (Ok turn)) → (b ≡ false → Turned quoted indexes s other) → Turned quoted indexes s (end_or (cond b (Some turn) None) other)
+  ended_or true quoted indexes s turn other h k = h refl
+  ended_or false quoted indexes s turn other h k = k refl
+
+  index_turned : (quoted : Bool) (indexes b : ℕ) (s : List ℕ) → b ≡ 41 → Turned quoted (suc indexes) (b ∷ s) (Ok (next EndElement (indexes, s)))
+  index_turned quoted indexes b s e =
+      (λ ps rest h. subst (λ x. Parts level.inside Ends quoted (suc indexes) (x ∷ s) (EndElement ∷ ps) rest) (sym e) (index_closes h),
+       λ f h. subst (λ x. PartsFault level.inside Ends Fails quoted (suc indexes) (x ∷ s) f) (sym e) (after_index h))
+
+  read_part-turned : (quoted : Bool) (indexes : ℕ) (s : List ℕ) → Turned quoted indexes s (read_part level quoted (indexes, s))
+  read_part-turned quoted (suc indexes) [] = index_open
+  read_part-turned quoted (suc indexes) (b ∷ s) =
+      ended_or (b == 41) quoted (suc indexes) (b ∷ s) (next EndElement (indexes, s)) _ (λ h. index_turned quoted indexes b s (is_eq b 41 h))
+      (λ n. turned_by quoted (suc indexes) (b ∷ s) _ n (said_part quoted (suc indexes) b s (plain_in_index level.inside quoted indexes b n)))
+  read_part-turned true zero [] = quotes_open
+  read_part-turned true zero (b ∷ s) =
+      ended_or (b == 34) true zero (b ∷ s) (over s) _ (λ h. subst (λ x. Parts level.inside Ends true zero (x ∷ s) [] s) (sym (is_eq b 34 h)) quotes_close)
+      (λ n. turned_by true zero (b ∷ s) _ n (said_part true zero b s (plain_in_quotes level.inside b n)))
+  read_part-turned false zero [] = word_over refl
+  read_part-turned false zero (b ∷ s) =
+      ended_or (word_ends level.inside (b ∷ s)) false zero (b ∷ s) (over (b ∷ s)) _ (λ h. word_over h)
+      (λ n. turned_by false zero (b ∷ s) _ n (said_part false zero b s (plain_in_word level.inside b s n)))
+
+  -- what all turns say
+  abbrev pub Known : Bool → ℕ → List ℕ → List Part → Result (List ℕ) Fault → Type 0
+  Known quoted indexes s ps (Ok rest) = Parts level.inside Ends quoted indexes s ps rest
+  Known quoted indexes s ps (Err f) = PartsFault level.inside Ends Fails quoted indexes s f
+
+  known_later : (quoted : Bool) (indexes deeper : ℕ) (s t : List ℕ) (p : Part) (ps : List Part) (r : Result (List ℕ) Fault) → Turned quoted indexes s (Ok (next p (deeper, t))) → Known quoted deeper t ps r → Known quoted indexes s (p ∷ ps) r
+  known_later quoted indexes deeper s t p ps (Ok rest) h k = h.0 ps rest k
+  known_later quoted indexes deeper s t p ps (Err f) h k = h.1 f k
+
+  known_by : (quoted : Bool) (indexes : ℕ) (s : List ℕ) (turn : PartTurn) (later : Place → Several Part) → Turned quoted indexes s turn → Turns indexes s turn →
+      ((deeper : ℕ) (t : List ℕ) → length t < length s → Known quoted deeper t (later (deeper, t)).items (later (deeper, t)).ended) → Known quoted indexes s (and_then turn later).items (and_then turn later).ended
+  known_by quoted indexes s (Ok (over rest)) later h falls more = h
+  known_by quoted indexes s (Ok (next p (deeper, t))) later h falls more = known_later quoted indexes deeper s t p _ _ h (more deeper t falls.1)
+  known_by quoted indexes s (Err f) later h falls more = h
+
+  known_within : (n : ℕ) (quoted : Bool) (indexes : ℕ) (s : List ℕ) → length s < n → Known quoted indexes s (read_parts level quoted (indexes, s)).items (read_parts level quoted (indexes, s)).ended
+  known_within zero quoted indexes s l = absurd (omega arith)
+  known_within (suc n) quoted indexes s l =
+      subst (λ x. Known quoted indexes s x.items x.ended) (sym (read_parts-is level quoted (indexes, s) agrees.leaves))
+      (known_by quoted indexes s (read_part level quoted (indexes, s)) (read_parts level quoted) (read_part-turned quoted indexes s) (read_part-turns level quoted indexes s agrees.leaves) (λ deeper t m. known_within n quoted deeper t (omega arith)))
+
+  pub parts_known : (quoted : Bool) (indexes : ℕ) (s : List ℕ) → Known quoted indexes s (read_parts level quoted (indexes, s)).items (read_parts level quoted (indexes, s)).ended
+  parts_known quoted indexes s = known_within (suc (length s)) quoted indexes s (omega arith)
