@@ -10,3 +10,4 @@ mod SkipLemmas
 mod ReadLemmas
 mod GrammarLemmas
 mod PartRules
+mod CommandRules
