@@ -241,3 +241,145 @@ module _ (level : Level) (Ends : List ℕ → List ℕ → Type 0) (Fails : List
   command_said s =
       let c = cleared s in
       command_by s (after_gap false s) (read_words level (after_gap false s)).items (read_words level (after_gap false s)).ended c.gap c.stops (words_said (after_gap false s))
+
+  -- ## Scripts
+
+  by_command : (s : List ℕ) (r : Result (List WordRead × List ℕ) Fault) → read_command level s ≡ r → read_commands level s ≡ and_then (r >>= command_or_end) (read_commands level)
+  by_command s r e = read_commands-is level s agrees.leaves ∙ ap (λ t. and_then (t >>= command_or_end) (read_commands level)) e
+
+  pub script_read : {s rest : List ℕ} → ScriptEnds level.inside Ends s rest → (read_commands level s).ended ≡ Ok rest
+  script_read (script_ends {s = s} {rest = rest} h) = ap (λ x. x.ended) (by_command s (Ok ([], rest)) (command_read h))
+  script_read (command_first {s = s} {t = t} {w = w} {ws = ws} h more) = ap (λ x. x.ended) (by_command s (Ok (w ∷ ws, t)) (command_read h)) ∙ script_read more
+
+  pub script_fail : {s : List ℕ} {f : Fault} → ScriptFault level.inside Ends Fails s f → ((read_commands level s).ended >>= closing) ≡ Err f
+  script_fail (bracket_open h) = ap (λ r. r >>= closing) (script_read h)
+  script_fail (command_fails {s = s} {fault = f} h) = ap (λ x. x.ended >>= closing) (by_command s (Err f) (command_fail h))
+  script_fail (command_before {s = s} {t = t} {w = w} {ws = ws} h more) = ap (λ x. x.ended >>= closing) (by_command s (Ok (w ∷ ws, t)) (command_read h)) ∙ script_fail more
+
+  abbrev pub ScriptSaid : List ℕ → Result (List ℕ) Fault → Type 0
+  ScriptSaid s (Ok rest) = ScriptEnds level.inside Ends s rest
+  ScriptSaid s (Err f) = ScriptFault level.inside Ends Fails s f
+
+  after_command_said : (s t : List ℕ) (w : WordRead) (ws : List WordRead) (r : Result (List ℕ) Fault) → ReadsAt level.inside Ends s (w ∷ ws) t → ScriptSaid t r → ScriptSaid s r
+  after_command_said s t w ws (Ok rest) h more = command_first h more
+  after_command_said s t w ws (Err f) h more = command_before h more
+
+  script_by : (s : List ℕ) (r : Result (List WordRead × List ℕ) Fault) → CommandSaid s r → Falls (λ (x : List ℕ). x) s (r >>= command_or_end) →
+      ((t : List ℕ) → length t < length s → ScriptSaid t (read_commands level t).ended) → ScriptSaid s (and_then (r >>= command_or_end) (read_commands level)).ended
+  script_by s (Ok ([], rest)) h falls more = script_ends h
+  script_by s (Ok (w ∷ ws, t)) h falls more = after_command_said s t w ws _ h (more t falls.1)
+  script_by s (Err f) h falls more = command_fails h
+
+  script_within : (n : ℕ) (s : List ℕ) → length s < n → ScriptSaid s (read_commands level s).ended
+  script_within zero s l = absurd (omega arith)
+  script_within (suc n) s l =
+      subst (λ x. ScriptSaid s x.ended) (sym (read_commands-is level s agrees.leaves))
+      (script_by s (read_command level s) (command_said s) (command_turn-falls level agrees.leaves s) (λ t m. script_within n t (omega arith)))
+
+  pub script_said : (s : List ℕ) → ScriptSaid s (read_commands level s).ended
+  script_said s = script_within (suc (length s)) s (omega arith)
+
+  -- where a script ends without a close bracket, the text ends
+  gap_clash : (b : ℕ) (s : List ℕ) → begins_gap (b ∷ s) ≡ false → (is_white b ≡ true) ⊎ (is_separator b ≡ true) → ⊥
+  gap_clash b s n (inl h) = absurd (false≢true (sym (or_parts _ _ (or_parts _ _ (or_parts _ _ n).0).0).0 ∙ h))
+  gap_clash b s n (inr h) = absurd (false≢true (sym (or_parts (is_white b) (is_separator b) (or_parts _ _ (or_parts _ _ n).0).0).1 ∙ h))
+
+  end_here : {s rest : List ℕ} → CommandEnd level.inside s rest → begins_gap s ≡ false → begins_with 93 rest ≡ false → rest ≡ []
+  end_here text_ends n k = refl
+  end_here (separator {b = b} {s = s} h) n k = absurd (gap_clash b s n (inr h))
+  end_here (bracket_comes h) n k = absurd (false≢true (sym k))
+
+  end_behind : {s t rest : List ℕ} → White s t → CommandEnd level.inside t rest → begins_gap s ≡ false → begins_with 93 rest ≡ false → rest ≡ []
+  end_behind no_white c n k = end_here c n k
+  end_behind (space {b = b} {s = s} h w) c n k = absurd (gap_clash b s n (inl h))
+  end_behind (white_line w) c n k = absurd (false≢true (sym n))
+
+  no_words : {s rest : List ℕ} {ws : List WordRead} → Words level.inside Ends s ws rest → ws ≡ [] → begins_gap s ≡ false → begins_with 93 rest ≡ false → rest ≡ []
+  no_words (words_end w c) e n k = end_behind w c n k
+  no_words (word_first {w = w} {ws = ws} white m c h more) e n k = cc
+
+  command_ends_at : {s rest : List ℕ} {ws : List WordRead} → ReadsAt level.inside Ends s ws rest → ws ≡ [] → begins_with 93 rest ≡ false → rest ≡ []
+  command_ends_at (reads g n h) e k = no_words h e n k
+
+  pub script_ends_at : {s rest : List ℕ} → ScriptEnds level.inside Ends s rest → begins_with 93 rest ≡ false → rest ≡ []
+  script_ends_at (script_ends h) k = command_ends_at h refl k
+  script_ends_at (command_first h more) k = script_ends_at more k
+
+-- ## Brackets in brackets
+
+-- what begins with a close bracket
+record Bracketed (t : List ℕ) : Type 0 where
+  behind : List ℕ
+  is : t ≡ 93 ∷ behind
+
+bracketed : (t : List ℕ) → begins_with 93 t ≡ true → Bracketed t
+bracketed [] h = cc
+bracketed (b ∷ s) h = record { behind = s; is = ap (λ x. x ∷ s) (is_eq b 93 h) }
+
+
+outer_is : (room : ℕ) (s : List ℕ) → after_script (suc room) s ≡ ((read_commands (record { nested = after_script room; inside = true }) s).ended >>= closing)
+unfolding after_script
+outer_is room s = refl
+
+none_is : (s : List ℕ) → after_script zero s ≡ Err TooDeep
+unfolding after_script
+none_is s = refl
+
+err_same : (e f : Fault) → ◌≡◌ {A = Result (List ℕ) Fault} (Err e) (Err f) → e ≡ f
+err_same e f h = cc
+
+ok_clash : (t : List ℕ) (f : Fault) → ◌≡◌ {A = Result (List ℕ) Fault} (Err f) (Ok t) → ⊥
+ok_clash t f h = cc
+
+ok_same : (t u : List ℕ) → ◌≡◌ {A = Result (List ℕ) Fault} (Ok t) (Ok u) → t ≡ u
+ok_same t u h = cc
+
+deepest : Agrees (after_script zero) (EndsWithin zero) (FailsWithin zero)
+deepest = record {
+  ends = λ s rest h. absurd h;
+  fails = λ s f h. none_is s ∙ ap Err (sym h);
+  ended = λ s t h. absurd (ok_clash t TooDeep (sym (none_is s) ∙ h));
+  failed = λ s f h. sym (err_same TooDeep f (sym (none_is s) ∙ h));
+  leaves = after_script-ends zero
+}
+
+at_end : (b : Bool) (x t : List ℕ) → cond b (Ok x) (Err CloseBracket) ≡ Ok t → (b ≡ true) × (x ≡ t)
+at_end true x t e = (refl, ok_same x t e)
+at_end false x t e = absurd (ok_clash t CloseBracket e)
+
+not_at_end : (b : Bool) (x : List ℕ) (f : Fault) → cond b (Ok x) (Err CloseBracket) ≡ Err f → (b ≡ false) × (CloseBracket ≡ f)
+not_at_end true x f e = absurd (ok_clash x f (sym e))
+not_at_end false x f e = (refl, err_same CloseBracket f e)
+
+module _ (room : ℕ) (agrees : Agrees (after_script room) (EndsWithin room) (FailsWithin room)) where
+
+  abbrev outer : Level
+  outer = record { nested = after_script room; inside = true }
+
+  closed_end : (s t : List ℕ) (r : Result (List ℕ) Fault) → ScriptSaid outer (EndsWithin room) (FailsWithin room) agrees s r → (r >>= closing) ≡ Ok t → (rest : List ℕ) × (t ≡ 93 ∷ rest) × EndsWithin (suc room) s rest
+  closed_end s t (Ok x) said e =
+      let h = at_end (begins_with 93 x) x t e in
+      let b = bracketed x h.0 in
+      (b.behind, sym h.1 ∙ b.is, subst (λ y. ScriptEnds true (EndsWithin room) s y) b.is said)
+  closed_end s t (Err f) said e = absurd (ok_clash t f e)
+
+  closed_fault : (s : List ℕ) (f : Fault) (r : Result (List ℕ) Fault) → ScriptSaid outer (EndsWithin room) (FailsWithin room) agrees s r → (r >>= closing) ≡ Err f → FailsWithin (suc room) s f
+  closed_fault s f (Ok x) said e =
+      let h = not_at_end (begins_with 93 x) x f e in
+      let none = script_ends_at outer (EndsWithin room) (FailsWithin room) agrees said h.0 in
+      subst (λ g. ScriptFault true (EndsWithin room) (FailsWithin room) s g) h.1 (bracket_open (subst (λ y. ScriptEnds true (EndsWithin room) s y) none said))
+  closed_fault s f (Err g) said e = subst (λ h. ScriptFault true (EndsWithin room) (FailsWithin room) s h) (err_same g f e) said
+
+  one_more : Agrees (after_script (suc room)) (EndsWithin (suc room)) (FailsWithin (suc room))
+  one_more = record {
+    ends = λ s rest h. outer_is room s ∙ ap (λ r. r >>= closing) (script_read outer (EndsWithin room) (FailsWithin room) agrees h);
+    fails = λ s f h. outer_is room s ∙ script_fail outer (EndsWithin room) (FailsWithin room) agrees h;
+    ended = λ s t h. closed_end s t (read_commands outer s).ended (script_said outer (EndsWithin room) (FailsWithin room) agrees s) (sym (outer_is room s) ∙ h);
+    failed = λ s f h. closed_fault s f (read_commands outer s).ended (script_said outer (EndsWithin room) (FailsWithin room) agrees s) (sym (outer_is room s) ∙ h);
+    leaves = after_script-ends (suc room)
+  }
+
+-- the rules and the function say the same of scripts in brackets
+pub agrees_within : (room : ℕ) → Agrees (after_script room) (EndsWithin room) (FailsWithin room)
+agrees_within zero = deepest
+agrees_within (suc room) = one_more room (agrees_within room)
