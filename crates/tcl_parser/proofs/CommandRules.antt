@@ -244,7 +244,7 @@ module _ (level : Level) (Ends : List ℕ → List ℕ → Type 0) (Fails : List
 
   -- ## Scripts
 
-  by_command : (s : List ℕ) (r : Result (List WordRead × List ℕ) Fault) → read_command level s ≡ r → read_commands level s ≡ and_then (r >>= command_or_end) (read_commands level)
+  pub by_command : (s : List ℕ) (r : Result (List WordRead × List ℕ) Fault) → read_command level s ≡ r → read_commands level s ≡ and_then (r >>= command_or_end) (read_commands level)
   by_command s r e = read_commands-is level s agrees.leaves ∙ ap (λ t. and_then (t >>= command_or_end) (read_commands level)) e
 
   pub script_read : {s rest : List ℕ} → ScriptEnds level.inside Ends s rest → (read_commands level s).ended ≡ Ok rest

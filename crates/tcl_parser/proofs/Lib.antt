@@ -11,3 +11,4 @@ mod ReadLemmas
 mod GrammarLemmas
 mod PartRules
 mod CommandRules
+mod ScriptRules

@@ -1,6 +1,6 @@
 -- The grammar of scripts, rule by rule: how a text reads, and which fault it has where it can't be read. Lists are the
 -- bytes of texts. `Reading.antt` has the function that decides it.
-use Rattle.std.specs.Prelude.{◌≡◌, ◌≢◌, ℕ, zero, suc, ◌-◌, ◌==◌, nat_lt, Bool, true, false, ◌&&◌, ◌||◌, List, [], ◌∷◌, ◌++◌, drop, Option, Some, None}
+use Rattle.std.specs.Prelude.{◌≡◌, ◌≢◌, ℕ, zero, suc, ◌-◌, ◌==◌, nat_lt, Bool, true, false, ◌&&◌, ◌||◌, List, [], ◌∷◌, ◌++◌, drop, Option, Some, None, ◌⊎◌}
 use Rattle.std.specs.List.{prefix_len}
 use Rattle.tcl_text.specs.Backslash.{escape, escape_rest, is_blank}
 use Rattle.tcl_parser.specs.declared.fault.Fault.{Fault}
@@ -225,3 +225,21 @@ pub data ReadsAll : List ℕ → List (List WordRead) → Option Fault → Type 
   all_read : {s rest : List ℕ} → Reads 0 s [] rest → ReadsAll s [] None
   first_read : {s t : List ℕ} {w : WordRead} {ws : List WordRead} {commands : List (List WordRead)} {fault : Option Fault} → Reads 0 s (w ∷ ws) t → ReadsAll t commands fault → ReadsAll s ((w ∷ ws) ∷ commands) fault
   fault_comes : {s : List ℕ} {fault : Fault} → HasFault 0 s fault → ReadsAll s [] (Some fault)
+
+-- ## One result
+
+-- s reads in this way and in no other, and has no fault
+pub record OneReading (k : ℕ) (s : List ℕ) (ws : List WordRead) (rest : List ℕ) : Type 0 where
+  pub reads : Reads k s ws rest
+  pub only : (others : List WordRead) (more : List ℕ) → Reads k s others more → (others ≡ ws) × (more ≡ rest)
+  pub no_fault : (fault : Fault) → HasFault k s fault → ⊥
+
+-- s has this fault and no other, and doesn't read
+pub record OneFault (k : ℕ) (s : List ℕ) (fault : Fault) : Type 0 where
+  pub has : HasFault k s fault
+  pub only : (other : Fault) → HasFault k s other → other ≡ fault
+  pub no_reading : (ws : List WordRead) (rest : List ℕ) → Reads k s ws rest → ⊥
+
+-- exactly one of the two holds, with one result
+abbrev pub IsDecided : ℕ → List ℕ → Type 0
+IsDecided k s = ((ws : List WordRead) × (rest : List ℕ) × OneReading k s ws rest) ⊎ ((fault : Fault) × OneFault k s fault)
