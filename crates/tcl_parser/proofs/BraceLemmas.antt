@@ -26,7 +26,7 @@ put-nil (Err f) = refl
 plain_tests : (b : ℕ) → ends_run Braces b ≡ false → ((b == 123) ≡ false) × ((b == 125) ≡ false) × ((b == 92) ≡ false)
 plain_tests b h = (grind (arith, nat_tests), grind (arith, nat_tests), grind (arith, nat_tests))
 
-plain_step : (depth b : ℕ) (s : List ℕ) → (b == 123) ≡ false → (b == 125) ≡ false → (b == 92) ≡ false → in_braces false depth (b ∷ s) ≡ put (b ∷ []) (in_braces false depth s)
+pub plain_step : (depth b : ℕ) (s : List ℕ) → (b == 123) ≡ false → (b == 125) ≡ false → (b == 92) ≡ false → in_braces false depth (b ∷ s) ≡ put (b ∷ []) (in_braces false depth s)
 unfolding in_braces
 plain_step depth b [] o c l = rw c refl
 plain_step depth b (d ∷ s) o c l = rw (o, c, l) refl
@@ -55,7 +55,7 @@ no_run (b ∷ s) run stop r e h =
 
 -- ## Braces
 
-close_whole : (s : List ℕ) → in_braces false 0 (125 ∷ s) ≡ Ok ([], s)
+pub close_whole : (s : List ℕ) → in_braces false 0 (125 ∷ s) ≡ Ok ([], s)
 unfolding in_braces
 close_whole [] = refl
 close_whole (d ∷ s) = refl
@@ -63,7 +63,7 @@ close_whole (d ∷ s) = refl
 pub brace_closes : (depth b : ℕ) (s rest : List ℕ) → s ≡ b ∷ rest → b ≡ 125 → depth ≡ 0 → in_braces false depth s ≡ Ok ([], rest)
 brace_closes depth b s rest e h d = ap (λ n. in_braces false n s) d ∙ ap (in_braces false 0) (e ∙ ap (λ x. x ∷ rest) h) ∙ close_whole rest
 
-close_inner : (depth : ℕ) (s : List ℕ) → in_braces false (suc depth) (125 ∷ s) ≡ put (125 ∷ []) (in_braces false (suc depth - 1) s)
+pub close_inner : (depth : ℕ) (s : List ℕ) → in_braces false (suc depth) (125 ∷ s) ≡ put (125 ∷ []) (in_braces false (suc depth - 1) s)
 unfolding in_braces
 close_inner depth [] = let some : (suc depth == 0) ≡ false = grind (arith, nat_tests) in rw some refl
 close_inner depth (d ∷ s) = let some : (suc depth == 0) ≡ false = grind (arith, nat_tests) in rw some refl
@@ -72,7 +72,7 @@ pub brace_closes_inner : (depth b : ℕ) (s rest : List ℕ) → s ≡ b ∷ res
 brace_closes_inner zero b s rest e h d = absurd (d refl)
 brace_closes_inner (suc depth) b s rest e h d = ap (in_braces false (suc depth)) (e ∙ ap (λ x. x ∷ rest) h) ∙ close_inner depth rest
 
-open_inner : (depth : ℕ) (s : List ℕ) → in_braces false depth (123 ∷ s) ≡ put (123 ∷ []) (in_braces false (suc depth) s)
+pub open_inner : (depth : ℕ) (s : List ℕ) → in_braces false depth (123 ∷ s) ≡ put (123 ∷ []) (in_braces false (suc depth) s)
 unfolding in_braces
 open_inner depth [] = refl
 open_inner depth (d ∷ s) = refl
@@ -81,7 +81,7 @@ pub brace_opens : (depth b : ℕ) (s rest : List ℕ) → s ≡ b ∷ rest → b
 brace_opens depth b s rest e h =
     ap (in_braces false depth) (e ∙ ap (λ x. x ∷ rest) h) ∙ open_inner depth rest ∙ ap (λ n. put (123 ∷ []) (in_braces false n rest)) (sym (add-one depth))
 
-braces_end : (depth : ℕ) → in_braces false depth [] ≡ Err CloseBrace
+pub braces_end : (depth : ℕ) → in_braces false depth [] ≡ Err CloseBrace
 unfolding in_braces
 braces_end depth = refl
 
@@ -113,7 +113,7 @@ blanks_in_braces depth (b ∷ s) =
     | inr h ↦ joined_ends depth b s h ∙ ap (in_braces false depth) (sym (after_stops is_blank b s h))
     ]
 
-line_step : (depth : ℕ) (s : List ℕ) → in_braces false depth (92 ∷ 10 ∷ s) ≡ put (32 ∷ []) (in_braces true depth s)
+pub line_step : (depth : ℕ) (s : List ℕ) → in_braces false depth (92 ∷ 10 ∷ s) ≡ put (32 ∷ []) (in_braces true depth s)
 unfolding in_braces
 line_step depth s = refl
 
@@ -126,11 +126,11 @@ line_in_braces depth s t u after e f r =
     ap (in_braces false depth) (e ∙ ap (λ x. 92 ∷ x) f) ∙ line_step depth u
     ∙ ap (put (32 ∷ [])) (blanks_in_braces depth u ∙ ap (in_braces false depth) (sym (line_rest u) ∙ ap escape_rest (sym f) ∙ sym r))
 
-pair_step : (depth c : ℕ) (u : List ℕ) → (c == 10) ≡ false → in_braces false depth (92 ∷ c ∷ u) ≡ put (92 ∷ c ∷ []) (in_braces false depth u)
+pub pair_step : (depth c : ℕ) (u : List ℕ) → (c == 10) ≡ false → in_braces false depth (92 ∷ c ∷ u) ≡ put (92 ∷ c ∷ []) (in_braces false depth u)
 unfolding in_braces
 pair_step depth c u h = rw h refl
 
-lone_step : (depth : ℕ) → in_braces false depth (92 ∷ []) ≡ put (92 ∷ []) (in_braces false depth [])
+pub lone_step : (depth : ℕ) → in_braces false depth (92 ∷ []) ≡ put (92 ∷ []) (in_braces false depth [])
 unfolding in_braces
 lone_step depth = refl
 

@@ -11,7 +11,7 @@ use Rattle.tcl_parser.specs.Reading.{after_white, after_gap}
 
 -- ## White space
 
-on_head : (b : ℕ) (t : List ℕ) → is_white b ≡ true → after_white (b ∷ t) ≡ after_white t
+pub on_head : (b : ℕ) (t : List ℕ) → is_white b ≡ true → after_white (b ∷ t) ≡ after_white t
 unfolding after_white
 on_head b [] h = rw h refl
 on_head b (c ∷ u) h = rw h refl
@@ -19,14 +19,14 @@ on_head b (c ∷ u) h = rw h refl
 pub white_goes_on : (s t : List ℕ) (b : ℕ) → s ≡ b ∷ t → is_white b ≡ true → after_white s ≡ after_white t
 white_goes_on s t b e h = ap after_white e ∙ on_head b t h
 
-on_line : (u : List ℕ) → after_white (92 ∷ 10 ∷ u) ≡ after_white u
+pub on_line : (u : List ℕ) → after_white (92 ∷ 10 ∷ u) ≡ after_white u
 unfolding after_white
 on_line u = refl
 
 pub white_line : (s t u : List ℕ) (b : ℕ) → s ≡ b ∷ t → b ≡ 92 → t ≡ 10 ∷ u → after_white s ≡ after_white u
 white_line s t u b e h l = ap after_white (e ∙ ap (λ x. x ∷ t) h ∙ ap (λ x. 92 ∷ x) l) ∙ on_line u
 
-stops_at : (b : ℕ) (t : List ℕ) → is_white b ≡ false → ((b == 92) && begins_with 10 t) ≡ false → after_white (b ∷ t) ≡ b ∷ t
+pub stops_at : (b : ℕ) (t : List ℕ) → is_white b ≡ false → ((b == 92) && begins_with 10 t) ≡ false → after_white (b ∷ t) ≡ b ∷ t
 unfolding after_white
 stops_at b [] h n = rw h refl
 stops_at b (c ∷ u) h n = rw (h, n) refl
@@ -60,11 +60,11 @@ unfolding after_gap
 comment_newline [] = refl
 comment_newline (c ∷ u) = refl
 
-comment_pair : (c : ℕ) (u : List ℕ) → after_gap true (92 ∷ c ∷ u) ≡ after_gap true u
+pub comment_pair : (c : ℕ) (u : List ℕ) → after_gap true (92 ∷ c ∷ u) ≡ after_gap true u
 unfolding after_gap
 comment_pair c u = refl
 
-comment_lone : after_gap true (92 ∷ []) ≡ after_gap true []
+pub comment_lone : after_gap true (92 ∷ []) ≡ after_gap true []
 unfolding after_gap
 comment_lone = refl
 
@@ -96,7 +96,7 @@ comment_step s stop after b run e n =
 pub comment_ends : (s stop after : List ℕ) (b : ℕ) → stop ≡ after_run Comment s → stop ≡ b ∷ after → b ≡ 10 → after_gap true s ≡ after_gap false after
 comment_ends s stop after b run e is = comment_run s ∙ ap (after_gap true) (sym run ∙ e ∙ ap (λ x. x ∷ after) is) ∙ comment_newline after
 
-both_empty : after_gap true [] ≡ after_gap false []
+pub both_empty : after_gap true [] ≡ after_gap false []
 unfolding after_gap
 both_empty = refl
 
@@ -111,7 +111,7 @@ after_ascii_len (b ∷ s) = grind (arith, nat_tests)
 
 -- ## Before a command
 
-gap_head : (b : ℕ) (t : List ℕ) → (is_white b || is_separator b) ≡ true → after_gap false (b ∷ t) ≡ after_gap false t
+pub gap_head : (b : ℕ) (t : List ℕ) → (is_white b || is_separator b) ≡ true → after_gap false (b ∷ t) ≡ after_gap false t
 unfolding after_gap
 gap_head b [] h = rw h refl
 gap_head b (c ∷ u) h = rw h refl
@@ -119,7 +119,7 @@ gap_head b (c ∷ u) h = rw h refl
 pub gap_goes_on : (s t : List ℕ) (b : ℕ) → s ≡ b ∷ t → (is_white b || is_separator b) ≡ true → after_gap false s ≡ after_gap false t
 gap_goes_on s t b e h = ap (after_gap false) e ∙ gap_head b t h
 
-gap_hash : (t : List ℕ) → after_gap false (35 ∷ t) ≡ after_gap true t
+pub gap_hash : (t : List ℕ) → after_gap false (35 ∷ t) ≡ after_gap true t
 unfolding after_gap
 gap_hash [] = refl
 gap_hash (c ∷ u) = refl
@@ -127,14 +127,14 @@ gap_hash (c ∷ u) = refl
 pub gap_comment : (s t : List ℕ) (b : ℕ) → s ≡ b ∷ t → b ≡ 35 → after_gap false s ≡ after_gap true t
 gap_comment s t b e h = ap (after_gap false) (e ∙ ap (λ x. x ∷ t) h) ∙ gap_hash t
 
-gap_newline : (u : List ℕ) → after_gap false (92 ∷ 10 ∷ u) ≡ after_gap false u
+pub gap_newline : (u : List ℕ) → after_gap false (92 ∷ 10 ∷ u) ≡ after_gap false u
 unfolding after_gap
 gap_newline u = refl
 
 pub gap_line : (s t u : List ℕ) (b : ℕ) → s ≡ b ∷ t → b ≡ 92 → t ≡ 10 ∷ u → after_gap false s ≡ after_gap false u
 gap_line s t u b e h l = ap (after_gap false) (e ∙ ap (λ x. x ∷ t) h ∙ ap (λ x. 92 ∷ x) l) ∙ gap_newline u
 
-gap_stops_at : (b : ℕ) (t : List ℕ) → (is_white b || is_separator b) ≡ false → (b == 35) ≡ false → ((b == 92) && begins_with 10 t) ≡ false → after_gap false (b ∷ t) ≡ b ∷ t
+pub gap_stops_at : (b : ℕ) (t : List ℕ) → (is_white b || is_separator b) ≡ false → (b == 35) ≡ false → ((b == 92) && begins_with 10 t) ≡ false → after_gap false (b ∷ t) ≡ b ∷ t
 unfolding after_gap
 gap_stops_at b [] h n l = rw (h, n) refl
 gap_stops_at b (c ∷ u) h n l = rw (h, n, l) refl

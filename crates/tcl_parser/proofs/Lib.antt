@@ -8,3 +8,7 @@ mod PartLemmas
 mod WordLemmas
 mod SkipLemmas
 mod ReadLemmas
+mod GrammarLemmas
+mod PartRules
+mod CommandRules
+mod ScriptRules

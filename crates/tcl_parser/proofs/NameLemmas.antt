@@ -9,7 +9,7 @@ use Rattle.tcl_parser.specs.Reading.{after_name, is_expanded, word_ends}
 
 -- ## Names
 
-name_head : (colons : Bool) (b : ℕ) (t : List ℕ) → is_name_character b ≡ true → after_name colons (b ∷ t) ≡ after_name false t
+pub name_head : (colons : Bool) (b : ℕ) (t : List ℕ) → is_name_character b ≡ true → after_name colons (b ∷ t) ≡ after_name false t
 unfolding after_name
 name_head colons b [] h = rw h refl
 name_head colons b (c ∷ u) h = rw h refl
@@ -17,7 +17,7 @@ name_head colons b (c ∷ u) h = rw h refl
 pub name_goes_on : (colons : Bool) (s t : List ℕ) (b : ℕ) → s ≡ b ∷ t → is_name_character b ≡ true → after_name colons s ≡ after_name false t
 name_goes_on colons s t b e h = ap (after_name colons) e ∙ name_head colons b t h
 
-colon_head : (t : List ℕ) → after_name true (58 ∷ t) ≡ after_name true t
+pub colon_head : (t : List ℕ) → after_name true (58 ∷ t) ≡ after_name true t
 unfolding after_name
 colon_head [] = refl
 colon_head (c ∷ u) = refl
@@ -25,14 +25,14 @@ colon_head (c ∷ u) = refl
 pub colon_goes_on : (colons : Bool) (s t : List ℕ) (b : ℕ) → s ≡ b ∷ t → b ≡ 58 → colons ≡ true → after_name colons s ≡ after_name true t
 colon_goes_on colons s t b e h c = ap (λ x. after_name x s) c ∙ ap (after_name true) (e ∙ ap (λ x. x ∷ t) h) ∙ colon_head t
 
-two_colons : (u : List ℕ) → after_name false (58 ∷ 58 ∷ u) ≡ after_name true u
+pub two_colons : (u : List ℕ) → after_name false (58 ∷ 58 ∷ u) ≡ after_name true u
 unfolding after_name
 two_colons u = refl
 
 pub colons_go_on : (colons : Bool) (s t u : List ℕ) (b : ℕ) → s ≡ b ∷ t → b ≡ 58 → colons ≡ false → t ≡ 58 ∷ u → after_name colons s ≡ after_name true u
 colons_go_on colons s t u b e h c l = ap (λ x. after_name x s) c ∙ ap (after_name false) (e ∙ ap (λ x. x ∷ t) h ∙ ap (λ x. 58 ∷ x) l) ∙ two_colons u
 
-name_stops_at : (colons : Bool) (b : ℕ) (t : List ℕ) → is_name_character b ≡ false → (b == 58) ≡ false → after_name colons (b ∷ t) ≡ b ∷ t
+pub name_stops_at : (colons : Bool) (b : ℕ) (t : List ℕ) → is_name_character b ≡ false → (b == 58) ≡ false → after_name colons (b ∷ t) ≡ b ∷ t
 unfolding after_name
 name_stops_at true b [] h n = rw (h, n) refl
 name_stops_at false b [] h n = rw h refl
@@ -42,7 +42,7 @@ name_stops_at false b (c ∷ u) h n = rw (h, n) refl
 pub name_stops_plain : (colons : Bool) (s t : List ℕ) (b : ℕ) → s ≡ b ∷ t → is_name_character b ≡ false → b ≢ 58 → after_name colons s ≡ s
 name_stops_plain colons s t b e h n = ap (after_name colons) e ∙ name_stops_at colons b t h (ne_eqb _ _ n) ∙ sym e
 
-one_colon : (t : List ℕ) → begins_with 58 t ≡ false → after_name false (58 ∷ t) ≡ 58 ∷ t
+pub one_colon : (t : List ℕ) → begins_with 58 t ≡ false → after_name false (58 ∷ t) ≡ 58 ∷ t
 unfolding after_name
 one_colon [] n = refl
 one_colon (c ∷ u) n = rw n refl
