@@ -1,11 +1,11 @@
 -- White space and digits.
-use Rattle.std.proofs.Common.{◌≡◌, ℕ, suc, zero, ◌+◌, ◌-◌, ◌*◌, ◌^◌, ◌<◌, ◌≤◌, Bool, true, false, cond, List, [], ◌∷◌, ◌++◌, length, get_or, refl, sym, ◌∙◌, ap, subst, arith, length-append, add-one, take}
+use Rattle.std.proofs.Common.{◌≡◌, ℕ, suc, zero, ◌+◌, ◌-◌, ◌*◌, ◌^◌, ◌<◌, ◌≤◌, Bool, true, false, cond, List, [], ◌∷◌, ◌++◌, length, get_or, refl, sym, ◌∙◌, ap, subst, arith, length-append, take}
 use Rattle.std.proofs.Math.Nat.{pow-suc, pow-zero}
 use Rattle.std.proofs.lemmas.List.{take_more, take_all}
 use Rattle.std.specs.Prelude.{nat_lt, ◌&&◌}
 use Rattle.std.specs.Char.{digit_value}
-use Rattle.tcl_text.specs.Numbers.{is_white, trim_start, trim_end, before_trimmed, are_digits, sum_of_digits, in_base, in_unsigned_64, in_64_bits, with_sign, fits_64, IsKept}
-use Rattle.std.specs.Prelude.{Option, Some, None, option_map, Result, Ok, Err, ok_or, SomeIff, pos, negsuc, neg_ℤ}
+use Rattle.tcl_text.specs.Numbers.{is_white, trim_end, before_trimmed, are_digits, sum_of_digits, in_base, in_unsigned_64, in_64_bits, with_sign, fits_64, IsKept}
+use Rattle.std.specs.Prelude.{Option, Some, None, option_map, Result, Ok, Err, ok_or, SomeIff}
 use Rattle.tcl_text.specs.declared.integer.IntegerFault.{IntegerFault}
 use Rattle.tcl_text.specs.declared.integer.IntegerFault.TheVariants.{NotInteger, TooLarge}
 use Rattle.std.proofs.lemmas.Bool.Decides.{nat_tests}
@@ -51,7 +51,7 @@ sum-more base (x ∷ xs) c =
     let longer : length (xs ++ c ∷ []) ≡ suc (length xs) = length-append xs (c ∷ []) ∙ omega arith in
     sum_step (digit_value x) base (base ^ length xs) (base ^ length (xs ++ c ∷ [])) (sum_of_digits base xs) _ (digit_value c) (ap (λ n. base ^ n) longer ∙ pow-suc base (length xs)) (sum-more base xs c)
 
-and_true : (a b : Bool) → a ≡ true → b ≡ true → (a && b) ≡ true
+pub and_true : (a b : Bool) → a ≡ true → b ≡ true → (a && b) ≡ true
 and_true true true p q = refl
 and_true true false p q = q
 and_true false b p q = p
@@ -60,7 +60,7 @@ and_false : (a b : Bool) → b ≡ false → (a && b) ≡ false
 and_false true b q = q
 and_false false b q = refl
 
-and_parts : (a b : Bool) → (a && b) ≡ true → (a ≡ true) × (b ≡ true)
+pub and_parts : (a b : Bool) → (a && b) ≡ true → (a ≡ true) × (b ≡ true)
 and_parts true b h = (refl, h)
 and_parts false b h = absurd (cc)
 

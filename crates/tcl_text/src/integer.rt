@@ -1,5 +1,6 @@
 //! Integer texts.
-ghost use Rattle.std.specs.Prelude.{◌≡◌, ℕ, ◌+◌, ◌*◌, ◌++◌, ◌≤◌, length, codes, IfOk, OnOk, OnErr, option_map};
+ghost use Rattle.std.specs.Prelude.{◌≡◌, ℕ, ◌+◌, ◌*◌, ◌++◌, ◌≤◌, length, codes, IfOk, OnOk, OnErr, option_map, ℤ, FitsSigned};
+ghost use Rattle.std.specs.Int.{w64};
 ghost use Rattle.std.specs.Fmt.{signed_decimal};
 ghost use Rattle.std.specs.String.{string_bytes};
 ghost use Rattle.tcl_text.specs.Numbers.{is_white, trim_start, trim_end, in_base, unsigned, with_sign, signed, integer_of, in_64_bits, in_unsigned_64, IsKept};
@@ -159,6 +160,13 @@ pub fn push_int(text: &mut String, number: i64) -> Result<(), AllocError>
     ensures unchanged { OnErr result (string_bytes text.new ≡ string_bytes text.old) }
 {
     text.push_str(Buffer::new().format(number))
+}
+
+/// What is written of an integer reads as that integer, in both styles.
+pub fn written_integers_read_back()
+    ensures reads { (style : Integers) (n : ℤ) → FitsSigned w64 n → integer_of style (signed_decimal n) ≡ Some n }
+    ensures fits { (n : ℤ) → FitsSigned w64 n → in_64_bits (Some n) ≡ Ok n }
+{
 }
 
 /// How many bytes an integer takes in decimal.

@@ -1,7 +1,6 @@
-use Rattle.std.proofs.Common.{rules, arith, ◌≡◌, ◌≤◌, ◌+◌, ◌*◌, ◌++◌, ◌∷◌, [], length, get_or, take, ap, sym, ◌∙◌, subst, Err}
+use Rattle.std.proofs.Common.{arith, ◌≤◌, get_or, ap, sym, ◌∙◌, Err}
 use Rattle.std.proofs.lemmas.Result.{err_from_is_err_and}
 use Rattle.std.specs.Char.{digit_value}
-use Rattle.tcl_text.specs.Numbers.{in_base, in_64_bits, in_unsigned_64, IsKept}
 use Rattle.tcl_text.proofs.Digits.{kept_more, no_digits, digit_found, digit_missing}
 use Rattle.tcl_text.proofs.integer.read_digits.Goals as goal
 

@@ -1,6 +1,6 @@
-use Rattle.std.proofs.Common.{rules, arith, ◌≡◌, ap, sym, ◌∙◌, Err}
+use Rattle.std.proofs.Common.{ap, sym, ◌∙◌, Err}
 use Rattle.std.proofs.lemmas.Result.{err_from_is_err_and}
-use Rattle.tcl_text.specs.Numbers.{in_64_bits, in_unsigned_64, signed, unsigned}
+use Rattle.tcl_text.specs.Numbers.{in_64_bits, unsigned}
 use Rattle.tcl_text.proofs.Digits.{sign_err}
 use Rattle.tcl_text.proofs.integer.read_signed.Goals as goal
 

@@ -1,5 +1,4 @@
-use Rattle.std.proofs.Common.{rules, arith, ◌≡◌, ◌+◌, ◌*◌, ◌++◌, ◌∷◌, ◌-◌, [], length, get_or, take, drop, ap, sym, ◌∙◌}
-use Rattle.tcl_text.specs.Numbers.{trim_end, is_white}
+use Rattle.std.proofs.Common.{arith, sym, ◌∙◌}
 use Rattle.tcl_text.proofs.Digits.{drop_white, keep_last}
 use Rattle.tcl_text.proofs.integer.trim_white_end.Goals as goal
 
