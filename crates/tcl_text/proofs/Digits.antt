@@ -56,7 +56,7 @@ and_true true true p q = refl
 and_true true false p q = q
 and_true false b p q = p
 
-and_false : (a b : Bool) → b ≡ false → (a && b) ≡ false
+pub and_false : (a b : Bool) → b ≡ false → (a && b) ≡ false
 and_false true b q = q
 and_false false b q = refl
 
@@ -77,9 +77,10 @@ not_digits base (x ∷ xs) (suc i) h e = and_false _ _ (not_digits base xs i (om
 pub kept_more : (base : ℕ) (xs : List ℕ) (i digit : ℕ) (more : Option ℕ) → i < length xs → digit ≡ digit_value (get_or xs i 0) → digit < base → are_digits base (take i xs) ≡ true → IsKept more (sum_of_digits base (take i xs) * base + digit) → (are_digits base (take (i + 1) xs) ≡ true) × IsKept more (sum_of_digits base (take (i + 1) xs))
 kept_more base xs i digit more h e small digits kept =
     let next = take_more xs i 0 h in
-    let test : nat_lt (digit_value (get_or xs i 0)) base ≡ true = grind (arith, nat_tests) in
-    (ap (are_digits base) next ∙ digits-more base (take i xs) (get_or xs i 0) digits test,
-    subst (IsKept more) (sym (ap (sum_of_digits base) next ∙ sum-more base (take i xs) (get_or xs i 0) ∙ ap (λ d. sum_of_digits base (take i xs) * base + d) (sym e))) kept)
+    let test : nat_lt (digit_value (get_or xs i 0)) base ≡ true = grind (arith, nat_tests) in (
+      ap (are_digits base) next ∙ digits-more base (take i xs) (get_or xs i 0) digits test,
+      subst (IsKept more) (sym (ap (sum_of_digits base) next ∙ sum-more base (take i xs) (get_or xs i 0) ∙ ap (λ d. sum_of_digits base (take i xs) * base + d) (sym e))) kept,
+    )
 
 pub no_digits : (base : ℕ) (xs : List ℕ) (i : ℕ) → i < length xs → base ≤ digit_value (get_or xs i 0) → in_unsigned_64 (in_base base xs) ≡ Err NotInteger
 no_digits base [] i h e = refl

@@ -27,13 +27,13 @@ tests : IsDigitsTest (λ ds. are_digits 10 ds ≡ true)
 tests = record {
   empty = refl;
   parts = λ c cs h. (digit_from_value c (digit_from_test c (and_parts _ _ h).0), (and_parts _ _ h).1);
-  more = λ c cs r h. and_true _ _ (is_digit_test c r) h
+  more = λ c cs r h. and_true _ _ (is_digit_test c r) h;
 }
 
 weighs : WeighsDigits (sum_of_digits 10)
 weighs = record {
   empty = refl;
-  more = λ c cs h. ap (λ d. d * 10 ^ length cs + sum_of_digits 10 cs) (digit_of c h)
+  more = λ c cs h. ap (λ d. d * 10 ^ length cs + sum_of_digits 10 cs) (digit_of c h);
 }
 
 own : IsNumeralModel (λ ds. are_digits 10 ds ≡ true) (sum_of_digits 10)

@@ -47,7 +47,7 @@ pub fn is_white_space(byte: u8) -> bool
     byte == b' ' || (b'\t' <= byte && byte <= b'\r')
 }
 
-fn trim_white_start(text: &[u8]) -> &[u8]
+pub(crate) fn trim_white_start(text: &[u8]) -> &[u8]
     ensures { result.now ≡ trim_start text.now }
 {
     let mut rest = text;
@@ -60,7 +60,7 @@ fn trim_white_start(text: &[u8]) -> &[u8]
     rest
 }
 
-fn trim_white_end(text: &[u8]) -> &[u8]
+pub(crate) fn trim_white_end(text: &[u8]) -> &[u8]
     ensures { result.now ≡ trim_end text.now }
 {
     let mut rest = text;
@@ -74,7 +74,7 @@ fn trim_white_end(text: &[u8]) -> &[u8]
 }
 
 /// The integer of a text without white space.
-fn read_signed(text: &[u8], style: Integers) -> Result<i64, IntegerFault>
+pub(crate) fn read_signed(text: &[u8], style: Integers) -> Result<i64, IntegerFault>
     ensures { result ≡ in_64_bits (signed style text.now) }
 {
     let (negative, digits) = split_sign(text);
@@ -105,7 +105,7 @@ fn integer_with_sign(negative: bool, magnitude: u64) -> Result<i64, IntegerFault
 }
 
 /// The number of a text without sign and white space.
-fn read_unsigned(text: &[u8], style: Integers) -> Result<u64, IntegerFault>
+pub(crate) fn read_unsigned(text: &[u8], style: Integers) -> Result<u64, IntegerFault>
     ensures { result ≡ in_unsigned_64 (unsigned style text.now) }
 {
     match text {
@@ -127,7 +127,9 @@ fn read_digits(digits: &[u8], base: u32) -> Result<u64, IntegerFault>
     }
     let mut sum = Some(0u64);
     'digits: for byte in digits {
-        let digit = char::from(*byte).to_digit(base).ok_or(IntegerFault::NotInteger)?;
+        let digit = char::from(*byte)
+            .to_digit(base)
+            .ok_or(IntegerFault::NotInteger)?;
         sum = one_more_digit(sum, base, digit);
     }
     sum.ok_or(IntegerFault::TooLarge)
@@ -138,7 +140,8 @@ fn one_more_digit(sum: Option<u64>, base: u32, digit: u32) -> Option<u64>
     requires { 2 ≤ base }
     ensures { (n : ℕ) → IsKept sum n → IsKept result (n * base + digit) }
 {
-    sum?.checked_mul(u64::from(base))?.checked_add(u64::from(digit))
+    sum?.checked_mul(u64::from(base))?
+        .checked_add(u64::from(digit))
 }
 
 /// An integer written in decimal.
@@ -166,8 +169,7 @@ pub fn push_int(text: &mut String, number: i64) -> Result<(), AllocError>
 pub fn written_integers_read_back()
     ensures reads { (style : Integers) (n : ℤ) → FitsSigned w64 n → integer_of style (signed_decimal n) ≡ Some n }
     ensures fits { (n : ℤ) → FitsSigned w64 n → in_64_bits (Some n) ≡ Ok n }
-{
-}
+{}
 
 /// How many bytes an integer takes in decimal.
 pub fn int_len(number: i64) -> usize
