@@ -1,3 +1,4 @@
 pub mod Matching
 pub mod Sets
 pub mod Letters
+pub mod Outcomes
