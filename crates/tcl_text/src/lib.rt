@@ -4,4 +4,7 @@
 pub mod boolean;
 pub mod index;
 pub mod integer;
+pub mod backslash;
+pub mod characters;
+pub mod list;
 pub mod text;
