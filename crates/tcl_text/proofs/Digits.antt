@@ -4,7 +4,8 @@ use Rattle.std.proofs.Math.Nat.{pow-suc, pow-zero}
 use Rattle.std.proofs.lemmas.List.{take_more, take_all}
 use Rattle.std.specs.Prelude.{nat_lt, ◌&&◌}
 use Rattle.std.specs.Char.{digit_value}
-use Rattle.tcl_text.specs.Numbers.{is_white, trim_end, before_trimmed, are_digits, sum_of_digits, in_base, in_unsigned_64, in_64_bits, with_sign, fits_64, IsKept}
+use Rattle.tcl_text.specs.Numbers.{trim_end, before_trimmed, are_digits, sum_of_digits, in_base, in_unsigned_64, in_64_bits, with_sign, fits_64, IsKept}
+use Rattle.tcl_text.specs.Lists.{is_white}
 use Rattle.std.specs.Prelude.{Option, Some, None, option_map, Result, Ok, Err, ok_or, SomeIff}
 use Rattle.tcl_text.specs.declared.integer.IntegerFault.{IntegerFault}
 use Rattle.tcl_text.specs.declared.integer.IntegerFault.TheVariants.{NotInteger, TooLarge}

@@ -7,7 +7,8 @@ use Rattle.std.specs.Int.{IsInRange}
 use Rattle.std.proofs.lemmas.Fmt.{digits_decimal, digits_value-decimal, first_decimal, decimal_nonempty, decimal_digit}
 use Rattle.std.proofs.lemmas.Str.Parse.{IsDigitsTest, WeighsDigits, IsNumeralModel, numerals_by_weight, digit_from_value}
 use Rattle.std.proofs.lemmas.Bool.Decides.{nat_tests}
-use Rattle.tcl_text.specs.Numbers.{is_white, trim_start, trim_end, before_trimmed, are_digits, sum_of_digits, in_base, after_zero, unsigned, with_sign, signed, integer_of, in_64_bits}
+use Rattle.tcl_text.specs.Numbers.{trim_start, trim_end, before_trimmed, are_digits, sum_of_digits, in_base, after_zero, unsigned, with_sign, signed, integer_of, in_64_bits}
+use Rattle.tcl_text.specs.Lists.{is_white}
 use Rattle.tcl_text.specs.declared.integer.IntegerFault.TheVariants.{TooLarge}
 use Rattle.tcl_text.specs.declared.integer.Integers.{Integers}
 use Rattle.tcl_text.proofs.Digits.{and_true, and_parts}

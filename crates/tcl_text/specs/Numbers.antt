@@ -1,16 +1,13 @@
 -- Integer texts, as whole numbers of any size.
-use Rattle.std.specs.Prelude.{ℕ, ◌+◌, ◌*◌, ◌^◌, ◌≤◌, ◌≡◌, ◌==◌, ◌&&◌, ◌||◌, nat_lt, nat_le, Bool, true, false, if◌then◌else◌, List, [], ◌∷◌, length, ℤ, pos, negsuc, neg_ℤ, Option, None, Some, option_map, Result, Ok, Err}
+use Rattle.std.specs.Prelude.{ℕ, ◌+◌, ◌*◌, ◌^◌, ◌≤◌, ◌≡◌, ◌==◌, ◌&&◌, ◌||◌, nat_lt, Bool, true, false, if◌then◌else◌, List, [], ◌∷◌, length, ℤ, pos, negsuc, neg_ℤ, Option, None, Some, option_map, Result, Ok, Err}
 use Rattle.std.specs.Char.{digit_value}
+use Rattle.tcl_text.specs.Lists.{is_white}
 use Rattle.tcl_text.specs.declared.integer.Integers.{Integers}
 use Rattle.tcl_text.specs.declared.integer.Integers.TheVariants.{Tcl8, Tcl9}
 use Rattle.tcl_text.specs.declared.integer.IntegerFault.{IntegerFault}
 use Rattle.tcl_text.specs.declared.integer.IntegerFault.TheVariants.{NotInteger, TooLarge}
 
 -- ---- white space
-
--- space, tab, newline, vertical tab, form feed and carriage return
-abbrev pub is_white : ℕ → Bool
-is_white c = c == 32 || (nat_le 9 c && nat_le c 13)
 
 -- a text without the white space that it begins with
 abbrev pub trim_start : List ℕ → List ℕ

@@ -1,6 +1,7 @@
 //! Index texts.
 ghost use Rattle.std.specs.Prelude.{◌≡◌, ◌++◌, ◌<◌, ◌==◌, ◌+ℤ◌, ◌-ℤ◌, if◌then◌else◌, length, codes, IfSome, IfOk, ok_or, option_map};
 ghost use Rattle.std.specs.Str.{bytes_eq};
+ghost use Rattle.tcl_text.specs.NumberForms.{IndexesByForm};
 ghost use Rattle.tcl_text.specs.Indexes.{only_inside, base_of, offset_of, is_operator, last_operator, sum_around, index_of, place};
 
 use crate::integer::{
@@ -48,6 +49,11 @@ pub fn read_index(text: &str, style: Integers, end: i64) -> Result<Index, IndexF
     }
     read_sum(text, style, end).ok_or(IndexFault::BadIndex)
 }
+
+/// The index texts by their forms.
+pub fn indexes_by_form()
+    ensures { IndexesByForm }
+{}
 
 /// The place of a sum or a difference.
 fn read_sum(text: &[u8], style: Integers, end: i64) -> Option<Index>

@@ -3,9 +3,11 @@ ghost use Rattle.std.specs.Prelude.{◌≡◌, ℕ, ◌+◌, ◌*◌, ◌++◌, 
 ghost use Rattle.std.specs.Int.{w64};
 ghost use Rattle.std.specs.Fmt.{signed_decimal};
 ghost use Rattle.std.specs.String.{string_bytes};
-ghost use Rattle.tcl_text.specs.Numbers.{is_white, trim_start, trim_end, in_base, unsigned, with_sign, signed, integer_of, in_64_bits, in_unsigned_64, IsKept};
+ghost use Rattle.tcl_text.specs.NumberForms.{IntegersByForm};
+ghost use Rattle.tcl_text.specs.Numbers.{trim_start, trim_end, in_base, unsigned, with_sign, signed, integer_of, in_64_bits, in_unsigned_64, IsKept};
 ghost use Rattle.tcl_text.specs.declared.integer.Integers.{Integers};
 
+use crate::list::is_white;
 use crate::text::Text;
 use itoa::Buffer;
 use std::alloc::{AllocError, Global};
@@ -40,19 +42,12 @@ pub fn read_int(text: &str, style: Integers) -> Result<i64, IntegerFault>
     read_signed(trim_white_end(trim_white_start(text.as_bytes())), style)
 }
 
-/// Whether a byte is white space: space, tab, newline, vertical tab, form feed or carriage return.
-pub fn is_white_space(byte: u8) -> bool
-    ensures { result ≡ is_white byte }
-{
-    byte == b' ' || (b'\t' <= byte && byte <= b'\r')
-}
-
 pub(crate) fn trim_white_start(text: &[u8]) -> &[u8]
     ensures { result.now ≡ trim_start text.now }
 {
     let mut rest = text;
     'rest: while let [first, tail @ ..] = rest {
-        if !is_white_space(*first) {
+        if !is_white(*first) {
             break;
         }
         rest = tail;
@@ -65,7 +60,7 @@ pub(crate) fn trim_white_end(text: &[u8]) -> &[u8]
 {
     let mut rest = text;
     'rest: while let [head @ .., last] = rest {
-        if !is_white_space(*last) {
+        if !is_white(*last) {
             break;
         }
         rest = head;
@@ -171,6 +166,11 @@ pub fn written_integers_read_back()
     ensures fits { (n : ℤ) → FitsSigned w64 n → in_64_bits (Some n) ≡ Ok n }
 {}
 
+/// The integer texts by their form: white space, a sign or none, a number, white space.
+pub fn integers_by_form()
+    ensures { IntegersByForm }
+{}
+
 /// How many bytes an integer takes in decimal.
 pub fn int_len(number: i64) -> usize
     ensures { result ≡ length (signed_decimal number) }
@@ -248,7 +248,6 @@ mod tests {
         text.push_str(" ")?;
         push_int(&mut text, 0)?;
         assert_eq!(rt; text.as_str(), "-9223372036854775808 0");
-        assert!(rt; is_white_space(b' '));
         Ok(())
     }
 

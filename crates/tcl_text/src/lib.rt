@@ -1,10 +1,10 @@
 //! The texts of the Tcl command language: shared texts, and lists written in texts.
 #![tactic(auto)]
 
+pub mod backslash;
 pub mod boolean;
+pub mod characters;
 pub mod index;
 pub mod integer;
-pub mod backslash;
-pub mod characters;
 pub mod list;
 pub mod text;

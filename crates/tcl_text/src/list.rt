@@ -50,7 +50,7 @@ impl<T: Drop> From<AllocFailed<T>> for ListError {
     }
 }
 
-fn is_white(byte: u8) -> bool
+pub(crate) fn is_white(byte: u8) -> bool
     ensures { result ≡ is_white byte }
 {
     byte == b' ' || (9..=13).contains(&byte)
