@@ -5,3 +5,4 @@ pub mod Backslash
 pub mod Lists
 pub mod Reading
 pub mod NumberForms
+pub mod Writing

@@ -7,4 +7,5 @@ pub mod characters;
 pub mod index;
 pub mod integer;
 pub mod list;
+mod list_writing;
 pub mod text;

@@ -4,11 +4,13 @@ ghost use Rattle.std.specs.List.{prefix_len, take_while};
 ghost use Rattle.std.specs.Str.{chars};
 ghost use Rattle.tcl_text.specs.Lists.{is_white, close_brace, none_open, count, units, ends, offending, element_at, list_of, Spells, HasFault, Decided, OneList, OneFault, NeverBoth, GivesList, GivesFault};
 ghost use Rattle.tcl_text.specs.Reading.{is_plain, stop_test, Gives, IfFault};
+ghost use Rattle.tcl_text.specs.Writing.{fault_message, shown_after};
 ghost use Rattle.tcl_text.specs.declared.list.ListFault.{ListFault};
 ghost use Rattle.tcl_text.specs.declared.list.ListError.TheVariants.{Memory};
 
 use crate::backslash::read_escape;
 use crate::characters::first_characters;
+pub use crate::list_writing::{write_element, write_list, written_len, written_list_spells_it};
 use crate::text::Text;
 use std::alloc::{AllocError, AllocFailed, Global};
 
@@ -23,6 +25,34 @@ pub enum ListFault {
     AfterBrace(Text),
     /// 104: this text follows an element in quotes in place of white space.
     AfterQuote(Text),
+}
+
+impl ListFault {
+    /// What an error says of it.
+    ///
+    /// # Errors
+    /// Want of memory.
+    pub fn message(&self, alloc: Global) -> Result<Text, AllocError>
+        ensures { IfOk result (λ made. made ≡ fault_message self.now) }
+    {
+        match self {
+            ListFault::UnmatchedBrace => Text::new(alloc, "unmatched open brace in list"),
+            ListFault::UnmatchedQuote => Text::new(alloc, "unmatched open quote in list"),
+            ListFault::AfterBrace(shown) => followed_message(alloc, "braces", shown),
+            ListFault::AfterQuote(shown) => followed_message(alloc, "quotes", shown),
+        }
+    }
+}
+
+fn followed_message(alloc: Global, kind: &str, shown: &Text) -> Result<Text, AllocError>
+    ensures { IfOk result (λ made. made ≡ shown_after kind.now shown.now) }
+{
+    let mut message = String::from_str(alloc, "list element in ")?;
+    message.push_str(kind)?;
+    message.push_str(" followed by \"")?;
+    message.push_str(shown.as_str())?;
+    message.push_str("\" instead of space")?;
+    Text::from_string(alloc, message)
 }
 
 /// Why no list was read.
@@ -81,16 +111,22 @@ fn is_end(text: &str) -> bool
 
 /// Braces as they are counted, from the left.
 #[derive(Clone, Copy)]
-struct Braces {
+pub(crate) struct Braces {
     /// How many are open.
-    depth: usize,
+    pub(crate) depth: usize,
     /// Whether the next character is skipped, since a backslash stands before it.
-    skips: bool,
+    pub(crate) skips: bool,
 }
 
 impl Braces {
+    /// Before the first byte.
+    pub(crate) const NONE_OPEN: Braces = Braces {
+        depth: 0,
+        skips: false,
+    };
+
     /// Counts a byte; `None` where it closes a brace that isn't open.
-    fn count(self, byte: u8) -> Option<Braces>
+    pub(crate) fn count(self, byte: u8) -> Option<Braces>
         requires { self.depth + 1 < 2 ^ 64 }
         ensures { result ≡ count self byte }
     {
@@ -122,10 +158,7 @@ impl Braces {
 fn split_braced(text: &str) -> Option<(&str, &str)>
     ensures { MatchOption result (close_brace text.now none_open ≡ None) (λ parts. close_brace text.now none_open ≡ Some (parts.0.now, parts.1.now)) }
 {
-    let mut braces = Braces {
-        depth: 0,
-        skips: false,
-    };
+    let mut braces = Braces::NONE_OPEN;
     'bytes: for (i, byte) in text.as_bytes().iter().enumerate() {
         match braces.count(*byte) {
             Some(next) => braces = next,
@@ -306,3 +339,130 @@ pub fn list_of_decides()
     ensures list { GivesList }
     ensures fault { GivesFault }
 {}
+
+#[cfg(test)]
+mod tests {
+    use super::*;
+    use std::process::Abort;
+    use std::test::Fail;
+
+    fn assert_reads(
+        rt: &impl Abort,
+        alloc: Global,
+        text: &str,
+        elements: &[&str],
+    ) -> Result<(), Fail> {
+        let list = read_list(alloc, text)?;
+        assert_eq!(rt; list.len(), elements.len(), "elements of {text}");
+        for (read, element) in list.iter().zip(elements) {
+            assert!(rt; read.as_str() == *element, "{read:?} of {text}");
+        }
+        Ok(())
+    }
+
+    fn assert_message(
+        rt: &impl Abort,
+        alloc: Global,
+        text: &str,
+        message: &str,
+    ) -> Result<(), Fail> {
+        match read_list(alloc, text) {
+            Err(ListError::Fault(fault)) => {
+                assert!(rt;
+                    fault.message(alloc)?.as_str() == message,
+                    "message of {text}"
+                );
+                Ok(())
+            }
+            Ok(_) | Err(ListError::Memory) => Err("no fault")?,
+        }
+    }
+
+    fn assert_writes(
+        rt: &impl Abort,
+        alloc: Global,
+        elements: &[&str],
+        text: &str,
+    ) -> Result<(), Fail> {
+        let mut list = Vec::new(alloc);
+        for element in elements {
+            list.push(Text::new(alloc, element)?)?;
+        }
+        let written = write_list(alloc, list.as_slice())?;
+        assert!(rt; written.as_str() == text, "{written}");
+        assert_reads(rt, alloc, text, elements)
+    }
+
+    #[test]
+    fn lists_are_read(rt: HostRuntime) -> Result<(), Fail> {
+        let alloc = rt.alloc();
+        assert_reads(&rt, alloc, "", &[])?;
+        assert_reads(&rt, alloc, " a\tb\n", &["a", "b"])?;
+        assert_reads(
+            &rt,
+            alloc,
+            "a {b {c d}} \"e f\" g\\ h",
+            &["a", "b {c d}", "e f", "g h"],
+        )?;
+        assert_reads(&rt, alloc, "{a\\}b} \\x41\\u00e9 #", &["a\\}b", "Aé", "#"])?;
+        assert_reads(&rt, alloc, "a\"b c{d", &["a\"b", "c{d"])
+    }
+
+    #[test]
+    fn faults_are_told(rt: HostRuntime) -> Result<(), Fail> {
+        let alloc = rt.alloc();
+        assert_message(&rt, alloc, "a {b", "unmatched open brace in list")?;
+        assert_message(&rt, alloc, "a \"b", "unmatched open quote in list")?;
+        assert_message(
+            &rt,
+            alloc,
+            "{a}b",
+            "list element in braces followed by \"b\" instead of space",
+        )?;
+        assert_message(
+            &rt,
+            alloc,
+            "\"a\"bc d",
+            "list element in quotes followed by \"bc\" instead of space",
+        )?;
+        assert_message(
+            &rt,
+            alloc,
+            "{a}12345678901234567890123",
+            "list element in braces followed by \"12345678901234567890\" instead of space",
+        )
+    }
+
+    #[test]
+    fn lists_are_written(rt: HostRuntime) -> Result<(), Fail> {
+        let alloc = rt.alloc();
+        assert_writes(&rt, alloc, &["a{", "b\\", "c  d"], "a\\{ b\\\\ {c  d}")?;
+        assert_writes(&rt, alloc, &["#", "a"], "{#} a")?;
+        assert_writes(&rt, alloc, &["a", "#", ""], "a # {}")?;
+        assert_writes(&rt, alloc, &["#\n}", "x\\\ny"], "\\#\\n\\} x\\\\\\ny")
+    }
+
+    #[test]
+    fn elements_are_measured(rt: HostRuntime) -> Result<(), Fail> {
+        assert_eq!(rt; written_len("", true), 2);
+        assert_eq!(rt; written_len("ab", true), 2);
+        assert_eq!(rt; written_len("#", true), 3);
+        assert_eq!(rt; written_len("#", false), 1);
+        assert_eq!(rt; written_len("a{ b", false), 6);
+        let mut text = String::from_str(rt.alloc(), "a ")?;
+        write_element(&mut text, "b c", false)?;
+        assert!(rt; text.as_str() == "a {b c}");
+        Ok(())
+    }
+
+    #[test]
+    fn many_elements(rt: HostRuntime) -> Result<(), Fail> {
+        let alloc = rt.alloc();
+        let mut text = String::new(alloc);
+        for _ in 0..100_000 {
+            text.push_str("a \\n {b c} ")?;
+        }
+        assert_eq!(rt; read_list(alloc, text.as_str())?.len(), 300_000);
+        Ok(())
+    }
+}
