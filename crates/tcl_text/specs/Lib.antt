@@ -1,4 +1,8 @@
+pub mod Numbers
+pub mod Booleans
+pub mod Indexes
 pub mod Backslash
 pub mod Lists
 pub mod Reading
+pub mod NumberForms
 pub mod Writing

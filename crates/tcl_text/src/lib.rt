@@ -2,7 +2,10 @@
 #![tactic(auto)]
 
 pub mod backslash;
+pub mod boolean;
 pub mod characters;
+pub mod index;
+pub mod integer;
 pub mod list;
 mod list_writing;
 pub mod text;

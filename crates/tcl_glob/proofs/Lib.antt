@@ -1,0 +1,4 @@
+pub mod Matching
+pub mod Sets
+pub mod Letters
+pub mod Outcomes
