@@ -1,4 +1,5 @@
 //! The texts of the Tcl command language: shared texts, and lists written in texts.
 #![tactic(auto)]
 
+pub mod backslash;
 pub mod text;

@@ -1,0 +1,4 @@
+mod RunLemmas
+mod GapLemmas
+mod NameLemmas
+mod BraceLemmas

@@ -1,0 +1,6 @@
+//! Reading scripts of the Tcl command language: their commands, words and parts, and the fault that ends them.
+#![tactic(auto)]
+
+pub mod fault;
+mod scan;
+pub mod script;
