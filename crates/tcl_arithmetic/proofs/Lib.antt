@@ -1,0 +1,4 @@
+pub mod DigitLaws
+pub mod Divisions
+pub mod PowerLaws
+pub mod Shifts

@@ -1,0 +1,4 @@
+pub mod Division
+pub mod Powers
+pub mod Digits
+pub mod Results
