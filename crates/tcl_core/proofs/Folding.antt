@@ -51,7 +51,8 @@ module _ {O I : Type 0} where
 
     stays_map : (w : World O) (p : Place) (s : Wait) (k : Said → Prog O I) (o : Ending) (v : World O) (e : Ending) → Stays R w p s k o v e → Stays S w p s k o v e
     stays_map w p s k None v e a = a
-    stays_map w p s k (Some r) v e a = f w p _ v e a
+    stays_map w p s k (Some (Exit n)) v e a = a
+    stays_map w p s k (Some _) v e a = f w p _ v e a
 
     module _ (prog : Table O I) where
       visits_map : (w : World O) (h : Height) (t : Place) (i : Entry) (v : World O) (e : Ending) → Visits prog R w h t i v e → Visits prog S w h t i v e
@@ -75,7 +76,7 @@ module _ {O I : Type 0} where
       calls_map w p h down i lost k (Some t) v e a = reaches_map w p h down i lost k (reached w.tree t down) v e a
 
       moves_map : (w : World O) (p : Place) (s : Wait) (k : Said → Prog O I) (m : Move O) (v : World O) (e : Ending) → Moves prog R w p s k m v e → Moves prog S w p s k m v e
-      moves_map w p s k (Come a) v e b = answered_map w p (height_of s.call) k a v e b
+      moves_map w p s k (Come a) v e b = answered_map w p (height_of s) k a v e b
       moves_map w p s k (Born o b) v e (u, t, a) = (u, t, f u p _ v e a)
       moves_map w p s k Fall v e (u, t, a) = (u, t, f u p _ v e a)
       moves_map w p s k (Enter t i) v e (u, o, a, b) = (u, o, visits_map w None t i u o a, stays_map u p s k o v e b)
@@ -167,7 +168,8 @@ module _ {O I : Type 0} where
 
     stays_deep : (w : World O) (p : Place) (s : Wait) (k : Said → Prog O I) (o : Ending) (v : World O) (e : Ending) → Stays (Runs prog) w p s k o v e → (n : ℕ) × Stays (RunsIn prog n) w p s k o v e
     stays_deep w p s k None v e a = (0, a)
-    stays_deep w p s k (Some r) v e a = a
+    stays_deep w p s k (Some (Exit n)) v e a = (0, a)
+    stays_deep w p s k (Some _) v e a = a
 
     reaches_deep : (w : World O) (p : Place) (h : Height) (down : Path) (i : Entry) (lost : Completion) (k : Said → Prog O I) (t : Option Place) (v : World O) (e : Ending) → Reaches prog (Runs prog) w p h down i lost k t v e → (n : ℕ) × Reaches prog (RunsIn prog n) w p h down i lost k t v e
     reaches_deep w p h down i lost k None v e a = answered_deep w p h k (Replied (Completed lost)) v e a
@@ -181,7 +183,7 @@ module _ {O I : Type 0} where
     calls_deep w p h down i lost k (Some t) v e a = reaches_deep w p h down i lost k (reached w.tree t down) v e a
 
     moves_deep : (w : World O) (p : Place) (s : Wait) (k : Said → Prog O I) (m : Move O) (v : World O) (e : Ending) → Moves prog (Runs prog) w p s k m v e → (n : ℕ) × Moves prog (RunsIn prog n) w p s k m v e
-    moves_deep w p s k (Come a) v e b = answered_deep w p (height_of s.call) k a v e b
+    moves_deep w p s k (Come a) v e b = answered_deep w p (height_of s) k a v e b
     moves_deep w p s k (Born o b) v e (u, t, (n, a)) = (n, (u, t, a))
     moves_deep w p s k Fall v e (u, t, (n, a)) = (n, (u, t, a))
     moves_deep w p s k (Enter t i) v e (u, o, a, b) =

@@ -18,7 +18,7 @@ use Rattle.tcl_core.specs.Views.{moves_of, view, inside_of}
 
 -- no call is open
 abbrev pub idle : Wait
-idle = record { call = None; due = None }
+idle = None
 
 abbrev pub never : {O I : Type 0} → Said → Prog O I
 never s = done (ok [])
@@ -57,9 +57,15 @@ over_by (Exit n) = Some (Exited n)
 over_by (Cut Above) = Some Ended
 over_by (Cut Over) = Some Spent
 
--- the same, where the moves are these and then that the run is over
-abbrev pub unwound : {O : Type 0} → World O → List (Move O) → List (Event O) → World O
-unwound w ms τ = record { tree = w.tree; moves = ms ++ Come (Replied (Cut Over)) ∷ []; grants = w.grants; tape = τ }
+-- the same, where the moves are these and then an end from outside
+abbrev pub unwound : {O : Type 0} → World O → List (Move O) → Reply → List (Event O) → World O
+unwound w ms r τ = record { tree = w.tree; moves = ms ++ Come (Replied r) ∷ []; grants = w.grants; tape = τ }
+
+-- what ends the open call from outside: that the run is over, or the exit by which an entry of that call ended
+abbrev pub IsEnd : Reply → Type 0
+IsEnd (Cut Over) = Unit {0}
+IsEnd (Exit n) = Unit {0}
+IsEnd _ = Prim.⊥
 
 -- A tree by itself does what is handed in, entry by entry, up to the first that ends it.
 pub data Reacts {O I : Type 0} (prog : Table O I) : World O → World O → Outcome → Type 0 where
@@ -68,10 +74,10 @@ pub data Reacts {O I : Type 0} (prog : Table O I) : World O → World O → Outc
   served : (w u v : World O) (t : Path) (i : Entry) (r : Reply) (x : Outcome) → Visits prog (Runs prog) w None t i u (Some r) → over_by r ≡ None → Reacts prog u v x → Reacts prog w v x
   over : (w u : World O) (t : Path) (i : Entry) (r : Reply) (x : Outcome) → Visits prog (Runs prog) w None t i u (Some r) → over_by r ≡ Some x → u.tape ≡ [] → Reacts prog w u x
   waiting : (w u : World O) (t : Path) (i : Entry) → Visits prog (Runs prog) w None t i u None → u.moves ≡ [] → Reacts prog w u Waiting
-  -- a move that doesn't fit: the tree is left as if the run's end had been told in its place
-  unfit : (w u v : World O) (t : Path) (i : Entry) (ms : List (Move O)) (m : Move O) (rest : List (Move O)) (τ : List (Event O)) →
-      Visits prog (Runs prog) w None t i u None → u.moves ≡ m ∷ rest → w.moves ≡ ms ++ m ∷ rest →
-      Visits prog (Runs prog) (unwound w ms τ) None t i v (Some (Cut Over)) → v.tape ≡ [] → Reacts prog w v Misfit
+  -- a move that doesn't fit: the tree is left as if an end from outside had come in its place
+  unfit : (w u v : World O) (t : Path) (i : Entry) (ms : List (Move O)) (m : Move O) (rest : List (Move O)) (r : Reply) (τ : List (Event O)) →
+      Visits prog (Runs prog) w None t i u None → u.moves ≡ m ∷ rest → w.moves ≡ ms ++ m ∷ rest → IsEnd r →
+      Visits prog (Runs prog) (unwound w ms r τ) None t i v (Some r) → v.tape ≡ [] → Reacts prog w v Misfit
 
 abbrev pub alone : {O : Type 0} → Tree O → List (Move O) → ℕ → List (Event O) → World O
 alone S ms n τ = record { tree = S; moves = ms; grants = Budget n; tape = τ }

@@ -28,10 +28,9 @@ pub data Wrap (O : Type 0) : Type 0 where
   Deeper : Wrap O
   Framed : (own : O) (back : O → O) → Wrap O
 
--- The call that waits for its answer, if one does, and the exit by which an entry of it ended, if one did.
-pub record Wait : Type 0 where
-  pub call : Option (Height × Entry)
-  pub due : Option ℤ
+-- The call that waits for its answer, how far up it goes; none where control waits at the top.
+abbrev pub Wait : Type 0
+Wait = Option (Height × Entry)
 
 -- A program ends by a completion or an exit. It goes on after an act, told the subtree as it stood; after an inner evaluation that
 -- completed; or after a call that was answered. Stops, exits and cuts it never sees.
@@ -45,11 +44,12 @@ pub data Prog (O I : Type 0) : Type 0 where
   call : Height → (down : Path) → Entry → (lost : Completion) → (Said → Prog O I) → Prog O I
   wait : Wait → (Said → Prog O I) → Prog O I
 
--- What the interpreters' commands are: the program of each instruction and of each entry, and what an entry into no interpreter is told.
+-- What the interpreters' commands are: the program of each instruction and of each entry, and what an entry into no interpreter is
+-- told (its path is put in where that is shown).
 pub record Table (O I : Type 0) : Type 0 where
   pub program : I → Prog O I
   pub entry : Entry → Prog O I
-  pub lost : Path → Completion
+  pub lost : Completion
 
 -- How it goes on after an act: the program goes on; the evaluation is too deep, which is an error; or it ends so.
 pub data Next : Type 0 where

@@ -65,19 +65,9 @@ abbrev pub reached : {O : Type 0} → Tree O → Place → Path → Option Place
 reached T a down = where_stands (T (a ++ down)) (a ++ down)
 
 -- what an entry does at the interpreter that is there, if one is
-abbrev pub entering : {O I : Type 0} → Table O I → Option (Node O) → Path → Entry → Prog O I
-entering prog None t i = done (prog.lost t)
-entering prog (Some n) t i = prog.entry i
-
--- After an entry of a call ended by an exit, only the call's own end by that exit fits. (And that the run is over always fits.)
-abbrev pub noting : Reply → Wait → Wait
-noting (Exit n) s = record s { due = Some n }
-noting _ s = s
-
-abbrev pub is_exit : ℤ → Answer → Bool
-is_exit n (Replied (Exit m)) = int_eq n m
-is_exit n (Replied (Cut Over)) = true
-is_exit n _ = false
+abbrev pub entering : {O I : Type 0} → Table O I → Option (Node O) → Entry → Prog O I
+entering prog None i = done prog.lost
+entering prog (Some n) i = prog.entry i
 
 -- An alias is answered by how its evaluation ended; a request by one of its own answers, or by an end from outside.
 abbrev pub is_own : Height → Entry → Answer → Bool
@@ -89,30 +79,43 @@ is_own None i (Replied r) = true
 is_own None (AskHost q) (Heard a) = answers q a
 is_own None i (Heard a) = false
 
-abbrev pub answers_call : Option (Height × Entry) → Option ℤ → Answer → Bool
-answers_call None d a = false
-answers_call (Some c) None a = is_own c.0 c.1 a
-answers_call (Some c) (Some n) a = is_exit n a
+-- whether a move fits where this call is open
+abbrev pub answers_call : Wait → Answer → Bool
+answers_call None a = false
+answers_call (Some c) a = is_own c.0 c.1 a
 
-abbrev pub may_enter : Option ℤ → Bool
-may_enter None = true
-may_enter (Some n) = false
-
--- whether a move fits
 abbrev pub fits : {O : Type 0} → Wait → Move O → Bool
-fits s (Enter t i) = may_enter s.due
-fits s (Come a) = answers_call s.call s.due a
+fits s (Enter t i) = true
+fits s (Come a) = answers_call s a
 fits s (Born o b) = true
 fits s Fall = true
 
+-- After an entry of a call ended by an exit, nothing fits but the call's own end by that exit.
+abbrev pub is_exit : ℤ → Answer → Bool
+is_exit n (Replied (Exit m)) = int_eq n m
+is_exit n _ = false
+
+abbrev pub ends_call : Wait → ℤ → Answer → Bool
+ends_call None n a = false
+ends_call (Some c) n a = is_exit n a
+
 -- how far up the open call goes; control that waits at the top waits for the outside of every tree
-abbrev pub height_of : Option (Height × Entry) → Height
+abbrev pub height_of : Wait → Height
 height_of None = None
 height_of (Some c) = c.0
 
 abbrev pub Leaves : {O : Type 0} → World O → Height → Place → Ending → World O → Type 0
 Leaves w h t None v = v ≡ w
 Leaves w h t (Some r) v = Step w t (Done h r) v
+
+abbrev pub Exiting : {O : Type 0} → World O → Place → Wait → ℤ → Bool → World O → Ending → Type 0
+Exiting w p s n false v e = Halts w v e
+Exiting w p s n true v e = Step w p (Back (height_of s) (Replied (Exit n))) v × (e ≡ Some (Exit n))
+
+abbrev pub Exits : {O : Type 0} → World O → Place → Wait → ℤ → List (Move O) → World O → Ending → Type 0
+Exits w p s n [] v e = Halts w v e
+Exits w p s n (Come a ∷ ms) v e = Exiting w p s n (ends_call s n a) v e
+Exits w p s n (m ∷ ms) v e = Halts w v e
 
 module _ {O I : Type 0} where
   -- how it goes on where an inner evaluation ended so: after a completion alone the program goes on
@@ -162,7 +165,7 @@ module _ {O I : Type 0} where
     pub entered : World O
     pub left : World O
     pub entry : Step w t (In h i) entered
-    pub run : R entered t (entering prog (w.tree t) t i) left e
+    pub run : R entered t (entering prog (w.tree t) i) left e
     pub leaving : Leaves left h t e v
 
   abbrev pub Returns : Run O I → World O → Place → Height → Path → (Said → Prog O I) → Ending → World O → Ending → Type 0
@@ -175,16 +178,17 @@ module _ {O I : Type 0} where
       (u : World O) × (o : Ending) × Visits prog R w (Some (length down)) t i u o × Returns R u p h down k o v e
 
   abbrev pub Calls : Table O I → Run O I → World O → Place → Height → Path → Entry → Completion → (Said → Prog O I) → Option Place → World O → Ending → Type 0
-  Calls prog R w p h down i lost k None v e = R w p (wait (record { call = Some (h, i); due = None }) k) v e
+  Calls prog R w p h down i lost k None v e = R w p (wait (Some (h, i)) k) v e
   Calls prog R w p h down i lost k (Some a) v e = Reaches prog R w p h down i lost k (reached w.tree a down) v e
 
   -- control stays outside after an entry
   abbrev pub Stays : Run O I → World O → Place → Wait → (Said → Prog O I) → Ending → World O → Ending → Type 0
   Stays R w p s k None v e = (v ≡ w) × (e ≡ None)
-  Stays R w p s k (Some r) v e = R w p (wait (noting r s) k) v e
+  Stays R w p s k (Some (Exit n)) v e = Exits w p s n w.moves v e
+  Stays R w p s k (Some r) v e = R w p (wait s k) v e
 
   abbrev pub Moves : Table O I → Run O I → World O → Place → Wait → (Said → Prog O I) → Move O → World O → Ending → Type 0
-  Moves prog R w p s k (Come a) v e = Answered R w p (height_of s.call) k a v e
+  Moves prog R w p s k (Come a) v e = Answered R w p (height_of s) k a v e
   Moves prog R w p s k (Born o b) v e = (u : World O) × Step w [] (Made o b) u × R u p (wait s k) v e
   Moves prog R w p s k Fall v e = (u : World O) × Step w [] Dropped u × R u p (wait s k) v e
   Moves prog R w p s k (Enter t i) v e = (u : World O) × (o : Ending) × Visits prog R w None t i u o × Stays R u p s k o v e
@@ -205,7 +209,7 @@ module _ {O I : Type 0} where
   Unrolled prog R w p (go i k) v e = (u : World O) × (o : Ending) × R w p (prog.program i) u o × Then R u p k o v e
   Unrolled prog R w p (inside b i k) v e = Opens prog R w p (opens b w.tree p w.grants) b i k v e
   Unrolled prog R w p (call h down i lost k) v e = (u : World O) × Step w p (Out h down i) u × Calls prog R u p h down i lost k (rise_to h p) v e
-  Unrolled prog R w p (wait s k) v e = (rise_to (height_of s.call) p ≡ None) × Waits prog R w p s k w.moves v e
+  Unrolled prog R w p (wait s k) v e = (rise_to (height_of s) p ≡ None) × Waits prog R w p s k w.moves v e
 
   -- a run at most n acts deep
   abbrev pub RunsIn : Table O I → ℕ → World O → Place → Prog O I → World O → Ending → Type 0

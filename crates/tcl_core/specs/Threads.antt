@@ -15,8 +15,8 @@ use Rattle.tcl_core.specs.Trees.Move.{Enter, Come}
 use Rattle.tcl_core.specs.Programs.{Deed, spot, Act, Wrap, Wait, Next, Prog, Table, decide, opens, closes}
 use Rattle.tcl_core.specs.Programs.Next.{On, TooDeep, Off}
 use Rattle.tcl_core.specs.Programs.Prog.{done, exit, act, go, inside, call, wait}
-use Rattle.tcl_core.specs.Runs.{World, Ending, Runs, carried, reached, entering, noting, fits, height_of}
-use Rattle.tcl_core.specs.Rules.{IsOn}
+use Rattle.tcl_core.specs.Runs.{World, Ending, Runs, carried, reached, entering, fits, height_of}
+use Rattle.tcl_core.specs.Rules.{IsOn, IsNoExit}
 use Rattle.tcl_core.specs.Views.{moves_of, grants_of, inside_of}
 
 -- the act comes to this deed, whatever else the outside will grant
@@ -55,12 +55,12 @@ pub data Threads {O I S : Type 0} (step : S → Event O → S → Type 0) (prog 
       Opens_so b T p x → x.2 ≡ Off r → step o (event (spot p x.0) x.1) u → Threads step prog T o p (inside b i k) (effect (spot p x.0) x.1 T) u r
   called : {T U V : Tree O} {o o1 o2 o3 o4 o5 z : S} {p : Place} {h : Height} {down : Path} {i : Entry} {lost : Completion} {k : Said → Prog O I} {s r : Reply} {c : Completion} (a t : Place) →
       rise_to h p ≡ Some a → reached T a down ≡ Some t →
-      step o (event p (Out h down i)) o1 → step o1 (event t (In (Some (length down)) i)) o2 → Threads step prog T o2 t (entering prog (T t) t i) U o3 s →
+      step o (event p (Out h down i)) o1 → step o1 (event t (In (Some (length down)) i)) o2 → Threads step prog T o2 t (entering prog (T t) i) U o3 s →
       step o3 (event t (Done (Some (length down)) s)) o4 → carried h p down s ≡ Completed c → step o4 (event p (Back h (Replied (carried h p down s)))) o5 →
       Threads step prog U o5 p (k (Finished c)) V z r → Threads step prog T o p (call h down i lost k) V z r
   called_passed : {T U : Tree O} {o o1 o2 o3 o4 o5 : S} {p : Place} {h : Height} {down : Path} {i : Entry} {lost : Completion} {k : Said → Prog O I} {s r : Reply} (a t : Place) →
       rise_to h p ≡ Some a → reached T a down ≡ Some t →
-      step o (event p (Out h down i)) o1 → step o1 (event t (In (Some (length down)) i)) o2 → Threads step prog T o2 t (entering prog (T t) t i) U o3 s →
+      step o (event p (Out h down i)) o1 → step o1 (event t (In (Some (length down)) i)) o2 → Threads step prog T o2 t (entering prog (T t) i) U o3 s →
       step o3 (event t (Done (Some (length down)) s)) o4 → carried h p down s ≡ r → IsQuit r → step o4 (event p (Back h (Replied r))) o5 →
       Threads step prog T o p (call h down i lost k) U o5 r
   unreached : {T V : Tree O} {o o1 o2 z : S} {p : Place} {h : Height} {down : Path} {i : Entry} {lost : Completion} {k : Said → Prog O I} {r : Reply} (a : Place) →
@@ -68,19 +68,22 @@ pub data Threads {O I S : Type 0} (step : S → Event O → S → Type 0) (prog 
       step o (event p (Out h down i)) o1 → step o1 (event p (Back h (Replied (Completed lost)))) o2 →
       Threads step prog T o2 p (k (Finished lost)) V z r → Threads step prog T o p (call h down i lost k) V z r
   called_out : {T V : Tree O} {o u z : S} {p : Place} {h : Height} {down : Path} {i : Entry} {lost : Completion} {k : Said → Prog O I} {r : Reply} → rise_to h p ≡ None →
-      step o (event p (Out h down i)) u → Threads step prog T u p (wait (record { call = Some (h, i); due = None }) k) V z r → Threads step prog T o p (call h down i lost k) V z r
-  answered : {T V : Tree O} {o u z : S} {p : Place} {s : Wait} {k : Said → Prog O I} {c : Completion} {r : Reply} → rise_to (height_of s.call) p ≡ None →
+      step o (event p (Out h down i)) u → Threads step prog T u p (wait (Some (h, i)) k) V z r → Threads step prog T o p (call h down i lost k) V z r
+  answered : {T V : Tree O} {o u z : S} {p : Place} {s : Wait} {k : Said → Prog O I} {c : Completion} {r : Reply} → rise_to (height_of s) p ≡ None →
       fits {O = O} s (Come (Replied (Completed c))) ≡ true →
-      step o (event p (Back (height_of s.call) (Replied (Completed c)))) u → Threads step prog T u p (k (Finished c)) V z r → Threads step prog T o p (wait s k) V z r
-  heard : {T V : Tree O} {o u z : S} {p : Place} {s : Wait} {k : Said → Prog O I} {a : HostReply} {r : Reply} → rise_to (height_of s.call) p ≡ None →
+      step o (event p (Back (height_of s) (Replied (Completed c)))) u → Threads step prog T u p (k (Finished c)) V z r → Threads step prog T o p (wait s k) V z r
+  heard : {T V : Tree O} {o u z : S} {p : Place} {s : Wait} {k : Said → Prog O I} {a : HostReply} {r : Reply} → rise_to (height_of s) p ≡ None →
       fits {O = O} s (Come (Heard a)) ≡ true →
-      step o (event p (Back (height_of s.call) (Heard a))) u → Threads step prog T u p (k (Told a)) V z r → Threads step prog T o p (wait s k) V z r
-  answered_passed : {T : Tree O} {o u : S} {p : Place} {s : Wait} {k : Said → Prog O I} {r : Reply} → IsQuit r → rise_to (height_of s.call) p ≡ None →
+      step o (event p (Back (height_of s) (Heard a))) u → Threads step prog T u p (k (Told a)) V z r → Threads step prog T o p (wait s k) V z r
+  answered_passed : {T : Tree O} {o u : S} {p : Place} {s : Wait} {k : Said → Prog O I} {r : Reply} → IsQuit r → rise_to (height_of s) p ≡ None →
       fits {O = O} s (Come (Replied r)) ≡ true →
-      step o (event p (Back (height_of s.call) (Replied r))) u → Threads step prog T o p (wait s k) T u r
-  entered : {T U V : Tree O} {o o1 o2 o3 z : S} {p : Place} {s : Wait} {k : Said → Prog O I} {y r : Reply} (t : Path) (i : Entry) → rise_to (height_of s.call) p ≡ None →
-      fits {O = O} s (Enter t i) ≡ true → step o (event t (In None i)) o1 → Threads step prog T o1 t (entering prog (T t) t i) U o2 y → step o2 (event t (Done None y)) o3 →
-      Threads step prog U o3 p (wait (noting y s) k) V z r → Threads step prog T o p (wait s k) V z r
+      step o (event p (Back (height_of s) (Replied r))) u → Threads step prog T o p (wait s k) T u r
+  entered : {T U V : Tree O} {o o1 o2 o3 z : S} {p : Place} {s : Wait} {k : Said → Prog O I} {y r : Reply} (t : Path) (i : Entry) → rise_to (height_of s) p ≡ None →
+      step o (event t (In None i)) o1 → Threads step prog T o1 t (entering prog (T t) i) U o2 y → step o2 (event t (Done None y)) o3 → IsNoExit y →
+      Threads step prog U o3 p (wait s k) V z r → Threads step prog T o p (wait s k) V z r
+  entered_exiting : {T U : Tree O} {o o1 o2 o3 o4 : S} {p : Place} {c : Height × Entry} {k : Said → Prog O I} {n : ℤ} (t : Path) (i : Entry) → rise_to c.0 p ≡ None →
+      step o (event t (In None i)) o1 → Threads step prog T o1 t (entering prog (T t) i) U o2 (Exit n) → step o2 (event t (Done None (Exit n))) o3 →
+      step o3 (event p (Back c.0 (Replied (Exit n)))) o4 → Threads step prog T o p (wait (Some c) k) U o4 (Exit n)
 
 -- how the outside goes from one state to the next by what passes the top; all else leaves it alone
 abbrev pub passing : {O S : Type 0} → Option Place → (S → Event O → S → Type 0) → S → Event O → S → Type 0
