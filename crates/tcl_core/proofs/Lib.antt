@@ -1,3 +1,5 @@
 pub mod PathLaws
 pub mod TreeLaws
 pub mod Folding
+pub mod Seeing
+pub mod Isolation

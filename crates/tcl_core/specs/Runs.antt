@@ -51,10 +51,13 @@ abbrev pub lessened : Bool → ℕ → Meter → Reply
 lessened true n m = Completed (refusal m)
 lessened false n m = Stop n m
 
+abbrev pub carried_by : Reply → Height → Place → Path → Reply
+carried_by (Stop n m) None p down = Completed (refusal m)
+carried_by (Stop n m) (Some h) p down = lessened (nat_lt (n + together (falls h p) down) (length down)) (n + h - length down) m
+carried_by r h p down = r
+
 abbrev pub carried : Height → Place → Path → Reply → Reply
-carried None p down (Stop n m) = Completed (refusal m)
-carried (Some h) p down (Stop n m) = lessened (nat_lt (n + together (falls h p) down) (length down)) (n + h - length down) m
-carried h p down r = r
+carried h p down r = carried_by r h p down
 
 -- the interpreter these names down from a, where it stands
 abbrev pub where_stands : {O : Type 0} → Option (Node O) → Place → Option Place

@@ -2,6 +2,14 @@
 #![tactic(auto)]
 
 ghost use Rattle.std.specs.Prelude.{◌≡◌, ◌↔◌, ℕ, Option, ◌++◌};
+ghost use Rattle.std.specs.Prelude.{ℤ, true};
+ghost use Rattle.tcl_core.specs.Endings.Reply.{Exit};
+ghost use Rattle.tcl_core.specs.Entries.Answer.{Replied};
+ghost use Rattle.tcl_core.specs.Runs.{height_of, Halts};
+ghost use Rattle.tcl_core.specs.Entries.{Said};
+ghost use Rattle.std.specs.Prelude.{[], None};
+ghost use Rattle.tcl_core.specs.Programs.{Wait};
+ghost use Rattle.tcl_core.specs.Programs.Prog.{wait};
 ghost use Rattle.tcl_core.specs.Paths.{seen_height, rise_to, Place};
 ghost use Rattle.tcl_core.specs.Trees.{Tree, What, effect, at, seen_what};
 ghost use Rattle.tcl_core.specs.Programs.{Prog, Table};
@@ -16,4 +24,9 @@ pub fn heights<O>()
 /// A run is what `Unrolled` says of runs.
 pub fn unrolling<O, I>()
     ensures { (prog : Table O I) (w : World O) (p : Place) (x : Prog O I) (v : World O) (e : Ending) → Unrolled prog (Runs prog) w p x v e ↔ Runs prog w p x v e }
+{}
+
+/// trial
+pub fn trial<O, I>()
+    ensures { (prog : Table O I) (w : World O) (q : Place) (s : Wait) (k : Said → Prog O I) (v : World O) (e : Ending) → rise_to (height_of s) q ≡ None → w.moves ≡ [] → Halts w v e → Runs prog w q (wait s k) v e }
 {}
