@@ -140,13 +140,13 @@ module _ {O I : Type 0} where
           let y : (q2 ≡ []) × IsLife x = l q2 e in
           wait_life prog (inside_of c w) q2 x (inside_of c u) q s k z o (step_within c q2 x w u (subst (λ p. Step w p x u) (strip-sound c t q2 e) a)) y.0 y.1 f r
 
-  quits : (prog : Table O I) (w : World O) (q : Place) (k : Completion → Prog O I) (r : Reply) (v : World O) (e : Ending) → IsQuit r → v ≡ w → e ≡ Some r → Follows (Runs prog) w q k r v e
+  pub quits : (prog : Table O I) (w : World O) (q : Place) (k : Completion → Prog O I) (r : Reply) (v : World O) (e : Ending) → IsQuit r → v ≡ w → e ≡ Some r → Follows (Runs prog) w q k r v e
   quits prog w q k (Completed c) v e f a b = absurd f
   quits prog w q k (Stop n m) v e f a b = (a, b)
   quits prog w q k (Exit n) v e f a b = (a, b)
   quits prog w q k (Cut c) v e f a b = (a, b)
 
-  hears_quit : (prog : Table O I) (w : World O) (q : Place) (k : Said → Prog O I) (r : Reply) (v : World O) (e : Ending) → IsQuit r → v ≡ w → e ≡ Some r → Hears (Runs prog) w q k (Replied r) v e
+  pub hears_quit : (prog : Table O I) (w : World O) (q : Place) (k : Said → Prog O I) (r : Reply) (v : World O) (e : Ending) → IsQuit r → v ≡ w → e ≡ Some r → Hears (Runs prog) w q k (Replied r) v e
   hears_quit prog w q k (Completed c) v e f a b = absurd f
   hears_quit prog w q k (Stop n m) v e f a b = (a, b)
   hears_quit prog w q k (Exit n) v e f a b = (a, b)

@@ -3,3 +3,4 @@ pub mod TreeLaws
 pub mod Folding
 pub mod Seeing
 pub mod Isolation
+pub mod RuleLaws
