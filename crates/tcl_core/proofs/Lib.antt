@@ -4,3 +4,4 @@ pub mod Folding
 pub mod Seeing
 pub mod Isolation
 pub mod RuleLaws
+pub mod Following

@@ -233,7 +233,7 @@ module _ {O : Type 0} where
   closes_seen q (Framed o back) (Some n) = refl
 
   -- what a subtree is handed are words of a list
-  listed_one : (p : Place) (x : What O) (gs : List Grant) → (hs : List Grant) × (granted p x (Listed gs) ≡ Listed hs)
+  pub listed_one : (p : Place) (x : What O) (gs : List Grant) → (hs : List Grant) × (granted p x (Listed gs) ≡ Listed hs)
   listed_one p Charged gs = (Allow ∷ gs, refl)
   listed_one p Nested gs = (Allow ∷ gs, refl)
   listed_one p (Refused m h) gs = go (rise_to h p)

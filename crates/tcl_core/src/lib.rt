@@ -2,7 +2,7 @@
 //! `O` is the own part of an interpreter, `I` what can be going on in one; each law holds for every table of commands.
 #![tactic(auto)]
 
-ghost use Rattle.tcl_core.specs.Meaning.{RulesAreRuns, Unrolling};
+ghost use Rattle.tcl_core.specs.Meaning.{RulesAreRuns, ThreadsAreRuns, Unrolling};
 
 /// A run is what `Unrolled` says of runs.
 pub fn unrolling<O, I>()
@@ -12,4 +12,9 @@ pub fn unrolling<O, I>()
 /// The rules say what a run is.
 pub fn rules_are_runs<O, I>()
     ensures { RulesAreRuns O I }
+{}
+
+/// What code threads is a run over the tape of what happened.
+pub fn threads_are_runs<O, I, S>()
+    ensures { ThreadsAreRuns O I S }
 {}
