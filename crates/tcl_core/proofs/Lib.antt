@@ -5,3 +5,5 @@ pub mod Seeing
 pub mod Isolation
 pub mod RuleLaws
 pub mod Following
+pub mod SameRuns
+pub mod Conclusions

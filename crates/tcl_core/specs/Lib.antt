@@ -9,3 +9,4 @@ pub mod Rules
 pub mod Threads
 pub mod Lives
 pub mod Meaning
+pub mod Laws

@@ -2,6 +2,7 @@
 //! `O` is the own part of an interpreter, `I` what can be going on in one; each law holds for every table of commands.
 #![tactic(auto)]
 
+ghost use Rattle.tcl_core.specs.Laws.{Determinism, Inner, LivesWithin, Moments, NonInterference};
 ghost use Rattle.tcl_core.specs.Meaning.{RulesAreRuns, ThreadsAreRuns, Unrolling};
 
 /// A run is what `Unrolled` says of runs.
@@ -17,4 +18,29 @@ pub fn rules_are_runs<O, I>()
 /// What code threads is a run over the tape of what happened.
 pub fn threads_are_runs<O, I, S>()
     ensures { ThreadsAreRuns O I S }
+{}
+
+/// From the same tree, with the same handed in, the same happens.
+pub fn determinism<O, I>()
+    ensures { Determinism O I }
+{}
+
+/// A subtree's life is that of a tree of its own, to which the crossings into it are handed in.
+pub fn lives_within<O, I>()
+    ensures { LivesWithin O I }
+{}
+
+/// Two lives in which a subtree is the same at first, and is handed the same, are the same in it.
+pub fn non_interference<O, I>()
+    ensures { NonInterference O I }
+{}
+
+/// After any happenings the subtree at a place is as those in it leave it.
+pub fn moments<O>()
+    ensures { Moments O }
+{}
+
+/// A call within the tree reads no move.
+pub fn inner<O>()
+    ensures { Inner O }
 {}
