@@ -7,3 +7,6 @@ pub mod RuleLaws
 pub mod Following
 pub mod SameRuns
 pub mod Conclusions
+pub mod Keeping
+pub mod Counts
+pub mod MoreMoves

@@ -2,6 +2,7 @@
 use Rattle.std.specs.Prelude.{length, ◌≡◌, ℕ, ◌≤◌, ◌<◌, ◌+◌, Bool, true, false, List, [], ◌∷◌, ◌++◌, Option, Some, None}
 use Rattle.tcl_core.specs.Paths.{Path, Place, strip, rise_to}
 use Rattle.tcl_core.specs.Endings.{Reply}
+use Rattle.tcl_core.specs.Entries.{Entry}
 use Rattle.tcl_core.specs.Trees.{asked, effect, Grant, Grants, Tree, Node, What, Event, Move, at, on_some}
 use Rattle.tcl_core.specs.Trees.Grants.{Listed, Budget}
 use Rattle.tcl_core.specs.Trees.What.{Limited, Made, Dropped, Out, In}
@@ -52,10 +53,55 @@ abbrev pub Happenings : Type 0 → Type 0 → Type 0
 Happenings O I = (prog : Table O I) (w : World O) (p : Place) (x : Prog O I) (v : World O) (e : Ending) →
     Runs prog w p x v e → (made : List (Event O)) × (w.tape ≡ made ++ v.tape) × (v.tree ≡ after made w.tree)
 
+-- c is neither made nor dropped
+abbrev pub Stands : {O : Type 0} → Place → Place → What O → Type 0
+Stands c p (Made o s) = strip p c ≡ Some [] → Prim.⊥
+Stands c p Dropped = strip p c ≡ None
+Stands c p _ = Unit {0}
+
+abbrev pub IsStanding : {O : Type 0} → Place → List (Event O) → Type 0
+IsStanding c [] = Unit {0}
+IsStanding c (ev ∷ τ) = Stands c ev.place ev.what × IsStanding c τ
+
+-- An interpreter's count rises by the steps that are made in its subtree.
+abbrev pub Counting : Type 0 → Type 0 → Type 0
+Counting O I = (prog : Table O I) (c p : Place) (w : World O) (x : Prog O I) (v : World O) (e : Ending) (n : Node O) →
+    Runs prog w p x v e → IsStanding c w.tape → w.tree c ≡ Some n →
+    (m : Node O) × (v.tree c ≡ Some m) × (m.count + steps_of (view c v.tape) ≡ n.count + steps_of (view c w.tape))
+
+-- c's limit is neither raised past l nor taken away
+abbrev pub Lowers : {O : Type 0} → ℕ → What O → Option Place → Type 0
+Lowers l (Limited x) (Some []) = (k : ℕ) × (x ≡ Some k) × (k ≤ l)
+Lowers l x b = Unit {0}
+
+abbrev pub IsLowering : {O : Type 0} → ℕ → Place → List (Event O) → Type 0
+IsLowering l c [] = Unit {0}
+IsLowering l c (ev ∷ τ) = Lowers l ev.what (strip ev.place c) × IsLowering l c τ
+
+-- With a limit that nobody raises or takes away, it ends at most at the greater of the limit and the count before: at most at each
+-- number that both are at most.
+abbrev pub Limiting : Type 0 → Type 0 → Type 0
+Limiting O I = (prog : Table O I) (c p : Place) (w : World O) (x : Prog O I) (v : World O) (e : Ending) (n : Node O) (l b : ℕ) →
+    Runs prog w p x v e → IsStanding c w.tape → IsLowering l c w.tape → w.tree c ≡ Some n → n.limit ≡ Some l → l ≤ b → n.count ≤ b →
+    (m : Node O) × (k : ℕ) × (v.tree c ≡ Some m) × (m.limit ≡ Some k) × (k ≤ l) × (m.count ≤ b)
+
 -- After any happenings the subtree at c is as those in it leave it.
 abbrev pub Moments : Type 0 → Type 0
 Moments O = (c : Place) (τ : List (Event O)) (T : Tree O) → at (after τ T) c ≡ after (view c τ) (at T c)
 
 -- A call within the tree reads no move.
 abbrev pub Inner : Type 0 → Type 0
-Inner O = (a : Place) (down : Path) (i : Rattle.tcl_core.specs.Entries.Entry) (ms : List (Move O)) → asked (a ++ down) (In (Some (length down)) i) ms ≡ ms
+Inner O = (a : Place) (down : Path) (i : Entry) (ms : List (Move O)) → asked (a ++ down) (In (Some (length down)) i) ms ≡ ms
+
+-- the same world, with more to be handed in
+abbrev pub more_grants : List Grant → Grants → Grants
+more_grants more (Listed gs) = Listed (gs ++ more)
+more_grants more (Budget n) = Budget n
+
+abbrev pub with_more : {O : Type 0} → List (Move O) → List Grant → World O → World O
+with_more ms gs w = record { tree = w.tree; moves = w.moves ++ ms; grants = more_grants gs w.grants; tape = w.tape }
+
+-- What is handed in after a run is not looked at.
+abbrev pub MoreMoves : Type 0 → Type 0 → Type 0
+MoreMoves O I = (prog : Table O I) (w : World O) (p : Place) (x : Prog O I) (v : World O) (r : Reply) (ms : List (Move O)) (gs : List Grant) →
+    Runs prog w p x v (Some r) → Runs prog (with_more ms gs w) p x (with_more ms gs v) (Some r)

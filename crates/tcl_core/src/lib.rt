@@ -2,7 +2,7 @@
 //! `O` is the own part of an interpreter, `I` what can be going on in one; each law holds for every table of commands.
 #![tactic(auto)]
 
-ghost use Rattle.tcl_core.specs.Laws.{Determinism, Inner, LivesWithin, Moments, NonInterference};
+ghost use Rattle.tcl_core.specs.Laws.{Counting, Determinism, Happenings, Inner, Limiting, LivesWithin, Moments, MoreMoves, NonInterference};
 ghost use Rattle.tcl_core.specs.Meaning.{RulesAreRuns, ThreadsAreRuns, Unrolling};
 
 /// A run is what `Unrolled` says of runs.
@@ -43,4 +43,24 @@ pub fn moments<O>()
 /// A call within the tree reads no move.
 pub fn inner<O>()
     ensures { Inner O }
+{}
+
+/// What is handed in after a run is not looked at.
+pub fn more_moves<O, I>()
+    ensures { MoreMoves O I }
+{}
+
+/// A run is what it makes happen, and its tree is what that leaves.
+pub fn happenings<O, I>()
+    ensures { Happenings O I }
+{}
+
+/// An interpreter's count rises by the steps that are made in its subtree.
+pub fn counting<O, I>()
+    ensures { Counting O I }
+{}
+
+/// With a limit that nobody raises or takes away, a count ends at most at the greater of the limit and the count before.
+pub fn limiting<O, I>()
+    ensures { Limiting O I }
 {}
