@@ -12,7 +12,7 @@ use Rattle.tcl_core.specs.Laws.{Inner, after, Moments, retape, Agrees, Determini
 use Rattle.tcl_core.proofs.PathLaws.{rise_back, strip-sound}
 use Rattle.tcl_core.proofs.TreeLaws.{effect_fall, effect_within, effect_apart}
 use Rattle.tcl_core.proofs.SameRuns.{runs_same}
-use Rattle.tcl_core.proofs.Isolation.{runs_within, runs_apart}
+use Rattle.tcl_core.proofs.Subtrees.{runs_within, runs_apart}
 
 module _ {O I : Type 0} where
   pub determinism : Determinism O I

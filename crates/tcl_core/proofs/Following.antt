@@ -20,7 +20,7 @@ use Rattle.tcl_core.specs.Threads.Threads.{completed, exited, acted, refused, we
 use Rattle.tcl_core.specs.Views.{moves_of, grants_of}
 use Rattle.tcl_core.proofs.TreeLaws.{listed_one}
 use Rattle.tcl_core.proofs.Seeing.{is_exit_self}
-use Rattle.tcl_core.proofs.Isolation.{exit_answer}
+use Rattle.tcl_core.proofs.Subtrees.{exit_answer}
 use Rattle.tcl_core.proofs.RuleLaws.{derived_runs}
 
 -- what is left after some happenings

@@ -2,7 +2,7 @@ pub mod PathLaws
 pub mod TreeLaws
 pub mod Folding
 pub mod Seeing
-pub mod Isolation
+pub mod Subtrees
 pub mod RuleLaws
 pub mod Following
 pub mod SameRuns
@@ -10,3 +10,7 @@ pub mod Conclusions
 pub mod Keeping
 pub mod Counts
 pub mod MoreMoves
+pub mod Budgets
+pub mod Plain
+pub mod Balance
+pub mod Reacting

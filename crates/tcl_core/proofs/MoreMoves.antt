@@ -68,7 +68,7 @@ module _ {O : Type 0} where
   opens_more Deeper T p gs k x e = metered_more Depth Nested (blocked is_deep T p) gs k x e
   opens_more (Framed o back) T p gs k x e = e
 
-none_not : {A : Type 0} (r : Reply) → None ≡ Some r → A
+pub none_not : {A : Type 0} (r : Reply) → None ≡ Some r → A
 none_not r e = absurd (no2 e)
   where
     no2 : None ≡ Some r → Prim.⊥

@@ -17,7 +17,7 @@ use Rattle.tcl_core.specs.Runs.{World, Step, Ending, Run, Halts, Follows, Then, 
 use Rattle.tcl_core.specs.Rules.{Derives, IsOn, IsNoExit}
 use Rattle.tcl_core.specs.Rules.Derives.{completed, exited, acted, refused, unheard, went, passed, halted, wrapped, wrapped_passed, wrapped_halted, too_deep, shut, unheard_inside, called, called_passed, called_halted, unreached, called_out, unanswered, unfit, answered, heard, answered_passed, entered, entered_halted, entered_exiting, born, fallen}
 use Rattle.tcl_core.proofs.Folding.{roll, Implies, unrolled_map}
-use Rattle.tcl_core.proofs.Isolation.{wait_born, wait_fall, wait_halt, wait_answer, wait_enter, quits, hears_quit}
+use Rattle.tcl_core.proofs.Subtrees.{wait_born, wait_fall, wait_halt, wait_answer, wait_enter, quits, hears_quit}
 
 module _ {O I : Type 0} (prog : Table O I) where
   calls_at : (w : World O) (p : Place) (h : Height) (down : Path) (i : Entry) (lost : Completion) (k : Said → Prog O I) (u : World O) (a : Option Place) (v : World O) (e : Ending) → rise_to h p ≡ a → Step w p (Out h down i) u → Calls prog (Runs prog) u p h down i lost k a v e → Runs prog w p (call h down i lost k) v e

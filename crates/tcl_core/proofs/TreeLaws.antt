@@ -266,11 +266,11 @@ module _ {O : Type 0} where
         grants = ap grants_of e;
       }
 
-  abbrev IsNoDrop : What O → Type 0
+  abbrev pub IsNoDrop : What O → Type 0
   IsNoDrop Dropped = Prim.⊥
   IsNoDrop _ = Unit {0}
 
-  unseen : (b : Option Place) (x : What O) (τ : List (Event O)) → IsNoDrop x → from_above b x τ ≡ τ
+  pub unseen : (b : Option Place) (x : What O) (τ : List (Event O)) → IsNoDrop x → from_above b x τ ≡ τ
   unseen (Some z) Dropped τ n = absurd n
   unseen b x τ n = refl
 

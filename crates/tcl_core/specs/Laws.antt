@@ -2,14 +2,16 @@
 use Rattle.std.specs.Prelude.{length, ◌≡◌, ℕ, ◌≤◌, ◌<◌, ◌+◌, Bool, true, false, List, [], ◌∷◌, ◌++◌, Option, Some, None}
 use Rattle.tcl_core.specs.Paths.{Path, Place, strip, rise_to}
 use Rattle.tcl_core.specs.Endings.{Reply}
-use Rattle.tcl_core.specs.Entries.{Entry}
+use Rattle.tcl_core.specs.Endings.Reply.{Completed, Stop, Exit, Cut}
+use Rattle.tcl_core.specs.Entries.{Entry, Answer}
+use Rattle.tcl_core.specs.Entries.Answer.{Replied}
 use Rattle.tcl_core.specs.Trees.{asked, effect, Grant, Grants, Tree, Node, What, Event, Move, at, on_some}
 use Rattle.tcl_core.specs.Trees.Grants.{Listed, Budget}
-use Rattle.tcl_core.specs.Trees.What.{Limited, Made, Dropped, Out, In}
+use Rattle.tcl_core.specs.Trees.What.{Refused, Limited, Made, Dropped, Out, In, Done, Back}
 use Rattle.tcl_core.specs.Programs.{Prog, Table}
-use Rattle.tcl_core.specs.Runs.{World, Ending, Runs}
+use Rattle.tcl_core.specs.Runs.{World, Ending, Runs, Visits}
 use Rattle.tcl_core.specs.Views.{grants_of, moves_of, steps_of, view, inside_of}
-use Rattle.tcl_core.specs.Lives.{Lives}
+use Rattle.tcl_core.specs.Lives.{Lives, Outcome, React, Whole, outs_of}
 
 -- the same world with another tape
 abbrev pub retape : {O : Type 0} → World O → List (Event O) → World O
@@ -105,3 +107,40 @@ with_more ms gs w = record { tree = w.tree; moves = w.moves ++ ms; grants = more
 abbrev pub MoreMoves : Type 0 → Type 0 → Type 0
 MoreMoves O I = (prog : Table O I) (w : World O) (p : Place) (x : Prog O I) (v : World O) (r : Reply) (ms : List (Move O)) (gs : List Grant) →
     Runs prog w p x v (Some r) → Runs prog (with_more ms gs w) p x (with_more ms gs v) (Some r)
+
+-- Nothing is ended from outside the tree: no step or evaluation is refused there, no entry ends cut off, and no call is answered so.
+abbrev pub Uncut : {O : Type 0} → Place → What O → Type 0
+Uncut p (Refused m h) = rise_to h p ≡ None → Prim.⊥
+Uncut p (Done h (Cut x)) = rise_to h p ≡ None → Prim.⊥
+Uncut p (Back h (Replied (Cut x))) = rise_to h p ≡ None → Prim.⊥
+Uncut p _ = Unit {0}
+
+abbrev pub IsUncut : {O : Type 0} → List (Event O) → Type 0
+IsUncut [] = Unit {0}
+IsUncut (ev ∷ τ) = Uncut ev.place ev.what × IsUncut τ
+
+-- how the life of a tree is over whose last entry ended so
+abbrev pub ending_of : Reply → Outcome
+ending_of (Exit n) = Outcome.Exited n
+ending_of r = Outcome.Finished
+
+abbrev pub last_of : Option Place → Reply → Outcome → Outcome
+last_of None r x = ending_of r
+last_of (Some a) r x = x
+
+-- the outcome that the last entry's end gives; x where there is none
+abbrev pub outcome_at : {O : Type 0} → Place → What O → Outcome → Outcome
+outcome_at p (Done h r) x = last_of (rise_to h p) r x
+outcome_at p _ x = x
+
+abbrev pub outcome_of : {O : Type 0} → List (Event O) → Outcome → Outcome
+outcome_of [] x = x
+outcome_of (ev ∷ τ) x = outcome_of τ (outcome_at ev.place ev.what x)
+
+-- What an evaluation anywhere in the tree does in the subtree at c is what React does with that subtree alone and the crossings into
+-- it, with every budget that is not less than the steps made in it: the same is told to its outside, and the same subtree left.
+abbrev pub Isolation : Type 0 → Type 0 → Type 0
+Isolation O I = (prog : Table O I) (c : Place) (w v : World O) (t : Path) (i : Entry) (r : Reply) (m : ℕ) →
+    Visits prog (Runs prog) w None t i v (Some r) → v.moves ≡ [] → v.tape ≡ [] →
+    IsStanding c w.tape → IsUncut (view c w.tape) → steps_of (view c w.tape) ≤ m →
+    React prog (at w.tree c) (moves_of (view c w.tape)) m (outcome_of (view c w.tape) Outcome.Finished) (outs_of (view c w.tape)) (at v.tree c)

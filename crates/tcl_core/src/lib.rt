@@ -2,7 +2,7 @@
 //! `O` is the own part of an interpreter, `I` what can be going on in one; each law holds for every table of commands.
 #![tactic(auto)]
 
-ghost use Rattle.tcl_core.specs.Laws.{Counting, Determinism, Happenings, Inner, Limiting, LivesWithin, Moments, MoreMoves, NonInterference};
+ghost use Rattle.tcl_core.specs.Laws.{Counting, Determinism, Happenings, Inner, Isolation, Limiting, LivesWithin, Moments, MoreMoves, NonInterference};
 ghost use Rattle.tcl_core.specs.Meaning.{RulesAreRuns, ThreadsAreRuns, Unrolling};
 
 /// A run is what `Unrolled` says of runs.
@@ -63,4 +63,9 @@ pub fn counting<O, I>()
 /// With a limit that nobody raises or takes away, a count ends at most at the greater of the limit and the count before.
 pub fn limiting<O, I>()
     ensures { Limiting O I }
+{}
+
+/// What an evaluation anywhere in the tree does in a subtree is what that subtree alone does with the crossings into it.
+pub fn isolation<O, I>()
+    ensures { Isolation O I }
 {}
