@@ -172,7 +172,7 @@ module _ {O I : Type 0} where
       r.2
 
 module _ {O : Type 0} where
-  after-append : (σ τ : List (Event O)) (T : Tree O) → after (σ ++ τ) T ≡ after τ (after σ T)
+  pub after-append : (σ τ : List (Event O)) (T : Tree O) → after (σ ++ τ) T ≡ after τ (after σ T)
   after-append [] τ T = refl
   after-append (ev ∷ σ) τ T = after-append σ τ (effect ev.place ev.what T)
 

@@ -14,3 +14,4 @@ pub mod Budgets
 pub mod Plain
 pub mod Balance
 pub mod Reacting
+pub mod Outside

@@ -23,7 +23,7 @@ use Rattle.tcl_core.proofs.TreeLaws.{seen_deed, seen_next, listed, decide_none, 
 use Rattle.tcl_core.proofs.Seeing.{carried_within, seen_end, seen_quit, answers_seen, is_exit_self}
 use Rattle.tcl_core.proofs.Folding.{roll}
 
-top_only : (c q : Place) → strip c [] ≡ Some q → q ≡ []
+pub top_only : (c q : Place) → strip c [] ≡ Some q → q ≡ []
 top_only [] q e = sym (Some-inj [] e)
 top_only (x ∷ c) q e = cc
 

@@ -11,6 +11,7 @@ use Rattle.tcl_core.specs.Trees.What.{Refused, Limited, Made, Dropped, Out, In, 
 use Rattle.tcl_core.specs.Programs.{Prog, Table}
 use Rattle.tcl_core.specs.Runs.{World, Ending, Runs, Visits}
 use Rattle.tcl_core.specs.Views.{grants_of, moves_of, steps_of, view, inside_of}
+use Rattle.tcl_core.specs.Tables.{AllCall}
 use Rattle.tcl_core.specs.Lives.{Lives, Outcome, React, Whole, outs_of}
 
 -- the same world with another tape
@@ -144,3 +145,63 @@ Isolation O I = (prog : Table O I) (c : Place) (w v : World O) (t : Path) (i : E
     Visits prog (Runs prog) w None t i v (Some r) → v.moves ≡ [] → v.tape ≡ [] →
     IsStanding c w.tape → IsUncut (view c w.tape) → steps_of (view c w.tape) ≤ m →
     React prog (at w.tree c) (moves_of (view c w.tape)) m (outcome_of (view c w.tape) Outcome.Finished) (outs_of (view c w.tape)) (at v.tree c)
+
+-- an interpreter but for its count and its depth
+abbrev pub bare : {O : Type 0} → Node O → Node O
+bare n = record n { count = 0; depth = 0 }
+
+abbrev pub hidden : {O : Type 0} → Option Place → Option Place → Option (Node O) → Option (Node O)
+hidden (Some q) b o = None
+hidden None (Some q) o = on_some bare o
+hidden None None o = o
+
+-- the tree outside the subtree at c, but for the counts and depths of those above c
+abbrev pub rest : {O : Type 0} → Tree O → Place → Tree O
+rest T c = λ p. hidden (strip c p) (strip p c) (T p)
+
+-- where control goes by a happening, as it is seen from c
+pub data Turn : Type 0 where
+  Enters : Turn
+  Leaves : Turn
+  Inside : Turn
+  Elsewhere : Turn
+  Life : Turn
+
+abbrev pub comes_in : Option Place → Turn
+comes_in None = Enters
+comes_in (Some a) = Inside
+
+abbrev pub goes_out : Option Place → Turn
+goes_out None = Leaves
+goes_out (Some a) = Inside
+
+abbrev pub life_at : Place → Turn
+life_at [] = Life
+life_at (x ∷ q) = Inside
+
+abbrev pub turn_in : {O : Type 0} → Place → What O → Turn
+turn_in q (In h i) = comes_in (rise_to h q)
+turn_in q (Back h a) = comes_in (rise_to h q)
+turn_in q (Done h r) = goes_out (rise_to h q)
+turn_in q (Out h down i) = goes_out (rise_to h q)
+turn_in q (Made o s) = life_at q
+turn_in q Dropped = life_at q
+turn_in q _ = Inside
+
+abbrev pub turn_at : {O : Type 0} → Option Place → What O → Turn
+turn_at None x = Elsewhere
+turn_at (Some q) x = turn_in q x
+
+abbrev pub turn : {O : Type 0} → Place → Event O → Turn
+turn c ev = turn_at (strip c ev.place) ev.what
+
+-- no control leaves c
+abbrev pub NoLeaving : {O : Type 0} → Place → List (Event O) → Type 0
+NoLeaving c [] = Unit {0}
+NoLeaving c (ev ∷ τ) = (turn c ev ≡ Leaves → Prim.⊥) × NoLeaving c τ
+
+-- From an entry into c, or an answer to a call of c's, to the next call or end that leaves it, nothing outside c changes.
+abbrev pub QuietOutside : Type 0 → Type 0 → Type 0
+QuietOutside O I = (prog : Table O I) → AllCall prog → (c : Place) (w v : World O) (e : Ending) (first mid last : List (Event O)) (ev : Event O) →
+    Lives prog w v e → v.tape ≡ [] → w.tape ≡ first ++ ev ∷ (mid ++ last) → turn c ev ≡ Enters → NoLeaving c mid →
+    rest (after mid (after (first ++ ev ∷ []) w.tree)) c ≡ rest (after (first ++ ev ∷ []) w.tree) c

@@ -10,3 +10,4 @@ pub mod Threads
 pub mod Lives
 pub mod Meaning
 pub mod Laws
+pub mod Tables

@@ -2,7 +2,7 @@
 //! `O` is the own part of an interpreter, `I` what can be going on in one; each law holds for every table of commands.
 #![tactic(auto)]
 
-ghost use Rattle.tcl_core.specs.Laws.{Counting, Determinism, Happenings, Inner, Isolation, Limiting, LivesWithin, Moments, MoreMoves, NonInterference};
+ghost use Rattle.tcl_core.specs.Laws.{Counting, Determinism, Happenings, Inner, Isolation, Limiting, LivesWithin, Moments, MoreMoves, NonInterference, QuietOutside};
 ghost use Rattle.tcl_core.specs.Meaning.{RulesAreRuns, ThreadsAreRuns, Unrolling};
 
 /// A run is what `Unrolled` says of runs.
@@ -68,4 +68,9 @@ pub fn limiting<O, I>()
 /// What an evaluation anywhere in the tree does in a subtree is what that subtree alone does with the crossings into it.
 pub fn isolation<O, I>()
     ensures { Isolation O I }
+{}
+
+/// From an entry into a subtree to the next call or end that leaves it, nothing outside it changes.
+pub fn quiet_outside<O, I>()
+    ensures { QuietOutside O I }
 {}
