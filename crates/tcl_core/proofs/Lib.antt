@@ -15,3 +15,4 @@ pub mod Plain
 pub mod Balance
 pub mod Reacting
 pub mod Outside
+pub mod Stops

@@ -303,7 +303,7 @@ module _ {O : Type 0} where
   IsLife Dropped = Unit {0}
   IsLife _ = Prim.⊥
 
-  metered_here : (m : Meter) (y : What O) (b : Option ℕ) (gs : Grants) (x : Deed O) → metered m y b gs ≡ Some x → x.0 ≡ None
+  pub metered_here : (m : Meter) (y : What O) (b : Option ℕ) (gs : Grants) (x : Deed O) → metered m y b gs ≡ Some x → x.0 ≡ None
   metered_here m y (Some n) gs x e = ap (λ z. z.0) (sym (Some-inj (None, Refused m (Some n), by_limit m n) e))
   metered_here m y None (Listed []) x e = absurd (not_both refl e)
   metered_here m y None (Listed (Allow ∷ gs)) x e = ap (λ z. z.0) (sym (Some-inj (None, y, On) e))

@@ -1,13 +1,14 @@
 -- The laws. They hold whatever the commands are: `prog` is their table.
-use Rattle.std.specs.Prelude.{length, ◌≡◌, ℕ, ◌≤◌, ◌<◌, ◌+◌, Bool, true, false, List, [], ◌∷◌, ◌++◌, Option, Some, None}
-use Rattle.tcl_core.specs.Paths.{Path, Place, strip, rise_to}
-use Rattle.tcl_core.specs.Endings.{Reply}
+use Rattle.std.specs.Prelude.{length, nat_le, ◌≡◌, ℕ, zero, suc, ◌≤◌, ◌<◌, ◌+◌, Bool, true, false, List, [], ◌∷◌, ◌++◌, Option, Some, None}
+use Rattle.tcl_core.specs.Paths.{Path, Place, Height, strip, rise_to}
+use Rattle.tcl_core.specs.Endings.{Meter, Reply}
+use Rattle.tcl_core.specs.Endings.Meter.{Count, Depth}
 use Rattle.tcl_core.specs.Endings.Reply.{Completed, Stop, Exit, Cut}
 use Rattle.tcl_core.specs.Entries.{Entry, Answer}
 use Rattle.tcl_core.specs.Entries.Answer.{Replied}
 use Rattle.tcl_core.specs.Trees.{asked, effect, Grant, Grants, Tree, Node, What, Event, Move, at, on_some}
 use Rattle.tcl_core.specs.Trees.Grants.{Listed, Budget}
-use Rattle.tcl_core.specs.Trees.What.{Refused, Limited, Made, Dropped, Out, In, Done, Back}
+use Rattle.tcl_core.specs.Trees.What.{Charged, Refused, Limited, Made, Dropped, Out, In, Done, Back}
 use Rattle.tcl_core.specs.Programs.{Prog, Table}
 use Rattle.tcl_core.specs.Runs.{World, Ending, Runs, Visits}
 use Rattle.tcl_core.specs.Views.{grants_of, moves_of, steps_of, view, inside_of}
@@ -205,3 +206,50 @@ abbrev pub QuietOutside : Type 0 → Type 0 → Type 0
 QuietOutside O I = (prog : Table O I) → AllCall prog → (c : Place) (w v : World O) (e : Ending) (first mid last : List (Event O)) (ev : Event O) →
     Lives prog w v e → v.tape ≡ [] → w.tape ≡ first ++ ev ∷ (mid ++ last) → turn c ev ≡ Enters → NoLeaving c mid →
     rest (after mid (after (first ++ ev ∷ []) w.tree)) c ≡ rest (after (first ++ ev ∷ []) w.tree) c
+
+-- a reply, told at q in c, that is a stop which names c or one above it, or an end from outside
+abbrev pub ends_in : Place → Reply → Bool
+ends_in q (Stop n m) = nat_le (length q) n
+ends_in q (Cut x) = true
+ends_in q r = false
+
+abbrev pub refused_in : Place → Meter → Height → Bool
+refused_in q m None = true
+refused_in q Count (Some n) = nat_le (length q) n
+refused_in q Depth (Some zero) = false
+refused_in q Depth (Some (suc n)) = nat_le (length q) (suc n)
+
+-- such a stop is raised in c, or comes into it as an answer (an interpreter's own depth limit is an error there, and no stop)
+abbrev pub raised_in : {O : Type 0} → Place → What O → Bool
+raised_in q (Refused m h) = refused_in q m h
+raised_in q (Back h (Replied r)) = ends_in q r
+raised_in q x = false
+
+abbrev pub raised_at : {O : Type 0} → Option Place → What O → Bool
+raised_at None x = false
+raised_at (Some q) x = raised_in q x
+
+abbrev pub freed : Option Place → Type 0 → Type 0
+freed None t = Unit {0}
+freed (Some a) t = t
+
+abbrev pub unmoved_by : {O : Type 0} → Option Place → What O → Type 0 → Type 0
+unmoved_by (Some q) Charged t = Prim.⊥
+unmoved_by (Some q) (Done h r) t = freed (rise_to h q) t
+unmoved_by b x t = t
+
+-- no step is made in c before an entry into it has ended
+abbrev pub Unmoved : {O : Type 0} → Place → List (Event O) → Type 0
+Unmoved c [] = Unit {0}
+Unmoved c (ev ∷ τ) = unmoved_by (strip c ev.place) ev.what (Unmoved c τ)
+
+-- and so it is after each such stop
+abbrev pub Obeys : {O : Type 0} → Place → List (Event O) → Type 0
+Obeys c [] = Unit {0}
+Obeys c (ev ∷ τ) = (raised_at (strip c ev.place) ev.what ≡ true → Unmoved c τ) × Obeys c τ
+
+-- Once a stop that names c or one above it is raised in c or comes into it as an answer, no step is made in c before it has left c.
+-- So no program catches one.
+abbrev pub Stopping : Type 0 → Type 0 → Type 0
+Stopping O I = (prog : Table O I) (c p : Place) (w : World O) (x : Prog O I) (v : World O) (e : Ending) →
+    Runs prog w p x v e → v.tape ≡ [] → Obeys c w.tape

@@ -2,7 +2,7 @@
 //! `O` is the own part of an interpreter, `I` what can be going on in one; each law holds for every table of commands.
 #![tactic(auto)]
 
-ghost use Rattle.tcl_core.specs.Laws.{Counting, Determinism, Happenings, Inner, Isolation, Limiting, LivesWithin, Moments, MoreMoves, NonInterference, QuietOutside};
+ghost use Rattle.tcl_core.specs.Laws.{Counting, Determinism, Happenings, Inner, Isolation, Limiting, LivesWithin, Moments, MoreMoves, NonInterference, QuietOutside, Stopping};
 ghost use Rattle.tcl_core.specs.Meaning.{RulesAreRuns, ThreadsAreRuns, Unrolling};
 
 /// A run is what `Unrolled` says of runs.
@@ -73,4 +73,9 @@ pub fn isolation<O, I>()
 /// From an entry into a subtree to the next call or end that leaves it, nothing outside it changes.
 pub fn quiet_outside<O, I>()
     ensures { QuietOutside O I }
+{}
+
+/// Once a stop that names an interpreter or one above it is raised in its subtree or comes into it, no step is made there before it has left.
+pub fn stopping<O, I>()
+    ensures { Stopping O I }
 {}
