@@ -11,7 +11,7 @@ use Rattle.tcl_core.specs.Trees.Grant.{Allow, Deny}
 use Rattle.tcl_core.specs.Trees.Grants.{Listed, Budget}
 use Rattle.tcl_core.specs.Trees.Move.{Born, Fall, Enter, Come}
 use Rattle.tcl_core.specs.Trees.What.{Seen, Changed, Charged, Refused, Nested, Unnested, Limited, DepthLimited, Made, Dropped, Out, In, Done, Back}
-use Rattle.tcl_core.specs.Programs.{Act, Wrap, Next, Deed, Wait, Prog, Table, spot, decide, opens, closes, changing, making, dropping, dropping_at, either_safe, metered, by_limit, blocked, is_spent, is_deep}
+use Rattle.tcl_core.specs.Programs.{Act, Wrap, Next, Deed, Wait, Prog, Table, spot, decide, opens, closes, changing, making, dropping, dropping_at, metered, by_limit, blocked, is_spent, is_deep}
 use Rattle.tcl_core.specs.Programs.Next.{On, TooDeep, Off}
 use Rattle.tcl_core.specs.Programs.Act.{Look, Change, Charge, Limit, LimitDepth, Make, Drop}
 use Rattle.tcl_core.specs.Programs.Wrap.{Deeper, Framed}
@@ -40,8 +40,9 @@ module _ {O : Type 0} where
   changing_due T p o (Some n) = tt
 
   making_due : (T : Tree O) (p : Place) (name : List ℕ) (o : O) (s : Bool) (parent n : Option (Node O)) → IsDue T (spot p (making name o s parent n).0) (making name o s parent n).1
-  making_due T p name o s parent None = tt
-  making_due T p name o s parent (Some n) = tt
+  making_due T at name o s None n = tt
+  making_due T at name o s (Some m) None = tt
+  making_due T at name o s (Some m) (Some n) = tt
 
   dropping_due : (T : Tree O) (p : Place) (name : List ℕ) (n : Option (Node O)) → IsDue T (spot p (dropping name n).0) (dropping name n).1
   dropping_due T p name None = tt

@@ -16,3 +16,4 @@ pub mod Balance
 pub mod Reacting
 pub mod Outside
 pub mod Stops
+pub mod Disciplines

@@ -9,7 +9,7 @@ use Rattle.tcl_core.specs.Trees.{Grants, Grant, Tree, Node, What}
 use Rattle.tcl_core.specs.Trees.Grant.{Allow, Deny}
 use Rattle.tcl_core.specs.Trees.Grants.{Listed, Budget}
 use Rattle.tcl_core.specs.Trees.What.{Seen, Changed, Charged, Refused, Nested, Unnested, Limited, DepthLimited, Made, Dropped, Out, In, Done, Back}
-use Rattle.tcl_core.specs.Programs.{Act, Wrap, Next, Deed, decide, opens, closes, changing, making, dropping, dropping_at, either_safe, metered, by_limit, blocked, is_spent, is_deep}
+use Rattle.tcl_core.specs.Programs.{Act, Wrap, Next, Deed, decide, opens, closes, changing, making, dropping, dropping_at, metered, by_limit, blocked, is_spent, is_deep}
 use Rattle.tcl_core.specs.Programs.Next.{On, TooDeep, Off}
 use Rattle.tcl_core.specs.Programs.Act.{Look, Change, Charge, Limit, LimitDepth, Make, Drop}
 use Rattle.tcl_core.specs.Programs.Wrap.{Deeper, Framed}
@@ -40,8 +40,9 @@ module _ {O : Type 0} where
   changing_plain o (Some n) = tt
 
   making_plain : (name : List ℕ) (o : O) (s : Bool) (parent n : Option (Node O)) → IsPlain (making name o s parent n).1
-  making_plain name o s parent None = tt
-  making_plain name o s parent (Some n) = tt
+  making_plain name o s None n = tt
+  making_plain name o s (Some m) None = tt
+  making_plain name o s (Some m) (Some n) = tt
 
   dropping_plain : (name : List ℕ) (n : Option (Node O)) → IsPlain (dropping name n).1
   dropping_plain name None = tt

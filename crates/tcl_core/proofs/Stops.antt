@@ -13,7 +13,7 @@ use Rattle.tcl_core.specs.Trees.Grant.{Allow, Deny}
 use Rattle.tcl_core.specs.Trees.Grants.{Listed, Budget}
 use Rattle.tcl_core.specs.Trees.What.{Seen, Changed, Charged, Refused, Nested, Unnested, Limited, DepthLimited, Made, Dropped, Out, In, Done, Back}
 use Rattle.tcl_core.specs.Trees.Move.{Born, Fall, Enter, Come}
-use Rattle.tcl_core.specs.Programs.{Deed, spot, Act, Wrap, Wait, Next, Prog, Table, decide, opens, closes, changing, making, dropping, dropping_at, either_safe, metered, by_limit, blocked, is_spent, is_deep}
+use Rattle.tcl_core.specs.Programs.{Deed, spot, Act, Wrap, Wait, Next, Prog, Table, decide, opens, closes, changing, making, dropping, dropping_at, metered, by_limit, blocked, is_spent, is_deep}
 use Rattle.tcl_core.specs.Programs.Next.{On, TooDeep, Off}
 use Rattle.tcl_core.specs.Programs.Act.{Look, Change, Charge, Limit, LimitDepth, Make, Drop}
 use Rattle.tcl_core.specs.Programs.Wrap.{Deeper, Framed}
@@ -61,8 +61,9 @@ module _ {O : Type 0} where
   changing_next o (Some n) = λ q. refl
 
   making_next : (name : List ℕ) (o : O) (s : Bool) (parent n : Option (Node O)) → Fits_next (making name o s parent n).1 (making name o s parent n).2
-  making_next name o s parent None = λ q. refl
-  making_next name o s parent (Some n) = λ q. refl
+  making_next name o s None n = λ q. refl
+  making_next name o s (Some m) None = λ q. refl
+  making_next name o s (Some m) (Some n) = λ q. refl
 
   dropping_next : (name : List ℕ) (n : Option (Node O)) → Fits_next (dropping name n).1 (dropping name n).2
   dropping_next name None = λ q. refl
@@ -127,8 +128,9 @@ module _ {O : Type 0} (c : Place) where
   changing_on o (Some n) = refl
 
   making_on : (name : List ℕ) (o : O) (s : Bool) (parent n : Option (Node O)) → (making name o s parent n).2 ≡ On
-  making_on name o s parent None = refl
-  making_on name o s parent (Some n) = refl
+  making_on name o s None n = refl
+  making_on name o s (Some m) None = refl
+  making_on name o s (Some m) (Some n) = refl
 
   dropping_on : (name : List ℕ) (n : Option (Node O)) → (dropping name n).2 ≡ On
   dropping_on name None = refl

@@ -11,7 +11,7 @@ use Rattle.tcl_core.specs.Trees.{Event, Grant, Grants, granted, denied, allowing
 use Rattle.tcl_core.specs.Trees.Grant.{Allow, Deny}
 use Rattle.tcl_core.specs.Trees.Grants.{Listed, Budget}
 use Rattle.tcl_core.specs.Trees.What.{In, Done, Out, Back, Seen, Changed, Charged, Refused, Nested, Unnested, Limited, DepthLimited, Made, Dropped}
-use Rattle.tcl_core.specs.Programs.{Wrap, Next, Deed, spot, Act, decide, opens, closes, changing, making, dropping, dropping_at, either_safe, metered, by_grant, by_limit, blocked, full_at, nearer, is_spent, is_deep}
+use Rattle.tcl_core.specs.Programs.{Wrap, Next, Deed, spot, Act, decide, opens, closes, changing, making, dropping, dropping_at, either, metered, by_grant, by_limit, blocked, full_at, nearer, is_spent, is_deep}
 use Rattle.tcl_core.specs.Programs.Next.{On, TooDeep, Off}
 use Rattle.tcl_core.specs.Programs.Act.{Look, Change, Charge, Limit, LimitDepth, Make, Drop}
 use Rattle.tcl_core.specs.Programs.Wrap.{Deeper, Framed}
@@ -177,8 +177,9 @@ module _ {O : Type 0} where
   seen_changing q o (Some n) = refl
 
   seen_making : (q : Place) (name : List ℕ) (o : O) (s : Bool) (parent n : Option (Node O)) → seen_deed q (making name o s parent n) ≡ making name o s parent n
-  seen_making q name o s parent None = refl
-  seen_making q name o s parent (Some n) = refl
+  seen_making q name o s None n = refl
+  seen_making q name o s (Some p) None = refl
+  seen_making q name o s (Some p) (Some n) = refl
 
   seen_dropping : (q : Place) (name : List ℕ) (n : Option (Node O)) → seen_deed q (dropping name n) ≡ dropping name n
   seen_dropping q name None = refl
@@ -320,8 +321,9 @@ module _ {O : Type 0} where
   not_here y x name g e f = absurd (not_both (ap (λ z. z.0) (sym (Some-inj y e)) ∙ g) f)
 
   making_life : (name : List ℕ) (o : O) (s : Bool) (parent n : Option (Node O)) (x : Deed O) (m : List ℕ) → Some (making name o s parent n) ≡ Some x → x.0 ≡ Some m → IsLife x.1
-  making_life name o s parent None x m e f = subst (λ z. IsLife z.1) (Some-inj (Some name, Made o (either_safe s parent), On) e) tt
-  making_life name o s parent (Some n) x m e f = not_here (None, Seen, On) x m refl e f
+  making_life name o s None n x m e f = not_here (None, Seen, On) x m refl e f
+  making_life name o s (Some p) None x m e f = subst (λ z. IsLife z.1) (Some-inj (Some name, Made o (either s p.safe), On) e) tt
+  making_life name o s (Some p) (Some n) x m e f = not_here (None, Seen, On) x m refl e f
 
   dropping_life : (name : List ℕ) (n : Option (Node O)) (x : Deed O) (m : List ℕ) → Some (dropping name n) ≡ Some x → x.0 ≡ Some m → IsLife x.1
   dropping_life name None x m e f = not_here (None, Seen, On) x m refl e f

@@ -12,7 +12,7 @@ use Rattle.tcl_core.specs.Trees.What.{Charged, Refused, Limited, Made, Dropped, 
 use Rattle.tcl_core.specs.Programs.{Prog, Table}
 use Rattle.tcl_core.specs.Runs.{World, Ending, Runs, Visits}
 use Rattle.tcl_core.specs.Views.{grants_of, moves_of, steps_of, view, inside_of}
-use Rattle.tcl_core.specs.Tables.{AllCall}
+use Rattle.tcl_core.specs.Tables.{AllCall, Discipline, Keeps_to, IsGood, AreTame, AreAllowed}
 use Rattle.tcl_core.specs.Lives.{Lives, Outcome, React, Whole, outs_of}
 
 -- the same world with another tape
@@ -253,3 +253,10 @@ Obeys c (ev ∷ τ) = (raised_at (strip c ev.place) ev.what ≡ true → Unmoved
 abbrev pub Stopping : Type 0 → Type 0 → Type 0
 Stopping O I = (prog : Table O I) (c p : Place) (w : World O) (x : Prog O I) (v : World O) (e : Ending) →
     Runs prog w p x v e → v.tape ≡ [] → Obeys c w.tape
+
+-- What a safe subtree whose interpreters keep a discipline does keeps it, where what is handed in does: nothing happens there that it
+-- forbids. (So a safe child with no host command asks the host for nothing, and no script in it sets a limit.)
+abbrev pub Disciplined : Type 0 → Type 0 → Type 0
+Disciplined O I = (R : Discipline O I) (prog : Table O I) → Keeps_to R prog → (c : Place) (w v : World O) →
+    Lives prog w v None → v.tape ≡ [] → IsGood R (at w.tree c) → AreTame R (moves_of (view c w.tape)) →
+    AreAllowed R (view c w.tape) × IsGood R (at v.tree c)

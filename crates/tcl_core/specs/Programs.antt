@@ -87,6 +87,10 @@ module _ {O : Type 0} where
   blocked full T [] = nearer None (full_at full (T [])) 0
   blocked full T (x ∷ xs) = nearer (blocked full (λ p. T (x ∷ p)) xs) (full_at full (T [])) (suc (length xs))
 
+abbrev pub either : Bool → Bool → Bool
+either true b = true
+either false b = b
+
 -- What an act comes to: where (here, or at the child of that name), what happens there, and how it goes on.
 abbrev pub Deed : Type 0 → Type 0
 Deed O = Option Text × What O × Next
@@ -119,15 +123,11 @@ module _ {O : Type 0} where
   changing o None = (None, Seen, On)
   changing o (Some n) = (None, Changed o, On)
 
-  abbrev pub either_safe : Bool → Option (Node O) → Bool
-  either_safe true n = true
-  either_safe false None = false
-  either_safe false (Some n) = n.safe
-
   -- a child of a safe interpreter is safe
   abbrev pub making : Text → O → Bool → Option (Node O) → Option (Node O) → Deed O
-  making name o s parent None = (Some name, Made o (either_safe s parent), On)
-  making name o s parent (Some n) = (None, Seen, On)
+  making name o s None n = (None, Seen, On)
+  making name o s (Some p) None = (Some name, Made o (either s p.safe), On)
+  making name o s (Some p) (Some n) = (None, Seen, On)
 
   abbrev pub dropping_at : Text → ℕ → Deed O
   dropping_at name zero = (Some name, Dropped, On)

@@ -2,7 +2,7 @@
 //! `O` is the own part of an interpreter, `I` what can be going on in one; each law holds for every table of commands.
 #![tactic(auto)]
 
-ghost use Rattle.tcl_core.specs.Laws.{Counting, Determinism, Happenings, Inner, Isolation, Limiting, LivesWithin, Moments, MoreMoves, NonInterference, QuietOutside, Stopping};
+ghost use Rattle.tcl_core.specs.Laws.{Counting, Determinism, Disciplined, Happenings, Inner, Isolation, Limiting, LivesWithin, Moments, MoreMoves, NonInterference, QuietOutside, Stopping};
 ghost use Rattle.tcl_core.specs.Meaning.{RulesAreRuns, ThreadsAreRuns, Unrolling};
 
 /// A run is what `Unrolled` says of runs.
@@ -78,4 +78,9 @@ pub fn quiet_outside<O, I>()
 /// Once a stop that names an interpreter or one above it is raised in its subtree or comes into it, no step is made there before it has left.
 pub fn stopping<O, I>()
     ensures { Stopping O I }
+{}
+
+/// What a safe subtree whose commands keep a discipline does keeps it, where what is handed in does.
+pub fn disciplined<O, I>()
+    ensures { Disciplined O I }
 {}
