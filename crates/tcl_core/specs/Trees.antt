@@ -113,6 +113,7 @@ module _ {O : Type 0} where
   effect p (DepthLimited l) T = on_node p (with_depth_limit l) T
   effect p (Made o s) T = on_node p (λ x. Some (fresh o s)) T
   effect p Dropped T = on_subtree p (λ x. None) T
+  effect p (Done h r) T = T
   effect p _ T = T
 
 -- what the outside hands in: an entry; the answer to a call that left the tree; that the tree is made, or dropped
