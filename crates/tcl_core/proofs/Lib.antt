@@ -17,3 +17,4 @@ pub mod Reacting
 pub mod Outside
 pub mod Stops
 pub mod Disciplines
+pub mod Worked

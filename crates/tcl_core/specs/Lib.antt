@@ -11,3 +11,4 @@ pub mod Lives
 pub mod Meaning
 pub mod Laws
 pub mod Tables
+pub mod Example

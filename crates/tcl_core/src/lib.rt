@@ -2,6 +2,7 @@
 //! `O` is the own part of an interpreter, `I` what can be going on in one; each law holds for every table of commands.
 #![tactic(auto)]
 
+ghost use Rattle.tcl_core.specs.Example.{WorkedLife};
 ghost use Rattle.tcl_core.specs.Laws.{Counting, Determinism, Disciplined, Happenings, Inner, Isolation, Limiting, LivesWithin, Moments, MoreMoves, NonInterference, QuietOutside, Stopping};
 ghost use Rattle.tcl_core.specs.Meaning.{RulesAreRuns, ThreadsAreRuns, Unrolling};
 
@@ -83,4 +84,9 @@ pub fn stopping<O, I>()
 /// What a safe subtree whose commands keep a discipline does keeps it, where what is handed in does.
 pub fn disciplined<O, I>()
     ensures { Disciplined O I }
+{}
+
+/// A worked life: what it does, and what it is to the child in it.
+pub fn worked_life()
+    ensures { WorkedLife }
 {}
