@@ -1,12 +1,12 @@
 -- The laws.
-use Rattle.std.proofs.Common.{length, append_assoc, Some, List, ◌≡◌, [], ◌∷◌, ◌++◌, Option, None, refl, sym, ◌∙◌, ap, subst}
-use Rattle.tcl_core.specs.Paths.{Path, Place, strip}
-use Rattle.tcl_core.specs.Trees.{where_none, What, Tree, Event, effect, at, seen_what}
+use Rattle.std.proofs.Common.{Some, List, ◌≡◌, [], ◌∷◌, ◌++◌, Option, None, refl, sym, ◌∙◌, ap, subst}
+use Rattle.tcl_core.specs.Paths.{Place, strip}
+use Rattle.tcl_core.specs.Trees.{where_none, What, Tree, Event, effect, at}
 use Rattle.tcl_core.specs.Trees.What.{Dropped}
 use Rattle.tcl_core.specs.Trees.Move.{Enter}
 use Rattle.tcl_core.specs.Programs.Prog.{wait}
-use Rattle.tcl_core.specs.Runs.{World, Ending, Runs}
-use Rattle.tcl_core.specs.Views.{from_above, kept, moves_of, view, inside_of}
+use Rattle.tcl_core.specs.Runs.{Ending, Runs}
+use Rattle.tcl_core.specs.Views.{from_above, kept, view, inside_of}
 use Rattle.tcl_core.specs.Lives.{idle, never}
 use Rattle.tcl_core.specs.Laws.{Inner, after, Moments, retape, Agrees, Determinism, LivesWithin, NonInterference}
 use Rattle.tcl_core.proofs.PathLaws.{rise_back, strip-sound}

@@ -2,11 +2,11 @@
 use Rattle.std.proofs.Common.{pred, ◌≡◌, ℕ, suc, ◌+◌, ◌<◌, ◌≤◌, Bool, true, false, List, [], ◌∷◌, ◌++◌, Option, Some, None, length, refl, sym, ◌∙◌, ap, arith, subst, append_assoc}
 use Rattle.std.specs.Prelude.{nat_le}
 use Rattle.std.proofs.lemmas.Bool.Decides.{nat_tests}
-use Rattle.tcl_core.specs.Paths.{Path, Place, strip}
+use Rattle.tcl_core.specs.Paths.{Place, strip}
 use Rattle.tcl_core.specs.Trees.{Tree, What, Event, Node, paid, at_end, where_some, effect, with_own, with_limit, with_depth_limit, counted, deeper, shallower, fresh, seen_what}
 use Rattle.tcl_core.specs.Trees.What.{Seen, Changed, Charged, Refused, Nested, Unnested, Limited, DepthLimited, Made, Dropped, Out, In, Done, Back}
 use Rattle.tcl_core.specs.Programs.{blocked, full_at, nearer, is_spent, limit_or}
-use Rattle.tcl_core.specs.Runs.{World, Step}
+use Rattle.tcl_core.specs.Runs.{World}
 use Rattle.tcl_core.specs.Views.{IsDue, from_above, steps_of, kept, view}
 use Rattle.tcl_core.specs.Laws.{Stands, IsStanding, Lowers, IsLowering, Counting, Limiting, Happenings, after}
 use Rattle.tcl_core.proofs.PathLaws.{strip-sound}

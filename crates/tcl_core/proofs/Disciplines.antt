@@ -1,19 +1,19 @@
 -- What a discipline forbids does not happen.
-use Rattle.std.proofs.Common.{sym, ◌≡◌, ℕ, zero, suc, ℤ, Bool, true, false, List, [], ◌∷◌, ◌++◌, Option, Some, None, length, refl, ◌∙◌, ap, subst}
+use Rattle.std.proofs.Common.{sym, ◌≡◌, ℕ, zero, suc, ℤ, Bool, true, false, List, [], ◌∷◌, ◌++◌, Option, Some, None, refl, ◌∙◌, ap, subst}
 use Rattle.tcl_core.specs.Paths.{Path, Place, Height, strip, rise_to}
-use Rattle.tcl_core.specs.Endings.{Meter, Reply}
+use Rattle.tcl_core.specs.Endings.{Meter}
 use Rattle.tcl_core.specs.Endings.Meter.{Count, Depth}
 use Rattle.tcl_core.specs.Endings.Reply.{Exit, Cut}
 use Rattle.tcl_core.specs.Endings.Cause.{Above, Over}
-use Rattle.tcl_core.specs.Entries.{Entry, Answer, Said}
+use Rattle.tcl_core.specs.Entries.{Entry, Said}
 use Rattle.tcl_core.specs.Entries.Answer.{Replied}
-use Rattle.tcl_core.specs.Trees.{Grants, Grant, Tree, Node, What, Event, Move, at, at_end, where_some, on_some, effect, with_own, with_limit, with_depth_limit, counted, deeper, shallower, fresh, asked, where_none, at_top}
+use Rattle.tcl_core.specs.Trees.{Grants, Tree, Node, What, Move, at, at_end, where_some, on_some, effect, with_own, with_limit, with_depth_limit, counted, deeper, shallower, fresh, asked, where_none, at_top}
 use Rattle.tcl_core.specs.Trees.Grant.{Allow, Deny}
 use Rattle.tcl_core.specs.Trees.Grants.{Listed, Budget}
-use Rattle.tcl_core.specs.Trees.What.{Seen, Changed, Charged, Refused, Nested, Unnested, Limited, DepthLimited, Made, Dropped, Out, In, Done, Back}
+use Rattle.tcl_core.specs.Trees.What.{Seen, Changed, Charged, Refused, Nested, Unnested, Limited, DepthLimited, Made, Dropped, Out, In, Back}
 use Rattle.tcl_core.specs.Trees.Move.{Born, Fall, Enter, Come}
-use Rattle.tcl_core.specs.Programs.{Deed, spot, Act, Wrap, Wait, Next, Prog, Table, decide, opens, closes, brought_back, changing, making, dropping, dropping_at, either, metered, by_limit, blocked, is_spent, is_deep}
-use Rattle.tcl_core.specs.Programs.Next.{On, TooDeep, Off}
+use Rattle.tcl_core.specs.Programs.{Deed, Act, Wrap, Wait, Prog, Table, decide, opens, closes, changing, making, dropping, dropping_at, either, metered, by_limit, blocked, is_spent, is_deep}
+use Rattle.tcl_core.specs.Programs.Next.{On, Off}
 use Rattle.tcl_core.specs.Programs.Act.{Look, Change, Charge, Limit, LimitDepth, Make, Drop}
 use Rattle.tcl_core.specs.Programs.Wrap.{Deeper, Framed}
 use Rattle.tcl_core.specs.Programs.Prog.{done, exit, act, go, inside, call, wait}
@@ -21,8 +21,8 @@ use Rattle.tcl_core.specs.Runs.{World, Step, Ending, Halts, Exits, Exiting, ente
 use Rattle.tcl_core.specs.Rules.{Derives}
 use Rattle.tcl_core.specs.Rules.Derives.{completed, exited, acted, refused, unheard, went, passed, halted, wrapped, wrapped_passed, wrapped_halted, too_deep, shut, unheard_inside, called, called_passed, called_halted, unreached, called_out, unanswered, unfit, answered, heard, answered_passed, entered, entered_halted, entered_exiting, born, fallen}
 use Rattle.tcl_core.specs.Views.{view, inside_of}
-use Rattle.tcl_core.specs.Lives.{Lives, idle, never}
-use Rattle.tcl_core.specs.Tables.{Discipline, IsGoodNode, IsGood, Modest_act, Modest_wrap, Modest_call, Modest, Keeps_to, Tame_move, AreTame, Allowed_out, Allowed, AreAllowed}
+use Rattle.tcl_core.specs.Lives.{idle, never}
+use Rattle.tcl_core.specs.Tables.{Discipline, IsGoodNode, IsGood, Modest_act, Modest_wrap, Modest_call, Modest, Keeps_to, AreTame, Allowed, AreAllowed}
 use Rattle.tcl_core.specs.Laws.{Disciplined}
 use Rattle.tcl_core.proofs.PathLaws.{not_both, Some-inj}
 use Rattle.tcl_core.proofs.RuleLaws.{runs_derived}

@@ -1,20 +1,16 @@
 -- What code threads is a run over the tape of what happened.
-use Rattle.std.proofs.Common.{◌≡◌, ℤ, Bool, true, false, List, [], ◌∷◌, ◌++◌, Option, Some, None, length, refl, sym, ◌∙◌, ap, subst, append_assoc, append-nil}
-use Rattle.tcl_core.specs.Paths.{Path, Place, Height, rise_to}
-use Rattle.tcl_core.specs.Endings.{Completion, Reply, IsQuit, refusal}
-use Rattle.tcl_core.specs.Endings.Meter.{Depth}
+use Rattle.std.proofs.Common.{◌≡◌, List, [], ◌∷◌, ◌++◌, Some, None, length, refl, sym, ◌∙◌, ap, subst, append_assoc, append-nil}
+use Rattle.tcl_core.specs.Paths.{Place}
+use Rattle.tcl_core.specs.Endings.{Reply, IsQuit}
 use Rattle.tcl_core.specs.Endings.Reply.{Completed, Exit}
-use Rattle.tcl_core.specs.Entries.{Entry, HostReply, Answer, Said}
 use Rattle.tcl_core.specs.Entries.Answer.{Replied, Heard}
-use Rattle.tcl_core.specs.Trees.{Tree, What, Event, Move, Grant, Grants, where_none, effect, asked, granted, at}
+use Rattle.tcl_core.specs.Trees.{Tree, What, Event, Move, Grant, Grants, effect, asked, granted}
 use Rattle.tcl_core.specs.Trees.Grants.{Listed}
 use Rattle.tcl_core.specs.Trees.What.{Out, In, Done, Back}
-use Rattle.tcl_core.specs.Trees.Move.{Come}
-use Rattle.tcl_core.specs.Programs.{Deed, spot, Act, Wrap, Wait, Next, Prog, Table, decide, opens, closes}
-use Rattle.tcl_core.specs.Programs.Next.{On, TooDeep, Off}
-use Rattle.tcl_core.specs.Programs.Prog.{done, exit, act, go, inside, call, wait}
-use Rattle.tcl_core.specs.Runs.{World, Step, Runs, Exits, Exiting, carried, reached, entering, ends_call, height_of}
-use Rattle.tcl_core.specs.Rules.{Derives, IsOn, IsNoExit}
+use Rattle.tcl_core.specs.Programs.{Deed, spot, Act, Wrap, Prog, Table, decide, opens, closes}
+use Rattle.tcl_core.specs.Programs.Prog.{call}
+use Rattle.tcl_core.specs.Runs.{World, Step, Runs, carried, entering, height_of}
+use Rattle.tcl_core.specs.Rules.{Derives}
 use Rattle.tcl_core.specs.Threads.{Threads, Chain, none, more, before, event, Makes, Decides, Opens_so}
 use Rattle.tcl_core.specs.Threads.Threads.{completed, exited, acted, refused, went, passed, wrapped, wrapped_passed, too_deep, shut, called, called_passed, unreached, called_out, answered, heard, answered_passed, entered, entered_exiting}
 use Rattle.tcl_core.specs.Views.{moves_of, grants_of}

@@ -1,5 +1,5 @@
 -- While control is in a subtree nothing outside it changes.
-use Rattle.std.proofs.Common.{pred, sym, ◌≡◌, ℕ, zero, suc, ℤ, ◌+◌, Bool, true, false, List, [], ◌∷◌, ◌++◌, Option, Some, None, length, refl, ◌∙◌, ap, subst, append_assoc}
+use Rattle.std.proofs.Common.{pred, sym, ◌≡◌, ℕ, suc, ℤ, Bool, true, false, List, [], ◌∷◌, ◌++◌, Option, Some, None, length, refl, ◌∙◌, ap, subst, append_assoc}
 use mathlib.Core.Path.{fun_ext}
 use Rattle.tcl_core.specs.Paths.{Path, Place, Height, strip, rise_to}
 use Rattle.tcl_core.specs.Endings.{Reply}
@@ -7,10 +7,9 @@ use Rattle.tcl_core.specs.Endings.Reply.{Exit}
 use Rattle.tcl_core.specs.Entries.{Entry, Answer, Said}
 use Rattle.tcl_core.specs.Entries.Answer.{Replied}
 use Rattle.tcl_core.specs.Trees.{Grants, Tree, Node, What, Event, Move, at_end, where_some, on_node, on_line, on_subtree, on_some, effect, with_own, with_limit, with_depth_limit, counted, deeper, shallower, fresh}
-use Rattle.tcl_core.specs.Trees.What.{Seen, Changed, Charged, Refused, Nested, Unnested, Limited, DepthLimited, Made, Dropped, Out, In, Done, Back}
+use Rattle.tcl_core.specs.Trees.What.{Changed, Charged, Nested, Unnested, Limited, DepthLimited, Made, Dropped, Out, In, Done, Back}
 use Rattle.tcl_core.specs.Trees.Move.{Born, Fall, Enter, Come}
 use Rattle.tcl_core.specs.Programs.{Deed, spot, Act, Wrap, Wait, Prog, Table, decide, opens, closes}
-use Rattle.tcl_core.specs.Programs.Wrap.{Deeper, Framed}
 use Rattle.tcl_core.specs.Programs.Prog.{done, exit, act, go, inside, call, wait}
 use Rattle.tcl_core.specs.Tables.{Calls_only, AllCall}
 use Rattle.tcl_core.specs.Runs.{World, Step, Ending, Halts, Exits, Exiting, entering, reached, where_stands, ends_call, height_of}
@@ -24,7 +23,6 @@ use Rattle.tcl_core.proofs.TreeLaws.{spot_within, IsLife, elsewhere_life, opens_
 use Rattle.tcl_core.proofs.Subtrees.{top_only}
 use Rattle.tcl_core.proofs.Plain.{IsPlain, decide_plain, opens_plain, closes_plain}
 use Rattle.tcl_core.proofs.RuleLaws.{runs_derived}
-use Rattle.tcl_core.proofs.Counts.{after-append}
 
 abbrev pub is_in : Option Place → Bool
 is_in None = false

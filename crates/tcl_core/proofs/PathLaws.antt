@@ -2,7 +2,7 @@
 use Rattle.std.proofs.Common.{sym, nat_le, nat_lt, length-append, ◌≡◌, ℕ, zero, suc, ◌<◌, ◌≤◌, Bool, true, false, List, [], ◌∷◌, ◌++◌, Option, Some, None, nat_eq, length, refl, ◌∙◌, ap, arith}
 use Rattle.std.proofs.lemmas.Bool.Decides.{nat_tests}
 use Rattle.tcl_core.specs.Trees.{Node, at_end}
-use Rattle.tcl_core.specs.Paths.{falls, shorter, Path, same, guarded, strip, rejoined, top_of, rise, rise_to, capped, seen_height}
+use Rattle.tcl_core.specs.Paths.{falls, shorter, Path, same, guarded, strip, rejoined, top_of, rise, rise_to, seen_height}
 
 pub not_both : {A : Type 0} {o : Option A} {a : A} → o ≡ None → o ≡ Some a → Prim.⊥
 not_both e f = cc

@@ -1,24 +1,21 @@
 -- What an evaluation does in a subtree is what React does there.
-use Rattle.std.proofs.Common.{sym, ◌≡◌, ℕ, zero, suc, ℤ, ◌+◌, ◌-◌, ◌≤◌, Bool, true, false, List, [], ◌∷◌, ◌++◌, Option, Some, None, length, refl, ◌∙◌, ap, subst, arith, append-nil}
-use Rattle.tcl_core.specs.Paths.{Path, Place, Height, strip, rise_to}
-use Rattle.tcl_core.specs.Endings.{Reply, Cause}
+use Rattle.std.proofs.Common.{sym, ◌≡◌, ℕ, zero, suc, ℤ, ◌+◌, ◌-◌, List, [], ◌∷◌, Option, Some, None, refl, ◌∙◌, ap, subst, arith, append-nil}
+use Rattle.tcl_core.specs.Paths.{Path, Place, strip}
+use Rattle.tcl_core.specs.Endings.{Reply}
 use Rattle.tcl_core.specs.Endings.Reply.{Completed, Stop, Exit, Cut}
-use Rattle.tcl_core.specs.Entries.{Entry, Answer}
-use Rattle.tcl_core.specs.Entries.Answer.{Replied}
-use Rattle.tcl_core.specs.Trees.{Tree, Grants, What, Event, Move, asked, at, seen_what}
-use Rattle.tcl_core.specs.Trees.Grants.{Listed, Budget}
-use Rattle.tcl_core.specs.Trees.What.{Made, Dropped, Out, In, Done, Back}
+use Rattle.tcl_core.specs.Entries.{Entry}
+use Rattle.tcl_core.specs.Trees.{What, Event, Move, at}
+use Rattle.tcl_core.specs.Trees.What.{Made, Dropped, In, Done}
 use Rattle.tcl_core.specs.Trees.Move.{Born, Fall, Enter, Come}
-use Rattle.tcl_core.specs.Programs.{Wait, Prog, Table}
+use Rattle.tcl_core.specs.Programs.{Table}
 use Rattle.tcl_core.specs.Programs.Prog.{wait}
-use Rattle.tcl_core.specs.Runs.{World, Step, Ending, Halts, Exits, Stays, Visits, Moves, Fitting, Waits, Runs, RunsIn, entering, fits, height_of}
-use Rattle.tcl_core.specs.Rules.{Derives}
+use Rattle.tcl_core.specs.Runs.{World, Step, Ending, Halts, Exits, Stays, Visits, Waits, Runs, RunsIn, entering}
 use Rattle.tcl_core.specs.Views.{moves_of, steps_of, view, inside_of, kept, from_above}
-use Rattle.tcl_core.specs.Lives.{Lives, Outcome, Reacts, React, alone, idle, never, over_by, outs_of}
+use Rattle.tcl_core.specs.Lives.{Lives, Outcome, Reacts, alone, idle, never}
 use Rattle.tcl_core.specs.Lives.Outcome.{Finished, Exited}
 use Rattle.tcl_core.specs.Lives.Reacts.{finished, served, over}
 use Rattle.tcl_core.specs.Laws.{Isolation, IsStanding, Stands, IsUncut, Uncut, outcome_of, outcome_at, ending_of}
-use Rattle.tcl_core.proofs.PathLaws.{not_both, Some-inj, strip-sound, strip_own}
+use Rattle.tcl_core.proofs.PathLaws.{not_both, strip-sound, strip_own}
 use Rattle.tcl_core.proofs.TreeLaws.{unseen}
 use Rattle.tcl_core.proofs.Subtrees.{wait_halt, wait_enter}
 use Rattle.tcl_core.proofs.SameRuns.{asked-inj}
@@ -203,7 +200,7 @@ module _ {O I : Type 0} where
       let g : m ≡ steps_of (view c w.tape) + k = omega (arith, le) in
       let x : Outcome = outcome_of (view c w.tape) Finished in
       let z : Reacts prog (budgeted k (inside_of c w)) (budgeted k (inside_of c v)) x =
-          reacting prog k l.0 (inside_of c w) (inside_of c v) x refl refl (lasting c w.tape st) un (view_ins c w.tape ∙ b ∙ sym (view_dones c w.tape)) (ap (view c) f) l.1 in
+      reacting prog k l.0 (inside_of c w) (inside_of c v) x refl refl (lasting c w.tape st) un (view_ins c w.tape ∙ b ∙ sym (view_dones c w.tape)) (ap (view c) f) l.1 in
       record {
         tape = view c w.tape;
         last = budgeted k (inside_of c v);

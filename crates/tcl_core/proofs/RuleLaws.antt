@@ -1,19 +1,17 @@
 -- The rules say what `Runs` says.
-use Rattle.std.proofs.Common.{◌≡◌, ℕ, zero, suc, ℤ, Bool, true, false, List, [], ◌∷◌, Option, Some, None, length, refl, sym, ◌∙◌, ap, subst}
+use Rattle.std.proofs.Common.{◌≡◌, ℕ, zero, suc, Bool, true, false, List, [], ◌∷◌, Option, Some, None, refl, sym, ◌∙◌, ap, subst}
 use Rattle.tcl_core.specs.Paths.{Path, Place, Height, rise_to}
-use Rattle.tcl_core.specs.Endings.{Completion, Reply, IsQuit, refusal}
-use Rattle.tcl_core.specs.Endings.Meter.{Depth}
+use Rattle.tcl_core.specs.Endings.{Completion, Reply, IsQuit}
 use Rattle.tcl_core.specs.Endings.Reply.{Completed, Stop, Exit, Cut}
 use Rattle.tcl_core.specs.Entries.{Entry, Answer, Said}
 use Rattle.tcl_core.specs.Entries.Answer.{Replied, Heard}
-use Rattle.tcl_core.specs.Entries.Said.{Finished, Told}
 use Rattle.tcl_core.specs.Trees.{Tree, Move, at}
-use Rattle.tcl_core.specs.Trees.What.{Made, Dropped, Out, In, Done, Back}
+use Rattle.tcl_core.specs.Trees.What.{Out}
 use Rattle.tcl_core.specs.Trees.Move.{Born, Fall, Enter, Come}
-use Rattle.tcl_core.specs.Programs.{Deed, spot, Act, Wrap, Wait, Next, Prog, Table, decide, opens, closes}
+use Rattle.tcl_core.specs.Programs.{Deed, spot, Act, Wrap, Wait, Next, Prog, Table, decide, opens}
 use Rattle.tcl_core.specs.Programs.Next.{On, TooDeep, Off}
 use Rattle.tcl_core.specs.Programs.Prog.{done, exit, act, go, inside, call, wait}
-use Rattle.tcl_core.specs.Runs.{World, Step, Ending, Run, Halts, Follows, Then, Closes, Acted, Acts, Opened, Opens, Hears, Answered, Visits, Returns, Reaches, Calls, Exits, Stays, Moves, Fitting, Waits, Unrolled, RunsIn, Runs, carried, reached, entering, fits, height_of}
+use Rattle.tcl_core.specs.Runs.{World, Step, Ending, Run, Halts, Then, Closes, Acted, Acts, Opened, Opens, Hears, Answered, Visits, Reaches, Calls, Stays, Moves, Fitting, Waits, Unrolled, RunsIn, Runs, carried, reached, fits, height_of}
 use Rattle.tcl_core.specs.Rules.{Derives, IsOn, IsNoExit}
 use Rattle.tcl_core.specs.Rules.Derives.{completed, exited, acted, refused, unheard, went, passed, halted, wrapped, wrapped_passed, wrapped_halted, too_deep, shut, unheard_inside, called, called_passed, called_halted, unreached, called_out, unanswered, unfit, answered, heard, answered_passed, entered, entered_halted, entered_exiting, born, fallen}
 use Rattle.tcl_core.proofs.Folding.{roll, Implies, unrolled_map}
@@ -68,11 +66,19 @@ module _ {O I : Type 0} (prog : Table O I) where
   derived_runs (shut w p b i k x r u g off s) = opened_at w p b i k x (Off r) u u (Some r) g off s (refl, refl)
   derived_runs (unheard_inside w p b i k g t) = opens_at w p b i k None w None g (record { tape = t; same = refl; ending = refl })
   derived_runs (called w p h down i lost k a t out inner left told back v r c e f s1 g s2 x s3 y s4 z) =
-      reaches_at w p h down i lost k out a (Some t) v e f g s1 (told, Some r, record { entered = inner; left = left; entry = s2; run = derived_runs x; leaving = s3 },
-      (back, s4, subst (λ l. Hears (Runs prog) back p k (Replied l) v e) (sym y) (derived_runs z)))
+      reaches_at w p h down i lost k out a (Some t) v e f g s1 (
+        told,
+        Some r,
+        record { entered = inner; left = left; entry = s2; run = derived_runs x; leaving = s3 },
+        (back, s4, subst (λ l. Hears (Runs prog) back p k (Replied l) v e) (sym y) (derived_runs z)),
+      )
   derived_runs (called_passed w p h down i lost k a t out inner left told back r f s1 g s2 x s3 q s4) =
-      reaches_at w p h down i lost k out a (Some t) back (Some (carried h p down r)) f g s1 (told, Some r, record { entered = inner; left = left; entry = s2; run = derived_runs x; leaving = s3 },
-      (back, s4, hears_quit prog back p k (carried h p down r) back (Some (carried h p down r)) q refl refl))
+      reaches_at w p h down i lost k out a (Some t) back (Some (carried h p down r)) f g s1 (
+        told,
+        Some r,
+        record { entered = inner; left = left; entry = s2; run = derived_runs x; leaving = s3 },
+        (back, s4, hears_quit prog back p k (carried h p down r) back (Some (carried h p down r)) q refl refl),
+      )
   derived_runs (called_halted w p h down i lost k a t out inner left f s1 g s2 x) =
       reaches_at w p h down i lost k out a (Some t) left None f g s1 (left, None, record { entered = inner; left = left; entry = s2; run = derived_runs x; leaving = refl }, (refl, refl))
   derived_runs (unreached w p h down i lost k a out back v e f s1 g s2 x) = reaches_at w p h down i lost k out a None v e f g s1 (back, s2, derived_runs x)

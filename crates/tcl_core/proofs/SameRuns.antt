@@ -7,12 +7,12 @@ use Rattle.tcl_core.specs.Endings.Reply.{Completed, Stop, Exit, Cut}
 use Rattle.tcl_core.specs.Entries.{Entry, Answer, Said}
 use Rattle.tcl_core.specs.Entries.Answer.{Replied, Heard}
 use Rattle.tcl_core.specs.Entries.Said.{Finished, Told}
-use Rattle.tcl_core.specs.Trees.{Tree, Grants, Grant, granted, denied, denying, allowing, What, Event, Move, asked, at_top, where_none, at}
+use Rattle.tcl_core.specs.Trees.{Tree, Grants, Grant, granted, denied, allowing, What, Event, Move, asked, at_top, where_none, at}
 use Rattle.tcl_core.specs.Trees.Grant.{Allow, Deny}
 use Rattle.tcl_core.specs.Trees.Grants.{Listed, Budget}
 use Rattle.tcl_core.specs.Trees.What.{Made, Dropped, Charged, Refused, Nested, Out, In, Done, Back}
 use Rattle.tcl_core.specs.Trees.Move.{Born, Fall, Enter, Come}
-use Rattle.tcl_core.specs.Programs.{Deed, spot, Act, Wrap, Wait, Next, Prog, Table, decide, opens, closes}
+use Rattle.tcl_core.specs.Programs.{Deed, spot, Wrap, Wait, Next, Prog, Table, decide, opens, closes}
 use Rattle.tcl_core.specs.Programs.Next.{On, TooDeep, Off}
 use Rattle.tcl_core.specs.Programs.Prog.{done, exit, act, go, inside, call, wait}
 use Rattle.tcl_core.specs.Runs.{World, Step, Ending, Run, Halts, Follows, Then, Closes, Acted, Acts, Opened, Opens, Hears, Answered, Leaves, Visits, Returns, Reaches, Calls, Exiting, Exits, Stays, Moves, Fitting, Waits, Unrolled, RunsIn, Runs, carried, reached, entering, fits, ends_call, height_of}

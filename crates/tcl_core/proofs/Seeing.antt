@@ -1,17 +1,16 @@
 -- Replies and answers as they are seen in a subtree.
 use Rattle.std.proofs.Common.{◌≡◌, ℕ, zero, suc, ℤ, ◌+◌, ◌-◌, ◌<◌, ◌≤◌, Bool, true, false, List, [], ◌∷◌, ◌++◌, Option, Some, None, length, nat_lt, nat_eq, refl, sym, ◌∙◌, ap, arith, length-append}
 use Rattle.std.proofs.lemmas.Bool.Decides.{nat_tests, Decides-int_eq}
-use Rattle.std.specs.Ordering.{int_eq}
-use Rattle.tcl_core.specs.Paths.{Path, Place, Height, rise, rise_to, rejoined, falls, together, seen_height}
-use Rattle.tcl_core.specs.Endings.{Meter, Reply, IsQuit, refusal}
+use Rattle.tcl_core.specs.Paths.{Path, Place, Height, rise, rise_to, rejoined, falls, together}
+use Rattle.tcl_core.specs.Endings.{Meter, Reply, IsQuit}
 use Rattle.tcl_core.specs.Endings.Reply.{Completed, Stop, Exit, Cut}
 use Rattle.tcl_core.specs.Endings.Cause.{Above}
 use Rattle.tcl_core.specs.Entries.{Entry, Answer}
 use Rattle.tcl_core.specs.Entries.Answer.{Replied, Heard}
 use Rattle.tcl_core.specs.Trees.{seen_reply, seen_answer, stopped}
 use Rattle.tcl_core.specs.Programs.{Wait}
-use Rattle.tcl_core.specs.Runs.{Ending, carried, lessened, is_own, answers_call, is_exit, ends_call}
-use Rattle.tcl_core.proofs.PathLaws.{not_both, Some-inj, rise-length, falls_within}
+use Rattle.tcl_core.specs.Runs.{Ending, carried, lessened, is_own, answers_call, is_exit}
+use Rattle.tcl_core.proofs.PathLaws.{not_both, Some-inj, falls_within}
 
 -- how far it is to where a rise ends
 rejoined-measure : (x : List ℕ) (xs : List (List ℕ)) (o : Option (List (List ℕ))) (n : ℕ) (t : Bool) (b : List (List ℕ)) → nat_eq n (suc (length xs)) ≡ t → ((a : List (List ℕ)) → o ≡ Some a → length xs ≡ length a + n) → rejoined x o t ≡ Some b → suc (length xs) ≡ length b + n

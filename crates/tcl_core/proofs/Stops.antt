@@ -1,17 +1,17 @@
 -- After a stop no step is made before it has left.
-use Rattle.std.proofs.Common.{sym, ◌≡◌, ℕ, zero, suc, ℤ, ◌+◌, ◌-◌, ◌≤◌, Bool, true, false, nat_le, nat_lt, List, [], ◌∷◌, ◌++◌, Option, Some, None, length, refl, ◌∙◌, ap, subst, arith, append_assoc, length-append}
+use Rattle.std.proofs.Common.{sym, ◌≡◌, ℕ, zero, suc, ℤ, ◌+◌, ◌-◌, ◌≤◌, Bool, true, false, nat_le, nat_lt, List, [], ◌∷◌, ◌++◌, Option, Some, None, length, refl, ◌∙◌, ap, subst, arith}
 use Rattle.std.proofs.lemmas.Bool.Decides.{nat_tests}
 use Rattle.tcl_core.specs.Paths.{Path, Place, Height, strip, rise, rise_to, falls, together}
-use Rattle.tcl_core.specs.Endings.{Meter, Completion, Reply, IsQuit}
+use Rattle.tcl_core.specs.Endings.{Meter, Completion, Reply}
 use Rattle.tcl_core.specs.Endings.Meter.{Count, Depth}
 use Rattle.tcl_core.specs.Endings.Reply.{Completed, Stop, Exit, Cut}
 use Rattle.tcl_core.specs.Endings.Cause.{Above, Over}
-use Rattle.tcl_core.specs.Entries.{Entry, Answer}
-use Rattle.tcl_core.specs.Entries.Answer.{Replied, Heard}
-use Rattle.tcl_core.specs.Trees.{Grants, Grant, Tree, Node, What, Event, Move}
+use Rattle.tcl_core.specs.Entries.{Answer}
+use Rattle.tcl_core.specs.Entries.Answer.{Replied}
+use Rattle.tcl_core.specs.Trees.{Grants, Tree, Node, What, Move}
 use Rattle.tcl_core.specs.Trees.Grant.{Allow, Deny}
 use Rattle.tcl_core.specs.Trees.Grants.{Listed, Budget}
-use Rattle.tcl_core.specs.Trees.What.{Seen, Changed, Charged, Refused, Nested, Unnested, Limited, DepthLimited, Made, Dropped, Out, In, Done, Back}
+use Rattle.tcl_core.specs.Trees.What.{Seen, Charged, Refused, Nested, Limited, DepthLimited, Done, Back}
 use Rattle.tcl_core.specs.Trees.Move.{Born, Fall, Enter, Come}
 use Rattle.tcl_core.specs.Programs.{Deed, spot, Act, Wrap, Wait, Next, Prog, Table, decide, opens, closes, changing, making, dropping, dropping_at, metered, by_limit, blocked, is_spent, is_deep}
 use Rattle.tcl_core.specs.Programs.Next.{On, TooDeep, Off}
@@ -20,7 +20,7 @@ use Rattle.tcl_core.specs.Programs.Wrap.{Deeper, Framed}
 use Rattle.tcl_core.specs.Runs.{World, Step, Ending, Halts, Exits, Exiting, carried, lessened, reached, where_stands, ends_call, height_of}
 use Rattle.tcl_core.specs.Rules.{Derives, IsOn}
 use Rattle.tcl_core.specs.Rules.Derives.{completed, exited, acted, refused, unheard, went, passed, halted, wrapped, wrapped_passed, wrapped_halted, too_deep, shut, unheard_inside, called, called_passed, called_halted, unreached, called_out, unanswered, unfit, answered, heard, answered_passed, entered, entered_halted, entered_exiting, born, fallen}
-use Rattle.tcl_core.specs.Laws.{ends_in, refused_in, raised_in, raised_at, freed, unmoved_by, Unmoved, Obeys, Stopping}
+use Rattle.tcl_core.specs.Laws.{ends_in, raised_in, raised_at, freed, unmoved_by, Unmoved, Obeys, Stopping}
 use Rattle.tcl_core.proofs.PathLaws.{not_both, Some-inj, strip_own, strip-sound, rise_to_within, rise_to_out, rise_to_elsewhere, rise_back}
 use Rattle.tcl_core.proofs.TreeLaws.{metered_here, opens_here}
 use Rattle.tcl_core.proofs.Seeing.{rise-measure}

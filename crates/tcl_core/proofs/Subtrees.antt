@@ -2,13 +2,13 @@
 use Rattle.std.proofs.Common.{◌≡◌, ℕ, zero, suc, ℤ, Bool, true, false, List, [], ◌∷◌, ◌++◌, Option, Some, None, length, refl, sym, ◌∙◌, ap, arith, length-append, append_assoc, subst}
 use mathlib.Core.Path.{fun_ext}
 use Rattle.tcl_core.specs.Paths.{Path, Place, Height, strip, rise_to, seen_height}
-use Rattle.tcl_core.specs.Endings.{Meter, Completion, Reply, IsQuit, refusal}
+use Rattle.tcl_core.specs.Endings.{Completion, Reply, IsQuit, refusal}
 use Rattle.tcl_core.specs.Endings.Meter.{Depth}
 use Rattle.tcl_core.specs.Endings.Reply.{Completed, Stop, Exit, Cut}
 use Rattle.tcl_core.specs.Entries.{Entry, Answer, Said}
 use Rattle.tcl_core.specs.Entries.Answer.{Replied, Heard}
 use Rattle.tcl_core.specs.Entries.Said.{Finished, Told}
-use Rattle.tcl_core.specs.Trees.{Tree, Node, Grants, Grant, granted, at, What, Move, Event, where_none, seen_reply, seen_answer, seen_what, stopped}
+use Rattle.tcl_core.specs.Trees.{Tree, Node, Grants, Grant, granted, at, What, Move, where_none, seen_reply, seen_answer, seen_what, stopped}
 use Rattle.tcl_core.specs.Trees.Grants.{Listed}
 use Rattle.tcl_core.specs.Trees.What.{Made, Dropped, Out, In, Done, Back}
 use Rattle.tcl_core.specs.Trees.Move.{Born, Fall, Enter, Come}
@@ -16,10 +16,10 @@ use Rattle.tcl_core.specs.Programs.{Deed, spot, Act, Wrap, Wait, Next, Prog, Tab
 use Rattle.tcl_core.specs.Programs.Next.{On, TooDeep, Off}
 use Rattle.tcl_core.specs.Programs.Wrap.{Deeper, Framed}
 use Rattle.tcl_core.specs.Programs.Prog.{done, exit, act, go, inside, call, wait}
-use Rattle.tcl_core.specs.Runs.{World, Step, Ending, Run, Halts, Follows, Then, Closes, Acted, Acts, Opened, Opens, Hears, Answered, Leaves, Visits, Returns, Reaches, Calls, Exiting, Exits, Stays, Moves, Fitting, Waits, Unrolled, RunsIn, Runs, carried, reached, where_stands, entering, fits, answers_call, is_exit, ends_call, height_of}
+use Rattle.tcl_core.specs.Runs.{World, Step, Ending, Run, Halts, Follows, Then, Closes, Acted, Acts, Opened, Opens, Hears, Answered, Leaves, Visits, Returns, Reaches, Calls, Exiting, Exits, Stays, Moves, Fitting, Waits, Unrolled, RunsIn, Runs, carried, where_stands, entering, fits, answers_call, ends_call, height_of}
 use Rattle.tcl_core.specs.Views.{grants_of, moves_of, view, inside_of}
-use Rattle.tcl_core.proofs.PathLaws.{child_in, not_both, Some-inj, strip-sound, rise_to_within, rise_to_out, rise_to_elsewhere, rise_to_past, rise_into, seen_out, seen_near, strip_own}
-use Rattle.tcl_core.proofs.TreeLaws.{seen_deed, seen_next, listed, decide_none, opens_none, decide_within, opens_within, closes_seen, step_within, step_apart, step_fall, spot_within, IsBeside, IsLife, elsewhere_life, opens_here}
+use Rattle.tcl_core.proofs.PathLaws.{child_in, not_both, Some-inj, strip-sound, rise_to_within, rise_to_out, rise_to_elsewhere, rise_to_past, rise_into, seen_out, seen_near}
+use Rattle.tcl_core.proofs.TreeLaws.{seen_next, listed, decide_none, opens_none, decide_within, opens_within, closes_seen, step_within, step_apart, step_fall, spot_within, IsBeside, IsLife, elsewhere_life, opens_here}
 use Rattle.tcl_core.proofs.Seeing.{carried_within, seen_end, seen_quit, answers_seen, is_exit_self}
 use Rattle.tcl_core.proofs.Folding.{roll}
 

@@ -2,22 +2,22 @@
 use Rattle.std.proofs.Common.{zero, List, subst, ◌≡◌, ℕ, suc, ◌<◌, ◌≤◌, Bool, true, false, [], ◌∷◌, ◌++◌, Option, Some, None, length, nat_lt, refl, sym, ◌∙◌, ap, arith, append_assoc, length-append}
 use Rattle.std.proofs.lemmas.Bool.Decides.{nat_tests}
 use mathlib.Core.Path.{fun_ext}
-use Rattle.tcl_core.specs.Paths.{rise, rise_to, Path, Place, Height, strip, seen_height}
+use Rattle.tcl_core.specs.Paths.{rise_to, Place, strip}
 use Rattle.tcl_core.specs.Endings.{Meter, Reply}
 use Rattle.tcl_core.specs.Endings.Meter.{Count, Depth}
-use Rattle.tcl_core.specs.Endings.Reply.{Completed, Stop, Exit, Cut}
+use Rattle.tcl_core.specs.Endings.Reply.{Cut}
 use Rattle.tcl_core.specs.Endings.Cause.{Above, Over}
-use Rattle.tcl_core.specs.Trees.{Event, Grant, Grants, granted, denied, allowing, denying, Node, Tree, What, at, effect, at_end, where_some, on_node, on_line, on_subtree, with_own, with_limit, with_depth_limit, counted, deeper, shallower, fresh, seen_reply, seen_what}
+use Rattle.tcl_core.specs.Trees.{Event, Grant, Grants, granted, denied, allowing, Node, Tree, What, at, effect, at_end, where_some, on_node, on_line, on_subtree, with_own, with_limit, with_depth_limit, counted, deeper, shallower, fresh, seen_reply, seen_what}
 use Rattle.tcl_core.specs.Trees.Grant.{Allow, Deny}
 use Rattle.tcl_core.specs.Trees.Grants.{Listed, Budget}
-use Rattle.tcl_core.specs.Trees.What.{In, Done, Out, Back, Seen, Changed, Charged, Refused, Nested, Unnested, Limited, DepthLimited, Made, Dropped}
-use Rattle.tcl_core.specs.Programs.{Wrap, Next, Deed, spot, Act, decide, opens, closes, changing, making, dropping, dropping_at, either, metered, by_grant, by_limit, blocked, full_at, nearer, is_spent, is_deep}
+use Rattle.tcl_core.specs.Trees.What.{Seen, Changed, Charged, Refused, Nested, Unnested, Limited, DepthLimited, Made, Dropped}
+use Rattle.tcl_core.specs.Programs.{Wrap, Next, Deed, spot, Act, decide, opens, closes, changing, making, dropping, dropping_at, either, metered, by_limit, blocked, full_at, nearer, is_spent, is_deep}
 use Rattle.tcl_core.specs.Programs.Next.{On, TooDeep, Off}
 use Rattle.tcl_core.specs.Programs.Act.{Look, Change, Charge, Limit, LimitDepth, Make, Drop}
 use Rattle.tcl_core.specs.Programs.Wrap.{Deeper, Framed}
 use Rattle.tcl_core.specs.Runs.{World, Step}
 use Rattle.tcl_core.specs.Views.{grants_of, moves_of, kept, view, inside_of, from_above}
-use Rattle.tcl_core.proofs.PathLaws.{strip-sound, beside, rise_past, rise_to_past, not_both, Some-inj, strip-append, strip_own, apart, at_end-apart, seen_past, seen_near, rise-length}
+use Rattle.tcl_core.proofs.PathLaws.{strip-sound, beside, not_both, Some-inj, strip-append, strip_own, apart, at_end-apart, seen_past, seen_near}
 
 module _ {O : Type 0} where
   on_node_within : (c q : Place) (f : Option (Node O) → Option (Node O)) (T : Tree O) → at (on_node (c ++ q) f T) c ≡ on_node q f (at T c)

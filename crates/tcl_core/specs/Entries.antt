@@ -1,8 +1,7 @@
 -- What interpreters can be asked for by others, and what the host can be asked for.
-use Rattle.std.specs.Prelude.{ℕ, zero, suc, ℤ, Bool, true, false, List, [], ◌∷◌, Option, Some, None}
+use Rattle.std.specs.Prelude.{ℕ, Bool, true, false, List, Option}
 use Rattle.tcl_core.specs.Paths.{Text, Path}
 use Rattle.tcl_core.specs.Endings.{Completion, Reply}
-use Rattle.tcl_core.specs.Endings.Reply.{Completed, Stop, Exit, Cut}
 
 -- what can be asked about an interpreter
 pub data Question : Type 0 where

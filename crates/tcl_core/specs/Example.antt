@@ -1,15 +1,15 @@
 -- A small life, step by step: the outside has the root evaluate a script, which has its child set its one variable to 7.
 -- An interpreter's own part is a number here, its variable; what can go on in one is one of two scripts.
-use Rattle.std.specs.Prelude.{◌≡◌, ℕ, suc, Bool, true, false, List, [], ◌∷◌, Option, Some, None}
-use Rattle.tcl_core.specs.Paths.{Text, Path, Place}
-use Rattle.tcl_core.specs.Endings.{Completion, Reply, ok, error}
+use Rattle.std.specs.Prelude.{◌≡◌, ℕ, true, false, List, [], ◌∷◌, Some, None}
+use Rattle.tcl_core.specs.Paths.{Text, Place}
+use Rattle.tcl_core.specs.Endings.{Completion, ok, error}
 use Rattle.tcl_core.specs.Endings.Reply.{Completed}
 use Rattle.tcl_core.specs.Entries.{Entry, Said}
 use Rattle.tcl_core.specs.Entries.Entry.{Eval}
 use Rattle.tcl_core.specs.Entries.Said.{Finished, Told}
 use Rattle.tcl_core.specs.Entries.Answer.{Replied}
-use Rattle.tcl_core.specs.Trees.{Node, Tree, Event, What, Move, Grants, effect}
-use Rattle.tcl_core.specs.Trees.Grants.{Listed, Budget}
+use Rattle.tcl_core.specs.Trees.{Node, Tree, Event, What, Move, effect}
+use Rattle.tcl_core.specs.Trees.Grants.{Budget}
 use Rattle.tcl_core.specs.Trees.What.{Changed, Charged, Nested, Unnested, Out, In, Done, Back}
 use Rattle.tcl_core.specs.Trees.Move.{Enter}
 use Rattle.tcl_core.specs.Programs.{Prog, Table}

@@ -1,20 +1,20 @@
 -- The life of a tree: what is handed in is done, in order. A subtree by itself, under a budget; a whole tree; two worlds.
 use Rattle.std.specs.Prelude.{◌≡◌, ℕ, zero, suc, ℤ, Bool, true, false, nat_lt, ◌+◌, List, [], ◌∷◌, ◌++◌, Option, Some, None, length}
-use Rattle.tcl_core.specs.Paths.{Text, Path, Place, strip, rise_to}
+use Rattle.tcl_core.specs.Paths.{Text, Path, Place, rise_to}
 use Rattle.tcl_core.specs.Endings.{Meter, Completion, Reply, ok, refusal}
 use Rattle.tcl_core.specs.Endings.Reply.{Completed, Stop, Exit, Cut}
 use Rattle.tcl_core.specs.Endings.Cause.{Above, Over}
 use Rattle.tcl_core.specs.Entries.{Entry, Answer, Said}
 use Rattle.tcl_core.specs.Entries.Entry.{Eval}
 use Rattle.tcl_core.specs.Entries.Answer.{Replied}
-use Rattle.tcl_core.specs.Trees.{Grants, Node, Tree, What, Event, Move, at, on_node, with_limit}
+use Rattle.tcl_core.specs.Trees.{Node, Tree, What, Event, Move, at, on_node, with_limit}
 use Rattle.tcl_core.specs.Trees.Grants.{Budget}
 use Rattle.tcl_core.specs.Trees.What.{Out, Done}
 use Rattle.tcl_core.specs.Trees.Move.{Enter, Come}
 use Rattle.tcl_core.specs.Programs.{Wait, Prog, Table}
 use Rattle.tcl_core.specs.Programs.Prog.{done, wait}
 use Rattle.tcl_core.specs.Runs.{World, Ending, Runs, Visits}
-use Rattle.tcl_core.specs.Views.{moves_of, view, inside_of}
+use Rattle.tcl_core.specs.Views.{moves_of, view}
 
 -- no call is open
 abbrev pub idle : Wait

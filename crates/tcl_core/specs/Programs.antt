@@ -1,10 +1,10 @@
 -- What a command is: a program over a few acts. I is what can be going on inside an interpreter: a script, the commands that are left, a
 -- turn of a loop and so on.
-use Rattle.std.specs.Prelude.{ℕ, zero, suc, ℤ, Bool, true, false, List, [], ◌∷◌, ◌++◌, Option, Some, None, nat_le, length}
+use Rattle.std.specs.Prelude.{ℕ, zero, suc, ℤ, Bool, true, false, [], ◌∷◌, ◌++◌, Option, Some, None, nat_le, length}
 use Rattle.tcl_core.specs.Paths.{Text, Path, Place, Height}
 use Rattle.tcl_core.specs.Endings.{Meter, Completion, Reply}
 use Rattle.tcl_core.specs.Endings.Meter.{Count, Depth}
-use Rattle.tcl_core.specs.Endings.Reply.{Completed, Stop, Exit, Cut}
+use Rattle.tcl_core.specs.Endings.Reply.{Stop, Cut}
 use Rattle.tcl_core.specs.Endings.Cause.{Above, Over}
 use Rattle.tcl_core.specs.Entries.{Entry, Said}
 use Rattle.tcl_core.specs.Trees.{Grants, Node, Tree, What}

@@ -4,16 +4,15 @@ use Rattle.std.specs.Prelude.{◌≡◌, ℕ, zero, suc, ℤ, Bool, true, false,
 use Rattle.tcl_core.specs.Paths.{falls, together, Path, Place, Height, rise_to}
 use Rattle.tcl_core.specs.Endings.{Meter, Completion, Reply, refusal}
 use Rattle.tcl_core.specs.Endings.Meter.{Depth}
-use Rattle.tcl_core.specs.Endings.Reply.{Completed, Stop, Exit, Cut}
-use Rattle.tcl_core.specs.Endings.Cause.{Over}
-use Rattle.tcl_core.specs.Entries.{Request, Entry, Answer, Said, answers}
+use Rattle.tcl_core.specs.Endings.Reply.{Completed, Stop, Exit}
+use Rattle.tcl_core.specs.Entries.{Entry, Answer, Said, answers}
 use Rattle.tcl_core.specs.Entries.Entry.{AskHost}
 use Rattle.tcl_core.specs.Entries.Answer.{Replied, Heard}
 use Rattle.tcl_core.specs.Entries.Said.{Finished, Told}
 use Rattle.tcl_core.specs.Trees.{Grants, granted, Node, Tree, at, What, Event, Move, effect, asked}
 use Rattle.tcl_core.specs.Trees.What.{Made, Dropped, Out, In, Done, Back}
 use Rattle.tcl_core.specs.Trees.Move.{Born, Fall, Enter, Come}
-use Rattle.tcl_core.specs.Programs.{Wait, Wrap, Next, Deed, spot, Act, Prog, Table, decide, opens, closes}
+use Rattle.tcl_core.specs.Programs.{Wait, Wrap, Next, Deed, spot, Prog, Table, decide, opens, closes}
 use Rattle.tcl_core.specs.Programs.Next.{On, TooDeep, Off}
 use Rattle.tcl_core.specs.Programs.Prog.{done, exit, act, go, inside, call, wait}
 

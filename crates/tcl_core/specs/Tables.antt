@@ -1,5 +1,5 @@
 -- What a table of commands must be for some of the laws.
-use Rattle.std.specs.Prelude.{◌≡◌, ℕ, Bool, true, false, List, [], ◌∷◌, Option, Some, None}
+use Rattle.std.specs.Prelude.{◌≡◌, Bool, true, List, [], ◌∷◌, Option, Some, None}
 use Rattle.tcl_core.specs.Paths.{Place, Height}
 use Rattle.tcl_core.specs.Endings.{Completion}
 use Rattle.tcl_core.specs.Entries.{Entry, Said}

@@ -1,23 +1,23 @@
 -- A run as code makes it: from a tree and a state of the outside to those after it, with no list of happenings.
 use Rattle.std.specs.Option.{option_map, option_map_or}
-use Rattle.std.specs.Prelude.{ℕ, ℤ, suc, pred, ◌-◌, ◌≡◌, Bool, true, false, List, [], ◌∷◌, ◌++◌, Option, Some, None, length}
+use Rattle.std.specs.Prelude.{ℕ, ℤ, suc, pred, ◌-◌, ◌≡◌, true, List, [], ◌∷◌, Option, Some, None, length}
 use Rattle.tcl_core.specs.Paths.{Path, Place, Height, rise_to}
 use Rattle.tcl_core.specs.Endings.{Completion, Reply, IsQuit, refusal}
 use Rattle.tcl_core.specs.Endings.Meter.{Depth}
 use Rattle.tcl_core.specs.Endings.Reply.{Completed, Exit}
-use Rattle.tcl_core.specs.Entries.{Entry, HostReply, Answer, Said}
+use Rattle.tcl_core.specs.Entries.{Entry, HostReply, Said}
 use Rattle.tcl_core.specs.Entries.Answer.{Replied, Heard}
 use Rattle.tcl_core.specs.Entries.Said.{Finished, Told}
-use Rattle.tcl_core.specs.Trees.{Tree, Node, What, Event, Move, Grant, effect, asked, granted, at}
+use Rattle.tcl_core.specs.Trees.{Tree, Node, What, Event, Grant, effect, granted, at}
 use Rattle.tcl_core.specs.Trees.Grants.{Listed}
 use Rattle.tcl_core.specs.Trees.What.{Out, In, Done, Back}
-use Rattle.tcl_core.specs.Trees.Move.{Enter, Come}
-use Rattle.tcl_core.specs.Programs.{Deed, spot, Act, Wrap, Wait, Next, Prog, Table, decide, opens, closes}
+use Rattle.tcl_core.specs.Trees.Move.{Come}
+use Rattle.tcl_core.specs.Programs.{Deed, spot, Act, Wrap, Wait, Prog, Table, decide, opens, closes}
 use Rattle.tcl_core.specs.Programs.Next.{On, TooDeep, Off}
 use Rattle.tcl_core.specs.Programs.Prog.{done, exit, act, go, inside, call, wait}
-use Rattle.tcl_core.specs.Runs.{World, Ending, Runs, carried, reached, entering, fits, height_of}
+use Rattle.tcl_core.specs.Runs.{World, Runs, carried, reached, entering, fits, height_of}
 use Rattle.tcl_core.specs.Rules.{IsOn, IsNoExit}
-use Rattle.tcl_core.specs.Views.{moves_of, grants_of, inside_of}
+use Rattle.tcl_core.specs.Views.{moves_of, grants_of}
 
 -- the act comes to this deed, whatever else the outside will grant
 abbrev pub Decides : {O : Type 0} → Act O → Tree O → Place → Deed O → Type 0

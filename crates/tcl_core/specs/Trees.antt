@@ -1,9 +1,9 @@
 -- A tree of interpreters, what can happen to it, and how each happening changes it.
 -- O is an interpreter's own part: its frames, commands and hidden commands, and the names of its children in order.
-use Rattle.std.specs.Prelude.{ℕ, zero, suc, pred, Bool, true, false, List, [], ◌∷◌, ◌++◌, Option, Some, None, nat_lt, length}
-use Rattle.tcl_core.specs.Paths.{Text, Path, Place, Height, strip, rise_to, seen_height}
-use Rattle.tcl_core.specs.Endings.{Meter, Reply, Cause}
-use Rattle.tcl_core.specs.Endings.Reply.{Completed, Stop, Exit, Cut}
+use Rattle.std.specs.Prelude.{ℕ, suc, pred, Bool, true, false, List, [], ◌∷◌, ◌++◌, Option, Some, None, nat_lt, length}
+use Rattle.tcl_core.specs.Paths.{Path, Place, Height, strip, rise_to, seen_height}
+use Rattle.tcl_core.specs.Endings.{Meter, Reply}
+use Rattle.tcl_core.specs.Endings.Reply.{Stop, Cut}
 use Rattle.tcl_core.specs.Endings.Cause.{Above}
 use Rattle.tcl_core.specs.Entries.{Entry, Answer}
 use Rattle.tcl_core.specs.Entries.Answer.{Replied, Heard}

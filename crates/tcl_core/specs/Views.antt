@@ -1,7 +1,7 @@
 -- What a world is to one of its subtrees.
 use Rattle.std.specs.Prelude.{◌≡◌, ℕ, List, [], ◌∷◌, Option, Some, None}
 use Rattle.tcl_core.specs.Paths.{Place, strip}
-use Rattle.tcl_core.specs.Trees.{Grants, Grant, granted, Tree, What, Event, Move, at, asked, paid, seen_what}
+use Rattle.tcl_core.specs.Trees.{Grants, granted, Tree, What, Event, Move, at, asked, paid, seen_what}
 use Rattle.tcl_core.specs.Trees.Grants.{Listed}
 use Rattle.tcl_core.specs.Trees.What.{Charged, Nested, Dropped}
 use Rattle.tcl_core.specs.Programs.{blocked, is_spent, is_deep}
