@@ -17,4 +17,6 @@ pub mod Reacting
 pub mod Outside
 pub mod Stops
 pub mod Disciplines
+pub mod Parting
 pub mod Worked
+pub mod Worlds

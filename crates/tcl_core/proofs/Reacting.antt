@@ -30,12 +30,12 @@ own_place c p e = subst (λ r. strip r c ≡ Some []) (sym (strip-sound c p [] e
 
 module _ {O : Type 0} where
   -- the tree as a whole is neither made nor dropped
-  abbrev Lasting : Place → What O → Type 0
+  abbrev pub Lasting : Place → What O → Type 0
   Lasting p (Made o s) = p ≡ [] → Prim.⊥
   Lasting p Dropped = p ≡ [] → Prim.⊥
   Lasting p _ = Unit {0}
 
-  abbrev IsLasting : List (Event O) → Type 0
+  abbrev pub IsLasting : List (Event O) → Type 0
   IsLasting [] = Unit {0}
   IsLasting (ev ∷ τ) = Lasting ev.place ev.what × IsLasting τ
 
@@ -52,7 +52,7 @@ module _ {O : Type 0} where
   lasting c (ev ∷ τ) f = lasting_kept c ev.place ev.what (view c τ) f.0 (lasting c τ f.1) (strip c ev.place) refl
 
   -- what is kept along a run
-  abbrev IsHanded : World O → Type 0
+  abbrev pub IsHanded : World O → Type 0
   IsHanded w = w.moves ≡ moves_of w.tape
 
   handed_step : KeepsSteps IsHanded
@@ -67,33 +67,33 @@ module _ {O : Type 0} where
   ends_step : (z : Outcome) → KeepsSteps (EndsAs z)
   ends_step z w p x v due s (y, f) = (outcome_at p x y, f ∙ ap (λ τ. outcome_of τ y) s.tape)
 
-  abbrev Kept : Outcome → World O → Type 0
+  abbrev pub Kept : Outcome → World O → Type 0
   Kept z w = IsHanded w × IsLasting w.tape × IsUncut w.tape × EndsAs z w
 
   pub kept_step : (z : Outcome) → KeepsSteps (Kept z)
   kept_step z w p x v due s (a, b, c, d) = (handed_step w p x v due s a, lasting_step w p x v due s b, uncut_keep w p x v due s c, ends_step z w p x v due s d)
 
-  exits_idle : (u : World O) (n : ℤ) (ms : List (Move O)) (y : World O) → Exits u [] idle n ms y None → Halts u y None
+  pub exits_idle : (u : World O) (n : ℤ) (ms : List (Move O)) (y : World O) → Exits u [] idle n ms y None → Halts u y None
   exits_idle u n [] y a = a
   exits_idle u n (Come x ∷ ms) y a = a
   exits_idle u n (Born o b ∷ ms) y a = a
   exits_idle u n (Fall ∷ ms) y a = a
   exits_idle u n (Enter t i ∷ ms) y a = a
 
-  no_move : {A : Type 0} (w : World O) (m : Move O) (ms : List (Move O)) → IsHanded w → w.moves ≡ m ∷ ms → w.tape ≡ [] → A
+  pub no_move : {A : Type 0} (w : World O) (m : Move O) (ms : List (Move O)) → IsHanded w → w.moves ≡ m ∷ ms → w.tape ≡ [] → A
   no_move w m ms h e t = absurd (bad (sym e ∙ h ∙ ap moves_of t))
     where
       bad : m ∷ ms ≡ [] → Prim.⊥
       bad f = cc
 
-  lasts : {A : Type 0} (w : World O) (x : What O) (u : World O) → Step w [] x u → IsLasting w.tape → (Lasting [] x → A) → A
+  pub lasts : {A : Type 0} (w : World O) (x : What O) (u : World O) → Step w [] x u → IsLasting w.tape → (Lasting [] x → A) → A
   lasts w x u s f g = g (let h : Lasting [] x × IsLasting u.tape = subst IsLasting s.tape f in h.0)
 
 module _ {O I : Type 0} (prog : Table O I) (k : ℕ) where
-  abbrev bud : World O → World O
+  abbrev pub bud : World O → World O
   bud w = budgeted k w
 
-  visit_budget : (z : World O) (t : Place) (i : Entry) (u : World O) (r : Reply) → IsUncut z.tape → Visits prog (Runs prog) z None t i u (Some r) → Visits prog (Runs prog) (bud z) None t i (bud u) (Some r)
+  pub visit_budget : (z : World O) (t : Place) (i : Entry) (u : World O) (r : Reply) → IsUncut z.tape → Visits prog (Runs prog) z None t i u (Some r) → Visits prog (Runs prog) (bud z) None t i (bud u) (Some r)
   visit_budget z t i u r f a = record {
     entered = bud a.entered;
     left = bud a.left;
@@ -103,7 +103,7 @@ module _ {O I : Type 0} (prog : Table O I) (k : ℕ) where
   }
 
   -- what is kept after an entry that came to an end; the outcome is then that of its end
-  after_visit : (z : World O) (t : Place) (i : Entry) (u : World O) (r : Reply) (x : Outcome) → x ≡ outcome_of z.tape Finished → IsHanded z → IsLasting z.tape → IsUncut z.tape → Visits prog (Runs prog) z None t i u (Some r) →
+  pub after_visit : (z : World O) (t : Place) (i : Entry) (u : World O) (r : Reply) (x : Outcome) → x ≡ outcome_of z.tape Finished → IsHanded z → IsLasting z.tape → IsUncut z.tape → Visits prog (Runs prog) z None t i u (Some r) →
       IsHanded u × IsLasting u.tape × IsUncut u.tape × (x ≡ outcome_of u.tape (ending_of r)) × Uncut {O = O} t (Done None r)
   after_visit z t i u r x e a b c d =
       let k1 : Kept x d.entered = kept_step x z t (In None i) d.entered tt d.entry (a, b, c, (Finished, e)) in
@@ -112,14 +112,14 @@ module _ {O I : Type 0} (prog : Table O I) (k : ℕ) where
       let f : Uncut {O = O} t (Done None r) × IsUncut u.tape = fine_step d.left t (Done None r) u d.leaving k2.2 in
       (k3.0, k3.1, k3.2, k2.3.1 ∙ ap (λ τ. outcome_of τ k2.3.0) d.leaving.tape, f.0)
 
-  balanced_after : (z : World O) (t : Place) (i : Entry) (u : World O) (r : Reply) → Visits prog (Runs prog) z None t i u (Some r) → ins [] z.tape ≡ dones [] z.tape → ins [] u.tape ≡ dones [] u.tape
+  pub balanced_after : (z : World O) (t : Place) (i : Entry) (u : World O) (r : Reply) → Visits prog (Runs prog) z None t i u (Some r) → ins [] z.tape ≡ dones [] z.tape → ins [] u.tape ≡ dones [] u.tape
   balanced_after z t i u r a b =
       let o : Owes [] z u (Some r) = visit_owes [] z a.entered a.left u None t i r a.entry (owes [] prog (runs_derived prog a.entered t (entering prog (z.tree t) i) a.left (Some r) a.run)) a.leaving in
       let s : ins [] z.tape + dones [] u.tape ≡ dones [] z.tape + ins [] u.tape + o.open_ins = o.sum in
       let n : o.open_ins ≡ 0 = o.none_left r refl in
       omega arith
 
-  never_halts : {A : Type 0} (z : World O) (t : Place) (i : Entry) (u : World O) → Visits prog (Runs prog) z None t i u None → ins [] z.tape ≡ dones [] z.tape → u.tape ≡ [] → A
+  pub never_halts : {A : Type 0} (z : World O) (t : Place) (i : Entry) (u : World O) → Visits prog (Runs prog) z None t i u None → ins [] z.tape ≡ dones [] z.tape → u.tape ≡ [] → A
   never_halts z t i u a b f =
       let o : Owes [] a.entered a.left None = owes [] prog (runs_derived prog a.entered t (entering prog (z.tree t) i) a.left None a.run) in
       let s : ins [] z.tape + dones [] a.left.tape ≡ dones [] z.tape + ins [] a.left.tape + suc o.open_ins = halted_more [] z a.entered a.left None t i refl a.entry o in
@@ -128,7 +128,7 @@ module _ {O I : Type 0} (prog : Table O I) (k : ℕ) where
       let q : dones [] a.left.tape ≡ 0 = ap (dones []) g in
       absurd (omega arith)
 
-  lift_visits : (n : ℕ) (z : World O) (t : Place) (i : Entry) (u : World O) (o : Ending) → Visits prog (RunsIn prog n) z None t i u o → Visits prog (Runs prog) z None t i u o
+  pub lift_visits : (n : ℕ) (z : World O) (t : Place) (i : Entry) (u : World O) (o : Ending) → Visits prog (RunsIn prog n) z None t i u o → Visits prog (Runs prog) z None t i u o
   lift_visits n z t i u o a = record { entered = a.entered; left = a.left; entry = a.entry; run = (n, a.run); leaving = a.leaving }
 
   abbrev Reacting : ℕ → Type 0
@@ -175,7 +175,7 @@ module _ {O I : Type 0} (prog : Table O I) (k : ℕ) where
 
 module _ {O I : Type 0} where
   -- a whole evaluation is a life
-  life_of : (prog : Table O I) (w v : World O) (t : Path) (i : Entry) (r : Reply) → Visits prog (Runs prog) w None t i v (Some r) → v.moves ≡ [] → v.tape ≡ [] → Lives prog w v None
+  pub life_of : (prog : Table O I) (w v : World O) (t : Path) (i : Entry) (r : Reply) → Visits prog (Runs prog) w None t i v (Some r) → v.moves ≡ [] → v.tape ≡ [] → Lives prog w v None
   life_of prog w v t i r a m f = wait_enter prog w [] idle never t i v (Some r) v None refl a (by r)
     where
       still : Halts v v None

@@ -98,7 +98,7 @@ module _ {O I : Type 0} (prog : Table O I) where
   derived_runs (fallen w p s k u v e f t a) = wait_fall prog w p s k u v e f t (derived_runs a)
 
   -- the other way
-  abbrev Ruled : Run O I
+  abbrev pub Ruled : Run O I
   Ruled w p x v e = Derives prog w p x v e
 
   halted_at : (w v : World O) (p : Place) (x : Prog O I) (e : Ending) → Halts w v e → Derives prog w p x w None → Derives prog w p x v e
@@ -107,7 +107,7 @@ module _ {O I : Type 0} (prog : Table O I) where
   ended_at : (w u v : World O) (p : Place) (x : Prog O I) (r e : Ending) → v ≡ u → e ≡ r → Derives prog w p x u r → Derives prog w p x v e
   ended_at w u v p x r e a b d = subst (λ o. Derives prog w p x v o) (sym b) (subst (λ y. Derives prog w p x y r) (sym a) d)
 
-  act_rule : (w : World O) (p : Place) (d : Act O) (k : Tree O → Prog O I) (x : Option (Deed O)) (v : World O) (e : Ending) → decide d w.tree p w.grants ≡ x → Acts Ruled w p x k v e → Derives prog w p (act d k) v e
+  pub act_rule : (w : World O) (p : Place) (d : Act O) (k : Tree O → Prog O I) (x : Option (Deed O)) (v : World O) (e : Ending) → decide d w.tree p w.grants ≡ x → Acts Ruled w p x k v e → Derives prog w p (act d k) v e
   act_rule w p d k None v e g a = halted_at w v p (act d k) e a (unheard w p d k g a.tape)
   act_rule w p d k (Some x) v e g (u, s, a) = by x.2 refl a
     where
@@ -116,7 +116,7 @@ module _ {O I : Type 0} (prog : Table O I) where
       by On f b = acted w p d k x u v e g (subst IsOn (sym f) tt) s b
       by TooDeep f b = acted w p d k x u v e g (subst IsOn (sym f) tt) s b
 
-  go_rule : (w : World O) (p : Place) (i : I) (k : Completion → Prog O I) (u : World O) (o : Ending) (v : World O) (e : Ending) → Derives prog w p (prog.program i) u o → Then Ruled u p k o v e → Derives prog w p (go i k) v e
+  pub go_rule : (w : World O) (p : Place) (i : I) (k : Completion → Prog O I) (u : World O) (o : Ending) (v : World O) (e : Ending) → Derives prog w p (prog.program i) u o → Then Ruled u p k o v e → Derives prog w p (go i k) v e
   go_rule w p i k u None v e a b = ended_at w u v p (go i k) None e b.0 b.1 (halted w p i k u a)
   go_rule w p i k u (Some (Completed c)) v e a b = went w p i k u c v e a b
   go_rule w p i k u (Some (Stop n m)) v e a b = ended_at w u v p (go i k) (Some (Stop n m)) e b.0 b.1 (passed w p i k u (Stop n m) tt a)
@@ -131,7 +131,7 @@ module _ {O I : Type 0} (prog : Table O I) where
   close_rule w p b i k x inner left (Some (Exit n)) v e g h s a (u, t, c) = ended_at w u v p (inside b i k) (Some (Exit n)) e c.0 c.1 (wrapped_passed w p b i k x inner left u (Exit n) tt g h s a t)
   close_rule w p b i k x inner left (Some (Cut y)) v e g h s a (u, t, c) = ended_at w u v p (inside b i k) (Some (Cut y)) e c.0 c.1 (wrapped_passed w p b i k x inner left u (Cut y) tt g h s a t)
 
-  open_rule : (w : World O) (p : Place) (b : Wrap O) (i : I) (k : Completion → Prog O I) (x : Option (Deed O)) (v : World O) (e : Ending) → opens b w.tree p w.grants ≡ x → Opens prog Ruled w p x b i k v e → Derives prog w p (inside b i k) v e
+  pub open_rule : (w : World O) (p : Place) (b : Wrap O) (i : I) (k : Completion → Prog O I) (x : Option (Deed O)) (v : World O) (e : Ending) → opens b w.tree p w.grants ≡ x → Opens prog Ruled w p x b i k v e → Derives prog w p (inside b i k) v e
   open_rule w p b i k None v e g a = halted_at w v p (inside b i k) e a (unheard_inside w p b i k g a.tape)
   open_rule w p b i k (Some x) v e g (u, s, a) = by x.2 refl a
     where
@@ -140,7 +140,7 @@ module _ {O I : Type 0} (prog : Table O I) where
       by TooDeep f c = too_deep w p b i k x u v e g f s c
       by On f (left, o, c, d) = close_rule w p b i k x u left o v e g f s c d
 
-  reach_rule : (w : World O) (p : Place) (h : Height) (down : Path) (i : Entry) (lost : Completion) (k : Said → Prog O I) (u : World O) (a : Place) (t : Option Place) (v : World O) (e : Ending) → rise_to h p ≡ Some a → reached u.tree a down ≡ t → Step w p (Out h down i) u → Reaches prog Ruled u p h down i lost k t v e → Derives prog w p (call h down i lost k) v e
+  pub reach_rule : (w : World O) (p : Place) (h : Height) (down : Path) (i : Entry) (lost : Completion) (k : Said → Prog O I) (u : World O) (a : Place) (t : Option Place) (v : World O) (e : Ending) → rise_to h p ≡ Some a → reached u.tree a down ≡ t → Step w p (Out h down i) u → Reaches prog Ruled u p h down i lost k t v e → Derives prog w p (call h down i lost k) v e
   reach_rule w p h down i lost k u a None v e f g s (y, s2, c) = unreached w p h down i lost k a u y v e f s g s2 c
   reach_rule w p h down i lost k u a (Some t) v e f g s (y, None, c, d) =
       ended_at w y v p (call h down i lost k) None e d.0 d.1 (subst (λ z. Derives prog w p (call h down i lost k) z None) (sym c.leaving) (called_halted w p h down i lost k a t u c.entered c.left f s g c.entry c.run))
@@ -156,18 +156,18 @@ module _ {O I : Type 0} (prog : Table O I) where
       by (Exit n) j b = quit (Exit n) tt j b.0 b.1
       by (Cut x) j b = quit (Cut x) tt j b.0 b.1
 
-  call_rule : (w : World O) (p : Place) (h : Height) (down : Path) (i : Entry) (lost : Completion) (k : Said → Prog O I) (u : World O) (a : Option Place) (v : World O) (e : Ending) → rise_to h p ≡ a → Step w p (Out h down i) u → Calls prog Ruled u p h down i lost k a v e → Derives prog w p (call h down i lost k) v e
+  pub call_rule : (w : World O) (p : Place) (h : Height) (down : Path) (i : Entry) (lost : Completion) (k : Said → Prog O I) (u : World O) (a : Option Place) (v : World O) (e : Ending) → rise_to h p ≡ a → Step w p (Out h down i) u → Calls prog Ruled u p h down i lost k a v e → Derives prog w p (call h down i lost k) v e
   call_rule w p h down i lost k u None v e f s c = called_out w p h down i lost k u v e f s c
   call_rule w p h down i lost k u (Some a) v e f s c = reach_rule w p h down i lost k u a (reached u.tree a down) v e f refl s c
 
-  answer_rule : (w : World O) (p : Place) (s : Wait) (k : Said → Prog O I) (a : Answer) (v : World O) (e : Ending) → rise_to (height_of s) p ≡ None → fits {O = O} s (Come a) ≡ true → Answered Ruled w p (height_of s) k a v e → Derives prog w p (wait s k) v e
+  pub answer_rule : (w : World O) (p : Place) (s : Wait) (k : Said → Prog O I) (a : Answer) (v : World O) (e : Ending) → rise_to (height_of s) p ≡ None → fits {O = O} s (Come a) ≡ true → Answered Ruled w p (height_of s) k a v e → Derives prog w p (wait s k) v e
   answer_rule w p s k (Heard y) v e f g (u, t, b) = heard w p s k y u v e f g t b
   answer_rule w p s k (Replied (Completed c)) v e f g (u, t, b) = answered w p s k c u v e f g t b
   answer_rule w p s k (Replied (Stop n m)) v e f g (u, t, b) = ended_at w u v p (wait s k) (Some (Stop n m)) e b.0 b.1 (answered_passed w p s k (Stop n m) u tt f g t)
   answer_rule w p s k (Replied (Exit n)) v e f g (u, t, b) = ended_at w u v p (wait s k) (Some (Exit n)) e b.0 b.1 (answered_passed w p s k (Exit n) u tt f g t)
   answer_rule w p s k (Replied (Cut c)) v e f g (u, t, b) = ended_at w u v p (wait s k) (Some (Cut c)) e b.0 b.1 (answered_passed w p s k (Cut c) u tt f g t)
 
-  enter_rule : (w : World O) (p : Place) (s : Wait) (k : Said → Prog O I) (t : Path) (i : Entry) (u : World O) (o : Ending) (v : World O) (e : Ending) → rise_to (height_of s) p ≡ None → Visits prog Ruled w None t i u o → Stays Ruled u p s k o v e → Derives prog w p (wait s k) v e
+  pub enter_rule : (w : World O) (p : Place) (s : Wait) (k : Said → Prog O I) (t : Path) (i : Entry) (u : World O) (o : Ending) (v : World O) (e : Ending) → rise_to (height_of s) p ≡ None → Visits prog Ruled w None t i u o → Stays Ruled u p s k o v e → Derives prog w p (wait s k) v e
   enter_rule w p s k t i u None v e f c b =
       ended_at w u v p (wait s k) None e b.0 b.1 (subst (λ z. Derives prog w p (wait s k) z None) (sym c.leaving) (entered_halted w p s k t i c.entered c.left f c.entry c.run))
   enter_rule w p s k t i u (Some (Exit n)) v e f c b = entered_exiting w p s k t i c.entered c.left u v n e f c.entry c.run c.leaving b

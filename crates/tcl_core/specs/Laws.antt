@@ -260,3 +260,20 @@ abbrev pub Disciplined : Type 0 → Type 0 → Type 0
 Disciplined O I = (R : Discipline O I) (prog : Table O I) → Keeps_to R prog → (c : Place) (w v : World O) →
     Lives prog w v None → v.tape ≡ [] → IsGood R (at w.tree c) → AreTame R (moves_of (view c w.tape)) →
     AreAllowed R (view c w.tape) × IsGood R (at v.tree c)
+
+-- the happening reads a move; and nothing is left, or a move is read next
+abbrev pub ReadsMove : {O : Type 0} → Event O → Type 0
+ReadsMove {O} ev = (ms : List (Move O)) → (m : Move O) × (asked ev.place ev.what ms ≡ m ∷ ms)
+
+abbrev pub AtMove : {O : Type 0} → List (Event O) → Type 0
+AtMove [] = Unit {0}
+AtMove (ev ∷ τ) = ReadsMove ev
+
+-- Two evaluations in two worlds, in which the subtrees at c are equal and the moves into them begin with the same: the same happens
+-- there up to where a further move is read, and so the same is told to the outside.
+abbrev pub TwoWorlds : Type 0 → Type 0 → Type 0
+TwoWorlds O I = (prog : Table O I) (c : Place) (w v z y : World O) (t t2 : Path) (i i2 : Entry) (r r2 : Reply) (ms a b : List (Move O)) →
+    Visits prog (Runs prog) w None t i v (Some r) → v.moves ≡ [] → v.tape ≡ [] → IsStanding c w.tape → IsUncut (view c w.tape) →
+    Visits prog (Runs prog) z None t2 i2 y (Some r2) → y.moves ≡ [] → y.tape ≡ [] → IsStanding c z.tape → IsUncut (view c z.tape) →
+    at w.tree c ≡ at z.tree c → moves_of (view c w.tape) ≡ ms ++ a → moves_of (view c z.tape) ≡ ms ++ b →
+    (same : List (Event O)) × (rest1 : List (Event O)) × (rest2 : List (Event O)) × (view c w.tape ≡ same ++ rest1) × (view c z.tape ≡ same ++ rest2) × AtMove rest1 × AtMove rest2

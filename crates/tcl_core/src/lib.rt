@@ -3,7 +3,7 @@
 #![tactic(auto)]
 
 ghost use Rattle.tcl_core.specs.Example.{WorkedLife};
-ghost use Rattle.tcl_core.specs.Laws.{Counting, Determinism, Disciplined, Happenings, Inner, Isolation, Limiting, LivesWithin, Moments, MoreMoves, NonInterference, QuietOutside, Stopping};
+ghost use Rattle.tcl_core.specs.Laws.{Counting, Determinism, Disciplined, Happenings, Inner, Isolation, Limiting, LivesWithin, Moments, MoreMoves, NonInterference, QuietOutside, Stopping, TwoWorlds};
 ghost use Rattle.tcl_core.specs.Meaning.{RulesAreRuns, ThreadsAreRuns, Unrolling};
 
 /// A run is what `Unrolled` says of runs.
@@ -84,6 +84,11 @@ pub fn stopping<O, I>()
 /// What a safe subtree whose commands keep a discipline does keeps it, where what is handed in does.
 pub fn disciplined<O, I>()
     ensures { Disciplined O I }
+{}
+
+/// Two worlds in which a subtree is the same, and is first handed the same: the same happens there up to the first move that differs.
+pub fn two_worlds<O, I>()
+    ensures { TwoWorlds O I }
 {}
 
 /// A worked life: what it does, and what it is to the child in it.
