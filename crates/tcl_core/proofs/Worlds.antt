@@ -14,9 +14,9 @@ use Rattle.tcl_core.specs.Runs.{World, Ending, Halts, Exits, Stays, Visits, Wait
 use Rattle.tcl_core.specs.Rules.{Derives}
 use Rattle.tcl_core.specs.Rules.Derives.{unanswered}
 use Rattle.tcl_core.specs.Views.{moves_of, steps_of, view, inside_of}
-use Rattle.tcl_core.specs.Lives.{Lives, Outcome, idle, never}
+use Rattle.tcl_core.specs.Lives.{Lives, Outcome, idle, never, outs_of}
 use Rattle.tcl_core.specs.Lives.Outcome.{Finished}
-use Rattle.tcl_core.specs.Laws.{TwoWorlds, AtMove, IsStanding, IsUncut, outcome_of, ending_of, Uncut}
+use Rattle.tcl_core.specs.Laws.{AllAgree, TwoWorlds, AtMove, IsStanding, IsUncut, outcome_of, ending_of, Uncut}
 use Rattle.tcl_core.proofs.RuleLaws.{Ruled, derived_runs, runs_derived, enter_rule}
 use Rattle.tcl_core.proofs.Budgets.{budgeted}
 use Rattle.tcl_core.proofs.Balance.{ins, dones, Owes, owes, visit_owes, view_ins, view_dones}
@@ -126,3 +126,15 @@ module _ {O I : Type 0} where
       determinism prog (cut (budgeted n2 (inside_of c w)) ms g1.made) (cut (budgeted n1 (inside_of c z)) ms g2.made) [] (wait idle never) g1.last g2.last None None same refl (ap Budget sum)
       (derived_runs prog g1.runs) (derived_runs prog g2.runs) (halted_tape prog g1.runs refl) (halted_tape prog g2.runs refl) in
       (g1.made, g1.rest, g2.rest, g1.tape, g2.tape ∙ ap (λ τ. τ ++ g2.rest) (sym h.0), at_move g1.last.moves g1.rest g1.beyond, at_move g2.last.moves g2.rest g2.beyond)
+
+  pub all_agree : AllAgree O I
+  all_agree prog c w v z y t t2 i i2 r r2 v1 e1 f1 s1 u1 v2 e2 f2 s2 u2 same m =
+      let n1 : ℕ = steps_of (view c w.tape) in
+      let n2 : ℕ = steps_of (view c z.tape) in
+      let d1 : Derives prog (budgeted n2 (inside_of c w)) [] (wait idle never) (budgeted n2 (inside_of c v)) None = life_within prog c w v t i r n2 v1 e1 f1 s1 u1 in
+      let d2 : Derives prog (budgeted n1 (inside_of c z)) [] (wait idle never) (budgeted n1 (inside_of c y)) None = life_within prog c z y t2 i2 r2 n1 v2 e2 f2 s2 u2 in
+      let sum : n1 + n2 ≡ n2 + n1 = omega arith in
+      let h : (view c w.tape ≡ view c z.tape) × (budgeted n2 (inside_of c v) ≡ budgeted n1 (inside_of c y)) × (halted ≡ halted) =
+      determinism prog (budgeted n2 (inside_of c w)) (budgeted n1 (inside_of c z)) [] (wait idle never) (budgeted n2 (inside_of c v)) (budgeted n1 (inside_of c y)) None None same m (ap Budget sum)
+      (derived_runs prog d1) (derived_runs prog d2) (ap (view c) f1) (ap (view c) f2) in
+      (h.0, ap outs_of h.0, ap (λ u. u.tree) h.1)

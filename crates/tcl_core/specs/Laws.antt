@@ -277,3 +277,11 @@ TwoWorlds O I = (prog : Table O I) (c : Place) (w v z y : World O) (t t2 : Path)
     Visits prog (Runs prog) z None t2 i2 y (Some r2) → y.moves ≡ [] → y.tape ≡ [] → IsStanding c z.tape → IsUncut (view c z.tape) →
     at w.tree c ≡ at z.tree c → moves_of (view c w.tape) ≡ ms ++ a → moves_of (view c z.tape) ≡ ms ++ b →
     (same : List (Event O)) × (rest1 : List (Event O)) × (rest2 : List (Event O)) × (view c w.tape ≡ same ++ rest1) × (view c z.tape ≡ same ++ rest2) × AtMove rest1 × AtMove rest2
+
+-- Where all moves agree, so does all that happens in the subtree, and the subtree that is left.
+abbrev pub AllAgree : Type 0 → Type 0 → Type 0
+AllAgree O I = (prog : Table O I) (c : Place) (w v z y : World O) (t t2 : Path) (i i2 : Entry) (r r2 : Reply) →
+    Visits prog (Runs prog) w None t i v (Some r) → v.moves ≡ [] → v.tape ≡ [] → IsStanding c w.tape → IsUncut (view c w.tape) →
+    Visits prog (Runs prog) z None t2 i2 y (Some r2) → y.moves ≡ [] → y.tape ≡ [] → IsStanding c z.tape → IsUncut (view c z.tape) →
+    at w.tree c ≡ at z.tree c → moves_of (view c w.tape) ≡ moves_of (view c z.tape) →
+    (view c w.tape ≡ view c z.tape) × (outs_of (view c w.tape) ≡ outs_of (view c z.tape)) × (at v.tree c ≡ at y.tree c)

@@ -3,7 +3,7 @@
 #![tactic(auto)]
 
 ghost use Rattle.tcl_core.specs.Example.{WorkedLife};
-ghost use Rattle.tcl_core.specs.Laws.{Counting, Determinism, Disciplined, Happenings, Inner, Isolation, Limiting, LivesWithin, Moments, MoreMoves, NonInterference, QuietOutside, Stopping, TwoWorlds};
+ghost use Rattle.tcl_core.specs.Laws.{AllAgree, Counting, Determinism, Disciplined, Happenings, Inner, Isolation, Limiting, LivesWithin, Moments, MoreMoves, NonInterference, QuietOutside, Stopping, TwoWorlds};
 ghost use Rattle.tcl_core.specs.Meaning.{RulesAreRuns, ThreadsAreRuns, Unrolling};
 
 /// A run is what `Unrolled` says of runs.
@@ -89,6 +89,11 @@ pub fn disciplined<O, I>()
 /// Two worlds in which a subtree is the same, and is first handed the same: the same happens there up to the first move that differs.
 pub fn two_worlds<O, I>()
     ensures { TwoWorlds O I }
+{}
+
+/// Two worlds in which a subtree is the same, and is handed the same: all that happens there is the same, and what is left.
+pub fn all_agree<O, I>()
+    ensures { AllAgree O I }
 {}
 
 /// A worked life: what it does, and what it is to the child in it.
