@@ -3,12 +3,15 @@ use Rattle.std.proofs.Common.{pred, ◌≡◌, ℕ, suc, ◌+◌, ◌<◌, ◌�
 use Rattle.std.specs.Prelude.{nat_le}
 use Rattle.std.proofs.lemmas.Bool.Decides.{nat_tests}
 use Rattle.tcl_core.specs.Paths.{Place, strip}
-use Rattle.tcl_core.specs.Trees.{Tree, What, Event, Node, paid, at_end, where_some, effect, with_own, with_limit, with_depth_limit, counted, deeper, shallower, fresh, seen_what}
+use Rattle.tcl_core.specs.Paths.{rise_to}
+use Rattle.tcl_core.specs.Endings.Meter.{Count, Depth}
+use Rattle.tcl_core.specs.Trees.Grants.{Listed, Budget}
+use Rattle.tcl_core.specs.Trees.{Grants, granted, denied, Tree, What, Event, Node, paid, at_end, where_some, effect, with_own, with_limit, with_depth_limit, counted, deeper, shallower, fresh, seen_what}
 use Rattle.tcl_core.specs.Trees.What.{Seen, Changed, Charged, Refused, Nested, Unnested, Limited, DepthLimited, Made, Dropped, Out, In, Done, Back}
 use Rattle.tcl_core.specs.Programs.{blocked, full_at, nearer, is_spent, limit_or}
 use Rattle.tcl_core.specs.Runs.{World}
 use Rattle.tcl_core.specs.Views.{IsDue, from_above, steps_of, kept, view}
-use Rattle.tcl_core.specs.Laws.{Stands, IsStanding, Lowers, IsLowering, Counting, Limiting, Happenings, after}
+use Rattle.tcl_core.specs.Laws.{Bounded, Stands, IsStanding, Lowers, IsLowering, Counting, Limiting, Happenings, after}
 use Rattle.tcl_core.proofs.PathLaws.{strip-sound}
 use Rattle.tcl_core.proofs.Keeping.{runs_keep, KeepsSteps}
 
@@ -183,6 +186,40 @@ module _ {O : Type 0} where
   made_step w u p x v due s (m, t, f) =
       (m ++ record { place = p; what = x } ∷ [], t ∙ ap (λ l. m ++ l) s.tape ∙ sym (append_assoc m (record { place = p; what = x } ∷ []) v.tape), s.tree ∙ ap (effect p x) f ∙ sym (after-append m (record { place = p; what = x } ∷ []) w.tree))
 
+  abbrev Left : ℕ → World O → World O → Type 0
+  Left n w u = (k : ℕ) × (u.grants ≡ Budget k) × (k + steps_of w.tape ≡ n + steps_of u.tape)
+
+  budget_of : (p : Place) (x : What O) (gs : Grants) (k : ℕ) → Budget k ≡ granted p x gs → (j : ℕ) × (gs ≡ Budget j) × (k ≡ paid x j)
+  budget_of p Charged (Listed gs) k e = cc
+  budget_of p Charged (Budget j) k e = (j, refl, cc)
+  budget_of p Nested (Listed gs) k e = cc
+  budget_of p Nested (Budget j) k e = (j, refl, cc)
+  budget_of p (Refused m h) gs k e = by (rise_to h p) gs e
+    where
+      by : (o : Option Place) (gs : Grants) → Budget k ≡ denied o gs → (j : ℕ) × (gs ≡ Budget j) × (k ≡ j)
+      by None (Listed hs) f = cc
+      by None (Budget j) f = (j, refl, cc)
+      by (Some a) gs f = (k, sym f, refl)
+  budget_of p _ gs k e = (k, sym e, refl)
+
+  paid_shift : (x : What O) (k j a n b d : ℕ) → k ≡ paid x j → b ≡ paid x d → k + a ≡ n + b → j + a ≡ n + d
+  paid_shift Charged k j a n b d e f g = omega arith
+  paid_shift _ k j a n b d e f g = omega arith
+
+  left_step : (n : ℕ) (w : World O) → KeepsSteps (Left n w)
+  left_step n w u p x v due s (k, f, g) =
+      let h : (j : ℕ) × (v.grants ≡ Budget j) × (k ≡ paid x j) = budget_of p x v.grants k (sym f ∙ s.grants) in
+      (h.0, h.1, paid_shift x k h.0 (steps_of w.tape) n (steps_of u.tape) (steps_of v.tape) h.2 (ap steps_of s.tape) g)
+
 module _ {O I : Type 0} where
   pub happenings : Happenings O I
   happenings prog w p x v e a = runs_keep (MadeFrom w) (made_step w) prog w p x v e a ([], refl, refl)
+
+  -- a budget, and what is left of it
+  pub bounded : Bounded O I
+  bounded prog w v p x e n a f t =
+      let r : Left n w v = runs_keep (Left n w) (left_step n w) prog w p x v e a (n, f, refl) in
+      (r.0, r.1, r.2 ∙ ap (λ τ. n + steps_of τ) t ∙ no_more n)
+    where
+      no_more : (n : ℕ) → n + 0 ≡ n
+      no_more n = omega arith

@@ -1,7 +1,7 @@
 -- The laws. They hold whatever the commands are: `prog` is their table.
 use Rattle.std.specs.Prelude.{length, nat_le, ◌≡◌, ℕ, zero, suc, ◌≤◌, ◌+◌, Bool, true, false, List, [], ◌∷◌, ◌++◌, Option, Some, None}
 use Rattle.tcl_core.specs.Paths.{Path, Place, Height, strip, rise_to}
-use Rattle.tcl_core.specs.Endings.{Meter, Reply}
+use Rattle.tcl_core.specs.Endings.{Meter, Completion, Reply, IsQuit}
 use Rattle.tcl_core.specs.Endings.Meter.{Count, Depth}
 use Rattle.tcl_core.specs.Endings.Reply.{Stop, Exit, Cut}
 use Rattle.tcl_core.specs.Entries.{Entry}
@@ -10,6 +10,7 @@ use Rattle.tcl_core.specs.Trees.{asked, effect, Grant, Grants, Tree, Node, What,
 use Rattle.tcl_core.specs.Trees.Grants.{Listed, Budget}
 use Rattle.tcl_core.specs.Trees.What.{Charged, Refused, Limited, Made, Dropped, Out, In, Done, Back}
 use Rattle.tcl_core.specs.Programs.{Prog, Table}
+use Rattle.tcl_core.specs.Programs.Prog.{go}
 use Rattle.tcl_core.specs.Runs.{World, Ending, Runs, Visits}
 use Rattle.tcl_core.specs.Views.{grants_of, moves_of, steps_of, view, inside_of}
 use Rattle.tcl_core.specs.Tables.{AllCall, Discipline, Keeps_to, IsGood, AreTame, AreAllowed}
@@ -285,3 +286,13 @@ AllAgree O I = (prog : Table O I) (c : Place) (w v z y : World O) (t t2 : Path) 
     Visits prog (Runs prog) z None t2 i2 y (Some r2) → y.moves ≡ [] → y.tape ≡ [] → IsStanding c z.tape → IsUncut (view c z.tape) →
     at w.tree c ≡ at z.tree c → moves_of (view c w.tape) ≡ moves_of (view c z.tape) →
     (view c w.tape ≡ view c z.tape) × (outs_of (view c w.tape) ≡ outs_of (view c z.tape)) × (at v.tree c ≡ at y.tree c)
+
+-- Under a budget no more steps are made than it has, and what is left of it is what they left.
+abbrev pub Bounded : Type 0 → Type 0 → Type 0
+Bounded O I = (prog : Table O I) (w v : World O) (p : Place) (x : Prog O I) (e : Ending) (n : ℕ) →
+    Runs prog w p x v e → w.grants ≡ Budget n → v.tape ≡ [] → (k : ℕ) × (v.grants ≡ Budget k) × (k + steps_of w.tape ≡ n)
+
+-- What is no completion passes: where an inner evaluation ends by a stop, an exit or a cut, the whole ends by it, whatever was to follow.
+abbrev pub Passing : Type 0 → Type 0 → Type 0
+Passing O I = (prog : Table O I) (w u v : World O) (p : Place) (i : I) (k : Completion → Prog O I) (r : Reply) (e : Ending) →
+    IsQuit r → Runs prog w p (prog.program i) u (Some r) → Runs prog w p (go i k) v e → e ≡ Some r

@@ -3,7 +3,7 @@
 #![tactic(auto)]
 
 ghost use Rattle.tcl_core.specs.Example.{WorkedLife};
-ghost use Rattle.tcl_core.specs.Laws.{AllAgree, Counting, Determinism, Disciplined, Happenings, Inner, Isolation, Limiting, LivesWithin, Moments, MoreMoves, NonInterference, QuietOutside, Stopping, TwoWorlds};
+ghost use Rattle.tcl_core.specs.Laws.{AllAgree, Bounded, Counting, Determinism, Disciplined, Happenings, Inner, Isolation, Limiting, LivesWithin, Moments, MoreMoves, NonInterference, Passing, QuietOutside, Stopping, TwoWorlds};
 ghost use Rattle.tcl_core.specs.Meaning.{RulesAreRuns, ThreadsAreRuns, Unrolling};
 
 /// A run is what `Unrolled` says of runs.
@@ -94,6 +94,16 @@ pub fn two_worlds<O, I>()
 /// Two worlds in which a subtree is the same, and is handed the same: all that happens there is the same, and what is left.
 pub fn all_agree<O, I>()
     ensures { AllAgree O I }
+{}
+
+/// Under a budget no more steps are made than it has.
+pub fn bounded<O, I>()
+    ensures { Bounded O I }
+{}
+
+/// Where an inner evaluation ends by a stop, an exit or a cut, the whole ends by it.
+pub fn passing<O, I>()
+    ensures { Passing O I }
 {}
 
 /// A worked life: what it does, and what it is to the child in it.
