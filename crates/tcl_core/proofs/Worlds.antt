@@ -1,0 +1,140 @@
+-- Two worlds in which a subtree is the same and is first handed the same.
+use Rattle.std.proofs.Common.{sym, ◌≡◌, ◌⊎◌, inl, inr, ℕ, zero, suc, ℤ, ◌+◌, Bool, true, false, List, [], ◌∷◌, ◌++◌, Option, Some, None, length, refl, ◌∙◌, ap, subst, arith, append-nil}
+use Rattle.tcl_core.specs.Paths.{Path, Place, Height, strip}
+use Rattle.tcl_core.specs.Endings.{Reply}
+use Rattle.tcl_core.specs.Endings.Reply.{Completed, Stop, Exit, Cut}
+use Rattle.tcl_core.specs.Entries.{Entry}
+use Rattle.tcl_core.specs.Trees.{Tree, What, Event, Move, at}
+use Rattle.tcl_core.specs.Trees.Grants.{Budget}
+use Rattle.tcl_core.specs.Trees.What.{Made, Dropped, In, Done}
+use Rattle.tcl_core.specs.Trees.Move.{Born, Fall, Enter, Come}
+use Rattle.tcl_core.specs.Programs.{Prog, Table}
+use Rattle.tcl_core.specs.Programs.Prog.{wait}
+use Rattle.tcl_core.specs.Runs.{World, Ending, Halts, Exits, Stays, Visits, Waits, Runs, RunsIn, entering}
+use Rattle.tcl_core.specs.Rules.{Derives}
+use Rattle.tcl_core.specs.Rules.Derives.{unanswered}
+use Rattle.tcl_core.specs.Views.{moves_of, steps_of, view, inside_of}
+use Rattle.tcl_core.specs.Lives.{Lives, Outcome, idle, never, outs_of}
+use Rattle.tcl_core.specs.Lives.Outcome.{Finished}
+use Rattle.tcl_core.specs.Laws.{AllAgree, TwoWorlds, AtMove, IsStanding, IsUncut, outcome_of, ending_of, Uncut}
+use Rattle.tcl_core.proofs.RuleLaws.{Ruled, derived_runs, runs_derived, enter_rule}
+use Rattle.tcl_core.proofs.Budgets.{budgeted}
+use Rattle.tcl_core.proofs.Balance.{ins, dones, Owes, owes, visit_owes, view_ins, view_dones}
+use Rattle.tcl_core.proofs.Reacting.{IsHanded, IsLasting, lasting, lasts, no_move, exits_idle, visit_budget, after_visit, balanced_after, never_halts, lift_visits, life_of}
+use Rattle.tcl_core.proofs.Outside.{halted_tape}
+use Rattle.tcl_core.proofs.Parting.{cut, Beyond, Stops, Goes, Result, Run_of, part}
+use Rattle.tcl_core.proofs.Conclusions.{determinism, lives_within}
+
+abbrev halted : Ending
+halted = None
+
+module _ {O : Type 0} where
+  exits_still : (u : World O) (n : ℤ) (ms : List (Move O)) (y : World O) → Halts u y None → Exits u [] idle n ms y None
+  exits_still u n [] y a = a
+  exits_still u n (Come x ∷ ms) y a = a
+  exits_still u n (Born o b ∷ ms) y a = a
+  exits_still u n (Fall ∷ ms) y a = a
+  exits_still u n (Enter t i ∷ ms) y a = a
+
+  at_move : (left : List (Move O)) (rest : List (Event O)) → Beyond left rest → AtMove rest
+  at_move left rest (inl e) = subst AtMove (sym e) tt
+  at_move left rest (inr e) = e.1
+
+module _ {O I : Type 0} (prog : Table O I) (k : ℕ) where
+  abbrev bud : World O → World O
+  bud w = budgeted k w
+
+  abbrev Life_of : World O → World O → Type 0
+  Life_of z y = Derives prog (bud z) [] (wait idle never) (bud y) None
+
+  abbrev Living : ℕ → Type 0
+  Living n = (z y : World O) → IsHanded z → IsLasting z.tape → IsUncut z.tape → ins [] z.tape ≡ dones [] z.tape → y.tape ≡ [] → RunsIn prog n z [] (wait idle never) y None → Life_of z y
+
+  ruled_visit : (z : World O) (t : Path) (i : Entry) (u : World O) (r : Reply) → Visits prog (Runs prog) z None t i u (Some r) → Visits prog (Ruled prog) z None t i u (Some r)
+  ruled_visit z t i u r a = record { entered = a.entered; left = a.left; entry = a.entry; run = runs_derived prog a.entered t (entering prog (z.tree t) i) a.left (Some r) a.run; leaving = a.leaving }
+
+  ended : (z y : World O) → IsHanded z → Halts z y None → Life_of z y
+  ended z y a h = subst (λ u. Derives prog (bud z) [] (wait idle never) (bud u) None) (sym h.same) (unanswered (bud z) [] idle never refl (a ∙ ap moves_of h.tape) h.tape)
+
+  goes_on : (n : ℕ) → Living n → (z u y : World O) (t : Path) (i : Entry) (r : Reply) → IsHanded z → IsLasting z.tape → IsUncut z.tape → ins [] z.tape ≡ dones [] z.tape → y.tape ≡ [] →
+      Visits prog (Runs prog) z None t i u (Some r) → Stays (RunsIn prog n) u [] idle never (Some r) y None → Life_of z y
+  goes_on n ih z u y t i (Completed c) a b l d f v s =
+      let j = after_visit prog k z t i u (Completed c) (outcome_of z.tape Finished) refl a b l v in
+      enter_rule prog (bud z) [] idle never t i (bud u) (Some (Completed c)) (bud y) None refl (ruled_visit (bud z) t i (bud u) (Completed c) (visit_budget prog k z t i u (Completed c) l v)) (ih u y j.0 j.1 j.2 (balanced_after prog k z t i u (Completed c) v d) f s)
+  goes_on n ih z u y t i (Stop q m) a b l d f v s =
+      let j = after_visit prog k z t i u (Stop q m) (outcome_of z.tape Finished) refl a b l v in
+      enter_rule prog (bud z) [] idle never t i (bud u) (Some (Stop q m)) (bud y) None refl (ruled_visit (bud z) t i (bud u) (Stop q m) (visit_budget prog k z t i u (Stop q m) l v)) (ih u y j.0 j.1 j.2 (balanced_after prog k z t i u (Stop q m) v d) f s)
+  goes_on n ih z u y t i (Exit q) a b l d f v s =
+      let h : Halts u y None = exits_idle u q u.moves y s in
+      let h2 : Halts (bud u) (bud y) None = record { tape = h.tape; same = ap (budgeted k) h.same; ending = refl } in
+      enter_rule prog (bud z) [] idle never t i (bud u) (Some (Exit q)) (bud y) None refl (ruled_visit (bud z) t i (bud u) (Exit q) (visit_budget prog k z t i u (Exit q) l v)) (exits_still (bud u) q u.moves (bud y) h2)
+  goes_on n ih z u y t i (Cut q) a b l d f v s =
+      let j = after_visit prog k z t i u (Cut q) (outcome_of z.tape Finished) refl a b l v in
+      absurd (j.4 refl)
+
+  living_next : (n : ℕ) → Living n → (z y : World O) → IsHanded z → IsLasting z.tape → IsUncut z.tape → ins [] z.tape ≡ dones [] z.tape → y.tape ≡ [] → (ms : List (Move O)) → z.moves ≡ ms → Waits prog (RunsIn prog n) z [] idle never ms y None → Life_of z y
+  living_next n ih z y a b l d f [] q h = ended z y a h
+  living_next n ih z y a b l d f (Come w ∷ ms) q h = no_move z (Come w) ms a q h.tape
+  living_next n ih z y a b l d f (Born o s ∷ ms) q (u, t, h) = lasts z (Made o s) u t b (λ g. absurd (g refl))
+  living_next n ih z y a b l d f (Fall ∷ ms) q (u, t, h) = lasts z Dropped u t b (λ g. absurd (g refl))
+  living_next n ih z y a b l d f (Enter t i ∷ ms) q (u, None, v, s) = never_halts prog k z t i u (lift_visits prog k n z t i u None v) d (ap (λ w. w.tape) (sym s.0) ∙ f)
+  living_next n ih z y a b l d f (Enter t i ∷ ms) q (u, Some r, v, s) = goes_on n ih z u y t i r a b l d f (lift_visits prog k n z t i u (Some r) v) s
+
+  pub living : (n : ℕ) → Living n
+  living zero z y a b c d f g = absurd g
+  living (suc n) z y a b c d f (g, h) = living_next n (living n) z y a b c d f z.moves refl h
+
+module _ {O I : Type 0} where
+  -- the life of the subtree at c in an evaluation, under a budget
+  life_within : (prog : Table O I) (c : Place) (w v : World O) (t : Path) (i : Entry) (r : Reply) (k : ℕ) → Visits prog (Runs prog) w None t i v (Some r) → v.moves ≡ [] → v.tape ≡ [] → IsStanding c w.tape → IsUncut (view c w.tape) →
+      Derives prog (budgeted k (inside_of c w)) [] (wait idle never) (budgeted k (inside_of c v)) None
+  life_within prog c w v t i r k a e f st un =
+      let l : Lives prog (inside_of c w) (inside_of c v) None = lives_within prog c w v (life_of prog w v t i r a e f) in
+      let o : Owes c w v (Some r) = visit_owes c w a.entered a.left v None t i r a.entry (owes c prog (runs_derived prog a.entered t (entering prog (w.tree t) i) a.left (Some r) a.run)) a.leaving in
+      let s : ins c w.tape + dones c v.tape ≡ dones c w.tape + ins c v.tape + o.open_ins = o.sum in
+      let n : o.open_ins ≡ 0 = o.none_left r refl in
+      let p : ins c v.tape ≡ 0 = ap (ins c) f in
+      let q : dones c v.tape ≡ 0 = ap (dones c) f in
+      let b : ins c w.tape ≡ dones c w.tape = omega arith in
+      living prog k l.0 (inside_of c w) (inside_of c v) refl (lasting c w.tape st) un (view_ins c w.tape ∙ b ∙ sym (view_dones c w.tape)) (ap (view c) f) l.1
+
+  -- a life that halts, with the first moves alone
+  first_part : (prog : Table O I) (w v : World O) (a b : List (Move O)) → Derives prog w [] (wait idle never) v None → w.moves ≡ a ++ b → Stops w (Run_of prog w a [] (wait idle never))
+  first_part prog w v a b d m = by (part prog d a b m)
+    where
+      by : Result w v (Run_of prog w a [] (wait idle never)) None b → Stops w (Run_of prog w a [] (wait idle never))
+      by (inr g) = g
+      by (inl g) = record {
+        made = g.made;
+        rest = [];
+        last = cut v g.left [];
+        tape = g.tape ∙ ap (λ τ. g.made ++ τ) (halted_tape prog d refl);
+        runs = subst (λ τ. Derives prog (cut w a τ) [] (wait idle never) (cut v g.left []) None) (append-nil g.made) (g.runs []);
+        beyond = inl refl;
+      }
+
+  pub two_worlds : TwoWorlds O I
+  two_worlds prog c w v z y t t2 i i2 r r2 ms a b v1 e1 f1 s1 u1 v2 e2 f2 s2 u2 same m1 m2 =
+      let n1 : ℕ = steps_of (view c w.tape) in
+      let n2 : ℕ = steps_of (view c z.tape) in
+      let d1 : Derives prog (budgeted n2 (inside_of c w)) [] (wait idle never) (budgeted n2 (inside_of c v)) None = life_within prog c w v t i r n2 v1 e1 f1 s1 u1 in
+      let d2 : Derives prog (budgeted n1 (inside_of c z)) [] (wait idle never) (budgeted n1 (inside_of c y)) None = life_within prog c z y t2 i2 r2 n1 v2 e2 f2 s2 u2 in
+      let g1 : Stops (budgeted n2 (inside_of c w)) (Run_of prog (budgeted n2 (inside_of c w)) ms [] (wait idle never)) = first_part prog (budgeted n2 (inside_of c w)) (budgeted n2 (inside_of c v)) ms a d1 m1 in
+      let g2 : Stops (budgeted n1 (inside_of c z)) (Run_of prog (budgeted n1 (inside_of c z)) ms [] (wait idle never)) = first_part prog (budgeted n1 (inside_of c z)) (budgeted n1 (inside_of c y)) ms b d2 m2 in
+      let sum : n1 + n2 ≡ n2 + n1 = omega arith in
+      let h : (g1.made ≡ g2.made) × (g1.last ≡ g2.last) × (halted ≡ halted) =
+      determinism prog (cut (budgeted n2 (inside_of c w)) ms g1.made) (cut (budgeted n1 (inside_of c z)) ms g2.made) [] (wait idle never) g1.last g2.last None None same refl (ap Budget sum)
+      (derived_runs prog g1.runs) (derived_runs prog g2.runs) (halted_tape prog g1.runs refl) (halted_tape prog g2.runs refl) in
+      (g1.made, g1.rest, g2.rest, g1.tape, g2.tape ∙ ap (λ τ. τ ++ g2.rest) (sym h.0), at_move g1.last.moves g1.rest g1.beyond, at_move g2.last.moves g2.rest g2.beyond)
+
+  pub all_agree : AllAgree O I
+  all_agree prog c w v z y t t2 i i2 r r2 v1 e1 f1 s1 u1 v2 e2 f2 s2 u2 same m =
+      let n1 : ℕ = steps_of (view c w.tape) in
+      let n2 : ℕ = steps_of (view c z.tape) in
+      let d1 : Derives prog (budgeted n2 (inside_of c w)) [] (wait idle never) (budgeted n2 (inside_of c v)) None = life_within prog c w v t i r n2 v1 e1 f1 s1 u1 in
+      let d2 : Derives prog (budgeted n1 (inside_of c z)) [] (wait idle never) (budgeted n1 (inside_of c y)) None = life_within prog c z y t2 i2 r2 n1 v2 e2 f2 s2 u2 in
+      let sum : n1 + n2 ≡ n2 + n1 = omega arith in
+      let h : (view c w.tape ≡ view c z.tape) × (budgeted n2 (inside_of c v) ≡ budgeted n1 (inside_of c y)) × (halted ≡ halted) =
+      determinism prog (budgeted n2 (inside_of c w)) (budgeted n1 (inside_of c z)) [] (wait idle never) (budgeted n2 (inside_of c v)) (budgeted n1 (inside_of c y)) None None same m (ap Budget sum)
+      (derived_runs prog d1) (derived_runs prog d2) (ap (view c) f1) (ap (view c) f2) in
+      (h.0, ap outs_of h.0, ap (λ u. u.tree) h.1)

@@ -1,0 +1,5 @@
+use Rattle.tcl_core.proofs.Conclusions.{passing}
+use Rattle.tcl_core.proofs.passing.Goals as goal
+
+pub returns : goal.returns
+returns g c = passing

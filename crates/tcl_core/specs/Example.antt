@@ -1,0 +1,133 @@
+-- A small life, step by step: the outside has the root evaluate a script, which has its child set its one variable to 7.
+-- An interpreter's own part is a number here, its variable; what can go on in one is one of two scripts.
+use Rattle.std.specs.Prelude.{◌≡◌, ℕ, true, false, List, [], ◌∷◌, Some, None}
+use Rattle.tcl_core.specs.Paths.{Text, Place}
+use Rattle.tcl_core.specs.Endings.{Completion, ok, error}
+use Rattle.tcl_core.specs.Endings.Reply.{Completed}
+use Rattle.tcl_core.specs.Entries.{Entry, Said}
+use Rattle.tcl_core.specs.Entries.Entry.{Eval}
+use Rattle.tcl_core.specs.Entries.Said.{Finished, Told}
+use Rattle.tcl_core.specs.Entries.Answer.{Replied}
+use Rattle.tcl_core.specs.Trees.{Node, Tree, Event, What, Move, effect}
+use Rattle.tcl_core.specs.Trees.Grants.{Budget}
+use Rattle.tcl_core.specs.Trees.What.{Changed, Charged, Nested, Unnested, Out, In, Done, Back}
+use Rattle.tcl_core.specs.Trees.Move.{Enter}
+use Rattle.tcl_core.specs.Programs.{Prog, Table}
+use Rattle.tcl_core.specs.Programs.Act.{Charge, Change}
+use Rattle.tcl_core.specs.Programs.Wrap.{Deeper}
+use Rattle.tcl_core.specs.Programs.Prog.{done, act, inside, call, wait}
+use Rattle.tcl_core.specs.Runs.{World, Runs}
+use Rattle.tcl_core.specs.Views.{moves_of, view}
+use Rattle.tcl_core.specs.Lives.{idle, never, outs_of}
+use Rattle.tcl_core.specs.Threads.{event}
+
+pub data Script : Type 0 where
+  SetSeven : Script
+  TellChild : Script
+
+abbrev pub child : Text
+child = 99 ∷ []
+
+-- the empty text sets the variable, and every other one tells the child
+abbrev pub script_of : Text → Script
+script_of [] = SetSeven
+script_of (x ∷ t) = TellChild
+
+abbrev pub lost : Completion
+lost = error []
+
+abbrev pub finish : Said → Prog ℕ Script
+finish (Finished c) = done c
+finish (Told a) = done lost
+
+abbrev pub program : Script → Prog ℕ Script
+program SetSeven = act Charge (λ T. act (Change 7) (λ U. done (ok [])))
+program TellChild = act Charge (λ T. call (Some 0) (child ∷ []) (Eval []) lost finish)
+
+abbrev pub entry : Entry → Prog ℕ Script
+entry (Eval t) = inside Deeper (script_of t) done
+entry i = done lost
+
+abbrev pub commands : Table ℕ Script
+commands = record { program = program; entry = entry; lost = lost }
+
+abbrev pub root : Node ℕ
+root = record { own = 0; safe = false; root = true; count = 0; limit = None; depth = 0; depth_limit = 1000 }
+
+abbrev pub safe_child : Node ℕ
+safe_child = record { own = 0; safe = true; root = false; count = 0; limit = Some 3; depth = 0; depth_limit = 200 }
+
+abbrev pub first_tree : Tree ℕ
+first_tree [] = Some root
+first_tree (x ∷ []) = Some safe_child
+first_tree (x ∷ y ∷ p) = None
+
+abbrev pub tell : Entry
+tell = Eval (1 ∷ [])
+
+-- all that happens
+abbrev pub log : List (Event ℕ)
+log =
+    event [] (In None tell) ∷ event [] Nested ∷ event [] Charged ∷ event [] (Out (Some 0) (child ∷ []) (Eval []))
+    ∷ event (child ∷ []) (In (Some 1) (Eval [])) ∷ event (child ∷ []) Nested ∷ event (child ∷ []) Charged ∷ event (child ∷ []) (Changed 7)
+    ∷ event (child ∷ []) Unnested ∷ event (child ∷ []) (Done (Some 1) (Completed (ok [])))
+    ∷ event [] (Back (Some 0) (Replied (Completed (ok [])))) ∷ event [] Unnested ∷ event [] (Done None (Completed (ok []))) ∷ []
+
+abbrev pub start : World ℕ
+start = record { tree = first_tree; moves = Enter [] tell ∷ []; grants = Budget 2; tape = log }
+
+abbrev pub tail : List (Event ℕ) → List (Event ℕ)
+tail [] = []
+tail (x ∷ xs) = xs
+
+-- the world after the next happening
+abbrev pub next : Place → What ℕ → List (Move ℕ) → ℕ → World ℕ → World ℕ
+next p x ms b w = record { tree = effect p x w.tree; moves = ms; grants = Budget b; tape = tail w.tape }
+
+abbrev pub w1 : World ℕ
+w1 = next [] (In None tell) [] 2 start
+
+abbrev pub w2 : World ℕ
+w2 = next [] Nested [] 2 w1
+
+abbrev pub w3 : World ℕ
+w3 = next [] Charged [] 1 w2
+
+abbrev pub w4 : World ℕ
+w4 = next [] (Out (Some 0) (child ∷ []) (Eval [])) [] 1 w3
+
+abbrev pub w5 : World ℕ
+w5 = next (child ∷ []) (In (Some 1) (Eval [])) [] 1 w4
+
+abbrev pub w6 : World ℕ
+w6 = next (child ∷ []) Nested [] 1 w5
+
+abbrev pub w7 : World ℕ
+w7 = next (child ∷ []) Charged [] 0 w6
+
+abbrev pub w8 : World ℕ
+w8 = next (child ∷ []) (Changed 7) [] 0 w7
+
+abbrev pub w9 : World ℕ
+w9 = next (child ∷ []) Unnested [] 0 w8
+
+abbrev pub w10 : World ℕ
+w10 = next (child ∷ []) (Done (Some 1) (Completed (ok []))) [] 0 w9
+
+abbrev pub w11 : World ℕ
+w11 = next [] (Back (Some 0) (Replied (Completed (ok [])))) [] 0 w10
+
+abbrev pub w12 : World ℕ
+w12 = next [] Unnested [] 0 w11
+
+abbrev pub w13 : World ℕ
+w13 = next [] (Done None (Completed (ok []))) [] 0 w12
+
+-- What is so of it: it is a life; the child has its variable, and was charged for one command of the two; its own life is handed one
+-- entry and tells of one end.
+pub record WorkedLife : Type 0 where
+  pub life : Runs commands start [] (wait idle never) w13 None
+  pub child_ends : w13.tree (child ∷ []) ≡ Some (record safe_child { own = 7; count = 1 })
+  pub root_ends : w13.tree [] ≡ Some (record root { count = 2 })
+  pub child_is_handed : moves_of (view (child ∷ []) log) ≡ Enter [] (Eval []) ∷ []
+  pub child_tells : outs_of (view (child ∷ []) log) ≡ event [] (Done None (Completed (ok []))) ∷ []
