@@ -1,3 +1,5 @@
+pub mod Files
 pub mod Hosts
 pub mod Modes
+pub mod Names
 pub mod Replies

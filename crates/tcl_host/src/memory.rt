@@ -1,0 +1,3 @@
+//! A host whose files and channels are in memory.
+
+mod files;
