@@ -1,5 +1,5 @@
 -- A map with text keys, as a finite map from names.
-use Rattle.std.proofs.Common.{◌≡◌, ℕ, Bool, true, false, cond, List, [], ◌∷◌, map, Option, None, Some, IsSome, Result, Ok, Err, OnOk, OnErr, refl, sym, ap, ◌∙◌}
+use Rattle.std.proofs.Common.{◌≡◌, ℕ, Bool, true, false, cond, List, [], ◌∷◌, map, Option, None, Some, IsSome, IfSome, Result, Ok, Err, OnOk, OnErr, refl, sym, ap, subst, ◌∙◌}
 use Rattle.std.specs.Cmp.Lexicographic.{slice_cmp, nat_list_cmp_total, nat_list_eq_equiv}
 use Rattle.std.specs.Ordering.{nat_cmp, eq_by_cmp, is_eq}
 use Rattle.std.specs.FinMap.{FinMap, empty, get, insert, remove, find, from_entries, get-from_entries, get-insert, get-remove, same_map, nat_cmp-IsAntisymmetric, slice_cmp-IsAntisymmetric, IsAntisymmetric}
@@ -7,6 +7,8 @@ use Rattle.std.specs.HashMap.{HashMap, get_by_text, UpdatesBy}
 use Rattle.std.specs.declared.cmp.Ordering.{Ordering}
 use Rattle.std.specs.declared.cmp.Ordering.TheVariants.{Less, Equal, Greater}
 use Rattle.std.specs.Map.{lookup, update}
+use Rattle.std.specs.Option.{ForSome}
+use Rattle.std.specs.Bool.{OnTrue}
 use Rattle.std.specs.Str.{bytes_eq}
 use Rattle.std.specs.declared.string.String.{String}
 use Rattle.std.specs.String.{string_bytes, string_eq}
@@ -100,3 +102,15 @@ on_ok_as (Err e) f p = p
 pub on_err_as : {T E P Q : Type 0} (r : Result T E) → (P → Q) → OnErr r P → OnErr r Q
 on_err_as (Ok x) f p = p
 on_err_as (Err e) f p = f p
+
+-- what is said of a value that is there
+pub for_some_at : {A : Type 0} (o : Option A) (x : A) (P : A → Type 0) → Some x ≡ o → ForSome o P → P x
+for_some_at o x P e h = h x (sym e)
+
+pub if_some_at : {A : Type 0} (o : Option A) (x : A) (P : A → Type 0) → Some x ≡ o → P x → IfSome o P
+if_some_at {A} o x P e h = subst (λ (p : Option A). IfSome p P) e h
+
+-- what holds anyway
+pub on_true_of : {P : Type 0} (b : Bool) → P → OnTrue b P
+on_true_of true p = p
+on_true_of false p = tt

@@ -1,3 +1,4 @@
+pub mod Channels
 pub mod Files
 pub mod Hosts
 pub mod Modes

@@ -1,3 +1,5 @@
 //! A host whose files and channels are in memory.
 
+mod channel;
+mod channels;
 mod files;
