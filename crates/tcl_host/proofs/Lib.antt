@@ -1,1 +1,4 @@
 pub mod NameLemmas
+pub mod TakenLemmas
+pub mod FileLemmas
+pub mod StoreLemmas

@@ -1,5 +1,5 @@
 -- A map with text keys, as a finite map from names.
-use Rattle.std.proofs.Common.{◌≡◌, ℕ, Bool, true, false, cond, List, [], ◌∷◌, map, Option, None, Some, IsSome, IfSome, Result, Ok, Err, OnOk, OnErr, refl, sym, ap, subst, ◌∙◌}
+use Rattle.std.proofs.Common.{◌≡◌, ℕ, Bool, true, false, cond, List, [], ◌∷◌, map, Option, None, Some, IsSome, is_some, IfSome, Result, Ok, Err, OnOk, OnErr, refl, sym, ap, subst, ◌∙◌}
 use Rattle.std.specs.Cmp.Lexicographic.{slice_cmp, nat_list_cmp_total, nat_list_eq_equiv}
 use Rattle.std.specs.Ordering.{nat_cmp, eq_by_cmp, is_eq}
 use Rattle.std.specs.FinMap.{FinMap, empty, get, insert, remove, find, from_entries, get-from_entries, get-insert, get-remove, same_map, nat_cmp-IsAntisymmetric, slice_cmp-IsAntisymmetric, IsAntisymmetric}
@@ -9,6 +9,7 @@ use Rattle.std.specs.declared.cmp.Ordering.TheVariants.{Less, Equal, Greater}
 use Rattle.std.specs.Map.{lookup, update}
 use Rattle.std.specs.Option.{ForSome}
 use Rattle.std.specs.Bool.{OnTrue}
+use Rattle.std.proofs.lemmas.Bool.{cond-true}
 use Rattle.std.specs.Str.{bytes_eq}
 use Rattle.std.specs.declared.string.String.{String}
 use Rattle.std.specs.String.{string_bytes, string_eq}
@@ -114,3 +115,10 @@ if_some_at {A} o x P e h = subst (λ (p : Option A). IfSome p P) e h
 pub on_true_of : {P : Type 0} (b : Bool) → P → OnTrue b P
 on_true_of true p = p
 on_true_of false p = tt
+
+pub is_some_at : {A : Type 0} (x : A) (o : Option A) → Some x ≡ o → IsSome o
+is_some_at x o e = sym (ap is_some e)
+
+-- what was put at a name is there
+pub get-insert-same : {X : Type 0} (f : Named X) (bs : List ℕ) (w : X) → get (insert f bs w) bs ≡ Some w
+get-insert-same f bs w = get-insert nat_list_cmp_total f bs w bs ∙ cond-true (eq_by_cmp (slice_cmp nat_cmp) bs bs) _ _ (same_test bs bs ∙ nat_list_eq_equiv.refl bs)

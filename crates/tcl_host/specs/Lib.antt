@@ -4,3 +4,4 @@ pub mod Hosts
 pub mod Modes
 pub mod Names
 pub mod Replies
+pub mod Stores

@@ -3,3 +3,5 @@
 mod channel;
 mod channels;
 mod files;
+mod store;
+mod taken;

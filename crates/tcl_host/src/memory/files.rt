@@ -1,9 +1,9 @@
 //! Files in memory.
-ghost use Rattle.std.specs.Prelude.{◌≡◌, ◌++◌, OnOk, OnErr, IsSome, []};
+ghost use Rattle.std.specs.Prelude.{◌≡◌, [], not, IsSome, IfOk, OnOk, OnErr};
 ghost use Rattle.std.specs.Option.{option_map};
 ghost use Rattle.std.specs.String.{string_bytes};
 ghost use Rattle.std.specs.FinMap as map;
-ghost use Rattle.tcl_host.specs.Files.{content_of};
+ghost use Rattle.tcl_host.specs.Files.{content_of, appended, made};
 
 use std::alloc::{AllocError, Global};
 use std::marker::Model;
@@ -48,6 +48,16 @@ impl Files {
         Some(bytes.as_slice())
     }
 
+    /// What a file holds; nothing where it is missing.
+    pub fn content(&self, name: &str) -> &[u8]
+        ensures { result.now ≡ content_of self.now name.now }
+    {
+        match self.get(name) {
+            Some(bytes) => bytes,
+            None => &[],
+        }
+    }
+
     /// Puts a file in the place of any that has its name.
     ///
     /// # Errors
@@ -60,17 +70,33 @@ impl Files {
         Ok(())
     }
 
-    /// Adds bytes at the end of a file, in place.
+    /// Makes an empty file where the name is missing, and says whether it was.
+    ///
+    /// # Errors
+    /// Want of memory, which leaves the files as they were.
+    pub fn make(&mut self, alloc: Global, name: &str) -> Result<bool, AllocError>
+        ensures missing { IfOk result (λ was_missing. was_missing ≡ not (map.contains_key self.old name.now)) }
+        ensures made { OnOk result (self.new ≡ made self.old name.now) }
+        ensures unchanged { OnErr result (self.new ≡ self.old) }
+    {
+        if self.get(name).is_some() {
+            return Ok(false);
+        }
+        let key = String::from_str(alloc, name)?;
+        self.put(key, Bytes::new(alloc))?;
+        Ok(true)
+    }
+
+    /// Adds bytes at the end of a file that is there, in place.
     ///
     /// # Errors
     /// Want of memory, which leaves the files as they were.
     pub fn append(&mut self, name: &str, more: &[u8]) -> Result<(), AllocError>
-        requires { IsSome (map.get self.old name.now) }
-        ensures appended { OnOk result (self.new ≡ map.insert self.old name.now (content_of self.old name.now ++ more.now)) }
+        ensures appended { OnOk result (self.new ≡ appended self.old name.now more.now) }
         ensures unchanged { OnErr result (self.new ≡ self.old) }
     {
         let Some(bytes) = self.entries.get_mut(name) else {
-            unreachable!()
+            return Ok(());
         };
         bytes.append(more)
     }
@@ -84,5 +110,12 @@ impl Files {
             unreachable!()
         };
         bytes.clear();
+    }
+
+    /// Takes a file away.
+    pub fn remove(&mut self, name: &str)
+        ensures { self.new ≡ map.remove self.old name.now }
+    {
+        let _ = self.entries.swap_remove(name);
     }
 }
