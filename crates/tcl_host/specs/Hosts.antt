@@ -17,7 +17,7 @@ last_count = 2 ^ 64 - 1
 pub record IsLawful (before after : ℕ) (request : Request) (reply : HostReply) : Type 0 where
   pub fits : IsTrue (is_reply_to reply request)
   pub never_falls : before ≤ after
-  pub fault_counted : reply ≡ Refused DeviceFault → (before < after) ⊎ (before ≡ last_count)
+  pub fault_counted : reply ≡ Refused DeviceFault → (before < after) ⊎ (last_count ≤ before)
 
 -- A method's result is a step of the host by the reply that it stands for; want of memory is no reply, and leaves the host as it was.
 abbrev pub Replied : {A S : Type 0} → (S → HostReply → S → Type 0) → (A → HostReply) → S → Result A HostError → S → Type 0

@@ -1,6 +1,8 @@
 pub mod Channels
 pub mod Files
 pub mod Hosts
+pub mod MemoryHost
+pub mod MemoryHostLaws
 pub mod Modes
 pub mod Names
 pub mod Replies
