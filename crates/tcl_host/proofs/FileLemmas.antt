@@ -1,7 +1,7 @@
 -- Files, where one is there or missing.
-use Rattle.std.proofs.Common.{◌≡◌, ℕ, Bool, true, false, not, List, [], ◌++◌, Option, Some, None, IsSome, is_some, if◌then◌else◌, refl, sym, ap, ◌∙◌, subst}
+use Rattle.std.proofs.Common.{◌≡◌, ℕ, Bool, true, false, List, [], ◌++◌, Option, Some, None, IsSome, is_some, if◌then◌else◌, refl, sym, ap, ◌∙◌}
 use Rattle.std.specs.FinMap.{get, insert, remove, contains_key}
-use Rattle.tcl_host.specs.Files.{content_of, appended, appended_to, made}
+use Rattle.tcl_host.specs.Files.{appended, appended_to, made}
 use Rattle.std.proofs.lemmas.Bool.{cond-false}
 use Rattle.tcl_host.specs.Names.{Named}
 use Rattle.tcl_host.proofs.NameLemmas.{insert-same, remove-insert, get-insert-same, is_some_at}

@@ -5,7 +5,7 @@ use Rattle.tcl_host.specs.Files.{made}
 use Rattle.tcl_host.specs.Names.{Named}
 use Rattle.tcl_host.specs.Stores.{opened}
 use Rattle.tcl_host.specs.declared.memory.store.Store.{Store}
-use Rattle.tcl_host.specs.declared.open_mode.OpenMode.TheVariants.{Read, Write, Append}
+use Rattle.tcl_host.specs.declared.open_mode.OpenMode.TheVariants.{Write, Append}
 use Rattle.tcl_host.proofs.FileLemmas.{remove-made, get-made, insert-made}
 
 not_there : (b m : Bool) → m ≡ not b → m ≡ true → b ≡ false

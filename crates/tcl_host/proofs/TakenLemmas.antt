@@ -1,11 +1,10 @@
 -- What one read of a line takes, by the place of the first newline.
-use Rattle.std.proofs.Common.{◌≡◌, ℕ, ◌+◌, ◌<◌, ◌≤◌, ◌≢◌, Bool, true, false, List, [], ◌∷◌, length, take, get_or, Option, Some, None, refl, sym, ap, ◌∙◌, arith, nat_lt}
+use Rattle.std.proofs.Common.{◌≡◌, ℕ, ◌+◌, ◌<◌, true, false, List, [], ◌∷◌, length, take, Some, None, sym, ap, ◌∙◌, arith, nat_lt}
 use Rattle.std.proofs.lemmas.Bool.{false_from_ne_true, cond-true, cond-false, lt-ltb, le-ltb}
 use Rattle.std.proofs.lemmas.List.Sums.{position_or_len_is}
 use Rattle.std.specs.List.{position_or_len}
 use Rattle.memchr.specs.Find.{IsFirstByte, is_byte}
 use Rattle.tcl_host.specs.Stores.{take_line, take_line_of, is_newline}
-use Rattle.tcl_host.specs.declared.memory.taken.Taken.{Taken}
 
 -- the first newline stands after as many bytes
 first_newline : (rest : List ℕ) (k : ℕ) → IsFirstByte (is_byte 10) rest (Some k) → position_or_len is_newline rest ≡ k
@@ -16,12 +15,14 @@ no_newline : (rest : List ℕ) → IsFirstByte (is_byte 10) rest None → positi
 no_newline rest h =
     position_or_len_is is_newline rest (length rest) 0 (omega arith) (λ j lt. false_from_ne_true _ (h j (omega arith) lt)) (λ lt. absurd (omega arith))
 
-line_before : (n k : ℕ) (rest : List ℕ) → n ≡ k → k < length rest
+-- a line that ends before the end
+pub line_before : (n k : ℕ) (rest : List ℕ) → n ≡ k → k < length rest
     → take_line_of n rest ≡ record { answer = Some (take k rest); count = k + 1; ended = false }
 line_before n k rest e lt =
     ap (λ (m : ℕ). take_line_of m rest) e ∙ cond-true (nat_lt k (length rest)) _ _ (lt-ltb k (length rest) lt)
 
-line_of_all : (n : ℕ) (rest : List ℕ) → n ≡ length rest
+-- all that is left
+pub line_of_all : (n : ℕ) (rest : List ℕ) → n ≡ length rest
     → take_line_of n rest ≡ record { answer = Some rest; count = length rest; ended = true }
 line_of_all n rest e =
     ap (λ (m : ℕ). take_line_of m rest) e ∙ cond-false (nat_lt (length rest) (length rest)) _ _ (le-ltb (length rest) (length rest) (omega arith))

@@ -1,8 +1,6 @@
 -- Open channels in memory: a finite map from names to channels.
-use Rattle.std.specs.Prelude.{◌≡◌, ℕ, zero, suc, ◌+◌, Bool, List, [], Option, Some, None, refl}
+use Rattle.std.specs.Prelude.{◌≡◌, ℕ, zero, suc, ◌+◌, Bool, List, [], refl}
 use Rattle.std.specs.Coded.{Coded, code_by, coded×, coded_ℕ, coded_bool, coded_list}
-use Rattle.std.specs.FinMap.{get, insert}
-use Rattle.tcl_host.specs.Names.{Named}
 use Rattle.tcl_host.specs.declared.memory.channel.Channel.{Channel}
 use Rattle.tcl_host.specs.declared.memory.channel.Stream.{Stream}
 use Rattle.tcl_host.specs.declared.memory.channel.Stream.TheVariants.{Input, ReadFile, Output, Errors, WriteFile}

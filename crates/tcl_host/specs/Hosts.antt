@@ -1,5 +1,5 @@
 -- What every host keeps to.
-use Rattle.std.specs.Prelude.{◌≡◌, ℕ, ◌<◌, ◌≤◌, ◌^◌, ◌-◌, ◌⊎◌, Bool, true, false, IsTrue, List, Option, Some, None, Result, Ok, Err}
+use Rattle.std.specs.Prelude.{◌≡◌, ℕ, ◌<◌, ◌≤◌, ◌^◌, ◌-◌, ◌⊎◌, IsTrue, List, Option, Some, None, Result, Ok, Err}
 use Rattle.tcl_host.specs.declared.request.Request.{Request}
 use Rattle.tcl_host.specs.declared.reply.Refusal.TheVariants.{DeviceFault}
 use Rattle.tcl_host.specs.declared.reply.HostReply.{HostReply}

@@ -1,6 +1,7 @@
 pub mod Channels
 pub mod Files
 pub mod Hosts
+pub mod Laws
 pub mod MemoryHost
 pub mod MemoryHostLaws
 pub mod Modes

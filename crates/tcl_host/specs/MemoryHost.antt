@@ -1,5 +1,5 @@
 -- A host in memory: what it replies to each request, and what it is afterwards.
-use Rattle.std.specs.Prelude.{◌≡◌, ℕ, ◌+◌, ◌-◌, ◌==◌, nat_lt, List, ◌++◌, Option, Result, Ok, Err, if◌then◌else◌}
+use Rattle.std.specs.Prelude.{ℕ, ◌+◌, ◌-◌, ◌==◌, nat_lt, List, ◌++◌, Option, Result, Ok, Err, if◌then◌else◌}
 use Rattle.std.specs.FinMap.{get, insert}
 use Rattle.tcl_host.specs.Hosts.{last_count}
 use Rattle.tcl_host.specs.Stores.{serve, new_store}

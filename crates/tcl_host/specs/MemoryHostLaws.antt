@@ -1,20 +1,19 @@
 -- The host in memory keeps the laws of a host.
 use Rattle.std.specs.Prelude.{◌≡◌, ℕ, ◌<◌, ◌≤◌, ◌+◌, ◌⊎◌, ◌≢◌, ◌==◌, ◌&&◌, nat_lt, Bool, true, false, IsTrue, List, Option, None, Some, if◌then◌else◌, refl}
-use Rattle.std.proofs.Common.{subst, sym, arith, inl, inr}
+use Rattle.std.proofs.Common.{subst, arith, inl, inr}
 use Rattle.std.proofs.lemmas.Bool.{ltb-false}
 use Rattle.std.specs.FinMap.{get, remove, contains_key}
 use Rattle.tcl_host.specs.Hosts.{IsLawful, last_count, line_reply}
-use Rattle.tcl_host.specs.MemoryHost.{respond, counted, failed, replied}
+use Rattle.tcl_host.specs.MemoryHost.{respond, failed, replied}
 use Rattle.tcl_host.specs.Replies.{is_reply_to}
-use Rattle.tcl_host.specs.Stores.{serve, can_open, channel_name, opened, rest_of, take_line, take_line_of, take_all, read_from, write_on, write_to, flush_on, flush_to, eof_on, eof_at}
+use Rattle.tcl_host.specs.Stores.{serve, can_open, channel_name, opened, rest_of, take_line, take_all, read_from, write_on, write_to, flush_on, flush_to, eof_on, eof_at}
 use Rattle.tcl_host.specs.declared.memory.MemoryHost.{MemoryHost}
 use Rattle.tcl_host.specs.declared.memory.channel.Channel.{Channel}
 use Rattle.tcl_host.specs.declared.memory.channel.Stream.{Stream}
 use Rattle.tcl_host.specs.declared.memory.channel.Stream.TheVariants.{Input, ReadFile, Output, Errors, WriteFile}
 use Rattle.tcl_host.specs.declared.memory.store.Store.{Store}
-use Rattle.tcl_host.specs.declared.open_mode.OpenMode.{OpenMode}
 use Rattle.tcl_host.specs.declared.reply.HostReply.{HostReply}
-use Rattle.tcl_host.specs.declared.reply.HostReply.TheVariants.{Opened, Line, End, Rest, Done, AtEnd, Refused}
+use Rattle.tcl_host.specs.declared.reply.HostReply.TheVariants.{Opened, Rest, Done, Refused}
 use Rattle.tcl_host.specs.declared.reply.Refusal.TheVariants.{NoChannel, DeviceFault, NotOpened}
 use Rattle.tcl_host.specs.declared.request.Request.{Request}
 use Rattle.tcl_host.specs.declared.request.Request.TheVariants.{Open, ReadLine, ReadAll, Write, Flush, Close, Eof}

@@ -1,5 +1,5 @@
 -- The replies of a host, and what is said of each.
-use Rattle.std.specs.Prelude.{◌≡◌, ℕ, ◌<◌, ◌≤◌, ◌⊎◌, Bool, true, false, IsTrue, List, ◌++◌, codes, Result, Ok, Err}
+use Rattle.std.specs.Prelude.{ℕ, Bool, true, false, List, ◌++◌, codes}
 use Rattle.tcl_host.specs.declared.request.Request.{Request}
 use Rattle.tcl_host.specs.declared.request.Request.TheVariants.{Open, ReadLine, ReadAll, Write, Flush, Close, Eof}
 use Rattle.tcl_host.specs.declared.reply.Refusal.{Refusal}

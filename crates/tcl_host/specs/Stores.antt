@@ -1,5 +1,5 @@
 -- Files, channels and standard streams in memory: what each request does to them, and what is replied.
-use Rattle.std.specs.Prelude.{ℕ, ◌+◌, ◌-◌, ◌^◌, ◌<◌, Bool, true, false, ◌&&◌, ◌==◌, nat_lt, List, [], ◌∷◌, ◌++◌, length, take, drop, Option, None, Some, Result, Ok, Err, codes, if◌then◌else◌}
+use Rattle.std.specs.Prelude.{ℕ, ◌+◌, Bool, true, false, ◌&&◌, ◌==◌, nat_lt, List, [], ◌∷◌, ◌++◌, length, take, drop, Option, None, Some, Result, Ok, Err, codes, if◌then◌else◌}
 use Rattle.std.specs.Fmt.{decimal}
 use Rattle.std.specs.FinMap.{empty, get, insert, remove, contains_key}
 use Rattle.std.specs.List.{position_or_len}
@@ -15,7 +15,7 @@ use Rattle.tcl_host.specs.declared.memory.taken.Taken.{Taken}
 use Rattle.tcl_host.specs.declared.open_mode.OpenMode.{OpenMode}
 use Rattle.tcl_host.specs.declared.open_mode.OpenMode.TheVariants.{Read, Write, Append}
 use Rattle.tcl_host.specs.declared.reply.HostReply.{HostReply}
-use Rattle.tcl_host.specs.declared.reply.HostReply.TheVariants.{Opened, Line, End, Rest, Done, AtEnd, Refused}
+use Rattle.tcl_host.specs.declared.reply.HostReply.TheVariants.{Opened, Rest, Done, AtEnd, Refused}
 use Rattle.tcl_host.specs.declared.reply.Refusal.{Refusal}
 use Rattle.tcl_host.specs.declared.reply.Refusal.TheVariants.{NoChannel, NotOpened}
 use Rattle.tcl_host.specs.declared.request.Request.{Request}

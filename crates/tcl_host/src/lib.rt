@@ -3,6 +3,7 @@
 
 pub mod bytes;
 pub mod host;
+pub mod laws;
 pub mod memory;
 pub mod open_mode;
 pub mod reply;

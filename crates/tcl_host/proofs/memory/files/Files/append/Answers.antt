@@ -1,4 +1,4 @@
-use Rattle.std.proofs.Common.{ap, sym, ◌∙◌, ◌++◌, Ok, Err}
+use Rattle.std.proofs.Common.{ap, sym, ◌∙◌}
 use Rattle.std.specs.FinMap.{insert}
 use Rattle.tcl_host.specs.Names.{by_name}
 use Rattle.tcl_host.proofs.NameLemmas.{get-of_view, insert-of_view, insert-same, is_some_at, on_ok_as, on_err_as}

@@ -1,4 +1,4 @@
-use Rattle.std.proofs.Common.{ap, sym, ◌∙◌, Some}
+use Rattle.std.proofs.Common.{ap, ◌∙◌, Some}
 use Rattle.tcl_host.proofs.NameLemmas.{get-of_view}
 use Rattle.tcl_host.proofs.memory.files.Files.get.Goals as goal
 
