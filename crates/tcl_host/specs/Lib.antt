@@ -1,0 +1,10 @@
+pub mod Channels
+pub mod Files
+pub mod Hosts
+pub mod Laws
+pub mod MemoryHost
+pub mod MemoryHostLaws
+pub mod Modes
+pub mod Names
+pub mod Replies
+pub mod Stores

@@ -1,0 +1,119 @@
+//! What a host answers.
+ghost use Rattle.std.specs.Prelude.{◌≡◌, ◌++◌, IfOk};
+ghost use Rattle.tcl_host.specs.Replies.{is_reply_to, refusal_text};
+ghost use Rattle.tcl_host.specs.declared.reply.HostError.TheVariants.{Memory};
+
+use std::alloc::{AllocError, AllocFailed, Global};
+use tcl_text::text::Text;
+
+use crate::bytes::Bytes;
+use crate::request::Request;
+
+/// Why a host refuses a call.
+#[derive(Clone, Copy, Debug, PartialEq, Eq)]
+pub enum Refusal {
+    /// 261: no channel of that name is open for such a call.
+    NoChannel,
+    /// 262: the device failed.
+    DeviceFault,
+    /// 267: the file couldn't be opened.
+    NotOpened,
+}
+
+/// A host's answer to a [`Request`].
+#[derive(Clone, Debug, PartialEq, Eq, Drop)]
+pub enum HostReply {
+    /// The name of the channel that was opened.
+    Opened(Text),
+    /// A line, without its newline.
+    Line(Bytes),
+    /// 263: no line was left.
+    End,
+    /// All that was left.
+    Rest(Bytes),
+    /// It was written, flushed or closed.
+    Done,
+    /// Whether the last read met the end.
+    AtEnd(bool),
+    /// The call was refused.
+    Refused(Refusal),
+}
+
+/// Why a call to a host gave nothing.
+#[derive(Clone, Copy, Debug, PartialEq, Eq)]
+pub enum HostError {
+    /// Memory was wanting, and the host is as it was.
+    Memory,
+    /// The host refused.
+    Refused(Refusal),
+}
+
+impl From<AllocError> for HostError {
+    ghost from_gives = { λ _ e. e ≡ Memory };
+
+    fn from(_: AllocError) -> HostError {
+        HostError::Memory
+    }
+}
+
+impl<T: Drop> From<AllocFailed<T>> for HostError {
+    ghost from_gives = { λ _ e. e ≡ Memory };
+
+    fn from(_: AllocFailed<T>) -> HostError {
+        HostError::Memory
+    }
+}
+
+impl Refusal {
+    /// The text that a script sees, `offender` being the channel's name, of an opening the file's.
+    ///
+    /// # Errors
+    /// Want of memory.
+    pub fn message(self, alloc: Global, offender: &str) -> Result<Text, AllocError>
+        ensures { IfOk result (λ text. text ≡ refusal_text self offender.now) }
+    {
+        let text = match self {
+            Refusal::NoChannel => {
+                format!(in alloc; "can not find channel named \"{offender}\"")?
+            }
+            Refusal::DeviceFault => format!(in alloc; "device fault on \"{offender}\"")?,
+            Refusal::NotOpened => format!(in alloc; "couldn't open \"{offender}\"")?,
+        };
+        Text::from_string(alloc, text)
+    }
+}
+
+impl HostReply {
+    /// Whether it is one of the request's own replies.
+    pub fn is_reply_to(&self, request: &Request) -> bool
+        ensures { result ≡ is_reply_to self.now request.now }
+    {
+        match request {
+            Request::Open(_, _) => matches!(
+                self,
+                HostReply::Opened(_)
+                    | HostReply::Refused(Refusal::NotOpened | Refusal::DeviceFault)
+            ),
+            Request::ReadLine(_) => matches!(
+                self,
+                HostReply::Line(_)
+                    | HostReply::End
+                    | HostReply::Refused(Refusal::NoChannel | Refusal::DeviceFault)
+            ),
+            Request::ReadAll(_) => matches!(
+                self,
+                HostReply::Rest(_)
+                    | HostReply::Refused(Refusal::NoChannel | Refusal::DeviceFault)
+            ),
+            Request::Write(_, _) | Request::Flush(_) | Request::Close(_) => matches!(
+                self,
+                HostReply::Done | HostReply::Refused(Refusal::NoChannel | Refusal::DeviceFault)
+            ),
+            Request::Eof(_) => matches!(
+                self,
+                HostReply::AtEnd(_)
+                    | HostReply::Refused(Refusal::NoChannel | Refusal::DeviceFault)
+            ),
+        }
+    }
+}
