@@ -1,0 +1,4 @@
+pub mod Backslash
+pub mod Lists
+pub mod Reading
+pub mod Writing

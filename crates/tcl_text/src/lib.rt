@@ -1,4 +1,8 @@
 //! The texts of the Tcl command language: shared texts, and lists written in texts.
 #![tactic(auto)]
 
+pub mod backslash;
+pub mod characters;
+pub mod list;
+mod list_writing;
 pub mod text;
