@@ -1,1 +1,5 @@
 pub mod Numbers
+pub mod Written
+pub mod Weights
+pub mod Writes
+pub mod Errors

@@ -1,2 +1,5 @@
-pub mod Forms
 pub mod Limits
+pub mod Writing
+pub mod Texts
+pub mod Falls
+pub mod Forms

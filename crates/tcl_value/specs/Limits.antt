@@ -1,10 +1,6 @@
 -- What a value may be.
 use Rattle.std.specs.Prelude.{ℕ, ◌≤◌, ◌<◌, List, length}
 
--- the most bytes that a value has
-abbrev pub most_bytes : ℕ
-most_bytes = 16777216
-
 -- a text that a value may have
 abbrev pub IsWithin : List ℕ → Type 0
 IsWithin bytes = length bytes ≤ 16777216

@@ -4,7 +4,8 @@ ghost use Rattle.std.specs.Fmt.{signed_decimal};
 ghost use Rattle.std.specs.String.{string_bytes};
 ghost use Rattle.tcl_value.specs.Limits.{IsWithin, IsPast};
 
-use std::alloc::{AllocError, Global};
+use crate::pending::signed_digits;
+use std::alloc::{AllocError, AllocFailed, Global};
 use std::marker::Model;
 use tcl_text::text::Text;
 
@@ -27,6 +28,17 @@ impl From<AllocError> for ValueError {
     ghost from_gives = { λ _ e. e ≡ Memory };
 
     fn from(_e: AllocError) -> ValueError {
+        ValueError::Memory
+    }
+}
+
+impl<T: Drop> From<AllocFailed<T>> for ValueError {
+    ghost use Rattle.std.specs.Prelude.{◌≡◌};
+    ghost use Rattle.tcl_value.specs.declared.value.ValueError.TheVariants.{Memory};
+
+    ghost from_gives = { λ _ e. e ≡ Memory };
+
+    fn from(_e: AllocFailed<T>) -> ValueError {
         ValueError::Memory
     }
 }
@@ -156,16 +168,3 @@ impl Clone for Value {
     }
 }
 
-/// How many bytes write a number.
-fn signed_digits(n: i64) -> usize
-    ensures len { result ≡ length (signed_decimal n) }
-    ensures few { result ≤ 21 }
-{
-    let mut rest = n.unsigned_abs();
-    let mut count = if n < 0 { 2 } else { 1 };
-    while rest >= 10 {
-        rest /= 10;
-        count += 1;
-    }
-    count
-}

@@ -2,8 +2,8 @@ use Rattle.std.proofs.Common.{arith, length, w64, to_z, of_z, ap}
 use Rattle.std.specs.Fmt.{decimal, signed_decimal}
 use Rattle.std.proofs.lemmas.Int.{to_z-of_z}
 use Rattle.tcl_value.proofs.Numbers.{digits_below_zero, digits_from_zero, one_digit_less, one_digit, digits_at_most}
-use Rattle.tcl_value.proofs.value.signed_digits.Goals as goal
-use Rattle.tcl_value.proofs.value.signed_digits.Goals.{then-n-lt0, else-n-lt0}
+use Rattle.tcl_value.proofs.pending.signed_digits.Goals as goal
+use Rattle.tcl_value.proofs.pending.signed_digits.Goals.{then-n-lt0, else-n-lt0}
 
 pub overflow_add-count : goal.overflow_add-count
 overflow_add-count c =
