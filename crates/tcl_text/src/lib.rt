@@ -1,4 +1,7 @@
 //! The texts of the Tcl command language: shared texts, and lists written in texts.
 #![tactic(auto)]
 
+pub mod boolean;
+pub mod index;
+pub mod integer;
 pub mod text;
