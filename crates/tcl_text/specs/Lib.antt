@@ -1,3 +1,5 @@
 pub mod Numbers
 pub mod Booleans
 pub mod Indexes
+pub mod Backslash
+pub mod Lists

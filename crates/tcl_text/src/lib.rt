@@ -4,4 +4,6 @@
 pub mod boolean;
 pub mod index;
 pub mod integer;
+pub mod backslash;
+pub mod list;
 pub mod text;
