@@ -1,11 +1,12 @@
 -- What lists weigh.
-use Rattle.std.proofs.lemmas.List.{length-map}
-use Rattle.std.proofs.Common.{◌≡◌, ℕ, ◌+◌, ◌-◌, ◌*◌, ◌<◌, ◌≤◌, ◌^◌, suc, zero, Bool, true, false, List, [], ◌∷◌, ◌++◌, length, refl, sym, ◌∙◌, ap, subst, arith, length-append, set, get_or, map, take}
+use Rattle.std.proofs.lemmas.List.{length-map, take_more, length-take}
+use Rattle.std.proofs.Common.{◌≡◌, ℕ, ◌+◌, ◌-◌, ◌*◌, ◌<◌, ◌≤◌, ◌^◌, suc, zero, Bool, true, false, List, [], ◌∷◌, ◌++◌, length, refl, sym, ◌∙◌, ap, subst, arith, length-append, set, get_or, map, take, ◌⊎◌, inl, inr}
 use Rattle.std.specs.Prelude.{◌==◌, ◌≢◌}
+use Rattle.std.specs.List.{AllZip}
 use Rattle.std.proofs.lemmas.Bool.Decides.{nat_tests}
 use Rattle.tcl_value.specs.Limits.{IsWithin, IsPast}
 use Rattle.tcl_value.specs.Writing.{write_element, write_rest, write}
-use Rattle.tcl_value.specs.Texts.{weight_from, weight, element_text, texts, IsElement, AreElements}
+use Rattle.tcl_value.specs.Texts.{weight_from, weight, element_text, texts, IsElement, AreElements, IsSame}
 use Rattle.tcl_value.specs.declared.element.Element.{Element}
 use Rattle.tcl_value.specs.declared.element.Element.TheVariants.{Text, Number, List as Inner, Dict}
 use Rattle.tcl_value.proofs.Written.{size_at_most}
@@ -48,8 +49,8 @@ length-write (x ∷ xs) = omega (arith, length-append (write_element true x) (wr
 pub element_within : (x : Element) → IsElement x → length (element_text x) ≤ 16777216
 element_within (Text text) h = h
 element_within (Number n) h = omega arith
-element_within (Inner items) h = h.1
-element_within (Dict entries) h = h.1
+element_within (Inner items) h = h.within
+element_within (Dict entries) h = h.within
 
 pub size_within : (first : Bool) (x : Element) → IsElement x → size first (element_text x) ≤ 33554434
 size_within first x h = omega (arith, element_within x h, size_at_most first (element_text x))
@@ -123,3 +124,30 @@ kept_few kept n cap xs k h l m s = omega (arith, weight_at_most true xs h)
 
 pub length-texts : (xs : List Element) → length (texts xs) ≡ length xs
 length-texts xs = length-map xs element_text
+
+-- elements and their clones
+pub same_all : (xs ys : List Element) → AllZip IsSame xs ys → (texts ys ≡ texts xs) × (AreElements xs → AreElements ys)
+same_all [] [] h = (refl, λ s. s)
+same_all [] (y ∷ ys) h = elim h [ ]
+same_all (x ∷ xs) [] h = elim h [ ]
+same_all (x ∷ xs) (y ∷ ys) h =
+    let rest = same_all xs ys h.1 in
+    (ap (λ t. t ∷ texts ys) h.0.text ∙ ap (λ t. element_text x ∷ t) rest.0, λ s. (h.0.keeps s.0, rest.1 s.1))
+
+pub same_elements : {V L : Type 0} (items : V → List Element) (x y : V) → (y ≡ x) ⊎ (AllZip IsSame (items x) (items y) × L) → (texts (items y) ≡ texts (items x)) × (AreElements (items x) → AreElements (items y))
+same_elements items x y (inl e) = (ap (λ v. texts (items v)) e, λ s. subst (λ v. AreElements (items v)) (sym e) s)
+same_elements items x y (inr z) = same_all (items x) (items y) z.0
+
+starts_take : (xs : List (List ℕ)) (i : ℕ) → length xs ≡ i → starts true xs ≡ (i == 0)
+starts_take [] i h = grind (arith, nat_tests)
+starts_take (x ∷ xs) i h = grind (arith, nat_tests)
+
+-- what the first elements weigh, and one more
+pub take_weight : (xs : List (List ℕ)) (i : ℕ) (x : List ℕ) (kept more : ℕ) → i < length xs → x ≡ get_or xs i x → kept ≡ weight (take i xs) → more ≡ size (i == 0) x → kept + (more + 1) ≡ weight (take (i + 1) xs)
+take_weight xs i x kept more h e k m =
+    let len : length (take i xs) ≡ i = length-take i xs ∙ omega arith in
+    let all : take (i + 1) xs ≡ take i xs ++ x ∷ [] = take_more xs i x h ∙ ap (λ y. take i xs ++ y ∷ []) (sym e) in
+    let one = weight-push true (take i xs) x in
+    let at = ap (λ b. size b x) (starts_take (take i xs) i len) in
+    let same = ap weight all in
+    omega arith

@@ -4,8 +4,11 @@ use Rattle.std.specs.Prelude.{◌==◌}
 use Rattle.std.proofs.lemmas.Bool.Decides.{nat_tests}
 use Rattle.std.proofs.lemmas.List.{take_more, length-take}
 use Rattle.tcl_value.specs.Writing.{write_element, write_rest, write}
-use Rattle.tcl_value.specs.Texts.{flat, pairs, element_text, texts, AreElements, IsElement, IsItems, IsEntries}
-use Rattle.tcl_value.proofs.Weights.{starts}
+use Rattle.tcl_value.specs.Limits.{IsWithin}
+use Rattle.tcl_value.specs.Texts.{AllWithin, flat, pairs, element_text, texts, AreElements, IsElement, IsItems, IsEntries}
+use Rattle.tcl_value.specs.declared.element.Element.{Element}
+use Rattle.tcl_value.specs.declared.element.Element.TheVariants.{Text}
+use Rattle.tcl_value.proofs.Weights.{starts, texts-push, AreElements-push}
 
 -- what stands before the next element
 abbrev pub separator : List (List ℕ) → List ℕ
@@ -107,3 +110,30 @@ take_entry ks vs i k v start out mid now same h ke ve o m n =
         ∙ ap (λ t. start ++ ((write (flat es ++ k ∷ []) ++ t) ++ write_element false v)) (sym (separator-push (flat es) k))
         ∙ ap (λ b. start ++ ((write (flat es ++ k ∷ []) ++ separator (flat es ++ k ∷ [])) ++ write_element b v)) (sym (starts-push true (flat es) k))
         ∙ ap (λ t. start ++ t) (sym (write-push (flat es ++ k ∷ []) v) ∙ ap write (sym (flat-push es k v)))
+
+-- the first entries, and one more
+pub take_flat : (ks vs : List (List ℕ)) (i : ℕ) (k v : List ℕ) → length ks ≡ length vs → i < length vs → k ≡ get_or ks i k → v ≡ get_or vs i v → flat (take (i + 1) (pairs ks vs)) ≡ (flat (take i (pairs ks vs)) ++ k ∷ []) ++ v ∷ []
+take_flat ks vs i k v same h ke ve =
+    let all = length-pairs ks vs same in
+    let here : get_or (pairs ks vs) i (k, v) ≡ (k, v) = pairs-get ks vs i k v same h ∙ ap (λ x. (x, get_or vs i v)) (sym ke) ∙ ap (λ y. (k, y)) (sym ve) in
+    ap flat (take_more (pairs ks vs) i (k, v) (omega arith) ∙ ap (λ y. take i (pairs ks vs) ++ y ∷ []) here) ∙ flat-push (take i (pairs ks vs)) k v
+
+-- texts that are within the limit
+pub AllWithin-get : (xs : List (List ℕ)) (i : ℕ) (d : List ℕ) → AllWithin xs → i < length xs → IsWithin (get_or xs i d)
+AllWithin-get [] i d h k = absurd (omega arith)
+AllWithin-get (x ∷ xs) zero d h k = h.0
+AllWithin-get (x ∷ xs) (suc i) d h k = AllWithin-get xs i d h.1 (omega arith)
+
+-- elements with one text more, and with another element behind it
+pub one_more : (es e1 : List Element) (k t : List ℕ) (before : List (List ℕ)) → e1 ≡ es ++ Text k ∷ [] → k ≡ t → texts es ≡ before → texts e1 ≡ before ++ t ∷ []
+one_more es e1 k t before e s b = ap texts e ∙ texts-push es (Text k) ∙ ap (λ x. texts es ++ x ∷ []) s ∙ ap (λ xs. xs ++ t ∷ []) b
+
+pub two_more : (es e1 e2 : List Element) (k t u : List ℕ) (v : Element) (before : List (List ℕ)) → e1 ≡ es ++ Text k ∷ [] → k ≡ t → e2 ≡ e1 ++ v ∷ [] → element_text v ≡ u → texts es ≡ before → texts e2 ≡ (before ++ t ∷ []) ++ u ∷ []
+two_more es e1 e2 k t u v before e s f r b =
+    ap texts f ∙ texts-push e1 v ∙ ap (λ x. texts e1 ++ x ∷ []) r ∙ ap (λ xs. xs ++ u ∷ []) (one_more es e1 k t before e s b)
+
+pub one_more_element : (es e1 : List Element) (k : List ℕ) → e1 ≡ es ++ Text k ∷ [] → AreElements es → IsWithin k → AreElements e1
+one_more_element es e1 k e h w = subst AreElements (sym e) (AreElements-push es (Text k) h w)
+
+pub two_more_elements : (es e1 e2 : List Element) (k : List ℕ) (v : Element) → e1 ≡ es ++ Text k ∷ [] → e2 ≡ e1 ++ v ∷ [] → AreElements es → IsWithin k → IsElement v → AreElements e2
+two_more_elements es e1 e2 k v e f h w i = subst AreElements (sym f) (AreElements-push e1 v (one_more_element es e1 k e h w) i)

@@ -2,4 +2,6 @@ pub mod Limits
 pub mod Writing
 pub mod Texts
 pub mod Falls
+pub mod Reading
 pub mod Forms
+pub mod Errors

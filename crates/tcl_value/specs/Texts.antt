@@ -1,8 +1,9 @@
 -- The texts of elements, lists and dicts.
-use Rattle.std.specs.Prelude.{◌≡◌, ℕ, ◌+◌, ◌<◌, ◌≤◌, Bool, true, false, List, [], ◌∷◌, ◌++◌, length, map}
+use Rattle.std.specs.Prelude.{◌≡◌, ℕ, ◌+◌, ◌<◌, ◌≤◌, ◌==◌, Bool, true, false, List, [], ◌∷◌, ◌++◌, length, map}
 use Rattle.std.specs.Fmt.{signed_decimal}
 use Rattle.tcl_value.specs.Limits.{IsWithin}
 use Rattle.tcl_value.specs.Writing.{write_element, write}
+use Rattle.tcl_value.specs.Reading.{IsNoInteger}
 use Rattle.tcl_value.specs.declared.element.Element.{Element}
 use Rattle.tcl_value.specs.declared.element.Element.TheVariants.{Text, Number, List as Inner, Dict}
 
@@ -22,22 +23,36 @@ element_text (Dict entries) = write (flat entries.value)
 abbrev pub texts : List Element → List (List ℕ)
 texts xs = map element_text xs
 
+-- texts that values may have
+abbrev pub AllWithin : List (List ℕ) → Type 0
+AllWithin [] = Unit {0}
+AllWithin (x ∷ xs) = IsWithin x × AllWithin xs
+
 -- each key with the value that stands at its place
 abbrev pub pairs : List (List ℕ) → List (List ℕ) → List (List ℕ × List ℕ)
 pairs [] vs = []
 pairs (k ∷ ks) [] = []
 pairs (k ∷ ks) (v ∷ vs) = (k, v) ∷ pairs ks vs
 
--- a text that is written in braces wherever it stands
-abbrev pub IsBraced : List ℕ → Type 0
-IsBraced x = (first : Bool) → write_element first x ≡ 123 ∷ x ++ 125 ∷ []
+-- whether a text ends in a backslash
+abbrev pub ends_in_backslash : List ℕ → Bool
+ends_in_backslash [] = false
+ends_in_backslash (b ∷ []) = b == 92
+ends_in_backslash (b ∷ c ∷ s) = ends_in_backslash (c ∷ s)
+
+-- a text that is written in braces wherever it stands, and isn't one that an integer has
+pub record IsInner (x : List ℕ) : Type 0 where
+  pub braced : (first : Bool) → write_element first x ≡ 123 ∷ x ++ 125 ∷ []
+  pub ends : ends_in_backslash x ≡ false
+  pub within : IsWithin x
+  pub no_integer : IsNoInteger x
 
 -- what an element keeps is short enough, and an inner list or dict is one that is written in braces
 abbrev pub IsElement : Element → Type 0
 IsElement (Text text) = IsWithin text
 IsElement (Number n) = length (signed_decimal n) ≤ 21
-IsElement (Inner items) = IsBraced (write items.value) × IsWithin (write items.value)
-IsElement (Dict entries) = IsBraced (write (flat entries.value)) × IsWithin (write (flat entries.value))
+IsElement (Inner items) = IsInner (write items.value)
+IsElement (Dict entries) = IsInner (write (flat entries.value))
 
 abbrev pub AreElements : List Element → Type 0
 AreElements [] = Unit {0}
@@ -58,6 +73,7 @@ pub record IsItems (kept : ℕ) (ts : List (List ℕ)) (xs : List Element) : Typ
 
 -- what holds of a dict
 pub record IsEntries (kept : ℕ) (ks : List (List ℕ)) (ts : List (List ℕ)) (xs : List Element) : Type 0 where
+  pub keys : AllWithin ks
   pub elements : AreElements xs
   pub same : length ks ≡ length xs
   pub weighs : kept ≡ weight (flat (pairs ks ts))

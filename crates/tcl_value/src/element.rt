@@ -3,14 +3,18 @@ ghost use Rattle.std.specs.Prelude.{◌≡◌, ◌≤◌, ◌++◌, length, OnOk
 ghost use Rattle.std.specs.String.{string_bytes};
 ghost use Rattle.std.specs.Fmt.{signed_decimal};
 ghost use Rattle.tcl_value.specs.Writing.{write_element};
-ghost use Rattle.tcl_value.specs.Texts.{element_text, IsElement};
+ghost use Rattle.tcl_value.specs.Texts.{element_text, ends_in_backslash, IsElement};
 
 use crate::entries::Entries;
 use crate::items::Items;
-use crate::pending::{signed_digits, write_element_to, written_len};
+use crate::pending::{write_element_to, written_len};
 use std::alloc::AllocError;
 use std::rc::Rc;
+use tcl_text::integer::{int_len, push_int};
 use tcl_text::text::Text;
+
+/// How deep lists and dicts may stand in one another without a text: what writes, drops or copies them goes down as deep.
+pub(crate) const MOST_DEPTH: u32 = 100;
 
 /// An element, which may be kept as the number, the list or the dict that its text writes.
 #[cycle(element)]
@@ -62,6 +66,17 @@ impl Element {
         }
     }
 
+    /// Whether its text ends in a backslash.
+    pub(crate) fn ends_in_backslash(&self) -> bool
+        requires { IsElement self.now }
+        ensures { result ≡ ends_in_backslash (element_text self.now) }
+    {
+        match self {
+            Element::Text(text) => text.as_str().as_bytes().last() == Some(&b'\\'),
+            Element::Number(_) | Element::List(_) | Element::Dict(_) => false,
+        }
+    }
+
     /// How deep lists and dicts stand in it, at most.
     pub(crate) fn depth(&self) -> u32 {
         match self {
@@ -78,7 +93,7 @@ fn number_len(n: i64, first: bool) -> usize
     ensures few { result ≤ 21 }
 {
     let _first = first;
-    signed_digits(n)
+    int_len(n)
 }
 
 /// Writes a number as an element of a list to the end of a string.
@@ -86,7 +101,7 @@ fn write_number_to(n: i64, first: bool, out: &mut String) -> Result<(), AllocErr
     ensures { OnOk result (string_bytes out.new ≡ string_bytes out.old ++ write_element first (signed_decimal n)) }
 {
     let _first = first;
-    write!(out, "{n}")
+    push_int(out, n)
 }
 
 impl Clone for Element {

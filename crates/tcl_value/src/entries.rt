@@ -1,14 +1,14 @@
 //! Dicts that carry no text.
-ghost use Rattle.std.specs.Prelude.{◌≡◌, ◌++◌, length, OnOk};
+ghost use Rattle.std.specs.Prelude.{◌≡◌, ◌++◌, length, IfOk, OnOk, IsTrue};
 ghost use Rattle.std.specs.String.{string_bytes};
 ghost use Rattle.tcl_value.specs.Limits.{IsWithin};
 ghost use Rattle.tcl_value.specs.Writing.{write};
-ghost use Rattle.tcl_value.specs.Texts.{flat};
+ghost use Rattle.tcl_value.specs.Texts.{texts, flat, IsInner, AreElements};
 
-use crate::element::Element;
+use crate::element::{Element, MOST_DEPTH};
 use crate::pending::write_element_to;
 use indexmap::IndexSet;
-use std::alloc::AllocError;
+use std::alloc::{AllocError, Global};
 use std::marker::Model;
 use tcl_text::text::Text;
 
@@ -43,6 +43,34 @@ impl Model for Entries {
 }
 
 impl Entries {
+    /// Whether it may stand in a list or dict without a text: its text is then written in braces.
+    pub(crate) fn fits_inside(&self) -> bool
+        requires { IsWithin (write (flat self.now)) }
+        ensures { IsTrue result → IsInner (write (flat self.now)) }
+    {
+        match self.values.last() {
+            None => false,
+            Some(last) => self.depth < MOST_DEPTH && !last.ends_in_backslash(),
+        }
+    }
+
+    /// Its keys and values in turn.
+    ///
+    /// # Errors
+    /// Want of memory.
+    pub(crate) fn to_elements(&self, alloc: Global) -> Result<Vec<Element>, AllocError>
+        ensures texts { IfOk result (λ made. texts made.items ≡ flat self.now) }
+        ensures elements { IfOk result (λ made. AreElements made.items) }
+    {
+        let mut elements = Vec::new(alloc);
+        'entries: for (index, value) in self.values.iter().enumerate() {
+            let key = self.keys.get_index(index).unwrap();
+            elements.push(Element::Text(key.clone()?))?;
+            elements.push(value.clone()?)?;
+        }
+        Ok(elements)
+    }
+
     /// How many bytes its text has.
     pub(crate) fn written_len(&self) -> usize
         requires { IsWithin (write (flat self.now)) }
@@ -71,8 +99,38 @@ impl Entries {
         Ok(())
     }
 
+    /// Its text.
+    ///
+    /// # Errors
+    /// Want of memory.
+    pub(crate) fn write(&self, alloc: Global) -> Result<String, AllocError>
+        requires { IsWithin (write (flat self.now)) }
+        ensures { IfOk result (λ text. string_bytes text ≡ write (flat self.now)) }
+    {
+        let mut text = String::with_capacity(alloc, self.written_len())?;
+        self.write_to(&mut text)?;
+        Ok(text)
+    }
+
     /// How deep lists and dicts stand in it, at most.
     pub(crate) fn depth(&self) -> u32 {
         self.depth
+    }
+}
+
+impl Clone for Entries {
+    ghost is_clone = { λ x y. y ≡ x };
+
+    fn clone(&self) -> Result<Entries, AllocError> {
+        let keys = self.keys.clone()?;
+        let values = self.values.clone()?;
+        let weight = self.weight;
+        let depth = self.depth;
+        Ok(Entries {
+            keys,
+            values,
+            weight,
+            depth,
+        })
     }
 }

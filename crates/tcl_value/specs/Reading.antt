@@ -1,0 +1,17 @@
+-- What texts read as.
+use Rattle.std.specs.Prelude.{◌≡◌, ℕ, ℤ, List, [], ◌∷◌, Option, None, Some, Result, Ok, Err}
+use Rattle.std.specs.Str.{bytes_eq}
+use Rattle.indexmap.specs.IndexMap.{insert_entry}
+use Rattle.tcl_text.specs.declared.integer.Integers.{Integers}
+use Rattle.tcl_text.specs.declared.integer.IntegerFault.{IntegerFault}
+use Rattle.tcl_text.specs.declared.list.ListFault.{ListFault}
+use Rattle.tcl_text.specs.Numbers.{integer_of, in_64_bits}
+pub use Rattle.tcl_text.specs.Lists.{list_of}
+
+-- the integer of 64 bits of a text, or why there is none
+abbrev pub int_of : Integers → List ℕ → Result ℤ IntegerFault
+int_of style text = in_64_bits (integer_of style text)
+
+-- a text that is no integer text
+abbrev pub IsNoInteger : List ℕ → Type 0
+IsNoInteger text = (style : Integers) → integer_of style text ≡ None
