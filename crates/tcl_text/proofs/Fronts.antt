@@ -1,5 +1,5 @@
 -- The longest front of a text that passes a test, and numbers at the head of a text.
-use Rattle.std.proofs.Common.{◌≡◌, ℕ, zero, suc, ◌+◌, ◌*◌, ◌<◌, ◌≤◌, Bool, true, false, List, length, get_or, take, sym, ◌∙◌, subst, inl, inr, arith, le-leb, add-one, mul-le-mul_left}
+use Rattle.std.proofs.Common.{not, IsCharBoundary, ◌≡◌, ℕ, zero, suc, ◌+◌, ◌*◌, ◌<◌, ◌≤◌, Bool, true, false, List, length, get_or, take, sym, ◌∙◌, subst, inl, inr, arith, le-leb, add-one, mul-le-mul_left}
 use Rattle.std.specs.List.{prefix_len}
 use Rattle.std.specs.Char.{is_digit, digit_value}
 use Rattle.std.specs.Str.Parse.{digits_value}
@@ -7,6 +7,10 @@ use Rattle.std.proofs.lemmas.List.Sums.{prefix_len-le-length, prefix_len_passes,
 use Rattle.std.proofs.lemmas.Bool.Decides.{nat_tests}
 use Rattle.std.proofs.lemmas.Bool.{lt-ltb, ltb-true, and_parts, and_from, cases_lt, cases_eq, cases_Bool, leb-true, false≢true}
 use Rattle.std.proofs.lemmas.Int.Digits.{digits_value_more}
+use Rattle.std.proofs.lemmas.Str.{IsCharBoundary-before_ascii, IsCharBoundary-end}
+use Rattle.tcl_text.specs.Reading.{is_plain, stop_test}
+use Rattle.tcl_text.specs.declared.list.Stop.{Stop}
+use Rattle.tcl_text.specs.declared.list.Stop.TheVariants.{White, Quote}
 use Rattle.tcl_text.specs.Lists.{is_white}
 use Rattle.tcl_text.specs.Backslash.{is_number, number_len, is_blank}
 
@@ -125,3 +129,29 @@ blank_is_ascii b h = grind (arith, nat_tests)
 
 pub white_is_ascii : (b : ℕ) → is_white b ≡ true → b < 128
 white_is_ascii b h = grind (arith, nat_tests)
+
+stop_is_ascii : (stop : Stop) (b : ℕ) → is_plain (stop_test stop) b ≡ false → b < 128
+stop_is_ascii White b h = grind (arith, nat_tests)
+stop_is_ascii Quote b h = grind (arith, nat_tests)
+
+-- what isn't plain is ASCII, and a text may be cut before it
+pub stop_boundary : (stop : Stop) (s : List ℕ) → IsCharBoundary s (prefix_len (is_plain (stop_test stop)) s)
+stop_boundary stop s =
+    let p : ℕ → Bool = is_plain (stop_test stop) in
+    let n : ℕ = prefix_len p s in
+    elim (cases_lt n (length s)) [
+      | inl low ↦ IsCharBoundary-before_ascii s n low (stop_is_ascii stop (get_or s n 0) (prefix_len_stops p s 0 low))
+      | inr high ↦ subst (IsCharBoundary s) (let e : length s ≡ n = omega (arith, prefix_len-le-length p s) in e) (IsCharBoundary-end s)
+    ]
+
+dark_is_ascii : (b : ℕ) → not (is_white b) ≡ false → b < 128
+dark_is_ascii b h = grind (arith, nat_tests)
+
+pub dark_boundary : (s : List ℕ) → IsCharBoundary s (prefix_len (λ b. not (is_white b)) s)
+dark_boundary s =
+    let p : ℕ → Bool = λ b. not (is_white b) in
+    let n : ℕ = prefix_len p s in
+    elim (cases_lt n (length s)) [
+      | inl low ↦ IsCharBoundary-before_ascii s n low (dark_is_ascii (get_or s n 0) (prefix_len_stops p s 0 low))
+      | inr high ↦ subst (IsCharBoundary s) (let e : length s ≡ n = omega (arith, prefix_len-le-length p s) in e) (IsCharBoundary-end s)
+    ]

@@ -3,3 +3,4 @@ pub mod Booleans
 pub mod Indexes
 pub mod Backslash
 pub mod Lists
+pub mod Reading

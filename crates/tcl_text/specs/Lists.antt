@@ -1,5 +1,5 @@
 -- Lists in texts: the list that a text spells, and the fault of a text that spells none.
-use Rattle.std.specs.Prelude.{◌≡◌, ◌≢◌, ℕ, zero, suc, ◌-◌, Bool, true, false, not, ◌||◌, ◌&&◌, cond, ◌==◌, List, [], ◌∷◌, ◌++◌, length, take, Some, None, Ok, Err, IfOk}
+use Rattle.std.specs.Prelude.{◌≡◌, ◌≢◌, ℕ, zero, suc, ◌-◌, Bool, true, false, not, ◌||◌, cond, ◌==◌, List, [], ◌∷◌, ◌++◌, length, take, Some, None, Ok, Err, ◌⊎◌, ◌↔◌}
 use Rattle.std.specs.declared.option.Option.{Option}
 use Rattle.std.specs.declared.result.Result.{Result}
 use Rattle.std.specs.Option.{option_and_then}
@@ -7,6 +7,7 @@ use Rattle.std.specs.List.{list_all, take_while}
 use Rattle.std.specs.Int.{is_in_range}
 use Rattle.std.specs.Str.{chars, encode_utf8_all}
 use Rattle.tcl_text.specs.Backslash.{Escape, escape, escape_of}
+use Rattle.tcl_text.specs.declared.list.Braces.{Braces}
 use Rattle.tcl_text.specs.declared.list.ListFault.{ListFault}
 use Rattle.tcl_text.specs.declared.list.ListFault.TheVariants.{UnmatchedBrace, UnmatchedQuote, AfterBrace, AfterQuote}
 
@@ -30,10 +31,6 @@ abbrev pub ends : List ℕ → Bool
 ends s = stops is_white s
 
 -- Braces as they are counted, 123 and 125: how many are open, and whether a backslash, 92, has just been passed, so that the next character is skipped.
-pub record Braces : Type 0 where
-  pub depth : ℕ
-  pub skips : Bool
-
 abbrev pub braces : ℕ → Bool → Braces
 braces depth skips = record { depth = depth; skips = skips }
 
@@ -171,3 +168,23 @@ elements (b ∷ s) zero = cond (is_white b) (elements s 0) (next_element (elemen
 -- the list that a text spells, or the fault that it has
 abbrev pub list_of : List ℕ → Result (List (List ℕ)) ListFault
 list_of s = elements s 0
+
+-- What the definitions promise: each text has just one of a list that it spells and a fault, and just one such list or fault.
+abbrev pub Decided : Type 0
+Decided = (s : List ℕ) → ((l : List (List ℕ)) × Spells l s) ⊎ ((f : ListFault) × HasFault s f)
+
+abbrev pub OneList : Type 0
+OneList = (l m : List (List ℕ)) (s : List ℕ) → Spells l s → Spells m s → l ≡ m
+
+abbrev pub OneFault : Type 0
+OneFault = (f g : ListFault) (s : List ℕ) → HasFault s f → HasFault s g → f ≡ g
+
+abbrev pub NeverBoth : Type 0
+NeverBoth = (l : List (List ℕ)) (f : ListFault) (s : List ℕ) → Spells l s → HasFault s f → ⊥
+
+-- The functions say what the relations say.
+abbrev pub GivesList : Type 0
+GivesList = (l : List (List ℕ)) (s : List ℕ) → (list_of s ≡ Ok l) ↔ Spells l s
+
+abbrev pub GivesFault : Type 0
+GivesFault = (f : ListFault) (s : List ℕ) → (list_of s ≡ Err f) ↔ HasFault s f

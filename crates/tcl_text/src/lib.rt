@@ -5,5 +5,6 @@ pub mod boolean;
 pub mod index;
 pub mod integer;
 pub mod backslash;
+pub mod characters;
 pub mod list;
 pub mod text;
