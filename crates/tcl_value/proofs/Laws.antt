@@ -1,13 +1,16 @@
 -- What is read of what was written.
-use Rattle.std.proofs.Common.{◌≡◌, ℕ, ◌+◌, ◌≤◌, suc, Bool, true, List, [], ◌∷◌, ◌++◌, length, ℤ, FitsSigned, w64, Ok, Err, ap, ◌∙◌, sym}
+use Rattle.std.proofs.Common.{◌≡◌, ℕ, ◌+◌, ◌≤◌, suc, zero, Bool, true, List, [], ◌∷◌, ◌++◌, length, ℤ, FitsSigned, w64, Ok, Err, ap, ◌∙◌, sym, false, get_or, ◌-◌, ◌<◌, ◌≤◌, refl, arith, eqb, not, IsTrue}
 use Rattle.std.specs.Fmt.{signed_decimal}
 use Rattle.tcl_text.specs.declared.integer.Integers.{Integers}
 use Rattle.tcl_text.specs.Numbers.{integer_of, in_64_bits}
 use Rattle.tcl_text.proofs.Written.{written_back, fits_back}
 use Rattle.tcl_value.specs.Writing.{write_element, write}
 use Rattle.tcl_value.specs.Reading.{int_of, list_of, IsNoInteger}
+use Rattle.tcl_value.proofs.Lasts.{last_cons}
 use Rattle.tcl_value.specs.Limits.{IsWithin}
+use Rattle.tcl_value.specs.Texts.{AllWithin, IsInner, ends_in_backslash}
 use Rattle.tcl_value.proofs.Written.{write_element-number}
+use Rattle.std.specs.Prelude.{◌==◌}
 
 -- a number reads as itself
 pub int_of-number : (style : Integers) (n : ℤ) → FitsSigned w64 n → int_of style (signed_decimal n) ≡ Ok n
@@ -20,3 +23,45 @@ list_of-write xs = ?
 -- two elements or more are no integer
 pub write-no_integer : (x y : List ℕ) (xs : List (List ℕ)) → IsNoInteger (write (x ∷ y ∷ xs))
 write-no_integer x y xs = ?
+
+-- the elements of a text are no longer than the text
+pub list_of-within : (s : List ℕ) (xs : List (List ℕ)) → IsWithin s → list_of s ≡ Ok xs → AllWithin xs
+list_of-within s xs h e = ?
+
+-- the text of a number is a list of one
+pub list_of-number : (n : ℤ) → FitsSigned w64 n → list_of (signed_decimal n) ≡ Ok (signed_decimal n ∷ [])
+list_of-number n h = ?
+
+-- a list whose last element doesn't end in a backslash is written in braces in another
+pub inner_list : (xs : List (List ℕ)) (i : ℕ) (last : List ℕ) → 2 ≤ length xs → last ≡ get_or xs (length xs - 1) last → ends_in_backslash last ≡ false → IsWithin (write xs) → IsInner (write xs)
+inner_list xs i last many at ends within = ?
+
+pub number_end : (n : ℤ) → FitsSigned w64 n → ends_in_backslash (signed_decimal n) ≡ false
+number_end n h = ?
+
+pub empty_list : (xs : List (List ℕ)) → length xs ≡ 0 → list_of [] ≡ Ok xs
+empty_list [] h = list_of-write []
+empty_list (x ∷ xs) h = absurd (omega arith)
+
+pub write-empty : (xs : List (List ℕ)) → length xs ≡ 0 → [] ≡ write xs
+write-empty [] h = refl
+write-empty (x ∷ xs) h = absurd (omega arith)
+
+-- the last byte
+pub last_byte : (x : List ℕ) (b : ℕ) → 0 < length x → b ≡ get_or x (length x - 1) b → ends_in_backslash x ≡ (b == 92)
+last_byte [] b h e = absurd (omega arith)
+last_byte (c ∷ []) b h e = ap (λ d. d == 92) (sym e)
+last_byte (c ∷ d ∷ x) b h e = last_byte (d ∷ x) b (omega arith) (e ∙ last_cons c d x b)
+
+-- a byte that there is, whatever stands for one that there isn't
+byte_there : (x : List ℕ) (i d e : ℕ) → i < length x → get_or x i d ≡ get_or x i e
+byte_there [] i d e h = absurd (omega arith)
+byte_there (b ∷ x) zero d e h = refl
+byte_there (b ∷ x) (suc i) d e h = byte_there x i d e (omega arith)
+
+pub byte_default : (x : List ℕ) (d : ℕ) → 0 < length x → get_or x (length x - 1) d ≡ get_or x (length x - 1) (get_or x (length x - 1) d)
+byte_default x d h = byte_there x (length x - 1) d _ (omega arith)
+
+pub not_true : (b : Bool) → IsTrue (not b) → b ≡ false
+not_true true h = absurd (cc)
+not_true false h = refl

@@ -1,9 +1,10 @@
 -- Lists that are written an element at a time.
-use Rattle.std.proofs.Common.{◌≡◌, ℕ, ◌+◌, ◌-◌, ◌<◌, ◌≤◌, suc, zero, Bool, true, false, List, [], ◌∷◌, ◌++◌, length, refl, sym, ◌∙◌, ap, subst, arith, length-append, append_assoc, get_or, take, ◌⊎◌, inl, inr}
+use Rattle.std.proofs.Common.{◌≡◌, ℕ, ◌+◌, ◌-◌, ◌*◌, ◌<◌, ◌≤◌, suc, zero, Bool, true, false, List, [], ◌∷◌, ◌++◌, length, refl, sym, ◌∙◌, ap, subst, arith, length-append, append_assoc, get_or, take, ◌⊎◌, inl, inr}
 use Rattle.std.specs.Prelude.{◌==◌}
 use Rattle.std.proofs.lemmas.Bool.Decides.{nat_tests}
 use Rattle.std.proofs.lemmas.List.{take_more, length-take}
 use Rattle.tcl_value.specs.Writing.{write_element, write_rest, write}
+use Rattle.tcl_value.proofs.Lasts.{last_cons}
 use Rattle.tcl_value.specs.Limits.{IsWithin}
 use Rattle.tcl_value.specs.Texts.{AllWithin, flat, pairs, element_text, texts, AreElements, IsElement, IsItems, IsEntries}
 use Rattle.tcl_value.specs.declared.element.Element.{Element}
@@ -137,3 +138,16 @@ one_more_element es e1 k e h w = subst AreElements (sym e) (AreElements-push es 
 
 pub two_more_elements : (es e1 e2 : List Element) (k : List ℕ) (v : Element) → e1 ≡ es ++ Text k ∷ [] → e2 ≡ e1 ++ v ∷ [] → AreElements es → IsWithin k → IsElement v → AreElements e2
 two_more_elements es e1 e2 k v e f h w i = subst AreElements (sym f) (AreElements-push e1 v (one_more_element es e1 k e h w) i)
+
+pub length-flat : (es : List (List ℕ × List ℕ)) → length (flat es) ≡ 2 * length es
+length-flat [] = refl
+length-flat (e ∷ es) = omega (arith, length-flat es)
+
+-- the last value of a dict is the last of its list
+pub flat_last : (ks vs : List (List ℕ)) (v : List ℕ) → length ks ≡ length vs → 1 ≤ length vs → v ≡ get_or vs (length vs - 1) v → v ≡ get_or (flat (pairs ks vs)) (length (flat (pairs ks vs)) - 1) v
+flat_last ks [] v h m e = absurd (omega arith)
+flat_last [] (y ∷ vs) v h m e = absurd (omega arith)
+flat_last (k ∷ []) (y ∷ []) v h m e = e
+flat_last (k ∷ []) (y ∷ z ∷ vs) v h m e = absurd (omega arith)
+flat_last (k ∷ l ∷ ks) (y ∷ []) v h m e = absurd (omega arith)
+flat_last (k ∷ l ∷ ks) (y ∷ z ∷ vs) v h m e = flat_last (l ∷ ks) (z ∷ vs) v (omega arith) (omega arith) (e ∙ last_cons y z vs v) ∙ sym (last_cons k y (l ∷ z ∷ flat (pairs ks vs)) v ∙ last_cons y l (z ∷ flat (pairs ks vs)) v)

@@ -14,8 +14,8 @@ braced_length x = omega (arith, length-append x (125 ∷ []))
 element_falls : (first : Bool) (x : Element) → IsElement x → deep-Element x ≤ length (write_element first (element_text x))
 element_falls first (Text t) h = omega arith
 element_falls first (Number m) h = omega arith
-element_falls first (Inner l) h = omega (arith, ap length (h.braced first), braced_length (write l.value))
-element_falls first (Dict l) h = omega (arith, ap length (h.braced first), braced_length (write (flat l.value)))
+element_falls first (Inner l) h = omega (arith, ap length (h.0.braced first), braced_length (write l.value))
+element_falls first (Dict l) h = omega (arith, ap length (h.0.braced first), braced_length (write (flat l.value)))
 
 rest_falls : (xs : List Element) → AreElements xs → most deep-Element xs ≤ length (write_rest (texts xs))
 rest_falls [] h = omega arith

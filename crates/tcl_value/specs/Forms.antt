@@ -1,11 +1,12 @@
 -- The text of a value, by the form in which it is kept, and what is kept beside it.
 use Rattle.std.specs.Prelude.{◌≡◌, ℕ, ◌≤◌, List, [], length, Ok}
 use Rattle.std.specs.Fmt.{signed_decimal}
+use Rattle.std.proofs.Common.{FitsSigned, w64}
 use Rattle.tcl_text.specs.declared.integer.Integers.TheVariants.{Tcl8, Tcl9}
 use Rattle.tcl_value.specs.Limits.{IsWithin}
 use Rattle.tcl_value.specs.Writing.{write}
 use Rattle.tcl_value.specs.Texts.{flat}
-use Rattle.tcl_value.specs.Reading.{int_of, list_of, IsNoInteger}
+use Rattle.tcl_value.specs.Reading.{int_of, list_of}
 use Rattle.tcl_value.specs.declared.value.Form.{Form}
 use Rattle.tcl_value.specs.declared.value.Form.TheVariants.{Empty, Text, Number, List as Items, Dict as Entries}
 use Rattle.tcl_value.specs.declared.value.Kept.{Kept}
@@ -19,13 +20,13 @@ form_text (Number n) = signed_decimal n
 form_text (Items items) = write items.value
 form_text (Entries entries) = write (flat entries.value)
 
--- what a form keeps is within the limit of a value, and a list or dict is no integer
+-- what a form keeps is within the limit of a value, and a list or dict is one that no number or single element writes
 abbrev pub IsForm : Form → Type 0
 IsForm Empty = Unit {0}
 IsForm (Text text) = IsWithin text
-IsForm (Number n) = length (signed_decimal n) ≤ 21
-IsForm (Items items) = IsWithin (write items.value) × IsNoInteger (write items.value)
-IsForm (Entries entries) = IsWithin (write (flat entries.value)) × IsNoInteger (write (flat entries.value))
+IsForm (Number n) = FitsSigned w64 n
+IsForm (Items items) = IsWithin (write items.value) × (2 ≤ length items.value)
+IsForm (Entries entries) = IsWithin (write (flat entries.value)) × (1 ≤ length entries.value)
 
 -- what is kept is what the text reads as
 abbrev pub IsKept : List ℕ → Kept → Type 0

@@ -4,4 +4,4 @@ pub mod Texts
 pub mod Falls
 pub mod Reading
 pub mod Forms
-pub mod Errors
+pub mod Changes

@@ -1,9 +1,9 @@
 -- The texts of elements, lists and dicts.
 use Rattle.std.specs.Prelude.{◌≡◌, ℕ, ◌+◌, ◌<◌, ◌≤◌, ◌==◌, Bool, true, false, List, [], ◌∷◌, ◌++◌, length, map}
 use Rattle.std.specs.Fmt.{signed_decimal}
+use Rattle.std.proofs.Common.{FitsSigned, w64}
 use Rattle.tcl_value.specs.Limits.{IsWithin}
 use Rattle.tcl_value.specs.Writing.{write_element, write}
-use Rattle.tcl_value.specs.Reading.{IsNoInteger}
 use Rattle.tcl_value.specs.declared.element.Element.{Element}
 use Rattle.tcl_value.specs.declared.element.Element.TheVariants.{Text, Number, List as Inner, Dict}
 
@@ -40,19 +40,18 @@ ends_in_backslash [] = false
 ends_in_backslash (b ∷ []) = b == 92
 ends_in_backslash (b ∷ c ∷ s) = ends_in_backslash (c ∷ s)
 
--- a text that is written in braces wherever it stands, and isn't one that an integer has
+-- a text that is written in braces wherever it stands
 pub record IsInner (x : List ℕ) : Type 0 where
   pub braced : (first : Bool) → write_element first x ≡ 123 ∷ x ++ 125 ∷ []
   pub ends : ends_in_backslash x ≡ false
   pub within : IsWithin x
-  pub no_integer : IsNoInteger x
 
 -- what an element keeps is short enough, and an inner list or dict is one that is written in braces
 abbrev pub IsElement : Element → Type 0
 IsElement (Text text) = IsWithin text
-IsElement (Number n) = length (signed_decimal n) ≤ 21
-IsElement (Inner items) = IsInner (write items.value)
-IsElement (Dict entries) = IsInner (write (flat entries.value))
+IsElement (Number n) = FitsSigned w64 n
+IsElement (Inner items) = IsInner (write items.value) × (2 ≤ length items.value)
+IsElement (Dict entries) = IsInner (write (flat entries.value)) × (1 ≤ length entries.value)
 
 abbrev pub AreElements : List Element → Type 0
 AreElements [] = Unit {0}

@@ -72,7 +72,7 @@ impl Element {
         ensures { result ≡ ends_in_backslash (element_text self.now) }
     {
         match self {
-            Element::Text(text) => text.as_str().as_bytes().last() == Some(&b'\\'),
+            Element::Text(text) => has_backslash_end(text.as_str().as_bytes()),
             Element::Number(_) | Element::List(_) | Element::Dict(_) => false,
         }
     }
@@ -84,6 +84,16 @@ impl Element {
             Element::List(items) => items.depth().saturating_add(1),
             Element::Dict(entries) => entries.depth().saturating_add(1),
         }
+    }
+}
+
+/// Whether the last byte is a backslash.
+fn has_backslash_end(text: &[u8]) -> bool
+    ensures { result ≡ ends_in_backslash text.now }
+{
+    match text {
+        [] => false,
+        [.., last] => *last == b'\\',
     }
 }
 

@@ -1,5 +1,5 @@
 //! Dicts that carry no text.
-ghost use Rattle.std.specs.Prelude.{◌≡◌, ◌++◌, length, IfOk, OnOk, IsTrue};
+ghost use Rattle.std.specs.Prelude.{◌≡◌, ◌≤◌, ◌++◌, length, IfOk, OnOk, IsTrue};
 ghost use Rattle.std.specs.String.{string_bytes};
 ghost use Rattle.tcl_value.specs.Limits.{IsWithin};
 ghost use Rattle.tcl_value.specs.Writing.{write};
@@ -45,7 +45,8 @@ impl Model for Entries {
 impl Entries {
     /// Whether it may stand in a list or dict without a text: its text is then written in braces.
     pub(crate) fn fits_inside(&self) -> bool
-        requires { IsWithin (write (flat self.now)) }
+        requires within { IsWithin (write (flat self.now)) }
+        requires some { 1 ≤ length self.now }
         ensures { IsTrue result → IsInner (write (flat self.now)) }
     {
         match self.values.last() {

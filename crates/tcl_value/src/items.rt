@@ -1,5 +1,5 @@
 //! Lists that carry no text.
-ghost use Rattle.std.specs.Prelude.{◌≡◌, ◌<◌, ◌++◌, ◌∷◌, ◌↔◌, [], length, IfOk, OnOk, OnErr, IfErr, IsErr, IsErrOf, IsTrue, slice_index_or, slice_set};
+ghost use Rattle.std.specs.Prelude.{◌≡◌, ◌<◌, ◌≤◌, ◌++◌, ◌∷◌, ◌↔◌, [], length, IfOk, OnOk, OnErr, IfErr, IsErr, IsErrOf, IsTrue, slice_index_or, slice_set};
 ghost use Rattle.std.specs.String.{string_bytes};
 ghost use Rattle.tcl_value.specs.Limits.{IsWithin, IsPast};
 ghost use Rattle.tcl_value.specs.Writing.{write};
@@ -86,12 +86,13 @@ impl Items {
 
     /// Whether it may stand in a list or dict without a text: its text is then written in braces.
     pub(crate) fn fits_inside(&self) -> bool
-        requires { IsWithin (write self.now) }
+        requires within { IsWithin (write self.now) }
+        requires several { 2 ≤ length self.now }
         ensures { IsTrue result → IsInner (write self.now) }
     {
-        match self.elements.as_slice() {
-            [] | [_] => false,
-            [.., last] => self.depth < MOST_DEPTH && !last.ends_in_backslash(),
+        match self.elements.last() {
+            None => false,
+            Some(last) => self.depth < MOST_DEPTH && !last.ends_in_backslash(),
         }
     }
 

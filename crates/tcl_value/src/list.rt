@@ -1,21 +1,21 @@
 //! Lists, whose elements are values.
-ghost use Rattle.std.specs.Prelude.{◌≡◌, ◌<◌, ◌==◌, Ok, MatchResult, ◌++◌, ◌∷◌, ◌↔◌, [], length, IfOk, OnOk, OnErr, IsErr, IfErr, IsErrOf, IsTrue, slice_index_or, slice_set};
+ghost use Rattle.std.specs.Prelude.{◌≡◌, ◌<◌, ◌==◌, ◌++◌, ◌∷◌, ◌↔◌, [], length, IfOk, OnOk, OnErr, IsErr, IfErr, IsErrOf, IsTrue, slice_index_or, slice_set};
 ghost use Rattle.std.specs.Fmt.{signed_decimal};
 ghost use Rattle.std.specs.String.{string_bytes};
 ghost use Rattle.tcl_value.specs.Limits.{IsWithin, IsPast};
 ghost use Rattle.tcl_value.specs.Writing.{write};
 ghost use Rattle.tcl_value.specs.Reading.{list_of};
-ghost use Rattle.tcl_value.specs.Errors.{IsListError};
+ghost use Rattle.tcl_text.specs.Reading.{Gives};
 ghost use Rattle.tcl_value.specs.Texts.{element_text, texts as texts_of, flat, AllWithin, IsElement, AreElements};
 
 use crate::element::Element;
 use crate::entries::Entries;
 use crate::items::Items;
-use crate::pending::read_list;
-use crate::value::{ListError, Value, ValueError};
+use crate::value::{Value, ValueError};
 use std::alloc::{AllocError, Global};
 use std::marker::Model;
 use std::rc::Rc;
+use tcl_text::list::{ListError, read_list};
 use tcl_text::text::Text;
 
 /// A list of values, which contracts see as the list of their texts.
@@ -63,7 +63,7 @@ impl List {
     /// The list that a text spells.
     pub(crate) fn read(alloc: Global, text: &str) -> Result<List, ListError>
         requires { IsWithin text.now }
-        ensures { MatchResult result (λ list. list_of text.now ≡ Ok list) (λ e. IsListError e (list_of text.now)) }
+        ensures { Gives (λ list. list) result (list_of text.now) }
     {
         let texts = read_list(alloc, text)?;
         let elements = elements_of(alloc, &texts)?;

@@ -1,21 +1,9 @@
 //! What lists and numbers take from the texts.
-ghost use Rattle.std.specs.Prelude.{◌≡◌, ◌≤◌, ◌*◌, ◌+◌, ◌++◌, length, Ok, OnOk, MatchResult};
+ghost use Rattle.std.specs.Prelude.{◌≡◌, ◌≤◌, ◌*◌, ◌+◌, ◌++◌, length, OnOk};
 ghost use Rattle.std.specs.String.{string_bytes};
-ghost use Rattle.tcl_value.specs.Reading.{list_of};
-ghost use Rattle.tcl_value.specs.Errors.{IsListError};
 ghost use Rattle.tcl_value.specs.Writing.{write_element};
 
-use crate::value::ListError;
-use std::alloc::{AllocError, Global};
-use tcl_text::text::Text;
-
-/// Reads a list.
-pub(crate) fn read_list(alloc: Global, text: &str) -> Result<Vec<Text>, ListError>
-    ensures { MatchResult result (λ texts. list_of text.now ≡ Ok texts.items) (λ e. IsListError e (list_of text.now)) }
-{
-    let _text = Text::new(alloc, text)?;
-    Err(ListError::Memory)
-}
+use std::alloc::AllocError;
 
 /// How many bytes write an element.
 pub(crate) fn written_len(text: &str, first: bool) -> usize

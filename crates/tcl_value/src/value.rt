@@ -1,12 +1,13 @@
 //! Values, each of which is seen as its text.
-ghost use Rattle.std.specs.Prelude.{◌≡◌, ◌≤◌, ◌<◌, ◌++◌, ◌∷◌, ◌↔◌, [], length, Ok, IfOk, OnOk, OnErr, IsErrOf, MatchResult, IfSome};
+ghost use Rattle.std.specs.Prelude.{◌≡◌, ◌≤◌, ◌<◌, ◌++◌, ◌∷◌, ◌↔◌, [], length, Ok, IfOk, OnOk, OnErr, IsErrOf, IfErr, MatchResult, IfSome};
 ghost use Rattle.std.specs.Fmt.{signed_decimal};
 ghost use Rattle.std.specs.String.{string_bytes};
 ghost use Rattle.tcl_value.specs.Limits.{Bytes, IsWithin, IsPast};
 ghost use Rattle.tcl_value.specs.Writing.{write};
-ghost use Rattle.tcl_value.specs.Texts.{element_text, IsElement};
+ghost use Rattle.tcl_value.specs.Texts.{element_text, flat, IsElement};
 ghost use Rattle.tcl_value.specs.Reading.{int_of, list_of};
-ghost use Rattle.tcl_value.specs.Errors.{IsListError};
+ghost use Rattle.tcl_text.specs.Reading.{Gives};
+ghost use Rattle.tcl_value.specs.Changes.{AtList, Refuses};
 
 use crate::element::Element;
 use crate::entries::Entries;
@@ -16,7 +17,7 @@ use std::alloc::{AllocError, AllocFailed, Global};
 use std::marker::Model;
 use std::rc::Rc;
 use tcl_text::integer::{Integers, IntegerFault, int_len, push_int, read_int, write_int};
-use tcl_text::list::ListFault;
+use tcl_text::list::{ListError, ListFault};
 use tcl_text::text::Text;
 
 /// The most bytes of UTF-8 that a value may have.
@@ -53,34 +54,53 @@ impl<T: Drop> From<AllocFailed<T>> for ValueError {
     }
 }
 
-/// Why a value isn't read as a list.
+/// Why a list or dict in a value isn't changed.
 #[derive(Debug, Drop)]
-pub enum ListError {
+pub enum ChangeError {
     /// Want of memory.
     Memory,
+    /// The text would be longer than [`MOST_BYTES`] (refusal 122).
+    TooLong,
     /// The text spells no list (101 to 104).
-    Fault(ListFault),
+    List(ListFault),
 }
 
-impl From<AllocError> for ListError {
+impl From<AllocError> for ChangeError {
     ghost use Rattle.std.specs.Prelude.{◌≡◌};
-    ghost use Rattle.tcl_value.specs.declared.value.ListError.TheVariants.{Memory};
+    ghost use Rattle.tcl_value.specs.declared.value.ChangeError.TheVariants.{Memory};
 
     ghost from_gives = { λ _ e. e ≡ Memory };
 
-    fn from(_e: AllocError) -> ListError {
-        ListError::Memory
+    fn from(_e: AllocError) -> ChangeError {
+        ChangeError::Memory
     }
 }
 
-impl<T: Drop> From<AllocFailed<T>> for ListError {
+impl From<ValueError> for ChangeError {
+    ghost use Rattle.tcl_value.specs.Changes.{change_of_value};
     ghost use Rattle.std.specs.Prelude.{◌≡◌};
-    ghost use Rattle.tcl_value.specs.declared.value.ListError.TheVariants.{Memory};
 
-    ghost from_gives = { λ _ e. e ≡ Memory };
+    ghost from_gives = { λ x e. e ≡ change_of_value x };
 
-    fn from(_e: AllocFailed<T>) -> ListError {
-        ListError::Memory
+    fn from(e: ValueError) -> ChangeError {
+        match e {
+            ValueError::Memory => ChangeError::Memory,
+            ValueError::TooLong => ChangeError::TooLong,
+        }
+    }
+}
+
+impl From<ListError> for ChangeError {
+    ghost use Rattle.tcl_value.specs.Changes.{change_of_list};
+    ghost use Rattle.std.specs.Prelude.{◌≡◌};
+
+    ghost from_gives = { λ x e. e ≡ change_of_list x };
+
+    fn from(e: ListError) -> ChangeError {
+        match e {
+            ListError::Memory => ChangeError::Memory,
+            ListError::Fault(fault) => ChangeError::List(fault),
+        }
     }
 }
 
@@ -274,7 +294,7 @@ impl Value {
 
     /// The list that its text reads as, read anew.
     fn read_list(&self, alloc: Global) -> Result<List, ListError>
-        ensures { MatchResult result (λ list. list_of self.now ≡ Ok list) (λ e. IsListError e (list_of self.now)) }
+        ensures { Gives (λ list. list) result (list_of self.now) }
     {
         match &self.form {
             Form::Empty => Ok(List::new(alloc)?),
@@ -290,7 +310,7 @@ impl Value {
     /// # Errors
     /// [`ListError::Fault`] exactly where the text spells no list (101 to 104); want of memory.
     pub fn as_list(&mut self, alloc: Global) -> Result<List, ListError>
-        ensures read { MatchResult result (λ list. list_of self.old ≡ Ok list) (λ e. IsListError e (list_of self.old)) }
+        ensures read { Gives (λ list. list) result (list_of self.old) }
         ensures text { self.new ≡ self.old }
     {
         if let Some(list) = self.list_at_hand()? {
@@ -328,25 +348,107 @@ impl Value {
         ensures text { IfOk result (λ element. element_text element ≡ self) }
         ensures element { IfOk result IsElement }
     {
-        match self.form {
+        let Value { form, kept: _ } = self;
+        match form {
             Form::Empty => Ok(Element::Text(Text::new(alloc, "")?)),
             Form::Text(text) => Ok(Element::Text(text)),
             Form::Number(n) => Ok(Element::Number(n)),
-            Form::List(items) if items.fits_inside() => Ok(Element::List(items)),
-            Form::List(items) => Ok(Element::Text(Text::from_string(alloc, items.write(alloc)?)?)),
-            Form::Dict(entries) if entries.fits_inside() => Ok(Element::Dict(entries)),
-            Form::Dict(entries) => {
-                Ok(Element::Text(Text::from_string(alloc, entries.write(alloc)?)?))
-            }
+            Form::List(items) => inner_list(alloc, items),
+            Form::Dict(entries) => inner_dict(alloc, entries),
         }
     }
 
-    /// Makes it a number, whatever it was.
+    /// Makes it a number, whatever it was. This takes no memory.
     pub fn set_int(&mut self, n: i64)
         ensures { self.new ≡ signed_decimal n }
     {
         *self = Value::from_int(n);
     }
+
+    /// Adds to its text: in place where the text isn't shared.
+    ///
+    /// # Errors
+    /// [`ValueError::TooLong`] exactly where the text would be longer than [`MOST_BYTES`]; want of memory. Either leaves
+    /// the value as it was.
+    pub fn append(&mut self, alloc: Global, more: &str) -> Result<(), ValueError>
+        ensures appended { OnOk result (self.new ≡ self.old ++ more.now) }
+        ensures within { OnOk result (IsWithin (self.old ++ more.now)) }
+        ensures refused { IsErrOf result ValueError.TooLong ↔ IsPast (self.old ++ more.now) }
+        ensures unchanged { OnErr result (self.new ≡ self.old) }
+    {
+        if more.len() > MOST_BYTES - self.text_len() {
+            return Err(ValueError::TooLong);
+        }
+        if let Form::Text(text) = &mut self.form {
+            self.kept = Kept::Nothing;
+            text.append(more)?;
+            return Ok(());
+        }
+        let mut text = self.text(alloc)?;
+        text.append(more)?;
+        *self = Value::from_short_text(text);
+        Ok(())
+    }
+
+    /// Adds an element to the list that it reads as: in place where it is kept as a list that isn't shared.
+    ///
+    /// # Errors
+    /// [`ChangeError::List`] exactly where the text spells no list, [`ChangeError::TooLong`] exactly where the list's text
+    /// would be longer than [`MOST_BYTES`]; want of memory. Any leaves the value as it was.
+    pub fn push(&mut self, alloc: Global, value: Value) -> Result<(), ChangeError>
+        ensures pushed { OnOk result (AtList (list_of self.old) (λ list. (self.new ≡ write (list ++ value ∷ [])) × IsWithin (write (list ++ value ∷ [])))) }
+        ensures refused { IfErr result (λ e. Refuses e (list_of self.old) (λ list. IsPast (write (list ++ value ∷ [])))) }
+        ensures unchanged { OnErr result (self.new ≡ self.old) }
+    {
+        let element = value.into_element(alloc)?;
+        if let Form::List(items) = &mut self.form {
+            self.kept = Kept::Nothing;
+            push_shared(items, element)?;
+            return Ok(());
+        }
+        let mut list = self.as_list(alloc)?;
+        self.kept = Kept::Nothing;
+        list.push_element(element)?;
+        *self = Value::from_list(alloc, list)?;
+        Ok(())
+    }
+}
+
+/// A list as an element: without a text where its text is written in braces.
+fn inner_list(alloc: Global, items: Rc<Items>) -> Result<Element, AllocError>
+    requires within { IsWithin (write items.value) }
+    requires several { 2 ≤ length items.value }
+    ensures text { IfOk result (λ element. element_text element ≡ write items.value) }
+    ensures element { IfOk result IsElement }
+{
+    if items.fits_inside() {
+        return Ok(Element::List(items));
+    }
+    Ok(Element::Text(Text::from_string(alloc, items.write(alloc)?)?))
+}
+
+/// A dict as an element: without a text where its text is written in braces.
+fn inner_dict(alloc: Global, entries: Rc<Entries>) -> Result<Element, AllocError>
+    requires within { IsWithin (write (flat entries.value)) }
+    requires some { 1 ≤ length entries.value }
+    ensures text { IfOk result (λ element. element_text element ≡ write (flat entries.value)) }
+    ensures element { IfOk result IsElement }
+{
+    if entries.fits_inside() {
+        return Ok(Element::Dict(entries));
+    }
+    Ok(Element::Text(Text::from_string(alloc, entries.write(alloc)?)?))
+}
+
+/// Adds an element to a list: in place where it isn't shared.
+fn push_shared(items: &mut Rc<Items>, element: Element) -> Result<(), ValueError>
+    requires { IsElement element }
+    ensures pushed { OnOk result (items.new.value ≡ items.old.value ++ element_text element ∷ []) }
+    ensures within { OnOk result (IsWithin (write items.new.value)) }
+    ensures refused { IsErrOf result ValueError.TooLong → IsPast (write (items.old.value ++ element_text element ∷ [])) }
+    ensures unchanged { OnErr result (items.new.value ≡ items.old.value) }
+{
+    Rc::make_mut(items)?.push(element)
 }
 
 /// The integer that the text of a number reads as.
