@@ -4,3 +4,4 @@ pub mod Indexes
 pub mod Backslash
 pub mod Lists
 pub mod Reading
+pub mod Writing

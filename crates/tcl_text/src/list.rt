@@ -4,11 +4,13 @@ ghost use Rattle.std.specs.List.{prefix_len, take_while};
 ghost use Rattle.std.specs.Str.{chars};
 ghost use Rattle.tcl_text.specs.Lists.{is_white, close_brace, none_open, count, units, ends, offending, element_at, list_of, Spells, HasFault, Decided, OneList, OneFault, NeverBoth, GivesList, GivesFault};
 ghost use Rattle.tcl_text.specs.Reading.{is_plain, stop_test, Gives, IfFault};
+ghost use Rattle.tcl_text.specs.Writing.{fault_message, shown_after};
 ghost use Rattle.tcl_text.specs.declared.list.ListFault.{ListFault};
 ghost use Rattle.tcl_text.specs.declared.list.ListError.TheVariants.{Memory};
 
 use crate::backslash::read_escape;
 use crate::characters::first_characters;
+pub use crate::list_writing::{write_element, write_list, written_len, written_list_spells_it};
 use crate::text::Text;
 use std::alloc::{AllocError, AllocFailed, Global};
 
@@ -23,6 +25,34 @@ pub enum ListFault {
     AfterBrace(Text),
     /// 104: this text follows an element in quotes in place of white space.
     AfterQuote(Text),
+}
+
+impl ListFault {
+    /// What an error says of it.
+    ///
+    /// # Errors
+    /// Want of memory.
+    pub fn message(&self, alloc: Global) -> Result<Text, AllocError>
+        ensures { IfOk result (λ made. made ≡ fault_message self.now) }
+    {
+        match self {
+            ListFault::UnmatchedBrace => Text::new(alloc, "unmatched open brace in list"),
+            ListFault::UnmatchedQuote => Text::new(alloc, "unmatched open quote in list"),
+            ListFault::AfterBrace(shown) => followed_message(alloc, "braces", shown),
+            ListFault::AfterQuote(shown) => followed_message(alloc, "quotes", shown),
+        }
+    }
+}
+
+fn followed_message(alloc: Global, kind: &str, shown: &Text) -> Result<Text, AllocError>
+    ensures { IfOk result (λ made. made ≡ shown_after kind.now shown.now) }
+{
+    let mut message = String::from_str(alloc, "list element in ")?;
+    message.push_str(kind)?;
+    message.push_str(" followed by \"")?;
+    message.push_str(shown.as_str())?;
+    message.push_str("\" instead of space")?;
+    Text::from_string(alloc, message)
 }
 
 /// Why no list was read.
@@ -50,7 +80,7 @@ impl<T: Drop> From<AllocFailed<T>> for ListError {
     }
 }
 
-fn is_white(byte: u8) -> bool
+pub(crate) fn is_white(byte: u8) -> bool
     ensures { result ≡ is_white byte }
 {
     byte == b' ' || (9..=13).contains(&byte)
@@ -81,16 +111,22 @@ fn is_end(text: &str) -> bool
 
 /// Braces as they are counted, from the left.
 #[derive(Clone, Copy)]
-struct Braces {
+pub(crate) struct Braces {
     /// How many are open.
-    depth: usize,
+    pub(crate) depth: usize,
     /// Whether the next character is skipped, since a backslash stands before it.
-    skips: bool,
+    pub(crate) skips: bool,
 }
 
 impl Braces {
+    /// Before the first byte.
+    pub(crate) const NONE_OPEN: Braces = Braces {
+        depth: 0,
+        skips: false,
+    };
+
     /// Counts a byte; `None` where it closes a brace that isn't open.
-    fn count(self, byte: u8) -> Option<Braces>
+    pub(crate) fn count(self, byte: u8) -> Option<Braces>
         requires { self.depth + 1 < 2 ^ 64 }
         ensures { result ≡ count self byte }
     {
@@ -122,10 +158,7 @@ impl Braces {
 fn split_braced(text: &str) -> Option<(&str, &str)>
     ensures { MatchOption result (close_brace text.now none_open ≡ None) (λ parts. close_brace text.now none_open ≡ Some (parts.0.now, parts.1.now)) }
 {
-    let mut braces = Braces {
-        depth: 0,
-        skips: false,
-    };
+    let mut braces = Braces::NONE_OPEN;
     'bytes: for (i, byte) in text.as_bytes().iter().enumerate() {
         match braces.count(*byte) {
             Some(next) => braces = next,
