@@ -9,7 +9,9 @@ use Rattle.tcl_value.specs.Reading.{int_of, list_of, IsNoInteger}
 use Rattle.tcl_value.proofs.Lasts.{last_cons}
 use Rattle.tcl_value.specs.Limits.{IsWithin}
 use Rattle.tcl_value.specs.Texts.{AllWithin, IsInner, ends_in_backslash}
-use Rattle.tcl_value.proofs.Written.{write_element-number}
+use Rattle.tcl_text.proofs.Spellings.{list_from}
+use Rattle.tcl_text.proofs.Writings.{written_spells}
+use Rattle.tcl_value.proofs.Written.{write_element-number, plain_signed, plain_end}
 use Rattle.std.specs.Prelude.{◌==◌}
 
 -- a number reads as itself
@@ -18,7 +20,7 @@ int_of-number style n h = ap in_64_bits (written_back style n h) ∙ fits_back n
 
 -- a list reads as itself
 pub list_of-write : (xs : List (List ℕ)) → list_of (write xs) ≡ Ok xs
-list_of-write xs = ?
+list_of-write xs = list_from xs (write xs) (written_spells xs)
 
 -- two elements or more are no integer
 pub write-no_integer : (x y : List ℕ) (xs : List (List ℕ)) → IsNoInteger (write (x ∷ y ∷ xs))
@@ -30,14 +32,18 @@ list_of-within s xs h e = ?
 
 -- the text of a number is a list of one
 pub list_of-number : (n : ℤ) → FitsSigned w64 n → list_of (signed_decimal n) ≡ Ok (signed_decimal n ∷ [])
-list_of-number n h = ?
+list_of-number n h = ap list_of (sym (append_nil (signed_decimal n)) ∙ ap (λ x. x ++ []) (sym (write_element-number true n h))) ∙ list_of-write (signed_decimal n ∷ [])
+  where
+    append_nil : (l : List ℕ) → l ++ [] ≡ l
+    append_nil [] = refl
+    append_nil (x ∷ l) = ap (λ m. x ∷ m) (append_nil l)
 
 -- a list whose last element doesn't end in a backslash is written in braces in another
 pub inner_list : (xs : List (List ℕ)) (i : ℕ) (last : List ℕ) → 2 ≤ length xs → last ≡ get_or xs (length xs - 1) last → ends_in_backslash last ≡ false → IsWithin (write xs) → IsInner (write xs)
 inner_list xs i last many at ends within = ?
 
 pub number_end : (n : ℤ) → FitsSigned w64 n → ends_in_backslash (signed_decimal n) ≡ false
-number_end n h = ?
+number_end n h = plain_end (signed_decimal n) (plain_signed n h).plain
 
 pub empty_list : (xs : List (List ℕ)) → length xs ≡ 0 → list_of [] ≡ Ok xs
 empty_list [] h = list_of-write []

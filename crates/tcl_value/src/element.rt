@@ -7,7 +7,7 @@ ghost use Rattle.tcl_value.specs.Texts.{element_text, ends_in_backslash, IsEleme
 
 use crate::entries::Entries;
 use crate::items::Items;
-use crate::pending::{write_element_to, written_len};
+use tcl_text::list::{write_element, written_len};
 use std::alloc::AllocError;
 use std::rc::Rc;
 use tcl_text::integer::{int_len, push_int};
@@ -51,7 +51,7 @@ impl Element {
         ensures { OnOk result (string_bytes out.new ≡ string_bytes out.old ++ write_element first (element_text self.now)) }
     {
         match self {
-            Element::Text(text) => write_element_to(text.as_str(), first, out),
+            Element::Text(text) => write_element(out, text.as_str(), first),
             Element::Number(n) => write_number_to(*n, first, out),
             Element::List(items) => {
                 out.push('{')?;

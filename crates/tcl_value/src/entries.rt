@@ -6,7 +6,7 @@ ghost use Rattle.tcl_value.specs.Writing.{write};
 ghost use Rattle.tcl_value.specs.Texts.{texts, flat, IsInner, AreElements};
 
 use crate::element::{Element, MOST_DEPTH};
-use crate::pending::write_element_to;
+use tcl_text::list::write_element;
 use indexmap::IndexSet;
 use std::alloc::{AllocError, Global};
 use std::marker::Model;
@@ -93,7 +93,7 @@ impl Entries {
                 out.push(' ')?;
             }
             let key = self.keys.get_index(index).unwrap();
-            write_element_to(key.as_str(), index == 0, out)?;
+            write_element(out, key.as_str(), index == 0)?;
             out.push(' ')?;
             value.write_to(false, out)?;
         }

@@ -5,5 +5,4 @@ mod element;
 mod entries;
 mod items;
 pub mod list;
-mod pending;
 pub mod value;

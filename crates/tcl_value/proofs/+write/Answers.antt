@@ -39,7 +39,7 @@ entries::Entries::write_to-entries-preserved t c =
         entries::Entries::write_to-then-index-gt0+in_ok-push w ↦ inl (omega arith, ap string_bytes w.out-is ∙ w.in_ok-push.ensures.bytes)
       | entries::Entries::write_to-else-index-gt0 w ↦ inr (omega arith, ap string_bytes w.out-is) ])
       (c.in_ok-write_to.ensures
-        ∙ ap (λ l. l ++ write_element false (element_text c.value-item.result)) (c.in_ok-push-2.ensures.bytes ∙ ap (λ l. l ++ 32 ∷ []) (c.in_ok-write_element_to.ensures ∙ ap (λ k. string_bytes c.if-index-gt0.out ++ write_element (c.entries.index == 0) k) c.as_str.ensures)))
+        ∙ ap (λ l. l ++ write_element false (element_text c.value-item.result)) (c.in_ok-push-2.ensures.bytes ∙ ap (λ l. l ++ 32 ∷ []) (c.in_ok-write_element.ensures.added ∙ ap (λ k. string_bytes c.if-index-gt0.out ++ write_element (c.entries.index == 0) k) c.as_str.ensures)))
 
 pub entries::Entries::write_to-returns : goal.entries::Entries::write_to-returns
 entries::Entries::write_to-returns t c =
