@@ -7,5 +7,5 @@ pub mod integer;
 pub mod backslash;
 pub mod characters;
 pub mod list;
-mod list_writing;
+pub mod list_writing;
 pub mod text;
