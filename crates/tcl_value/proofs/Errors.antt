@@ -1,5 +1,5 @@
 -- Which error it is.
-use Rattle.std.proofs.Common.{◌≡◌, sym, ◌∙◌, ap, Result, Ok, Err}
+use Rattle.std.proofs.Common.{◌≡◌, Result, Ok, Err}
 use Rattle.std.specs.Prelude.{IsErrOf, IsErrAnd, OnErr}
 use Rattle.tcl_value.specs.declared.value.ValueError.{ValueError}
 use Rattle.tcl_value.specs.declared.value.ValueError.TheVariants.{Memory, TooLong}

@@ -3,6 +3,7 @@ pub mod Written
 pub mod Weights
 pub mod Lasts
 pub mod Writes
+pub mod Spaces
 pub mod Laws
-pub mod Ends
+pub mod Changed
 pub mod Errors

@@ -1,5 +1,5 @@
 -- How long the texts of numbers are.
-use Rattle.std.proofs.Common.{◌≡◌, ℕ, ◌≤◌, ℤ, pos, negsuc, suc, length, arith, FitsSigned, w64}
+use Rattle.std.proofs.Common.{◌≤◌, ℤ, pos, negsuc, suc, length, arith, FitsSigned, w64}
 use Rattle.std.specs.Fmt.{signed_decimal}
 use Rattle.std.proofs.lemmas.Fmt.{length-decimal-le}
 

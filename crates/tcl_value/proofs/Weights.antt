@@ -1,10 +1,9 @@
 -- What lists weigh.
 use Rattle.std.proofs.lemmas.List.{length-map, take_more, length-take}
-use Rattle.std.proofs.Common.{◌≡◌, ℕ, ◌+◌, ◌-◌, ◌*◌, ◌<◌, ◌≤◌, ◌^◌, suc, zero, Bool, true, false, List, [], ◌∷◌, ◌++◌, length, refl, sym, ◌∙◌, ap, subst, arith, length-append, set, get_or, map, take, ◌⊎◌, inl, inr}
-use Rattle.std.specs.Prelude.{◌==◌, ◌≢◌}
+use Rattle.std.proofs.Common.{◌≡◌, ℕ, ◌+◌, ◌-◌, ◌*◌, ◌<◌, ◌≤◌, ◌^◌, suc, zero, Bool, true, false, List, [], ◌∷◌, ◌++◌, length, refl, sym, ◌∙◌, ap, subst, arith, length-append, set, get_or, take, ◌⊎◌, inl, inr}
+use Rattle.std.specs.Prelude.{◌==◌}
 use Rattle.std.specs.List.{AllZip}
 use Rattle.std.proofs.lemmas.Bool.Decides.{nat_tests}
-use Rattle.tcl_value.specs.Limits.{IsWithin, IsPast}
 use Rattle.tcl_value.specs.Writing.{write_element, write_rest, write}
 use Rattle.tcl_value.specs.Texts.{weight_from, weight, element_text, texts, IsElement, AreElements, IsSame}
 use Rattle.tcl_value.specs.declared.element.Element.{Element}

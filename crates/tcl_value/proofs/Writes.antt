@@ -1,12 +1,12 @@
 -- Lists that are written an element at a time.
-use Rattle.std.proofs.Common.{◌≡◌, ℕ, ◌+◌, ◌-◌, ◌*◌, ◌<◌, ◌≤◌, suc, zero, Bool, true, false, List, [], ◌∷◌, ◌++◌, length, refl, sym, ◌∙◌, ap, subst, arith, length-append, append_assoc, get_or, take, ◌⊎◌, inl, inr}
+use Rattle.std.proofs.Common.{◌≡◌, ℕ, ◌+◌, ◌-◌, ◌*◌, ◌<◌, ◌≤◌, suc, zero, Bool, true, false, List, [], ◌∷◌, ◌++◌, length, refl, sym, ◌∙◌, ap, subst, arith, append_assoc, get_or, take, ◌⊎◌, inl, inr}
 use Rattle.std.specs.Prelude.{◌==◌}
 use Rattle.std.proofs.lemmas.Bool.Decides.{nat_tests}
 use Rattle.std.proofs.lemmas.List.{take_more, length-take}
 use Rattle.tcl_value.specs.Writing.{write_element, write_rest, write}
 use Rattle.tcl_value.proofs.Lasts.{last_cons}
 use Rattle.tcl_value.specs.Limits.{IsWithin}
-use Rattle.tcl_value.specs.Texts.{AllWithin, flat, pairs, element_text, texts, AreElements, IsElement, IsItems, IsEntries}
+use Rattle.tcl_value.specs.Texts.{AllWithin, flat, pairs, element_text, texts, AreElements, IsElement}
 use Rattle.tcl_value.specs.declared.element.Element.{Element}
 use Rattle.tcl_value.specs.declared.element.Element.TheVariants.{Text}
 use Rattle.tcl_value.proofs.Weights.{starts, texts-push, AreElements-push}
@@ -97,12 +97,14 @@ take_entry ks vs i k v start out mid now same h ke ve o m n =
     first [] i start out mid l o (inr k) = k.1 ∙ o
     first (e ∷ es) i start out mid l o (inl k) = k.1 ∙ ap (λ t. t ++ 32 ∷ []) o ∙ append_assoc start (write (flat (e ∷ es))) (32 ∷ [])
     first (e ∷ es) i start out mid l o (inr k) = absurd (omega (arith, k.0))
+
     key_written : (es : List (List ℕ × List ℕ)) (i : ℕ) (k start out mid : List ℕ) → length es ≡ i → out ≡ start ++ write (flat es) → ((0 < i) × (mid ≡ out ++ 32 ∷ [])) ⊎ ((i ≤ 0) × (mid ≡ out)) → mid ++ write_element (i == 0) k ≡ start ++ write (flat es ++ k ∷ [])
     key_written es i k start out mid l o m =
         ap (λ t. t ++ write_element (i == 0) k) (first es i start out mid l o m)
         ∙ append_assoc start (write (flat es) ++ separator (flat es)) (write_element (i == 0) k)
         ∙ ap (λ b. start ++ ((write (flat es) ++ separator (flat es)) ++ write_element b k)) (sym (flat_starts es i l))
         ∙ ap (λ t. start ++ t) (sym (write-push (flat es) k))
+
     joined : (es : List (List ℕ × List ℕ)) (i : ℕ) (k v start out mid : List ℕ) → length es ≡ i → out ≡ start ++ write (flat es) → ((0 < i) × (mid ≡ out ++ 32 ∷ [])) ⊎ ((i ≤ 0) × (mid ≡ out)) → ((mid ++ write_element (i == 0) k) ++ 32 ∷ []) ++ write_element false v ≡ start ++ write (flat (es ++ (k, v) ∷ []))
     joined es i k v start out mid l o m =
         ap (λ t. (t ++ 32 ∷ []) ++ write_element false v) (key_written es i k start out mid l o m)

@@ -1,25 +1,20 @@
 -- What is known of written elements.
-use Rattle.std.proofs.Common.{◌≡◌, ℕ, ◌+◌, ◌*◌, ◌<◌, ◌≤◌, ◌^◌, ◌%◌, suc, zero, Bool, true, false, cond, ℤ, pos, negsuc, List, [], ◌∷◌, ◌++◌, length, refl, sym, ◌∙◌, ap, arith, FitsSigned, w64}
+use Rattle.std.proofs.Common.{◌≡◌, ℕ, ◌+◌, ◌*◌, ◌<◌, ◌≤◌, ◌^◌, ◌%◌, suc, Bool, true, false, cond, ℤ, pos, negsuc, List, [], ◌∷◌, ◌++◌, length, refl, arith, FitsSigned, w64}
 use Rattle.std.specs.Prelude.{◌==◌, ◌||◌, count_by}
-use Rattle.std.specs.List.{list_any}
 use Rattle.std.specs.Fmt.{decimal, signed_decimal}
 use Rattle.std.proofs.lemmas.Fmt.{decimal_by_steps}
 use Rattle.std.proofs.lemmas.Bool.Decides.{nat_tests}
+use Rattle.std.proofs.lemmas.List.Sums.{count_by-le-length}
 use Rattle.tcl_text.specs.declared.list_writing.Form.{Form}
 use Rattle.tcl_text.specs.declared.list_writing.Form.TheVariants.{Plain, Braced, Escaped}
-use Rattle.tcl_text.specs.Writing.{is_special, has_special, begins_with_hash, is_comment, form_of, hash_mark, written}
+use Rattle.tcl_text.specs.Writing.{is_special, has_special, begins_with_hash, is_comment, fits_braces, form_of, hash_mark, written}
 use Rattle.tcl_text.proofs.Pushes.{written_plain, plain_len, braced_len, marked_len}
 use Rattle.tcl_value.specs.Writing.{write_element}
 use Rattle.tcl_value.specs.Texts.{ends_in_backslash}
 
 -- at most each byte takes two, and there are braces
 count_at_most : (p : ℕ → Bool) (x : List ℕ) → count_by p x ≤ length x
-count_at_most p [] = omega arith
-count_at_most p (b ∷ x) = one (p b) (count_by p x) (length x) (count_at_most p x)
-  where
-    one : (t : Bool) (m n : ℕ) → m ≤ n → cond t 1 0 + m ≤ suc n
-    one true m n h = omega arith
-    one false m n h = omega arith
+count_at_most p x = count_by-le-length p x
 
 mark_at_most : (b : Bool) → length (hash_mark b) ≤ 1
 mark_at_most true = omega arith
@@ -66,16 +61,20 @@ digit_hash : (d : ℕ) → d < 10 → (48 + d == 35) ≡ false
 digit_hash d h = grind (arith, nat_tests)
 
 pub plain_decimal : (n : ℕ) → n < 2 ^ 64 → IsPlainText (decimal n)
-plain_decimal n h = decimal_by_steps (λ n ds. IsPlainText ds) (λ n h. record { some = omega arith; plain = both_false _ false (digit_special n h) refl; hash = digit_hash n h }) (λ n ds low h. plain-append ds _ h (digit_special _ (omega arith))) n h
+plain_decimal n h = decimal_by_steps (λ n ds. IsPlainText ds) (λ n h. record { some = omega arith; plain = both_false _ false (digit_special n h) refl; hash = digit_hash n h }) (λ n ds low h. plain-append ds (48 + n % 10) h (digit_special (n % 10) (omega arith))) n h
 
 pub plain_signed : (n : ℤ) → FitsSigned w64 n → IsPlainText (signed_decimal n)
 plain_signed (pos n) h = plain_decimal n (omega arith)
 plain_signed (negsuc n) h = record { some = omega arith; plain = both_false false _ refl (plain_decimal (suc n) (omega arith)).plain; hash = refl }
 
+by_test : (t : Bool) (f g : Form) → t ≡ false → cond t f g ≡ g
+by_test true f g h = absurd (cc)
+by_test false f g h = refl
+
 plain_form : (first : Bool) (x : List ℕ) → IsPlainText x → form_of first x ≡ Plain
 plain_form first [] h = absurd (omega (arith, h.some))
-plain_form true (b ∷ x) h = ap (λ t. cond t _ Plain) (both_false (has_special (b ∷ x)) _ h.plain h.hash)
-plain_form false (b ∷ x) h = ap (λ t. cond t _ Plain) (both_false (has_special (b ∷ x)) _ h.plain refl)
+plain_form true (b ∷ x) h = by_test (has_special (b ∷ x) || begins_with_hash (b ∷ x)) (cond (fits_braces (b ∷ x)) Braced Escaped) Plain (both_false (has_special (b ∷ x)) _ h.plain h.hash)
+plain_form false (b ∷ x) h = by_test (has_special (b ∷ x) || false) (cond (fits_braces (b ∷ x)) Braced Escaped) Plain (both_false (has_special (b ∷ x)) false h.plain refl)
 
 -- a number is written as it is
 pub write_element-number : (first : Bool) (n : ℤ) → FitsSigned w64 n → write_element first (signed_decimal n) ≡ signed_decimal n

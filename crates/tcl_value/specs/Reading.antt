@@ -1,10 +1,7 @@
 -- What texts read as.
-use Rattle.std.specs.Prelude.{◌≡◌, ℕ, ℤ, List, [], ◌∷◌, Option, None, Some, Result, Ok, Err}
-use Rattle.std.specs.Str.{bytes_eq}
-use Rattle.indexmap.specs.IndexMap.{insert_entry}
+use Rattle.std.specs.Prelude.{◌≡◌, ℕ, ℤ, List, None, Result}
 use Rattle.tcl_text.specs.declared.integer.Integers.{Integers}
 use Rattle.tcl_text.specs.declared.integer.IntegerFault.{IntegerFault}
-use Rattle.tcl_text.specs.declared.list.ListFault.{ListFault}
 use Rattle.tcl_text.specs.Numbers.{integer_of, in_64_bits}
 pub use Rattle.tcl_text.specs.Lists.{list_of}
 

@@ -1,5 +1,5 @@
 -- The texts of elements, lists and dicts.
-use Rattle.std.specs.Prelude.{◌≡◌, ℕ, ◌+◌, ◌<◌, ◌≤◌, ◌==◌, Bool, true, false, List, [], ◌∷◌, ◌++◌, length, map}
+use Rattle.std.specs.Prelude.{◌≡◌, ℕ, ◌+◌, ◌≤◌, ◌==◌, Bool, true, false, List, [], ◌∷◌, ◌++◌, length, map}
 use Rattle.std.specs.Fmt.{signed_decimal}
 use Rattle.std.proofs.Common.{FitsSigned, w64}
 use Rattle.tcl_value.specs.Limits.{IsWithin}

@@ -3,18 +3,15 @@ ghost use Rattle.std.specs.Prelude.{◌≡◌, ◌≤◌, ◌++◌, length, OnOk
 ghost use Rattle.std.specs.String.{string_bytes};
 ghost use Rattle.std.specs.Fmt.{signed_decimal};
 ghost use Rattle.tcl_value.specs.Writing.{write_element};
-ghost use Rattle.tcl_value.specs.Texts.{element_text, ends_in_backslash, IsElement};
+ghost use Rattle.tcl_value.specs.Texts.{element_text, IsElement};
 
 use crate::entries::Entries;
 use crate::items::Items;
-use tcl_text::list::{write_element, written_len};
 use std::alloc::AllocError;
 use std::rc::Rc;
 use tcl_text::integer::{int_len, push_int};
+use tcl_text::list::{write_element, written_len};
 use tcl_text::text::Text;
-
-/// How deep lists and dicts may stand in one another without a text: what writes, drops or copies them goes down as deep.
-pub(crate) const MOST_DEPTH: u32 = 100;
 
 /// An element, which may be kept as the number, the list or the dict that its text writes.
 #[cycle(element)]
@@ -66,17 +63,6 @@ impl Element {
         }
     }
 
-    /// Whether its text ends in a backslash.
-    pub(crate) fn ends_in_backslash(&self) -> bool
-        requires { IsElement self.now }
-        ensures { result ≡ ends_in_backslash (element_text self.now) }
-    {
-        match self {
-            Element::Text(text) => has_backslash_end(text.as_str().as_bytes()),
-            Element::Number(_) | Element::List(_) | Element::Dict(_) => false,
-        }
-    }
-
     /// How deep lists and dicts stand in it, at most.
     pub(crate) fn depth(&self) -> u32 {
         match self {
@@ -84,16 +70,6 @@ impl Element {
             Element::List(items) => items.depth().saturating_add(1),
             Element::Dict(entries) => entries.depth().saturating_add(1),
         }
-    }
-}
-
-/// Whether the last byte is a backslash.
-fn has_backslash_end(text: &[u8]) -> bool
-    ensures { result ≡ ends_in_backslash text.now }
-{
-    match text {
-        [] => false,
-        [.., last] => *last == b'\\',
     }
 }
 

@@ -1,15 +1,15 @@
 //! Dicts that carry no text.
-ghost use Rattle.std.specs.Prelude.{◌≡◌, ◌≤◌, ◌++◌, length, IfOk, OnOk, IsTrue};
+ghost use Rattle.std.specs.Prelude.{◌≡◌, ◌++◌, length, IfOk, OnOk};
 ghost use Rattle.std.specs.String.{string_bytes};
 ghost use Rattle.tcl_value.specs.Limits.{IsWithin};
 ghost use Rattle.tcl_value.specs.Writing.{write};
-ghost use Rattle.tcl_value.specs.Texts.{texts, flat, IsInner, AreElements};
+ghost use Rattle.tcl_value.specs.Texts.{texts, flat, AreElements};
 
-use crate::element::{Element, MOST_DEPTH};
-use tcl_text::list::write_element;
+use crate::element::Element;
 use indexmap::IndexSet;
 use std::alloc::{AllocError, Global};
 use std::marker::Model;
+use tcl_text::list::write_element;
 use tcl_text::text::Text;
 
 /// The entries of a dict: keys in the order in which they came, and at the same places their values.
@@ -43,18 +43,6 @@ impl Model for Entries {
 }
 
 impl Entries {
-    /// Whether it may stand in a list or dict without a text: its text is then written in braces.
-    pub(crate) fn fits_inside(&self) -> bool
-        requires within { IsWithin (write (flat self.now)) }
-        requires some { 1 ≤ length self.now }
-        ensures { IsTrue result → IsInner (write (flat self.now)) }
-    {
-        match self.values.last() {
-            None => false,
-            Some(last) => self.depth < MOST_DEPTH && !last.ends_in_backslash(),
-        }
-    }
-
     /// Its keys and values in turn.
     ///
     /// # Errors

@@ -3,9 +3,9 @@ ghost use Rattle.std.specs.Prelude.{◌≡◌, ◌<◌, ◌≤◌, ◌++◌, ◌
 ghost use Rattle.std.specs.String.{string_bytes};
 ghost use Rattle.tcl_value.specs.Limits.{IsWithin, IsPast};
 ghost use Rattle.tcl_value.specs.Writing.{write};
-ghost use Rattle.tcl_value.specs.Texts.{element_text, texts, IsElement, IsInner, AreElements, weight};
+ghost use Rattle.tcl_value.specs.Texts.{element_text, texts, IsElement, AreElements, weight};
 
-use crate::element::{Element, MOST_DEPTH};
+use crate::element::Element;
 use crate::value::ValueError;
 use std::alloc::{AllocError, Global};
 use std::marker::Model;
@@ -60,7 +60,11 @@ impl Items {
         ensures { result ≡ texts elements.items }
     {
         let weight = weigh(&elements);
-        let depth = elements.iter().map(|element| element.depth()).max().unwrap_or(0);
+        let depth = elements
+            .iter()
+            .map(|element| element.depth())
+            .max()
+            .unwrap_or(0);
         Items {
             elements,
             weight,
@@ -82,18 +86,6 @@ impl Items {
         ensures element { IsElement result.now }
     {
         &self.elements[index]
-    }
-
-    /// Whether it may stand in a list or dict without a text: its text is then written in braces.
-    pub(crate) fn fits_inside(&self) -> bool
-        requires within { IsWithin (write self.now) }
-        requires several { 2 ≤ length self.now }
-        ensures { IsTrue result → IsInner (write self.now) }
-    {
-        match self.elements.last() {
-            None => false,
-            Some(last) => self.depth < MOST_DEPTH && !last.ends_in_backslash(),
-        }
     }
 
     /// How many bytes its text has.

@@ -6,12 +6,12 @@ ghost use Rattle.tcl_value.specs.Limits.{IsWithin, IsPast};
 ghost use Rattle.tcl_value.specs.Writing.{write};
 ghost use Rattle.tcl_value.specs.Reading.{list_of};
 ghost use Rattle.tcl_text.specs.Reading.{Gives};
-ghost use Rattle.tcl_value.specs.Texts.{element_text, texts as texts_of, flat, AllWithin, IsElement, AreElements};
+ghost use Rattle.tcl_value.specs.Texts.{element_text, texts as texts_of, flat, IsElement, AreElements};
 
 use crate::element::Element;
 use crate::entries::Entries;
 use crate::items::Items;
-use crate::value::{Value, ValueError};
+use crate::value::{MOST_BYTES, Value, ValueError};
 use std::alloc::{AllocError, Global};
 use std::marker::Model;
 use std::rc::Rc;
@@ -62,7 +62,6 @@ impl List {
 
     /// The list that a text spells.
     pub(crate) fn read(alloc: Global, text: &str) -> Result<List, ListError>
-        requires { IsWithin text.now }
         ensures { Gives (λ list. list) result (list_of text.now) }
     {
         let texts = read_list(alloc, text)?;
@@ -149,12 +148,14 @@ impl List {
 
 /// The elements of these texts.
 fn elements_of(alloc: Global, texts: &[Text]) -> Result<Vec<Element>, AllocError>
-    requires { AllWithin texts.now }
     ensures texts { IfOk result (λ made. texts_of made.items ≡ texts.now) }
     ensures elements { IfOk result (λ made. AreElements made.items) }
 {
     let mut elements = Vec::with_capacity(alloc, texts.len())?;
     'texts: for text in texts {
+        if text.len() > MOST_BYTES {
+            return Err(AllocError);
+        }
         elements.push(Element::Text(text.clone()?))?;
     }
     Ok(elements)

@@ -16,7 +16,7 @@ use crate::list::List;
 use std::alloc::{AllocError, AllocFailed, Global};
 use std::marker::Model;
 use std::rc::Rc;
-use tcl_text::integer::{Integers, IntegerFault, int_len, push_int, read_int, write_int};
+use tcl_text::integer::{IntegerFault, Integers, int_len, push_int, read_int, write_int};
 use tcl_text::list::{ListError, ListFault};
 use tcl_text::text::Text;
 
@@ -353,8 +353,10 @@ impl Value {
             Form::Empty => Ok(Element::Text(Text::new(alloc, "")?)),
             Form::Text(text) => Ok(Element::Text(text)),
             Form::Number(n) => Ok(Element::Number(n)),
-            Form::List(items) => inner_list(alloc, items),
-            Form::Dict(entries) => inner_dict(alloc, entries),
+            Form::List(items) => Ok(Element::Text(Text::from_string(alloc, items.write(alloc)?)?)),
+            Form::Dict(entries) => {
+                Ok(Element::Text(Text::from_string(alloc, entries.write(alloc)?)?))
+            }
         }
     }
 
@@ -403,8 +405,7 @@ impl Value {
         let element = value.into_element(alloc)?;
         if let Form::List(items) = &mut self.form {
             self.kept = Kept::Nothing;
-            push_shared(items, element)?;
-            return Ok(());
+            return push_shared(items, element);
         }
         let mut list = self.as_list(alloc)?;
         self.kept = Kept::Nothing;
@@ -414,41 +415,18 @@ impl Value {
     }
 }
 
-/// A list as an element: without a text where its text is written in braces.
-fn inner_list(alloc: Global, items: Rc<Items>) -> Result<Element, AllocError>
-    requires within { IsWithin (write items.value) }
-    requires several { 2 ≤ length items.value }
-    ensures text { IfOk result (λ element. element_text element ≡ write items.value) }
-    ensures element { IfOk result IsElement }
-{
-    if items.fits_inside() {
-        return Ok(Element::List(items));
-    }
-    Ok(Element::Text(Text::from_string(alloc, items.write(alloc)?)?))
-}
-
-/// A dict as an element: without a text where its text is written in braces.
-fn inner_dict(alloc: Global, entries: Rc<Entries>) -> Result<Element, AllocError>
-    requires within { IsWithin (write (flat entries.value)) }
-    requires some { 1 ≤ length entries.value }
-    ensures text { IfOk result (λ element. element_text element ≡ write (flat entries.value)) }
-    ensures element { IfOk result IsElement }
-{
-    if entries.fits_inside() {
-        return Ok(Element::Dict(entries));
-    }
-    Ok(Element::Text(Text::from_string(alloc, entries.write(alloc)?)?))
-}
-
 /// Adds an element to a list: in place where it isn't shared.
-fn push_shared(items: &mut Rc<Items>, element: Element) -> Result<(), ValueError>
+fn push_shared(items: &mut Rc<Items>, element: Element) -> Result<(), ChangeError>
     requires { IsElement element }
     ensures pushed { OnOk result (items.new.value ≡ items.old.value ++ element_text element ∷ []) }
     ensures within { OnOk result (IsWithin (write items.new.value)) }
-    ensures refused { IsErrOf result ValueError.TooLong → IsPast (write (items.old.value ++ element_text element ∷ [])) }
+    ensures refused { IfErr result (λ e. Refuses e (Ok items.old.value) (λ list. IsPast (write (list ++ element_text element ∷ [])))) }
     ensures unchanged { OnErr result (items.new.value ≡ items.old.value) }
 {
-    Rc::make_mut(items)?.push(element)
+    match Rc::make_mut(items) {
+        Ok(own) => own.push(element).map_err(ChangeError::from),
+        Err(_) => Err(ChangeError::Memory),
+    }
 }
 
 /// The integer that the text of a number reads as.

@@ -1,6 +1,5 @@
-use Rattle.std.proofs.Common.{◌≡◌, ◌++◌, ◌∷◌, [], ap, ◌∙◌, sym, subst, rules, arith, ℕ, List, length, ◌<◌, ◌≤◌, get_or, take, inl, inr}
+use Rattle.std.proofs.Common.{◌≡◌, ◌++◌, ◌∷◌, [], ap, ◌∙◌, sym, subst, arith, length, ◌<◌, get_or, take, inl, inr}
 use Rattle.std.specs.String.{string_bytes}
-use Rattle.tcl_value.specs.declared.element.Element.{Element}
 use Rattle.tcl_value.specs.declared.entries.Entries.TheDeep.{deep-Element}
 use Rattle.std.specs.Prelude.{◌==◌, false}
 use Rattle.std.specs.Option.{option_copied}
@@ -30,16 +29,17 @@ entries::Entries::write_to-entries-preserved t c =
     let same = ap length c.deref-value-items.ensures.value in
     let lengths : length c.self.inside.keys.keys ≡ length (texts c.deref-value-items.result.now) = omega (arith, c.self.invariant.same, length-texts c.deref-value-items.result.now) in
     take_entry c.self.inside.keys.keys (texts c.deref-value-items.result.now) c.entries.index c.unwrap-key.result.now (element_text c.value-item.result) (string_bytes c.args.out.now) (string_bytes c.entries.out) (string_bytes c.if-index-gt0.out) (string_bytes c.write_to.new.out)
-      lengths
-      (omega (arith, length-texts c.deref-value-items.result.now))
-      (sym (get_or_from_slice_get c.self.inside.keys.keys c.entries.index c.unwrap-key.result.now c.unwrap-key.result.now (sym c.get_index.ensures.key ∙ ap option_copied c.unwrap-key.ensures)))
-      (ap element_text c.value-item.is ∙ texts-get c.deref-value-items.result.now c.entries.index c.value-item.result)
-      c.entries.invariant
-      (elim c.if-index-gt0.branch [
-        entries::Entries::write_to-then-index-gt0+in_ok-push w ↦ inl (omega arith, ap string_bytes w.out-is ∙ w.in_ok-push.ensures.bytes)
-      | entries::Entries::write_to-else-index-gt0 w ↦ inr (omega arith, ap string_bytes w.out-is) ])
-      (c.in_ok-write_to.ensures
-        ∙ ap (λ l. l ++ write_element false (element_text c.value-item.result)) (c.in_ok-push-2.ensures.bytes ∙ ap (λ l. l ++ 32 ∷ []) (c.in_ok-write_element.ensures.added ∙ ap (λ k. string_bytes c.if-index-gt0.out ++ write_element (c.entries.index == 0) k) c.as_str.ensures)))
+    lengths
+    (omega (arith, length-texts c.deref-value-items.result.now))
+    (sym (get_or_from_slice_get c.self.inside.keys.keys c.entries.index c.unwrap-key.result.now c.unwrap-key.result.now (sym c.get_index.ensures.key ∙ ap option_copied c.unwrap-key.ensures)))
+    (ap element_text c.value-item.is ∙ texts-get c.deref-value-items.result.now c.entries.index c.value-item.result)
+    c.entries.invariant
+    (elim c.if-index-gt0.branch [
+      | entries::Entries::write_to-then-index-gt0+in_ok-push w ↦ inl (omega arith, ap string_bytes w.out-is ∙ w.in_ok-push.ensures.bytes)
+      | entries::Entries::write_to-else-index-gt0 w ↦ inr (omega arith, ap string_bytes w.out-is)
+    ])
+    (c.in_ok-write_to.ensures
+    ∙ ap (λ l. l ++ write_element false (element_text c.value-item.result)) (c.in_ok-push-2.ensures.bytes ∙ ap (λ l. l ++ 32 ∷ []) (c.in_ok-write_element.ensures.added ∙ ap (λ k. string_bytes c.if-index-gt0.out ++ write_element (c.entries.index == 0) k) c.as_str.ensures)))
 
 pub entries::Entries::write_to-returns : goal.entries::Entries::write_to-returns
 entries::Entries::write_to-returns t c =
@@ -63,10 +63,11 @@ unfolding lib.Utf8.encode
 items::Items::write_to-elements-preserved t c =
     let xs = c.deref-element-items.result.now in
     take_write (texts c.deref-element-items.result.now) c.elements.index (element_text c.element-item.result) (string_bytes c.args.out.now) (string_bytes c.elements.out) (string_bytes c.if-index-gt0.out) (string_bytes c.write_to.new.out)
-      (omega (arith, length-texts c.deref-element-items.result.now))
-      (ap element_text c.element-item.is ∙ texts-get c.deref-element-items.result.now c.elements.index c.element-item.result)
-      c.elements.invariant
-      (elim c.if-index-gt0.branch [
-        items::Items::write_to-then-index-gt0+in_ok-push w ↦ inl (omega arith, ap string_bytes w.out-is ∙ w.in_ok-push.ensures.bytes)
-      | items::Items::write_to-else-index-gt0 w ↦ inr (omega arith, ap string_bytes w.out-is) ])
-      c.in_ok-write_to.ensures
+    (omega (arith, length-texts c.deref-element-items.result.now))
+    (ap element_text c.element-item.is ∙ texts-get c.deref-element-items.result.now c.elements.index c.element-item.result)
+    c.elements.invariant
+    (elim c.if-index-gt0.branch [
+      | items::Items::write_to-then-index-gt0+in_ok-push w ↦ inl (omega arith, ap string_bytes w.out-is ∙ w.in_ok-push.ensures.bytes)
+      | items::Items::write_to-else-index-gt0 w ↦ inr (omega arith, ap string_bytes w.out-is)
+    ])
+    c.in_ok-write_to.ensures

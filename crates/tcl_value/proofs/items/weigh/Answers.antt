@@ -1,5 +1,5 @@
-use Rattle.std.proofs.Common.{arith, ◌≡◌, ◌∙◌, ap, sym, subst, ◌<◌, ◌^◌, length, take}
-use Rattle.tcl_value.specs.Texts.{element_text, texts, IsElement, weight}
+use Rattle.std.proofs.Common.{arith, ◌∙◌, ap, sym, subst}
+use Rattle.tcl_value.specs.Texts.{element_text, texts, IsElement}
 use Rattle.tcl_value.proofs.Weights.{AreElements-get, texts-get, length-texts, take_weight}
 use Rattle.tcl_value.proofs.items.weigh.Goals as goal
 
@@ -8,5 +8,6 @@ written_len-requires c = subst IsElement (sym c.index-elements-index.is) (AreEle
 
 pub elements-preserved : goal.elements-preserved
 elements-preserved c = record {
-    weighs = take_weight (texts c.args.elements.now) c.elements.index (element_text c.index-elements-index.result) c.elements.weight c.written_len.result (omega (arith, length-texts c.args.elements.now)) (ap element_text c.index-elements-index.is ∙ texts-get c.args.elements.now c.elements.index c.index-elements-index.result) c.elements.invariant.weighs c.written_len.ensures.len;
-    few = omega arith }
+  weighs = take_weight (texts c.args.elements.now) c.elements.index (element_text c.index-elements-index.result) c.elements.weight c.written_len.result (omega (arith, length-texts c.args.elements.now)) (ap element_text c.index-elements-index.is ∙ texts-get c.args.elements.now c.elements.index c.index-elements-index.result) c.elements.invariant.weighs c.written_len.ensures.len;
+  few = omega arith;
+}

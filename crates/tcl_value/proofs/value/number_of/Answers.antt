@@ -1,6 +1,5 @@
-use Rattle.std.proofs.Common.{◌≡◌, ◌∙◌, ap, sym, w64, Ok, Result, ℤ}
+use Rattle.std.proofs.Common.{◌∙◌, ap, sym, w64, Ok}
 use Rattle.std.proofs.lemmas.Int.{to_z-of_z}
-use Rattle.tcl_text.specs.declared.integer.IntegerFault.{IntegerFault}
 use Rattle.tcl_value.proofs.Laws.{int_of-number}
 use Rattle.tcl_value.proofs.value.number_of.Goals as goal
 

@@ -1,9 +1,9 @@
-use Rattle.std.proofs.Common.{arith, ◌≡◌, ◌∙◌, ◌++◌, ◌∷◌, [], ap, sym, subst, ◌<◌, length, take, get_or, ℕ, List}
+use Rattle.std.proofs.Common.{arith, ◌≡◌, ◌∙◌, ap, sym, subst, ◌<◌, length, take, get_or}
 use Rattle.std.specs.Option.{option_copied}
 use Rattle.std.proofs.lemmas.Option.{get_or_from_slice_get}
 use Rattle.std.proofs.lemmas.List.{take_all}
 use Rattle.tcl_value.specs.Limits.{IsWithin}
-use Rattle.tcl_value.specs.Texts.{texts, element_text, IsElement, AreElements, flat, pairs}
+use Rattle.tcl_value.specs.Texts.{texts, element_text, IsElement, flat, pairs}
 use Rattle.tcl_value.proofs.Weights.{AreElements-get, length-texts, texts-get}
 use Rattle.tcl_value.proofs.Writes.{AllWithin-get, take_flat, two_more, two_more_elements, length-pairs}
 use Rattle.tcl_value.proofs.entries.Entries.to_elements.Goals as goal
@@ -19,10 +19,11 @@ entries-preserved c =
     let value : c.value-item.result ≡ get_or c.self.inside.values.items c.entries.index c.value-item.result = c.value-item.is ∙ ap (λ xs. get_or xs c.entries.index c.value-item.result) values in
     record {
       same = two_more _ _ _ c.in_ok-clone.field-0 c.unwrap-key.result.now (element_text c.value-item.result) c.in_ok-clone-2.field-0 _ c.in_ok-push.ensures.items c.in_ok-clone.ensures.cases c.in_ok-push-2.ensures.items c.in_ok-clone-2.ensures.cases.text c.entries.invariant.same
-        ∙ sym (take_flat c.self.inside.keys.keys (texts c.deref-value-items.result.now) c.entries.index c.unwrap-key.result.now (element_text c.value-item.result) lengths (omega (arith, length-texts c.deref-value-items.result.now)) key (ap element_text c.value-item.is ∙ texts-get c.deref-value-items.result.now c.entries.index c.value-item.result));
+          ∙ sym (take_flat c.self.inside.keys.keys (texts c.deref-value-items.result.now) c.entries.index c.unwrap-key.result.now (element_text c.value-item.result) lengths (omega (arith, length-texts c.deref-value-items.result.now)) key (ap element_text c.value-item.is ∙ texts-get c.deref-value-items.result.now c.entries.index c.value-item.result));
       made = two_more_elements _ _ _ c.in_ok-clone.field-0 c.in_ok-clone-2.field-0 c.in_ok-push.ensures.items c.in_ok-push-2.ensures.items c.entries.invariant.made
-        (subst IsWithin (sym key ∙ sym c.in_ok-clone.ensures.cases) (AllWithin-get c.self.inside.keys.keys c.entries.index c.unwrap-key.result.now c.self.invariant.keys here))
-        (c.in_ok-clone-2.ensures.cases.keeps (subst IsElement (sym value) element)) }
+          (subst IsWithin (sym key ∙ sym c.in_ok-clone.ensures.cases) (AllWithin-get c.self.inside.keys.keys c.entries.index c.unwrap-key.result.now c.self.invariant.keys here))
+          (c.in_ok-clone-2.ensures.cases.keeps (subst IsElement (sym value) element));
+    }
 
 pub returns-clause-texts : goal.returns-clause-texts
 returns-clause-texts c =

@@ -1,4 +1,4 @@
-use Rattle.std.proofs.Common.{arith, ◌≡◌, ap, ◌∙◌, sym, length, ◌≤◌}
+use Rattle.std.proofs.Common.{arith, ap}
 use Rattle.tcl_value.specs.Texts.{flat}
 use Rattle.tcl_value.proofs.Weights.{length-kept}
 use Rattle.tcl_value.proofs.entries.Entries.written_len.Goals as goal

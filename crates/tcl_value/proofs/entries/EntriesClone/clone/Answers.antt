@@ -4,7 +4,6 @@ use Rattle.tcl_value.specs.Texts.{AllWithin, weight, flat, pairs, texts}
 use Rattle.tcl_value.proofs.Weights.{same_all, length-texts}
 use Rattle.tcl_value.proofs.entries.EntriesClone.clone.Goals as goal
 
-
 pub invariant_of-result : goal.invariant_of-result
 invariant_of-result c =
     let same = same_all _ _ c.in_ok-values.ensures.cases.0 in
@@ -15,7 +14,8 @@ invariant_of-result c =
       keys = subst AllWithin (sym keys) c.self.invariant.keys;
       elements = same.1 c.self.invariant.elements;
       same = omega (arith, c.self.invariant.same, length-texts c.in_ok-values.values.items, length-texts c.self.inside.values.items);
-      weighs = c.self.invariant.weighs ∙ ap (λ ks. weight (flat (pairs ks (texts c.self.inside.values.items)))) (sym keys) ∙ ap (λ ts. weight (flat (pairs c.in_ok-keys.keys.keys ts))) (sym same.0) }
+      weighs = c.self.invariant.weighs ∙ ap (λ ks. weight (flat (pairs ks (texts c.self.inside.values.items)))) (sym keys) ∙ ap (λ ts. weight (flat (pairs c.in_ok-keys.keys.keys ts))) (sym same.0);
+    }
 
 pub returns : goal.returns
 returns c =

@@ -1,4 +1,4 @@
-use Rattle.std.proofs.Common.{◌<◌, ◌≡◌, length, arith, ap, sym, subst}
+use Rattle.std.proofs.Common.{◌<◌, length, arith, ap, sym, subst}
 use Rattle.tcl_value.specs.Texts.{IsElement}
 use Rattle.tcl_value.proofs.Weights.{AreElements-get, length-texts}
 use Rattle.tcl_value.proofs.items.Items.get.Goals as goal

@@ -1,4 +1,4 @@
-use Rattle.std.proofs.Common.{arith, ◌≡◌, ap, ◌∙◌, sym, length}
+use Rattle.std.proofs.Common.{arith}
 use Rattle.std.proofs.lemmas.Bool.Decides.{nat_tests}
 use Rattle.tcl_value.proofs.Weights.{length-kept}
 use Rattle.tcl_value.proofs.items.Items.is_within.Goals as goal

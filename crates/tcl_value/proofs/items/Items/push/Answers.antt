@@ -1,4 +1,4 @@
-use Rattle.std.proofs.Common.{arith, rules, ◌≡◌, ap, ◌∙◌, sym, subst, length, ◌≤◌, ◌+◌, ◌-◌, ◌<◌, ◌++◌, ◌∷◌, [], refl, List, ℕ}
+use Rattle.std.proofs.Common.{arith, ◌≡◌, ap, ◌∙◌, sym, subst, length, ◌++◌, ◌∷◌, [], refl}
 use Rattle.tcl_value.specs.Writing.{write}
 use Rattle.tcl_value.specs.Texts.{weight, texts, element_text, AreElements}
 use Rattle.tcl_value.proofs.Weights.{length-write, texts-push, AreElements-push}
@@ -20,8 +20,9 @@ texts_now c = ap texts c.in_ok-push.ensures.items ∙ texts-push c.self.inside.e
 
 pub invariant_of-self-2 : goal.invariant_of-self-2
 invariant_of-self-2 c = record {
-    elements = subst AreElements (sym c.in_ok-push.ensures.items) (AreElements-push _ c.args.element c.self.invariant.elements c.requires);
-    weighs = c.weight_with-weight.ensures ∙ ap weight (sym (texts_now c)) }
+  elements = subst AreElements (sym c.in_ok-push.ensures.items) (AreElements-push _ c.args.element c.self.invariant.elements c.requires);
+  weighs = c.weight_with-weight.ensures ∙ ap weight (sym (texts_now c));
+}
 
 pub returns-clause-within : goal.returns-clause-within
 returns-clause-within c =

@@ -1,11 +1,8 @@
-use Rattle.std.proofs.Common.{arith, rules, ◌≡◌, ap, ◌∙◌, sym, subst, length, ◌≤◌, ◌+◌, ◌-◌, ◌<◌, ◌++◌, ◌∷◌, [], refl, List, ℕ, set}
+use Rattle.std.proofs.Common.{arith, ◌≡◌, ap, ◌∙◌, sym, length, refl, set}
 use Rattle.tcl_value.specs.Writing.{write}
-use Rattle.tcl_value.specs.Texts.{weight, texts, element_text, AreElements}
+use Rattle.tcl_value.specs.Texts.{weight, texts, element_text}
 use Rattle.tcl_value.proofs.Weights.{length-write, length-texts, texts-set, AreElements-set}
 use Rattle.tcl_value.proofs.items.Items.set.Goals as goal
-
-
-
 
 pub index_mut-requires : goal.index_mut-requires
 index_mut-requires c =
@@ -22,8 +19,9 @@ texts_now c = texts-set c.self.inside.elements.items c.args.index c.args.element
 
 pub invariant_of-self : goal.invariant_of-self
 invariant_of-self c = record {
-    elements = AreElements-set _ c.args.index c.args.element c.self.invariant.elements c.requires.element;
-    weighs = c.weight_with_at-weight.ensures ∙ ap weight (sym (texts_now c)) }
+  elements = AreElements-set _ c.args.index c.args.element c.self.invariant.elements c.requires.element;
+  weighs = c.weight_with_at-weight.ensures ∙ ap weight (sym (texts_now c));
+}
 
 pub returns-clause-set : goal.returns-clause-set
 returns-clause-set c = texts_now c

@@ -1,4 +1,4 @@
-use Rattle.std.proofs.Common.{arith, ◌≡◌, ◌∙◌, sym, ◌<◌, ◌^◌}
+use Rattle.std.proofs.Common.{arith, ◌∙◌, sym, ◌<◌, ◌^◌}
 use Rattle.tcl_value.specs.Texts.{element_text}
 use Rattle.tcl_value.proofs.Weights.{kept_few, pushed_weight, length-texts}
 use Rattle.tcl_value.proofs.items.Items.weight_with.Goals as goal

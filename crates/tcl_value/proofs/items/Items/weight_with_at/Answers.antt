@@ -1,4 +1,4 @@
-use Rattle.std.proofs.Common.{arith, ◌≡◌, ap, ◌∙◌, sym, subst, length, ◌+◌, ◌<◌, ◌^◌, refl, List, ℕ, set}
+use Rattle.std.proofs.Common.{arith, ◌≡◌, ap, ◌∙◌, sym, subst, length, ◌+◌, ◌<◌, ◌^◌, refl, set}
 use Rattle.tcl_value.specs.Texts.{element_text, IsElement, texts, weight}
 use Rattle.tcl_value.proofs.Weights.{kept_few, set_weight, length-texts, texts-get, AreElements-get}
 use Rattle.tcl_value.proofs.items.Items.weight_with_at.Goals as goal

@@ -1,4 +1,4 @@
-use Rattle.std.proofs.Common.{arith, ◌≡◌, ap, ◌∙◌, sym, length, ◌≤◌}
+use Rattle.std.proofs.Common.{arith}
 use Rattle.tcl_value.proofs.Weights.{length-kept}
 use Rattle.tcl_value.proofs.items.Items.written_len.Goals as goal
 

@@ -1,4 +1,4 @@
-use Rattle.std.proofs.Common.{◌≡◌, ◌∙◌, ap, sym}
+use Rattle.std.proofs.Common.{◌∙◌, ap, sym}
 use Rattle.tcl_value.specs.Texts.{weight}
 use Rattle.tcl_value.proofs.Weights.{same_all}
 use Rattle.tcl_value.proofs.items.ItemsClone.clone.Goals as goal

@@ -1,7 +1,6 @@
-use Rattle.std.proofs.Common.{arith, rules, ◌≡◌, ◌∙◌, ◌++◌, ◌∷◌, [], ap, sym, subst, length, w64, to_z, of_z, FitsSigned}
-use Rattle.std.specs.Fmt.{signed_decimal}
+use Rattle.std.proofs.Common.{◌≡◌, ◌∙◌, ◌++◌, ◌∷◌, [], ap, sym, subst, w64, to_z, of_z, FitsSigned}
 use Rattle.std.proofs.lemmas.Int.{to_z-of_z}
-use Rattle.tcl_value.specs.Texts.{texts, AreElements}
+use Rattle.tcl_value.specs.Texts.{AreElements}
 use Rattle.tcl_value.specs.declared.element.Element.TheVariants.{Number}
 use Rattle.tcl_value.proofs.list.List.of_number.Goals as goal
 

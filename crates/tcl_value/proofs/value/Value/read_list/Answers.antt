@@ -1,10 +1,9 @@
-use Rattle.std.proofs.Common.{◌≡◌, ◌∙◌, ap, sym, Ok, [], ◌∷◌, w64, FitsSigned, subst}
+use Rattle.std.proofs.Common.{◌∙◌, ap, sym, Ok, [], ◌∷◌, w64, FitsSigned, subst}
 use Rattle.std.specs.Fmt.{signed_decimal}
 use Rattle.std.proofs.lemmas.Int.{to_z-of_z}
 use Rattle.tcl_value.specs.Reading.{list_of}
 use Rattle.tcl_value.specs.Forms.{form_text, IsForm}
 use Rattle.tcl_value.specs.Texts.{flat}
-use Rattle.tcl_value.specs.Writing.{write}
 use Rattle.tcl_value.proofs.Laws.{list_of-write, list_of-number}
 use Rattle.tcl_value.proofs.value.Value.read_list.Goals as goal
 
