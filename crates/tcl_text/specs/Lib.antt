@@ -1,3 +1,6 @@
+pub mod Numbers
+pub mod Booleans
+pub mod Indexes
 pub mod Backslash
 pub mod Lists
 pub mod Reading
