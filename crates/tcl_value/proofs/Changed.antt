@@ -1,5 +1,5 @@
 -- Changes of a list that a value keeps.
-use Rattle.std.proofs.Common.{◌≡◌, ℕ, List, [], ◌∷◌, ◌++◌, Result, Ok, Err, sym, ◌∙◌, ap, subst, length, ◌≤◌, arith, ◌⊎◌, inl, inr, Global, OnOk, IfErr}
+use Rattle.std.proofs.Common.{◌≡◌, ℕ, List, [], ◌∷◌, ◌++◌, Result, Ok, Err, sym, ◌∙◌, ap, subst, length, set, ◌<◌, ◌≤◌, arith, ◌⊎◌, inl, inr, Global, OnOk, IfErr}
 use Rattle.std.specs.declared.rc.Rc.{Rc}
 use Rattle.tcl_text.specs.declared.integer.Integers.{Integers}
 use Rattle.tcl_text.specs.declared.integer.IntegerFault.TheVariants.{NotInteger}
@@ -24,9 +24,9 @@ pushed_at (Ok x) old xs new v t e q p w =
     subst (λ r. AtList r (λ list. (write new ≡ write (list ++ v ∷ [])) × IsWithin (write (list ++ v ∷ [])))) (sym e) (ap write same, subst (λ l. IsWithin (write l)) same w)
 pushed_at (Err x) old xs new v t e q p w = tt
 
-pub refused_at : {U : Type 0} (r : Result U ChangeError) (old : List ℕ) (xs : List (List ℕ)) (v t : List ℕ) → list_of old ≡ Ok xs → t ≡ v → IfErr r (λ e. Refuses e (Ok xs) (λ list. IsPast (write (list ++ t ∷ [])))) → IfErr r (λ e. Refuses e (list_of old) (λ list. IsPast (write (list ++ v ∷ []))))
+pub refused_at : {U : Type 0} (r : Result U ChangeError) (old : List ℕ) (xs : List (List ℕ)) (v t : List ℕ) → list_of old ≡ Ok xs → t ≡ v → IfErr r (λ e. Refuses e (Ok xs) (λ list. IsPast (write (list ++ t ∷ []))) (λ _. ⊥)) → IfErr r (λ e. Refuses e (list_of old) (λ list. IsPast (write (list ++ v ∷ []))) (λ _. ⊥))
 refused_at r old xs v t e q h =
-    subst (λ (f : List ℕ). IfErr r (λ x. Refuses x (list_of old) (λ list. IsPast (write (list ++ f ∷ []))))) q (subst (λ l. IfErr r (λ x. Refuses x l (λ list. IsPast (write (list ++ t ∷ []))))) (sym e) h)
+    subst (λ (f : List ℕ). IfErr r (λ x. Refuses x (list_of old) (λ list. IsPast (write (list ++ f ∷ []))) (λ _. ⊥))) q (subst (λ l. IfErr r (λ x. Refuses x l (λ list. IsPast (write (list ++ t ∷ []))) (λ _. ⊥))) (sym e) h)
 
 -- a list of two elements or more is no integer
 several : (style : Integers) (xs : List (List ℕ)) → 2 ≤ length xs → Err NotInteger ≡ int_of style (write xs)
@@ -50,3 +50,13 @@ form_within (Text text) h = h
 form_within (Number n) h = omega (arith, digits_at_most n h)
 form_within (Items items) h = h.0
 form_within (Entries entries) h = h.0
+
+pub set_at : {U : Type 0} (r : Result U ChangeError) (old : List ℕ) (xs new : List (List ℕ)) (i : ℕ) (v t : List ℕ) → list_of old ≡ Ok xs → t ≡ v → OnOk r ((i < length xs) × (new ≡ set xs i t)) → OnOk r (IsWithin (write new)) → OnOk r (AtList (list_of old) (λ list. (i < length list) × (write new ≡ write (set list i v)) × IsWithin (write (set list i v))))
+set_at (Ok x) old xs new i v t e q p w =
+    let same = p.1 ∙ ap (λ z. set xs i z) q in
+    subst (λ r. AtList r (λ list. (i < length list) × (write new ≡ write (set list i v)) × IsWithin (write (set list i v)))) (sym e) (p.0, ap write same, subst (λ l. IsWithin (write l)) same w)
+set_at (Err x) old xs new i v t e q p w = tt
+
+pub set_refused_at : {U : Type 0} (r : Result U ChangeError) (old : List ℕ) (xs : List (List ℕ)) (i : ℕ) (v t : List ℕ) → list_of old ≡ Ok xs → t ≡ v → IfErr r (λ e. Refuses e (Ok xs) (λ list. IsPast (write (set list i t))) (λ list. length list ≤ i)) → IfErr r (λ e. Refuses e (list_of old) (λ list. IsPast (write (set list i v))) (λ list. length list ≤ i))
+set_refused_at r old xs i v t e q h =
+    subst (λ (f : List ℕ). IfErr r (λ x. Refuses x (list_of old) (λ list. IsPast (write (set list i f))) (λ list. length list ≤ i))) q (subst (λ l. IfErr r (λ x. Refuses x l (λ list. IsPast (write (set list i t))) (λ list. length list ≤ i))) (sym e) h)

@@ -3,6 +3,7 @@ use Rattle.std.specs.Prelude.{◌≡◌, ℕ, ◌≤◌, List, [], length, Ok}
 use Rattle.std.specs.Fmt.{signed_decimal}
 use Rattle.std.proofs.Common.{FitsSigned, w64}
 use Rattle.tcl_text.specs.declared.integer.Integers.TheVariants.{Tcl8, Tcl9}
+use Rattle.tcl_parser.specs.Reading.{read_script}
 use Rattle.tcl_value.specs.Limits.{IsWithin}
 use Rattle.tcl_value.specs.Writing.{write}
 use Rattle.tcl_value.specs.Texts.{flat}
@@ -10,7 +11,7 @@ use Rattle.tcl_value.specs.Reading.{int_of, list_of}
 use Rattle.tcl_value.specs.declared.value.Form.{Form}
 use Rattle.tcl_value.specs.declared.value.Form.TheVariants.{Empty, Text, Number, List as Items, Dict as Entries}
 use Rattle.tcl_value.specs.declared.value.Kept.{Kept}
-use Rattle.tcl_value.specs.declared.value.Kept.TheVariants.{Nothing, Tcl8 as Int8, Tcl9 as Int9, List as Words}
+use Rattle.tcl_value.specs.declared.value.Kept.TheVariants.{Nothing, Tcl8 as Int8, Tcl9 as Int9, List as Words, Script as Commands}
 
 -- the text of a form
 abbrev pub form_text : Form → List ℕ
@@ -34,6 +35,7 @@ IsKept text Nothing = Unit {0}
 IsKept text (Int8 n) = int_of Tcl8 text ≡ Ok n
 IsKept text (Int9 n) = int_of Tcl9 text ≡ Ok n
 IsKept text (Words list) = list_of text ≡ Ok list
+IsKept text (Commands script) = script.value ≡ read_script text
 
 pub record IsValue (f : Form) (k : Kept) : Type 0 where
   pub form : IsForm f

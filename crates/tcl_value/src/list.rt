@@ -1,17 +1,18 @@
 //! Lists, whose elements are values.
-ghost use Rattle.std.specs.Prelude.{◌≡◌, ◌<◌, ◌==◌, ◌++◌, ◌∷◌, ◌↔◌, [], length, IfOk, OnOk, OnErr, IsErr, IfErr, IsErrOf, IsTrue, slice_index_or, slice_set};
+ghost use Rattle.std.specs.Prelude.{◌≡◌, ◌<◌, ◌≤◌, Ok, ◌==◌, ◌++◌, ◌∷◌, ◌↔◌, [], length, IfOk, OnOk, OnErr, IsErr, IfErr, IsErrOf, IsTrue, slice_index_or, slice_set};
 ghost use Rattle.std.specs.Fmt.{signed_decimal};
 ghost use Rattle.std.specs.String.{string_bytes};
 ghost use Rattle.tcl_value.specs.Limits.{IsWithin, IsPast};
 ghost use Rattle.tcl_value.specs.Writing.{write};
 ghost use Rattle.tcl_value.specs.Reading.{list_of};
 ghost use Rattle.tcl_text.specs.Reading.{Gives};
+ghost use Rattle.tcl_value.specs.Changes.{Refuses};
 ghost use Rattle.tcl_value.specs.Texts.{element_text, texts as texts_of, flat, IsElement, AreElements};
 
 use crate::element::Element;
 use crate::entries::Entries;
 use crate::items::Items;
-use crate::value::{MOST_BYTES, Value, ValueError};
+use crate::value::{ChangeError, MOST_BYTES, Value, ValueError, set_shared};
 use std::alloc::{AllocError, Global};
 use std::marker::Model;
 use std::rc::Rc;
@@ -143,6 +144,50 @@ impl List {
         ensures unchanged { OnErr result (self.new ≡ self.old) }
     {
         Rc::make_mut(&mut self.items)?.push(element)
+    }
+
+    /// Adds an element at the end: in place where the list isn't shared.
+    ///
+    /// # Errors
+    /// [`ValueError::TooLong`] only where the list's text would be too long for a value; want of memory.
+    pub fn push(&mut self, alloc: Global, value: Value) -> Result<(), ValueError>
+        ensures pushed { OnOk result (self.new ≡ self.old ++ value ∷ []) }
+        ensures within { OnOk result (IsWithin (write self.new)) }
+        ensures refused { IsErrOf result ValueError.TooLong → IsPast (write (self.old ++ value ∷ [])) }
+        ensures unchanged { OnErr result (self.new ≡ self.old) }
+    {
+        let element = value.into_element(alloc)?;
+        self.push_element(element)
+    }
+
+    /// Adds an element of another list at the end.
+    ///
+    /// # Errors
+    /// [`ValueError::TooLong`] only where the list's text would be too long for a value; want of memory.
+    pub fn push_from(&mut self, list: &List, index: usize) -> Result<(), ValueError>
+        requires { index < length list.now }
+        ensures pushed { OnOk result (self.new ≡ self.old ++ slice_index_or list.now index [] ∷ []) }
+        ensures within { OnOk result (IsWithin (write self.new)) }
+        ensures refused { IsErrOf result ValueError.TooLong → IsPast (write (self.old ++ slice_index_or list.now index [] ∷ [])) }
+        ensures unchanged { OnErr result (self.new ≡ self.old) }
+    {
+        let element = list.items.get(index).clone()?;
+        self.push_element(element)
+    }
+
+    /// Puts an element in the place of another: in place where the list isn't shared.
+    ///
+    /// # Errors
+    /// [`ChangeError::NoElement`] exactly where there is no element at the place, [`ChangeError::TooLong`] where the list's
+    /// text would be too long for a value; want of memory.
+    pub(crate) fn set_element(&mut self, index: usize, element: Element) -> Result<(), ChangeError>
+        requires { IsElement element }
+        ensures set { OnOk result ((index < length self.old) × (self.new ≡ slice_set self.old index (element_text element))) }
+        ensures within { OnOk result (IsWithin (write self.new)) }
+        ensures refused { IfErr result (λ e. Refuses e (Ok self.old) (λ list. IsPast (write (slice_set list index (element_text element)))) (λ list. length list ≤ index)) }
+        ensures unchanged { OnErr result (self.new ≡ self.old) }
+    {
+        set_shared(&mut self.items, index, element)
     }
 }
 

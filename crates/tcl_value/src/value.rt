@@ -1,5 +1,5 @@
 //! Values, each of which is seen as its text.
-ghost use Rattle.std.specs.Prelude.{◌≡◌, ◌≤◌, ◌<◌, ◌++◌, ◌∷◌, ◌↔◌, [], length, Ok, IfOk, OnOk, OnErr, IsErrOf, IfErr, MatchResult, IfSome};
+ghost use Rattle.std.specs.Prelude.{◌≡◌, ◌≤◌, ◌<◌, ◌++◌, ◌∷◌, ◌↔◌, [], length, Ok, IfOk, OnOk, OnErr, IsErrOf, IfErr, MatchResult, IfSome, slice_set};
 ghost use Rattle.std.specs.Fmt.{signed_decimal};
 ghost use Rattle.std.specs.String.{string_bytes};
 ghost use Rattle.tcl_value.specs.Limits.{Bytes, IsWithin, IsPast};
@@ -7,6 +7,7 @@ ghost use Rattle.tcl_value.specs.Writing.{write};
 ghost use Rattle.tcl_value.specs.Texts.{element_text, flat, IsElement};
 ghost use Rattle.tcl_value.specs.Reading.{int_of, list_of};
 ghost use Rattle.tcl_text.specs.Reading.{Gives};
+ghost use Rattle.tcl_parser.specs.Reading.{read_script};
 ghost use Rattle.tcl_value.specs.Changes.{AtList, Refuses};
 
 use crate::element::Element;
@@ -16,6 +17,8 @@ use crate::list::List;
 use std::alloc::{AllocError, AllocFailed, Global};
 use std::marker::Model;
 use std::rc::Rc;
+use tcl_parser::reader::parse;
+use tcl_parser::script::Script;
 use tcl_text::integer::{IntegerFault, Integers, int_len, push_int, read_int, write_int};
 use tcl_text::list::{ListError, ListFault};
 use tcl_text::text::Text;
@@ -63,6 +66,8 @@ pub enum ChangeError {
     TooLong,
     /// The text spells no list (101 to 104).
     List(ListFault),
+    /// The list has no element at that place (243).
+    NoElement,
 }
 
 impl From<AllocError> for ChangeError {
@@ -121,6 +126,7 @@ enum Kept {
     Tcl8(i64),
     Tcl9(i64),
     List(List),
+    Script(Rc<Script>),
 }
 
 /// A value of the language, which contracts see as its text: the list of its bytes in UTF-8, of which there are at most
@@ -399,7 +405,7 @@ impl Value {
     /// would be longer than [`MOST_BYTES`]; want of memory. Any leaves the value as it was.
     pub fn push(&mut self, alloc: Global, value: Value) -> Result<(), ChangeError>
         ensures pushed { OnOk result (AtList (list_of self.old) (λ list. (self.new ≡ write (list ++ value ∷ [])) × IsWithin (write (list ++ value ∷ [])))) }
-        ensures refused { IfErr result (λ e. Refuses e (list_of self.old) (λ list. IsPast (write (list ++ value ∷ [])))) }
+        ensures refused { IfErr result (λ e. Refuses e (list_of self.old) (λ list. IsPast (write (list ++ value ∷ []))) (λ _. ⊥)) }
         ensures unchanged { OnErr result (self.new ≡ self.old) }
     {
         let element = value.into_element(alloc)?;
@@ -413,6 +419,68 @@ impl Value {
         *self = Value::from_list(alloc, list)?;
         Ok(())
     }
+
+    /// Puts an element in the place of another in the list that it reads as: in place where it is kept as a list that
+    /// isn't shared.
+    ///
+    /// # Errors
+    /// [`ChangeError::List`] exactly where the text spells no list, [`ChangeError::NoElement`] exactly where the list has no
+    /// element at the place, [`ChangeError::TooLong`] exactly where the list's text would be longer than [`MOST_BYTES`];
+    /// want of memory. Any leaves the value as it was.
+    pub fn set_at(&mut self, alloc: Global, index: usize, value: Value) -> Result<(), ChangeError>
+        ensures set { OnOk result (AtList (list_of self.old) (λ list. (index < length list) × (self.new ≡ write (slice_set list index value)) × IsWithin (write (slice_set list index value)))) }
+        ensures refused { IfErr result (λ e. Refuses e (list_of self.old) (λ list. IsPast (write (slice_set list index value))) (λ list. length list ≤ index)) }
+        ensures unchanged { OnErr result (self.new ≡ self.old) }
+    {
+        let element = value.into_element(alloc)?;
+        if let Form::List(items) = &mut self.form {
+            self.kept = Kept::Nothing;
+            return set_shared(items, index, element);
+        }
+        let mut list = self.as_list(alloc)?;
+        self.kept = Kept::Nothing;
+        list.set_element(index, element)?;
+        *self = Value::from_list(alloc, list)?;
+        Ok(())
+    }
+
+    /// The script that its text is, which is kept. Faults of the text are part of the script.
+    ///
+    /// # Errors
+    /// Want of memory.
+    pub fn as_script(&mut self, alloc: Global) -> Result<Rc<Script>, AllocError>
+        ensures read { IfOk result (λ script. script.value ≡ read_script self.old) }
+        ensures text { self.new ≡ self.old }
+    {
+        if let Kept::Script(script) = &self.kept {
+            return script.clone();
+        }
+        let text = self.text(alloc)?;
+        let script = Rc::new(alloc, parse(alloc, text.as_str())?)?;
+        self.kept = Kept::Script(script.clone()?);
+        Ok(script)
+    }
+}
+
+/// Puts an element in the place of another in a list: in place where it isn't shared.
+pub(crate) fn set_shared(
+    items: &mut Rc<Items>,
+    index: usize,
+    element: Element,
+) -> Result<(), ChangeError>
+    requires { IsElement element }
+    ensures set { OnOk result ((index < length items.old.value) × (items.new.value ≡ slice_set items.old.value index (element_text element))) }
+    ensures within { OnOk result (IsWithin (write items.new.value)) }
+    ensures refused { IfErr result (λ e. Refuses e (Ok items.old.value) (λ list. IsPast (write (slice_set list index (element_text element)))) (λ list. length list ≤ index)) }
+    ensures unchanged { OnErr result (items.new.value ≡ items.old.value) }
+{
+    if index >= items.len() {
+        return Err(ChangeError::NoElement);
+    }
+    match Rc::make_mut(items) {
+        Ok(own) => own.set(index, element).map_err(ChangeError::from),
+        Err(_) => Err(ChangeError::Memory),
+    }
 }
 
 /// Adds an element to a list: in place where it isn't shared.
@@ -420,7 +488,7 @@ fn push_shared(items: &mut Rc<Items>, element: Element) -> Result<(), ChangeErro
     requires { IsElement element }
     ensures pushed { OnOk result (items.new.value ≡ items.old.value ++ element_text element ∷ []) }
     ensures within { OnOk result (IsWithin (write items.new.value)) }
-    ensures refused { IfErr result (λ e. Refuses e (Ok items.old.value) (λ list. IsPast (write (list ++ element_text element ∷ [])))) }
+    ensures refused { IfErr result (λ e. Refuses e (Ok items.old.value) (λ list. IsPast (write (list ++ element_text element ∷ []))) (λ _. ⊥)) }
     ensures unchanged { OnErr result (items.new.value ≡ items.old.value) }
 {
     match Rc::make_mut(items) {
@@ -488,6 +556,7 @@ impl Clone for Kept {
             Kept::Tcl8(n) => Ok(Kept::Tcl8(*n)),
             Kept::Tcl9(n) => Ok(Kept::Tcl9(*n)),
             Kept::List(list) => Ok(Kept::List(list.clone()?)),
+            Kept::Script(script) => Ok(Kept::Script(script.clone()?)),
         }
     }
 }
