@@ -1,4 +1,4 @@
-//! The texts of the Tcl command language: shared texts, and lists written in texts.
+//! The texts of the Tcl command language: shared texts, and lists, numbers, truth values and indexes written in texts.
 #![tactic(auto)]
 
 pub mod backslash;
@@ -7,5 +7,5 @@ pub mod characters;
 pub mod index;
 pub mod integer;
 pub mod list;
-mod list_writing;
+pub mod list_writing;
 pub mod text;

@@ -10,7 +10,7 @@ use std::alloc::{AllocError, Global};
 
 /// How an element is written.
 #[derive(Clone, Copy)]
-pub(crate) enum Form {
+pub enum Form {
     /// As it is.
     Plain,
     /// In braces.
