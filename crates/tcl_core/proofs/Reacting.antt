@@ -1,0 +1,213 @@
+-- What an evaluation does in a subtree is what React does there.
+use Rattle.std.proofs.Common.{sym, ◌≡◌, ℕ, zero, suc, ℤ, ◌+◌, ◌-◌, ◌≤◌, Bool, true, false, List, [], ◌∷◌, ◌++◌, Option, Some, None, length, refl, ◌∙◌, ap, subst, arith, append-nil}
+use Rattle.tcl_core.specs.Paths.{Path, Place, Height, strip, rise_to}
+use Rattle.tcl_core.specs.Endings.{Reply, Cause}
+use Rattle.tcl_core.specs.Endings.Reply.{Completed, Stop, Exit, Cut}
+use Rattle.tcl_core.specs.Entries.{Entry, Answer}
+use Rattle.tcl_core.specs.Entries.Answer.{Replied}
+use Rattle.tcl_core.specs.Trees.{Tree, Grants, What, Event, Move, asked, at, seen_what}
+use Rattle.tcl_core.specs.Trees.Grants.{Listed, Budget}
+use Rattle.tcl_core.specs.Trees.What.{Made, Dropped, Out, In, Done, Back}
+use Rattle.tcl_core.specs.Trees.Move.{Born, Fall, Enter, Come}
+use Rattle.tcl_core.specs.Programs.{Wait, Prog, Table}
+use Rattle.tcl_core.specs.Programs.Prog.{wait}
+use Rattle.tcl_core.specs.Runs.{World, Step, Ending, Halts, Exits, Stays, Visits, Moves, Fitting, Waits, Runs, RunsIn, entering, fits, height_of}
+use Rattle.tcl_core.specs.Rules.{Derives}
+use Rattle.tcl_core.specs.Views.{moves_of, steps_of, view, inside_of, kept, from_above}
+use Rattle.tcl_core.specs.Lives.{Lives, Outcome, Reacts, React, alone, idle, never, over_by, outs_of}
+use Rattle.tcl_core.specs.Lives.Outcome.{Finished, Exited}
+use Rattle.tcl_core.specs.Lives.Reacts.{finished, served, over}
+use Rattle.tcl_core.specs.Laws.{Isolation, IsStanding, Stands, IsUncut, Uncut, outcome_of, outcome_at, ending_of}
+use Rattle.tcl_core.proofs.PathLaws.{not_both, Some-inj, strip-sound, strip_own}
+use Rattle.tcl_core.proofs.TreeLaws.{unseen}
+use Rattle.tcl_core.proofs.Subtrees.{wait_halt, wait_enter}
+use Rattle.tcl_core.proofs.SameRuns.{asked-inj}
+use Rattle.tcl_core.proofs.RuleLaws.{derived_runs, runs_derived}
+use Rattle.tcl_core.proofs.Keeping.{KeepsSteps, runs_keep}
+use Rattle.tcl_core.proofs.Budgets.{budgeted, step_budget, fine_step, uncut_keep, derived_budget}
+use Rattle.tcl_core.proofs.Balance.{ins, dones, Owes, owes, visit_owes, halted_more, view_ins, view_dones}
+use Rattle.tcl_core.proofs.Conclusions.{lives_within}
+
+own_place : (c p : Place) → strip c p ≡ Some [] → strip p c ≡ Some []
+own_place c p e = subst (λ r. strip r c ≡ Some []) (sym (strip-sound c p [] e ∙ append-nil c)) (subst (λ r. strip c r ≡ Some []) (append-nil c) (strip_own c []))
+
+module _ {O : Type 0} where
+  -- the tree as a whole is neither made nor dropped
+  abbrev Lasting : Place → What O → Type 0
+  Lasting p (Made o s) = p ≡ [] → Prim.⊥
+  Lasting p Dropped = p ≡ [] → Prim.⊥
+  Lasting p _ = Unit {0}
+
+  abbrev IsLasting : List (Event O) → Type 0
+  IsLasting [] = Unit {0}
+  IsLasting (ev ∷ τ) = Lasting ev.place ev.what × IsLasting τ
+
+  lasting_kept : (c p : Place) (x : What O) (τ : List (Event O)) → Stands c p x → IsLasting τ → (s : Option Place) → strip c p ≡ s → IsLasting (kept s (strip p c) x τ)
+  lasting_kept c p Dropped τ f l None e = subst (λ o. IsLasting (from_above o Dropped τ)) (sym f) l
+  lasting_kept c p Dropped τ f l (Some q) e = ((λ z. not_both f (own_place c p (e ∙ ap Some z))), l)
+  lasting_kept c p (Made o s) τ f l None e = subst IsLasting (sym (unseen (strip p c) (Made o s) τ tt)) l
+  lasting_kept c p (Made o s) τ f l (Some q) e = ((λ z. f (own_place c p (e ∙ ap Some z))), l)
+  lasting_kept c p x τ f l None e = subst IsLasting (sym (unseen (strip p c) x τ tt)) l
+  lasting_kept c p x τ f l (Some q) e = (tt, l)
+
+  pub lasting : (c : Place) (τ : List (Event O)) → IsStanding c τ → IsLasting (view c τ)
+  lasting c [] f = tt
+  lasting c (ev ∷ τ) f = lasting_kept c ev.place ev.what (view c τ) f.0 (lasting c τ f.1) (strip c ev.place) refl
+
+  -- what is kept along a run
+  abbrev IsHanded : World O → Type 0
+  IsHanded w = w.moves ≡ moves_of w.tape
+
+  handed_step : KeepsSteps IsHanded
+  handed_step w p x v due s h = asked-inj p x v.moves (moves_of v.tape) (sym s.moves ∙ h ∙ ap moves_of s.tape)
+
+  lasting_step : KeepsSteps {O = O} (λ w. IsLasting w.tape)
+  lasting_step w p x v due s f = let g : Lasting p x × IsLasting v.tape = subst IsLasting s.tape f in g.1
+
+  abbrev EndsAs : Outcome → World O → Type 0
+  EndsAs z u = (x : Outcome) × (z ≡ outcome_of u.tape x)
+
+  ends_step : (z : Outcome) → KeepsSteps (EndsAs z)
+  ends_step z w p x v due s (y, f) = (outcome_at p x y, f ∙ ap (λ τ. outcome_of τ y) s.tape)
+
+  abbrev Kept : Outcome → World O → Type 0
+  Kept z w = IsHanded w × IsLasting w.tape × IsUncut w.tape × EndsAs z w
+
+  pub kept_step : (z : Outcome) → KeepsSteps (Kept z)
+  kept_step z w p x v due s (a, b, c, d) = (handed_step w p x v due s a, lasting_step w p x v due s b, uncut_keep w p x v due s c, ends_step z w p x v due s d)
+
+  exits_idle : (u : World O) (n : ℤ) (ms : List (Move O)) (y : World O) → Exits u [] idle n ms y None → Halts u y None
+  exits_idle u n [] y a = a
+  exits_idle u n (Come x ∷ ms) y a = a
+  exits_idle u n (Born o b ∷ ms) y a = a
+  exits_idle u n (Fall ∷ ms) y a = a
+  exits_idle u n (Enter t i ∷ ms) y a = a
+
+  no_move : {A : Type 0} (w : World O) (m : Move O) (ms : List (Move O)) → IsHanded w → w.moves ≡ m ∷ ms → w.tape ≡ [] → A
+  no_move w m ms h e t = absurd (bad (sym e ∙ h ∙ ap moves_of t))
+    where
+      bad : m ∷ ms ≡ [] → Prim.⊥
+      bad f = cc
+
+  lasts : {A : Type 0} (w : World O) (x : What O) (u : World O) → Step w [] x u → IsLasting w.tape → (Lasting [] x → A) → A
+  lasts w x u s f g = g (let h : Lasting [] x × IsLasting u.tape = subst IsLasting s.tape f in h.0)
+
+module _ {O I : Type 0} (prog : Table O I) (k : ℕ) where
+  abbrev bud : World O → World O
+  bud w = budgeted k w
+
+  visit_budget : (z : World O) (t : Place) (i : Entry) (u : World O) (r : Reply) → IsUncut z.tape → Visits prog (Runs prog) z None t i u (Some r) → Visits prog (Runs prog) (bud z) None t i (bud u) (Some r)
+  visit_budget z t i u r f a = record {
+    entered = bud a.entered;
+    left = bud a.left;
+    entry = step_budget k z t (In None i) a.entered a.entry;
+    run = derived_runs prog (derived_budget prog k (runs_derived prog a.entered t (entering prog (z.tree t) i) a.left (Some r) a.run) (fine_step z t (In None i) a.entered a.entry f).1 r refl);
+    leaving = step_budget k a.left t (Done None r) u a.leaving;
+  }
+
+  -- what is kept after an entry that came to an end; the outcome is then that of its end
+  after_visit : (z : World O) (t : Place) (i : Entry) (u : World O) (r : Reply) (x : Outcome) → x ≡ outcome_of z.tape Finished → IsHanded z → IsLasting z.tape → IsUncut z.tape → Visits prog (Runs prog) z None t i u (Some r) →
+      IsHanded u × IsLasting u.tape × IsUncut u.tape × (x ≡ outcome_of u.tape (ending_of r)) × Uncut {O = O} t (Done None r)
+  after_visit z t i u r x e a b c d =
+      let k1 : Kept x d.entered = kept_step x z t (In None i) d.entered tt d.entry (a, b, c, (Finished, e)) in
+      let k2 : Kept x d.left = runs_keep (Kept x) (kept_step x) prog d.entered t (entering prog (z.tree t) i) d.left (Some r) d.run k1 in
+      let k3 : Kept x u = kept_step x d.left t (Done None r) u tt d.leaving k2 in
+      let f : Uncut {O = O} t (Done None r) × IsUncut u.tape = fine_step d.left t (Done None r) u d.leaving k2.2 in
+      (k3.0, k3.1, k3.2, k2.3.1 ∙ ap (λ τ. outcome_of τ k2.3.0) d.leaving.tape, f.0)
+
+  balanced_after : (z : World O) (t : Place) (i : Entry) (u : World O) (r : Reply) → Visits prog (Runs prog) z None t i u (Some r) → ins [] z.tape ≡ dones [] z.tape → ins [] u.tape ≡ dones [] u.tape
+  balanced_after z t i u r a b =
+      let o : Owes [] z u (Some r) = visit_owes [] z a.entered a.left u None t i r a.entry (owes [] prog (runs_derived prog a.entered t (entering prog (z.tree t) i) a.left (Some r) a.run)) a.leaving in
+      let s : ins [] z.tape + dones [] u.tape ≡ dones [] z.tape + ins [] u.tape + o.open_ins = o.sum in
+      let n : o.open_ins ≡ 0 = o.none_left r refl in
+      omega arith
+
+  never_halts : {A : Type 0} (z : World O) (t : Place) (i : Entry) (u : World O) → Visits prog (Runs prog) z None t i u None → ins [] z.tape ≡ dones [] z.tape → u.tape ≡ [] → A
+  never_halts z t i u a b f =
+      let o : Owes [] a.entered a.left None = owes [] prog (runs_derived prog a.entered t (entering prog (z.tree t) i) a.left None a.run) in
+      let s : ins [] z.tape + dones [] a.left.tape ≡ dones [] z.tape + ins [] a.left.tape + suc o.open_ins = halted_more [] z a.entered a.left None t i refl a.entry o in
+      let g : a.left.tape ≡ [] = ap (λ y. y.tape) (sym a.leaving) ∙ f in
+      let p : ins [] a.left.tape ≡ 0 = ap (ins []) g in
+      let q : dones [] a.left.tape ≡ 0 = ap (dones []) g in
+      absurd (omega arith)
+
+  lift_visits : (n : ℕ) (z : World O) (t : Place) (i : Entry) (u : World O) (o : Ending) → Visits prog (RunsIn prog n) z None t i u o → Visits prog (Runs prog) z None t i u o
+  lift_visits n z t i u o a = record { entered = a.entered; left = a.left; entry = a.entry; run = (n, a.run); leaving = a.leaving }
+
+  abbrev Reacting : ℕ → Type 0
+  Reacting n = (z y : World O) (x : Outcome) → x ≡ outcome_of z.tape Finished → IsHanded z → IsLasting z.tape → IsUncut z.tape → ins [] z.tape ≡ dones [] z.tape → y.tape ≡ [] →
+      RunsIn prog n z [] (wait idle never) y None → Reacts prog (bud z) (bud y) x
+
+  ended : (z y : World O) (x : Outcome) → x ≡ outcome_of z.tape Finished → IsHanded z → Halts z y None → Reacts prog (bud z) (bud y) x
+  ended z y x e a h =
+      let m : z.moves ≡ [] = a ∙ ap moves_of h.tape in
+      let f : Finished ≡ x = sym (e ∙ ap (λ τ. outcome_of τ Finished) h.tape) in
+      subst (λ o. Reacts prog (bud z) (bud y) o) f (subst (λ u. Reacts prog (bud z) (bud u) Finished) (sym h.same) (finished (bud z) m h.tape))
+
+  -- after an entry
+  goes_on : (n : ℕ) → Reacting n → (z u y : World O) (t : Place) (i : Entry) (r : Reply) (x : Outcome) → x ≡ outcome_of z.tape Finished → IsHanded z → IsLasting z.tape → IsUncut z.tape → ins [] z.tape ≡ dones [] z.tape → y.tape ≡ [] →
+      Visits prog (Runs prog) z None t i u (Some r) → Stays (RunsIn prog n) u [] idle never (Some r) y None → Reacts prog (bud z) (bud y) x
+  goes_on n ih z u y t i (Completed c) x e a b l d f v s =
+      let j : IsHanded u × IsLasting u.tape × IsUncut u.tape × (x ≡ outcome_of u.tape Finished) × Uncut {O = O} t (Done None (Completed c)) = after_visit z t i u (Completed c) x e a b l v in
+      served (bud z) (bud u) (bud y) t i (Completed c) x (visit_budget z t i u (Completed c) l v) refl (ih u y x j.3 j.0 j.1 j.2 (balanced_after z t i u (Completed c) v d) f s)
+  goes_on n ih z u y t i (Stop q m) x e a b l d f v s =
+      let j : IsHanded u × IsLasting u.tape × IsUncut u.tape × (x ≡ outcome_of u.tape Finished) × Uncut {O = O} t (Done None (Stop q m)) = after_visit z t i u (Stop q m) x e a b l v in
+      served (bud z) (bud u) (bud y) t i (Stop q m) x (visit_budget z t i u (Stop q m) l v) refl (ih u y x j.3 j.0 j.1 j.2 (balanced_after z t i u (Stop q m) v d) f s)
+  goes_on n ih z u y t i (Exit q) x e a b l d f v s =
+      let j : IsHanded u × IsLasting u.tape × IsUncut u.tape × (x ≡ outcome_of u.tape (Exited q)) × Uncut {O = O} t (Done None (Exit q)) = after_visit z t i u (Exit q) x e a b l v in
+      let h : Halts u y None = exits_idle u q u.moves y s in
+      let g : x ≡ Exited q = j.3 ∙ ap (λ τ. outcome_of τ (Exited q)) h.tape in
+      subst (λ o. Reacts prog (bud z) (bud y) o) (sym g) (subst (λ o. Reacts prog (bud z) (bud o) (Exited q)) (sym h.same) (over (bud z) (bud u) t i (Exit q) (Exited q) (visit_budget z t i u (Exit q) l v) refl h.tape))
+  goes_on n ih z u y t i (Cut q) x e a b l d f v s =
+      let j : IsHanded u × IsLasting u.tape × IsUncut u.tape × (x ≡ outcome_of u.tape Finished) × Uncut {O = O} t (Done None (Cut q)) = after_visit z t i u (Cut q) x e a b l v in
+      absurd (j.4 refl)
+
+  -- a life in which nothing is ended from outside is a reaction
+  reacting_next : (n : ℕ) → Reacting n → (z y : World O) (x : Outcome) → x ≡ outcome_of z.tape Finished → IsHanded z → IsLasting z.tape → IsUncut z.tape → ins [] z.tape ≡ dones [] z.tape → y.tape ≡ [] →
+      (ms : List (Move O)) → z.moves ≡ ms → Waits prog (RunsIn prog n) z [] idle never ms y None → Reacts prog (bud z) (bud y) x
+  reacting_next n ih z y x e a b l d f [] q h = ended z y x e a h
+  reacting_next n ih z y x e a b l d f (Come w ∷ ms) q h = no_move z (Come w) ms a q h.tape
+  reacting_next n ih z y x e a b l d f (Born o s ∷ ms) q (u, t, h) = lasts z (Made o s) u t b (λ g. absurd (g refl))
+  reacting_next n ih z y x e a b l d f (Fall ∷ ms) q (u, t, h) = lasts z Dropped u t b (λ g. absurd (g refl))
+  reacting_next n ih z y x e a b l d f (Enter t i ∷ ms) q (u, None, v, s) = never_halts z t i u (lift_visits n z t i u None v) d (ap (λ w. w.tape) (sym s.0) ∙ f)
+  reacting_next n ih z y x e a b l d f (Enter t i ∷ ms) q (u, Some r, v, s) = goes_on n ih z u y t i r x e a b l d f (lift_visits n z t i u (Some r) v) s
+
+  pub reacting : (n : ℕ) → Reacting n
+  reacting zero z y x e a b c d f g = absurd g
+  reacting (suc n) z y x e a b c d f (g, h) = reacting_next n (reacting n) z y x e a b c d f z.moves refl h
+
+module _ {O I : Type 0} where
+  -- a whole evaluation is a life
+  life_of : (prog : Table O I) (w v : World O) (t : Path) (i : Entry) (r : Reply) → Visits prog (Runs prog) w None t i v (Some r) → v.moves ≡ [] → v.tape ≡ [] → Lives prog w v None
+  life_of prog w v t i r a m f = wait_enter prog w [] idle never t i v (Some r) v None refl a (by r)
+    where
+      still : Halts v v None
+      still = record { tape = f; same = refl; ending = refl }
+
+      by : (r : Reply) → Stays (Runs prog) v [] idle never (Some r) v None
+      by (Completed c) = wait_halt prog v [] idle never v None refl m still
+      by (Stop n k) = wait_halt prog v [] idle never v None refl m still
+      by (Cut c) = wait_halt prog v [] idle never v None refl m still
+      by (Exit n) = subst (λ ms. Exits v [] idle n ms v None) (sym m) still
+
+  pub isolation : Isolation O I
+  isolation prog c w v t i r m a e f st un le =
+      let k : ℕ = m - steps_of (view c w.tape) in
+      let l : Lives prog (inside_of c w) (inside_of c v) None = lives_within prog c w v (life_of prog w v t i r a e f) in
+      let o : Owes c w v (Some r) = visit_owes c w a.entered a.left v None t i r a.entry (owes c prog (runs_derived prog a.entered t (entering prog (w.tree t) i) a.left (Some r) a.run)) a.leaving in
+      let s : ins c w.tape + dones c v.tape ≡ dones c w.tape + ins c v.tape + o.open_ins = o.sum in
+      let n : o.open_ins ≡ 0 = o.none_left r refl in
+      let p : ins c v.tape ≡ 0 = ap (ins c) f in
+      let q : dones c v.tape ≡ 0 = ap (dones c) f in
+      let b : ins c w.tape ≡ dones c w.tape = omega arith in
+      let g : m ≡ steps_of (view c w.tape) + k = omega (arith, le) in
+      let x : Outcome = outcome_of (view c w.tape) Finished in
+      let z : Reacts prog (budgeted k (inside_of c w)) (budgeted k (inside_of c v)) x =
+          reacting prog k l.0 (inside_of c w) (inside_of c v) x refl refl (lasting c w.tape st) un (view_ins c w.tape ∙ b ∙ sym (view_dones c w.tape)) (ap (view c) f) l.1 in
+      record {
+        tape = view c w.tape;
+        last = budgeted k (inside_of c v);
+        run = subst (λ j. Reacts prog (alone (at w.tree c) (moves_of (view c w.tape)) j (view c w.tape)) (budgeted k (inside_of c v)) x) (sym g) z;
+        told = refl;
+        left = refl;
+      }

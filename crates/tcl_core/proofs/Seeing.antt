@@ -1,0 +1,93 @@
+-- Replies and answers as they are seen in a subtree.
+use Rattle.std.proofs.Common.{◌≡◌, ℕ, zero, suc, ℤ, ◌+◌, ◌-◌, ◌<◌, ◌≤◌, Bool, true, false, List, [], ◌∷◌, ◌++◌, Option, Some, None, length, nat_lt, nat_eq, refl, sym, ◌∙◌, ap, arith, length-append}
+use Rattle.std.proofs.lemmas.Bool.Decides.{nat_tests, Decides-int_eq}
+use Rattle.std.specs.Ordering.{int_eq}
+use Rattle.tcl_core.specs.Paths.{Path, Place, Height, rise, rise_to, rejoined, falls, together, seen_height}
+use Rattle.tcl_core.specs.Endings.{Meter, Reply, IsQuit, refusal}
+use Rattle.tcl_core.specs.Endings.Reply.{Completed, Stop, Exit, Cut}
+use Rattle.tcl_core.specs.Endings.Cause.{Above}
+use Rattle.tcl_core.specs.Entries.{Entry, Answer}
+use Rattle.tcl_core.specs.Entries.Answer.{Replied, Heard}
+use Rattle.tcl_core.specs.Trees.{seen_reply, seen_answer, stopped}
+use Rattle.tcl_core.specs.Programs.{Wait}
+use Rattle.tcl_core.specs.Runs.{Ending, carried, lessened, is_own, answers_call, is_exit, ends_call}
+use Rattle.tcl_core.proofs.PathLaws.{not_both, Some-inj, rise-length, falls_within}
+
+-- how far it is to where a rise ends
+rejoined-measure : (x : List ℕ) (xs : List (List ℕ)) (o : Option (List (List ℕ))) (n : ℕ) (t : Bool) (b : List (List ℕ)) → nat_eq n (suc (length xs)) ≡ t → ((a : List (List ℕ)) → o ≡ Some a → length xs ≡ length a + n) → rejoined x o t ≡ Some b → suc (length xs) ≡ length b + n
+rejoined-measure x xs (Some a) n t b d f e = let g : length xs ≡ length a + n = f a refl in let h : length b ≡ suc (length a) = ap length (sym (Some-inj (x ∷ a) e)) in omega arith
+rejoined-measure x xs None n true b d f e = let h : length b ≡ 0 = ap length (sym (Some-inj [] e)) in grind (arith, nat_tests)
+rejoined-measure x xs None n false b d f e = cc
+
+pub rise-measure : (n : ℕ) (q b : List (List ℕ)) → rise n q ≡ Some b → length q ≡ length b + n
+rise-measure zero [] b e = let h : length b ≡ 0 = ap length (sym (Some-inj [] e)) in omega arith
+rise-measure (suc n) [] b e = cc
+rise-measure n (x ∷ xs) b e = rejoined-measure x xs (rise n xs) n (nat_eq n (suc (length xs))) b refl (λ a f. rise-measure n xs a f) e
+
+lt_true : (a b : ℕ) → a < b → nat_lt a b ≡ true
+lt_true a b l = grind (arith, nat_tests)
+
+lt_false : (a b : ℕ) → b ≤ a → nat_lt a b ≡ false
+lt_false a b l = grind (arith, nat_tests)
+
+-- a stop that names one above c, and one that doesn't, told within c
+stop_far : (q : List (List ℕ)) (d b t n h : ℕ) (m : Meter) → length q ≡ b + h → b + d < n → seen_reply q (lessened (nat_lt (n + t) d) (n + h - d) m) ≡ Cut Above
+stop_far q d b t n h m e lt =
+    let f : nat_lt (n + t) d ≡ false = lt_false (n + t) d (omega arith) in
+    let g : nat_lt (length q) (n + h - d) ≡ true = lt_true (length q) (n + h - d) (omega arith) in
+    ap (λ y. seen_reply q (lessened y (n + h - d) m)) f ∙ ap (λ y. stopped y (n + h - d) m) g
+
+stop_near : (q : List (List ℕ)) (d b n h : ℕ) (m : Meter) (y : Bool) → length q ≡ b + h → n ≤ b + d → seen_reply q (lessened y (n + h - d) m) ≡ lessened y (n + h - d) m
+stop_near q d b n h m true e le = refl
+stop_near q d b n h m false e le =
+    let g : nat_lt (length q) (n + h - d) ≡ false = lt_false (length q) (n + h - d) (omega arith) in
+    ap (λ y. stopped y (n + h - d) m) g
+
+stop_seen : (q down b : List (List ℕ)) (n h : ℕ) (m : Meter) (x : Bool) → nat_lt (length (b ++ down)) n ≡ x → length q ≡ length b + h →
+    seen_reply q (lessened (nat_lt (n + together (falls h q) down) (length down)) (n + h - length down) m) ≡ carried (Some h) q down (stopped x n m)
+stop_seen q down b n h m true f e =
+    stop_far q (length down) (length b) (together (falls h q) down) n h m e (grind (arith, nat_tests, length-append b down))
+stop_seen q down b n h m false f e =
+    stop_near q (length down) (length b) n h m (nat_lt (n + together (falls h q) down) (length down)) e (grind (arith, nat_tests, length-append b down))
+
+-- what a caller in c is told does not depend on where c is
+pub carried_within : (c q : List (List ℕ)) (h : Height) (down : Path) (r : Reply) (b : Path) → rise_to h q ≡ Some b → seen_reply q (carried h (c ++ q) down r) ≡ carried h q down (seen_reply (b ++ down) r)
+carried_within c q None down r b e = absurd (not_both refl e)
+carried_within c q (Some h) down (Completed x) b e = refl
+carried_within c q (Some h) down (Exit n) b e = refl
+carried_within c q (Some h) down (Cut x) b e = refl
+carried_within c q (Some h) down (Stop n m) b e =
+    ap (λ p. seen_reply q (lessened (nat_lt (n + together p down) (length down)) (n + h - length down) m)) (falls_within c q h b e)
+    ∙ stop_seen q down b n h m (nat_lt (length (b ++ down)) n) refl (rise-measure h q b e)
+
+-- an ending, as it is seen
+abbrev pub seen_end : Place → Ending → Ending
+seen_end q None = None
+seen_end q (Some r) = Some (seen_reply q r)
+
+stopped_quit : (x : Bool) (n : ℕ) (m : Meter) → IsQuit (stopped x n m)
+stopped_quit true n m = tt
+stopped_quit false n m = tt
+
+pub seen_quit : (q : Place) (r : Reply) → IsQuit r → IsQuit (seen_reply q r)
+seen_quit q (Completed c) f = f
+seen_quit q (Stop n m) f = stopped_quit (nat_lt (length q) n) n m
+seen_quit q (Exit n) f = tt
+seen_quit q (Cut c) f = tt
+
+-- what fits a call in the whole fits it in the subtree
+pub own_seen : (q : Place) (h : Height) (i : Entry) (a : Answer) → is_own h i a ≡ true → is_own h i (seen_answer q a) ≡ true
+own_seen q (Some n) i (Replied r) e = refl
+own_seen q (Some n) i (Heard a) e = e
+own_seen q None i (Replied (Completed c)) e = e
+own_seen q None i (Replied (Stop n m)) e = let x : false ≡ true = e in cc
+own_seen q None i (Replied (Exit n)) e = refl
+own_seen q None i (Replied (Cut c)) e = refl
+own_seen q None i (Heard a) e = e
+
+pub answers_seen : (q : Place) (s : Wait) (a : Answer) → answers_call s a ≡ true → answers_call s (seen_answer q a) ≡ true
+answers_seen q None a e = let x : false ≡ true = e in cc
+answers_seen q (Some c) a e = own_seen q c.0 c.1 a e
+
+pub is_exit_self : (n : ℤ) → is_exit n (Replied (Exit n)) ≡ true
+is_exit_self n = grind (arith, Decides-int_eq n n)

@@ -1,0 +1,5 @@
+use Rattle.tcl_core.proofs.Reacting.{isolation}
+use Rattle.tcl_core.proofs.isolation.Goals as goal
+
+pub returns : goal.returns
+returns g c = isolation

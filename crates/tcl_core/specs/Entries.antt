@@ -1,0 +1,76 @@
+-- What interpreters can be asked for by others, and what the host can be asked for.
+use Rattle.std.specs.Prelude.{ℕ, zero, suc, ℤ, Bool, true, false, List, [], ◌∷◌, Option, Some, None}
+use Rattle.tcl_core.specs.Paths.{Text, Path}
+use Rattle.tcl_core.specs.Endings.{Completion, Reply}
+use Rattle.tcl_core.specs.Endings.Reply.{Completed, Stop, Exit, Cut}
+
+-- what can be asked about an interpreter
+pub data Question : Type 0 where
+  Exists : Question
+  IsSafe : Question
+  Aliases : Question
+  AliasOf : (name : Text) → Question
+  Hidden : Question
+  Slaves : Question
+  CountLimitOf : Question
+  DepthLimitOf : Question
+
+-- A request of the host.
+pub data Request : Type 0 where
+  Open : (name mode : Text) → Request
+  ReadLine : (channel : Text) → Request
+  ReadAll : (channel : Text) → Request
+  Write : (channel text : Text) → Request
+  Flush : (channel : Text) → Request
+  Close : (channel : Text) → Request
+  AtEnd : (channel : Text) → Request
+
+-- The host's answer: what was asked for, or the number of a refusal.
+pub data HostReply : Type 0 where
+  Opened : (channel : Text) → HostReply
+  Bytes : (bytes : List ℕ) → HostReply
+  TheEnd : HostReply
+  Accepted : HostReply
+  Is : (answer : Bool) → HostReply
+  Fails : (number : ℕ) → HostReply
+
+-- the request's own answers
+abbrev pub answers : Request → HostReply → Bool
+answers (Open n m) (Opened c) = true
+answers (ReadLine c) (Bytes b) = true
+answers (ReadLine c) TheEnd = true
+answers (ReadAll c) (Bytes b) = true
+answers (Write c t) Accepted = true
+answers (Flush c) Accepted = true
+answers (Close c) Accepted = true
+answers (AtEnd c) (Is b) = true
+answers q (Fails n) = true
+answers q a = false
+
+-- What an interpreter can be asked for by another one, or from outside. An alias of the asked one leads so many levels up from it
+-- and these names down. A command called by an alias is entered as its words.
+pub data Entry : Type 0 where
+  Eval : (text : Text) → Entry
+  CallWords : (words : List Text) → Entry
+  InvokeHidden : (is_global : Bool) (words : List Text) → Entry
+  SetAlias : (name : Text) (up : ℕ) (down : Path) (words : List Text) → Entry
+  ClearAlias : (name : Text) → Entry
+  Hide : (name hidden : Text) → Entry
+  Expose : (hidden name : Text) → Entry
+  SetCountLimit : (limit : Option ℕ) → Entry
+  SetDepthLimit : (limit : ℕ) → Entry
+  Create : (name : Option Text) (safe : Bool) → Entry
+  Delete : (name : Text) → Entry
+  Ask : (question : Question) → Entry
+  -- only the host is asked for this
+  AskHost : (request : Request) → Entry
+
+-- what comes back to a call
+pub data Answer : Type 0 where
+  Replied : (reply : Reply) → Answer
+  Heard : (reply : HostReply) → Answer
+
+-- what a program is told of it: what is no completion it is not told of
+pub data Said : Type 0 where
+  Finished : (completion : Completion) → Said
+  Told : (reply : HostReply) → Said

@@ -1,0 +1,262 @@
+-- The laws. They hold whatever the commands are: `prog` is their table.
+use Rattle.std.specs.Prelude.{length, nat_le, ◌≡◌, ℕ, zero, suc, ◌≤◌, ◌<◌, ◌+◌, Bool, true, false, List, [], ◌∷◌, ◌++◌, Option, Some, None}
+use Rattle.tcl_core.specs.Paths.{Path, Place, Height, strip, rise_to}
+use Rattle.tcl_core.specs.Endings.{Meter, Reply}
+use Rattle.tcl_core.specs.Endings.Meter.{Count, Depth}
+use Rattle.tcl_core.specs.Endings.Reply.{Completed, Stop, Exit, Cut}
+use Rattle.tcl_core.specs.Entries.{Entry, Answer}
+use Rattle.tcl_core.specs.Entries.Answer.{Replied}
+use Rattle.tcl_core.specs.Trees.{asked, effect, Grant, Grants, Tree, Node, What, Event, Move, at, on_some}
+use Rattle.tcl_core.specs.Trees.Grants.{Listed, Budget}
+use Rattle.tcl_core.specs.Trees.What.{Charged, Refused, Limited, Made, Dropped, Out, In, Done, Back}
+use Rattle.tcl_core.specs.Programs.{Prog, Table}
+use Rattle.tcl_core.specs.Runs.{World, Ending, Runs, Visits}
+use Rattle.tcl_core.specs.Views.{grants_of, moves_of, steps_of, view, inside_of}
+use Rattle.tcl_core.specs.Tables.{AllCall, Discipline, Keeps_to, IsGood, AreTame, AreAllowed}
+use Rattle.tcl_core.specs.Lives.{Lives, Outcome, React, Whole, outs_of}
+
+-- the same world with another tape
+abbrev pub retape : {O : Type 0} → World O → List (Event O) → World O
+retape w τ = record { tree = w.tree; moves = w.moves; grants = w.grants; tape = τ }
+
+-- what is the same of two runs from worlds that differ in the tape alone
+pub record Agrees {O : Type 0} (w : World O) (τ : List (Event O)) (v : World O) (e : Ending) (z : World O) (o : Ending) : Type 0 where
+  pub rest : List (Event O)
+  pub made : List (Event O)
+  pub world : z ≡ retape v rest
+  pub ending : o ≡ e
+  pub first : w.tape ≡ made ++ v.tape
+  pub second : τ ≡ made ++ rest
+
+-- From the same tree, with the same handed in, the same happens.
+abbrev pub Determinism : Type 0 → Type 0 → Type 0
+Determinism O I = (prog : Table O I) (w z : World O) (p : Place) (x : Prog O I) (v y : World O) (e o : Ending) →
+    w.tree ≡ z.tree → w.moves ≡ z.moves → w.grants ≡ z.grants →
+    Runs prog w p x v e → Runs prog z p x y o → v.tape ≡ [] → y.tape ≡ [] →
+    (w.tape ≡ z.tape) × (v ≡ y) × (e ≡ o)
+
+-- A subtree's life is that of a tree of its own, to which the crossings into it are handed in.
+abbrev pub LivesWithin : Type 0 → Type 0 → Type 0
+LivesWithin O I = (prog : Table O I) (c : Place) (w v : World O) →
+    Lives prog w v None → Lives prog (inside_of c w) (inside_of c v) None
+
+-- Two lives in which a subtree is the same at first, and is handed the same, are the same in it.
+abbrev pub NonInterference : Type 0 → Type 0 → Type 0
+NonInterference O I = (prog : Table O I) (c : Place) (w v z y : World O) →
+    Lives prog w v None → Lives prog z y None → v.tape ≡ [] → y.tape ≡ [] →
+    at w.tree c ≡ at z.tree c → moves_of (view c w.tape) ≡ moves_of (view c z.tape) → grants_of (view c w.tape) ≡ grants_of (view c z.tape) →
+    (view c w.tape ≡ view c z.tape) × (at v.tree c ≡ at y.tree c)
+
+-- the tree after these happenings
+abbrev pub after : {O : Type 0} → List (Event O) → Tree O → Tree O
+after [] T = T
+after (ev ∷ τ) T = after τ (effect ev.place ev.what T)
+
+-- A run is what it makes happen, and its tree is what that leaves.
+abbrev pub Happenings : Type 0 → Type 0 → Type 0
+Happenings O I = (prog : Table O I) (w : World O) (p : Place) (x : Prog O I) (v : World O) (e : Ending) →
+    Runs prog w p x v e → (made : List (Event O)) × (w.tape ≡ made ++ v.tape) × (v.tree ≡ after made w.tree)
+
+-- c is neither made nor dropped
+abbrev pub Stands : {O : Type 0} → Place → Place → What O → Type 0
+Stands c p (Made o s) = strip p c ≡ Some [] → Prim.⊥
+Stands c p Dropped = strip p c ≡ None
+Stands c p _ = Unit {0}
+
+abbrev pub IsStanding : {O : Type 0} → Place → List (Event O) → Type 0
+IsStanding c [] = Unit {0}
+IsStanding c (ev ∷ τ) = Stands c ev.place ev.what × IsStanding c τ
+
+-- An interpreter's count rises by the steps that are made in its subtree.
+abbrev pub Counting : Type 0 → Type 0 → Type 0
+Counting O I = (prog : Table O I) (c p : Place) (w : World O) (x : Prog O I) (v : World O) (e : Ending) (n : Node O) →
+    Runs prog w p x v e → IsStanding c w.tape → w.tree c ≡ Some n →
+    (m : Node O) × (v.tree c ≡ Some m) × (m.count + steps_of (view c v.tape) ≡ n.count + steps_of (view c w.tape))
+
+-- c's limit is neither raised past l nor taken away
+abbrev pub Lowers : {O : Type 0} → ℕ → What O → Option Place → Type 0
+Lowers l (Limited x) (Some []) = (k : ℕ) × (x ≡ Some k) × (k ≤ l)
+Lowers l x b = Unit {0}
+
+abbrev pub IsLowering : {O : Type 0} → ℕ → Place → List (Event O) → Type 0
+IsLowering l c [] = Unit {0}
+IsLowering l c (ev ∷ τ) = Lowers l ev.what (strip ev.place c) × IsLowering l c τ
+
+-- With a limit that nobody raises or takes away, it ends at most at the greater of the limit and the count before: at most at each
+-- number that both are at most.
+abbrev pub Limiting : Type 0 → Type 0 → Type 0
+Limiting O I = (prog : Table O I) (c p : Place) (w : World O) (x : Prog O I) (v : World O) (e : Ending) (n : Node O) (l b : ℕ) →
+    Runs prog w p x v e → IsStanding c w.tape → IsLowering l c w.tape → w.tree c ≡ Some n → n.limit ≡ Some l → l ≤ b → n.count ≤ b →
+    (m : Node O) × (k : ℕ) × (v.tree c ≡ Some m) × (m.limit ≡ Some k) × (k ≤ l) × (m.count ≤ b)
+
+-- After any happenings the subtree at c is as those in it leave it.
+abbrev pub Moments : Type 0 → Type 0
+Moments O = (c : Place) (τ : List (Event O)) (T : Tree O) → at (after τ T) c ≡ after (view c τ) (at T c)
+
+-- A call within the tree reads no move.
+abbrev pub Inner : Type 0 → Type 0
+Inner O = (a : Place) (down : Path) (i : Entry) (ms : List (Move O)) → asked (a ++ down) (In (Some (length down)) i) ms ≡ ms
+
+-- the same world, with more to be handed in
+abbrev pub more_grants : List Grant → Grants → Grants
+more_grants more (Listed gs) = Listed (gs ++ more)
+more_grants more (Budget n) = Budget n
+
+abbrev pub with_more : {O : Type 0} → List (Move O) → List Grant → World O → World O
+with_more ms gs w = record { tree = w.tree; moves = w.moves ++ ms; grants = more_grants gs w.grants; tape = w.tape }
+
+-- What is handed in after a run is not looked at.
+abbrev pub MoreMoves : Type 0 → Type 0 → Type 0
+MoreMoves O I = (prog : Table O I) (w : World O) (p : Place) (x : Prog O I) (v : World O) (r : Reply) (ms : List (Move O)) (gs : List Grant) →
+    Runs prog w p x v (Some r) → Runs prog (with_more ms gs w) p x (with_more ms gs v) (Some r)
+
+-- Nothing is ended from outside the tree: no step or evaluation is refused there, no entry ends cut off, and no call is answered so.
+abbrev pub Uncut : {O : Type 0} → Place → What O → Type 0
+Uncut p (Refused m h) = rise_to h p ≡ None → Prim.⊥
+Uncut p (Done h (Cut x)) = rise_to h p ≡ None → Prim.⊥
+Uncut p (Back h (Replied (Cut x))) = rise_to h p ≡ None → Prim.⊥
+Uncut p _ = Unit {0}
+
+abbrev pub IsUncut : {O : Type 0} → List (Event O) → Type 0
+IsUncut [] = Unit {0}
+IsUncut (ev ∷ τ) = Uncut ev.place ev.what × IsUncut τ
+
+-- how the life of a tree is over whose last entry ended so
+abbrev pub ending_of : Reply → Outcome
+ending_of (Exit n) = Outcome.Exited n
+ending_of r = Outcome.Finished
+
+abbrev pub last_of : Option Place → Reply → Outcome → Outcome
+last_of None r x = ending_of r
+last_of (Some a) r x = x
+
+-- the outcome that the last entry's end gives; x where there is none
+abbrev pub outcome_at : {O : Type 0} → Place → What O → Outcome → Outcome
+outcome_at p (Done h r) x = last_of (rise_to h p) r x
+outcome_at p _ x = x
+
+abbrev pub outcome_of : {O : Type 0} → List (Event O) → Outcome → Outcome
+outcome_of [] x = x
+outcome_of (ev ∷ τ) x = outcome_of τ (outcome_at ev.place ev.what x)
+
+-- What an evaluation anywhere in the tree does in the subtree at c is what React does with that subtree alone and the crossings into
+-- it, with every budget that is not less than the steps made in it: the same is told to its outside, and the same subtree left.
+abbrev pub Isolation : Type 0 → Type 0 → Type 0
+Isolation O I = (prog : Table O I) (c : Place) (w v : World O) (t : Path) (i : Entry) (r : Reply) (m : ℕ) →
+    Visits prog (Runs prog) w None t i v (Some r) → v.moves ≡ [] → v.tape ≡ [] →
+    IsStanding c w.tape → IsUncut (view c w.tape) → steps_of (view c w.tape) ≤ m →
+    React prog (at w.tree c) (moves_of (view c w.tape)) m (outcome_of (view c w.tape) Outcome.Finished) (outs_of (view c w.tape)) (at v.tree c)
+
+-- an interpreter but for its count and its depth
+abbrev pub bare : {O : Type 0} → Node O → Node O
+bare n = record n { count = 0; depth = 0 }
+
+abbrev pub hidden : {O : Type 0} → Option Place → Option Place → Option (Node O) → Option (Node O)
+hidden (Some q) b o = None
+hidden None (Some q) o = on_some bare o
+hidden None None o = o
+
+-- the tree outside the subtree at c, but for the counts and depths of those above c
+abbrev pub rest : {O : Type 0} → Tree O → Place → Tree O
+rest T c = λ p. hidden (strip c p) (strip p c) (T p)
+
+-- where control goes by a happening, as it is seen from c
+pub data Turn : Type 0 where
+  Enters : Turn
+  Leaves : Turn
+  Inside : Turn
+  Elsewhere : Turn
+  Life : Turn
+
+abbrev pub comes_in : Option Place → Turn
+comes_in None = Enters
+comes_in (Some a) = Inside
+
+abbrev pub goes_out : Option Place → Turn
+goes_out None = Leaves
+goes_out (Some a) = Inside
+
+abbrev pub life_at : Place → Turn
+life_at [] = Life
+life_at (x ∷ q) = Inside
+
+abbrev pub turn_in : {O : Type 0} → Place → What O → Turn
+turn_in q (In h i) = comes_in (rise_to h q)
+turn_in q (Back h a) = comes_in (rise_to h q)
+turn_in q (Done h r) = goes_out (rise_to h q)
+turn_in q (Out h down i) = goes_out (rise_to h q)
+turn_in q (Made o s) = life_at q
+turn_in q Dropped = life_at q
+turn_in q _ = Inside
+
+abbrev pub turn_at : {O : Type 0} → Option Place → What O → Turn
+turn_at None x = Elsewhere
+turn_at (Some q) x = turn_in q x
+
+abbrev pub turn : {O : Type 0} → Place → Event O → Turn
+turn c ev = turn_at (strip c ev.place) ev.what
+
+-- no control leaves c
+abbrev pub NoLeaving : {O : Type 0} → Place → List (Event O) → Type 0
+NoLeaving c [] = Unit {0}
+NoLeaving c (ev ∷ τ) = (turn c ev ≡ Leaves → Prim.⊥) × NoLeaving c τ
+
+-- From an entry into c, or an answer to a call of c's, to the next call or end that leaves it, nothing outside c changes.
+abbrev pub QuietOutside : Type 0 → Type 0 → Type 0
+QuietOutside O I = (prog : Table O I) → AllCall prog → (c : Place) (w v : World O) (e : Ending) (first mid last : List (Event O)) (ev : Event O) →
+    Lives prog w v e → v.tape ≡ [] → w.tape ≡ first ++ ev ∷ (mid ++ last) → turn c ev ≡ Enters → NoLeaving c mid →
+    rest (after mid (after (first ++ ev ∷ []) w.tree)) c ≡ rest (after (first ++ ev ∷ []) w.tree) c
+
+-- a reply, told at q in c, that is a stop which names c or one above it, or an end from outside
+abbrev pub ends_in : Place → Reply → Bool
+ends_in q (Stop n m) = nat_le (length q) n
+ends_in q (Cut x) = true
+ends_in q r = false
+
+abbrev pub refused_in : Place → Meter → Height → Bool
+refused_in q m None = true
+refused_in q Count (Some n) = nat_le (length q) n
+refused_in q Depth (Some zero) = false
+refused_in q Depth (Some (suc n)) = nat_le (length q) (suc n)
+
+-- such a stop is raised in c, or comes into it as an answer (an interpreter's own depth limit is an error there, and no stop)
+abbrev pub raised_in : {O : Type 0} → Place → What O → Bool
+raised_in q (Refused m h) = refused_in q m h
+raised_in q (Back h (Replied r)) = ends_in q r
+raised_in q x = false
+
+abbrev pub raised_at : {O : Type 0} → Option Place → What O → Bool
+raised_at None x = false
+raised_at (Some q) x = raised_in q x
+
+abbrev pub freed : Option Place → Type 0 → Type 0
+freed None t = Unit {0}
+freed (Some a) t = t
+
+abbrev pub unmoved_by : {O : Type 0} → Option Place → What O → Type 0 → Type 0
+unmoved_by (Some q) Charged t = Prim.⊥
+unmoved_by (Some q) (Done h r) t = freed (rise_to h q) t
+unmoved_by b x t = t
+
+-- no step is made in c before an entry into it has ended
+abbrev pub Unmoved : {O : Type 0} → Place → List (Event O) → Type 0
+Unmoved c [] = Unit {0}
+Unmoved c (ev ∷ τ) = unmoved_by (strip c ev.place) ev.what (Unmoved c τ)
+
+-- and so it is after each such stop
+abbrev pub Obeys : {O : Type 0} → Place → List (Event O) → Type 0
+Obeys c [] = Unit {0}
+Obeys c (ev ∷ τ) = (raised_at (strip c ev.place) ev.what ≡ true → Unmoved c τ) × Obeys c τ
+
+-- Once a stop that names c or one above it is raised in c or comes into it as an answer, no step is made in c before it has left c.
+-- So no program catches one.
+abbrev pub Stopping : Type 0 → Type 0 → Type 0
+Stopping O I = (prog : Table O I) (c p : Place) (w : World O) (x : Prog O I) (v : World O) (e : Ending) →
+    Runs prog w p x v e → v.tape ≡ [] → Obeys c w.tape
+
+-- What a safe subtree whose interpreters keep a discipline does keeps it, where what is handed in does: nothing happens there that it
+-- forbids. (So a safe child with no host command asks the host for nothing, and no script in it sets a limit.)
+abbrev pub Disciplined : Type 0 → Type 0 → Type 0
+Disciplined O I = (R : Discipline O I) (prog : Table O I) → Keeps_to R prog → (c : Place) (w v : World O) →
+    Lives prog w v None → v.tape ≡ [] → IsGood R (at w.tree c) → AreTame R (moves_of (view c w.tape)) →
+    AreAllowed R (view c w.tape) × IsGood R (at v.tree c)

@@ -1,0 +1,13 @@
+pub mod Paths
+pub mod Endings
+pub mod Entries
+pub mod Trees
+pub mod Programs
+pub mod Runs
+pub mod Views
+pub mod Rules
+pub mod Threads
+pub mod Lives
+pub mod Meaning
+pub mod Laws
+pub mod Tables

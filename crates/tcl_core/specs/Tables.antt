@@ -1,0 +1,101 @@
+-- What a table of commands must be for some of the laws.
+use Rattle.std.specs.Prelude.{◌≡◌, ℕ, Bool, true, false, List, [], ◌∷◌, Option, Some, None}
+use Rattle.tcl_core.specs.Paths.{Place, Height}
+use Rattle.tcl_core.specs.Endings.{Completion}
+use Rattle.tcl_core.specs.Entries.{Entry, Said}
+use Rattle.tcl_core.specs.Trees.{Node, Tree, What, Event, Move}
+use Rattle.tcl_core.specs.Trees.What.{Changed, Limited, DepthLimited, Made, Out}
+use Rattle.tcl_core.specs.Trees.Move.{Enter, Born}
+use Rattle.tcl_core.specs.Programs.{Act, Wrap, Prog, Table}
+use Rattle.tcl_core.specs.Programs.Act.{Change, Make, Limit, LimitDepth}
+use Rattle.tcl_core.specs.Programs.Wrap.{Deeper, Framed}
+use Rattle.tcl_core.specs.Programs.Prog.{done, exit, act, go, inside, call, wait}
+
+-- A program calls, and doesn't wait without a call. (A program that waits for an answer is what a run makes of a call.)
+abbrev pub Calls_only : {O I : Type 0} → Prog O I → Type 0
+Calls_only (done c) = Unit {0}
+Calls_only (exit n) = Unit {0}
+Calls_only {O} (act d k) = (T : Tree O) → Calls_only (k T)
+Calls_only (go i k) = (c : Completion) → Calls_only (k c)
+Calls_only (inside b i k) = (c : Completion) → Calls_only (k c)
+Calls_only (call h down i lost k) = (s : Said) → Calls_only (k s)
+Calls_only (wait s k) = Prim.⊥
+
+pub record AllCall {O I : Type 0} (prog : Table O I) : Type 0 where
+  pub programs : (i : I) → Calls_only (prog.program i)
+  pub entries : (i : Entry) → Calls_only (prog.entry i)
+
+-- A discipline: what an interpreter's own part must be; what it may be asked for; what can go on in it; and whether limits may be set
+-- in it, and the host asked.
+pub record Discipline (O I : Type 0) : Type 0 where
+  pub plain : O → Bool
+  pub tame : Entry → Bool
+  pub fine : I → Bool
+  pub may_limit : Bool
+  pub may_ask : Bool
+
+module _ {O I : Type 0} (R : Discipline O I) where
+  abbrev pub IsGoodNode : Option (Node O) → Type 0
+  IsGoodNode None = Unit {0}
+  IsGoodNode (Some n) = (n.safe ≡ true) × (R.plain n.own ≡ true)
+
+  -- all its interpreters are safe, and plain
+  abbrev pub IsGood : Tree O → Type 0
+  IsGood T = (p : Place) → IsGoodNode (T p)
+
+  abbrev pub Modest_act : Act O → Type 0
+  Modest_act (Change o) = R.plain o ≡ true
+  Modest_act (Make name o s) = R.plain o ≡ true
+  Modest_act (Limit l) = R.may_limit ≡ true
+  Modest_act (LimitDepth l) = R.may_limit ≡ true
+  Modest_act _ = Unit {0}
+
+  abbrev pub Modest_wrap : Wrap O → Type 0
+  Modest_wrap Deeper = Unit {0}
+  Modest_wrap (Framed o back) = (R.plain o ≡ true) × ((n : O) → R.plain n ≡ true → R.plain (back n) ≡ true)
+
+  abbrev pub Modest_call : Height → Entry → Type 0
+  Modest_call None i = R.may_ask ≡ true
+  Modest_call (Some h) i = R.tame i ≡ true
+
+  -- a program that keeps the discipline, at an interpreter whose subtree is good
+  abbrev pub Modest : Prog O I → Type 0
+  Modest (done c) = Unit {0}
+  Modest (exit n) = Unit {0}
+  Modest (act d k) = Modest_act d × ((T : Tree O) → IsGood T → Modest (k T))
+  Modest (go i k) = (R.fine i ≡ true) × ((c : Completion) → Modest (k c))
+  Modest (inside b i k) = (R.fine i ≡ true) × Modest_wrap b × ((c : Completion) → Modest (k c))
+  Modest (call h down i lost k) = Modest_call h i × ((s : Said) → Modest (k s))
+  Modest (wait s k) = Prim.⊥
+
+  -- the commands keep it
+  pub record Keeps_to (prog : Table O I) : Type 0 where
+    pub programs : (i : I) → R.fine i ≡ true → Modest (prog.program i)
+    pub entries : (i : Entry) → R.tame i ≡ true → Modest (prog.entry i)
+
+  -- what is handed in keeps it
+  abbrev pub Tame_move : Move O → Type 0
+  Tame_move (Enter t i) = R.tame i ≡ true
+  Tame_move (Born o b) = (b ≡ true) × (R.plain o ≡ true)
+  Tame_move m = Unit {0}
+
+  abbrev pub AreTame : List (Move O) → Type 0
+  AreTame [] = Unit {0}
+  AreTame (m ∷ ms) = Tame_move m × AreTame ms
+
+  -- what then happens
+  abbrev pub Allowed_out : Height → Type 0
+  Allowed_out None = R.may_ask ≡ true
+  Allowed_out (Some h) = Unit {0}
+
+  abbrev pub Allowed : What O → Type 0
+  Allowed (Changed o) = R.plain o ≡ true
+  Allowed (Made o s) = (s ≡ true) × (R.plain o ≡ true)
+  Allowed (Limited l) = R.may_limit ≡ true
+  Allowed (DepthLimited l) = R.may_limit ≡ true
+  Allowed (Out h down i) = Allowed_out h
+  Allowed x = Unit {0}
+
+  abbrev pub AreAllowed : List (Event O) → Type 0
+  AreAllowed [] = Unit {0}
+  AreAllowed (ev ∷ τ) = Allowed ev.what × AreAllowed τ

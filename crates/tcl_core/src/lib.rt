@@ -1,0 +1,86 @@
+//! The core of a tree of interpreters: its definitions stand in `specs/`, and each function here is a law.
+//! `O` is the own part of an interpreter, `I` what can be going on in one; each law holds for every table of commands.
+#![tactic(auto)]
+
+ghost use Rattle.tcl_core.specs.Laws.{Counting, Determinism, Disciplined, Happenings, Inner, Isolation, Limiting, LivesWithin, Moments, MoreMoves, NonInterference, QuietOutside, Stopping};
+ghost use Rattle.tcl_core.specs.Meaning.{RulesAreRuns, ThreadsAreRuns, Unrolling};
+
+/// A run is what `Unrolled` says of runs.
+pub fn unrolling<O, I>()
+    ensures { Unrolling O I }
+{}
+
+/// The rules say what a run is.
+pub fn rules_are_runs<O, I>()
+    ensures { RulesAreRuns O I }
+{}
+
+/// What code threads is a run over the tape of what happened.
+pub fn threads_are_runs<O, I, S>()
+    ensures { ThreadsAreRuns O I S }
+{}
+
+/// From the same tree, with the same handed in, the same happens.
+pub fn determinism<O, I>()
+    ensures { Determinism O I }
+{}
+
+/// A subtree's life is that of a tree of its own, to which the crossings into it are handed in.
+pub fn lives_within<O, I>()
+    ensures { LivesWithin O I }
+{}
+
+/// Two lives in which a subtree is the same at first, and is handed the same, are the same in it.
+pub fn non_interference<O, I>()
+    ensures { NonInterference O I }
+{}
+
+/// After any happenings the subtree at a place is as those in it leave it.
+pub fn moments<O>()
+    ensures { Moments O }
+{}
+
+/// A call within the tree reads no move.
+pub fn inner<O>()
+    ensures { Inner O }
+{}
+
+/// What is handed in after a run is not looked at.
+pub fn more_moves<O, I>()
+    ensures { MoreMoves O I }
+{}
+
+/// A run is what it makes happen, and its tree is what that leaves.
+pub fn happenings<O, I>()
+    ensures { Happenings O I }
+{}
+
+/// An interpreter's count rises by the steps that are made in its subtree.
+pub fn counting<O, I>()
+    ensures { Counting O I }
+{}
+
+/// With a limit that nobody raises or takes away, a count ends at most at the greater of the limit and the count before.
+pub fn limiting<O, I>()
+    ensures { Limiting O I }
+{}
+
+/// What an evaluation anywhere in the tree does in a subtree is what that subtree alone does with the crossings into it.
+pub fn isolation<O, I>()
+    ensures { Isolation O I }
+{}
+
+/// From an entry into a subtree to the next call or end that leaves it, nothing outside it changes.
+pub fn quiet_outside<O, I>()
+    ensures { QuietOutside O I }
+{}
+
+/// Once a stop that names an interpreter or one above it is raised in its subtree or comes into it, no step is made there before it has left.
+pub fn stopping<O, I>()
+    ensures { Stopping O I }
+{}
+
+/// What a safe subtree whose commands keep a discipline does keeps it, where what is handed in does.
+pub fn disciplined<O, I>()
+    ensures { Disciplined O I }
+{}
