@@ -1,0 +1,212 @@
+//! Completions: a code, a text and options.
+ghost use Rattle.std.specs.Prelude.{◌≡◌, ◌≢◌, IfOk, pos};
+ghost use Rattle.tcl_core.specs.Endings.{settle, leave_proc, lowered, error, settled};
+ghost use Rattle.tcl_core.specs.Endings as core;
+ghost use Rattle.tcl_flow.specs.View.{completion_of};
+
+use crate::messages::{bad_code, break_outside, continue_outside, no_errorcode};
+use std::alloc::{AllocError, Global};
+use tcl_value::value::Value;
+
+/// The code of an ordinary completion.
+pub const OK: i64 = 0;
+/// The code of an error.
+pub const ERROR: i64 = 1;
+/// The code of a return that has levels left.
+pub const RETURN: i64 = 2;
+/// The code of a break.
+pub const BREAK: i64 = 3;
+/// The code of a continue.
+pub const CONTINUE: i64 = 4;
+
+/// The options of a completion, as `return(n)` has them.
+#[derive(Drop)]
+pub struct Options {
+    /// What a return comes to at its last level; of another completion its own code.
+    pub code: i64,
+    /// How many levels a return has left.
+    pub level: u64,
+    /// What kind of error it is, a list; `NONE` where it is of no kind.
+    pub errorcode: Value,
+}
+
+/// How a script ends.
+#[derive(Drop)]
+pub struct Completion {
+    /// 0 ok, 1 error, 2 return, 3 break, 4 continue, or another number.
+    pub code: i64,
+    /// The result, or the message.
+    pub text: Value,
+    /// What else is known of it.
+    pub options: Options,
+}
+
+/// An error with this message and no errorcode.
+///
+/// # Errors
+/// Want of memory.
+pub fn error(alloc: Global, message: Value) -> Result<Completion, AllocError>
+    ensures { IfOk result (λ c. completion_of c ≡ error message) }
+{
+    Ok(Completion {
+        code: ERROR,
+        text: message,
+        options: Options {
+            code: ERROR,
+            level: 0,
+            errorcode: no_errorcode(alloc)?,
+        },
+    })
+}
+
+/// A return one level nearer: at the last level it gives its code.
+fn lowered(completion: Completion) -> Completion
+    ensures { completion_of result ≡ lowered (completion_of completion) }
+{
+    let Completion {
+        code,
+        text,
+        options,
+    } = completion;
+    let Options {
+        code: last,
+        level,
+        errorcode,
+    } = options;
+    if level <= 1 {
+        return Completion {
+            code: last,
+            text,
+            options: Options {
+                code: last,
+                level: 0,
+                errorcode,
+            },
+        };
+    }
+    Completion {
+        code,
+        text,
+        options: Options {
+            code: last,
+            level: level - 1,
+            errorcode,
+        },
+    }
+}
+
+/// The completion of a procedure whose body ended so: a return comes one level nearer, a break or a continue is an error, and
+/// everything else passes.
+///
+/// # Errors
+/// Want of memory.
+pub fn leave_proc(alloc: Global, completion: Completion) -> Result<Completion, AllocError>
+    ensures { IfOk result (λ c. completion_of c ≡ leave_proc (completion_of completion)) }
+{
+    match completion.code {
+        RETURN => Ok(lowered(completion)),
+        BREAK => error(alloc, break_outside(alloc)?),
+        CONTINUE => error(alloc, continue_outside(alloc)?),
+        _ => Ok(completion),
+    }
+}
+
+/// What is left of a completion where only ok and error may pass: a return is lowered by one level first; then a break, a continue
+/// and every other code are errors.
+///
+/// # Errors
+/// Want of memory.
+pub fn settle(alloc: Global, completion: Completion) -> Result<Completion, AllocError>
+    ensures { IfOk result (λ c. completion_of c ≡ settle (completion_of completion)) }
+{
+    let completion = if completion.code == RETURN {
+        lowered(completion)
+    } else {
+        completion
+    };
+    settled(alloc, completion)
+}
+
+/// The same, of one that is no return with its last level.
+fn settled(alloc: Global, completion: Completion) -> Result<Completion, AllocError>
+    ensures { IfOk result (λ c. completion_of c ≡ settled completion.code (completion_of completion)) }
+{
+    match completion.code {
+        OK | ERROR => Ok(completion),
+        BREAK => error(alloc, break_outside(alloc)?),
+        CONTINUE => error(alloc, continue_outside(alloc)?),
+        code => other_code(alloc, code),
+    }
+}
+
+/// The error that a code is that has no name.
+fn other_code(alloc: Global, code: i64) -> Result<Completion, AllocError>
+    requires not_ok { code ≢ pos 0 }
+    requires not_error { code ≢ pos 1 }
+    requires not_break { code ≢ pos 3 }
+    requires not_continue { code ≢ pos 4 }
+    ensures { IfOk result (λ c. (of : core.Completion) → completion_of c ≡ settled code of) }
+{
+    let message = bad_code(alloc, code)?;
+    error(alloc, message)
+}
+
+#[cfg(test)]
+mod tests {
+    use super::*;
+    use std::test::Fail;
+    use tcl_text::text::Text;
+
+    fn returned(alloc: Global, code: i64, level: u64) -> Result<Completion, AllocError> {
+        Ok(Completion {
+            code: RETURN,
+            text: Value::from_int(1),
+            options: Options {
+                code,
+                level,
+                errorcode: no_errorcode(alloc)?,
+            },
+        })
+    }
+
+    fn shown(alloc: Global, completion: &Completion) -> Result<Text, AllocError> {
+        completion.text.text(alloc)
+    }
+
+    #[test]
+    fn settles(rt: HostRuntime) -> Result<(), Fail> {
+        let seven = settle(rt.alloc(), returned(rt.alloc(), 7, 1)?)?;
+        assert_eq!(rt; seven.code, ERROR);
+        assert_eq!(rt;
+            shown(rt.alloc(), &seven)?.as_str(),
+            "command returned bad code: 7"
+        );
+        let further = settle(rt.alloc(), returned(rt.alloc(), OK, 2)?)?;
+        assert_eq!(rt;
+            shown(rt.alloc(), &further)?.as_str(),
+            "command returned bad code: 2"
+        );
+        let done = settle(rt.alloc(), returned(rt.alloc(), OK, 1)?)?;
+        assert_eq!(rt; done.code, OK);
+        assert_eq!(rt; shown(rt.alloc(), &done)?.as_str(), "1");
+        Ok(())
+    }
+
+    #[test]
+    fn leaves_procedures(rt: HostRuntime) -> Result<(), Fail> {
+        let returned_break = leave_proc(rt.alloc(), returned(rt.alloc(), BREAK, 1)?)?;
+        assert_eq!(rt; returned_break.code, BREAK);
+        let broken = leave_proc(rt.alloc(), returned_break)?;
+        assert_eq!(rt; broken.code, ERROR);
+        assert_eq!(rt;
+            shown(rt.alloc(), &broken)?.as_str(),
+            "invoked \"break\" outside of a loop"
+        );
+        let message = continue_outside(rt.alloc())?;
+        assert_eq!(rt;
+            message.text(rt.alloc())?.as_str(),
+            "invoked \"continue\" outside of a loop"
+        );
+        Ok(())
+    }
+}
