@@ -1,5 +1,5 @@
 -- Each expression is read as its tree.
-use Rattle.std.proofs.Common.{◌≡◌, ◌∙◌, sym, ap, refl, subst, ℕ, zero, suc, ◌+◌, ◌<◌, ◌≤◌, nat_lt, nat_le, Bool, true, false, cond, List, [], ◌∷◌, Some, None, Ok, Err, arith}
+use Rattle.std.proofs.Common.{◌≡◌, ◌∙◌, sym, ap, refl, ℕ, zero, suc, ◌+◌, ◌<◌, ◌≤◌, nat_le, Bool, true, false, cond, List, [], ◌∷◌, Some, Ok, Err, arith}
 use Rattle.std.proofs.lemmas.Bool.{lt-ltb, le-ltb, le-leb, lt-leb}
 use Rattle.std.proofs.Math.Nat.{eq-or-lt_of_le}
 use Rattle.std.proofs.Common.{inl, inr}
@@ -10,9 +10,9 @@ use Rattle.tcl_expr.specs.declared.operator.Function.{Function}
 use Rattle.tcl_expr.specs.declared.grammar.Misfit.TheVariants.{TooDeep}
 use Rattle.tcl_expr.specs.declared.token.Token.{Token}
 use Rattle.tcl_expr.specs.declared.token.Token.TheVariants as token
-use Rattle.tcl_expr.specs.Trees.{Tree, leaf, unary, binary, choice, first, also}
-use Rattle.tcl_expr.specs.Grammar.{level, whole, prefix_of, infix_of, takes_one, is_complete, Kind, upto, arguments, Spells, operand, lowest, before, parenthesized, called, first_argument, next_argument, left, right, chosen, tighter, IsExpression}
-use Rattle.tcl_expr.specs.Reading.{Open, prefixed, infixed, parenthesis, calling, calling_on, deciding, otherwise, State, wanting, naming, having, depth, takes, Held, settle, Step, deeper, name, want, have, between, question, close_at, comma_at, comma_after, colon_at, step, and_then, run, finish, finished, only, read_tokens}
+use Rattle.tcl_expr.specs.Trees.{Tree, leaf, binary, choice, first}
+use Rattle.tcl_expr.specs.Grammar.{level, infix_of, is_complete, Kind, upto, arguments, Spells, operand, lowest, before, parenthesized, called, first_argument, next_argument, left, right, chosen, tighter, IsExpression}
+use Rattle.tcl_expr.specs.Reading.{Open, prefixed, infixed, parenthesis, calling, calling_on, deciding, otherwise, State, wanting, naming, having, depth, takes, Held, settle, Step, deeper, name, want, have, between, question, close_at, comma_at, comma_after, colon_at, step, and_then, run, finished, only, read_tokens}
 
 abbrev pub held : List Open → Tree → Held
 held os a = record { os = os; tree = a }
@@ -148,57 +148,77 @@ pub complete : {k : Kind} {r : ℕ} {a : Tree} {s rest : List Token} → Spells 
 unfolding run step settle depth
 complete (operand r x rest) room os = λ h ready. record { gs = os; t = leaf x; goes = refl; same = λ m f. refl }
 complete (lowest r t x rest e) room os = λ h ready. record {
-  gs = os; t = _;
+  gs = os;
+  t = _;
   goes = stepped room (wanting os) (wanting (prefixed unary_operator.Negate ∷ os)) t (token.Lowest x ∷ rest) (ap (want room os t) e ∙ deep room (prefixed unary_operator.Negate) os (omega arith));
-  same = λ m f. refl }
+  same = λ m f. refl;
+}
 complete (before r t o a s rest e d) room os = λ h ready.
     let ih = complete d room (prefixed o ∷ os) (omega arith) (no_level (prefixed o ∷ os)) in record {
-  gs = ih.gs; t = ih.t;
-  goes = stepped room (wanting os) (wanting (prefixed o ∷ os)) t s (ap (want room os t) e ∙ deep room (prefixed o) os (omega arith)) ∙ ih.goes;
-  same = λ m f. ih.same m f }
+      gs = ih.gs;
+      t = ih.t;
+      goes = stepped room (wanting os) (wanting (prefixed o ∷ os)) t s (ap (want room os t) e ∙ deep room (prefixed o) os (omega arith)) ∙ ih.goes;
+      same = λ m f. ih.same m f;
+    }
 complete (parenthesized r a s rest d) room os = λ h ready.
     let ih = complete d room (parenthesis ∷ os) (omega arith) (λ m k l b. refl) in
     let end : settle 16 ih.gs ih.t ≡ held (parenthesis ∷ os) a = ih.same 16 (record { least = omega arith; two = omega arith; power = λ e. absurd (omega arith); choice = λ e. absurd (omega arith); end = λ e. omega arith }) in record {
-  gs = os; t = a;
-  goes = stepped room (wanting os) (wanting (parenthesis ∷ os)) token.Open s (deep room parenthesis os (omega arith)) ∙ ih.goes
-      ∙ stepped room (having ih.gs ih.t) (having os a) token.Close rest (ap (λ (x : Held). close_at x.os x.tree) end);
-  same = λ m f. refl }
+      gs = os;
+      t = a;
+      goes = stepped room (wanting os) (wanting (parenthesis ∷ os)) token.Open s (deep room parenthesis os (omega arith)) ∙ ih.goes
+          ∙ stepped room (having ih.gs ih.t) (having os a) token.Close rest (ap (λ (x : Held). close_at x.os x.tree) end);
+      same = λ m f. refl;
+    }
 complete (called r a s rest d) room os = λ h ready.
     let ih = complete d room os (omega arith) in record {
-  gs = os; t = a;
-  goes = ih.goes ∙ stepped room (having ih.gs ih.t) (having os a) token.Close rest (ap (λ (x : Held). close_at x.os x.tree) ih.same ∙ ih.closes);
-  same = λ m f. refl }
+      gs = os;
+      t = a;
+      goes = ih.goes ∙ stepped room (having ih.gs ih.t) (having os a) token.Close rest (ap (λ (x : Held). close_at x.os x.tree) ih.same ∙ ih.closes);
+      same = λ m f. refl;
+    }
 complete (first_argument r f a s rest d) room os = λ h.
     let ih = complete d room (calling f ∷ os) (omega arith) (λ m k l b. refl) in record {
-  gs = ih.gs; t = ih.t; o = calling f; x = a;
-  goes = stepped room (wanting os) (naming f os) (token.Function f) (token.Open ∷ s) (named room f os (omega arith)) ∙ ih.goes;
-  same = ih.same 16 (record { least = omega arith; two = omega arith; power = λ e. absurd (omega arith); choice = λ e. absurd (omega arith); end = λ e. omega arith });
-  closes = refl;
-  commas = λ e. ap (λ (b : Bool). comma_after b (first f a) os) e }
+      gs = ih.gs;
+      t = ih.t;
+      o = calling f;
+      x = a;
+      goes = stepped room (wanting os) (naming f os) (token.Function f) (token.Open ∷ s) (named room f os (omega arith)) ∙ ih.goes;
+      same = ih.same 16 (record { least = omega arith; two = omega arith; power = λ e. absurd (omega arith); choice = λ e. absurd (omega arith); end = λ e. omega arith });
+      closes = refl;
+      commas = λ e. ap (λ (b : Bool). comma_after b (first f a) os) e;
+    }
 complete (next_argument r call a s u rest c d e) room os = λ h.
     let start = complete d room os h in
     let ih = complete e room (calling_on call ∷ os) (omega arith) (λ m k l b. refl) in record {
-  gs = ih.gs; t = ih.t; o = calling_on call; x = a;
-  goes = start.goes ∙ stepped room (having start.gs start.t) (wanting (calling_on call ∷ os)) token.Comma u (ap (λ (x : Held). comma_at x.os x.tree) start.same ∙ start.commas c) ∙ ih.goes;
-  same = ih.same 16 (record { least = omega arith; two = omega arith; power = λ e. absurd (omega arith); choice = λ e. absurd (omega arith); end = λ e. omega arith });
-  closes = refl;
-  commas = λ e. refl }
+      gs = ih.gs;
+      t = ih.t;
+      o = calling_on call;
+      x = a;
+      goes = start.goes ∙ stepped room (having start.gs start.t) (wanting (calling_on call ∷ os)) token.Comma u (ap (λ (x : Held). comma_at x.os x.tree) start.same ∙ start.commas c) ∙ ih.goes;
+      same = ih.same 16 (record { least = omega arith; two = omega arith; power = λ e. absurd (omega arith); choice = λ e. absurd (omega arith); end = λ e. omega arith });
+      closes = refl;
+      commas = λ e. refl;
+    }
 complete (left r n t o a b s u rest e l two d f) room os = λ h ready.
     let most = level_most o in
     let start = complete d room os h ready in
     let at : settle (level o) start.gs start.t ≡ held os a = start.same (level o) (record { least = omega arith; two = omega arith; power = λ e. absurd (omega arith); choice = λ e. absurd (omega arith); end = λ e. absurd (omega arith) }) ∙ ready (level o) (omega arith) (omega arith) a in
     let ih = complete f room (infixed o a ∷ os) h (λ m k j x. keeps m o a os x (takes_by_level o m (omega arith) ∙ lt-leb (level o) m (omega arith))) in record {
-  gs = ih.gs; t = ih.t;
-  goes = start.goes ∙ stepped room (having start.gs start.t) (wanting (infixed o a ∷ os)) t u (put_between room t o start.gs os start.t a e at) ∙ ih.goes;
-  same = λ m g. ih.same m (record { least = omega (arith, g.least); two = g.two; power = λ e. absurd (omega (arith, g.least)); choice = λ e. omega (arith, g.choice e); end = λ e. omega (arith, g.end e) })
-      ∙ gives m o a os b (takes_by_level o m (omega arith) ∙ le-leb (level o) m (omega (arith, g.least))) }
+      gs = ih.gs;
+      t = ih.t;
+      goes = start.goes ∙ stepped room (having start.gs start.t) (wanting (infixed o a ∷ os)) t u (put_between room t o start.gs os start.t a e at) ∙ ih.goes;
+      same = λ m g. ih.same m (record { least = omega (arith, g.least); two = g.two; power = λ e. absurd (omega (arith, g.least)); choice = λ e. omega (arith, g.choice e); end = λ e. omega (arith, g.end e) })
+          ∙ gives m o a os b (takes_by_level o m (omega arith) ∙ le-leb (level o) m (omega (arith, g.least)));
+    }
 complete (right r a b s u rest d f) room os = λ h ready.
     let start = complete d room os h (no_level os) in
     let at : settle 2 start.gs start.t ≡ held os a = start.same 2 (record { least = omega arith; two = omega arith; power = λ e. omega arith; choice = λ e. absurd (omega arith); end = λ e. absurd (omega arith) }) ∙ ready 2 (omega arith) (omega arith) a in
     let ih = complete f room (infixed infix_operator.Power a ∷ os) h (λ m k j x. keeps m infix_operator.Power a os x (le-ltb 2 m j)) in record {
-  gs = ih.gs; t = ih.t;
-  goes = start.goes ∙ stepped room (having start.gs start.t) (wanting (infixed infix_operator.Power a ∷ os)) (token.Infix infix_operator.Power) u (put_between room (token.Infix infix_operator.Power) infix_operator.Power start.gs os start.t a refl at) ∙ ih.goes;
-  same = λ m g. ih.same m g ∙ gives m infix_operator.Power a os b (lt-ltb 2 m (past m g)) }
+      gs = ih.gs;
+      t = ih.t;
+      goes = start.goes ∙ stepped room (having start.gs start.t) (wanting (infixed infix_operator.Power a ∷ os)) (token.Infix infix_operator.Power) u (put_between room (token.Infix infix_operator.Power) infix_operator.Power start.gs os start.t a refl at) ∙ ih.goes;
+      same = λ m g. ih.same m g ∙ gives m infix_operator.Power a os b (lt-ltb 2 m (past m g));
+    }
   where
     past : (m : ℕ) → Follows 2 m → 2 < m
     past zero g = absurd (omega (arith, g.two))
@@ -211,17 +231,22 @@ complete (chosen r c a b s u v rest d f g) room os = λ h ready.
     let second = complete f room (deciding c ∷ os) (omega arith) (λ m k l x. refl) in
     let there : settle 16 second.gs second.t ≡ held (deciding c ∷ os) a = second.same 16 (record { least = omega arith; two = omega arith; power = λ e. absurd (omega arith); choice = λ e. absurd (omega arith); end = λ e. omega arith }) in
     let ih = complete g room (otherwise c a ∷ os) (omega arith) (λ m k l x. keeps_choice m c a os x l) in record {
-  gs = ih.gs; t = ih.t;
-  goes = start.goes ∙ stepped room (having start.gs start.t) (wanting (deciding c ∷ os)) token.Question u (ap (question room) at ∙ deep room (deciding c) os (omega arith))
-      ∙ second.goes ∙ stepped room (having second.gs second.t) (wanting (otherwise c a ∷ os)) token.Colon v (ap (λ (x : Held). colon_at x.os x.tree) there) ∙ ih.goes;
-  same = λ m k. ih.same m k ∙ gives_choice m c a os b (past m k) }
+      gs = ih.gs;
+      t = ih.t;
+      goes = start.goes ∙ stepped room (having start.gs start.t) (wanting (deciding c ∷ os)) token.Question u (ap (question room) at ∙ deep room (deciding c) os (omega arith))
+          ∙ second.goes ∙ stepped room (having second.gs second.t) (wanting (otherwise c a ∷ os)) token.Colon v (ap (λ (x : Held). colon_at x.os x.tree) there) ∙ ih.goes;
+      same = λ m k. ih.same m k ∙ gives_choice m c a os b (past m k);
+    }
   where
     past : (m : ℕ) → Follows 15 m → 16 ≤ m
     past m k = elim (eq-or-lt_of_le k.least) [ inl e ↦ absurd (omega (arith, k.choice (sym e))) | inr l ↦ l ]
 complete (tighter r n a s rest d) room os = λ h ready.
     let ih = complete d room os h (fewer n os ready) in record {
-  gs = ih.gs; t = ih.t; goes = ih.goes;
-  same = λ m g. ih.same m (record { least = omega (arith, g.least); two = g.two; power = λ e. omega (arith, g.power e); choice = λ e. omega (arith, g.choice e); end = λ e. omega (arith, g.end e) }) }
+      gs = ih.gs;
+      t = ih.t;
+      goes = ih.goes;
+      same = λ m g. ih.same m (record { least = omega (arith, g.least); two = g.two; power = λ e. omega (arith, g.power e); choice = λ e. omega (arith, g.choice e); end = λ e. omega (arith, g.end e) });
+    }
 
 -- an expression is read as its tree
 pub read : (room : ℕ) (a : Tree) (s : List Token) → IsExpression room a s → read_tokens room s ≡ Ok a

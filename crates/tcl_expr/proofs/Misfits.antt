@@ -1,6 +1,6 @@
 -- The first token that doesn't fit: before it the tokens begin an expression, and with it they don't.
-use Rattle.std.proofs.Common.{◌≡◌, ◌∙◌, sym, ap, refl, subst, ℕ, zero, suc, ◌+◌, ◌<◌, ◌≤◌, nat_lt, Bool, true, false, cond, List, [], ◌∷◌, ◌++◌, Option, Some, None, Result, Ok, Err, arith, append_assoc, append-nil}
-use Rattle.std.proofs.lemmas.Bool.{lt-ltb, ltb-true, ltb-false, le-ltb, le-leb}
+use Rattle.std.proofs.Common.{◌≡◌, ◌∙◌, sym, ap, refl, subst, ℕ, suc, ◌+◌, ◌<◌, ◌≤◌, nat_lt, Bool, true, false, cond, List, [], ◌∷◌, ◌++◌, Option, Some, None, Result, Ok, Err, arith, append_assoc, append-nil}
+use Rattle.std.proofs.lemmas.Bool.{lt-ltb, ltb-true}
 use Rattle.tcl_expr.specs.declared.operator.BinaryOperator.{BinaryOperator}
 use Rattle.tcl_expr.specs.declared.operator.BinaryOperator.TheVariants as infix_operator
 use Rattle.tcl_expr.specs.declared.operator.UnaryOperator.{UnaryOperator}
@@ -8,15 +8,14 @@ use Rattle.tcl_expr.specs.declared.operator.UnaryOperator.TheVariants as unary_o
 use Rattle.tcl_expr.specs.declared.operator.Function.{Function}
 use Rattle.tcl_expr.specs.declared.grammar.Misfit.{Misfit}
 use Rattle.tcl_expr.specs.declared.grammar.Misfit.TheVariants.{Syntax, TooDeep, TooLarge}
-use Rattle.tcl_expr.specs.declared.token.Leaf.{Leaf}
 use Rattle.tcl_expr.specs.declared.token.Leaf.TheVariants.{Literal}
 use Rattle.tcl_expr.specs.declared.token.Token.{Token}
 use Rattle.tcl_expr.specs.declared.token.Token.TheVariants as token
 use Rattle.tcl_expr.specs.Trees.{Tree, leaf, unary, binary, choice, first, also}
 use Rattle.tcl_expr.specs.Grammar.{level, prefix_of, infix_of, takes_one, IsExpression, Begins}
-use Rattle.tcl_expr.specs.Reading.{Open, prefixed, infixed, parenthesis, calling, calling_on, deciding, otherwise, State, wanting, naming, having, depth, takes, Held, settle, Step, deeper, name, want, want_other, have, have_other, between, question, named, lowest, close_at, comma_at, comma_after, colon_at, step, and_then, run, finish, finished, only, read_tokens}
+use Rattle.tcl_expr.specs.Reading.{Open, prefixed, infixed, parenthesis, calling, calling_on, deciding, otherwise, State, wanting, naming, having, depth, takes, Held, settle, Step, want, have, between, named, lowest, close_at, comma_at, comma_after, colon_at, step, and_then, run, finish, finished, only, read_tokens}
 use Rattle.tcl_expr.specs.Misfits.{is_lowest, IsMisfit, Fails, fitting, early, Kind}
-use Rattle.tcl_expr.proofs.Completeness.{takes_by_level, gives, gives_choice, held, read, stepped}
+use Rattle.tcl_expr.proofs.Completeness.{gives, read}
 use Rattle.tcl_expr.proofs.Soundness.{expression}
 
 -- ## What stands open can be closed
@@ -303,12 +302,15 @@ unfolding run
 misfit room s q t e r h = record {
   begins = begins room s q r;
   ends = λ b. no_more (reads room (s ++ t ∷ []) b);
-  kind = of_shape (step_shape q t) }
+  kind = of_shape (step_shape q t);
+}
   where
     last : (big : ℕ) → run big (wanting []) s ≡ Ok q → run big (wanting []) (s ++ t ∷ []) ≡ and_then (step big q t) (λ (p : State). Ok p)
     last big k = run-append big (wanting []) s (t ∷ []) ∙ ap (λ (x : Step). and_then x (λ (p : State). run big p (t ∷ []))) k
+
     no_more : (p : State) × (run room (wanting []) (s ++ t ∷ []) ≡ Ok p) → Prim.⊥
     no_more (p, k) = let both : Ok p ≡ and_then (Err e) (λ (p : State). Ok p) = sym k ∙ last room r ∙ ap (λ (x : Step). and_then x (λ (p : State). Ok p)) h in absurd cc
+
     again : (other : ℕ) → (p : State) × (run other (wanting []) (s ++ t ∷ []) ≡ Ok p) → (p : State) × (step other q t ≡ Ok p)
     again other (p, k) =
         let was = was_run (run other (wanting []) s) (λ (x : State). run other x (t ∷ [])) p (sym (run-append other (wanting []) s (t ∷ [])) ∙ k) in
@@ -318,11 +320,13 @@ misfit room s q t e r h = record {
         was_run : (x : Step) (m : State → Step) (p : State) → and_then x m ≡ Ok p → (y : State) × (x ≡ Ok y)
         was_run (Ok y) m p g = (y, refl)
         was_run (Err f) m p g = absurd cc
+
     of_plain : (x : Step) → ((big : ℕ) → step big q t ≡ x) → is_lowest t ≡ false → Plain x → Kind e s t
     of_plain x k l (made p g) = let both : Ok p ≡ Err e = sym g ∙ sym (k room) ∙ h in absurd cc
     of_plain x k l (wrong g) = let both : Err e ≡ Err Syntax = sym h ∙ k room ∙ g in
         let is : e ≡ Syntax = cc in
         subst (λ (f : Misfit). Kind f s t) (sym is) (l, λ other b. let p = again other (reads other (s ++ t ∷ []) b) in let no : Ok p.0 ≡ Err Syntax = sym p.1 ∙ k other ∙ g in absurd cc)
+
     of_shape : Shape t (λ big. step big q t) → Kind e s t
     of_shape (fixed x k (plain l o)) = of_plain x k l o
     of_shape (fixed x k (low l o)) = let is : e ≡ TooLarge = o e (sym (k room) ∙ h) in subst (λ (f : Misfit). Kind f s t) (sym is) l
@@ -378,8 +382,10 @@ fitting_fails room s u t e m = by_step (step room at.0 t) refl
   where
     at : (q : State) × (run room (wanting []) s ≡ Ok q)
     at = reads room s m.begins
+
     whole_run : read_tokens room (s ++ t ∷ u) ≡ finished (and_then (step room at.0 t) (λ (p : State). run room p u))
     whole_run = ap finished (run-append room (wanting []) s (t ∷ u) ∙ ap (λ (x : Step). and_then x (λ (p : State). run room p (t ∷ u))) at.1)
+
     by_step : (x : Step) → step room at.0 t ≡ x → read_tokens room (s ++ t ∷ u) ≡ Err e
     by_step (Ok p) k = absurd (m.ends (begins room (s ++ t ∷ []) p (run-append room (wanting []) s (t ∷ []) ∙ ap (λ (x : Step). and_then x (λ (y : State). run room y (t ∷ []))) at.1 ∙ ap (λ (x : Step). and_then x (λ (y : State). Ok y)) k)))
     by_step (Err f) k = let is : f ≡ e = one_kind f e s t (misfit room s at.0 t f at.1 k).kind m.kind in

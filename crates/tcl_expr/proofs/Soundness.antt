@@ -1,5 +1,5 @@
 -- What is read is an expression.
-use Rattle.std.proofs.Common.{◌≡◌, ◌∙◌, sym, ap, refl, subst, ℕ, zero, suc, pred, ◌+◌, ◌-◌, ◌<◌, ◌≤◌, nat_lt, nat_le, Bool, true, false, cond, List, [], ◌∷◌, Option, Some, None, Result, Ok, Err, arith, inl, inr, ◌⊎◌}
+use Rattle.std.proofs.Common.{◌≡◌, ◌∙◌, sym, ap, refl, subst, ℕ, zero, suc, pred, ◌+◌, ◌-◌, ◌<◌, ◌≤◌, nat_lt, Bool, true, false, cond, List, [], ◌∷◌, Option, Some, None, Ok, Err, arith, inl, inr, ◌⊎◌}
 use Rattle.std.proofs.Math.Nat.{eq-or-lt_of_le}
 use Rattle.std.proofs.lemmas.Bool.{ltb-true, ltb-false, leb-true, leb-false, cases_lt}
 use Rattle.tcl_expr.specs.declared.operator.BinaryOperator.{BinaryOperator}
@@ -7,15 +7,14 @@ use Rattle.tcl_expr.specs.declared.operator.BinaryOperator.TheVariants as infix_
 use Rattle.tcl_expr.specs.declared.operator.UnaryOperator.{UnaryOperator}
 use Rattle.tcl_expr.specs.declared.operator.UnaryOperator.TheVariants as unary_operator
 use Rattle.tcl_expr.specs.declared.operator.Function.{Function}
-use Rattle.tcl_expr.specs.declared.grammar.Misfit.{Misfit}
-use Rattle.tcl_expr.specs.declared.grammar.Misfit.TheVariants.{Syntax, TooDeep, TooLarge}
+use Rattle.tcl_expr.specs.declared.grammar.Misfit.TheVariants.{TooDeep}
 use Rattle.tcl_expr.specs.declared.token.Leaf.TheVariants.{Literal}
 use Rattle.tcl_expr.specs.declared.token.Token.{Token}
 use Rattle.tcl_expr.specs.declared.token.Token.TheVariants as token
 use Rattle.tcl_expr.specs.Trees.{Tree, leaf, unary, binary, choice, first, also}
-use Rattle.tcl_expr.specs.Grammar.{level, whole, prefix_of, infix_of, takes_one, is_complete, Kind, upto, arguments, Spells, operand, lowest, before, parenthesized, called, first_argument, next_argument, left, right, chosen, tighter, IsExpression}
+use Rattle.tcl_expr.specs.Grammar.{level, whole, prefix_of, infix_of, takes_one, is_complete, upto, arguments, Spells, operand, lowest, before, parenthesized, called, first_argument, next_argument, left, right, chosen, tighter, IsExpression}
 use Rattle.tcl_expr.specs.Reading.{Open, prefixed, infixed, parenthesis, calling, calling_on, deciding, otherwise, State, wanting, naming, having, depth, takes, Held, settle, Step, deeper, name, want, want_other, have, have_other, between, question, named, close_at, comma_at, comma_after, colon_at, step, and_then, run, finish, finished, only, read_tokens}
-use Rattle.tcl_expr.proofs.Completeness.{Follows, takes_by_level, gives, keeps, gives_choice, keeps_choice, held}
+use Rattle.tcl_expr.proofs.Completeness.{Follows, takes_by_level, gives, keeps, gives_choice, keeps_choice}
 
 -- ## Levels
 
@@ -37,8 +36,9 @@ need _ = 15
 raise : {r : ℕ} {a : Tree} {s rest : List Token} (k n : ℕ) → k ≤ n → Spells (upto k) r a s rest → Spells (upto n) r a s rest
 raise {r} {a} {s} {rest} k zero h d = let e : k ≡ 0 = omega arith in subst (λ (m : ℕ). Spells (upto m) r a s rest) e d
 raise {r} {a} {s} {rest} k (suc n) h d = elim (eq-or-lt_of_le h) [
-    inl e ↦ subst (λ (m : ℕ). Spells (upto m) r a s rest) e d
-  | inr l ↦ tighter r n a s rest (raise k n (omega arith) d) ]
+  | inl e ↦ subst (λ (m : ℕ). Spells (upto m) r a s rest) e d
+  | inr l ↦ tighter r n a s rest (raise k n (omega arith) d)
+]
 
 -- `**`, or an operator that groups to the left
 pub data Grouping (o : BinaryOperator) : Type 0 where
@@ -88,13 +88,15 @@ only_power token.Colon e = cc
 joined : {r : ℕ} {a b : Tree} {s u rest : List Token} (t : Token) (o : BinaryOperator) → infix_of t ≡ Some o →
     Spells (upto (first_level o)) r a s (t ∷ u) → Spells (upto (second_level o)) r b u rest → Spells (upto (level o)) r (binary o a b) s rest
 joined {r} {a} {b} {s} {u} {rest} t o e d f = elim (grouping o) [
-    power p ↦ at_power p
+  | power p ↦ at_power p
   | other n l two most x y ↦ subst (λ (m : ℕ). Spells (upto m) r (binary o a b) s rest) (sym l)
-      (left r n t o a b s u rest e l two (subst (λ (m : ℕ). Spells (upto m) r a s (t ∷ u)) x d) (subst (λ (m : ℕ). Spells (upto m) r b u rest) y f)) ]
+      (left r n t o a b s u rest e l two (subst (λ (m : ℕ). Spells (upto m) r a s (t ∷ u)) x d) (subst (λ (m : ℕ). Spells (upto m) r b u rest) y f))
+]
   where
     by_power : (p : BinaryOperator) → p ≡ infix_operator.Power → infix_of t ≡ Some p → Spells (upto (first_level p)) r a s (t ∷ u) → Spells (upto (second_level p)) r b u rest → Spells (upto (level p)) r (binary p a b) s rest
     by_power infix_operator.Power p g x y = right r a b s u rest (subst (λ (q : Token). Spells (upto 1) r a s (q ∷ u)) (only_power t g) x) y
     by_power _ p g x y = absurd cc
+
     at_power : o ≡ infix_operator.Power → Spells (upto (level o)) r (binary o a b) s rest
     at_power p = by_power o p e d f
 
@@ -165,9 +167,10 @@ stack_room (on_colon os c a r v w u st eq d f nd) = omega arith
 
 takes_follow : (o : BinaryOperator) (k n : ℕ) → takes o n ≡ true → Follows k n → n ≤ 16 → Follows (level o) n
 takes_follow o k n e f top = elim (grouping o) [
-    power p ↦ by_power o p e
+  | power p ↦ by_power o p e
   | other m l two most x y ↦ let below : level o ≤ n = leb-true (level o) n (sym (takes_by_level o n (omega arith)) ∙ e) in
-      record { least = below; two = f.two; power = λ q. absurd (omega arith); choice = λ q. omega arith; end = λ q. omega arith } ]
+      record { least = below; two = f.two; power = λ q. absurd (omega arith); choice = λ q. omega arith; end = λ q. omega arith }
+]
   where
     by_power : (q : BinaryOperator) → q ≡ infix_operator.Power → takes q n ≡ true → Follows (level q) n
     by_power infix_operator.Power p e = let past : 2 < n = ltb-true 2 n e in record { least = omega arith; two = omega arith; power = λ q. absurd (omega arith); choice = λ q. omega arith; end = λ q. omega arith }
@@ -175,8 +178,9 @@ takes_follow o k n e f top = elim (grouping o) [
 
 takes_not : (o : BinaryOperator) (n : ℕ) → takes o n ≡ false → n ≤ second_level o
 takes_not o n e = elim (grouping o) [
-    power p ↦ by_power o p e
-  | other m l two most x y ↦ let above : n < level o = leb-false (level o) n (sym (takes_by_level o n (omega arith)) ∙ e) in omega arith ]
+  | power p ↦ by_power o p e
+  | other m l two most x y ↦ let above : n < level o = leb-false (level o) n (sym (takes_by_level o n (omega arith)) ∙ e) in omega arith
+]
   where
     by_power : (q : BinaryOperator) → q ≡ infix_operator.Power → takes q n ≡ false → n ≤ second_level q
     by_power infix_operator.Power p e = ltb-false 2 n e
@@ -193,22 +197,24 @@ settles {n = n} (on_prefix os t o w st e lt) a k r d eq f fit top =
 settles {room} {n} {s} {u} (on_infix os t o l q x w st e same g lv) a k r d eq f fit top =
     let one : r ≡ q = omega arith in
     elim (bool_cases (takes o n)) [
-      inl yes_takes ↦ subst (λ (h : Held). Settled room s h u n) (sym (gives n o l os a yes_takes))
-        (settles st (binary o l a) (level o) q (joined t o e g (raise k (second_level o) fit (subst (λ (m : ℕ). Spells (upto k) m a w u) one d))) same (takes_follow o k n yes_takes f top) lv top)
-    | inr not_takes ↦ subst (λ (h : Held). Settled room s h u n) (sym (keeps n o l os a not_takes))
-        (record { k = k; r = r; v = w; stack = on_infix os t o l q x w st e same g lv; spelled = d; room_is = eq; follows = f; need_is = λ h. takes_not o n not_takes }) ]
+      | inl yes_takes ↦ subst (λ (h : Held). Settled room s h u n) (sym (gives n o l os a yes_takes))
+          (settles st (binary o l a) (level o) q (joined t o e g (raise k (second_level o) fit (subst (λ (m : ℕ). Spells (upto k) m a w u) one d))) same (takes_follow o k n yes_takes f top) lv top)
+      | inr not_takes ↦ subst (λ (h : Held). Settled room s h u n) (sym (keeps n o l os a not_takes))
+          (record { k = k; r = r; v = w; stack = on_infix os t o l q x w st e same g lv; spelled = d; room_is = eq; follows = f; need_is = λ h. takes_not o n not_takes })
+    ]
 settles (on_open os w st lt) a k r d eq f fit top = record { k = k; r = r; v = w; stack = on_open os w st lt; spelled = d; room_is = eq; follows = f; need_is = λ h. h }
 settles (on_call os g w st lt) a k r d eq f fit top = record { k = k; r = r; v = w; stack = on_call os g w st lt; spelled = d; room_is = eq; follows = f; need_is = λ h. h }
 settles (on_argument os call q x w st e g c) a k r d eq f fit top = record { k = k; r = r; v = w; stack = on_argument os call q x w st e g c; spelled = d; room_is = eq; follows = f; need_is = λ h. h }
 settles (on_question os c q x w st e g nd) a k r d eq f fit top = record { k = k; r = r; v = w; stack = on_question os c q x w st e g nd; spelled = d; room_is = eq; follows = f; need_is = λ h. h }
 settles {room} {n} {s} {u} (on_colon os c b q x y w st e g j nd) a k r d eq f fit top =
     elim (cases_lt n 16) [
-      inl small ↦ subst (λ (h : Held). Settled room s h u n) (sym (keeps_choice n c b os a (omega arith)))
-        (record { k = k; r = r; v = w; stack = on_colon os c b q x y w st e g j nd; spelled = d; room_is = eq; follows = f; need_is = λ h. h })
-    | inr big ↦ let one : r ≡ q = omega arith in
-        subst (λ (h : Held). Settled room s h u n) (sym (gives_choice n c b os a big))
-        (settles st (choice c b a) 15 (suc q) (chosen q c b a x y w u g j (raise k 15 fit (subst (λ (m : ℕ). Spells (upto k) m a w u) one d))) (omega arith)
-          (record { least = omega arith; two = omega arith; power = λ z. absurd (omega arith); choice = λ z. absurd (omega arith); end = λ z. omega arith }) nd top) ]
+      | inl small ↦ subst (λ (h : Held). Settled room s h u n) (sym (keeps_choice n c b os a (omega arith)))
+          (record { k = k; r = r; v = w; stack = on_colon os c b q x y w st e g j nd; spelled = d; room_is = eq; follows = f; need_is = λ h. h })
+      | inr big ↦ let one : r ≡ q = omega arith in
+          subst (λ (h : Held). Settled room s h u n) (sym (gives_choice n c b os a big))
+          (settles st (choice c b a) 15 (suc q) (chosen q c b a x y w u g j (raise k 15 fit (subst (λ (m : ℕ). Spells (upto k) m a w u) one d))) (omega arith)
+          (record { least = omega arith; two = omega arith; power = λ z. absurd (omega arith); choice = λ z. absurd (omega arith); end = λ z. omega arith }) nd top)
+    ]
 
 -- ## Steps
 
@@ -224,8 +230,9 @@ Good room s (Err e) u = Unit {0}
 
 first_fits : (o : BinaryOperator) (k : ℕ) → Follows k (level o) → k ≤ first_level o
 first_fits o k f = elim (grouping o) [
-    power p ↦ by_power o p f
-  | other n l two most x y ↦ omega (arith, f.least) ]
+  | power p ↦ by_power o p f
+  | other n l two most x y ↦ omega (arith, f.least)
+]
   where
     by_power : (q : BinaryOperator) → q ≡ infix_operator.Power → Follows k (level q) → k ≤ first_level q
     by_power infix_operator.Power p f = f.power refl

@@ -1,5 +1,5 @@
 -- Which trees the tokens of an expression spell: one rule for each level of operators.
-use Rattle.std.specs.Prelude.{◌≡◌, ℕ, zero, suc, Bool, true, false, ◌≤◌, List, [], ◌∷◌, ◌++◌, Option, Some, None}
+use Rattle.std.specs.Prelude.{◌≡◌, ℕ, suc, Bool, true, false, ◌≤◌, List, [], ◌∷◌, ◌++◌, Option, Some, None}
 use Rattle.tcl_expr.specs.declared.operator.UnaryOperator.{UnaryOperator}
 use Rattle.tcl_expr.specs.declared.operator.UnaryOperator.TheVariants as unary_operator
 use Rattle.tcl_expr.specs.declared.operator.BinaryOperator.{BinaryOperator}
@@ -7,7 +7,7 @@ use Rattle.tcl_expr.specs.declared.operator.BinaryOperator.TheVariants as infix_
 use Rattle.tcl_expr.specs.declared.operator.Function.{Function}
 use Rattle.tcl_expr.specs.declared.operator.Function.TheVariants as function
 use Rattle.tcl_expr.specs.declared.token.Leaf.{Leaf}
-use Rattle.tcl_expr.specs.declared.token.Leaf.TheVariants.{Literal, Substituted}
+use Rattle.tcl_expr.specs.declared.token.Leaf.TheVariants.{Literal}
 use Rattle.tcl_expr.specs.declared.token.Token.{Token}
 use Rattle.tcl_expr.specs.declared.token.Token.TheVariants as token
 use Rattle.tcl_expr.specs.Trees.{Tree, leaf, unary, binary, choice, first, also}

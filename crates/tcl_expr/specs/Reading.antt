@@ -1,18 +1,17 @@
 -- Reading the tokens of an expression from the left: what stands open at a place, and what each token makes of that.
-use Rattle.std.specs.Prelude.{ℕ, zero, suc, nat_lt, nat_le, Bool, true, false, cond, List, [], ◌∷◌, Option, Some, None, Result, Ok, Err}
+use Rattle.std.specs.Prelude.{ℕ, suc, nat_lt, nat_le, Bool, true, false, cond, List, [], ◌∷◌, Option, Some, None, Result, Ok, Err}
 use Rattle.tcl_expr.specs.declared.operator.UnaryOperator.{UnaryOperator}
 use Rattle.tcl_expr.specs.declared.operator.UnaryOperator.TheVariants as unary_operator
 use Rattle.tcl_expr.specs.declared.operator.BinaryOperator.{BinaryOperator}
 use Rattle.tcl_expr.specs.declared.operator.BinaryOperator.TheVariants as infix_operator
 use Rattle.tcl_expr.specs.declared.operator.Function.{Function}
-use Rattle.tcl_expr.specs.declared.token.Leaf.{Leaf}
-use Rattle.tcl_expr.specs.declared.token.Leaf.TheVariants.{Literal, Substituted}
+use Rattle.tcl_expr.specs.declared.token.Leaf.TheVariants.{Literal}
 use Rattle.tcl_expr.specs.declared.token.Token.{Token}
 use Rattle.tcl_expr.specs.declared.token.Token.TheVariants as token
 use Rattle.tcl_expr.specs.declared.grammar.Misfit.{Misfit}
 use Rattle.tcl_expr.specs.declared.grammar.Misfit.TheVariants.{Syntax, TooDeep, TooLarge}
 use Rattle.tcl_expr.specs.Trees.{Tree, leaf, unary, binary, choice, first, also}
-use Rattle.tcl_expr.specs.Grammar.{level, prefix_of, infix_of, takes_one, is_complete}
+use Rattle.tcl_expr.specs.Grammar.{level, prefix_of, infix_of, takes_one}
 
 -- What stands open: an operator before its operand; an operator behind its first operand; a parenthesis; a function behind its name, and behind an argument; a
 -- choice behind its condition, and behind its second operand.

@@ -1,5 +1,4 @@
 -- The trees of expressions.
-use Rattle.std.specs.Prelude.{ℕ}
 use Rattle.tcl_expr.specs.declared.operator.UnaryOperator.{UnaryOperator}
 use Rattle.tcl_expr.specs.declared.operator.BinaryOperator.{BinaryOperator}
 use Rattle.tcl_expr.specs.declared.operator.Function.{Function}

@@ -22,11 +22,9 @@ pub enum Misfit {
 pub fn reading_finds_the_tree()
     ensures tree { (room : ℕ) (a : Tree) (s : List Token) → (read_tokens room s ≡ Ok a) ↔ IsExpression room a s }
     ensures one { (room : ℕ) (a b : Tree) (s : List Token) → IsExpression room a s → IsExpression room b s → a ≡ b }
-{
-}
+{}
 
 /// Tokens that are no expression's fail in one way: by the first of them that doesn't fit, or by ending too early.
 pub fn reading_finds_the_fault()
     ensures { (room : ℕ) (s : List Token) (e : Misfit) → (read_tokens room s ≡ Err e) ↔ Fails room s e }
-{
-}
+{}

@@ -1,4 +1,4 @@
-//! Expressions: reading them whole into trees, and what their operators come to.
+//! Expressions: the trees that their tokens spell.
 #![tactic(auto)]
 
 pub mod grammar;
