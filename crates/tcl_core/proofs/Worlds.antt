@@ -16,7 +16,8 @@ use Rattle.tcl_core.specs.Rules.Derives.{unanswered}
 use Rattle.tcl_core.specs.Views.{moves_of, steps_of, view, inside_of}
 use Rattle.tcl_core.specs.Lives.{Lives, Outcome, idle, never, outs_of}
 use Rattle.tcl_core.specs.Lives.Outcome.{Finished}
-use Rattle.tcl_core.specs.Laws.{AllAgree, TwoWorlds, AtMove, IsStanding, IsUncut, outcome_of, ending_of, Uncut}
+use Rattle.tcl_core.specs.Laws.{AllAgree, TwoWorlds, AtMove, IsStanding, outcome_of, ending_of, IsUnended}
+use Rattle.tcl_core.proofs.Unended.{IsUncut, Uncut, uncut}
 use Rattle.tcl_core.proofs.RuleLaws.{Ruled, derived_runs, runs_derived, enter_rule}
 use Rattle.tcl_core.proofs.Budgets.{budgeted}
 use Rattle.tcl_core.proofs.Balance.{ins, dones, Owes, owes, visit_owes, view_ins, view_dones}
@@ -86,10 +87,11 @@ module _ {O I : Type 0} (prog : Table O I) (k : ℕ) where
 
 module _ {O I : Type 0} where
   -- the life of the subtree at c in an evaluation, under a budget
-  life_within : (prog : Table O I) (c : Place) (w v : World O) (t : Path) (i : Entry) (r : Reply) (k : ℕ) → Visits prog (Runs prog) w None t i v (Some r) → v.moves ≡ [] → v.tape ≡ [] → IsStanding c w.tape → IsUncut (view c w.tape) →
+  life_within : (prog : Table O I) (c : Place) (w v : World O) (t : Path) (i : Entry) (r : Reply) (k : ℕ) → Visits prog (Runs prog) w None t i v (Some r) → v.moves ≡ [] → v.tape ≡ [] → IsStanding c w.tape → IsUnended (view c w.tape) →
       Derives prog (budgeted k (inside_of c w)) [] (wait idle never) (budgeted k (inside_of c v)) None
-  life_within prog c w v t i r k a e f st un =
+  life_within prog c w v t i r k a e f st une =
       let l : Lives prog (inside_of c w) (inside_of c v) None = lives_within prog c w v (life_of prog w v t i r a e f) in
+      let un : IsUncut (view c w.tape) = uncut prog (runs_derived prog (inside_of c w) [] (wait idle never) (inside_of c v) None l) une tt (subst (λ τ. IsUncut (view c τ)) (sym f) tt) in
       let o : Owes c w v (Some r) = visit_owes c w a.entered a.left v None t i r a.entry (owes c prog (runs_derived prog a.entered t (entering prog (w.tree t) i) a.left (Some r) a.run)) a.leaving in
       let s : ins c w.tape + dones c v.tape ≡ dones c w.tape + ins c v.tape + o.open_ins = o.sum in
       let n : o.open_ins ≡ 0 = o.none_left r refl in
