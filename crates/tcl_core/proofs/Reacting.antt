@@ -14,7 +14,7 @@ use Rattle.tcl_core.specs.Views.{moves_of, steps_of, view, inside_of, kept, from
 use Rattle.tcl_core.specs.Lives.{Lives, Outcome, Reacts, alone, idle, never}
 use Rattle.tcl_core.specs.Lives.Outcome.{Finished, Exited}
 use Rattle.tcl_core.specs.Lives.Reacts.{finished, served, over}
-use Rattle.tcl_core.specs.Laws.{Isolation, IsStanding, Stands, outcome_of, outcome_at, ending_of, IsUnended}
+use Rattle.tcl_core.specs.Laws.{Isolation, IsStanding, Stands, outcome_of, outcome_at, ending_of}
 use Rattle.tcl_core.proofs.Unended.{IsUncut, Uncut, uncut}
 use Rattle.tcl_core.proofs.PathLaws.{not_both, strip-sound, strip_own}
 use Rattle.tcl_core.proofs.TreeLaws.{unseen}

@@ -1,16 +1,16 @@
 -- Where no entry is ended from outside, nothing is refused from there.
-use Rattle.std.proofs.Common.{sym, ◌≡◌, ℕ, zero, suc, ℤ, ◌≤◌, Bool, true, false, List, [], ◌∷◌, ◌++◌, Option, Some, None, length, refl, ◌∙◌, ap, subst}
+use Rattle.std.proofs.Common.{sym, ◌≡◌, ℕ, zero, suc, ℤ, Bool, true, false, List, [], ◌∷◌, ◌++◌, Option, Some, None, length, refl, subst}
 use Rattle.tcl_core.specs.Paths.{Path, Place, Height, rise_to}
-use Rattle.tcl_core.specs.Endings.{Meter, Completion, Reply, Cause, IsQuit}
+use Rattle.tcl_core.specs.Endings.{Meter, Reply}
 use Rattle.tcl_core.specs.Endings.Meter.{Count, Depth}
 use Rattle.tcl_core.specs.Endings.Reply.{Completed, Stop, Exit, Cut}
 use Rattle.tcl_core.specs.Endings.Cause.{Above, Over}
-use Rattle.tcl_core.specs.Entries.{Entry, Answer}
+use Rattle.tcl_core.specs.Entries.{Answer}
 use Rattle.tcl_core.specs.Entries.Answer.{Replied, Heard}
-use Rattle.tcl_core.specs.Trees.{Grants, Grant, Tree, Node, What, Event, Move}
+use Rattle.tcl_core.specs.Trees.{Grants, Tree, Node, What, Event, Move}
 use Rattle.tcl_core.specs.Trees.Grant.{Allow, Deny}
 use Rattle.tcl_core.specs.Trees.Grants.{Listed, Budget}
-use Rattle.tcl_core.specs.Trees.What.{Seen, Changed, Charged, Refused, Nested, Unnested, Limited, DepthLimited, Made, Dropped, Out, In, Done, Back}
+use Rattle.tcl_core.specs.Trees.What.{Seen, Charged, Refused, Nested, Limited, DepthLimited, Done, Back}
 use Rattle.tcl_core.specs.Trees.Move.{Born, Fall, Enter, Come}
 use Rattle.tcl_core.specs.Programs.{Deed, spot, Act, Wrap, Wait, Next, Prog, Table, decide, opens, closes, changing, making, dropping, dropping_at, metered, by_limit, blocked, is_spent, is_deep}
 use Rattle.tcl_core.specs.Programs.Next.{On, TooDeep, Off}

@@ -1,29 +1,29 @@
 -- Two worlds in which a subtree is the same and is first handed the same.
-use Rattle.std.proofs.Common.{sym, ◌≡◌, ◌⊎◌, inl, inr, ℕ, zero, suc, ℤ, ◌+◌, Bool, true, false, List, [], ◌∷◌, ◌++◌, Option, Some, None, length, refl, ◌∙◌, ap, subst, arith, append-nil}
-use Rattle.tcl_core.specs.Paths.{Path, Place, Height, strip}
+use Rattle.std.proofs.Common.{sym, ◌≡◌, inl, inr, ℕ, zero, suc, ℤ, ◌+◌, List, [], ◌∷◌, ◌++◌, Some, None, refl, ◌∙◌, ap, subst, arith, append-nil}
+use Rattle.tcl_core.specs.Paths.{Path, Place}
 use Rattle.tcl_core.specs.Endings.{Reply}
 use Rattle.tcl_core.specs.Endings.Reply.{Completed, Stop, Exit, Cut}
 use Rattle.tcl_core.specs.Entries.{Entry}
-use Rattle.tcl_core.specs.Trees.{Tree, What, Event, Move, at}
+use Rattle.tcl_core.specs.Trees.{Event, Move}
 use Rattle.tcl_core.specs.Trees.Grants.{Budget}
-use Rattle.tcl_core.specs.Trees.What.{Made, Dropped, In, Done}
+use Rattle.tcl_core.specs.Trees.What.{Made, Dropped}
 use Rattle.tcl_core.specs.Trees.Move.{Born, Fall, Enter, Come}
-use Rattle.tcl_core.specs.Programs.{Prog, Table}
+use Rattle.tcl_core.specs.Programs.{Table}
 use Rattle.tcl_core.specs.Programs.Prog.{wait}
 use Rattle.tcl_core.specs.Runs.{World, Ending, Halts, Exits, Stays, Visits, Waits, Runs, RunsIn, entering}
 use Rattle.tcl_core.specs.Rules.{Derives}
 use Rattle.tcl_core.specs.Rules.Derives.{unanswered}
 use Rattle.tcl_core.specs.Views.{moves_of, steps_of, view, inside_of}
-use Rattle.tcl_core.specs.Lives.{Lives, Outcome, idle, never, outs_of}
+use Rattle.tcl_core.specs.Lives.{Lives, idle, never, outs_of}
 use Rattle.tcl_core.specs.Lives.Outcome.{Finished}
-use Rattle.tcl_core.specs.Laws.{AllAgree, TwoWorlds, AtMove, IsStanding, outcome_of, ending_of, IsUnended}
-use Rattle.tcl_core.proofs.Unended.{IsUncut, Uncut, uncut}
+use Rattle.tcl_core.specs.Laws.{AllAgree, TwoWorlds, AtMove, IsStanding, outcome_of, IsUnended}
+use Rattle.tcl_core.proofs.Unended.{IsUncut, uncut}
 use Rattle.tcl_core.proofs.RuleLaws.{Ruled, derived_runs, runs_derived, enter_rule}
 use Rattle.tcl_core.proofs.Budgets.{budgeted}
 use Rattle.tcl_core.proofs.Balance.{ins, dones, Owes, owes, visit_owes, view_ins, view_dones}
 use Rattle.tcl_core.proofs.Reacting.{IsHanded, IsLasting, lasting, lasts, no_move, exits_idle, visit_budget, after_visit, balanced_after, never_halts, lift_visits, life_of}
 use Rattle.tcl_core.proofs.Outside.{halted_tape}
-use Rattle.tcl_core.proofs.Parting.{cut, Beyond, Stops, Goes, Result, Run_of, part}
+use Rattle.tcl_core.proofs.Parting.{cut, Beyond, Stops, Result, Run_of, part}
 use Rattle.tcl_core.proofs.Conclusions.{determinism, lives_within}
 
 abbrev halted : Ending
