@@ -20,3 +20,4 @@ pub mod Disciplines
 pub mod Parting
 pub mod Worked
 pub mod Worlds
+pub mod Unended

@@ -1,6 +1,6 @@
 -- What is handed in later does not change what happens before it is read.
 use Rattle.std.proofs.Common.{sym, ◌≡◌, ◌⊎◌, inl, inr, ℕ, zero, suc, ℤ, Bool, true, false, List, [], ◌∷◌, ◌++◌, Option, Some, None, length, refl, ◌∙◌, ap, subst, append_assoc}
-use Rattle.tcl_core.specs.Paths.{Path, Place, Height, strip, rise_to}
+use Rattle.tcl_core.specs.Paths.{Path, Place, Height, rise_to}
 use Rattle.tcl_core.specs.Endings.{Meter, Completion, Reply, IsQuit, refusal}
 use Rattle.tcl_core.specs.Endings.Meter.{Count, Depth}
 use Rattle.tcl_core.specs.Endings.Reply.{Completed, Stop, Exit, Cut}
@@ -8,22 +8,22 @@ use Rattle.tcl_core.specs.Entries.{Entry, Answer, Said}
 use Rattle.tcl_core.specs.Entries.Answer.{Replied, Heard}
 use Rattle.tcl_core.specs.Entries.Said.{Finished, Told}
 use Rattle.tcl_core.specs.Trees.{at, Grants, Tree, Node, What, Event, Move, asked, where_none, at_top}
-use Rattle.tcl_core.specs.Trees.What.{Seen, Changed, Charged, Refused, Nested, Unnested, Limited, DepthLimited, Made, Dropped, Out, In, Done, Back}
+use Rattle.tcl_core.specs.Trees.What.{Seen, Charged, Refused, Nested, Limited, DepthLimited, Made, Dropped, Out, In, Done, Back}
 use Rattle.tcl_core.specs.Trees.Move.{Born, Fall, Enter, Come}
-use Rattle.tcl_core.specs.Programs.{Deed, spot, Act, Wrap, Wait, Next, Prog, Table, decide, opens, closes, changing, making, dropping, dropping_at, either, metered, by_limit, blocked, is_spent, is_deep}
+use Rattle.tcl_core.specs.Programs.{Deed, spot, Act, Wrap, Wait, Prog, Table, decide, opens, closes, changing, making, dropping, dropping_at, either, metered, by_limit, blocked, is_spent, is_deep}
 use Rattle.tcl_core.specs.Programs.Act.{Look, Change, Charge, Limit, LimitDepth, Make, Drop}
 use Rattle.tcl_core.specs.Programs.Wrap.{Deeper, Framed}
-use Rattle.tcl_core.specs.Programs.Next.{On, TooDeep, Off}
+use Rattle.tcl_core.specs.Programs.Next.{On, Off}
 use Rattle.tcl_core.specs.Endings.Cause.{Above, Over}
 use Rattle.tcl_core.specs.Trees.Grant.{Allow, Deny}
 use Rattle.tcl_core.specs.Trees.Grants.{Listed, Budget}
 use Rattle.tcl_core.specs.Programs.Prog.{done, exit, act, go, inside, call, wait}
 use Rattle.tcl_core.specs.Runs.{World, Step, Ending, Halts, fits, Exits, Exiting, Follows, Hears, Leaves, Visits, Returns, Reaches, Closes, Opened, Stays, carried, reached, where_stands, entering, ends_call, height_of}
-use Rattle.tcl_core.specs.Rules.{Derives, IsOn, IsNoExit}
+use Rattle.tcl_core.specs.Rules.{Derives, IsNoExit}
 use Rattle.tcl_core.specs.Rules.Derives.{completed, exited, acted, refused, unheard, went, passed, halted, wrapped, wrapped_passed, wrapped_halted, too_deep, shut, unheard_inside, called, called_passed, called_halted, unreached, called_out, unanswered, unfit, answered, heard, answered_passed, entered, entered_halted, entered_exiting, born, fallen}
 use Rattle.tcl_core.specs.Laws.{ReadsMove, AtMove}
 use Rattle.tcl_core.proofs.PathLaws.{not_both, Some-inj, rise_back}
-use Rattle.tcl_core.proofs.Plain.{IsPlain, decide_plain, opens_plain, closes_plain}
+use Rattle.tcl_core.proofs.Plain.{IsPlain}
 use Rattle.tcl_core.proofs.TreeLaws.{IsLife}
 use Rattle.tcl_core.proofs.RuleLaws.{Ruled, open_rule, reach_rule, enter_rule}
 

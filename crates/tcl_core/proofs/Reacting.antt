@@ -14,7 +14,8 @@ use Rattle.tcl_core.specs.Views.{moves_of, steps_of, view, inside_of, kept, from
 use Rattle.tcl_core.specs.Lives.{Lives, Outcome, Reacts, alone, idle, never}
 use Rattle.tcl_core.specs.Lives.Outcome.{Finished, Exited}
 use Rattle.tcl_core.specs.Lives.Reacts.{finished, served, over}
-use Rattle.tcl_core.specs.Laws.{Isolation, IsStanding, Stands, IsUncut, Uncut, outcome_of, outcome_at, ending_of}
+use Rattle.tcl_core.specs.Laws.{Isolation, IsStanding, Stands, outcome_of, outcome_at, ending_of}
+use Rattle.tcl_core.proofs.Unended.{IsUncut, Uncut, uncut}
 use Rattle.tcl_core.proofs.PathLaws.{not_both, strip-sound, strip_own}
 use Rattle.tcl_core.proofs.TreeLaws.{unseen}
 use Rattle.tcl_core.proofs.Subtrees.{wait_halt, wait_enter}
@@ -188,9 +189,10 @@ module _ {O I : Type 0} where
       by (Exit n) = subst (λ ms. Exits v [] idle n ms v None) (sym m) still
 
   pub isolation : Isolation O I
-  isolation prog c w v t i r m a e f st un le =
+  isolation prog c w v t i r m a e f st une le =
       let k : ℕ = m - steps_of (view c w.tape) in
       let l : Lives prog (inside_of c w) (inside_of c v) None = lives_within prog c w v (life_of prog w v t i r a e f) in
+      let un : IsUncut (view c w.tape) = uncut prog (runs_derived prog (inside_of c w) [] (wait idle never) (inside_of c v) None l) une tt (subst (λ τ. IsUncut (view c τ)) (sym f) tt) in
       let o : Owes c w v (Some r) = visit_owes c w a.entered a.left v None t i r a.entry (owes c prog (runs_derived prog a.entered t (entering prog (w.tree t) i) a.left (Some r) a.run)) a.leaving in
       let s : ins c w.tape + dones c v.tape ≡ dones c w.tape + ins c v.tape + o.open_ins = o.sum in
       let n : o.open_ins ≡ 0 = o.none_left r refl in

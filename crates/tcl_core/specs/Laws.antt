@@ -111,16 +111,15 @@ abbrev pub MoreMoves : Type 0 → Type 0 → Type 0
 MoreMoves O I = (prog : Table O I) (w : World O) (p : Place) (x : Prog O I) (v : World O) (r : Reply) (ms : List (Move O)) (gs : List Grant) →
     Runs prog w p x v (Some r) → Runs prog (with_more ms gs w) p x (with_more ms gs v) (Some r)
 
--- Nothing is ended from outside the tree: no step or evaluation is refused there, no entry ends cut off, and no call is answered so.
-abbrev pub Uncut : {O : Type 0} → Place → What O → Type 0
-Uncut p (Refused m h) = rise_to h p ≡ None → Prim.⊥
-Uncut p (Done h (Cut x)) = rise_to h p ≡ None → Prim.⊥
-Uncut p (Back h (Replied (Cut x))) = rise_to h p ≡ None → Prim.⊥
-Uncut p _ = Unit {0}
+-- No entry is ended from outside: none ends by a stop that names an interpreter above the tree, and no call is answered so.
+abbrev pub Unended : {O : Type 0} → Place → What O → Type 0
+Unended p (Done h (Cut x)) = rise_to h p ≡ None → Prim.⊥
+Unended p (Back h (Replied (Cut x))) = rise_to h p ≡ None → Prim.⊥
+Unended p _ = Unit {0}
 
-abbrev pub IsUncut : {O : Type 0} → List (Event O) → Type 0
-IsUncut [] = Unit {0}
-IsUncut (ev ∷ τ) = Uncut ev.place ev.what × IsUncut τ
+abbrev pub IsUnended : {O : Type 0} → List (Event O) → Type 0
+IsUnended [] = Unit {0}
+IsUnended (ev ∷ τ) = Unended ev.place ev.what × IsUnended τ
 
 -- how the life of a tree is over whose last entry ended so
 abbrev pub ending_of : Reply → Outcome
@@ -145,7 +144,7 @@ outcome_of (ev ∷ τ) x = outcome_of τ (outcome_at ev.place ev.what x)
 abbrev pub Isolation : Type 0 → Type 0 → Type 0
 Isolation O I = (prog : Table O I) (c : Place) (w v : World O) (t : Path) (i : Entry) (r : Reply) (m : ℕ) →
     Visits prog (Runs prog) w None t i v (Some r) → v.moves ≡ [] → v.tape ≡ [] →
-    IsStanding c w.tape → IsUncut (view c w.tape) → steps_of (view c w.tape) ≤ m →
+    IsStanding c w.tape → IsUnended (view c w.tape) → steps_of (view c w.tape) ≤ m →
     React prog (at w.tree c) (moves_of (view c w.tape)) m (outcome_of (view c w.tape) Outcome.Finished) (outs_of (view c w.tape)) (at v.tree c)
 
 -- an interpreter but for its count and its depth
@@ -274,16 +273,16 @@ AtMove (ev ∷ τ) = ReadsMove ev
 -- there up to where a further move is read, and so the same is told to the outside.
 abbrev pub TwoWorlds : Type 0 → Type 0 → Type 0
 TwoWorlds O I = (prog : Table O I) (c : Place) (w v z y : World O) (t t2 : Path) (i i2 : Entry) (r r2 : Reply) (ms a b : List (Move O)) →
-    Visits prog (Runs prog) w None t i v (Some r) → v.moves ≡ [] → v.tape ≡ [] → IsStanding c w.tape → IsUncut (view c w.tape) →
-    Visits prog (Runs prog) z None t2 i2 y (Some r2) → y.moves ≡ [] → y.tape ≡ [] → IsStanding c z.tape → IsUncut (view c z.tape) →
+    Visits prog (Runs prog) w None t i v (Some r) → v.moves ≡ [] → v.tape ≡ [] → IsStanding c w.tape → IsUnended (view c w.tape) →
+    Visits prog (Runs prog) z None t2 i2 y (Some r2) → y.moves ≡ [] → y.tape ≡ [] → IsStanding c z.tape → IsUnended (view c z.tape) →
     at w.tree c ≡ at z.tree c → moves_of (view c w.tape) ≡ ms ++ a → moves_of (view c z.tape) ≡ ms ++ b →
     (same : List (Event O)) × (rest1 : List (Event O)) × (rest2 : List (Event O)) × (view c w.tape ≡ same ++ rest1) × (view c z.tape ≡ same ++ rest2) × AtMove rest1 × AtMove rest2
 
 -- Where all moves agree, so does all that happens in the subtree, and the subtree that is left.
 abbrev pub AllAgree : Type 0 → Type 0 → Type 0
 AllAgree O I = (prog : Table O I) (c : Place) (w v z y : World O) (t t2 : Path) (i i2 : Entry) (r r2 : Reply) →
-    Visits prog (Runs prog) w None t i v (Some r) → v.moves ≡ [] → v.tape ≡ [] → IsStanding c w.tape → IsUncut (view c w.tape) →
-    Visits prog (Runs prog) z None t2 i2 y (Some r2) → y.moves ≡ [] → y.tape ≡ [] → IsStanding c z.tape → IsUncut (view c z.tape) →
+    Visits prog (Runs prog) w None t i v (Some r) → v.moves ≡ [] → v.tape ≡ [] → IsStanding c w.tape → IsUnended (view c w.tape) →
+    Visits prog (Runs prog) z None t2 i2 y (Some r2) → y.moves ≡ [] → y.tape ≡ [] → IsStanding c z.tape → IsUnended (view c z.tape) →
     at w.tree c ≡ at z.tree c → moves_of (view c w.tape) ≡ moves_of (view c z.tape) →
     (view c w.tape ≡ view c z.tape) × (outs_of (view c w.tape) ≡ outs_of (view c z.tape)) × (at v.tree c ≡ at y.tree c)
 
