@@ -5,6 +5,7 @@ ghost use Rattle.tcl_parser.specs.Building.{Yields, Adds};
 ghost use Rattle.tcl_parser.specs.Pieces.{part_of};
 ghost use Rattle.tcl_parser.specs.Reading.{with_literal, joined_parts, read_parts, in_braces, read_word_parts, read_word, read_command, read_script, level_at};
 ghost use Rattle.tcl_parser.specs.Faults.{is_complete_with};
+ghost use Rattle.tcl_parser.specs.Grammar.{ReadsAll};
 
 use crate::fault::Fault;
 use crate::scan::{
@@ -217,7 +218,8 @@ fn read_command(alloc: Global, text: &str) -> Result<(Vec<Word>, &str), Stop>
 /// # Errors
 /// Want of memory alone: a fault of the text is part of the script.
 pub fn parse(alloc: Global, text: &str) -> Result<Script, AllocError>
-    ensures { IfOk result (λ script. script ≡ read_script text.now) }
+    ensures function { IfOk result (λ script. script ≡ read_script text.now) }
+    ensures grammar { IfOk result (λ script. ReadsAll text.now script.commands script.fault) }
 {
     let mut commands = Vec::new(alloc);
     let mut rest = text;
