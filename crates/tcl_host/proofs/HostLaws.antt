@@ -26,7 +26,7 @@ use Rattle.tcl_host.proofs.FileLemmas.{appended-there}
 
 fault_by : (b : Bool) (host : MemoryHost) (request : Request) → (host.fault_in == 1) ≡ b
     → let answer : HostReply × MemoryHost = if b then (Refused DeviceFault, failed host) else replied host (serve host.store request) in
-      ((answer.0 ≡ Refused DeviceFault) ↔ (host.fault_in ≡ 1)) × (host.fault_in ≡ 1 → answer.1 ≡ failed host)
+    ((answer.0 ≡ Refused DeviceFault) ↔ (host.fault_in ≡ 1)) × (host.fault_in ≡ 1 → answer.1 ≡ failed host)
 fault_by true host request e = ((λ _. eqb-true host.fault_in 1 e, λ _. refl), λ _. refl)
 fault_by false host request e =
     ((λ r. absurd ((serve_served host.store request).1 r), λ f. absurd (eqb-false host.fault_in 1 e f)), λ f. absurd (eqb-false host.fault_in 1 e f))
@@ -82,7 +82,7 @@ after_opening : (store : Store) (name text : List ℕ) (mode : OpenMode) → str
 after_opening store name text mode to can lt =
     ap (λ (s : Store). after s (Write (channel_name store.next) text)) (after_open store name mode can lt)
     ∙ after_write (opened mode store name) (channel_name store.next) name text
-        (get-insert-same store.channels (channel_name store.next) (new_channel (stream_opened mode name)) ∙ ap (λ (s : Stream). Some (new_channel s)) to)
+    (get-insert-same store.channels (channel_name store.next) (new_channel (stream_opened mode name)) ∙ ap (λ (s : Stream). Some (new_channel s)) to)
 
 -- what a file that was made where it was missing holds
 get-made-content : (files : Named (List ℕ)) (name : List ℕ) → get (made files name) name ≡ Some (content_of files name)
@@ -103,7 +103,7 @@ read_back : (store : Store) (name text : List ℕ) → store.next < last_count �
 read_back store name text lt e =
     ap (λ (s : Store). (serve s (ReadAll (channel_name store.next))).0) (after_open store name Mode.Read (ap is_some e) lt)
     ∙ read_all_file (opened Mode.Read store name) (channel_name store.next) name
-        (get-insert-same store.channels (channel_name store.next) (new_channel (ReadFile name)))
+    (get-insert-same store.channels (channel_name store.next) (new_channel (ReadFile name)))
     ∙ ap (λ (o : Option (List ℕ)). Rest (unwrap_or o [])) e
 
 -- what a file holds that is begun anew and written
@@ -123,5 +123,5 @@ writing_law store name text lt =
     let read : (serve (after s3 (Open name Mode.Read)) (ReadAll (channel_name s3.next))).0 ≡ Rest text = read_back s3 name text fits holds in
     let less : store.next < last_count = omega arith in
     ap (λ (s : Store). (serve (after (after s (Close first)) (Open name Mode.Read)) (ReadAll (channel_name (store.next + 1)))).0)
-      (after_opening store name text Mode.Write refl refl less)
+    (after_opening store name text Mode.Write refl refl less)
     ∙ subst (λ (n : ℕ). (serve (after s3 (Open name Mode.Read)) (ReadAll (channel_name n))).0 ≡ Rest text) next read

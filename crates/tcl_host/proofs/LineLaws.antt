@@ -70,7 +70,7 @@ last_taken line h lt = take_line-some line lt ∙ line_of_all _ line (before_end
 is_read : (rest : List ℕ) → Cut rest → ReadsLine rest (take_line rest)
 is_read rest (found line after e h) =
     subst (λ (r : List ℕ). ReadsLine r (take_line r)) (sym e)
-      (subst (λ (t : Taken (Option (List ℕ))). ReadsLine (line ++ 10 ∷ after) t) (sym (whole_taken line after h)) (whole_line line after h))
+    (subst (λ (t : Taken (Option (List ℕ))). ReadsLine (line ++ 10 ∷ after) t) (sym (whole_taken line after h)) (whole_line line after h))
 is_read [] (nowhere h) = no_line
 is_read (byte ∷ rest) (nowhere h) =
     let lt : 0 < length (byte ∷ rest) = omega arith in

@@ -47,15 +47,15 @@ module _ {X Y S : Type 0} where
   pub by_name-updates : (bs : List ℕ) (m n : HashMap (String Y) X S) (w : X)
       → UpdatesBy string_eq (λ k. bytes_eq bs (string_bytes k)) m n (Some w) → by_name n ≡ insert (by_name m) bs w
   by_name-updates bs m n w h = same_map nat_list_cmp_total same_bytes _ _ (λ q.
-    get-by_name n q ∙ hash_map_updates_text bs m n (Some w) h q
-    ∙ sym (get-insert nat_list_cmp_total (by_name m) bs w q ∙ (λ i. cond (same_test q bs i) (Some w) (get-by_name m q i))))
+      get-by_name n q ∙ hash_map_updates_text bs m n (Some w) h q
+      ∙ sym (get-insert nat_list_cmp_total (by_name m) bs w q ∙ (λ i. cond (same_test q bs i) (Some w) (get-by_name m q i))))
 
   -- or to none
   pub by_name-removes : (bs : List ℕ) (m n : HashMap (String Y) X S)
       → UpdatesBy string_eq (λ k. bytes_eq bs (string_bytes k)) m n None → by_name n ≡ remove (by_name m) bs
   by_name-removes bs m n h = same_map nat_list_cmp_total same_bytes _ _ (λ q.
-    get-by_name n q ∙ hash_map_updates_text bs m n None h q
-    ∙ sym (get-remove nat_list_cmp_total (by_name m) bs q ∙ (λ i. cond (same_test q bs i) None (get-by_name m q i))))
+      get-by_name n q ∙ hash_map_updates_text bs m n None h q
+      ∙ sym (get-remove nat_list_cmp_total (by_name m) bs q ∙ (λ i. cond (same_test q bs i) None (get-by_name m q i))))
 
   -- the same of a finite map that is known to be what the map holds
   pub insert-of_view : (bs : List ℕ) (m n : HashMap (String Y) X S) (f : Named X) (w : X)

@@ -18,7 +18,7 @@ pub put_back : (store now : Store) (name : List ℕ) (m : Bool) (files : Named (
     → now ≡ record store { files = made store.files name } → files ≡ remove now.files name → record now { files = files } ≡ store
 put_back store now name m files missing was e f =
     let back : files ≡ store.files =
-        f ∙ ap (λ (s : Store). remove s.files name) e ∙ remove-made store.files name (not_there _ m missing was) in
+    f ∙ ap (λ (s : Store). remove s.files name) e ∙ remove-made store.files name (not_there _ m missing was) in
     ap (λ (s : Store). record s { files = files }) e ∙ ap (λ (g : Named (List ℕ)). record store { files = g }) back
 
 -- the file of an opening to append is there

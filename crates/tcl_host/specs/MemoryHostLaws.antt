@@ -107,16 +107,16 @@ counted_stays false n = omega arith
 
 lawful_by : (b : Bool) (host : MemoryHost) (request : Request)
     → let after : HostReply × MemoryHost = if b then (Refused DeviceFault, failed host) else replied host (serve host.store request) in
-      IsLawful host.failures after.1.failures request after.0
+    IsLawful host.failures after.1.failures request after.0
 lawful_by true host request = record {
   fits = fault_fits request;
   never_falls = counted_stays (nat_lt host.failures last_count) host.failures;
-  fault_counted = λ _. counted_rises (nat_lt host.failures last_count) host.failures refl
+  fault_counted = λ _. counted_rises (nat_lt host.failures last_count) host.failures refl;
 }
 lawful_by false host request = record {
   fits = (serve_served host.store request).0;
   never_falls = omega arith;
-  fault_counted = λ e. absurd ((serve_served host.store request).1 e)
+  fault_counted = λ e. absurd ((serve_served host.store request).1 e);
 }
 
 pub respond-lawful : (old new : MemoryHost) (request : Request) (reply : HostReply) → respond old request ≡ (reply, new) → IsLawful old.failures new.failures request reply

@@ -109,7 +109,7 @@ impl PartialEq for Bytes {
     ghost laws = { Cmp.partial_equiv_from_equiv nat_list_eq_equiv };
 
     fn eq(&self, other: &Bytes) -> bool {
-        self.bytes.as_slice() == other.bytes.as_slice()
+        self.as_slice() == other.as_slice()
     }
 }
 
@@ -121,7 +121,7 @@ impl Eq for Bytes {
 
 impl fmt::Debug for Bytes {
     fn fmt<W: fmt::Write>(&self, f: &mut fmt::Formatter<W>) -> fmt::Result {
-        let bytes = self.bytes.as_slice();
+        let bytes = self.as_slice();
         write!(f, "{bytes:?}")
     }
 }

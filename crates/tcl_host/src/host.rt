@@ -4,13 +4,12 @@ ghost use Rattle.tcl_host.specs.Hosts.{IsLawful, Replied, line_reply, done_reply
 ghost use Rattle.tcl_host.specs.declared.request.Request.{Request};
 ghost use Rattle.tcl_host.specs.declared.reply.HostReply.{HostReply};
 
-use std::alloc::{AllocError, Global};
-use tcl_text::text::Text;
-
 use crate::bytes::Bytes;
 use crate::open_mode::OpenMode;
 use crate::reply::{HostError, HostReply};
 use crate::request::Request;
+use std::alloc::{AllocError, Global};
+use tcl_text::text::Text;
 
 /// Files and channels. Each call is a step of the host by a [`Request`] and a [`HostReply`], or wants memory.
 pub trait Host {
@@ -90,10 +89,13 @@ pub fn ask<H: Host>(host: &mut H, alloc: Global, request: &Request) -> Result<Ho
         Request::Open(name, mode) => host
             .open(alloc, name.as_str(), *mode)
             .map(HostReply::Opened),
-        Request::ReadLine(channel) => host.read_line(alloc, channel.as_str()).map(|line| match line { Some(line) => HostReply::Line(line), None => HostReply::End }),
-        Request::ReadAll(channel) => host
-            .read_all(alloc, channel.as_str())
-            .map(HostReply::Rest),
+        Request::ReadLine(channel) => host
+            .read_line(alloc, channel.as_str())
+            .map(|line| match line {
+                Some(line) => HostReply::Line(line),
+                None => HostReply::End
+            }),
+        Request::ReadAll(channel) => host.read_all(alloc, channel.as_str()).map(HostReply::Rest),
         Request::Write(channel, text) => host
             .write(channel.as_str(), text.as_str())
             .map(|()| HostReply::Done),

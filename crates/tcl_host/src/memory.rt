@@ -11,14 +11,13 @@ mod files;
 mod store;
 mod taken;
 
-use std::alloc::{AllocError, Global};
-use tcl_text::text::Text;
-
 use crate::bytes::Bytes;
 use crate::host::Host;
 use crate::memory::store::Store;
 use crate::open_mode::OpenMode;
 use crate::reply::{HostError, Refusal};
+use std::alloc::{AllocError, Global};
+use tcl_text::text::Text;
 
 /// Files, channels and standard streams in memory, of which a call can be made to fail.
 ///

@@ -3,11 +3,10 @@ ghost use Rattle.std.specs.Prelude.{◌≡◌, ◌++◌, IfOk};
 ghost use Rattle.tcl_host.specs.Replies.{is_reply_to, refusal_text};
 ghost use Rattle.tcl_host.specs.declared.reply.HostError.TheVariants.{Memory};
 
-use std::alloc::{AllocError, AllocFailed, Global};
-use tcl_text::text::Text;
-
 use crate::bytes::Bytes;
 use crate::request::Request;
+use std::alloc::{AllocError, AllocFailed, Global};
+use tcl_text::text::Text;
 
 /// Why a host refuses a call.
 #[derive(Clone, Copy, Debug, PartialEq, Eq)]
@@ -91,8 +90,7 @@ impl HostReply {
         match request {
             Request::Open(_, _) => matches!(
                 self,
-                HostReply::Opened(_)
-                    | HostReply::Refused(Refusal::NotOpened | Refusal::DeviceFault)
+                HostReply::Opened(_) | HostReply::Refused(Refusal::NotOpened | Refusal::DeviceFault)
             ),
             Request::ReadLine(_) => matches!(
                 self,
@@ -102,8 +100,7 @@ impl HostReply {
             ),
             Request::ReadAll(_) => matches!(
                 self,
-                HostReply::Rest(_)
-                    | HostReply::Refused(Refusal::NoChannel | Refusal::DeviceFault)
+                HostReply::Rest(_) | HostReply::Refused(Refusal::NoChannel | Refusal::DeviceFault)
             ),
             Request::Write(_, _) | Request::Flush(_) | Request::Close(_) => matches!(
                 self,
@@ -111,8 +108,7 @@ impl HostReply {
             ),
             Request::Eof(_) => matches!(
                 self,
-                HostReply::AtEnd(_)
-                    | HostReply::Refused(Refusal::NoChannel | Refusal::DeviceFault)
+                HostReply::AtEnd(_) | HostReply::Refused(Refusal::NoChannel | Refusal::DeviceFault)
             ),
         }
     }

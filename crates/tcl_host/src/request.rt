@@ -1,7 +1,6 @@
 //! What is asked of a host.
-use tcl_text::text::Text;
-
 use crate::open_mode::OpenMode;
+use tcl_text::text::Text;
 
 /// A call to a host. The first text is the name of a channel, of `Open` that of a file.
 #[derive(Clone, Debug, PartialEq, Eq, Drop)]

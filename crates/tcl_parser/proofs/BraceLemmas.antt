@@ -38,10 +38,10 @@ pub run_in_braces : (depth : ℕ) (s : List ℕ) → in_braces false depth s ≡
 run_in_braces depth [] = sym (put-nil (in_braces false depth []))
 run_in_braces depth (b ∷ s) =
     elim (cases_Bool (ends_run Braces b)) [
-      inl h ↦ sym (put-nil _) ∙ (λ i. put (sym (run_of_stops Braces b s h) i) (in_braces false depth (sym (after_run_stops Braces b s h) i)))
-    | inr h ↦
-        plain_in_braces depth b s h ∙ ap (put (b ∷ [])) (run_in_braces depth s) ∙ put-put b (run_of Braces s) _
-        ∙ (λ i. put (sym (run_of_goes_on Braces b s h) i) (in_braces false depth (sym (after_run_goes_on Braces b s h) i)))
+      | inl h ↦ sym (put-nil _) ∙ (λ i. put (sym (run_of_stops Braces b s h) i) (in_braces false depth (sym (after_run_stops Braces b s h) i)))
+      | inr h ↦
+          plain_in_braces depth b s h ∙ ap (put (b ∷ [])) (run_in_braces depth s) ∙ put-put b (run_of Braces s) _
+          ∙ (λ i. put (sym (run_of_goes_on Braces b s h) i) (in_braces false depth (sym (after_run_goes_on Braces b s h) i)))
     ]
 
 -- where no run comes
@@ -49,8 +49,8 @@ pub no_run : (s run stop : List ℕ) → run ≡ run_of Braces s → stop ≡ af
 no_run [] run stop r e h = e
 no_run (b ∷ s) run stop r e h =
     elim (cases_Bool (ends_run Braces b)) [
-      inl ends ↦ e ∙ after_run_stops Braces b s ends
-    | inr on ↦ let l : length run ≡ suc (length (run_of Braces s)) = ap length (r ∙ run_of_goes_on Braces b s on) in absurd (grind (arith, nat_tests))
+      | inl ends ↦ e ∙ after_run_stops Braces b s ends
+      | inr on ↦ let l : length run ≡ suc (length (run_of Braces s)) = ap length (r ∙ run_of_goes_on Braces b s on) in absurd (grind (arith, nat_tests))
     ]
 
 -- ## Braces
@@ -109,8 +109,8 @@ pub blanks_in_braces : (depth : ℕ) (s : List ℕ) → in_braces true depth s �
 blanks_in_braces depth [] = none_left depth
 blanks_in_braces depth (b ∷ s) =
     elim (cases_Bool (is_blank b)) [
-      inl h ↦ joins depth b s h ∙ blanks_in_braces depth s ∙ ap (in_braces false depth) (sym (after_passes is_blank b s h))
-    | inr h ↦ joined_ends depth b s h ∙ ap (in_braces false depth) (sym (after_stops is_blank b s h))
+      | inl h ↦ joins depth b s h ∙ blanks_in_braces depth s ∙ ap (in_braces false depth) (sym (after_passes is_blank b s h))
+      | inr h ↦ joined_ends depth b s h ∙ ap (in_braces false depth) (sym (after_stops is_blank b s h))
     ]
 
 pub line_step : (depth : ℕ) (s : List ℕ) → in_braces false depth (92 ∷ 10 ∷ s) ≡ put (32 ∷ []) (in_braces true depth s)
@@ -138,12 +138,12 @@ backslash_step : (depth : ℕ) (t : List ℕ) → begins_with 10 t ≡ false →
 backslash_step depth [] h = lone_step depth
 backslash_step depth (c ∷ u) h =
     elim (cases_lt c 128) [
-      inl small ↦
-        let test : nat_lt c 128 ≡ true = lt-ltb _ _ small in
-        rw test (pair_step depth c u h ∙ ap (λ x. put x (in_braces false depth u)) (sym (before-front (92 ∷ c ∷ []) u)))
-    | inr large ↦
-        let test : nat_lt c 128 ≡ false = le-ltb _ _ large in
-        rw test (pair_step depth c u h ∙ sym (put-put 92 (c ∷ []) (in_braces false depth u)) ∙ ap (put (92 ∷ [])) (sym (plain_in_braces depth c u (grind (arith, nat_tests)))) ∙ ap (λ x. put x (in_braces false depth (c ∷ u))) (sym (before-front (92 ∷ []) (c ∷ u))))
+      | inl small ↦
+          let test : nat_lt c 128 ≡ true = lt-ltb _ _ small in
+          rw test (pair_step depth c u h ∙ ap (λ x. put x (in_braces false depth u)) (sym (before-front (92 ∷ c ∷ []) u)))
+      | inr large ↦
+          let test : nat_lt c 128 ≡ false = le-ltb _ _ large in
+          rw test (pair_step depth c u h ∙ sym (put-put 92 (c ∷ []) (in_braces false depth u)) ∙ ap (put (92 ∷ [])) (sym (plain_in_braces depth c u (grind (arith, nat_tests)))) ∙ ap (λ x. put x (in_braces false depth (c ∷ u))) (sym (before-front (92 ∷ []) (c ∷ u))))
     ]
 
 pub backslash_in_braces : (depth : ℕ) (s t after front : List ℕ) → s ≡ 92 ∷ t → begins_with 10 t ≡ false → after ≡ after_ascii t → front ≡ before s after → in_braces false depth s ≡ put front (in_braces false depth after)
@@ -155,8 +155,8 @@ after_ascii_ends : (t : List ℕ) → EndsWith t (after_ascii t)
 after_ascii_ends [] = EndsWith-itself []
 after_ascii_ends (c ∷ u) =
     elim (cases_lt c 128) [
-      inl small ↦ let test : nat_lt c 128 ≡ true = lt-ltb _ _ small in rw test (EndsWith-more c u u (EndsWith-itself u))
-    | inr large ↦ let test : nat_lt c 128 ≡ false = le-ltb _ _ large in rw test (EndsWith-itself (c ∷ u))
+      | inl small ↦ let test : nat_lt c 128 ≡ true = lt-ltb _ _ small in rw test (EndsWith-more c u u (EndsWith-itself u))
+      | inr large ↦ let test : nat_lt c 128 ≡ false = le-ltb _ _ large in rw test (EndsWith-itself (c ∷ u))
     ]
 
 pub EndsWith-after_backslash : (s t after : List ℕ) → s ≡ 92 ∷ t → after ≡ after_ascii t → EndsWith s after

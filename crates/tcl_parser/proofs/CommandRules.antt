@@ -63,7 +63,6 @@ no_both : (t x rest : List ℕ) (f : Fault) → ◌≡◌ {A = Result (List ℕ 
 no_both t x rest f e = cc
 
 module _ (level : Level) (Ends : List ℕ → List ℕ → Type 0) (Fails : List ℕ → Fault → Type 0) (agrees : Agrees level.nested Ends Fails) where
-
   -- ## Words, behind their marks
 
   bare_is : (s : List ℕ) → begins_with 34 s ≡ false → begins_with 123 s ≡ false → read_word_parts level s ≡ joined_parts (read_parts level false (zero, s))
@@ -88,7 +87,6 @@ module _ (level : Level) (Ends : List ℕ → List ℕ → Type 0) (Fails : List
   word_parts_fail (after_braces {s = s} {x = x} {rest = rest} h e) =
       ap (λ r. r >>= λ read. closed level.inside AfterBrace (with_literal read.0 [], read.1)) (in_braces-Braced h) ∙ ap (λ b. cond b (Ok (with_literal x [], rest)) (Err AfterBrace)) e
   word_parts_fail (bare_fails {s = s} q b h) = bare_is s q b ∙ ap (λ r. r >>= λ rest. Ok (joined (read_parts level false (zero, s)).items, rest)) (parts_fail level Ends Fails agrees h)
-
 
   abbrev PartsSaid : List ℕ → Result (List Part × List ℕ) Fault → Type 0
   PartsSaid s (Ok (ps, rest)) = WordParts level.inside Ends s ps rest
@@ -123,8 +121,8 @@ module _ (level : Level) (Ends : List ℕ → List ℕ → Type 0) (Fails : List
       PartsSaid-cond (b == 34) (b ∷ t) (joined_parts (read_parts level true (zero, t)) >>= closed level.inside AfterQuote) _
       (λ q. subst (λ x. PartsSaid (x ∷ t) (joined_parts (read_parts level true (zero, t)) >>= closed level.inside AfterQuote)) (sym (is_eq b 34 q)) (quotes_said t _ _ (parts_known level Ends Fails agrees true zero t)))
       (λ q. PartsSaid-cond (b == 123) (b ∷ t) (in_braces false zero t >>= λ read. closed level.inside AfterBrace (with_literal read.0 [], read.1)) (joined_parts (read_parts level false (zero, b ∷ t)))
-        (λ k. subst (λ x. PartsSaid (x ∷ t) (in_braces false zero t >>= λ read. closed level.inside AfterBrace (with_literal read.0 [], read.1))) (sym (is_eq b 123 k)) (braces_said t (in_braces false zero t) refl))
-        (λ k. bare_said (b ∷ t) _ _ q k (parts_known level Ends Fails agrees false zero (b ∷ t))))
+      (λ k. subst (λ x. PartsSaid (x ∷ t) (in_braces false zero t >>= λ read. closed level.inside AfterBrace (with_literal read.0 [], read.1))) (sym (is_eq b 123 k)) (braces_said t (in_braces false zero t) refl))
+      (λ k. bare_said (b ∷ t) _ _ q k (parts_known level Ends Fails agrees false zero (b ∷ t))))
 
   -- ## Words
 
@@ -316,7 +314,6 @@ bracketed : (t : List ℕ) → begins_with 93 t ≡ true → Bracketed t
 bracketed [] h = cc
 bracketed (b ∷ s) h = record { behind = s; is = ap (λ x. x ∷ s) (is_eq b 93 h) }
 
-
 outer_is : (room : ℕ) (s : List ℕ) → after_script (suc room) s ≡ ((read_commands (record { nested = after_script room; inside = true }) s).ended >>= closing)
 unfolding after_script
 outer_is room s = refl
@@ -340,7 +337,7 @@ deepest = record {
   fails = λ s f h. none_is s ∙ ap Err (sym h);
   ended = λ s t h. absurd (ok_clash t TooDeep (sym (none_is s) ∙ h));
   failed = λ s f h. sym (err_same TooDeep f (sym (none_is s) ∙ h));
-  leaves = after_script-ends zero
+  leaves = after_script-ends zero;
 }
 
 at_end : (b : Bool) (x t : List ℕ) → cond b (Ok x) (Err CloseBracket) ≡ Ok t → (b ≡ true) × (x ≡ t)
@@ -352,7 +349,6 @@ not_at_end true x f e = absurd (ok_clash x f (sym e))
 not_at_end false x f e = (refl, err_same CloseBracket f e)
 
 module _ (room : ℕ) (agrees : Agrees (after_script room) (EndsWithin room) (FailsWithin room)) where
-
   abbrev outer : Level
   outer = record { nested = after_script room; inside = true }
 
@@ -376,7 +372,7 @@ module _ (room : ℕ) (agrees : Agrees (after_script room) (EndsWithin room) (Fa
     fails = λ s f h. outer_is room s ∙ script_fail outer (EndsWithin room) (FailsWithin room) agrees h;
     ended = λ s t h. closed_end s t (read_commands outer s).ended (script_said outer (EndsWithin room) (FailsWithin room) agrees s) (sym (outer_is room s) ∙ h);
     failed = λ s f h. closed_fault s f (read_commands outer s).ended (script_said outer (EndsWithin room) (FailsWithin room) agrees s) (sym (outer_is room s) ∙ h);
-    leaves = after_script-ends (suc room)
+    leaves = after_script-ends (suc room);
   }
 
 -- the rules and the function say the same of scripts in brackets

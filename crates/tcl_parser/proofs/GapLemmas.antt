@@ -72,18 +72,18 @@ pub comment_backslash : (t : List ℕ) → after_gap true (92 ∷ t) ≡ after_g
 comment_backslash [] = comment_lone
 comment_backslash (c ∷ u) =
     elim (cases_lt c 128) [
-      inl small ↦ let test : nat_lt c 128 ≡ true = lt-ltb _ _ small in rw test (comment_pair c u)
-    | inr large ↦
-        let test : nat_lt c 128 ≡ false = le-ltb _ _ large in
-        rw test (comment_pair c u ∙ sym (comment_plain c u (grind (arith, nat_tests)) (grind (arith, nat_tests))))
+      | inl small ↦ let test : nat_lt c 128 ≡ true = lt-ltb _ _ small in rw test (comment_pair c u)
+      | inr large ↦
+          let test : nat_lt c 128 ≡ false = le-ltb _ _ large in
+          rw test (comment_pair c u ∙ sym (comment_plain c u (grind (arith, nat_tests)) (grind (arith, nat_tests))))
     ]
 
 pub comment_run : (s : List ℕ) → after_gap true s ≡ after_gap true (after_run Comment s)
 comment_run [] = refl
 comment_run (b ∷ s) =
     elim (cases_Bool (ends_run Comment b)) [
-      inl h ↦ ap (after_gap true) (sym (after_run_stops Comment b s h))
-    | inr h ↦ let parts = or_parts (b == 10) (b == 92) h in comment_plain b s parts.0 parts.1 ∙ comment_run s ∙ ap (after_gap true) (sym (after_run_goes_on Comment b s h))
+      | inl h ↦ ap (after_gap true) (sym (after_run_stops Comment b s h))
+      | inr h ↦ let parts = or_parts (b == 10) (b == 92) h in comment_plain b s parts.0 parts.1 ∙ comment_run s ∙ ap (after_gap true) (sym (after_run_goes_on Comment b s h))
     ]
 
 -- the steps of a loop over a comment

@@ -54,15 +54,15 @@ pub whitened : (s : List ℕ) → Whitened s (after_white s)
 whitened [] = nothing_white
 whitened (b ∷ []) =
     elim (cases_Bool (is_white b)) [
-      inl h ↦ goes_on b [] h nothing_white
-    | inr h ↦ stops_here b [] h (and_right _ _ refl)
+      | inl h ↦ goes_on b [] h nothing_white
+      | inr h ↦ stops_here b [] h (and_right _ _ refl)
     ]
 whitened (b ∷ c ∷ s) =
     elim (cases_Bool (is_white b)) [
-      inl h ↦ goes_on b (c ∷ s) h (whitened (c ∷ s))
-    | inr h ↦ elim (cases_Bool ((b == 92) && (c == 10))) [
-        inl k ↦ let both = and_parts (b == 92) (c == 10) k in line_on b c s (is_eq b 92 both.0) (is_eq c 10 both.1) (whitened s)
-      | inr k ↦ stops_here b (c ∷ s) h k
+      | inl h ↦ goes_on b (c ∷ s) h (whitened (c ∷ s))
+      | inr h ↦ elim (cases_Bool ((b == 92) && (c == 10))) [
+        | inl k ↦ let both = and_parts (b == 92) (c == 10) k in line_on b c s (is_eq b 92 both.0) (is_eq c 10 both.1) (whitened s)
+        | inr k ↦ stops_here b (c ∷ s) h k
       ]
     ]
 
@@ -164,38 +164,38 @@ record Both (s : List ℕ) : Type 0 where
 comment_at : (b : ℕ) (t : List ℕ) → Both t → ((u : List ℕ) (c : ℕ) → t ≡ c ∷ u → Both u) → Commented (b ∷ t) (after_gap true (b ∷ t))
 comment_at b [] w more =
     elim (cases_Bool (b == 10)) [
-      inl h ↦ commented_end b [] (is_eq b 10 h) w.outside
-    | inr h ↦ elim (cases_Bool (b == 92)) [
-        inl k ↦ commented_last b (is_eq b 92 k)
-      | inr k ↦ commented_on b [] h k w.inside
+      | inl h ↦ commented_end b [] (is_eq b 10 h) w.outside
+      | inr h ↦ elim (cases_Bool (b == 92)) [
+        | inl k ↦ commented_last b (is_eq b 92 k)
+        | inr k ↦ commented_on b [] h k w.inside
       ]
     ]
 comment_at b (c ∷ u) w more =
     elim (cases_Bool (b == 10)) [
-      inl h ↦ commented_end b (c ∷ u) (is_eq b 10 h) w.outside
-    | inr h ↦ elim (cases_Bool (b == 92)) [
-        inl k ↦ commented_pair b c u (is_eq b 92 k) (more u c refl).inside
-      | inr k ↦ commented_on b (c ∷ u) h k w.inside
+      | inl h ↦ commented_end b (c ∷ u) (is_eq b 10 h) w.outside
+      | inr h ↦ elim (cases_Bool (b == 92)) [
+        | inl k ↦ commented_pair b c u (is_eq b 92 k) (more u c refl).inside
+        | inr k ↦ commented_on b (c ∷ u) h k w.inside
       ]
     ]
 
 gap_at : (b : ℕ) (t : List ℕ) → Both t → ((u : List ℕ) (c : ℕ) → t ≡ c ∷ u → Both u) → Cleared (b ∷ t) (after_gap false (b ∷ t))
 gap_at b [] w more =
     elim (cases_Bool (is_white b || is_separator b)) [
-      inl h ↦ cleared_on b [] h w.outside
-    | inr h ↦ elim (cases_Bool (b == 35)) [
-        inl k ↦ cleared_hash b [] (is_eq b 35 k) w.inside
-      | inr k ↦ cleared_stop b [] h k (and_right _ _ refl)
+      | inl h ↦ cleared_on b [] h w.outside
+      | inr h ↦ elim (cases_Bool (b == 35)) [
+        | inl k ↦ cleared_hash b [] (is_eq b 35 k) w.inside
+        | inr k ↦ cleared_stop b [] h k (and_right _ _ refl)
       ]
     ]
 gap_at b (c ∷ u) w more =
     elim (cases_Bool (is_white b || is_separator b)) [
-      inl h ↦ cleared_on b (c ∷ u) h w.outside
-    | inr h ↦ elim (cases_Bool (b == 35)) [
-        inl k ↦ cleared_hash b (c ∷ u) (is_eq b 35 k) w.inside
-      | inr k ↦ elim (cases_Bool ((b == 92) && (c == 10))) [
-          inl l ↦ let both = and_parts (b == 92) (c == 10) l in cleared_line b c u (is_eq b 92 both.0) (is_eq c 10 both.1) (more u c refl).outside
-        | inr l ↦ cleared_stop b (c ∷ u) h k l
+      | inl h ↦ cleared_on b (c ∷ u) h w.outside
+      | inr h ↦ elim (cases_Bool (b == 35)) [
+        | inl k ↦ cleared_hash b (c ∷ u) (is_eq b 35 k) w.inside
+        | inr k ↦ elim (cases_Bool ((b == 92) && (c == 10))) [
+          | inl l ↦ let both = and_parts (b == 92) (c == 10) l in cleared_line b c u (is_eq b 92 both.0) (is_eq c 10 both.1) (more u c refl).outside
+          | inr l ↦ cleared_stop b (c ∷ u) h k l
         ]
       ]
     ]
@@ -226,11 +226,11 @@ pub CommandEnd-made : (inside : Bool) (s : List ℕ) → command_ends inside s �
 CommandEnd-made inside [] h = text_ends
 CommandEnd-made inside (b ∷ s) h =
     elim (cases_Bool (is_separator b)) [
-      inl k ↦ rw k (separator k)
-    | inr k ↦
-        let bracket : (inside && (b == 93)) ≡ true = subst (λ x. (x || (inside && (b == 93))) ≡ true) k h in
-        let parts = and_parts inside (b == 93) bracket in
-        rw k (subst (λ x. CommandEnd inside (x ∷ s) (x ∷ s)) (sym (is_eq b 93 parts.1)) (bracket_comes parts.0))
+      | inl k ↦ rw k (separator k)
+      | inr k ↦
+          let bracket : (inside && (b == 93)) ≡ true = subst (λ x. (x || (inside && (b == 93))) ≡ true) k h in
+          let parts = and_parts inside (b == 93) bracket in
+          rw k (subst (λ x. CommandEnd inside (x ∷ s) (x ∷ s)) (sym (is_eq b 93 parts.1)) (bracket_comes parts.0))
     ]
 
 -- ## Words in braces
@@ -281,15 +281,15 @@ backslash_by n depth [] x rest more l e =
     absurd (no_brace depth k.tail rest k.is)
 backslash_by n depth (c ∷ u) x rest more l e =
     elim (cases_Bool (c == 10)) [
-      inl h ↦
-        let is = is_eq c 10 h in
-        let blanks = drop (prefix_len is_blank u) u in
-        let k = put_behind (32 ∷ []) x rest (in_braces false depth blanks) (sym (ap (λ d. in_braces false depth (92 ∷ d ∷ u)) is ∙ braces.line_step depth u ∙ ap (put (32 ∷ [])) (braces.blanks_in_braces depth u)) ∙ e) in
-        let shorter = length-drop (prefix_len is_blank u) u in
-        subst (λ d. Braced depth (92 ∷ d ∷ u) x rest) (sym is) (subst (λ y. Braced depth (92 ∷ 10 ∷ u) y rest) k.whole (brace_line (more blanks k.tail (omega arith) k.is)))
-    | inr h ↦
-        let k = put_behind (92 ∷ c ∷ []) x rest (in_braces false depth u) (sym (braces.pair_step depth c u h) ∙ e) in
-        subst (λ y. Braced depth (92 ∷ c ∷ u) y rest) k.whole (brace_pair h (more u k.tail (omega arith) k.is))
+      | inl h ↦
+          let is = is_eq c 10 h in
+          let blanks = drop (prefix_len is_blank u) u in
+          let k = put_behind (32 ∷ []) x rest (in_braces false depth blanks) (sym (ap (λ d. in_braces false depth (92 ∷ d ∷ u)) is ∙ braces.line_step depth u ∙ ap (put (32 ∷ [])) (braces.blanks_in_braces depth u)) ∙ e) in
+          let shorter = length-drop (prefix_len is_blank u) u in
+          subst (λ d. Braced depth (92 ∷ d ∷ u) x rest) (sym is) (subst (λ y. Braced depth (92 ∷ 10 ∷ u) y rest) k.whole (brace_line (more blanks k.tail (omega arith) k.is)))
+      | inr h ↦
+          let k = put_behind (92 ∷ c ∷ []) x rest (in_braces false depth u) (sym (braces.pair_step depth c u h) ∙ e) in
+          subst (λ y. Braced depth (92 ∷ c ∷ u) y rest) k.whole (brace_pair h (more u k.tail (omega arith) k.is))
     ]
 
 braced_by : (n depth : ℕ) (s x rest : List ℕ) → length s < n → in_braces false depth s ≡ Ok (x, rest) → Braced depth s x rest
@@ -297,17 +297,17 @@ braced_by zero depth s x rest l e = absurd (omega arith)
 braced_by (suc n) depth [] x rest l e = absurd (no_brace depth x rest e)
 braced_by (suc n) depth (b ∷ t) x rest l e =
     elim (cases_Bool (b == 123)) [
-      inl h ↦
-        let is = is_eq b 123 h in
-        let k = put_behind (123 ∷ []) x rest (in_braces false (suc depth) t) (sym (ap (λ c. in_braces false depth (c ∷ t)) is ∙ braces.open_inner depth t) ∙ e) in
-        subst (λ c. Braced depth (c ∷ t) x rest) (sym is) (subst (λ y. Braced depth (123 ∷ t) y rest) k.whole (brace_opens (braced_by n (suc depth) t k.tail rest (omega arith) k.is)))
-    | inr o ↦ elim (cases_Bool (b == 125)) [
-        inl h ↦ let is = is_eq b 125 h in subst (λ c. Braced depth (c ∷ t) x rest) (sym is) (closing_by n depth t x rest (λ d y l'. braced_by n d t y rest l') (omega arith) (ap (λ c. in_braces false depth (c ∷ t)) (sym is) ∙ e))
-      | inr c ↦ elim (cases_Bool (b == 92)) [
-          inl h ↦ let is = is_eq b 92 h in subst (λ c. Braced depth (c ∷ t) x rest) (sym is) (backslash_by n depth t x rest (λ u y l'. braced_by n depth u y rest l') (omega arith) (ap (λ c. in_braces false depth (c ∷ t)) (sym is) ∙ e))
-        | inr m ↦
-            let k = put_behind (b ∷ []) x rest (in_braces false depth t) (sym (braces.plain_step depth b t o c m) ∙ e) in
-            subst (λ y. Braced depth (b ∷ t) y rest) k.whole (brace_character o c m (braced_by n depth t k.tail rest (omega arith) k.is))
+      | inl h ↦
+          let is = is_eq b 123 h in
+          let k = put_behind (123 ∷ []) x rest (in_braces false (suc depth) t) (sym (ap (λ c. in_braces false depth (c ∷ t)) is ∙ braces.open_inner depth t) ∙ e) in
+          subst (λ c. Braced depth (c ∷ t) x rest) (sym is) (subst (λ y. Braced depth (123 ∷ t) y rest) k.whole (brace_opens (braced_by n (suc depth) t k.tail rest (omega arith) k.is)))
+      | inr o ↦ elim (cases_Bool (b == 125)) [
+        | inl h ↦ let is = is_eq b 125 h in subst (λ c. Braced depth (c ∷ t) x rest) (sym is) (closing_by n depth t x rest (λ d y l'. braced_by n d t y rest l') (omega arith) (ap (λ c. in_braces false depth (c ∷ t)) (sym is) ∙ e))
+        | inr c ↦ elim (cases_Bool (b == 92)) [
+          | inl h ↦ let is = is_eq b 92 h in subst (λ c. Braced depth (c ∷ t) x rest) (sym is) (backslash_by n depth t x rest (λ u y l'. braced_by n depth u y rest l') (omega arith) (ap (λ c. in_braces false depth (c ∷ t)) (sym is) ∙ e))
+          | inr m ↦
+              let k = put_behind (b ∷ []) x rest (in_braces false depth t) (sym (braces.plain_step depth b t o c m) ∙ e) in
+              subst (λ y. Braced depth (b ∷ t) y rest) k.whole (brace_character o c m (braced_by n depth t k.tail rest (omega arith) k.is))
         ]
       ]
     ]
@@ -358,11 +358,11 @@ name_stops true (b ∷ t) h = let p = or_parts _ _ h in names.name_stops_at true
 name_stops false (b ∷ t) h =
     let p = or_parts _ _ h in
     elim (cases_Bool (b == 58)) [
-      inl k ↦
-        let one : begins_with 58 t ≡ false = subst (λ x. (x && begins_with 58 t) ≡ false) k p.1 in
-        let is = is_eq b 58 k in
-        ap (λ c. after_name false (c ∷ t)) is ∙ names.one_colon t one ∙ ap (λ c. c ∷ t) (sym is)
-    | inr k ↦ names.name_stops_at false b t p.0 k
+      | inl k ↦
+          let one : begins_with 58 t ≡ false = subst (λ x. (x && begins_with 58 t) ≡ false) k p.1 in
+          let is = is_eq b 58 k in
+          ap (λ c. after_name false (c ∷ t)) is ∙ names.one_colon t one ∙ ap (λ c. c ∷ t) (sym is)
+      | inr k ↦ names.name_stops_at false b t p.0 k
     ]
 
 pub after_name-Name : {colons : Bool} {s x rest : List ℕ} → Name colons s x rest → after_name colons s ≡ rest
@@ -401,31 +401,31 @@ named : (colons : Bool) (s : List ℕ) → Named colons s (after_name colons s)
 named colons [] = named_stop colons [] refl
 named true (b ∷ []) =
     elim (cases_Bool (is_name_character b)) [
-      inl h ↦ named_character true b [] h (named false [])
-    | inr h ↦ elim (cases_Bool (b == 58)) [
-        inl k ↦ named_colon b [] (is_eq b 58 k) (named true [])
-      | inr k ↦ named_stop true (b ∷ []) (or_from _ _ h (and_left _ _ k))
+      | inl h ↦ named_character true b [] h (named false [])
+      | inr h ↦ elim (cases_Bool (b == 58)) [
+        | inl k ↦ named_colon b [] (is_eq b 58 k) (named true [])
+        | inr k ↦ named_stop true (b ∷ []) (or_from _ _ h (and_left _ _ k))
       ]
     ]
 named false (b ∷ []) =
     elim (cases_Bool (is_name_character b)) [
-      inl h ↦ named_character false b [] h (named false [])
-    | inr h ↦ named_stop false (b ∷ []) (or_from _ _ h (and_right _ _ refl))
+      | inl h ↦ named_character false b [] h (named false [])
+      | inr h ↦ named_stop false (b ∷ []) (or_from _ _ h (and_right _ _ refl))
     ]
 named true (b ∷ c ∷ u) =
     elim (cases_Bool (is_name_character b)) [
-      inl h ↦ named_character true b (c ∷ u) h (named false (c ∷ u))
-    | inr h ↦ elim (cases_Bool (b == 58)) [
-        inl k ↦ named_colon b (c ∷ u) (is_eq b 58 k) (named true (c ∷ u))
-      | inr k ↦ named_stop true (b ∷ c ∷ u) (or_from _ _ h (and_left _ _ k))
+      | inl h ↦ named_character true b (c ∷ u) h (named false (c ∷ u))
+      | inr h ↦ elim (cases_Bool (b == 58)) [
+        | inl k ↦ named_colon b (c ∷ u) (is_eq b 58 k) (named true (c ∷ u))
+        | inr k ↦ named_stop true (b ∷ c ∷ u) (or_from _ _ h (and_left _ _ k))
       ]
     ]
 named false (b ∷ c ∷ u) =
     elim (cases_Bool (is_name_character b)) [
-      inl h ↦ named_character false b (c ∷ u) h (named false (c ∷ u))
-    | inr h ↦ elim (cases_Bool ((b == 58) && (c == 58))) [
-        inl k ↦ let two = and_parts (b == 58) (c == 58) k in named_colons b c u (is_eq b 58 two.0) (is_eq c 58 two.1) (named true u)
-      | inr k ↦ named_stop false (b ∷ c ∷ u) (or_from _ _ h k)
+      | inl h ↦ named_character false b (c ∷ u) h (named false (c ∷ u))
+      | inr h ↦ elim (cases_Bool ((b == 58) && (c == 58))) [
+        | inl k ↦ let two = and_parts (b == 58) (c == 58) k in named_colons b c u (is_eq b 58 two.0) (is_eq c 58 two.1) (named true u)
+        | inr k ↦ named_stop false (b ∷ c ∷ u) (or_from _ _ h k)
       ]
     ]
 
@@ -455,14 +455,14 @@ pub Lacks-run_of : (run : Run) (s : List ℕ) → Lacks (ends_run run) (run_of r
 Lacks-run_of run [] = tt
 Lacks-run_of run (b ∷ s) =
     elim (cases_Bool (ends_run run b)) [
-      inl h ↦ subst (Lacks (ends_run run)) (sym (run_of_stops run b s h)) tt
-    | inr h ↦ subst (Lacks (ends_run run)) (sym (run_of_goes_on run b s h)) (h, Lacks-run_of run s)
+      | inl h ↦ subst (Lacks (ends_run run)) (sym (run_of_stops run b s h)) tt
+      | inr h ↦ subst (Lacks (ends_run run)) (sym (run_of_goes_on run b s h)) (h, Lacks-run_of run s)
     ]
 
 pub Meets-after_run : (run : Run) (s : List ℕ) → Meets (ends_run run) (after_run run s)
 Meets-after_run run [] = tt
 Meets-after_run run (b ∷ s) =
     elim (cases_Bool (ends_run run b)) [
-      inl h ↦ subst (Meets (ends_run run)) (sym (after_run_stops run b s h)) h
-    | inr h ↦ subst (Meets (ends_run run)) (sym (after_run_goes_on run b s h)) (Meets-after_run run s)
+      | inl h ↦ subst (Meets (ends_run run)) (sym (after_run_stops run b s h)) h
+      | inr h ↦ subst (Meets (ends_run run)) (sym (after_run_goes_on run b s h)) (Meets-after_run run s)
     ]

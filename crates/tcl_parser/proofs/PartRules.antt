@@ -103,7 +103,6 @@ all_rest : (c d : ℕ) (s rest x : List ℕ) → x ≡ [] → length (c ∷ s) �
 all_rest c d s rest x none sizes = let zero_long = ap length none in grind (arith, nat_tests)
 
 module _ (level : Level) (Ends : List ℕ → List ℕ → Type 0) (Fails : List ℕ → Fault → Type 0) (agrees : Agrees level.nested Ends Fails) where
-
   script_is : (indexes : ℕ) (s x rest : List ℕ) → s ≡ x ++ 93 ∷ rest → Ends s rest → script_turn indexes s (level.nested s) ≡ part_turn (Script x) indexes rest
   script_is indexes s x rest e h =
       ap (script_turn indexes s) (agrees.ends s rest h) ∙ ap (λ t. part_turn (Script t) indexes rest) (ap (λ t. before t (93 ∷ rest)) e ∙ before-front x (93 ∷ rest))
@@ -181,11 +180,11 @@ module _ (level : Level) (Ends : List ℕ → List ℕ → Type 0) (Fails : List
       Said-cond (d == 40) quoted indexes (36 ∷ c ∷ s) (part_turn (Element x) (suc indexes) rest) _
       (λ k. element (subst (λ z. Name false (c ∷ s) x (z ∷ rest)) (is_eq d 40 k) n))
       (λ k. Said-cond (length (c ∷ s) == length (d ∷ rest)) quoted indexes (36 ∷ c ∷ s) (part_turn (Literal (36 ∷ [])) indexes (c ∷ s)) (part_turn (Variable x) indexes (d ∷ rest))
-        (λ l.
-          let same = is_eq (length (c ∷ s)) (length (d ∷ rest)) l in
-          let none : x ≡ [] = no_front x (omega arith) in
-          said_alone quoted indexes c d s rest h k (subst (λ y. Name false (c ∷ s) y (d ∷ rest)) none n))
-        (λ l. said_variable quoted indexes (c ∷ s) x (d ∷ rest) n (λ none. absurd (false≢true (sym l ∙ all_rest c d s rest x none sizes))) k))
+      (λ l.
+      let same = is_eq (length (c ∷ s)) (length (d ∷ rest)) l in
+      let none : x ≡ [] = no_front x (omega arith) in
+      said_alone quoted indexes c d s rest h k (subst (λ y. Name false (c ∷ s) y (d ∷ rest)) none n))
+      (λ l. said_variable quoted indexes (c ∷ s) x (d ∷ rest) n (λ none. absurd (false≢true (sym l ∙ all_rest c d s rest x none sizes))) k))
 
   said_braced : (quoted : Bool) (indexes : ℕ) (s r : List ℕ) → r ≡ after_run VariableName s → Said quoted indexes (36 ∷ 123 ∷ s) (braced_variable indexes s r)
   said_braced quoted indexes s [] e =
@@ -278,9 +277,10 @@ module _ (level : Level) (Ends : List ℕ → List ℕ → Type 0) (Fails : List
   ended_or false quoted indexes s turn other h k = k refl
 
   index_turned : (quoted : Bool) (indexes b : ℕ) (s : List ℕ) → b ≡ 41 → Turned quoted (suc indexes) (b ∷ s) (Ok (next EndElement (indexes, s)))
-  index_turned quoted indexes b s e =
-      (λ ps rest h. subst (λ x. Parts level.inside Ends quoted (suc indexes) (x ∷ s) (EndElement ∷ ps) rest) (sym e) (index_closes h),
-       λ f h. subst (λ x. PartsFault level.inside Ends Fails quoted (suc indexes) (x ∷ s) f) (sym e) (after_index h))
+  index_turned quoted indexes b s e = (
+    λ ps rest h. subst (λ x. Parts level.inside Ends quoted (suc indexes) (x ∷ s) (EndElement ∷ ps) rest) (sym e) (index_closes h),
+    λ f h. subst (λ x. PartsFault level.inside Ends Fails quoted (suc indexes) (x ∷ s) f) (sym e) (after_index h),
+  )
 
   read_part-turned : (quoted : Bool) (indexes : ℕ) (s : List ℕ) → Turned quoted indexes s (read_part level quoted (indexes, s))
   read_part-turned quoted (suc indexes) [] = index_open

@@ -44,7 +44,7 @@ pub parts_done : (k : ℕ) (quoted : Bool) (indexes : ℕ) (s rest : List ℕ) (
     joined_parts whole ≡ Ok (new_parts, rest)
 parts_done k quoted indexes s rest whole parts new_parts literal e adds ended h =
     let none : (read_parts (level_at k) quoted (indexes, s)).items ≡ [] =
-          ap (λ x. x.items) (read_parts-is (level_at k) quoted (indexes, s) (level-ends k)) ∙ ap (λ t. (and_then t (read_parts (level_at k) quoted)).items) e in
+    ap (λ x. x.items) (read_parts-is (level_at k) quoted (indexes, s) (level-ends k)) ∙ ap (λ t. (and_then t (read_parts (level_at k) quoted)).items) e in
     by_parts whole rest new_parts (sym ended ∙ parts_over k quoted indexes s rest e)
     (h ∙ ap (λ x. parts ++ with_literal literal (joined x)) none ∙ ap (λ x. parts ++ with_literal literal x) joined_none ∙ sym adds)
 

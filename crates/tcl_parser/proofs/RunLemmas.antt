@@ -14,12 +14,12 @@ use Rattle.tcl_parser.specs.Texts.{IsNotAscii, begins_with}
 pub prefix_len_grows : (p : ℕ → Bool) (s : List ℕ) (n : ℕ) → n ≤ prefix_len p s → n < length s → p (get_or s n 0) ≡ true → n + 1 ≤ prefix_len p s
 prefix_len_grows p s n h l e =
     elim (cases_lt n (prefix_len p s)) [
-      inl lt ↦ omega arith
-    | inr le ↦
-        let same : n ≡ prefix_len p s = omega arith in
-        let stop = prefix_len_stops p s 0 (subst (λ k. k < length s) same l) in
-        let here : p (get_or s n 0) ≡ false = subst (λ k. p (get_or s k 0) ≡ false) (sym same) stop in
-        absurd (false≢true (sym here ∙ e))
+      | inl lt ↦ omega arith
+      | inr le ↦
+          let same : n ≡ prefix_len p s = omega arith in
+          let stop = prefix_len_stops p s 0 (subst (λ k. k < length s) same l) in
+          let here : p (get_or s n 0) ≡ false = subst (λ k. p (get_or s k 0) ≡ false) (sym same) stop in
+          absurd (false≢true (sym here ∙ e))
     ]
 
 -- no more element passes
@@ -88,8 +88,8 @@ pub after_run_head : (run : Run) (s t : List ℕ) (b : ℕ) → after_run run s 
 after_run_head run [] t b e = cc
 after_run_head run (c ∷ s) t b e =
     elim (cases_Bool (ends_run run c)) [
-      inl h ↦ let same : c ∷ s ≡ b ∷ t = sym (after_run_stops run c s h) ∙ e in let first : c ≡ b = cc in subst (λ x. ends_run run x ≡ true) first h
-    | inr h ↦ after_run_head run s t b (sym (after_run_goes_on run c s h) ∙ e)
+      | inl h ↦ let same : c ∷ s ≡ b ∷ t = sym (after_run_stops run c s h) ∙ e in let first : c ≡ b = cc in subst (λ x. ends_run run x ≡ true) first h
+      | inr h ↦ after_run_head run s t b (sym (after_run_goes_on run c s h) ∙ e)
     ]
 
 pub after_run_end : (run : Run) (s t : List ℕ) → t ≡ after_run run s → IsNotAscii t → t ≡ []

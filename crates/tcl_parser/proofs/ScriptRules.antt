@@ -47,18 +47,25 @@ clash : (p : List WordRead × List ℕ) (f : Fault) → ◌≡◌ {A = Result (L
 clash p f e = cc
 
 decided_by : (k : ℕ) (s : List ℕ) (r : Result (List WordRead × List ℕ) Fault) → read_command (level_at k) s ≡ r → IsDecided k s
-decided_by k s (Ok (ws, rest)) e = inl (ws, rest, record {
-  reads = function-Reads k s ws rest e;
-  only = λ others more h.
-    let same = pair_same (others, more) (ws, rest) (sym (Reads-function k s others more h) ∙ e) in
-    (ap (λ (p : List WordRead × List ℕ). p.0) same, ap (λ (p : List WordRead × List ℕ). p.1) same);
-  no_fault = λ f h. clash (ws, rest) f (sym e ∙ HasFault-function k s f h)
-})
-decided_by k s (Err f) e = inr (f, record {
-  has = function-HasFault k s f e;
-  only = λ g h. fault_same g f (sym (HasFault-function k s g h) ∙ e);
-  no_reading = λ ws rest h. clash (ws, rest) f (sym (Reads-function k s ws rest h) ∙ e)
-})
+decided_by k s (Ok (ws, rest)) e = inl (
+  ws,
+  rest,
+  record {
+    reads = function-Reads k s ws rest e;
+    only = λ others more h.
+        let same = pair_same (others, more) (ws, rest) (sym (Reads-function k s others more h) ∙ e) in
+        (ap (λ (p : List WordRead × List ℕ). p.0) same, ap (λ (p : List WordRead × List ℕ). p.1) same);
+    no_fault = λ f h. clash (ws, rest) f (sym e ∙ HasFault-function k s f h);
+  },
+)
+decided_by k s (Err f) e = inr (
+  f,
+  record {
+    has = function-HasFault k s f e;
+    only = λ g h. fault_same g f (sym (HasFault-function k s g h) ∙ e);
+    no_reading = λ ws rest h. clash (ws, rest) f (sym (Reads-function k s ws rest h) ∙ e);
+  },
+)
 
 pub decided : (k : ℕ) (s : List ℕ) → IsDecided k s
 decided k s = decided_by k s (read_command (level_at k) s) refl

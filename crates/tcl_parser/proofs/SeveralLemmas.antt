@@ -30,8 +30,8 @@ several-enough text_of turn falls zero m s h k = absurd (omega arith)
 several-enough text_of turn falls (suc n) zero s h k = absurd (omega arith)
 several-enough {A} {S} text_of turn falls (suc n) (suc m) s h k =
     same_after (turn s) (several turn n) (several turn m) (λ a t e.
-      let l = (next_falls text_of (text_of s) (turn s) a t (falls s) e).1 in
-      several-enough text_of turn falls n m t (omega arith) (omega arith))
+    let l = (next_falls text_of (text_of s) (turn s) a t (falls s) e).1 in
+    several-enough text_of turn falls n m t (omega arith) (omega arith))
 
 unfold_several : {A S : Type 0} (turn : S → Result (Turn A S) Fault) (n : ℕ) (s : S) → several turn (suc n) s ≡ and_then (turn s) (several turn n)
 unfolding several
@@ -42,8 +42,8 @@ pub several-is : {A S : Type 0} (text_of : S → List ℕ) (turn : S → Result 
 several-is {A} {S} text_of turn falls s =
     unfold_several turn (length (text_of s)) s
     ∙ same_after (turn s) (several turn (length (text_of s))) (λ t. several turn (suc (length (text_of t))) t) (λ a t e.
-      let l = (next_falls text_of (text_of s) (turn s) a t (falls s) e).1 in
-      several-enough text_of turn falls (length (text_of s)) (suc (length (text_of t))) t (omega arith) (omega arith))
+    let l = (next_falls text_of (text_of s) (turn s) a t (falls s) e).1 in
+    several-enough text_of turn falls (length (text_of s)) (suc (length (text_of t))) t (omega arith) (omega arith))
 
 -- what follows is an end of the text
 after_ends : {A S : Type 0} (text_of : S → List ℕ) (s : List ℕ) (r : Result (Turn A S) Fault) (later : S → Several A) (rest : List ℕ) → Falls text_of s r → ((t : S) → (later t).ended ≡ Ok rest → EndsWith (text_of t) rest) → (and_then r later).ended ≡ Ok rest → EndsWith s rest

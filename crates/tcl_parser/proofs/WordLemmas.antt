@@ -72,13 +72,13 @@ read_word_parts-leaves level [] ends goes = cc
 read_word_parts-leaves level (b ∷ s) ends goes =
     Leaves-cond (b == 34) (b ∷ s) _ _
     (λ _. closed-leaves (b ∷ s) level.inside AfterQuote _ (joined-leaves (b ∷ s) (read_parts level true (zero, s)) (λ rest e.
-       let h = read_parts-ends level true zero s rest ends e in
-       let l = EndsWith-length s rest h in
-       (EndsWith-more b s rest h, omega arith))))
+    let h = read_parts-ends level true zero s rest ends e in
+    let l = EndsWith-length s rest h in
+    (EndsWith-more b s rest h, omega arith))))
     (λ _. Leaves-cond (b == 123) (b ∷ s) _ _
     (λ _. braces-leaves (b ∷ s) level.inside _ (Leaves-more b s _ (in_braces-leaves false 0 s)))
     (λ _. joined-leaves (b ∷ s) (read_parts level false (zero, b ∷ s)) (λ rest e.
-       (read_parts-ends level false zero (b ∷ s) rest ends e, bare_word-shorter level b s rest ends goes e))))
+    (read_parts-ends level false zero (b ∷ s) rest ends e, bare_word-shorter level b s rest ends goes e))))
 
 marked-leaves : (s : List ℕ) (expand : Bool) (r : Result (List Part × List ℕ) Fault) → Leaves s r → Leaves s (r >>= marked expand)
 marked-leaves s expand (Ok (ps, rest)) h = h
@@ -139,15 +139,15 @@ unfolding after_white
 white_word_ends inside [] = refl
 white_word_ends inside (b ∷ []) =
     elim (cases_Bool (is_white b)) [
-      inl h ↦ rw h refl
-    | inr h ↦ rw h (rw h refl)
+      | inl h ↦ rw h refl
+      | inr h ↦ rw h (rw h refl)
     ]
 white_word_ends inside (b ∷ c ∷ s) =
     elim (cases_Bool (is_white b)) [
-      inl h ↦ rw h (white_word_ends inside (c ∷ s))
-    | inr h ↦ elim (cases_Bool ((b == 92) && (c == 10))) [
-        inl k ↦ rw (h, k) (white_word_ends inside s)
-      | inr k ↦ rw (h, k) (stops_alike inside b c s h k)
+      | inl h ↦ rw h (white_word_ends inside (c ∷ s))
+      | inr h ↦ elim (cases_Bool ((b == 92) && (c == 10))) [
+        | inl k ↦ rw (h, k) (white_word_ends inside s)
+        | inr k ↦ rw (h, k) (stops_alike inside b c s h k)
       ]
     ]
 

@@ -100,7 +100,6 @@ Meets p (b ∷ s) = p b ≡ true
 -- What follows is the grammar inside so many brackets. `Ends s rest` says that s is a script in brackets, its close
 -- bracket, and then rest.
 module _ (inside : Bool) (Ends : List ℕ → List ℕ → Type 0) where
-
   -- OnePart quoted indexes s p deeper rest: s is the part p, and then rest, with so many indexes open before and after it.
   pub data OnePart (quoted : Bool) (indexes : ℕ) : List ℕ → Part → ℕ → List ℕ → Type 0 where
     backslash_sequence : {s : List ℕ} → OnePart quoted indexes (backslash ∷ s) (Literal (escape s).meaning) indexes (escape_rest s)
@@ -163,7 +162,6 @@ module _ (inside : Bool) (Ends : List ℕ → List ℕ → Type 0) where
 -- The same, where `Fails s fault` says that s, which stands behind an open bracket, has a fault before the script's end. A
 -- fault counts where all before it reads, so it is the leftmost.
 module _ (inside : Bool) (Ends : List ℕ → List ℕ → Type 0) (Fails : List ℕ → Fault → Type 0) where
-
   -- the part that begins at s has a fault
   pub data PartFault : List ℕ → Fault → Type 0 where
     name_open : {s : List ℕ} → Lacks (λ b. b == close_brace) s → PartFault (dollar ∷ open_brace ∷ s) VariableBrace

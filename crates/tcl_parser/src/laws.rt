@@ -13,13 +13,11 @@ pub fn commands_read_one_way()
         (Reads k s ws rest ↔ (read_command (level_at k) s ≡ Ok (ws, rest))) }
     ensures fault { (k : ℕ) (s : List ℕ) (fault : TheFault) →
         (HasFault k s fault ↔ (read_command (level_at k) s ≡ Err fault)) }
-{
-}
+{}
 
 /// A text reads, by the rules, as the commands and the fault that the function for scripts gives, and in no other way.
 pub fn scripts_read_one_way()
     ensures reads { (s : List ℕ) → ReadsAll s (read_script s).commands (read_script s).fault }
     ensures only { (s : List ℕ) (commands : List (List WordRead)) (fault : Option TheFault) →
         ReadsAll s commands fault → read_script s ≡ record { commands = commands; fault = fault } }
-{
-}
+{}

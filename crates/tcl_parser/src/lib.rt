@@ -7,6 +7,5 @@ pub mod reader;
 mod scan;
 pub mod script;
 mod skip;
-
 #[cfg(test)]
 mod tests;

@@ -61,11 +61,7 @@ impl From<Fault> for Stop {
 }
 
 /// Adds a literal to parts, unless it is empty.
-fn push_literal(
-    alloc: Global,
-    parts: &mut Vec<Part>,
-    literal: String,
-) -> Result<(), AllocError>
+fn push_literal(alloc: Global, parts: &mut Vec<Part>, literal: String) -> Result<(), AllocError>
     ensures { OnOk result (parts.new.items ≡ parts.old.items ++ with_literal (string_bytes literal) []) }
 {
     if literal.is_empty() {

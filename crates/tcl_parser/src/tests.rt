@@ -67,14 +67,15 @@ fn read(alloc: Global, text: &str) -> Result<String, AllocError> {
 #[test]
 fn commands_and_words(rt: HostRuntime) -> Result<(), Fail> {
     assert_eq!(rt; read(rt.alloc(), "")?.as_str(), "");
-    assert_eq!(
-        rt;
+    assert_eq!(rt;
         read(rt.alloc(), "set a {b c}; list $a {} x")?.as_str(),
         "<'set'><'a'><'b c'>;<'list'><$a><><'x'>;"
     );
-    assert_eq!(rt; read(rt.alloc(), "list # a")?.as_str(), "<'list'><'#'><'a'>;");
-    assert_eq!(
-        rt;
+    assert_eq!(rt;
+        read(rt.alloc(), "list # a")?.as_str(),
+        "<'list'><'#'><'a'>;"
+    );
+    assert_eq!(rt;
         read(rt.alloc(), "list {*}{a {b c}} \\x41 \\1011 #")?.as_str(),
         "<'list'>*<'a {b c}'><'A'><'A1'><'#'>;"
     );
@@ -83,53 +84,89 @@ fn commands_and_words(rt: HostRuntime) -> Result<(), Fail> {
 
 #[test]
 fn faults_come_after_the_commands(rt: HostRuntime) -> Result<(), Fail> {
-    assert_eq!(
-        rt;
+    assert_eq!(rt;
         read(rt.alloc(), "set x 1; set y {b")?.as_str(),
         "<'set'><'x'><'1'>;missing close-brace"
     );
-    assert_eq!(rt; read(rt.alloc(), "set x [list a")?.as_str(), "missing close-bracket");
-    assert_eq!(rt; read(rt.alloc(), "a ${b")?.as_str(), "missing close-brace for variable name");
+    assert_eq!(rt;
+        read(rt.alloc(), "set x [list a")?.as_str(),
+        "missing close-bracket"
+    );
+    assert_eq!(rt;
+        read(rt.alloc(), "a ${b")?.as_str(),
+        "missing close-brace for variable name"
+    );
     assert_eq!(rt; read(rt.alloc(), "a \"b")?.as_str(), "missing \"");
-    assert_eq!(rt; read(rt.alloc(), "a {b}c")?.as_str(), "extra characters after close-brace");
-    assert_eq!(rt; read(rt.alloc(), "a \"b\"c")?.as_str(), "extra characters after close-quote");
+    assert_eq!(rt;
+        read(rt.alloc(), "a {b}c")?.as_str(),
+        "extra characters after close-brace"
+    );
+    assert_eq!(rt;
+        read(rt.alloc(), "a \"b\"c")?.as_str(),
+        "extra characters after close-quote"
+    );
     assert_eq!(rt; read(rt.alloc(), "a $b(c")?.as_str(), "missing )");
     Ok(())
 }
 
 #[test]
 fn the_innermost_open_form_names_the_fault(rt: HostRuntime) -> Result<(), Fail> {
-    assert_eq!(rt; read(rt.alloc(), "a \"b [c")?.as_str(), "missing close-bracket");
+    assert_eq!(rt;
+        read(rt.alloc(), "a \"b [c")?.as_str(),
+        "missing close-bracket"
+    );
     assert_eq!(rt; read(rt.alloc(), "a [b \"c")?.as_str(), "missing \"");
     assert_eq!(rt; read(rt.alloc(), "a \"$b(c")?.as_str(), "missing )");
-    assert_eq!(rt; read(rt.alloc(), "a $b([c {d")?.as_str(), "missing close-brace");
-    assert_eq!(rt; read(rt.alloc(), "a {b}c [d")?.as_str(), "extra characters after close-brace");
+    assert_eq!(rt;
+        read(rt.alloc(), "a $b([c {d")?.as_str(),
+        "missing close-brace"
+    );
+    assert_eq!(rt;
+        read(rt.alloc(), "a {b}c [d")?.as_str(),
+        "extra characters after close-brace"
+    );
     Ok(())
 }
 
 #[test]
 fn substitutions(rt: HostRuntime) -> Result<(), Fail> {
-    assert_eq!(
-        rt;
+    assert_eq!(rt;
         read(rt.alloc(), "$a$(b)${c d}x$e::f:g $ $h([i j]$k(l m)\\))n")?.as_str(),
         "<$a$('b')$c d'x'$e::f':g'><'$'><$h([i j]$k('l m')')')'n'>;"
     );
-    assert_eq!(rt; read(rt.alloc(), "\"a;b $c [d \"]\"] \\\n  e\"")?.as_str(), "<'a;b '$c' '[d \"]\"]'  e'>;");
-    assert_eq!(rt; read(rt.alloc(), "{a\\\n\t b\\{c\\\\}")?.as_str(), "<'a b\\{c\\\\'>;");
-    assert_eq!(rt; read(rt.alloc(), "a]b h\u{e9}\\\u{e9} \\")?.as_str(), "<'a]b'><'h\u{e9}\u{e9}'><'\\'>;");
+    assert_eq!(rt;
+        read(rt.alloc(), "\"a;b $c [d \"]\"] \\\n  e\"")?.as_str(),
+        "<'a;b '$c' '[d \"]\"]'  e'>;"
+    );
+    assert_eq!(rt;
+        read(rt.alloc(), "{a\\\n\t b\\{c\\\\}")?.as_str(),
+        "<'a b\\{c\\\\'>;"
+    );
+    assert_eq!(rt;
+        read(rt.alloc(), "a]b h\u{e9}\\\u{e9} \\")?.as_str(),
+        "<'a]b'><'h\u{e9}\u{e9}'><'\\'>;"
+    );
     Ok(())
 }
 
 #[test]
 fn marks_and_comments(rt: HostRuntime) -> Result<(), Fail> {
-    assert_eq!(rt; read(rt.alloc(), "{*}$a {*} {*}\\\n{*}")?.as_str(), "*<$a><'*'><'*'><'*'>;");
-    assert_eq!(rt; read(rt.alloc(), "{*}{*}a")?.as_str(), "extra characters after close-brace");
-    assert_eq!(
-        rt;
+    assert_eq!(rt;
+        read(rt.alloc(), "{*}$a {*} {*}\\\n{*}")?.as_str(),
+        "*<$a><'*'><'*'><'*'>;"
+    );
+    assert_eq!(rt;
+        read(rt.alloc(), "{*}{*}a")?.as_str(),
+        "extra characters after close-brace"
+    );
+    assert_eq!(rt;
         read(rt.alloc(), " # a ] ; \\\\\\\n b [ \n;c\\\n # d\n#e")?.as_str(),
         "<'c'><'#'><'d'>;"
     );
-    assert_eq!(rt; read(rt.alloc(), "a [# ]\nb]")?.as_str(), "<'a'><[# ]\nb]>;");
+    assert_eq!(rt;
+        read(rt.alloc(), "a [# ]\nb]")?.as_str(),
+        "<'a'><[# ]\nb]>;"
+    );
     Ok(())
 }
 
@@ -154,7 +191,10 @@ fn brackets_nest_two_hundred_deep(rt: HostRuntime) -> Result<(), Fail> {
     let script = parse(rt.alloc(), nested(rt.alloc(), 201)?.as_str())?;
     assert_eq!(rt; script.fault, Some(Fault::TooDeep));
     assert_eq!(rt; script.commands.len(), 0);
-    assert_eq!(rt; is_complete(rt.alloc(), nested(rt.alloc(), 201)?.as_str())?, true);
+    assert_eq!(rt;
+        is_complete(rt.alloc(), nested(rt.alloc(), 201)?.as_str())?,
+        true
+    );
     Ok(())
 }
 
@@ -185,7 +225,10 @@ fn each_beginning_is_read(rt: HostRuntime) -> Result<(), Fail> {
     assert_eq!(rt; agrees(rt.alloc(), "set x 1; set y {b ")?, true);
     assert_eq!(rt; agrees(rt.alloc(), "set x [list a ")?, true);
     assert_eq!(rt; agrees(rt.alloc(), "list # a ")?, true);
-    assert_eq!(rt; agrees(rt.alloc(), "list {*}{a {b c}} \\x41 \\1011 # ")?, true);
+    assert_eq!(rt;
+        agrees(rt.alloc(), "list {*}{a {b c}} \\x41 \\1011 # ")?,
+        true
+    );
     assert_eq!(rt; agrees(rt.alloc(), "set a 1; set b 2 ")?, true);
     assert_eq!(rt; is_complete(rt.alloc(), "set x [list \"a $b(")?, false);
     assert_eq!(rt; is_complete(rt.alloc(), "set x {a}b")?, true);
@@ -203,7 +246,10 @@ fn long_scripts_and_deep_indexes(rt: HostRuntime) -> Result<(), Fail> {
     for _index in 0..100_000u32 {
         text.push_str("$a(")?;
     }
-    assert_eq!(rt; parse(rt.alloc(), text.as_str())?.fault, Some(Fault::CloseParenthesis));
+    assert_eq!(rt;
+        parse(rt.alloc(), text.as_str())?.fault,
+        Some(Fault::CloseParenthesis)
+    );
     for _index in 0..100_000u32 {
         text.push_str(")")?;
     }

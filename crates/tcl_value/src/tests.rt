@@ -51,7 +51,10 @@ fn octal_row(alloc: Global) -> Result<Option<Text>, AllocError> {
 fn number_is_read_in_its_style(rt: HostRuntime) {
     let alloc = rt.alloc();
     if let Ok(row) = octal_row(alloc) {
-        assert!(rt; matches!(&row, Some(text) if text.as_str() == "8 1 010 9 9"), "the row");
+        assert!(rt;
+            matches!(&row, Some(text) if text.as_str() == "8 1 010 9 9"),
+            "the row"
+        );
     }
     if let Ok(mut x) = text_value(alloc, "010") {
         assert!(rt; x.as_int(Integers::Tcl9) == Ok(10), "Tcl9");
@@ -90,7 +93,10 @@ fn append_row(alloc: Global) -> Result<Option<Text>, AllocError> {
 #[test]
 fn list_is_read_anew_after_append(rt: HostRuntime) {
     if let Ok(row) = append_row(rt.alloc()) {
-        assert!(rt; matches!(&row, Some(text) if text.as_str() == "3 {a  b  c}"), "the row");
+        assert!(rt;
+            matches!(&row, Some(text) if text.as_str() == "3 {a  b  c}"),
+            "the row"
+        );
     }
 }
 
@@ -117,7 +123,10 @@ fn changes(alloc: Global) -> Result<Option<(Text, Text)>, AllocError> {
 #[test]
 fn copy_stays_as_it_is(rt: HostRuntime) {
     if let Ok(pair) = changes(rt.alloc()) {
-        assert!(rt; matches!(&pair, Some((text, copy)) if text.as_str() == "{# a} 1 2" && copy.as_str() == "0 1 2"), "both");
+        assert!(rt;
+            matches!(&pair, Some((text, copy)) if text.as_str() == "{# a} 1 2" && copy.as_str() == "0 1 2"),
+            "both"
+        );
     }
 }
 
@@ -127,17 +136,26 @@ fn what_was_read_takes_no_memory_again(rt: HostRuntime) {
     if let Ok(mut value) = text_value(alloc, "k 1 k {2 3}") {
         if let Ok(first) = value.as_list(alloc) {
             let again = value.as_list(alloc);
-            assert!(rt; matches!(&again, Ok(list) if list.len() == first.len()), "the value");
+            assert!(rt;
+                matches!(&again, Ok(list) if list.len() == first.len()),
+                "the value"
+            );
             let copy: Result<Value, AllocError> = value.clone();
             assert!(rt; copy.is_ok(), "the copy is made");
             if let Ok(mut copy) = copy {
                 let again = copy.as_list(alloc);
-                assert!(rt; matches!(&again, Ok(list) if list.len() == first.len()), "the copy");
+                assert!(rt;
+                    matches!(&again, Ok(list) if list.len() == first.len()),
+                    "the copy"
+                );
             }
         }
         if let Ok(first) = value.as_script(alloc) {
             let again = value.as_script(alloc);
-            assert!(rt; matches!(&again, Ok(script) if script.commands.len() == first.commands.len()), "the script");
+            assert!(rt;
+                matches!(&again, Ok(script) if script.commands.len() == first.commands.len()),
+                "the script"
+            );
         }
     }
 }

@@ -6,11 +6,10 @@ ghost use Rattle.std.specs.String.{string_bytes};
 ghost use Rattle.std.specs.FinMap as map;
 ghost use Rattle.tcl_host.specs.Channels.{advanced};
 
+use crate::memory::channel::Channel;
 use indexmap::IndexMap;
 use std::alloc::{AllocError, Global};
 use std::marker::Model;
-
-use crate::memory::channel::Channel;
 
 /// Open channels by their names.
 #[derive(Drop)]

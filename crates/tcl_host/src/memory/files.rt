@@ -5,11 +5,10 @@ ghost use Rattle.std.specs.String.{string_bytes};
 ghost use Rattle.std.specs.FinMap as map;
 ghost use Rattle.tcl_host.specs.Files.{content_of, appended, made};
 
+use crate::bytes::Bytes;
+use indexmap::IndexMap;
 use std::alloc::{AllocError, Global};
 use std::marker::Model;
-use indexmap::IndexMap;
-
-use crate::bytes::Bytes;
 
 /// Files by their names.
 #[derive(Drop)]

@@ -7,9 +7,6 @@ ghost use Rattle.tcl_host.specs.declared.request.Request.{Request};
 ghost use Rattle.tcl_host.specs.Hosts.{line_reply, done_reply};
 ghost use Rattle.tcl_host.specs.Stores.{serve, reply_by, content, rest_of, with_channel, channel_name, new_channel, new_store, standard_channels, opened};
 
-use std::alloc::{AllocError, Global};
-use tcl_text::text::Text;
-
 use crate::bytes::Bytes;
 use crate::memory::channel::{Channel, Stream};
 use crate::memory::channels::Channels;
@@ -17,6 +14,8 @@ use crate::memory::files::Files;
 use crate::memory::taken::{take_all, take_line};
 use crate::open_mode::OpenMode;
 use crate::reply::Refusal;
+use std::alloc::{AllocError, Global};
+use tcl_text::text::Text;
 
 /// Files, channels and standard streams.
 #[derive(Drop)]
@@ -57,9 +56,18 @@ fn standard_channels(alloc: Global) -> Result<Channels, AllocError>
     ensures { IfOk result (λ made. made ≡ standard_channels) }
 {
     let mut channels = Channels::new(alloc);
-    channels.insert(String::from_str(alloc, "stdin")?, new_channel(Stream::Input))?;
-    channels.insert(String::from_str(alloc, "stdout")?, new_channel(Stream::Output))?;
-    channels.insert(String::from_str(alloc, "stderr")?, new_channel(Stream::Errors))?;
+    channels.insert(
+        String::from_str(alloc, "stdin")?,
+        new_channel(Stream::Input),
+    )?;
+    channels.insert(
+        String::from_str(alloc, "stdout")?,
+        new_channel(Stream::Output),
+    )?;
+    channels.insert(
+        String::from_str(alloc, "stderr")?,
+        new_channel(Stream::Errors),
+    )?;
     Ok(channels)
 }
 

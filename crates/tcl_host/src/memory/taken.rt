@@ -2,10 +2,9 @@
 ghost use Rattle.std.specs.Prelude.{◌≡◌, ◌≤◌, length, IfOk};
 ghost use Rattle.tcl_host.specs.Stores.{take_line, take_all};
 
+use crate::bytes::Bytes;
 use memchr::memchr;
 use std::alloc::{AllocError, Global};
-
-use crate::bytes::Bytes;
 
 /// What one read takes.
 #[derive(Drop)]

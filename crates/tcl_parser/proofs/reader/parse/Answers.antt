@@ -26,7 +26,7 @@ commands-preserved c =
     record {
       utf8 = search rules;
       ended = sym (ap (λ x. x.ended) read.is) ∙ i.ended;
-      commands = command_added c.commands.rest.now c.in-Ok.after.now _ _ _ read i.commands ∙ ap (λ x. x ++ (read_commands (level_at 0) c.in-Ok.after.now).items) (sym c.in_ok-push-in-Ok.ensures.items)
+      commands = command_added c.commands.rest.now c.in-Ok.after.now _ _ _ read i.commands ∙ ap (λ x. x ++ (read_commands (level_at 0) c.in-Ok.after.now).items) (sym c.in_ok-push-in-Ok.ensures.items);
     }
 
 pub returns-in-Fault-clause-function : goal.returns-in-Fault-clause-function

@@ -8,7 +8,7 @@ abbrev pub invariant-commands : goal.invariant-commands
 invariant-commands l = record {
   utf8 : shadow (Utf8 l.rest);
   ended : (read_commands (level_at 0) l.rest).ended ≡ (read_commands (level_at 0) l.text).ended;
-  commands : (read_commands (level_at 0) l.text).items ≡ l.commands.items ++ (read_commands (level_at 0) l.rest).items
+  commands : (read_commands (level_at 0) l.text).items ≡ l.commands.items ++ (read_commands (level_at 0) l.rest).items;
 }
 
 abbrev pub decreases-commands : goal.decreases-commands

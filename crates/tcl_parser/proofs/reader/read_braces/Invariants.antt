@@ -8,7 +8,7 @@ abbrev pub invariant-braces : goal.invariant-braces
 invariant-braces l = record {
   utf8 : shadow (Utf8 l.rest);
   reads : in_braces false 0 l.text ≡ put (string_bytes l.word) (in_braces false l.depth l.rest);
-  room : l.depth + length l.rest ≤ length l.text
+  room : l.depth + length l.rest ≤ length l.text;
 }
 
 abbrev pub decreases-braces : goal.decreases-braces

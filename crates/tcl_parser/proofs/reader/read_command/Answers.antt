@@ -27,5 +27,5 @@ words-preserved c =
     record {
       utf8 = search rules;
       ended = sym (ap (λ x. x.ended) (words_word 0 c.words.rest.now c.skip_white-start.result.now _ _ c.skip_white-start.ensures ends c.in_ok-word.ensures)) ∙ i.ended;
-      words = words_added 0 c.words.rest.now c.skip_white-start.result.now _ _ _ _ c.skip_white-start.ensures ends c.in_ok-word.ensures i.words ∙ ap (λ x. x ++ (read_words (level_at 0) c.in_ok-word.after.now).items) (sym c.in_ok-push.ensures.items)
+      words = words_added 0 c.words.rest.now c.skip_white-start.result.now _ _ _ _ c.skip_white-start.ensures ends c.in_ok-word.ensures i.words ∙ ap (λ x. x ++ (read_words (level_at 0) c.in_ok-word.after.now).items) (sym c.in_ok-push.ensures.items);
     }

@@ -8,7 +8,7 @@ abbrev pub invariant-words : goal.invariant-words
 invariant-words l = record {
   utf8 : shadow (Utf8 l.rest);
   ended : (read_words (level_at 0) l.rest).ended ≡ (read_words (level_at 0) (after_gap false l.text)).ended;
-  words : (read_words (level_at 0) (after_gap false l.text)).items ≡ l.words.items ++ (read_words (level_at 0) l.rest).items
+  words : (read_words (level_at 0) (after_gap false l.text)).items ≡ l.words.items ++ (read_words (level_at 0) l.rest).items;
 }
 
 abbrev pub decreases-words : goal.decreases-words

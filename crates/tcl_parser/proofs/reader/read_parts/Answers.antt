@@ -32,5 +32,5 @@ parts-preserved c =
       utf8 = search rules;
       ended = sym (ap (λ x. x.ended) (parts_next 0 c.args.quoted c.parts.indexes c.in-Part.deeper c.parts.rest.now c.in-Part.after.now _ is)) ∙ i.ended;
       parts = parts_added 0 c.args.quoted c.parts.indexes c.in-Part.deeper c.parts.rest.now c.in-Part.after.now _ _ _ _ _ _ is c.in_ok-add-in-Part.ensures i.parts;
-      room = omega (arith, falls.1, i.room)
+      room = omega (arith, falls.1, i.room);
     }

@@ -9,7 +9,7 @@ invariant-parts l = record {
   utf8 : shadow (Utf8 l.rest);
   ended : (read_parts (level_at 0) l.quoted (l.indexes, l.rest)).ended ≡ (read_parts (level_at 0) l.quoted (zero, l.text)).ended;
   parts : joined (read_parts (level_at 0) l.quoted (zero, l.text)).items ≡ l.parts.items ++ with_literal (string_bytes l.literal) (joined (read_parts (level_at 0) l.quoted (l.indexes, l.rest)).items);
-  room : l.indexes + length l.rest ≤ length l.text
+  room : l.indexes + length l.rest ≤ length l.text;
 }
 
 abbrev pub decreases-parts : goal.decreases-parts

@@ -14,7 +14,8 @@ returns-then-byte-eq10-clause-rest c = sym c.comment.invariant.1 ∙ comment_end
 pub comment-preserved : goal.comment-preserved
 comment-preserved c =
     let step = comment_step _ _ _ _ c.split_run.ensures.rest c.in-Some.ensures.split c.if-byte-eq10.false in
-    let run_len = after_run_len Comment c.comment.rest.now c.split_run.result.1.now c.split_run.ensures.rest in
-    (c.skip_ascii-rest.utf8,
-     ap (after_gap true) c.skip_ascii-rest.ensures ∙ sym step ∙ c.comment.invariant.1,
-     omega (arith, ap length c.skip_ascii-rest.ensures, after_ascii_len c.in-Some.after.now, ap length c.in-Some.ensures.split, c.comment.invariant.2))
+    let run_len = after_run_len Comment c.comment.rest.now c.split_run.result.1.now c.split_run.ensures.rest in (
+      c.skip_ascii-rest.utf8,
+      ap (after_gap true) c.skip_ascii-rest.ensures ∙ sym step ∙ c.comment.invariant.1,
+      omega (arith, ap length c.skip_ascii-rest.ensures, after_ascii_len c.in-Some.after.now, ap length c.in-Some.ensures.split, c.comment.invariant.2),
+    )

@@ -16,10 +16,10 @@ split_at-requires c =
     let s = c.args.text.now in
     let whole = c.as_bytes-bytes.ensures.value in
     elim c.bytes-test.branch [
-      then-bytes-test+else-not-ends_at w ↦
-        let stop : ends_run c.args.run (get_or s c.bytes.count 0) ≡ true = sym (ap (λ t. ends_run c.args.run (get_or t c.bytes.count 0)) whole) ∙ sym w.ends_at.ensures ∙ w.if-not-ends_at.false in
-        run_boundary c.args.run s c.bytes.count (omega (arith, ap length whole)) stop
-    | else-bytes-test w ↦ run_end_boundary c.args.run s c.bytes.count c.bytes.invariant (omega (arith, ap length whole))
+      | then-bytes-test+else-not-ends_at w ↦
+          let stop : ends_run c.args.run (get_or s c.bytes.count 0) ≡ true = sym (ap (λ t. ends_run c.args.run (get_or t c.bytes.count 0)) whole) ∙ sym w.ends_at.ensures ∙ w.if-not-ends_at.false in
+          run_boundary c.args.run s c.bytes.count (omega (arith, ap length whole)) stop
+      | else-bytes-test w ↦ run_end_boundary c.args.run s c.bytes.count c.bytes.invariant (omega (arith, ap length whole))
     ]
 
 count_is : (c : goal.After-split_at) → run_len c.args.run c.args.text.now ≡ c.bytes.count
@@ -27,10 +27,10 @@ count_is c =
     let s = c.args.text.now in
     let whole = c.as_bytes-bytes.ensures.value in
     elim c.bytes-test.branch [
-      then-bytes-test+else-not-ends_at w ↦
-        let stop : ends_run c.args.run (get_or s c.bytes.count 0) ≡ true = sym (ap (λ t. ends_run c.args.run (get_or t c.bytes.count 0)) whole) ∙ sym w.ends_at.ensures ∙ w.if-not-ends_at.false in
-        run_stops c.args.run s c.bytes.count c.bytes.invariant (omega (arith, ap length whole)) stop
-    | else-bytes-test w ↦ run_ends c.args.run s c.bytes.count c.bytes.invariant (omega (arith, ap length whole))
+      | then-bytes-test+else-not-ends_at w ↦
+          let stop : ends_run c.args.run (get_or s c.bytes.count 0) ≡ true = sym (ap (λ t. ends_run c.args.run (get_or t c.bytes.count 0)) whole) ∙ sym w.ends_at.ensures ∙ w.if-not-ends_at.false in
+          run_stops c.args.run s c.bytes.count c.bytes.invariant (omega (arith, ap length whole)) stop
+      | else-bytes-test w ↦ run_ends c.args.run s c.bytes.count c.bytes.invariant (omega (arith, ap length whole))
     ]
 
 pub returns-clause-front : goal.returns-clause-front

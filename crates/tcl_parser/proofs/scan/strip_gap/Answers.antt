@@ -12,9 +12,9 @@ pub returns-then-is_white-clause-on : goal.returns-then-is_white-clause-on
 returns-then-is_white-clause-on c =
     let b = c.in_ok-first.first in
     let between : (is_white b || is_separator b) ≡ true = elim c.then-is_white.branch [
-          then-is_white-via-then-is_white w ↦ or_left (is_white b) (is_separator b) (sym c.is_white.ensures ∙ w.if-is_white.true)
-        | then-is_white-via-else-is_white+then-is_separator w ↦ or_right (is_white b) (is_separator b) (sym w.is_separator.ensures ∙ w.if-is_separator.true)
-        ] in
+      | then-is_white-via-then-is_white w ↦ or_left (is_white b) (is_separator b) (sym c.is_white.ensures ∙ w.if-is_white.true)
+      | then-is_white-via-else-is_white+then-is_separator w ↦ or_right (is_white b) (is_separator b) (sym w.is_separator.ensures ∙ w.if-is_separator.true)
+    ] in
     gap_goes_on _ _ _ c.in_ok-first.ensures.split between
 
 pub returns-then-first-eq35-clause-on : goal.returns-then-first-eq35-clause-on

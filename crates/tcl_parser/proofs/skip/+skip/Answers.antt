@@ -32,7 +32,7 @@ skip_command-words-preserved t c =
     record {
       utf8 = search rules;
       reads = sym (ap (λ x. x.ended) is) ∙ i.reads;
-      some = i.some ∙ ap (λ x. c.words.some || is_some_list x.items) is ∙ sym (or-true c.words.some)
+      some = i.some ∙ ap (λ x. c.words.some || is_some_list x.items) is ∙ sym (or-true c.words.some);
     }
 
 pub skip_parts-returns-in_err-after : goal.skip_parts-returns-in_err-after
@@ -60,7 +60,7 @@ skip_parts-parts-preserved t c =
     record {
       utf8 = search rules;
       reads = sym (ap (λ x. x.ended) (parts_next c.args.brackets c.args.quoted c.parts.indexes c.in-Part.deeper c.parts.rest.now c.in-Part.after.now _ is)) ∙ i.reads;
-      room = omega (arith, falls.1, i.room)
+      room = omega (arith, falls.1, i.room);
     }
 
 pub skip_script-returns-then-brackets-eq-DEEPEST-clause-ends : goal.skip_script-returns-then-brackets-eq-DEEPEST-clause-ends
@@ -89,7 +89,7 @@ skip_script-commands-smaller t c =
     (commands_next (c.args.brackets + 1) c.commands.rest.now c.in_ok-some.after.now (c.in_ok-some.ensures ∙ ap (λ b. Ok (b, c.in_ok-some.after.now)) c.if-not-some.false)).1
 
 pub skip_script-commands-preserved : goal.skip_script-commands-preserved
-skip_script-commands-preserved t c = 
+skip_script-commands-preserved t c =
     let next = (commands_next (c.args.brackets + 1) c.commands.rest.now c.in_ok-some.after.now (c.in_ok-some.ensures ∙ ap (λ b. Ok (b, c.in_ok-some.after.now)) c.if-not-some.false)).0 in
     (search rules, sym next ∙ c.commands.invariant.1)
 
@@ -98,4 +98,3 @@ skip_word-returns-in-Some t c = subst (Gives (λ (r : Bor (List ℕ)). r.now) c.
 
 pub skip_word-returns-in-None : goal.skip_word-returns-in-None
 skip_word-returns-in-None t c = subst (Gives (λ (r : Bor (List ℕ)). r.now) c.skip_word_parts-in-None.result) (sym (word_unmarked c.args.brackets c.args.text.now c.in-None.ensures.none)) c.skip_word_parts-in-None.ensures
-

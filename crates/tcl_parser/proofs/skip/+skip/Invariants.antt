@@ -30,7 +30,7 @@ abbrev pub invariant-skip_parts-parts : goal.invariant-skip_parts-parts
 invariant-skip_parts-parts l = record {
   utf8 : shadow (Utf8 l.rest);
   reads : (read_parts (level_at l.brackets) l.quoted (l.indexes, l.rest)).ended ≡ (read_parts (level_at l.brackets) l.quoted (zero, l.text)).ended;
-  room : l.indexes + length l.rest ≤ length l.text
+  room : l.indexes + length l.rest ≤ length l.text;
 }
 
 abbrev pub decreases-skip_parts-parts : goal.decreases-skip_parts-parts
@@ -40,7 +40,7 @@ abbrev pub invariant-skip_command-words : goal.invariant-skip_command-words
 invariant-skip_command-words l = record {
   utf8 : shadow (Utf8 l.rest);
   reads : (read_words (level_at l.brackets) l.rest).ended ≡ (read_words (level_at l.brackets) (after_gap false l.text)).ended;
-  some : is_some_list (read_words (level_at l.brackets) (after_gap false l.text)).items ≡ (l.some || is_some_list (read_words (level_at l.brackets) l.rest).items)
+  some : is_some_list (read_words (level_at l.brackets) (after_gap false l.text)).items ≡ (l.some || is_some_list (read_words (level_at l.brackets) l.rest).items);
 }
 
 abbrev pub decreases-skip_command-words : goal.decreases-skip_command-words

@@ -17,8 +17,8 @@ returns-clause-appended c =
     let writes = (c.get_mut.follows.holds c.append.new.self).3 (is_some_at _ _ c.in-Some.ensures.value) in
     let written = insert-of_view _ c.self.inside.entries (c.get_mut.follows.lender c.append.new.self) _ _ c.self.view_is writes in
     on_ok_as c.append.result
-      (λ e. written ∙ ap (insert c.args.self.now c.args.name.now) e ∙ sym (appended-there _ _ c.args.more.now _ some))
-      c.append.ensures.appended
+    (λ e. written ∙ ap (insert c.args.self.now c.args.name.now) e ∙ sym (appended-there _ _ c.args.more.now _ some))
+    c.append.ensures.appended
 
 pub returns-clause-unchanged : goal.returns-clause-unchanged
 returns-clause-unchanged c =
@@ -27,5 +27,5 @@ returns-clause-unchanged c =
     let writes = (c.get_mut.follows.holds c.append.new.self).3 (is_some_at _ _ c.in-Some.ensures.value) in
     let written = insert-of_view _ c.self.inside.entries (c.get_mut.follows.lender c.append.new.self) _ _ c.self.view_is writes in
     on_err_as c.append.result
-      (λ e. written ∙ ap (insert c.args.self.now c.args.name.now) e ∙ insert-same _ _ _ (sym some))
-      c.append.ensures.unchanged
+    (λ e. written ∙ ap (insert c.args.self.now c.args.name.now) e ∙ insert-same _ _ _ (sym some))
+    c.append.ensures.unchanged
