@@ -1,0 +1,250 @@
+-- The chain of frames of an interpreter, and what each call on its variables does.
+use Rattle.std.specs.Prelude.{◌≡◌, ℕ, zero, suc, pred, ◌==◌, nat_le, nat_lt, Bool, true, false, List, [], ◌∷◌, ◌++◌, length, take, drop, Option, Some, None, is_some, if◌then◌else◌, Result, Ok, Err}
+use Rattle.std.specs.Str.{bytes_eq}
+use Rattle.std.specs.Map.{lookup, remove_entry}
+use Rattle.indexmap.specs.IndexMap.{insert_entry}
+use Rattle.tcl_frames.specs.Names.{Text, Name, name_of, is_plain}
+use Rattle.tcl_frames.specs.Places.{Frame, Levels, Variables, current, bound, place_of, next, passes, links, end_of, is_at}
+use Rattle.tcl_frames.specs.declared.variable.Place.{Place}
+use Rattle.tcl_frames.specs.declared.variable.Variable.{Variable}
+use Rattle.tcl_frames.specs.declared.variable.Variable.TheVariants.{Scalar, Array, Link}
+use Rattle.tcl_frames.specs.declared.variable.Scope.{Scope}
+use Rattle.tcl_frames.specs.declared.variable.Scope.TheVariants.{Visible, Global, Local}
+use Rattle.tcl_frames.specs.declared.fault.Verb.TheVariants.{Read, Set, Unset}
+use Rattle.tcl_frames.specs.declared.fault.FrameFault.{FrameFault}
+use Rattle.tcl_frames.specs.declared.fault.FrameFault.TheVariants.{NoVariable, IsArray, NotArray, NoElement, BadLevel, Exists, Itself, BadName}
+use Rattle.tcl_frames.specs.declared.fault.FrameError.{FrameError}
+use Rattle.tcl_frames.specs.declared.fault.FrameError.TheVariants.{Memory, Fault}
+
+-- Frames that were set aside: those that stood above a level.
+pub record Aside : Type 0 where
+  pub above : ℕ
+  pub frames : Levels
+
+-- The chain of frames, level 0 first, and the parts of chains that are set aside, latest first.
+pub record Chain : Type 0 where
+  pub frames : Levels
+  pub aside : List Aside
+
+-- a new interpreter's: one frame, with no words and no variables
+abbrev pub fresh : Chain
+fresh = record { frames = record { words = []; variables = [] } ∷ []; aside = [] }
+
+-- ## A name
+
+abbrev pub by_name : {A : Type 0} → Levels → ℕ → Text → Option Name → (Place → Result A FrameFault) → Result A FrameFault
+by_name fs n x None f = Err (BadName x)
+by_name fs n x (Some name) f = f (end_of fs (place_of n name))
+
+-- what is done at the place at which the links from a written name end
+abbrev pub at_name : {A : Type 0} → Levels → Text → (Place → Result A FrameFault) → Result A FrameFault
+at_name fs x f = by_name fs (current fs) x (name_of x) f
+
+-- ## Reading
+
+abbrev pub read_element : Option Text → Text → Result Text FrameFault
+read_element None x = Err (NoElement Read x)
+read_element (Some t) x = Ok t
+
+abbrev pub value_of : Option Variable → Option Text → Text → Result Text FrameFault
+value_of None key x = Err (NoVariable Read x)
+value_of (Some (Scalar t)) None x = Ok t
+value_of (Some (Scalar t)) (Some k) x = Err (NotArray Read x)
+value_of (Some (Array es)) None x = Err (IsArray Read x)
+value_of (Some (Array es)) (Some k) x = read_element (lookup (bytes_eq k) es) x
+value_of (Some (Link q)) key x = Err (NotArray Read x)
+
+-- what the name holds
+unfoldable pub read : Levels → Text → Result Text FrameFault
+read fs x = at_name fs x (λ p. value_of (bound fs p.level p.name) p.key x)
+
+abbrev pub is_held : Option Variable → Option Text → Bool
+is_held None key = false
+is_held (Some (Scalar t)) None = true
+is_held (Some (Scalar t)) (Some k) = false
+is_held (Some (Array es)) None = true
+is_held (Some (Array es)) (Some k) = is_some (lookup (bytes_eq k) es)
+is_held (Some (Link q)) key = false
+
+-- whether the place holds a value
+abbrev pub holds : Levels → Place → Bool
+holds fs p = is_held (bound fs p.level p.name) p.key
+
+-- whether the name's place holds a value
+unfoldable pub exists_at : Levels → Text → Result Bool FrameFault
+exists_at fs x = at_name fs x (λ p. Ok (holds fs p))
+
+-- ## Writing
+
+abbrev pub on_level : Levels → ℕ → (Variables → Variables) → Levels
+on_level [] n f = []
+on_level (g ∷ fs) zero f = record { words = g.words; variables = f g.variables } ∷ fs
+on_level (g ∷ fs) (suc n) f = g ∷ on_level fs n f
+
+-- the name at the level stands for something else: where it was, or at the end
+unfoldable pub bind : Levels → ℕ → Text → Variable → Levels
+bind fs n x v = on_level fs n (λ es. insert_entry bytes_eq es x v)
+
+-- the name at the level stands for nothing
+unfoldable pub unbind : Levels → ℕ → Text → Levels
+unbind fs n x = on_level fs n (remove_entry (bytes_eq x))
+
+abbrev pub assigned : Option Variable → Option Text → Text → Text → Result Variable FrameFault
+assigned None None t x = Ok (Scalar t)
+assigned None (Some k) t x = Ok (Array ((k, t) ∷ []))
+assigned (Some (Scalar s)) None t x = Ok (Scalar t)
+assigned (Some (Scalar s)) (Some k) t x = Err (NotArray Set x)
+assigned (Some (Array es)) None t x = Err (IsArray Set x)
+assigned (Some (Array es)) (Some k) t x = Ok (Array (insert_entry bytes_eq es k t))
+assigned (Some (Link q)) key t x = Err (NotArray Set x)
+
+abbrev pub bound_to : Levels → Place → Result Variable FrameFault → Result Levels FrameFault
+bound_to fs p (Ok v) = Ok (bind fs p.level p.name v)
+bound_to fs p (Err e) = Err e
+
+-- the frames after the name is set to a text
+unfoldable pub written : Levels → Text → Text → Result Levels FrameFault
+written fs x t = at_name fs x (λ p. bound_to fs p (assigned (bound fs p.level p.name) p.key t x))
+
+abbrev pub arrayed : Option Variable → Option Text → Text → Result Variable FrameFault
+arrayed None None x = Ok (Array [])
+arrayed (Some (Array es)) None x = Ok (Array es)
+arrayed (Some (Scalar s)) None x = Err (NotArray Set x)
+arrayed (Some (Link q)) None x = Err (NotArray Set x)
+arrayed v (Some k) x = Err (NotArray Set x)
+
+-- the frames after the name is made an array, where it isn't one yet
+unfoldable pub made_array : Levels → Text → Result Levels FrameFault
+made_array fs x = at_name fs x (λ p. bound_to fs p (arrayed (bound fs p.level p.name) p.key x))
+
+abbrev pub without_element : Option Text → List (Text × Text) → Text → Text → Result (Option Variable) FrameFault
+without_element None es k x = Err (NoElement Unset x)
+without_element (Some t) es k x = Ok (Some (Array (remove_entry (bytes_eq k) es)))
+
+-- what is left of a variable, where something is
+abbrev pub left_of : Option Variable → Option Text → Text → Result (Option Variable) FrameFault
+left_of None key x = Err (NoVariable Unset x)
+left_of (Some (Scalar t)) None x = Ok None
+left_of (Some (Scalar t)) (Some k) x = Err (NotArray Unset x)
+left_of (Some (Array es)) None x = Ok None
+left_of (Some (Array es)) (Some k) x = without_element (lookup (bytes_eq k) es) es k x
+left_of (Some (Link q)) key x = Err (NotArray Unset x)
+
+abbrev pub left_at : Levels → Place → Result (Option Variable) FrameFault → Result Levels FrameFault
+left_at fs p (Ok None) = Ok (unbind fs p.level p.name)
+left_at fs p (Ok (Some v)) = Ok (bind fs p.level p.name v)
+left_at fs p (Err e) = Err e
+
+-- the frames after the name's place is unset
+unfoldable pub removed : Levels → Text → Result Levels FrameFault
+removed fs x = at_name fs x (λ p. left_at fs p (left_of (bound fs p.level p.name) p.key x))
+
+-- ## Linking
+
+abbrev pub link_over : Levels → Option Variable → Text → Place → Result Levels FrameFault
+link_over fs None local p = Ok (bind fs (current fs) local (Link p))
+link_over fs (Some (Scalar t)) local p = Err (Exists local)
+link_over fs (Some (Array es)) local p = Err (Exists local)
+link_over fs (Some (Link q)) local p = Ok (bind fs (current fs) local (Link p))
+
+-- a link that still stands at the end leads to an element, of which an element is asked for
+abbrev pub link_to_end : Levels → Option Variable → Text → Text → Place → Result Levels FrameFault
+link_to_end fs (Some (Link q)) other local p = Err (NotArray Read other)
+link_to_end fs None other local p = link_over fs (bound fs (current fs) local) local p
+link_to_end fs (Some (Scalar t)) other local p = link_over fs (bound fs (current fs) local) local p
+link_to_end fs (Some (Array es)) other local p = link_over fs (bound fs (current fs) local) local p
+
+abbrev pub link_from : Levels → Bool → Text → Text → Place → Result Levels FrameFault
+link_from fs true other local p = Err Itself
+link_from fs false other local p = link_to_end fs (bound fs p.level p.name) other local p
+
+abbrev pub link_by_name : Levels → ℕ → Option Name → Bool → Text → Text → Result Levels FrameFault
+link_by_name fs n None plain other local = Err (BadName other)
+link_by_name fs n (Some name) false other local = Err (BadName local)
+link_by_name fs n (Some name) true other local =
+    link_from fs (passes (links fs) (next fs) (is_at (current fs) local) (place_of n name)) other local (end_of fs (place_of n name))
+
+-- the frames after the local name of the current level is made a link to what the other name is at a level
+unfoldable pub linked : Levels → ℕ → Text → Text → Result Levels FrameFault
+linked fs n other local = if nat_le (length fs) n then Err (BadLevel n) else link_by_name fs n (name_of other) (is_plain local) other local
+
+-- ## Names
+
+abbrev pub kept_if : Bool → Text → List Text → List Text
+kept_if true x xs = x ∷ xs
+kept_if false x xs = xs
+
+-- the names whose places hold a value, of those of a level
+unfoldable pub names_held : Levels → ℕ → Variables → List Text
+names_held fs n [] = []
+names_held fs n (e ∷ es) = kept_if (holds fs (end_of fs (record { level = n; name = e.0; key = None }))) e.0 (names_held fs n es)
+
+abbrev pub is_own : Variable → Bool
+is_own (Scalar t) = true
+is_own (Array es) = true
+is_own (Link q) = false
+
+-- the names that are no links
+unfoldable pub names_own : Variables → List Text
+names_own [] = []
+names_own (e ∷ es) = kept_if (is_own e.1) e.0 (names_own es)
+
+-- the variables of a level
+unfoldable pub variables_at : Levels → ℕ → Variables
+variables_at [] n = []
+variables_at (f ∷ fs) zero = f.variables
+variables_at (f ∷ fs) (suc n) = variables_at fs n
+
+-- the names of the current level; those of level 0; or those of the current level that are no links, of which level 0 has none
+unfoldable pub names_of : Scope → Levels → List Text
+names_of Visible fs = names_held fs (current fs) (variables_at fs (current fs))
+names_of Global fs = names_held fs 0 (variables_at fs 0)
+names_of Local fs = if current fs == 0 then [] else names_own (variables_at fs (current fs))
+
+-- ## Arrays
+
+abbrev pub elements_of : Option Variable → Option Text → Option (List (Text × Text))
+elements_of (Some (Array es)) None = Some es
+elements_of (Some (Array es)) (Some k) = None
+elements_of (Some (Scalar t)) key = None
+elements_of (Some (Link q)) key = None
+elements_of None key = None
+
+-- the elements of the array that the name is, in the order of insertion
+unfoldable pub array_at : Levels → Text → Result (Option (List (Text × Text))) FrameFault
+array_at fs x = at_name fs x (λ p. Ok (elements_of (bound fs p.level p.name) p.key))
+
+-- ## Levels
+
+-- the chain after a frame with these words is put on top
+abbrev pub pushed : Chain → List Text → Chain
+pushed c words = record { frames = c.frames ++ record { words = words; variables = [] } ∷ []; aside = c.aside }
+
+-- how many frames a pop leaves: level 0, and those below the part that was set aside last
+abbrev pub least : List Aside → ℕ
+least [] = 1
+least (a ∷ rest) = suc a.above
+
+-- the chain without the frame on top
+unfoldable pub popped : Chain → Chain
+popped c = if nat_lt (least c.aside) (length c.frames) then record { frames = take (pred (length c.frames)) c.frames; aside = c.aside } else c
+
+-- the chain up to a level, with what stood above it set aside
+unfoldable pub set_aside : Chain → ℕ → Result Chain FrameFault
+set_aside c n = if nat_le (length c.frames) n then Err (BadLevel n) else
+    Ok (record { frames = take (suc n) c.frames; aside = record { above = n; frames = drop (suc n) c.frames } ∷ c.aside })
+
+abbrev pub put_back : Levels → List Aside → Chain
+put_back fs [] = record { frames = fs; aside = [] }
+put_back fs (a ∷ rest) = record { frames = take (suc a.above) fs ++ a.frames; aside = rest }
+
+-- the chain with the part that was set aside last back above its level, and nothing else there
+unfoldable pub brought_back : Chain → Chain
+brought_back c = put_back c.frames c.aside
+
+-- ## Refusals
+
+-- a call that ends with the error is refused by the definition, or wants memory
+abbrev pub Refuses : {A : Type 0} → FrameError → Result A FrameFault → Type 0
+Refuses Memory r = Unit {0}
+Refuses (Fault f) r = r ≡ Err f

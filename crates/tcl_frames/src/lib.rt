@@ -1,0 +1,8 @@
+//! The variables of an interpreter: a chain of frames, whose names hold values, arrays or links.
+#![tactic(auto)]
+
+pub mod fault;
+pub mod frame;
+pub mod frames;
+pub mod name_map;
+pub mod variable;
