@@ -4,7 +4,7 @@ use Rattle.std.specs.Str.{bytes_eq}
 use Rattle.std.specs.Map.{lookup, remove_entry}
 use Rattle.indexmap.specs.IndexMap.{insert_entry}
 use Rattle.tcl_frames.specs.Names.{Text, Name, name_of, is_plain}
-use Rattle.tcl_frames.specs.Places.{Frame, Levels, Variables, current, bound, place_of, next, passes, links, end_of, is_at}
+use Rattle.tcl_frames.specs.Places.{Frame, Spot, Levels, Variables, current, bound, spot_of, next, passes, links, end_of, is_at}
 use Rattle.tcl_frames.specs.declared.variable.Place.{Place}
 use Rattle.tcl_frames.specs.declared.variable.Variable.{Variable}
 use Rattle.tcl_frames.specs.declared.variable.Variable.TheVariants.{Scalar, Array, Link}
@@ -32,12 +32,12 @@ fresh = record { frames = record { words = []; variables = [] } ∷ []; aside = 
 
 -- ## A name
 
-abbrev pub by_name : {A : Type 0} → Levels → ℕ → Text → Option Name → (Place → Result A FrameFault) → Result A FrameFault
+abbrev pub by_name : {A : Type 0} → Levels → ℕ → Text → Option Name → (Spot → Result A FrameFault) → Result A FrameFault
 by_name fs n x None f = Err (BadName x)
-by_name fs n x (Some name) f = f (end_of fs (place_of n name))
+by_name fs n x (Some name) f = f (end_of fs (spot_of n name))
 
--- what is done at the place at which the links from a written name end
-abbrev pub at_name : {A : Type 0} → Levels → Text → (Place → Result A FrameFault) → Result A FrameFault
+-- what is done where the links from a written name end
+abbrev pub at_name : {A : Type 0} → Levels → Text → (Spot → Result A FrameFault) → Result A FrameFault
 at_name fs x f = by_name fs (current fs) x (name_of x) f
 
 -- ## Reading
@@ -46,29 +46,35 @@ abbrev pub read_element : Option Text → Text → Result Text FrameFault
 read_element None x = Err (NoElement Read x)
 read_element (Some t) x = Ok t
 
-abbrev pub value_of : Option Variable → Option Text → Text → Result Text FrameFault
-value_of None key x = Err (NoVariable Read x)
-value_of (Some (Scalar t)) None x = Ok t
-value_of (Some (Scalar t)) (Some k) x = Err (NotArray Read x)
-value_of (Some (Array es)) None x = Err (IsArray Read x)
-value_of (Some (Array es)) (Some k) x = read_element (lookup (bytes_eq k) es) x
-value_of (Some (Link q)) key x = Err (NotArray Read x)
+abbrev pub value_of : List Text → Option Variable → Text → Result Text FrameFault
+value_of [] None x = Err (NoVariable Read x)
+value_of [] (Some (Scalar t)) x = Ok t
+value_of [] (Some (Array es)) x = Err (IsArray Read x)
+value_of [] (Some (Link q)) x = Err (NotArray Read x)
+value_of (k ∷ []) None x = Err (NoVariable Read x)
+value_of (k ∷ []) (Some (Scalar t)) x = Err (NotArray Read x)
+value_of (k ∷ []) (Some (Array es)) x = read_element (lookup (bytes_eq k) es) x
+value_of (k ∷ []) (Some (Link q)) x = Err (NotArray Read x)
+value_of (k ∷ j ∷ ks) v x = Err (NotArray Read x)
 
 -- what the name holds
 unfoldable pub read : Levels → Text → Result Text FrameFault
-read fs x = at_name fs x (λ p. value_of (bound fs p.level p.name) p.key x)
+read fs x = at_name fs x (λ p. value_of p.keys (bound fs p.level p.name) x)
 
-abbrev pub is_held : Option Variable → Option Text → Bool
-is_held None key = false
-is_held (Some (Scalar t)) None = true
-is_held (Some (Scalar t)) (Some k) = false
-is_held (Some (Array es)) None = true
-is_held (Some (Array es)) (Some k) = is_some (lookup (bytes_eq k) es)
-is_held (Some (Link q)) key = false
+abbrev pub is_held : List Text → Option Variable → Bool
+is_held [] None = false
+is_held [] (Some (Scalar t)) = true
+is_held [] (Some (Array es)) = true
+is_held [] (Some (Link q)) = false
+is_held (k ∷ []) None = false
+is_held (k ∷ []) (Some (Scalar t)) = false
+is_held (k ∷ []) (Some (Array es)) = is_some (lookup (bytes_eq k) es)
+is_held (k ∷ []) (Some (Link q)) = false
+is_held (k ∷ j ∷ ks) v = false
 
--- whether the place holds a value
-abbrev pub holds : Levels → Place → Bool
-holds fs p = is_held (bound fs p.level p.name) p.key
+-- whether there is a value where a name stands
+abbrev pub holds : Levels → Spot → Bool
+holds fs p = is_held p.keys (bound fs p.level p.name)
 
 -- whether the name's place holds a value
 unfoldable pub exists_at : Levels → Text → Result Bool FrameFault
@@ -89,55 +95,60 @@ bind fs n x v = on_level fs n (λ es. insert_entry bytes_eq es x v)
 unfoldable pub unbind : Levels → ℕ → Text → Levels
 unbind fs n x = on_level fs n (remove_entry (bytes_eq x))
 
-abbrev pub assigned : Option Variable → Option Text → Text → Text → Result Variable FrameFault
-assigned None None t x = Ok (Scalar t)
-assigned None (Some k) t x = Ok (Array ((k, t) ∷ []))
-assigned (Some (Scalar s)) None t x = Ok (Scalar t)
-assigned (Some (Scalar s)) (Some k) t x = Err (NotArray Set x)
-assigned (Some (Array es)) None t x = Err (IsArray Set x)
-assigned (Some (Array es)) (Some k) t x = Ok (Array (insert_entry bytes_eq es k t))
-assigned (Some (Link q)) key t x = Err (NotArray Set x)
+abbrev pub assigned : List Text → Option Variable → Text → Text → Result Variable FrameFault
+assigned [] None t x = Ok (Scalar t)
+assigned [] (Some (Scalar s)) t x = Ok (Scalar t)
+assigned [] (Some (Array es)) t x = Err (IsArray Set x)
+assigned [] (Some (Link q)) t x = Err (NotArray Set x)
+assigned (k ∷ []) None t x = Ok (Array ((k, t) ∷ []))
+assigned (k ∷ []) (Some (Scalar s)) t x = Err (NotArray Set x)
+assigned (k ∷ []) (Some (Array es)) t x = Ok (Array (insert_entry bytes_eq es k t))
+assigned (k ∷ []) (Some (Link q)) t x = Err (NotArray Set x)
+assigned (k ∷ j ∷ ks) v t x = Err (NotArray Set x)
 
-abbrev pub bound_to : Levels → Place → Result Variable FrameFault → Result Levels FrameFault
+abbrev pub bound_to : Levels → Spot → Result Variable FrameFault → Result Levels FrameFault
 bound_to fs p (Ok v) = Ok (bind fs p.level p.name v)
 bound_to fs p (Err e) = Err e
 
 -- the frames after the name is set to a text
 unfoldable pub written : Levels → Text → Text → Result Levels FrameFault
-written fs x t = at_name fs x (λ p. bound_to fs p (assigned (bound fs p.level p.name) p.key t x))
+written fs x t = at_name fs x (λ p. bound_to fs p (assigned p.keys (bound fs p.level p.name) t x))
 
-abbrev pub arrayed : Option Variable → Option Text → Text → Result Variable FrameFault
-arrayed None None x = Ok (Array [])
-arrayed (Some (Array es)) None x = Ok (Array es)
-arrayed (Some (Scalar s)) None x = Err (NotArray Set x)
-arrayed (Some (Link q)) None x = Err (NotArray Set x)
-arrayed v (Some k) x = Err (NotArray Set x)
+abbrev pub arrayed : List Text → Option Variable → Text → Result Variable FrameFault
+arrayed [] None x = Ok (Array [])
+arrayed [] (Some (Scalar s)) x = Err (NotArray Set x)
+arrayed [] (Some (Array es)) x = Ok (Array es)
+arrayed [] (Some (Link q)) x = Err (NotArray Set x)
+arrayed (k ∷ ks) v x = Err (NotArray Set x)
 
 -- the frames after the name is made an array, where it isn't one yet
 unfoldable pub made_array : Levels → Text → Result Levels FrameFault
-made_array fs x = at_name fs x (λ p. bound_to fs p (arrayed (bound fs p.level p.name) p.key x))
+made_array fs x = at_name fs x (λ p. bound_to fs p (arrayed p.keys (bound fs p.level p.name) x))
 
 abbrev pub without_element : Option Text → List (Text × Text) → Text → Text → Result (Option Variable) FrameFault
 without_element None es k x = Err (NoElement Unset x)
 without_element (Some t) es k x = Ok (Some (Array (remove_entry (bytes_eq k) es)))
 
 -- what is left of a variable, where something is
-abbrev pub left_of : Option Variable → Option Text → Text → Result (Option Variable) FrameFault
-left_of None key x = Err (NoVariable Unset x)
-left_of (Some (Scalar t)) None x = Ok None
-left_of (Some (Scalar t)) (Some k) x = Err (NotArray Unset x)
-left_of (Some (Array es)) None x = Ok None
-left_of (Some (Array es)) (Some k) x = without_element (lookup (bytes_eq k) es) es k x
-left_of (Some (Link q)) key x = Err (NotArray Unset x)
+abbrev pub left_of : List Text → Option Variable → Text → Result (Option Variable) FrameFault
+left_of [] None x = Err (NoVariable Unset x)
+left_of [] (Some (Scalar t)) x = Ok None
+left_of [] (Some (Array es)) x = Ok None
+left_of [] (Some (Link q)) x = Err (NotArray Unset x)
+left_of (k ∷ []) None x = Err (NoVariable Unset x)
+left_of (k ∷ []) (Some (Scalar t)) x = Err (NotArray Unset x)
+left_of (k ∷ []) (Some (Array es)) x = without_element (lookup (bytes_eq k) es) es k x
+left_of (k ∷ []) (Some (Link q)) x = Err (NotArray Unset x)
+left_of (k ∷ j ∷ ks) v x = Err (NotArray Unset x)
 
-abbrev pub left_at : Levels → Place → Result (Option Variable) FrameFault → Result Levels FrameFault
+abbrev pub left_at : Levels → Spot → Result (Option Variable) FrameFault → Result Levels FrameFault
 left_at fs p (Ok None) = Ok (unbind fs p.level p.name)
 left_at fs p (Ok (Some v)) = Ok (bind fs p.level p.name v)
 left_at fs p (Err e) = Err e
 
 -- the frames after the name's place is unset
 unfoldable pub removed : Levels → Text → Result Levels FrameFault
-removed fs x = at_name fs x (λ p. left_at fs p (left_of (bound fs p.level p.name) p.key x))
+removed fs x = at_name fs x (λ p. left_at fs p (left_of p.keys (bound fs p.level p.name) x))
 
 -- ## Linking
 
@@ -147,22 +158,21 @@ link_over fs (Some (Scalar t)) local p = Err (Exists local)
 link_over fs (Some (Array es)) local p = Err (Exists local)
 link_over fs (Some (Link q)) local p = Ok (bind fs (current fs) local (Link p))
 
--- a link that still stands at the end leads to an element, of which an element is asked for
-abbrev pub link_to_end : Levels → Option Variable → Text → Text → Place → Result Levels FrameFault
-link_to_end fs (Some (Link q)) other local p = Err (NotArray Read other)
-link_to_end fs None other local p = link_over fs (bound fs (current fs) local) local p
-link_to_end fs (Some (Scalar t)) other local p = link_over fs (bound fs (current fs) local) local p
-link_to_end fs (Some (Array es)) other local p = link_over fs (bound fs (current fs) local) local p
+-- what a link can lead to: an element has no elements
+abbrev pub link_to_end : Levels → Text → Text → ℕ → Text → List Text → Result Levels FrameFault
+link_to_end fs other local n x [] = link_over fs (bound fs (current fs) local) local (record { level = n; name = x; key = None })
+link_to_end fs other local n x (k ∷ []) = link_over fs (bound fs (current fs) local) local (record { level = n; name = x; key = Some k })
+link_to_end fs other local n x (k ∷ j ∷ ks) = Err (NotArray Read other)
 
-abbrev pub link_from : Levels → Bool → Text → Text → Place → Result Levels FrameFault
+abbrev pub link_from : Levels → Bool → Text → Text → Spot → Result Levels FrameFault
 link_from fs true other local p = Err Itself
-link_from fs false other local p = link_to_end fs (bound fs p.level p.name) other local p
+link_from fs false other local p = link_to_end fs other local p.level p.name p.keys
 
 abbrev pub link_by_name : Levels → ℕ → Option Name → Bool → Text → Text → Result Levels FrameFault
 link_by_name fs n None plain other local = Err (BadName other)
 link_by_name fs n (Some name) false other local = Err (BadName local)
 link_by_name fs n (Some name) true other local =
-    link_from fs (passes (links fs) (next fs) (is_at (current fs) local) (place_of n name)) other local (end_of fs (place_of n name))
+    link_from fs (passes (links fs) (next fs) (is_at (current fs) local) (spot_of n name)) other local (end_of fs (spot_of n name))
 
 -- the frames after the local name of the current level is made a link to what the other name is at a level
 unfoldable pub linked : Levels → ℕ → Text → Text → Result Levels FrameFault
@@ -177,7 +187,7 @@ kept_if false x xs = xs
 -- the names whose places hold a value, of those of a level
 unfoldable pub names_held : Levels → ℕ → Variables → List Text
 names_held fs n [] = []
-names_held fs n (e ∷ es) = kept_if (holds fs (end_of fs (record { level = n; name = e.0; key = None }))) e.0 (names_held fs n es)
+names_held fs n (e ∷ es) = kept_if (holds fs (end_of fs (record { level = n; name = e.0; keys = [] }))) e.0 (names_held fs n es)
 
 abbrev pub is_own : Variable → Bool
 is_own (Scalar t) = true
@@ -203,16 +213,16 @@ names_of Local fs = if current fs == 0 then [] else names_own (variables_at fs (
 
 -- ## Arrays
 
-abbrev pub elements_of : Option Variable → Option Text → Option (List (Text × Text))
-elements_of (Some (Array es)) None = Some es
-elements_of (Some (Array es)) (Some k) = None
-elements_of (Some (Scalar t)) key = None
-elements_of (Some (Link q)) key = None
-elements_of None key = None
+abbrev pub elements_of : List Text → Option Variable → Option (List (Text × Text))
+elements_of [] None = None
+elements_of [] (Some (Scalar t)) = None
+elements_of [] (Some (Array es)) = Some es
+elements_of [] (Some (Link q)) = None
+elements_of (k ∷ ks) v = None
 
 -- the elements of the array that the name is, in the order of insertion
 unfoldable pub array_at : Levels → Text → Result (Option (List (Text × Text))) FrameFault
-array_at fs x = at_name fs x (λ p. Ok (elements_of (bound fs p.level p.name) p.key))
+array_at fs x = at_name fs x (λ p. Ok (elements_of p.keys (bound fs p.level p.name)))
 
 -- ## Levels
 

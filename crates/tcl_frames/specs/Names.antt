@@ -37,17 +37,27 @@ opened_in (Some rest) = opened rest
 unfoldable pub element_of : Text → Option (Text × Text)
 element_of x = opened_in (closed x)
 
+-- whether two colons stand side by side, where one may stand just before the text
+unfoldable pub colons_after : Bool → Text → Bool
+colons_after before [] = false
+colons_after before (b ∷ rest) = (before && (b == 58)) || colons_after (b == 58) rest
+
 -- whether two colons stand side by side
-unfoldable pub has_colons : Text → Bool
-has_colons [] = false
-has_colons (b ∷ []) = false
-has_colons (b ∷ c ∷ rest) = ((b == 58) && (c == 58)) || has_colons (c ∷ rest)
+abbrev pub has_colons : Text → Bool
+has_colons x = colons_after false x
+
+-- what follows a leading colon
+unfoldable pub after_colon : Text → Option Text
+after_colon [] = None
+after_colon (b ∷ rest) = if b == 58 then Some rest else None
+
+abbrev pub after_colon_in : Option Text → Option Text
+after_colon_in None = None
+after_colon_in (Some rest) = after_colon rest
 
 -- what follows two leading colons
 unfoldable pub after_colons : Text → Option Text
-after_colons [] = None
-after_colons (b ∷ []) = None
-after_colons (b ∷ c ∷ rest) = if (b == 58) && (c == 58) then Some rest else None
+after_colons x = after_colon_in (after_colon x)
 
 abbrev pub without_colons : Bool → Text → Option Text → Option Name
 without_colons g base key = if has_colons base then None else Some (record { is_global = g; base = base; key = key })

@@ -1,5 +1,5 @@
 -- The frames of a chain, and where the links in them lead.
-use Rattle.std.specs.Prelude.{ℕ, zero, suc, pred, ◌+◌, Bool, true, false, ◌&&◌, ◌||◌, ◌==◌, List, [], ◌∷◌, length, slice_get, Option, Some, None}
+use Rattle.std.specs.Prelude.{ℕ, zero, suc, pred, ◌+◌, Bool, true, false, ◌&&◌, ◌||◌, ◌==◌, List, [], ◌∷◌, ◌++◌, length, slice_get, Option, Some, None}
 use Rattle.std.specs.Str.{bytes_eq}
 use Rattle.std.specs.Map.{lookup}
 use Rattle.tcl_frames.specs.Names.{Text, Name}
@@ -32,32 +32,38 @@ bound_in (Some f) x = lookup (bytes_eq x) f.variables
 unfoldable pub bound : Levels → ℕ → Text → Option Variable
 bound fs n x = bound_in (slice_get fs n) x
 
+-- Where a name stands: a level, a name there, and the keys under which it is seen. With no key it is the variable itself, with
+-- one an element of it; with more it is nothing, since an element has no elements.
+pub record Spot : Type 0 where
+  pub level : ℕ
+  pub name : Text
+  pub keys : List Text
+
 abbrev pub level_of : Bool → ℕ → ℕ
 level_of true n = 0
 level_of false n = n
 
--- the place that a name means where it is written at a level
-abbrev pub place_of : ℕ → Name → Place
-place_of n x = record { level = level_of x.is_global n; name = x.base; key = x.key }
+abbrev pub keys_of : Option Text → List Text
+keys_of None = []
+keys_of (Some k) = k ∷ []
 
-abbrev pub keyed : Place → Option Text → Text → Option Place
-keyed q None k = Some (record { level = q.level; name = q.name; key = Some k })
-keyed q (Some j) k = None
+-- what a name means where it is written at a level
+abbrev pub spot_of : ℕ → Name → Spot
+spot_of n x = record { level = level_of x.is_global n; name = x.base; keys = keys_of x.key }
 
--- what a link to the place leads to, seen with a key: an element of an element is no place
-abbrev pub joined : Place → Option Text → Option Place
-joined q None = Some q
-joined q (Some k) = keyed q q.key k
+-- a place, seen under keys
+abbrev pub under : Place → List Text → Spot
+under q ks = record { level = q.level; name = q.name; keys = keys_of q.key ++ ks }
 
-abbrev pub through : Option Variable → Option Text → Option Place
-through None key = None
-through (Some (Scalar t)) key = None
-through (Some (Array es)) key = None
-through (Some (Link q)) key = joined q key
+abbrev pub through : Option Variable → List Text → Option Spot
+through None ks = None
+through (Some (Scalar t)) ks = None
+through (Some (Array es)) ks = None
+through (Some (Link q)) ks = Some (under q ks)
 
--- the place that the link at a place leads to
-unfoldable pub next : Levels → Place → Option Place
-next fs p = through (bound fs p.level p.name) p.key
+-- what the link at a spot leads to
+unfoldable pub next : Levels → Spot → Option Spot
+next fs p = through (bound fs p.level p.name) p.keys
 
 abbrev pub onward : {A : Type 0} → Option A → A → (A → A) → A
 onward None p f = p
@@ -92,10 +98,10 @@ unfoldable pub links : Levels → ℕ
 links [] = 0
 links (f ∷ fs) = links_in f.variables + links fs
 
--- where the links from a place end: there are no more steps than links
-unfoldable pub end_of : Levels → Place → Place
+-- where the links from a spot end: there are no more steps than links
+unfoldable pub end_of : Levels → Spot → Spot
 end_of fs p = walk (links fs) (next fs) p
 
--- whether a place is a name at a level, or an element of it
-abbrev pub is_at : ℕ → Text → Place → Bool
+-- whether a spot is of a name at a level
+abbrev pub is_at : ℕ → Text → Spot → Bool
 is_at n x p = (p.level == n) && bytes_eq x p.name

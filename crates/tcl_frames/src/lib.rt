@@ -4,5 +4,6 @@
 pub mod fault;
 pub mod frame;
 pub mod frames;
+mod name;
 pub mod name_map;
 pub mod variable;
