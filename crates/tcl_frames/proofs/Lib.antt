@@ -1,2 +1,5 @@
 pub mod EntryLemmas
 pub mod NameLemmas
+pub mod WalkLemmas
+pub mod ListLemmas
+pub mod SoundLemmas

@@ -4,7 +4,8 @@ use Rattle.std.specs.Str.{bytes_eq}
 use Rattle.std.specs.Map.{lookup, remove_entry}
 use Rattle.indexmap.specs.IndexMap.{insert_entry}
 use Rattle.tcl_frames.specs.Names.{Text, Name, name_of, is_plain}
-use Rattle.tcl_frames.specs.Places.{Frame, Spot, Levels, Variables, current, bound, spot_of, next, passes, links, end_of, is_at}
+use Rattle.tcl_frames.specs.Places.{Frame, Spot, Part, Levels, Variables, current, bound, spot_of, next, passes, links, end_of, is_at}
+use Rattle.tcl_frames.specs.Places.Part.{whole, element, nested}
 use Rattle.tcl_frames.specs.declared.variable.Place.{Place}
 use Rattle.tcl_frames.specs.declared.variable.Variable.{Variable}
 use Rattle.tcl_frames.specs.declared.variable.Variable.TheVariants.{Scalar, Array, Link}
@@ -46,35 +47,35 @@ abbrev pub read_element : Option Text → Text → Result Text FrameFault
 read_element None x = Err (NoElement Read x)
 read_element (Some t) x = Ok t
 
-abbrev pub value_of : List Text → Option Variable → Text → Result Text FrameFault
-value_of [] None x = Err (NoVariable Read x)
-value_of [] (Some (Scalar t)) x = Ok t
-value_of [] (Some (Array es)) x = Err (IsArray Read x)
-value_of [] (Some (Link q)) x = Err (NotArray Read x)
-value_of (k ∷ []) None x = Err (NoVariable Read x)
-value_of (k ∷ []) (Some (Scalar t)) x = Err (NotArray Read x)
-value_of (k ∷ []) (Some (Array es)) x = read_element (lookup (bytes_eq k) es) x
-value_of (k ∷ []) (Some (Link q)) x = Err (NotArray Read x)
-value_of (k ∷ j ∷ ks) v x = Err (NotArray Read x)
+abbrev pub value_of : Part → Option Variable → Text → Result Text FrameFault
+value_of whole None x = Err (NoVariable Read x)
+value_of whole (Some (Scalar t)) x = Ok t
+value_of whole (Some (Array es)) x = Err (IsArray Read x)
+value_of whole (Some (Link q)) x = Err (NotArray Read x)
+value_of (element k) None x = Err (NoVariable Read x)
+value_of (element k) (Some (Scalar t)) x = Err (NotArray Read x)
+value_of (element k) (Some (Array es)) x = read_element (lookup (bytes_eq k) es) x
+value_of (element k) (Some (Link q)) x = Err (NotArray Read x)
+value_of nested v x = Err (NotArray Read x)
 
 -- what the name holds
 unfoldable pub read : Levels → Text → Result Text FrameFault
-read fs x = at_name fs x (λ p. value_of p.keys (bound fs p.level p.name) x)
+read fs x = at_name fs x (λ p. value_of p.part (bound fs p.level p.name) x)
 
-abbrev pub is_held : List Text → Option Variable → Bool
-is_held [] None = false
-is_held [] (Some (Scalar t)) = true
-is_held [] (Some (Array es)) = true
-is_held [] (Some (Link q)) = false
-is_held (k ∷ []) None = false
-is_held (k ∷ []) (Some (Scalar t)) = false
-is_held (k ∷ []) (Some (Array es)) = is_some (lookup (bytes_eq k) es)
-is_held (k ∷ []) (Some (Link q)) = false
-is_held (k ∷ j ∷ ks) v = false
+abbrev pub is_held : Part → Option Variable → Bool
+is_held whole None = false
+is_held whole (Some (Scalar t)) = true
+is_held whole (Some (Array es)) = true
+is_held whole (Some (Link q)) = false
+is_held (element k) None = false
+is_held (element k) (Some (Scalar t)) = false
+is_held (element k) (Some (Array es)) = is_some (lookup (bytes_eq k) es)
+is_held (element k) (Some (Link q)) = false
+is_held nested v = false
 
 -- whether there is a value where a name stands
 abbrev pub holds : Levels → Spot → Bool
-holds fs p = is_held p.keys (bound fs p.level p.name)
+holds fs p = is_held p.part (bound fs p.level p.name)
 
 -- whether the name's place holds a value
 unfoldable pub exists_at : Levels → Text → Result Bool FrameFault
@@ -95,16 +96,16 @@ bind fs n x v = on_level fs n (λ es. insert_entry bytes_eq es x v)
 unfoldable pub unbind : Levels → ℕ → Text → Levels
 unbind fs n x = on_level fs n (remove_entry (bytes_eq x))
 
-abbrev pub assigned : List Text → Option Variable → Text → Text → Result Variable FrameFault
-assigned [] None t x = Ok (Scalar t)
-assigned [] (Some (Scalar s)) t x = Ok (Scalar t)
-assigned [] (Some (Array es)) t x = Err (IsArray Set x)
-assigned [] (Some (Link q)) t x = Err (NotArray Set x)
-assigned (k ∷ []) None t x = Ok (Array ((k, t) ∷ []))
-assigned (k ∷ []) (Some (Scalar s)) t x = Err (NotArray Set x)
-assigned (k ∷ []) (Some (Array es)) t x = Ok (Array (insert_entry bytes_eq es k t))
-assigned (k ∷ []) (Some (Link q)) t x = Err (NotArray Set x)
-assigned (k ∷ j ∷ ks) v t x = Err (NotArray Set x)
+abbrev pub assigned : Part → Option Variable → Text → Text → Result Variable FrameFault
+assigned whole None t x = Ok (Scalar t)
+assigned whole (Some (Scalar s)) t x = Ok (Scalar t)
+assigned whole (Some (Array es)) t x = Err (IsArray Set x)
+assigned whole (Some (Link q)) t x = Err (NotArray Set x)
+assigned (element k) None t x = Ok (Array ((k, t) ∷ []))
+assigned (element k) (Some (Scalar s)) t x = Err (NotArray Set x)
+assigned (element k) (Some (Array es)) t x = Ok (Array (insert_entry bytes_eq es k t))
+assigned (element k) (Some (Link q)) t x = Err (NotArray Set x)
+assigned nested v t x = Err (NotArray Set x)
 
 abbrev pub bound_to : Levels → Spot → Result Variable FrameFault → Result Levels FrameFault
 bound_to fs p (Ok v) = Ok (bind fs p.level p.name v)
@@ -112,34 +113,35 @@ bound_to fs p (Err e) = Err e
 
 -- the frames after the name is set to a text
 unfoldable pub written : Levels → Text → Text → Result Levels FrameFault
-written fs x t = at_name fs x (λ p. bound_to fs p (assigned p.keys (bound fs p.level p.name) t x))
+written fs x t = at_name fs x (λ p. bound_to fs p (assigned p.part (bound fs p.level p.name) t x))
 
-abbrev pub arrayed : List Text → Option Variable → Text → Result Variable FrameFault
-arrayed [] None x = Ok (Array [])
-arrayed [] (Some (Scalar s)) x = Err (NotArray Set x)
-arrayed [] (Some (Array es)) x = Ok (Array es)
-arrayed [] (Some (Link q)) x = Err (NotArray Set x)
-arrayed (k ∷ ks) v x = Err (NotArray Set x)
+abbrev pub arrayed : Part → Option Variable → Text → Result Variable FrameFault
+arrayed whole None x = Ok (Array [])
+arrayed whole (Some (Scalar s)) x = Err (NotArray Set x)
+arrayed whole (Some (Array es)) x = Ok (Array es)
+arrayed whole (Some (Link q)) x = Err (NotArray Set x)
+arrayed (element k) v x = Err (NotArray Set x)
+arrayed nested v x = Err (NotArray Set x)
 
 -- the frames after the name is made an array, where it isn't one yet
 unfoldable pub made_array : Levels → Text → Result Levels FrameFault
-made_array fs x = at_name fs x (λ p. bound_to fs p (arrayed p.keys (bound fs p.level p.name) x))
+made_array fs x = at_name fs x (λ p. bound_to fs p (arrayed p.part (bound fs p.level p.name) x))
 
 abbrev pub without_element : Option Text → List (Text × Text) → Text → Text → Result (Option Variable) FrameFault
 without_element None es k x = Err (NoElement Unset x)
 without_element (Some t) es k x = Ok (Some (Array (remove_entry (bytes_eq k) es)))
 
 -- what is left of a variable, where something is
-abbrev pub left_of : List Text → Option Variable → Text → Result (Option Variable) FrameFault
-left_of [] None x = Err (NoVariable Unset x)
-left_of [] (Some (Scalar t)) x = Ok None
-left_of [] (Some (Array es)) x = Ok None
-left_of [] (Some (Link q)) x = Err (NotArray Unset x)
-left_of (k ∷ []) None x = Err (NoVariable Unset x)
-left_of (k ∷ []) (Some (Scalar t)) x = Err (NotArray Unset x)
-left_of (k ∷ []) (Some (Array es)) x = without_element (lookup (bytes_eq k) es) es k x
-left_of (k ∷ []) (Some (Link q)) x = Err (NotArray Unset x)
-left_of (k ∷ j ∷ ks) v x = Err (NotArray Unset x)
+abbrev pub left_of : Part → Option Variable → Text → Result (Option Variable) FrameFault
+left_of whole None x = Err (NoVariable Unset x)
+left_of whole (Some (Scalar t)) x = Ok None
+left_of whole (Some (Array es)) x = Ok None
+left_of whole (Some (Link q)) x = Err (NotArray Unset x)
+left_of (element k) None x = Err (NoVariable Unset x)
+left_of (element k) (Some (Scalar t)) x = Err (NotArray Unset x)
+left_of (element k) (Some (Array es)) x = without_element (lookup (bytes_eq k) es) es k x
+left_of (element k) (Some (Link q)) x = Err (NotArray Unset x)
+left_of nested v x = Err (NotArray Unset x)
 
 abbrev pub left_at : Levels → Spot → Result (Option Variable) FrameFault → Result Levels FrameFault
 left_at fs p (Ok None) = Ok (unbind fs p.level p.name)
@@ -148,7 +150,7 @@ left_at fs p (Err e) = Err e
 
 -- the frames after the name's place is unset
 unfoldable pub removed : Levels → Text → Result Levels FrameFault
-removed fs x = at_name fs x (λ p. left_at fs p (left_of p.keys (bound fs p.level p.name) x))
+removed fs x = at_name fs x (λ p. left_at fs p (left_of p.part (bound fs p.level p.name) x))
 
 -- ## Linking
 
@@ -159,14 +161,14 @@ link_over fs (Some (Array es)) local p = Err (Exists local)
 link_over fs (Some (Link q)) local p = Ok (bind fs (current fs) local (Link p))
 
 -- what a link can lead to: an element has no elements
-abbrev pub link_to_end : Levels → Text → Text → ℕ → Text → List Text → Result Levels FrameFault
-link_to_end fs other local n x [] = link_over fs (bound fs (current fs) local) local (record { level = n; name = x; key = None })
-link_to_end fs other local n x (k ∷ []) = link_over fs (bound fs (current fs) local) local (record { level = n; name = x; key = Some k })
-link_to_end fs other local n x (k ∷ j ∷ ks) = Err (NotArray Read other)
+abbrev pub link_to_end : Levels → Text → Text → ℕ → Text → Part → Result Levels FrameFault
+link_to_end fs other local n x whole = link_over fs (bound fs (current fs) local) local (record { level = n; name = x; key = None })
+link_to_end fs other local n x (element k) = link_over fs (bound fs (current fs) local) local (record { level = n; name = x; key = Some k })
+link_to_end fs other local n x nested = Err (NotArray Read other)
 
 abbrev pub link_from : Levels → Bool → Text → Text → Spot → Result Levels FrameFault
 link_from fs true other local p = Err Itself
-link_from fs false other local p = link_to_end fs other local p.level p.name p.keys
+link_from fs false other local p = link_to_end fs other local p.level p.name p.part
 
 abbrev pub link_by_name : Levels → ℕ → Option Name → Bool → Text → Text → Result Levels FrameFault
 link_by_name fs n None plain other local = Err (BadName other)
@@ -187,7 +189,7 @@ kept_if false x xs = xs
 -- the names whose places hold a value, of those of a level
 unfoldable pub names_held : Levels → ℕ → Variables → List Text
 names_held fs n [] = []
-names_held fs n (e ∷ es) = kept_if (holds fs (end_of fs (record { level = n; name = e.0; keys = [] }))) e.0 (names_held fs n es)
+names_held fs n (e ∷ es) = kept_if (holds fs (end_of fs (record { level = n; name = e.0; part = whole }))) e.0 (names_held fs n es)
 
 abbrev pub is_own : Variable → Bool
 is_own (Scalar t) = true
@@ -213,16 +215,17 @@ names_of Local fs = if current fs == 0 then [] else names_own (variables_at fs (
 
 -- ## Arrays
 
-abbrev pub elements_of : List Text → Option Variable → Option (List (Text × Text))
-elements_of [] None = None
-elements_of [] (Some (Scalar t)) = None
-elements_of [] (Some (Array es)) = Some es
-elements_of [] (Some (Link q)) = None
-elements_of (k ∷ ks) v = None
+abbrev pub elements_of : Part → Option Variable → Option (List (Text × Text))
+elements_of whole None = None
+elements_of whole (Some (Scalar t)) = None
+elements_of whole (Some (Array es)) = Some es
+elements_of whole (Some (Link q)) = None
+elements_of (element k) v = None
+elements_of nested v = None
 
 -- the elements of the array that the name is, in the order of insertion
 unfoldable pub array_at : Levels → Text → Result (Option (List (Text × Text))) FrameFault
-array_at fs x = at_name fs x (λ p. Ok (elements_of p.keys (bound fs p.level p.name)))
+array_at fs x = at_name fs x (λ p. Ok (elements_of p.part (bound fs p.level p.name)))
 
 -- ## Levels
 

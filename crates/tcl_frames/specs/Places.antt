@@ -1,5 +1,5 @@
 -- The frames of a chain, and where the links in them lead.
-use Rattle.std.specs.Prelude.{ℕ, zero, suc, pred, ◌+◌, Bool, true, false, ◌&&◌, ◌||◌, ◌==◌, List, [], ◌∷◌, ◌++◌, length, slice_get, Option, Some, None}
+use Rattle.std.specs.Prelude.{ℕ, zero, suc, pred, ◌+◌, Bool, true, false, ◌&&◌, ◌||◌, ◌==◌, List, [], ◌∷◌, length, slice_get, Option, Some, None}
 use Rattle.std.specs.Str.{bytes_eq}
 use Rattle.std.specs.Map.{lookup}
 use Rattle.tcl_frames.specs.Names.{Text, Name}
@@ -32,38 +32,51 @@ bound_in (Some f) x = lookup (bytes_eq x) f.variables
 unfoldable pub bound : Levels → ℕ → Text → Option Variable
 bound fs n x = bound_in (slice_get fs n) x
 
--- Where a name stands: a level, a name there, and the keys under which it is seen. With no key it is the variable itself, with
--- one an element of it; with more it is nothing, since an element has no elements.
+-- Which part of a variable is meant: all of it, an element, or an element of an element, of which there is none.
+pub data Part : Type 0 where
+  whole : Part
+  element : Text → Part
+  nested : Part
+
+-- a part of a part
+abbrev pub merge : Part → Part → Part
+merge whole p = p
+merge (element k) whole = element k
+merge (element k) (element j) = nested
+merge (element k) nested = nested
+merge nested p = nested
+
+abbrev pub part_of : Option Text → Part
+part_of None = whole
+part_of (Some k) = element k
+
+-- Where a name stands: a level, a name there, and the part that is meant.
 pub record Spot : Type 0 where
   pub level : ℕ
   pub name : Text
-  pub keys : List Text
+  pub part : Part
 
 abbrev pub level_of : Bool → ℕ → ℕ
 level_of true n = 0
 level_of false n = n
 
-abbrev pub keys_of : Option Text → List Text
-keys_of None = []
-keys_of (Some k) = k ∷ []
-
 -- what a name means where it is written at a level
 abbrev pub spot_of : ℕ → Name → Spot
-spot_of n x = record { level = level_of x.is_global n; name = x.base; keys = keys_of x.key }
+spot_of n x = record { level = level_of x.is_global n; name = x.base; part = part_of x.key }
 
--- a place, seen under keys
-abbrev pub under : Place → List Text → Spot
-under q ks = record { level = q.level; name = q.name; keys = keys_of q.key ++ ks }
+-- a part of what is at a place
+abbrev pub under : Place → Part → Spot
+under q p = record { level = q.level; name = q.name; part = merge (part_of q.key) p }
 
-abbrev pub through : Option Variable → List Text → Option Spot
-through None ks = None
-through (Some (Scalar t)) ks = None
-through (Some (Array es)) ks = None
-through (Some (Link q)) ks = Some (under q ks)
+abbrev pub through : Option Variable → Part → Option Spot
+through None part = None
+through (Some (Scalar t)) part = None
+through (Some (Array es)) part = None
+through (Some (Link q)) part = Some (under q part)
 
 -- what the link at a spot leads to
 unfoldable pub next : Levels → Spot → Option Spot
-next fs p = through (bound fs p.level p.name) p.keys
+next fs p = through (bound fs p.level p.name) p.part
 
 abbrev pub onward : {A : Type 0} → Option A → A → (A → A) → A
 onward None p f = p

@@ -1,10 +1,11 @@
 -- What holds of every chain.
-use Rattle.std.specs.Prelude.{ℕ, suc, ◌+◌, ◌≡◌, ◌≤◌, ◌<◌, ◌==◌, Bool, true, false, ◌&&◌, List, [], ◌∷◌, length, Option, Some, None, if◌then◌else◌}
+use Rattle.std.specs.Prelude.{ℕ, suc, ◌+◌, ◌≡◌, ◌≤◌, ◌<◌, ◌==◌, Bool, true, false, ◌&&◌, List, [], ◌∷◌, length, Option, Some, None}
 use Rattle.std.specs.Str.{bytes_eq}
-use Rattle.std.specs.Map.{lookup}
+use Rattle.std.specs.Map.{lookup, keys_of}
+use Rattle.std.specs.List.{IsDistinct}
 use Rattle.tcl_frames.specs.Names.{Text}
 use Rattle.tcl_frames.specs.Places.{Frame, Levels, Variables, walk, links_in}
-use Rattle.tcl_frames.specs.Chain.{Aside, Chain, least}
+use Rattle.tcl_frames.specs.Chain.{Aside, Chain}
 use Rattle.tcl_frames.specs.declared.variable.Place.{Place}
 use Rattle.tcl_frames.specs.declared.variable.Variable.{Variable}
 use Rattle.tcl_frames.specs.declared.variable.Variable.TheVariants.{Scalar, Array, Link}
@@ -19,23 +20,30 @@ unfoldable pub AreWithin : ℕ → Variables → Type 0
 AreWithin n [] = Unit {0}
 AreWithin n (e ∷ es) = IsWithin n e.1 × AreWithin n es
 
-abbrev pub same_level : ℕ → Option Variable → Option Text
-same_level n None = None
-same_level n (Some (Scalar t)) = None
-same_level n (Some (Array es)) = None
-same_level n (Some (Link q)) = if q.level == n then Some q.name else None
+-- the walk along the links of one level: at a name of the level, or off the level
+abbrev pub hop_to : Bool → Text → Option Text
+hop_to true x = Some x
+hop_to false x = None
 
--- the name of the same level to which a name of a level links
-abbrev pub name_after : ℕ → Variables → Text → Option Text
-name_after n es x = same_level n (lookup (bytes_eq x) es)
+abbrev pub hop_by : ℕ → Option Variable → Option (Option Text)
+hop_by n None = None
+hop_by n (Some (Scalar t)) = None
+hop_by n (Some (Array es)) = None
+hop_by n (Some (Link q)) = Some (hop_to (q.level == n) q.name)
 
--- the links of a level, as long as they stay there, end, and pass each link once at most
-abbrev pub End : ℕ → Variables → Type 0
-End n es = (x : Text) → name_after n es (walk (links_in es) (name_after n es) x) ≡ None
+abbrev pub hop : ℕ → Variables → Option Text → Option (Option Text)
+hop n es None = None
+hop n es (Some x) = hop_by n (lookup (bytes_eq x) es)
 
+-- a walk of at most so many steps comes to its end
+abbrev pub Ends : {A : Type 0} → ℕ → (A → Option A) → A → Type 0
+Ends k f a = f (walk k f a) ≡ None
+
+-- What fits a level: names are unique, links lead no higher, and as long as they stay there they end, with no link passed twice.
 pub record IsFit (n : ℕ) (f : Frame) : Type 0 where
+  pub unique : IsDistinct bytes_eq (keys_of f.variables)
   pub within : AreWithin n f.variables
-  pub end : End n f.variables
+  pub end : (x : Text) → Ends (links_in f.variables) (hop n f.variables) (Some x)
 
 -- the frames fit the levels from n on
 unfoldable pub AreFit : ℕ → Levels → Type 0

@@ -7,12 +7,12 @@ use std::marker::Model;
 
 /// Frames that were set aside: those that stood above a level, the highest first.
 #[derive(Drop)]
-struct Part {
+struct SetAside {
     above: usize,
     frames: Vec<Frame>,
 }
 
-impl Model for Part {
+impl Model for SetAside {
     ghost use Rattle.std.specs.Prelude.{reverse};
     ghost use Rattle.tcl_frames.specs.Chain.{Aside};
 
@@ -25,7 +25,7 @@ impl Model for Part {
 #[derive(Drop)]
 pub struct Frames {
     frames: Vec<Frame>,
-    aside: Vec<Part>,
+    aside: Vec<SetAside>,
 }
 
 impl Model for Frames {
