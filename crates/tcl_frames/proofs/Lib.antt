@@ -3,3 +3,5 @@ pub mod NameLemmas
 pub mod WalkLemmas
 pub mod ListLemmas
 pub mod SoundLemmas
+pub mod FrameLemmas
+pub mod ReachLemmas

@@ -1,5 +1,5 @@
 -- The chain of frames of an interpreter, and what each call on its variables does.
-use Rattle.std.specs.Prelude.{◌≡◌, ℕ, zero, suc, pred, ◌==◌, nat_le, nat_lt, Bool, true, false, List, [], ◌∷◌, ◌++◌, length, take, drop, Option, Some, None, is_some, if◌then◌else◌, Result, Ok, Err}
+use Rattle.std.specs.Prelude.{ℕ, zero, suc, pred, ◌==◌, nat_le, nat_lt, Bool, true, false, List, [], ◌∷◌, ◌++◌, length, take, drop, Option, Some, None, is_some, if◌then◌else◌, Result, Ok, Err}
 use Rattle.std.specs.Str.{bytes_eq}
 use Rattle.std.specs.Map.{lookup, remove_entry}
 use Rattle.indexmap.specs.IndexMap.{insert_entry}
@@ -14,8 +14,6 @@ use Rattle.tcl_frames.specs.declared.variable.Scope.TheVariants.{Visible, Global
 use Rattle.tcl_frames.specs.declared.fault.Verb.TheVariants.{Read, Set, Unset}
 use Rattle.tcl_frames.specs.declared.fault.FrameFault.{FrameFault}
 use Rattle.tcl_frames.specs.declared.fault.FrameFault.TheVariants.{NoVariable, IsArray, NotArray, NoElement, BadLevel, Exists, Itself, BadName}
-use Rattle.tcl_frames.specs.declared.fault.FrameError.{FrameError}
-use Rattle.tcl_frames.specs.declared.fault.FrameError.TheVariants.{Memory, Fault}
 
 -- Frames that were set aside: those that stood above a level.
 pub record Aside : Type 0 where
@@ -254,10 +252,3 @@ put_back fs (a ∷ rest) = record { frames = take (suc a.above) fs ++ a.frames; 
 -- the chain with the part that was set aside last back above its level, and nothing else there
 unfoldable pub brought_back : Chain → Chain
 brought_back c = put_back c.frames c.aside
-
--- ## Refusals
-
--- a call that ends with the error is refused by the definition, or wants memory
-abbrev pub Refuses : {A : Type 0} → FrameError → Result A FrameFault → Type 0
-Refuses Memory r = Unit {0}
-Refuses (Fault f) r = r ≡ Err f

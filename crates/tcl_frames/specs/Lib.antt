@@ -1,7 +1,11 @@
 pub mod Entries
+pub mod Faults
 pub mod Lending
+pub mod Parts
 pub mod Names
 pub mod Places
 pub mod Chain
+pub mod Reached
+pub mod Rebinding
 pub mod Sound
 pub mod Written

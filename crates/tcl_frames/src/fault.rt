@@ -1,6 +1,7 @@
 //! Why a call on the variables is refused.
 ghost use Rattle.std.specs.Prelude.{◌≡◌};
 ghost use Rattle.tcl_frames.specs.declared.fault.FrameError.TheVariants.{Memory};
+ghost use Rattle.tcl_frames.specs.Faults.{fault_of, IsRefusal};
 
 use std::alloc::{AllocError, AllocFailed};
 use tcl_text::text::Text;
@@ -14,7 +15,7 @@ pub enum Verb {
 }
 
 /// Why a call on the variables is refused. Each text is the name as it was written.
-#[derive(Drop)]
+#[derive(Debug, Drop)]
 pub enum FrameFault {
     /// There is no such variable (231).
     NoVariable(Verb, Text),
@@ -35,7 +36,7 @@ pub enum FrameFault {
 }
 
 /// Why a call on the variables did nothing.
-#[derive(Drop)]
+#[derive(Debug, Drop)]
 pub enum FrameError {
     /// Want of memory.
     Memory,
@@ -56,5 +57,40 @@ impl<T: Drop> From<AllocFailed<T>> for FrameError {
 
     fn from(_error: AllocFailed<T>) -> FrameError {
         FrameError::Memory
+    }
+}
+
+/// Which refusal a name meets.
+#[derive(Clone, Copy)]
+pub(crate) enum Refusal {
+    NoVariable(Verb),
+    IsArray(Verb),
+    NotArray(Verb),
+    NoElement(Verb),
+    Exists,
+    BadName,
+}
+
+/// The refusal with the name in it.
+fn fault(refusal: Refusal, name: Text) -> FrameFault
+    ensures { result ≡ fault_of refusal name }
+{
+    match refusal {
+        Refusal::NoVariable(verb) => FrameFault::NoVariable(verb, name),
+        Refusal::IsArray(verb) => FrameFault::IsArray(verb, name),
+        Refusal::NotArray(verb) => FrameFault::NotArray(verb, name),
+        Refusal::NoElement(verb) => FrameFault::NoElement(verb, name),
+        Refusal::Exists => FrameFault::Exists(name),
+        Refusal::BadName => FrameFault::BadName(name),
+    }
+}
+
+/// The refusal of a name.
+pub(crate) fn refused(refusal: Refusal, name: &Text) -> FrameError
+    ensures { IsRefusal result (fault_of refusal name.now) }
+{
+    match name.clone() {
+        Ok(name) => FrameError::Fault(fault(refusal, name)),
+        Err(_) => FrameError::Memory,
     }
 }

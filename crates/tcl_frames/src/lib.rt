@@ -1,9 +1,11 @@
 //! The variables of an interpreter: a chain of frames, whose names hold values, arrays or links.
 #![tactic(auto)]
 
+mod access;
 pub mod fault;
 pub mod frame;
 pub mod frames;
 mod name;
 pub mod name_map;
+mod steps;
 pub mod variable;

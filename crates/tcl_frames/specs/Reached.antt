@@ -1,0 +1,18 @@
+-- Where the code came to.
+use Rattle.std.specs.Prelude.{ℕ, List, Option, Some, None}
+use Rattle.tcl_frames.specs.declared.variable.Place.{Place}
+use Rattle.tcl_frames.specs.declared.variable.Variable.{Variable}
+use Rattle.tcl_frames.specs.declared.variable.Variable.TheVariants.{Scalar, Array, Link}
+use Rattle.tcl_frames.specs.Places.{Spot}
+use Rattle.tcl_frames.specs.Parts.{seen_part}
+use Rattle.tcl_frames.specs.declared.steps.Reached.{Reached}
+
+abbrev pub reached : Reached → Spot
+reached r = record { level = r.level; name = r.name.now; part = seen_part r.part }
+
+-- the place that a variable links to
+abbrev pub link_of : Option Variable → Option Place
+link_of None = None
+link_of (Some (Scalar t)) = None
+link_of (Some (Array es)) = None
+link_of (Some (Link q)) = Some q
