@@ -5,3 +5,4 @@ pub mod ListLemmas
 pub mod SoundLemmas
 pub mod FrameLemmas
 pub mod ReachLemmas
+pub mod StepLemmas

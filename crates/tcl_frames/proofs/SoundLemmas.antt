@@ -162,11 +162,11 @@ fit_at n (g ∷ fs) (suc i) f h at = let level : suc n + i ≡ n + suc i = omega
 
 -- ## The links end
 
-bound_at : (fs : Levels) (n : ℕ) (x : Text) (f : Frame) → slice_get fs n ≡ Some f → bound fs n x ≡ lookup (bytes_eq x) f.variables
+pub bound_at : (fs : Levels) (n : ℕ) (x : Text) (f : Frame) → slice_get fs n ≡ Some f → bound fs n x ≡ lookup (bytes_eq x) f.variables
 unfolding bound
 bound_at fs n x f at = ap (λ o. bound_in o x) at
 
-bound_past : (fs : Levels) (n : ℕ) (x : Text) → slice_get fs n ≡ None → bound fs n x ≡ None
+pub bound_past : (fs : Levels) (n : ℕ) (x : Text) → slice_get fs n ≡ None → bound fs n x ≡ None
 unfolding bound
 bound_past fs n x at = ap (λ o. bound_in o x) at
 
@@ -253,7 +253,7 @@ level_ends fs n b f at within below (suc k) x part h =
           subst (λ m. Ends m (next fs) (record { level = n; name = x; part = part })) (suc_plus k b) (ends_step (k + b) (next fs) _ (under s.0 part) on there)
     ]
 
-get_cases : (fs : Levels) (n : ℕ) → (slice_get fs n ≡ None) ⊎ ((f : Frame) × (slice_get fs n ≡ Some f))
+pub get_cases : (fs : Levels) (n : ℕ) → (slice_get fs n ≡ None) ⊎ ((f : Frame) × (slice_get fs n ≡ Some f))
 get_cases fs n = by (slice_get fs n) refl
   where
     by : (o : Option Frame) → slice_get fs n ≡ o → (slice_get fs n ≡ None) ⊎ ((f : Frame) × (slice_get fs n ≡ Some f))

@@ -3,7 +3,9 @@ use Rattle.std.specs.Prelude.{ℕ, List, Option, Some, None}
 use Rattle.tcl_frames.specs.declared.variable.Place.{Place}
 use Rattle.tcl_frames.specs.declared.variable.Variable.{Variable}
 use Rattle.tcl_frames.specs.declared.variable.Variable.TheVariants.{Scalar, Array, Link}
-use Rattle.tcl_frames.specs.Places.{Spot}
+use Rattle.tcl_frames.specs.Names.{Text}
+use Rattle.tcl_frames.specs.Places.{Spot, Part, Levels, merge, bound}
+use Rattle.tcl_frames.specs.Places.Part.{whole}
 use Rattle.tcl_frames.specs.Parts.{seen_part}
 use Rattle.tcl_frames.specs.declared.steps.Reached.{Reached}
 
@@ -16,3 +18,15 @@ link_of None = None
 link_of (Some (Scalar t)) = None
 link_of (Some (Array es)) = None
 link_of (Some (Link q)) = Some q
+
+-- a name at a level
+abbrev pub start : ℕ → Text → Spot
+start n x = record { level = n; name = x; part = whole }
+
+-- a part of what is at a spot
+abbrev pub over : Spot → Part → Spot
+over p r = record { level = p.level; name = p.name; part = merge p.part r }
+
+-- what is bound where a name stands
+abbrev pub bound_where : Levels → Spot → Option Variable
+bound_where fs p = bound fs p.level p.name
