@@ -1,16 +1,21 @@
 -- What the calls on names come to.
 use Rattle.std.proofs.Common.{◌≡◌, ℕ, zero, suc, pred, ◌+◌, ◌<◌, ◌≤◌, ◌⊎◌, inl, inr, Bool, true, false, cond, List, [], ◌∷◌, length, slice_get, slice_set, Option, Some, None, Result, Ok, Err, refl, sym, ◌∙◌, ap, subst, arith}
-use Rattle.std.specs.Option.{option_copied}
+use Rattle.std.specs.Borrow.{Bor}
+use Rattle.std.specs.Option.{option_map, option_copied}
 use Rattle.std.specs.Map.{lookup, remove_entry}
 use Rattle.std.specs.Str.{bytes_eq}
 use Rattle.indexmap.specs.IndexMap.{insert_entry}
 use Rattle.tcl_frames.specs.Names.{Text, Name, name_of}
 use Rattle.tcl_frames.specs.Places.{Frame, Levels, Variables, Spot, Part, merge, part_of, current, level_of, spot_of, bound, through, under, next, walk, links, end_of}
 use Rattle.tcl_frames.specs.Places.Part.{whole, element, nested}
-use Rattle.tcl_frames.specs.Chain.{by_name, at_name, on_level, bind, unbind, bound_to, left_at, assigned, arrayed, left_of, without_element, written, made_array, removed}
+use Rattle.tcl_frames.specs.Chain.{value_of, is_held, holds, elements_of, read, exists_at, array_at, end_named, place_named, by_place, at_name, on_level, bind, unbind, bound_to, left_at, assigned, arrayed, left_of, without_element, written, made_array, removed}
 use Rattle.tcl_frames.specs.Faults.{Refuses, IsWant, IsRefusal}
-use Rattle.tcl_frames.specs.Reached.{start, over, bound_where, link_of}
-use Rattle.tcl_frames.specs.Rebinding.{rebound, unbound, with_variable, without_variable}
+use Rattle.tcl_frames.specs.Reached.{start, over, bound_where, link_of, Stands}
+use Rattle.tcl_frames.specs.Written.{seen}
+use Rattle.tcl_frames.specs.declared.name.Written.{Written}
+use Rattle.tcl_frames.specs.declared.frame.Change.{Change}
+use Rattle.tcl_frames.specs.declared.frame.Change.TheVariants.{Assign, MakeArray, Unset}
+use Rattle.tcl_frames.specs.Rebinding.{rebound, unbound, with_variable, without_variable, change_frame, change_levels, change_named}
 use Rattle.tcl_frames.specs.Sound.{IsFit, AreFit, AreWithin, IsWithin}
 use Rattle.tcl_frames.specs.declared.variable.Place.{Place}
 use Rattle.tcl_frames.specs.declared.variable.Variable.{Variable}
@@ -22,7 +27,7 @@ use Rattle.tcl_frames.specs.declared.fault.FrameError.TheVariants.{Memory, Fault
 use Rattle.tcl_frames.proofs.WalkLemmas.{step_of, walk_some, walk_none, walk_zero}
 use Rattle.tcl_frames.proofs.SoundLemmas.{IsNoLink, fit_at, fit_cons, fit_head, fit_tail, fit_valued, fit_removed, end_no_link, end_here, end_onward, get_cases, bound_at, bound_past}
 use Rattle.tcl_frames.proofs.ListLemmas.{within_found}
-use Rattle.tcl_frames.proofs.ReachLemmas.{bound_there, follow_here}
+use Rattle.tcl_frames.proofs.ReachLemmas.{bound_there, follow_here, follow_end}
 
 -- ## Parts
 
@@ -81,11 +86,14 @@ end_over fs p r = walk_over fs (links fs) p r
 pub named_end : (fs : Levels) (n : ℕ) (x : Name) → end_of fs (spot_of n x) ≡ over (end_of fs (start (level_of x.is_global n) x.base)) (part_of x.key)
 named_end fs n x = end_over fs (start (level_of x.is_global n) x.base) (part_of x.key)
 
-pub by_good : {A : Type 0} (fs : Levels) (n : ℕ) (x : Text) (w : Name) (f : Spot → Result A FrameFault) → name_of x ≡ Some w → by_name fs n x (name_of x) f ≡ f (over (end_of fs (start (level_of w.is_global n) w.base)) (part_of w.key))
-by_good fs n x w f e = ap (λ o. by_name fs n x o f) e ∙ ap f (named_end fs n w)
+pub place_good : (fs : Levels) (x : Text) (w : Name) (n : ℕ) → name_of x ≡ Some w → n ≡ level_of w.is_global (current fs) → place_named fs x ≡ Some (over (end_of fs (start n w.base)) (part_of w.key))
+unfolding place_named
+place_good fs x w n e is =
+    ap (end_named fs (current fs)) e ∙ ap (λ (p : Spot). Some p) (named_end fs (current fs) w) ∙ ap (λ m. Some (over (end_of fs (start m w.base)) (part_of w.key))) (sym is)
 
-pub by_bad : {A : Type 0} (fs : Levels) (n : ℕ) (x : Text) (f : Spot → Result A FrameFault) → name_of x ≡ None → by_name fs n x (name_of x) f ≡ Err (BadName x)
-by_bad fs n x f e = ap (λ o. by_name fs n x o f) e
+pub place_bad : (fs : Levels) (x : Text) → name_of x ≡ None → place_named fs x ≡ None
+unfolding place_named
+place_bad fs x e = ap (end_named fs (current fs)) e
 
 -- ## Levels of ends
 
@@ -266,24 +274,166 @@ fit_left fs gs fit p old (Ok None) new e = same_levels (unbind fs p.level p.name
 fit_left fs gs fit p old (Ok (Some v)) new e = same_levels (bind fs p.level p.name v) gs (fit_bind fs fit p.level p.name v old (new v refl)) e
 fit_left fs gs fit p old (Err f) new e = absurd (cc)
 
-by_name_fit : (fs gs : Levels) (n : ℕ) (x : Text) (w : Option Name) (f : Spot → Result Levels FrameFault) → ((p : Spot) → f (end_of fs p) ≡ Ok gs → AreFit 0 gs) → by_name fs n x w f ≡ Ok gs → AreFit 0 gs
-by_name_fit fs gs n x None f h e = absurd (cc)
-by_name_fit fs gs n x (Some w) f h e = h (spot_of n w) e
+at_end : (fs gs : Levels) (n : ℕ) (x : Text) (w : Option Name) (f : Spot → Result Levels FrameFault) → ((p : Spot) → f (end_of fs p) ≡ Ok gs → AreFit 0 gs) → by_place (end_named fs n w) x f ≡ Ok gs → AreFit 0 gs
+at_end fs gs n x None f h e = absurd (cc)
+at_end fs gs n x (Some w) f h e = h (spot_of n w) e
+
+at_name_fit : (fs gs : Levels) (x : Text) (f : Spot → Result Levels FrameFault) → ((p : Spot) → f (end_of fs p) ≡ Ok gs → AreFit 0 gs) → at_name fs x f ≡ Ok gs → AreFit 0 gs
+unfolding place_named
+at_name_fit fs gs x f h e = at_end fs gs (current fs) x (name_of x) f h e
 
 pub written_fit : (fs gs : Levels) (x t : Text) → AreFit 0 fs → written fs x t ≡ Ok gs → AreFit 0 gs
 unfolding written
 written_fit fs gs x t fit e =
-    by_name_fit fs gs (current fs) x (name_of x) _
+    at_name_fit fs gs x _
         (λ p h. fit_bound fs gs fit (end_of fs p) (end_no_link fs fit p) _ (λ v. assigned_plain (end_of fs p).part (bound fs (end_of fs p).level (end_of fs p).name) t x v) h) e
 
 pub made_array_fit : (fs gs : Levels) (x : Text) → AreFit 0 fs → made_array fs x ≡ Ok gs → AreFit 0 gs
 unfolding made_array
 made_array_fit fs gs x fit e =
-    by_name_fit fs gs (current fs) x (name_of x) _
+    at_name_fit fs gs x _
         (λ p h. fit_bound fs gs fit (end_of fs p) (end_no_link fs fit p) _ (λ v. arrayed_plain (end_of fs p).part (bound fs (end_of fs p).level (end_of fs p).name) x v) h) e
 
 pub removed_fit : (fs gs : Levels) (x : Text) → AreFit 0 fs → removed fs x ≡ Ok gs → AreFit 0 gs
 unfolding removed
 removed_fit fs gs x fit e =
-    by_name_fit fs gs (current fs) x (name_of x) _
+    at_name_fit fs gs x _
         (λ p h. fit_left fs gs fit (end_of fs p) (end_no_link fs fit p) _ (λ v. left_plain (end_of fs p).part (bound fs (end_of fs p).level (end_of fs p).name) x v) h) e
+
+-- ## What the code finds
+
+start_end_none : (fs : Levels) (n : ℕ) (x : Text) → link_of (bound fs n x) ≡ None → end_of fs (start n x) ≡ start n x
+start_end_none fs n x e = follow_here fs (start n x) e
+
+under_whole : (q : Place) → under q whole ≡ under q whole
+under_whole q = refl
+
+pub find_none : (fs : Levels) (n : ℕ) (x : Text) (o : Option Variable) → o ≡ bound fs n x → link_of o ≡ None → (o ≡ bound_where fs (end_of fs (start n x))) × (whole ≡ (end_of fs (start n x)).part)
+find_none fs n x o e none =
+    let here = start_end_none fs n x (ap link_of (sym e) ∙ none) in
+    (e ∙ ap (λ (p : Spot). bound_where fs p) (sym here), ap (λ (p : Spot). p.part) (sym here))
+
+pub find_some : (fs : Levels) → AreFit 0 fs → (n : ℕ) (x : Text) (q : Place) (p : Spot) (o : Option Variable) → link_of (bound fs n x) ≡ Some q → p ≡ end_of fs (under q whole) → o ≡ bound_where fs p → (o ≡ bound_where fs (end_of fs (start n x))) × (p.part ≡ (end_of fs (start n x)).part)
+find_some fs fit n x q p o link e is =
+    let on = e ∙ sym (follow_end fs fit (start n x) q link) in
+    (is ∙ ap (λ (r : Spot). bound_where fs r) on, ap (λ (r : Spot). r.part) on)
+
+
+pub target_none : (fs : Levels) (n : ℕ) (x : Text) (r : Part) → link_of (bound fs n x) ≡ None → end_of fs (over (start n x) r) ≡ over (start n x) r
+target_none fs n x r e = end_over fs (start n x) r ∙ ap (λ (p : Spot). over p r) (start_end_none fs n x e)
+
+pub target_some : (fs : Levels) → AreFit 0 fs → (n : ℕ) (x : Text) (r : Part) (q : Place) (p : Spot) (y : Text) (part : Part) → link_of (bound fs n x) ≡ Some q → p ≡ end_of fs (under q whole) → y ≡ p.name → part ≡ merge p.part r
+    → end_of fs (over (start n x) r) ≡ record { level = p.level; name = y; part = part }
+target_some fs fit n x r q p y part link e name is =
+    end_over fs (start n x) r
+    ∙ ap (λ (s : Spot). over s r) (follow_end fs fit (start n x) q link ∙ sym e)
+    ∙ ap (λ (m : Part). record { level = p.level; name = p.name; part = m }) (sym is)
+    ∙ ap (λ (z : Text). record { level = p.level; name = z; part = part }) (sym name)
+
+-- how a name was read
+pub read_none : (r : Option Written) (y x : Text) → option_map seen r ≡ name_of y → y ≡ x → r ≡ None → name_of x ≡ None
+read_none r y x e same is = ap name_of (sym same) ∙ sym e ∙ ap (option_map seen) is
+
+pub read_some : (r : Option Written) (y x : Text) (w : Written) → option_map seen r ≡ name_of y → y ≡ x → r ≡ Some w → name_of x ≡ Some (seen w)
+read_some r y x w e same is = ap name_of (sym same) ∙ sym e ∙ ap (option_map seen) is
+
+-- what stands where a name's links end
+pub stands : (fs : Levels) (x : Text) (w : Name) (n : ℕ) (o : Option Variable) (a : Part) → name_of x ≡ Some w → n ≡ level_of w.is_global (current fs) → o ≡ bound_where fs (end_of fs (start n w.base)) → a ≡ (end_of fs (start n w.base)).part
+    → Stands fs x o (merge a (part_of w.key))
+stands fs x w n o a e is var part = (over (end_of fs (start n w.base)) (part_of w.key), place_good fs x w n e is, var, ap (λ m. merge m (part_of w.key)) part)
+
+pub read_bad_name : (fs : Levels) (x : Text) (e : FrameError) → place_named fs x ≡ None → IsRefusal e (BadName x) → Refuses e (read fs x)
+unfolding read
+read_bad_name fs x e none h = subst (λ o. Refuses e (by_place o x (λ p. value_of p.part (bound fs p.level p.name) x))) (sym none) h
+
+pub exists_bad_name : (fs : Levels) (x : Text) (e : FrameError) → place_named fs x ≡ None → IsRefusal e (BadName x) → Refuses e (exists_at fs x)
+unfolding exists_at
+exists_bad_name fs x e none h = subst (λ o. Refuses e (by_place o x (λ p. Ok (holds fs p)))) (sym none) h
+
+pub array_bad_name : (fs : Levels) (x : Text) (e : FrameError) → place_named fs x ≡ None → IsRefusal e (BadName x) → Refuses e (array_at fs x)
+unfolding array_at
+array_bad_name fs x e none h = subst (λ o. Refuses e (by_place o x (λ p. Ok (elements_of p.part (bound fs p.level p.name))))) (sym none) h
+
+pub read_stands : (fs : Levels) (x : Text) (o : Option Variable) (r : Part) → Stands fs x o r → read fs x ≡ value_of r o x
+unfolding read
+read_stands fs x o r s = ap (λ q. by_place q x (λ p. value_of p.part (bound fs p.level p.name) x)) s.1 ∙ ap (λ v. value_of s.0.part v x) (sym s.2) ∙ ap (λ m. value_of m o x) (sym s.3)
+
+pub exists_stands : (fs : Levels) (x : Text) (o : Option Variable) (r : Part) → Stands fs x o r → exists_at fs x ≡ Ok (is_held r o)
+unfolding exists_at
+exists_stands fs x o r s = ap (λ q. by_place q x (λ p. Ok (holds fs p))) s.1 ∙ ap (λ v. Ok (is_held s.0.part v)) (sym s.2) ∙ ap (λ m. Ok (is_held m o)) (sym s.3)
+
+pub array_stands : (fs : Levels) (x : Text) (o : Option Variable) (r : Part) → Stands fs x o r → array_at fs x ≡ Ok (elements_of r o)
+unfolding array_at
+array_stands fs x o r s = ap (λ q. by_place q x (λ p. Ok (elements_of p.part (bound fs p.level p.name)))) s.1 ∙ ap (λ v. Ok (elements_of s.0.part v)) (sym s.2) ∙ ap (λ m. Ok (elements_of m o)) (sym s.3)
+
+pub no_key : (a : Part) (k : Option (Bor Text)) → k ≡ None → merge a (part_of (option_copied k)) ≡ a
+no_key a k e = ap (λ j. merge a (part_of (option_copied j))) e ∙ merge_whole a
+
+pub some_key : (a : Part) (k : Option (Bor Text)) (j : Bor Text) → k ≡ Some j → merge a (part_of (option_copied k)) ≡ merge a (element j.now)
+some_key a k j e = ap (λ i. merge a (part_of (option_copied i))) e
+
+-- a change of a frame is one of the frames
+pub change_level : (c : Change) (fs : Levels) (p : Spot) (f k : Frame) (x : Text) → slice_get fs p.level ≡ Some f → change_frame c f p.name p.part x ≡ Ok k → change_levels c fs p x ≡ Ok (slice_set fs p.level k)
+change_level (Assign t) fs p f k x at e = assign_level fs p f k _ at (ap (λ o. rebound f p.name (assigned p.part o t x)) (bound_at fs p.level p.name f at) ∙ e)
+change_level MakeArray fs p f k x at e = assign_level fs p f k _ at (ap (λ o. rebound f p.name (arrayed p.part o x)) (bound_at fs p.level p.name f at) ∙ e)
+change_level Unset fs p f k x at e = remove_level fs p f k _ at (ap (λ o. unbound f p.name (left_of p.part o x)) (bound_at fs p.level p.name f at) ∙ e)
+
+refuses_rebound : (e : FrameError) (f : Frame) (b : Text) (o : Result Variable FrameFault) → Refuses e (rebound f b o) → Refuses e o
+refuses_rebound e f b (Ok v) h = h
+refuses_rebound e f b (Err g) h = h
+
+refuses_unbound : (e : FrameError) (f : Frame) (b : Text) (o : Result (Option Variable) FrameFault) → Refuses e (unbound f b o) → Refuses e o
+refuses_unbound e f b (Ok None) h = h
+refuses_unbound e f b (Ok (Some v)) h = h
+refuses_unbound e f b (Err g) h = h
+
+pub refuses_level : (e : FrameError) (c : Change) (fs : Levels) (p : Spot) (f : Frame) (x : Text) → slice_get fs p.level ≡ Some f → Refuses e (change_frame c f p.name p.part x) → Refuses e (change_levels c fs p x)
+refuses_level e (Assign t) fs p f x at h = refuses_bound e fs p _ (refuses_rebound e f p.name _ (subst (λ o. Refuses e (rebound f p.name (assigned p.part o t x))) (sym (bound_at fs p.level p.name f at)) h))
+refuses_level e MakeArray fs p f x at h = refuses_bound e fs p _ (refuses_rebound e f p.name _ (subst (λ o. Refuses e (rebound f p.name (arrayed p.part o x))) (sym (bound_at fs p.level p.name f at)) h))
+refuses_level e Unset fs p f x at h = refuses_left e fs p _ (refuses_unbound e f p.name _ (subst (λ o. Refuses e (unbound f p.name (left_of p.part o x))) (sym (bound_at fs p.level p.name f at)) h))
+
+pub change_bad_name : (e : FrameError) (c : Change) (fs : Levels) (x : Text) → place_named fs x ≡ None → IsRefusal e (BadName x) → Refuses e (change_named c fs x)
+change_bad_name e c fs x none h = subst (λ o. Refuses e (by_place o x (λ p. change_levels c fs p x))) (sym none) h
+
+pub change_at_place : (c : Change) (fs : Levels) (x : Text) (p : Spot) → place_named fs x ≡ Some p → change_named c fs x ≡ change_levels c fs p x
+change_at_place c fs x p e = ap (λ o. by_place o x (λ p. change_levels c fs p x)) e
+
+pub read_whole : (fs : Levels) (x : Text) (o : Option Variable) (a : Part) (k : Option (Bor Text)) → Stands fs x o (merge a (part_of (option_copied k))) → k ≡ None → read fs x ≡ value_of a o x
+read_whole fs x o a k s e = read_stands fs x o _ s ∙ ap (λ m. value_of m o x) (no_key a k e)
+
+pub read_key : (fs : Levels) (x : Text) (o : Option Variable) (a b : Part) (k : Option (Bor Text)) (j : Bor Text) → Stands fs x o (merge a (part_of (option_copied k))) → k ≡ Some j → b ≡ merge a (element j.now) → read fs x ≡ value_of b o x
+read_key fs x o a b k j s e is = read_stands fs x o _ s ∙ ap (λ m. value_of m o x) (some_key a k j e ∙ sym is)
+
+pub exists_whole : (fs : Levels) (x : Text) (o : Option Variable) (a : Part) (k : Option (Bor Text)) → Stands fs x o (merge a (part_of (option_copied k))) → k ≡ None → exists_at fs x ≡ Ok (is_held a o)
+exists_whole fs x o a k s e = exists_stands fs x o _ s ∙ ap (λ m. Ok (is_held m o)) (no_key a k e)
+
+pub exists_key : (fs : Levels) (x : Text) (o : Option Variable) (a b : Part) (k : Option (Bor Text)) (j : Bor Text) → Stands fs x o (merge a (part_of (option_copied k))) → k ≡ Some j → b ≡ merge a (element j.now) → exists_at fs x ≡ Ok (is_held b o)
+exists_key fs x o a b k j s e is = exists_stands fs x o _ s ∙ ap (λ m. Ok (is_held m o)) (some_key a k j e ∙ sym is)
+
+pub array_whole : (fs : Levels) (x : Text) (o : Option Variable) (a : Part) (k : Option (Bor Text)) → Stands fs x o (merge a (part_of (option_copied k))) → k ≡ None → array_at fs x ≡ Ok (elements_of a o)
+array_whole fs x o a k s e = array_stands fs x o _ s ∙ ap (λ m. Ok (elements_of m o)) (no_key a k e)
+
+pub array_key : (fs : Levels) (x : Text) (o : Option Variable) (a b : Part) (k : Option (Bor Text)) (j : Bor Text) → Stands fs x o (merge a (part_of (option_copied k))) → k ≡ Some j → b ≡ merge a (element j.now) → array_at fs x ≡ Ok (elements_of b o)
+array_key fs x o a b k j s e is = array_stands fs x o _ s ∙ ap (λ m. Ok (elements_of m o)) (some_key a k j e ∙ sym is)
+
+pub target_within : (fs : Levels) → AreFit 0 fs → (n : ℕ) (x : Text) (r : Part) (p : Spot) → n < length fs → end_of fs (over (start n x) r) ≡ p → p.level < length fs
+target_within fs fit n x r p l e =
+    let low = end_low fs fit (over (start n x) r) in
+    let same = ap (λ (s : Spot). s.level) e in
+    omega (arith, low, same)
+
+pub change_is : (c : Change) (fs : Levels) (x : Text) (w : Name) (n : ℕ) → name_of x ≡ Some w → n ≡ level_of w.is_global (current fs) → change_named c fs x ≡ change_levels c fs (end_of fs (over (start n w.base) (part_of w.key))) x
+change_is c fs x w n e is = change_at_place c fs x _ (place_good fs x w n e is) ∙ ap (λ (p : Spot). change_levels c fs p x) (sym (end_over fs (start n w.base) (part_of w.key)))
+
+-- the three changes
+pub written_is : (fs : Levels) (x t : Text) → written fs x t ≡ change_named (Assign t) fs x
+unfolding written
+written_is fs x t = refl
+
+pub made_array_is : (fs : Levels) (x : Text) → made_array fs x ≡ change_named MakeArray fs x
+unfolding made_array
+made_array_is fs x = refl
+
+pub removed_is : (fs : Levels) (x : Text) → removed fs x ≡ change_named Unset fs x
+unfolding removed
+removed_is fs x = refl

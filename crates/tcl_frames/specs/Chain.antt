@@ -31,13 +31,21 @@ fresh = record { frames = record { words = []; variables = [] } ∷ []; aside = 
 
 -- ## A name
 
-abbrev pub by_name : {A : Type 0} → Levels → ℕ → Text → Option Name → (Spot → Result A FrameFault) → Result A FrameFault
-by_name fs n x None f = Err (BadName x)
-by_name fs n x (Some name) f = f (end_of fs (spot_of n name))
+abbrev pub end_named : Levels → ℕ → Option Name → Option Spot
+end_named fs n None = None
+end_named fs n (Some x) = Some (end_of fs (spot_of n x))
 
--- what is done where the links from a written name end
+-- where the links from a written name end
+unfoldable pub place_named : Levels → Text → Option Spot
+place_named fs x = end_named fs (current fs) (name_of x)
+
+abbrev pub by_place : {A : Type 0} → Option Spot → Text → (Spot → Result A FrameFault) → Result A FrameFault
+by_place None x f = Err (BadName x)
+by_place (Some p) x f = f p
+
+-- what is done there
 abbrev pub at_name : {A : Type 0} → Levels → Text → (Spot → Result A FrameFault) → Result A FrameFault
-at_name fs x f = by_name fs (current fs) x (name_of x) f
+at_name fs x f = by_place (place_named fs x) x f
 
 -- ## Reading
 

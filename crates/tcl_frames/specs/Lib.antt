@@ -8,4 +8,5 @@ pub mod Chain
 pub mod Reached
 pub mod Rebinding
 pub mod Sound
+pub mod Targets
 pub mod Written

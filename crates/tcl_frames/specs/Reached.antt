@@ -1,11 +1,12 @@
 -- Where the code came to.
-use Rattle.std.specs.Prelude.{ℕ, List, Option, Some, None}
+use Rattle.std.specs.Prelude.{◌≡◌, ℕ, List, Option, Some, None}
 use Rattle.tcl_frames.specs.declared.variable.Place.{Place}
 use Rattle.tcl_frames.specs.declared.variable.Variable.{Variable}
 use Rattle.tcl_frames.specs.declared.variable.Variable.TheVariants.{Scalar, Array, Link}
 use Rattle.tcl_frames.specs.Names.{Text}
 use Rattle.tcl_frames.specs.Places.{Spot, Part, Levels, merge, bound}
 use Rattle.tcl_frames.specs.Places.Part.{whole}
+use Rattle.tcl_frames.specs.Chain.{place_named}
 use Rattle.tcl_frames.specs.Parts.{seen_part}
 use Rattle.tcl_frames.specs.declared.steps.Reached.{Reached}
 
@@ -30,3 +31,7 @@ over p r = record { level = p.level; name = p.name; part = merge p.part r }
 -- what is bound where a name stands
 abbrev pub bound_where : Levels → Spot → Option Variable
 bound_where fs p = bound fs p.level p.name
+
+-- this variable stands where the links from a written name end, and this part of it is meant
+abbrev pub Stands : Levels → Text → Option Variable → Part → Type 0
+Stands fs x o r = (p : Spot) × (place_named fs x ≡ Some p) × (o ≡ bound_where fs p) × (r ≡ p.part)

@@ -28,13 +28,21 @@ impl Model for Frame {
     ghost view = { λ a. record { words = a.words.items; variables = a.variables } };
 }
 
+/// A change of what a name stands for.
+#[derive(Drop)]
+pub(crate) enum Change {
+    Assign(Value),
+    MakeArray,
+    Unset,
+}
+
 impl Frame {
     ghost use Rattle.std.specs.Prelude.{[]};
     ghost use Rattle.tcl_frames.specs.Places.Part.{whole, element};
     ghost use Rattle.tcl_frames.specs.Chain.{assigned, arrayed, left_of};
     ghost use Rattle.tcl_frames.specs.Faults.{Refuses};
     ghost use Rattle.tcl_frames.specs.Parts.{seen_part};
-    ghost use Rattle.tcl_frames.specs.Rebinding.{rebound, unbound, with_variable};
+    ghost use Rattle.tcl_frames.specs.Rebinding.{rebound, unbound, with_variable, change_frame};
     ghost use Rattle.tcl_frames.specs.declared.variable.Variable.TheVariants.{Link};
 
     /// A frame with these words and no variables, which takes no memory.
@@ -70,7 +78,7 @@ impl Frame {
     }
 
     /// Sets a part of what a name stands for.
-    pub(crate) fn assign(
+    fn assign(
         &mut self,
         alloc: Global,
         base: &str,
@@ -79,7 +87,7 @@ impl Frame {
         name: &Text,
     ) -> Result<(), FrameError>
         ensures ok { OnOk result (rebound self.old base.now (assigned (seen_part part.entry) (lookup (bytes_eq base.now) self.old.variables) value name.now) ≡ Ok self.new) }
-        ensures err { IfErr result (λ e. Refuses e (assigned (seen_part part.entry) (lookup (bytes_eq base.now) self.old.variables) value name.now)) }
+        ensures err { IfErr result (λ e. Refuses e (rebound self.old base.now (assigned (seen_part part.entry) (lookup (bytes_eq base.now) self.old.variables) value name.now))) }
         ensures unchanged { OnErr result (self.new ≡ self.old) }
     {
         if let Some(variable) = self.variables.get_mut(base) {
@@ -93,7 +101,7 @@ impl Frame {
     /// Unsets all of what a name stands for.
     fn unset_whole(&mut self, base: &str, name: &Text) -> Result<(), FrameError>
         ensures ok { OnOk result (unbound self.old base.now (left_of whole (lookup (bytes_eq base.now) self.old.variables) name.now) ≡ Ok self.new) }
-        ensures err { IfErr result (λ e. Refuses e (left_of whole (lookup (bytes_eq base.now) self.old.variables) name.now)) }
+        ensures err { IfErr result (λ e. Refuses e (unbound self.old base.now (left_of whole (lookup (bytes_eq base.now) self.old.variables) name.now))) }
         ensures unchanged { OnErr result (self.new ≡ self.old) }
     {
         match self.variables.get(base) {
@@ -109,7 +117,7 @@ impl Frame {
     /// Unsets an element of what a name stands for.
     fn unset_element(&mut self, base: &str, key: &str, name: &Text) -> Result<(), FrameError>
         ensures ok { OnOk result (unbound self.old base.now (left_of (element key.now) (lookup (bytes_eq base.now) self.old.variables) name.now) ≡ Ok self.new) }
-        ensures err { IfErr result (λ e. Refuses e (left_of (element key.now) (lookup (bytes_eq base.now) self.old.variables) name.now)) }
+        ensures err { IfErr result (λ e. Refuses e (unbound self.old base.now (left_of (element key.now) (lookup (bytes_eq base.now) self.old.variables) name.now))) }
         ensures unchanged { OnErr result (self.new ≡ self.old) }
     {
         if let Some(variable) = self.variables.get_mut(base) {
@@ -119,9 +127,9 @@ impl Frame {
     }
 
     /// Unsets a part of what a name stands for.
-    pub(crate) fn unset(&mut self, base: &str, part: Part<'_>, name: &Text) -> Result<(), FrameError>
+    fn unset(&mut self, base: &str, part: Part<'_>, name: &Text) -> Result<(), FrameError>
         ensures ok { OnOk result (unbound self.old base.now (left_of (seen_part part.entry) (lookup (bytes_eq base.now) self.old.variables) name.now) ≡ Ok self.new) }
-        ensures err { IfErr result (λ e. Refuses e (left_of (seen_part part.entry) (lookup (bytes_eq base.now) self.old.variables) name.now)) }
+        ensures err { IfErr result (λ e. Refuses e (unbound self.old base.now (left_of (seen_part part.entry) (lookup (bytes_eq base.now) self.old.variables) name.now))) }
         ensures unchanged { OnErr result (self.new ≡ self.old) }
     {
         match part {
@@ -134,7 +142,7 @@ impl Frame {
     /// Makes a name an array, where it isn't one.
     fn make_whole_array(&mut self, alloc: Global, base: &str, name: &Text) -> Result<(), FrameError>
         ensures ok { OnOk result (rebound self.old base.now (arrayed whole (lookup (bytes_eq base.now) self.old.variables) name.now) ≡ Ok self.new) }
-        ensures err { IfErr result (λ e. Refuses e (arrayed whole (lookup (bytes_eq base.now) self.old.variables) name.now)) }
+        ensures err { IfErr result (λ e. Refuses e (rebound self.old base.now (arrayed whole (lookup (bytes_eq base.now) self.old.variables) name.now))) }
         ensures unchanged { OnErr result (self.new ≡ self.old) }
     {
         match self.variables.get(base) {
@@ -149,7 +157,7 @@ impl Frame {
     }
 
     /// Makes what a name stands for an array, where it isn't one.
-    pub(crate) fn make_array(
+    fn make_array(
         &mut self,
         alloc: Global,
         base: &str,
@@ -157,13 +165,33 @@ impl Frame {
         name: &Text,
     ) -> Result<(), FrameError>
         ensures ok { OnOk result (rebound self.old base.now (arrayed (seen_part part.entry) (lookup (bytes_eq base.now) self.old.variables) name.now) ≡ Ok self.new) }
-        ensures err { IfErr result (λ e. Refuses e (arrayed (seen_part part.entry) (lookup (bytes_eq base.now) self.old.variables) name.now)) }
+        ensures err { IfErr result (λ e. Refuses e (rebound self.old base.now (arrayed (seen_part part.entry) (lookup (bytes_eq base.now) self.old.variables) name.now))) }
         ensures unchanged { OnErr result (self.new ≡ self.old) }
     {
         match part {
             Part::Whole => self.make_whole_array(alloc, base, name),
             Part::Element(_) => Err(refused(Refusal::NotArray(Verb::Set), name)),
             Part::Nested => Err(refused(Refusal::NotArray(Verb::Set), name)),
+        }
+    }
+
+    /// Changes a part of what a name stands for.
+    pub(crate) fn change(
+        &mut self,
+        alloc: Global,
+        base: &str,
+        part: Part<'_>,
+        change: Change,
+        name: &Text,
+    ) -> Result<(), FrameError>
+        ensures ok { OnOk result (change_frame change self.old base.now (seen_part part.entry) name.now ≡ Ok self.new) }
+        ensures err { IfErr result (λ e. Refuses e (change_frame change self.old base.now (seen_part part.entry) name.now)) }
+        ensures unchanged { OnErr result (self.new ≡ self.old) }
+    {
+        match change {
+            Change::Assign(value) => self.assign(alloc, base, part, value, name),
+            Change::MakeArray => self.make_array(alloc, base, part, name),
+            Change::Unset => self.unset(base, part, name),
         }
     }
 

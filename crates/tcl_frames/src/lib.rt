@@ -5,6 +5,7 @@ mod access;
 pub mod fault;
 pub mod frame;
 pub mod frames;
+mod links;
 mod name;
 pub mod name_map;
 mod steps;
