@@ -6,3 +6,4 @@ pub mod SoundLemmas
 pub mod FrameLemmas
 pub mod ReachLemmas
 pub mod StepLemmas
+pub mod LinkLemmas

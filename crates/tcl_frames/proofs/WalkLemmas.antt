@@ -198,3 +198,38 @@ module _ {A : Type 0} where
         | inl e ↦ ap t (walk_none (suc n) f p e) ∙ passes_here (suc n) f t p h
         | inr s ↦ ap t (walk_some n f p s.0 s.1) ∙ passes_end n f t s.0 (or_later (t p) (f p) (passes n f t) s.0 s.1 (sym (passes_suc n f t p) ∙ h))
       ]
+
+  or_none : (b : Bool) (o : Option A) (g : A → Bool) → o ≡ None → or_onward b o g ≡ b
+  or_none true o g e = refl
+  or_none false o g e = ap (λ r. or_onward false r g) e
+
+  pub passes_stop : (n : ℕ) (f : A → Option A) (t : A → Bool) (p : A) → f p ≡ None → passes n f t p ≡ t p
+  passes_stop zero f t p e = passes_zero f t p
+  passes_stop (suc n) f t p e = passes_suc n f t p ∙ or_none (t p) (f p) (passes n f t) e
+
+  or_step : (b : Bool) (o : Option A) (g : A → Bool) (q : A) → o ≡ Some q → b ≡ false → or_onward b o g ≡ g q
+  or_step b o g q e h = ap (λ c. or_onward c o g) h ∙ ap (λ r. or_onward false r g) e
+
+  or_yes : (b : Bool) (o : Option A) (g : A → Bool) → b ≡ true → or_onward b o g ≡ true
+  or_yes b o g h = ap (λ c. or_onward c o g) h
+
+  pub passes_yes : (n : ℕ) (f : A → Option A) (t : A → Bool) (p : A) → t p ≡ true → passes n f t p ≡ true
+  passes_yes zero f t p h = passes_zero f t p ∙ h
+  passes_yes (suc n) f t p h = passes_suc n f t p ∙ or_yes (t p) (f p) (passes n f t) h
+
+  pub passes_more : (n : ℕ) (f : A → Option A) (t : A → Bool) (p : A) → Ends n f p → passes (suc n) f t p ≡ passes n f t p
+  passes_more zero f t p h = let e : f p ≡ None = ap f (sym (walk_zero f p)) ∙ h in passes_stop 1 f t p e ∙ sym (passes_stop 0 f t p e)
+  passes_more (suc n) f t p h =
+      elim (step_of f p) [
+        | inl e ↦ passes_stop (suc (suc n)) f t p e ∙ sym (passes_stop (suc n) f t p e)
+        | inr s ↦
+            let later = passes_more n f t s.0 (ends_back n f p s.0 s.1 h) in
+            elim (test_of (t p)) [
+              | inl y ↦ passes_yes (suc (suc n)) f t p y ∙ sym (passes_yes (suc n) f t p y)
+              | inr z ↦ passes_suc (suc n) f t p ∙ or_step (t p) (f p) (passes (suc n) f t) s.0 s.1 z ∙ later ∙ sym (passes_suc n f t p ∙ or_step (t p) (f p) (passes n f t) s.0 s.1 z)
+            ]
+      ]
+
+  pub passes_on : (n : ℕ) (f : A → Option A) (t : A → Bool) (p q : A) → f p ≡ Some q → t p ≡ false → Ends n f p → passes n f t p ≡ passes n f t q
+  passes_on zero f t p q e z h = absurd (ends_not_zero f p q e h)
+  passes_on (suc n) f t p q e z h = passes_suc n f t p ∙ or_step (t p) (f p) (passes n f t) q e z ∙ sym (passes_more n f t q (ends_back n f p q e h))

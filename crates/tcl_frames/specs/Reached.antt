@@ -1,5 +1,5 @@
 -- Where the code came to.
-use Rattle.std.specs.Prelude.{◌≡◌, ℕ, List, Option, Some, None}
+use Rattle.std.specs.Prelude.{◌≡◌, ℕ, Bool, true, false, List, Option, Some, None}
 use Rattle.tcl_frames.specs.declared.variable.Place.{Place}
 use Rattle.tcl_frames.specs.declared.variable.Variable.{Variable}
 use Rattle.tcl_frames.specs.declared.variable.Variable.TheVariants.{Scalar, Array, Link}
@@ -19,6 +19,13 @@ link_of None = None
 link_of (Some (Scalar t)) = None
 link_of (Some (Array es)) = None
 link_of (Some (Link q)) = Some q
+
+-- whether a name may be made a link
+abbrev pub may_link : Option Variable → Bool
+may_link None = true
+may_link (Some (Scalar t)) = false
+may_link (Some (Array es)) = false
+may_link (Some (Link q)) = true
 
 -- a name at a level
 abbrev pub start : ℕ → Text → Spot

@@ -5,16 +5,23 @@ ghost use Rattle.tcl_frames.specs.Chain.{link_over, linked};
 ghost use Rattle.tcl_frames.specs.Faults.{Refuses};
 ghost use Rattle.tcl_frames.specs.Places.{bound, under, end_of, part_of, current, links, next, passes, is_at};
 ghost use Rattle.tcl_frames.specs.Places.Part.{whole, nested};
-ghost use Rattle.tcl_frames.specs.Reached.{start, over};
+ghost use Rattle.tcl_frames.specs.Reached.{start, over, may_link};
 ghost use Rattle.tcl_frames.specs.Sound.{AreFit};
 
 use crate::fault::{FrameError, FrameFault, Refusal, Verb, refused};
 use crate::frame::Frame;
 use crate::name::{is_plain_name, read_name};
-use crate::steps::{OwnedPart, find_target, link_at, link_in, variable_at};
+use crate::steps::{find_target, level_for, link_at, link_in, variable_at};
 use crate::variable::{Place, Variable};
 use std::alloc::{AllocError, Global};
 use tcl_text::text::Text;
+
+/// Whether a name at a level is that of another.
+fn is_name_at(level: usize, base: &str, here: usize, local: &Text) -> bool
+    ensures { result ≡ is_at here local.now (start level base.now) }
+{
+    level == here && local.as_str() == base
+}
 
 /// Whether a place is a name at a level, or an element of it.
 fn is_place_at(place: &Place, here: usize, local: &Text) -> bool
@@ -45,7 +52,7 @@ fn name_passes(frames: &[Frame], level: usize, base: &str, here: usize, local: &
     requires { AreFit 0 frames.now }
     ensures { result ≡ passes (links frames.now) (next frames.now) (is_at here local.now) (start level base.now) }
 {
-    if level == here && local.as_str() == base {
+    if is_name_at(level, base, here, local) {
         return true;
     }
     match link_in(variable_at(frames, level, base)) {
@@ -85,6 +92,18 @@ fn end_place(
     }
 }
 
+/// Whether a name with this variable may be made a link.
+fn is_free(variable: Option<&Variable>) -> bool
+    ensures { result ≡ may_link (option_copied variable.entry) }
+{
+    match variable {
+        None => true,
+        Some(Variable::Link(_)) => true,
+        Some(Variable::Scalar(_)) => false,
+        Some(Variable::Array(_)) => false,
+    }
+}
+
 /// Makes a name of the current level a link, where it holds no value.
 fn link_here(
     frames: &mut [Frame],
@@ -98,11 +117,8 @@ fn link_here(
     ensures unchanged { OnErr result (frames.new ≡ frames.old) }
 {
     let here = frames.len() - 1;
-    match variable_at(frames, here, local.as_str()) {
-        None => {}
-        Some(Variable::Link(_)) => {}
-        Some(Variable::Scalar(_)) => return Err(refused(Refusal::Exists, local)),
-        Some(Variable::Array(_)) => return Err(refused(Refusal::Exists, local)),
+    if !is_free(variable_at(frames, here, local.as_str())) {
+        return Err(refused(Refusal::Exists, local));
     }
     let frame = &mut frames[here];
     frame.link(alloc, local.as_str(), place)?;
@@ -133,7 +149,7 @@ pub(crate) fn link_frames(
             if !is_plain_name(local.as_str()) {
                 return Err(refused(Refusal::BadName, local));
             }
-            let from = if written.is_global { 0 } else { level };
+            let from = level_for(written.is_global, level);
             if name_passes(frames, from, written.base, here, local) {
                 return Err(FrameError::Fault(FrameFault::Itself));
             }

@@ -131,15 +131,18 @@ fn find<'a>(frames: &'a [Frame], level: usize, base: &str) -> Found<'a>
     }
 }
 
+/// The level that a name means where it is written at a level.
+pub(crate) fn level_for(is_global: bool, level: usize) -> usize
+    ensures { result ≡ level_of is_global level }
+{
+    if is_global { 0 } else { level }
+}
+
 /// The level that a name means: 0, or the current one.
 fn level_meant(frames: &[Frame], is_global: bool) -> usize
     ensures { result ≡ level_of is_global (current frames.now) }
 {
-    if is_global {
-        0
-    } else {
-        frames.len().saturating_sub(1)
-    }
+    level_for(is_global, frames.len().saturating_sub(1))
 }
 
 /// A name that was looked up: what stands where its links end, the part of it that they mean, and the key that was written.
