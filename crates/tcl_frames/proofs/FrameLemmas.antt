@@ -1,5 +1,5 @@
 -- What a write through a lent variable does to its frame.
-use Rattle.std.proofs.Common.{◌≡◌, Bool, true, false, cond, List, [], ◌∷◌, Option, Some, None, IsSome, is_some, Result, Ok, Err, refl, sym, ◌∙◌, ap, subst}
+use Rattle.std.proofs.Common.{◌≡◌, Bool, true, false, cond, List, [], ◌∷◌, Option, Some, is_some, Result, Ok, sym, ◌∙◌, ap, subst}
 use Rattle.std.specs.Prelude.{OnSome, OnOk, OnErr}
 use Rattle.std.proofs.lemmas.Result.{on_ok_weaker, on_err_weaker}
 use Rattle.tcl_frames.specs.Chain.{assigned, left_of}

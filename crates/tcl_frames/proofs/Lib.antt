@@ -7,3 +7,5 @@ pub mod FrameLemmas
 pub mod ReachLemmas
 pub mod StepLemmas
 pub mod LinkLemmas
+pub mod ChainLemmas
+pub mod NamesLemmas

@@ -1,28 +1,27 @@
 -- Making links.
-use Rattle.std.proofs.Common.{◌≡◌, ℕ, zero, suc, pred, ◌+◌, ◌-◌, ◌<◌, ◌≤◌, ◌==◌, ◌&&◌, ◌⊎◌, inl, inr, Bool, true, false, cond, List, [], ◌∷◌, length, slice_get, slice_set, Option, Some, None, Result, Ok, Err, refl, sym, ◌∙◌, ap, subst, arith, true≢false, eqb}
-use Rattle.std.specs.Prelude.{nat_le, MatchOption}
+use Rattle.std.proofs.Common.{◌≡◌, ℕ, zero, suc, pred, ◌+◌, ◌-◌, ◌<◌, ◌≤◌, ◌==◌, ◌&&◌, ◌⊎◌, inl, inr, Bool, true, false, cond, length, slice_get, slice_set, Option, Some, None, Result, Ok, Err, refl, sym, ◌∙◌, ap, subst, arith, true≢false}
+use Rattle.std.specs.Prelude.{nat_le}
 use Rattle.std.proofs.lemmas.Bool.Decides.{nat_tests}
 use Rattle.std.specs.Option.{option_map}
-use Rattle.std.specs.Map.{lookup}
 use Rattle.std.specs.Str.{bytes_eq}
 use Rattle.indexmap.specs.IndexMap.{insert_entry}
 use Rattle.tcl_frames.specs.Names.{Text, Name, name_of, is_plain}
-use Rattle.tcl_frames.specs.Places.{Frame, Levels, Variables, Spot, Part, merge, part_of, current, level_of, spot_of, bound, under, next, passes, walk, links, end_of, is_at, or_onward}
+use Rattle.tcl_frames.specs.Places.{Frame, Levels, Spot, Part, merge, part_of, current, level_of, spot_of, bound, under, next, passes, links, end_of, is_at, or_onward}
 use Rattle.tcl_frames.specs.Places.Part.{whole, element, nested}
-use Rattle.tcl_frames.specs.Chain.{on_level, bind, link_over, link_to_end, link_from, link_by_name, linked}
+use Rattle.tcl_frames.specs.Chain.{bind, link_over, link_to_end, link_from, link_by_name, linked}
 use Rattle.tcl_frames.specs.Reached.{start, over, link_of, may_link}
 use Rattle.tcl_frames.specs.Rebinding.{with_variable}
 use Rattle.tcl_frames.specs.Faults.{Refuses}
 use Rattle.tcl_frames.specs.declared.fault.FrameError.TheVariants.{Fault}
-use Rattle.tcl_frames.specs.Sound.{IsFit, AreFit, Ends}
+use Rattle.tcl_frames.specs.Sound.{AreFit}
 use Rattle.tcl_frames.specs.declared.variable.Place.{Place}
 use Rattle.tcl_frames.specs.declared.variable.Variable.{Variable}
 use Rattle.tcl_frames.specs.declared.variable.Variable.TheVariants.{Scalar, Array, Link}
 use Rattle.tcl_frames.specs.declared.fault.Verb.TheVariants.{Read}
 use Rattle.tcl_frames.specs.declared.fault.FrameFault.{FrameFault}
 use Rattle.tcl_frames.specs.declared.fault.FrameFault.TheVariants.{NotArray, BadLevel, Exists, Itself, BadName}
-use Rattle.tcl_frames.proofs.WalkLemmas.{passes_stop, passes_yes, passes_on, passes_end, hops, one_more}
-use Rattle.tcl_frames.proofs.SoundLemmas.{IsNoLink, IsFree, links_end, end_no_link, fit_at, fit_linked, get_cases, bound_at}
+use Rattle.tcl_frames.proofs.WalkLemmas.{passes_stop, passes_on, passes_end, hops, one_more}
+use Rattle.tcl_frames.proofs.SoundLemmas.{IsNoLink, IsFree, links_end, end_no_link, fit_linked, bound_at}
 use Rattle.tcl_frames.proofs.ReachLemmas.{next_link, follow_some, follow_none, follow_falls}
 use Rattle.tcl_frames.proofs.StepLemmas.{link_level, fit_level, end_low, level_low}
 

@@ -1,5 +1,5 @@
 -- What keeps a chain sound, and why its links end.
-use Rattle.std.proofs.Common.{◌≡◌, ℕ, zero, suc, pred, ◌+◌, ◌<◌, ◌≤◌, ◌==◌, ◌⊎◌, inl, inr, Bool, true, false, cond, List, [], ◌∷◌, ◌++◌, length, take, drop, slice_get, Option, Some, None, refl, sym, ◌∙◌, ap, subst, arith, true≢false, eqb}
+use Rattle.std.proofs.Common.{◌≡◌, ℕ, zero, suc, ◌+◌, ◌<◌, ◌≤◌, ◌==◌, ◌⊎◌, inl, inr, Bool, true, false, [], ◌∷◌, length, take, slice_get, Option, Some, None, refl, sym, ◌∙◌, ap, subst, arith, true≢false}
 use Rattle.std.proofs.lemmas.Bool.Decides.{nat_tests}
 use Rattle.std.specs.List.{IsDistinct}
 use Rattle.std.specs.Map.{lookup, remove_entry, keys_of}
@@ -11,8 +11,8 @@ use Rattle.tcl_frames.specs.Sound.{IsWithin, AreWithin, hop_to, hop_by, hop, End
 use Rattle.tcl_frames.specs.declared.variable.Place.{Place}
 use Rattle.tcl_frames.specs.declared.variable.Variable.{Variable}
 use Rattle.tcl_frames.specs.declared.variable.Variable.TheVariants.{Scalar, Array, Link}
-use Rattle.tcl_frames.proofs.ListLemmas.{link_at, links_inserted, links_removed, lookup_inserted, lookup_apart, lookup_removed, unique_inserted, unique_removed, within_inserted, within_removed, within_none, within_found, same_bytes, bytes_same, bytes_flip, at_true, at_false}
-use Rattle.tcl_frames.proofs.WalkLemmas.{test_of, walk_on, walk_none, step_of, ends_at, ends_step, ends_back, ends_not_zero, ends_more, ends_add, ends_same, ends_fresh, ends_again}
+use Rattle.tcl_frames.proofs.ListLemmas.{link_at, links_inserted, links_removed, lookup_inserted, lookup_apart, lookup_removed, unique_inserted, unique_removed, within_inserted, within_removed, within_found, same_bytes, bytes_flip, at_true, at_false}
+use Rattle.tcl_frames.proofs.WalkLemmas.{test_of, walk_on, walk_none, ends_at, ends_step, ends_back, ends_not_zero, ends_more, ends_add, ends_same, ends_fresh, ends_again}
 
 -- a name that is no link
 abbrev pub IsNoLink : Option Variable → Type 0

@@ -1,5 +1,5 @@
 -- What the calls on names come to.
-use Rattle.std.proofs.Common.{◌≡◌, ℕ, zero, suc, pred, ◌+◌, ◌<◌, ◌≤◌, ◌⊎◌, inl, inr, Bool, true, false, cond, List, [], ◌∷◌, length, slice_get, slice_set, Option, Some, None, Result, Ok, Err, refl, sym, ◌∙◌, ap, subst, arith}
+use Rattle.std.proofs.Common.{◌≡◌, ℕ, zero, suc, ◌+◌, ◌<◌, ◌≤◌, inl, inr, Bool, true, false, [], ◌∷◌, length, slice_get, slice_set, Option, Some, None, Result, Ok, Err, refl, sym, ◌∙◌, ap, subst, arith}
 use Rattle.std.specs.Borrow.{Bor}
 use Rattle.std.specs.Option.{option_map, option_copied}
 use Rattle.std.specs.Map.{lookup, remove_entry}
@@ -9,25 +9,24 @@ use Rattle.tcl_frames.specs.Names.{Text, Name, name_of}
 use Rattle.tcl_frames.specs.Places.{Frame, Levels, Variables, Spot, Part, merge, part_of, current, level_of, spot_of, bound, through, under, next, walk, links, end_of}
 use Rattle.tcl_frames.specs.Places.Part.{whole, element, nested}
 use Rattle.tcl_frames.specs.Chain.{value_of, is_held, holds, elements_of, read, exists_at, array_at, end_named, place_named, by_place, at_name, on_level, bind, unbind, bound_to, left_at, assigned, arrayed, left_of, without_element, written, made_array, removed}
-use Rattle.tcl_frames.specs.Faults.{Refuses, IsWant, IsRefusal}
+use Rattle.tcl_frames.specs.Faults.{Refuses, IsRefusal}
 use Rattle.tcl_frames.specs.Reached.{start, over, bound_where, link_of, Stands}
 use Rattle.tcl_frames.specs.Written.{seen}
 use Rattle.tcl_frames.specs.declared.name.Written.{Written}
 use Rattle.tcl_frames.specs.declared.frame.Change.{Change}
 use Rattle.tcl_frames.specs.declared.frame.Change.TheVariants.{Assign, MakeArray, Unset}
 use Rattle.tcl_frames.specs.Rebinding.{rebound, unbound, with_variable, without_variable, change_frame, change_levels, change_named}
-use Rattle.tcl_frames.specs.Sound.{IsFit, AreFit, AreWithin, IsWithin}
+use Rattle.tcl_frames.specs.Sound.{IsFit, AreFit}
 use Rattle.tcl_frames.specs.declared.variable.Place.{Place}
 use Rattle.tcl_frames.specs.declared.variable.Variable.{Variable}
 use Rattle.tcl_frames.specs.declared.variable.Variable.TheVariants.{Scalar, Array, Link}
 use Rattle.tcl_frames.specs.declared.fault.FrameFault.{FrameFault}
 use Rattle.tcl_frames.specs.declared.fault.FrameFault.TheVariants.{BadName}
 use Rattle.tcl_frames.specs.declared.fault.FrameError.{FrameError}
-use Rattle.tcl_frames.specs.declared.fault.FrameError.TheVariants.{Memory, Fault}
 use Rattle.tcl_frames.proofs.WalkLemmas.{step_of, walk_some, walk_none, walk_zero}
-use Rattle.tcl_frames.proofs.SoundLemmas.{IsNoLink, fit_at, fit_cons, fit_head, fit_tail, fit_valued, fit_removed, end_no_link, end_here, end_onward, get_cases, bound_at, bound_past}
+use Rattle.tcl_frames.proofs.SoundLemmas.{IsNoLink, fit_at, fit_cons, fit_head, fit_tail, fit_valued, fit_removed, end_no_link, get_cases, bound_at, bound_past}
 use Rattle.tcl_frames.proofs.ListLemmas.{within_found}
-use Rattle.tcl_frames.proofs.ReachLemmas.{bound_there, follow_here, follow_end}
+use Rattle.tcl_frames.proofs.ReachLemmas.{follow_here, follow_end}
 
 -- ## Parts
 
@@ -437,3 +436,8 @@ made_array_is fs x = refl
 pub removed_is : (fs : Levels) (x : Text) → removed fs x ≡ change_named Unset fs x
 unfolding removed
 removed_is fs x = refl
+
+pub change_fit : (c : Change) (fs gs : Levels) (x : Text) → AreFit 0 fs → change_named c fs x ≡ Ok gs → AreFit 0 gs
+change_fit (Assign t) fs gs x fit e = written_fit fs gs x t fit (written_is fs x t ∙ e)
+change_fit MakeArray fs gs x fit e = made_array_fit fs gs x fit (made_array_is fs x ∙ e)
+change_fit Unset fs gs x fit e = removed_fit fs gs x fit (removed_is fs x ∙ e)

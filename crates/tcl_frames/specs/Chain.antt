@@ -1,5 +1,5 @@
 -- The chain of frames of an interpreter, and what each call on its variables does.
-use Rattle.std.specs.Prelude.{ℕ, zero, suc, pred, ◌==◌, nat_le, nat_lt, Bool, true, false, List, [], ◌∷◌, ◌++◌, length, take, drop, Option, Some, None, is_some, if◌then◌else◌, Result, Ok, Err}
+use Rattle.std.specs.Prelude.{ℕ, zero, suc, pred, ◌==◌, nat_le, nat_lt, Bool, true, false, List, [], ◌∷◌, ◌++◌, length, take, drop, slice_get, Option, Some, None, is_some, if◌then◌else◌, Result, Ok, Err}
 use Rattle.std.specs.Str.{bytes_eq}
 use Rattle.std.specs.Map.{lookup, remove_entry}
 use Rattle.indexmap.specs.IndexMap.{insert_entry}
@@ -186,6 +186,24 @@ link_by_name fs n (Some name) true other local =
 unfoldable pub linked : Levels → ℕ → Text → Text → Result Levels FrameFault
 linked fs n other local = if nat_le (length fs) n then Err (BadLevel n) else link_by_name fs n (name_of other) (is_plain local) other local
 
+-- ## The same for a chain
+
+abbrev pub with_frames : Chain → Result Levels FrameFault → Result Chain FrameFault
+with_frames c (Ok fs) = Ok (record { frames = fs; aside = c.aside })
+with_frames c (Err e) = Err e
+
+abbrev pub after_set : Chain → Text → Text → Result Chain FrameFault
+after_set c x t = with_frames c (written c.frames x t)
+
+abbrev pub after_array : Chain → Text → Result Chain FrameFault
+after_array c x = with_frames c (made_array c.frames x)
+
+abbrev pub after_unset : Chain → Text → Result Chain FrameFault
+after_unset c x = with_frames c (removed c.frames x)
+
+abbrev pub after_link : Chain → ℕ → Text → Text → Result Chain FrameFault
+after_link c n other local = with_frames c (linked c.frames n other local)
+
 -- ## Names
 
 abbrev pub kept_if : Bool → Text → List Text → List Text
@@ -234,6 +252,14 @@ unfoldable pub array_at : Levels → Text → Result (Option (List (Text × Text
 array_at fs x = at_name fs x (λ p. Ok (elements_of p.part (bound fs p.level p.name)))
 
 -- ## Levels
+
+abbrev pub words_in : Option Frame → Option (List Text)
+words_in None = None
+words_in (Some f) = Some f.words
+
+-- the words of the call at a level, if there is one
+unfoldable pub words_at : Levels → ℕ → Option (List Text)
+words_at fs n = words_in (slice_get fs n)
 
 -- the chain after a frame with these words is put on top
 abbrev pub pushed : Chain → List Text → Chain

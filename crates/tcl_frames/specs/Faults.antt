@@ -1,5 +1,5 @@
 -- Refusals.
-use Rattle.std.specs.Prelude.{◌≡◌, ℕ, List, Result, Ok, Err}
+use Rattle.std.specs.Prelude.{◌≡◌, Result, Ok, Err}
 use Rattle.tcl_frames.specs.Names.{Text}
 use Rattle.tcl_frames.specs.declared.fault.Refusal.{Refusal}
 use Rattle.tcl_frames.specs.declared.fault.Refusal.TheVariants as refusal

@@ -1,6 +1,4 @@
 -- A part as the code names it.
-use Rattle.std.specs.Prelude.{ℕ, List, Option}
-use Rattle.tcl_frames.specs.Names.{Text}
 use Rattle.tcl_frames.specs.Places as places
 use Rattle.tcl_frames.specs.Places.Part.{whole, element, nested}
 use Rattle.tcl_frames.specs.declared.access.Part.{Part}

@@ -1,5 +1,5 @@
 -- Where the code came to.
-use Rattle.std.specs.Prelude.{◌≡◌, ℕ, Bool, true, false, List, Option, Some, None}
+use Rattle.std.specs.Prelude.{◌≡◌, ℕ, Bool, true, false, Option, Some, None}
 use Rattle.tcl_frames.specs.declared.variable.Place.{Place}
 use Rattle.tcl_frames.specs.declared.variable.Variable.{Variable}
 use Rattle.tcl_frames.specs.declared.variable.Variable.TheVariants.{Scalar, Array, Link}

@@ -1,12 +1,11 @@
 -- What holds of every chain.
-use Rattle.std.specs.Prelude.{ℕ, suc, ◌+◌, ◌≡◌, ◌≤◌, ◌<◌, ◌==◌, Bool, true, false, ◌&&◌, List, [], ◌∷◌, length, Option, Some, None}
+use Rattle.std.specs.Prelude.{ℕ, suc, ◌+◌, ◌≡◌, ◌≤◌, ◌==◌, Bool, true, false, List, [], ◌∷◌, length, Option, Some, None}
 use Rattle.std.specs.Str.{bytes_eq}
 use Rattle.std.specs.Map.{lookup, keys_of}
 use Rattle.std.specs.List.{IsDistinct}
 use Rattle.tcl_frames.specs.Names.{Text}
 use Rattle.tcl_frames.specs.Places.{Frame, Levels, Variables, walk, links_in}
 use Rattle.tcl_frames.specs.Chain.{Aside, Chain}
-use Rattle.tcl_frames.specs.declared.variable.Place.{Place}
 use Rattle.tcl_frames.specs.declared.variable.Variable.{Variable}
 use Rattle.tcl_frames.specs.declared.variable.Variable.TheVariants.{Scalar, Array, Link}
 
@@ -59,3 +58,8 @@ AreAside count (a ∷ rest) = (suc a.above ≤ count) × AreFit (suc a.above) a.
 pub record IsSound (c : Chain) : Type 0 where
   pub fit : AreFit 0 c.frames
   pub aside : AreAside (length c.frames) c.aside
+
+-- the frames that are set aside fit in above their levels, where there is room for so many
+unfoldable pub HasRoom : ℕ → List Aside → Type 0
+HasRoom room [] = Unit {0}
+HasRoom room (a ∷ rest) = (suc a.above + length a.frames ≤ room) × HasRoom room rest

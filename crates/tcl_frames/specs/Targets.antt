@@ -1,6 +1,5 @@
 -- Where a change goes, as the code keeps it.
-use Rattle.std.specs.Prelude.{ℕ, List, Option, Some, None}
-use Rattle.tcl_frames.specs.Names.{Text}
+use Rattle.std.specs.Prelude.{Option, Some, None}
 use Rattle.tcl_frames.specs.Places.{Spot, Part}
 use Rattle.tcl_frames.specs.Places.Part.{whole, element, nested}
 use Rattle.tcl_frames.specs.Reached.{over}

@@ -1,5 +1,4 @@
 -- A name as the code reads it.
-use Rattle.std.specs.Prelude.{ℕ, List, Option}
 use Rattle.std.specs.Borrow.{Bor}
 use Rattle.std.specs.Option.{option_copied}
 use Rattle.tcl_frames.specs.Names.{Text, Name}

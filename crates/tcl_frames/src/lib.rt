@@ -8,5 +8,6 @@ pub mod frames;
 mod links;
 mod name;
 pub mod name_map;
+mod names;
 mod steps;
 pub mod variable;

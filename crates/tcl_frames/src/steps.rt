@@ -110,7 +110,7 @@ pub(crate) struct Found<'a> {
 }
 
 /// Looks a name up at a level.
-fn find<'a>(frames: &'a [Frame], level: usize, base: &str) -> Found<'a>
+pub(crate) fn find<'a>(frames: &'a [Frame], level: usize, base: &str) -> Found<'a>
     requires { AreFit 0 frames.now }
     ensures variable { option_copied result.variable ≡ bound_where frames.now (end_of frames.now (start level base.now)) }
     ensures part { seen_part result.part ≡ (end_of frames.now (start level base.now)).part }

@@ -1,4 +1,4 @@
-use Rattle.std.proofs.Common.{◌≡◌, ◌-◌, ◌∙◌, sym, ap, length, get_or, arith}
+use Rattle.std.proofs.Common.{◌-◌, ◌∙◌, ap, length, get_or, arith}
 use Rattle.std.specs.Option.{option_copied}
 use Rattle.std.proofs.lemmas.Option.{slice_get-get_or}
 use Rattle.tcl_frames.specs.Places.{bound}

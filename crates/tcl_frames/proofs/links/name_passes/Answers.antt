@@ -1,6 +1,6 @@
-use Rattle.std.proofs.Common.{◌≡◌, ◌∙◌, sym, ap}
+use Rattle.std.proofs.Common.{◌∙◌, sym, ap}
 use Rattle.std.specs.Option.{option_copied}
-use Rattle.tcl_frames.specs.Places.{links, next, is_at, under, merge, part_of}
+use Rattle.tcl_frames.specs.Places.{links, next, is_at}
 use Rattle.tcl_frames.specs.Places.Part.{whole}
 use Rattle.tcl_frames.specs.Reached.{start, link_of}
 use Rattle.tcl_frames.proofs.WalkLemmas.{passes_yes}

@@ -1,8 +1,8 @@
-use Rattle.std.proofs.Common.{◌≡◌, ◌∙◌, sym, ap, subst, arith, length, List, ℕ, ◌≢◌, ◌++◌, ◌∷◌, [], get_or, ◌<◌}
-use Rattle.std.specs.Option.{option_map, MatchOption}
+use Rattle.std.proofs.Common.{◌∙◌, sym, ap, arith}
+use Rattle.std.specs.Option.{option_map}
 use Rattle.std.proofs.lemmas.Option.{MatchOption-at_some, MatchOption-at_none}
 use Rattle.std.proofs.lemmas.Str.Pattern.{strip_suffix_char, split_parts}
-use Rattle.tcl_frames.specs.Names.{Text, closed, element_of}
+use Rattle.tcl_frames.specs.Names.{closed}
 use Rattle.tcl_frames.specs.Written.{seen_pair}
 use Rattle.tcl_frames.proofs.NameLemmas.{closed_at, closed_none, element_none, element_some, opened_split}
 use Rattle.tcl_frames.proofs.name.element_parts.Goals as goal

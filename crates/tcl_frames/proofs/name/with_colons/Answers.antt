@@ -1,5 +1,4 @@
-use Rattle.std.proofs.Common.{◌≡◌, ◌≢◌, ◌∙◌, sym, ap, subst, arith, rules, eqb, eq-eqb, ◌+◌, ◌<◌, ◌≤◌, drop, length, get_or, true, ◌⊎◌}
-use Rattle.std.proofs.lemmas.Bool.Decides.{nat_tests}
+use Rattle.std.proofs.Common.{◌≡◌, ◌∙◌, sym, ap, subst, arith, eqb, eq-eqb, ◌+◌, ◌<◌, drop, length, get_or, true}
 use Rattle.tcl_frames.specs.Names.{Text, colons_after}
 use Rattle.tcl_frames.proofs.NameLemmas.{colons_here, colons_later, colons_over, not_both}
 use Rattle.tcl_frames.proofs.name.with_colons.Goals as goal

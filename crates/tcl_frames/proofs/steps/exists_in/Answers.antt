@@ -1,7 +1,5 @@
-use Rattle.std.proofs.Common.{◌≡◌, ◌∙◌, sym, ap, subst, Ok, Err}
-use Rattle.std.specs.Prelude.{IfOk, IfErr}
+use Rattle.std.proofs.Common.{◌∙◌, sym, ap, Ok}
 use Rattle.std.proofs.lemmas.Result.{err_from_is_err_and}
-use Rattle.tcl_frames.specs.Faults.{Refuses}
 use Rattle.tcl_frames.proofs.StepLemmas.{exists_bad_name, exists_whole, exists_key}
 use Rattle.tcl_frames.proofs.steps.exists_in.Goals as goal
 

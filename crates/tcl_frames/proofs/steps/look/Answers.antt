@@ -1,4 +1,3 @@
-use Rattle.std.proofs.Common.{◌≡◌, ◌∙◌, sym, ap}
 use Rattle.std.specs.Option.{option_copied}
 use Rattle.tcl_frames.specs.Parts.{seen_part}
 use Rattle.tcl_frames.specs.Written.{seen}

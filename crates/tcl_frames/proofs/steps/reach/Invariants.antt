@@ -1,5 +1,5 @@
 use Rattle.std.proofs.Common.{◌≡◌}
-use Rattle.tcl_frames.specs.Places.{Spot, end_of, under, links, next}
+use Rattle.tcl_frames.specs.Places.{end_of, under, links, next}
 use Rattle.tcl_frames.specs.Places.Part.{whole}
 use Rattle.tcl_frames.specs.Parts.{seen_part}
 use Rattle.tcl_frames.proofs.WalkLemmas.{hops}

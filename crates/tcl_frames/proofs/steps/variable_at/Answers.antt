@@ -1,4 +1,4 @@
-use Rattle.std.proofs.Common.{◌≡◌, ◌∙◌, sym, ap}
+use Rattle.std.proofs.Common.{◌∙◌}
 use Rattle.std.proofs.lemmas.Option.{slice_get_past}
 use Rattle.tcl_frames.proofs.ReachLemmas.{get_there, bound_there, bound_nowhere}
 use Rattle.tcl_frames.proofs.steps.variable_at.Goals as goal

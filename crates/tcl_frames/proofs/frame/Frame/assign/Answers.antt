@@ -1,4 +1,3 @@
-use Rattle.std.proofs.Common.{◌≡◌, sym, ap}
 use Rattle.tcl_frames.specs.Parts.{seen_part}
 use Rattle.tcl_frames.proofs.FrameLemmas.{at_some, lent_is, assign_lent, lent_same}
 use Rattle.tcl_frames.proofs.frame.Frame.assign.Goals as goal

@@ -1,4 +1,4 @@
-use Rattle.std.proofs.Common.{◌≡◌, ◌∙◌, sym, ap, Some, Option}
+use Rattle.std.proofs.Common.{◌∙◌, sym, ap, Some}
 use Rattle.std.specs.Option.{option_copied}
 use Rattle.std.specs.Map.{lookup}
 use Rattle.std.specs.Str.{bytes_eq}

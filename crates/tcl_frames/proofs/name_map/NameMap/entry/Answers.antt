@@ -1,4 +1,4 @@
-use Rattle.std.proofs.Common.{◌≡◌, ◌∙◌, sym, ap, List, ℕ, Option, Some, slice_get}
+use Rattle.std.proofs.Common.{◌∙◌, sym, ap, Some, slice_get}
 use Rattle.std.specs.Option.{option_map}
 use Rattle.std.specs.Map.Iter.{deref_pair}
 use Rattle.tcl_frames.specs.Entries.{named_entry}

@@ -1,7 +1,6 @@
 use Rattle.std.proofs.Common.{◌∙◌, sym, ap, subst, IsSome}
-use Rattle.std.specs.Map.{lookup}
 use Rattle.std.specs.Str.{bytes_eq}
-use Rattle.std.specs.String.{string_eq, string_bytes}
+use Rattle.std.specs.String.{string_bytes}
 use Rattle.indexmap.specs.IndexMap.{insert_entry}
 use Rattle.tcl_frames.specs.Entries.{named}
 use Rattle.tcl_frames.proofs.EntryLemmas.{set-named, insert-named, set_is_insert, lookup-named, is_found}
