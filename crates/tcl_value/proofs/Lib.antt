@@ -1,1 +1,9 @@
 pub mod Numbers
+pub mod Written
+pub mod Weights
+pub mod Lasts
+pub mod Writes
+pub mod Spaces
+pub mod Laws
+pub mod Changed
+pub mod Errors

@@ -1,2 +1,7 @@
-pub mod Forms
 pub mod Limits
+pub mod Writing
+pub mod Texts
+pub mod Falls
+pub mod Reading
+pub mod Forms
+pub mod Changes

@@ -1,9 +1,9 @@
 -- What a value may be.
 use Rattle.std.specs.Prelude.{ℕ, ◌≤◌, ◌<◌, List, length}
 
--- the most bytes that a value has
-abbrev pub most_bytes : ℕ
-most_bytes = 16777216
+-- a text, as its bytes in UTF-8
+abbrev pub Bytes : Type 0
+Bytes = List ℕ
 
 -- a text that a value may have
 abbrev pub IsWithin : List ℕ → Type 0

@@ -1,4 +1,8 @@
 //! Values: texts that are kept in the form in which they were made or last read.
 #![tactic(auto)]
 
+mod element;
+mod entries;
+mod items;
+pub mod list;
 pub mod value;

@@ -1,11 +1,23 @@
 //! Values, each of which is seen as its text.
-ghost use Rattle.std.specs.Prelude.{◌≡◌, ◌≤◌, ◌<◌, ◌++◌, [], length, IfOk, OnOk, OnErr, MatchResult};
+ghost use Rattle.std.specs.Prelude.{◌≡◌, ◌≤◌, ◌<◌, ◌++◌, ◌∷◌, ◌↔◌, [], length, Ok, IfOk, OnOk, OnErr, IsErrOf, IfErr, MatchResult, IfSome};
 ghost use Rattle.std.specs.Fmt.{signed_decimal};
 ghost use Rattle.std.specs.String.{string_bytes};
-ghost use Rattle.tcl_value.specs.Limits.{IsWithin, IsPast};
+ghost use Rattle.tcl_value.specs.Limits.{Bytes, IsWithin, IsPast};
+ghost use Rattle.tcl_value.specs.Writing.{write};
+ghost use Rattle.tcl_value.specs.Texts.{element_text, flat, IsElement};
+ghost use Rattle.tcl_value.specs.Reading.{int_of, list_of};
+ghost use Rattle.tcl_text.specs.Reading.{Gives};
+ghost use Rattle.tcl_value.specs.Changes.{AtList, Refuses};
 
-use std::alloc::{AllocError, Global};
+use crate::element::Element;
+use crate::entries::Entries;
+use crate::items::Items;
+use crate::list::List;
+use std::alloc::{AllocError, AllocFailed, Global};
 use std::marker::Model;
+use std::rc::Rc;
+use tcl_text::integer::{IntegerFault, Integers, int_len, push_int, read_int, write_int};
+use tcl_text::list::{ListError, ListFault};
 use tcl_text::text::Text;
 
 /// The most bytes of UTF-8 that a value may have.
@@ -31,21 +43,95 @@ impl From<AllocError> for ValueError {
     }
 }
 
+impl<T: Drop> From<AllocFailed<T>> for ValueError {
+    ghost use Rattle.std.specs.Prelude.{◌≡◌};
+    ghost use Rattle.tcl_value.specs.declared.value.ValueError.TheVariants.{Memory};
+
+    ghost from_gives = { λ _ e. e ≡ Memory };
+
+    fn from(_e: AllocFailed<T>) -> ValueError {
+        ValueError::Memory
+    }
+}
+
+/// Why a list or dict in a value isn't changed.
+#[derive(Debug, Drop)]
+pub enum ChangeError {
+    /// Want of memory.
+    Memory,
+    /// The text would be longer than [`MOST_BYTES`] (refusal 122).
+    TooLong,
+    /// The text spells no list (101 to 104).
+    List(ListFault),
+}
+
+impl From<AllocError> for ChangeError {
+    ghost use Rattle.std.specs.Prelude.{◌≡◌};
+    ghost use Rattle.tcl_value.specs.declared.value.ChangeError.TheVariants.{Memory};
+
+    ghost from_gives = { λ _ e. e ≡ Memory };
+
+    fn from(_e: AllocError) -> ChangeError {
+        ChangeError::Memory
+    }
+}
+
+impl From<ValueError> for ChangeError {
+    ghost use Rattle.tcl_value.specs.Changes.{change_of_value};
+    ghost use Rattle.std.specs.Prelude.{◌≡◌};
+
+    ghost from_gives = { λ x e. e ≡ change_of_value x };
+
+    fn from(e: ValueError) -> ChangeError {
+        match e {
+            ValueError::Memory => ChangeError::Memory,
+            ValueError::TooLong => ChangeError::TooLong,
+        }
+    }
+}
+
+impl From<ListError> for ChangeError {
+    ghost use Rattle.tcl_value.specs.Changes.{change_of_list};
+    ghost use Rattle.std.specs.Prelude.{◌≡◌};
+
+    ghost from_gives = { λ x e. e ≡ change_of_list x };
+
+    fn from(e: ListError) -> ChangeError {
+        match e {
+            ListError::Memory => ChangeError::Memory,
+            ListError::Fault(fault) => ChangeError::List(fault),
+        }
+    }
+}
+
 /// How a value is kept.
 #[derive(Drop)]
 enum Form {
     Empty,
     Text(Text),
     Number(i64),
+    List(Rc<Items>),
+    Dict(Rc<Entries>),
+}
+
+/// What a value's text was last read as.
+#[derive(Drop)]
+enum Kept {
+    Nothing,
+    Tcl8(i64),
+    Tcl9(i64),
+    List(List),
 }
 
 /// A value of the language, which contracts see as its text: the list of its bytes in UTF-8, of which there are at most
 /// [`MOST_BYTES`].
 ///
-/// A number carries no text until one is asked for. A clone shares what is kept.
+/// A number, a list or a dict that was built carries no text until one is asked for, and a text keeps what it was last
+/// read as. A clone shares what is kept. What isn't shared is changed in place.
 #[derive(Drop)]
 pub struct Value {
     form: Form,
+    kept: Kept,
 }
 
 impl Model for Value {
@@ -53,11 +139,11 @@ impl Model for Value {
 
     ghost Value = { List ℕ };
 
-    ghost use Rattle.tcl_value.specs.Forms.{form_text, IsForm};
+    ghost use Rattle.tcl_value.specs.Forms.{form_text, IsValue};
 
     ghost view = { λ a. form_text a.form };
 
-    ghost invariant = { λ a. IsForm a.form };
+    ghost invariant = { λ a. IsValue a.form a.kept };
 }
 
 impl Value {
@@ -65,7 +151,10 @@ impl Value {
     pub fn empty() -> Value
         ensures { result ≡ [] }
     {
-        Value { form: Form::Empty }
+        Value {
+            form: Form::Empty,
+            kept: Kept::Nothing,
+        }
     }
 
     /// The value of a text. This takes no memory.
@@ -88,6 +177,7 @@ impl Value {
     {
         Value {
             form: Form::Text(text),
+            kept: Kept::Nothing,
         }
     }
 
@@ -97,7 +187,28 @@ impl Value {
     {
         Value {
             form: Form::Number(n),
+            kept: Kept::Nothing,
         }
+    }
+
+    /// The value that an element is.
+    ///
+    /// # Errors
+    /// Want of memory.
+    pub(crate) fn from_element(element: &Element) -> Result<Value, AllocError>
+        requires { IsElement element.now }
+        ensures { IfOk result (λ value. value ≡ element_text element.now) }
+    {
+        let form = match element {
+            Element::Text(text) => Form::Text(text.clone()?),
+            Element::Number(n) => Form::Number(*n),
+            Element::List(items) => Form::List(items.clone()?),
+            Element::Dict(entries) => Form::Dict(entries.clone()?),
+        };
+        Ok(Value {
+            form,
+            kept: Kept::Nothing,
+        })
     }
 
     /// Its text, which is written if there is none yet.
@@ -110,12 +221,12 @@ impl Value {
         match &self.form {
             Form::Empty => Text::new(alloc, ""),
             Form::Text(text) => text.clone(),
-            Form::Number(n) => Text::from_string(alloc, n.to_string(alloc)?),
+            Form::Number(n) => Text::from_string(alloc, write_int(alloc, *n)?),
+            Form::List(items) => Text::from_string(alloc, items.write(alloc)?),
+            Form::Dict(entries) => Text::from_string(alloc, entries.write(alloc)?),
         }
     }
-}
 
-impl Value {
     /// How many bytes its text has. This takes no memory.
     pub fn text_len(&self) -> usize
         ensures len { result ≡ length self.now }
@@ -124,7 +235,9 @@ impl Value {
         match &self.form {
             Form::Empty => 0,
             Form::Text(text) => text.len(),
-            Form::Number(n) => signed_digits(*n),
+            Form::Number(n) => int_len(*n),
+            Form::List(items) => items.written_len(),
+            Form::Dict(entries) => entries.written_len(),
         }
     }
 
@@ -132,13 +245,249 @@ impl Value {
     ///
     /// # Errors
     /// Want of memory.
-    pub fn write_to(&self, _alloc: Global, text: &mut String) -> Result<(), AllocError>
-        ensures { OnOk result (string_bytes text.new ≡ string_bytes text.old ++ self.now) }
+    pub fn write_to(&self, _alloc: Global, out: &mut String) -> Result<(), AllocError>
+        ensures { OnOk result (string_bytes out.new ≡ string_bytes out.old ++ self.now) }
     {
         match &self.form {
             Form::Empty => Ok(()),
-            Form::Text(more) => text.push_str(more.as_str()),
-            Form::Number(n) => write!(text, "{n}"),
+            Form::Text(text) => out.push_str(text.as_str()),
+            Form::Number(n) => push_int(out, *n),
+            Form::List(items) => items.write_to(out),
+            Form::Dict(entries) => entries.write_to(out),
+        }
+    }
+
+    /// The integer that its text reads as, in a style. This takes no memory.
+    ///
+    /// # Errors
+    /// [`IntegerFault`]: 111 where the text is no integer text, 112 where the number doesn't fit 64 bits.
+    pub fn as_int(&mut self, style: Integers) -> Result<i64, IntegerFault>
+        ensures read { result ≡ int_of style self.old }
+        ensures text { self.new ≡ self.old }
+    {
+        match &self.form {
+            Form::Number(n) => number_of(*n, style),
+            Form::Text(text) => {
+                if let Some(n) = self.kept.int(style) {
+                    return Ok(n);
+                }
+                let n = read_int(text.as_str(), style)?;
+                self.kept = Kept::of_int(n, style);
+                Ok(n)
+            }
+            Form::Empty | Form::List(_) | Form::Dict(_) => Err(IntegerFault::NotInteger),
+        }
+    }
+}
+
+impl Value {
+    /// The list that is at hand without reading its text: a list that was built, or what the text was last read as.
+    fn list_at_hand(&self) -> Result<Option<List>, AllocError>
+        ensures { IfOk result (λ found. IfSome found (λ list. list_of self.now ≡ Ok list)) }
+    {
+        match (&self.form, &self.kept) {
+            (Form::List(items), _) => Ok(Some(List::from_items(items.clone()?))),
+            (_, Kept::List(list)) => Ok(Some(list.clone()?)),
+            _ => Ok(None),
+        }
+    }
+
+    /// The list that its text reads as, read anew.
+    fn read_list(&self, alloc: Global) -> Result<List, ListError>
+        ensures { Gives (λ list. list) result (list_of self.now) }
+    {
+        match &self.form {
+            Form::Empty => Ok(List::new(alloc)?),
+            Form::Text(text) => List::read(alloc, text.as_str()),
+            Form::Number(n) => Ok(List::of_number(alloc, *n)?),
+            Form::List(items) => Ok(List::from_items(items.clone()?)),
+            Form::Dict(entries) => Ok(List::of_entries(alloc, entries)?),
+        }
+    }
+
+    /// The list that its text spells, which is kept.
+    ///
+    /// # Errors
+    /// [`ListError::Fault`] exactly where the text spells no list (101 to 104); want of memory.
+    pub fn as_list(&mut self, alloc: Global) -> Result<List, ListError>
+        ensures read { Gives (λ list. list) result (list_of self.old) }
+        ensures text { self.new ≡ self.old }
+    {
+        if let Some(list) = self.list_at_hand()? {
+            return Ok(list);
+        }
+        let list = self.read_list(alloc)?;
+        self.kept = Kept::List(list.clone()?);
+        Ok(list)
+    }
+
+    /// The value of a list.
+    ///
+    /// # Errors
+    /// [`ValueError::TooLong`] exactly where the list's text would be longer than [`MOST_BYTES`]; want of memory.
+    pub fn from_list(alloc: Global, list: List) -> Result<Value, ValueError>
+        ensures made { IfOk result (λ value. (value ≡ write list) × IsWithin (write list)) }
+        ensures refused { IsErrOf result ValueError.TooLong ↔ IsPast (write list) }
+    {
+        if !list.is_within() {
+            return Err(ValueError::TooLong);
+        }
+        let form = match list.len() {
+            0 => Form::Empty,
+            1 => Form::Text(Text::from_string(alloc, list.write(alloc)?)?),
+            _ => Form::List(list.to_items()?),
+        };
+        Ok(Value {
+            form,
+            kept: Kept::List(list),
+        })
+    }
+
+    /// It as an element of a list or the value of a key: without a text where its form allows.
+    pub(crate) fn into_element(self, alloc: Global) -> Result<Element, AllocError>
+        ensures text { IfOk result (λ element. element_text element ≡ self) }
+        ensures element { IfOk result IsElement }
+    {
+        let Value { form, kept: _ } = self;
+        match form {
+            Form::Empty => Ok(Element::Text(Text::new(alloc, "")?)),
+            Form::Text(text) => Ok(Element::Text(text)),
+            Form::Number(n) => Ok(Element::Number(n)),
+            Form::List(items) => Ok(Element::Text(Text::from_string(alloc, items.write(alloc)?)?)),
+            Form::Dict(entries) => {
+                Ok(Element::Text(Text::from_string(alloc, entries.write(alloc)?)?))
+            }
+        }
+    }
+
+    /// Makes it a number, whatever it was. This takes no memory.
+    pub fn set_int(&mut self, n: i64)
+        ensures { self.new ≡ signed_decimal n }
+    {
+        *self = Value::from_int(n);
+    }
+
+    /// Adds to its text: in place where the text isn't shared.
+    ///
+    /// # Errors
+    /// [`ValueError::TooLong`] exactly where the text would be longer than [`MOST_BYTES`]; want of memory. Either leaves
+    /// the value as it was.
+    pub fn append(&mut self, alloc: Global, more: &str) -> Result<(), ValueError>
+        ensures appended { OnOk result (self.new ≡ self.old ++ more.now) }
+        ensures within { OnOk result (IsWithin (self.old ++ more.now)) }
+        ensures refused { IsErrOf result ValueError.TooLong ↔ IsPast (self.old ++ more.now) }
+        ensures unchanged { OnErr result (self.new ≡ self.old) }
+    {
+        if more.len() > MOST_BYTES - self.text_len() {
+            return Err(ValueError::TooLong);
+        }
+        if let Form::Text(text) = &mut self.form {
+            self.kept = Kept::Nothing;
+            text.append(more)?;
+            return Ok(());
+        }
+        let mut text = self.text(alloc)?;
+        text.append(more)?;
+        *self = Value::from_short_text(text);
+        Ok(())
+    }
+
+    /// Adds an element to the list that it reads as: in place where it is kept as a list that isn't shared.
+    ///
+    /// # Errors
+    /// [`ChangeError::List`] exactly where the text spells no list, [`ChangeError::TooLong`] exactly where the list's text
+    /// would be longer than [`MOST_BYTES`]; want of memory. Any leaves the value as it was.
+    pub fn push(&mut self, alloc: Global, value: Value) -> Result<(), ChangeError>
+        ensures pushed { OnOk result (AtList (list_of self.old) (λ list. (self.new ≡ write (list ++ value ∷ [])) × IsWithin (write (list ++ value ∷ [])))) }
+        ensures refused { IfErr result (λ e. Refuses e (list_of self.old) (λ list. IsPast (write (list ++ value ∷ [])))) }
+        ensures unchanged { OnErr result (self.new ≡ self.old) }
+    {
+        let element = value.into_element(alloc)?;
+        if let Form::List(items) = &mut self.form {
+            self.kept = Kept::Nothing;
+            return push_shared(items, element);
+        }
+        let mut list = self.as_list(alloc)?;
+        self.kept = Kept::Nothing;
+        list.push_element(element)?;
+        *self = Value::from_list(alloc, list)?;
+        Ok(())
+    }
+}
+
+/// Adds an element to a list: in place where it isn't shared.
+fn push_shared(items: &mut Rc<Items>, element: Element) -> Result<(), ChangeError>
+    requires { IsElement element }
+    ensures pushed { OnOk result (items.new.value ≡ items.old.value ++ element_text element ∷ []) }
+    ensures within { OnOk result (IsWithin (write items.new.value)) }
+    ensures refused { IfErr result (λ e. Refuses e (Ok items.old.value) (λ list. IsPast (write (list ++ element_text element ∷ [])))) }
+    ensures unchanged { OnErr result (items.new.value ≡ items.old.value) }
+{
+    match Rc::make_mut(items) {
+        Ok(own) => own.push(element).map_err(ChangeError::from),
+        Err(_) => Err(ChangeError::Memory),
+    }
+}
+
+/// The integer that the text of a number reads as.
+fn number_of(n: i64, style: Integers) -> Result<i64, IntegerFault>
+    ensures { result ≡ int_of style (signed_decimal n) }
+{
+    let _style = style;
+    Ok(n)
+}
+
+impl Kept {
+    ghost use Rattle.tcl_value.specs.Forms.{IsKept};
+
+    /// An integer that was read in a style.
+    fn of_int(n: i64, style: Integers) -> Kept
+        ensures { (text : Bytes) → int_of style text ≡ Ok n → IsKept text result }
+    {
+        match style {
+            Integers::Tcl8 => Kept::Tcl8(n),
+            Integers::Tcl9 => Kept::Tcl9(n),
+        }
+    }
+
+    /// The integer that is kept, if it was read in this style.
+    fn int(&self, style: Integers) -> Option<i64>
+        ensures { (text : Bytes) → IsKept text self.now → IfSome result (λ n. int_of style text ≡ Ok n) }
+    {
+        match (self, style) {
+            (Kept::Tcl8(n), Integers::Tcl8) | (Kept::Tcl9(n), Integers::Tcl9) => Some(*n),
+            _ => None,
+        }
+    }
+}
+
+impl Clone for Form {
+    ghost use Rattle.tcl_value.specs.Forms.{IsSameForm};
+
+    ghost is_clone = { IsSameForm };
+
+    fn clone(&self) -> Result<Form, AllocError> {
+        match self {
+            Form::Empty => Ok(Form::Empty),
+            Form::Text(text) => Ok(Form::Text(text.clone()?)),
+            Form::Number(n) => Ok(Form::Number(*n)),
+            Form::List(items) => Ok(Form::List(items.clone()?)),
+            Form::Dict(entries) => Ok(Form::Dict(entries.clone()?)),
+        }
+    }
+}
+
+impl Clone for Kept {
+    ghost use Rattle.tcl_value.specs.Forms.{IsSameKept};
+
+    ghost is_clone = { IsSameKept };
+
+    fn clone(&self) -> Result<Kept, AllocError> {
+        match self {
+            Kept::Nothing => Ok(Kept::Nothing),
+            Kept::Tcl8(n) => Ok(Kept::Tcl8(*n)),
+            Kept::Tcl9(n) => Ok(Kept::Tcl9(*n)),
+            Kept::List(list) => Ok(Kept::List(list.clone()?)),
         }
     }
 }
@@ -147,25 +496,8 @@ impl Clone for Value {
     ghost is_clone = { λ x y. y ≡ x };
 
     fn clone(&self) -> Result<Value, AllocError> {
-        let form = match &self.form {
-            Form::Empty => Form::Empty,
-            Form::Text(text) => Form::Text(text.clone()?),
-            Form::Number(n) => Form::Number(*n),
-        };
-        Ok(Value { form })
+        let form = self.form.clone()?;
+        let kept = self.kept.clone()?;
+        Ok(Value { form, kept })
     }
-}
-
-/// How many bytes write a number.
-fn signed_digits(n: i64) -> usize
-    ensures len { result ≡ length (signed_decimal n) }
-    ensures few { result ≤ 21 }
-{
-    let mut rest = n.unsigned_abs();
-    let mut count = if n < 0 { 2 } else { 1 };
-    while rest >= 10 {
-        rest /= 10;
-        count += 1;
-    }
-    count
 }

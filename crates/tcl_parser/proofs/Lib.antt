@@ -1,0 +1,10 @@
+mod EndLemmas
+mod RunLemmas
+mod GapLemmas
+mod NameLemmas
+mod BraceLemmas
+mod SeveralLemmas
+mod PartLemmas
+mod WordLemmas
+mod SkipLemmas
+mod ReadLemmas

@@ -1,0 +1,468 @@
+//! Lists in texts.
+ghost use Rattle.std.specs.Prelude.{◌≡◌, ◌≢◌, ℕ, List, ◌++◌, ◌∷◌, [], ◌+◌, ◌≤◌, ◌<◌, ◌^◌, length, take, drop, Some, None, Ok, MatchOption, IfOk, IfErr, Err, not};
+ghost use Rattle.std.specs.List.{prefix_len, take_while};
+ghost use Rattle.std.specs.Str.{chars};
+ghost use Rattle.tcl_text.specs.Lists.{is_white, close_brace, none_open, count, units, ends, offending, element_at, list_of, Spells, HasFault, Decided, OneList, OneFault, NeverBoth, GivesList, GivesFault};
+ghost use Rattle.tcl_text.specs.Reading.{is_plain, stop_test, Gives, IfFault};
+ghost use Rattle.tcl_text.specs.Writing.{fault_message, shown_after};
+ghost use Rattle.tcl_text.specs.declared.list.ListFault.{ListFault};
+ghost use Rattle.tcl_text.specs.declared.list.ListError.TheVariants.{Memory};
+
+use crate::backslash::read_escape;
+use crate::characters::first_characters;
+pub use crate::list_writing::{write_element, write_list, written_len, written_list_spells_it};
+use crate::text::Text;
+use std::alloc::{AllocError, AllocFailed, Global};
+
+/// What is at fault in a text that spells no list.
+#[derive(Debug, Drop, PartialEq)]
+pub enum ListFault {
+    /// 101: an open brace has no close brace.
+    UnmatchedBrace,
+    /// 102: an open quote has no close quote.
+    UnmatchedQuote,
+    /// 103: this text follows an element in braces in place of white space.
+    AfterBrace(Text),
+    /// 104: this text follows an element in quotes in place of white space.
+    AfterQuote(Text),
+}
+
+impl ListFault {
+    /// What an error says of it.
+    ///
+    /// # Errors
+    /// Want of memory.
+    pub fn message(&self, alloc: Global) -> Result<Text, AllocError>
+        ensures { IfOk result (λ made. made ≡ fault_message self.now) }
+    {
+        match self {
+            ListFault::UnmatchedBrace => Text::new(alloc, "unmatched open brace in list"),
+            ListFault::UnmatchedQuote => Text::new(alloc, "unmatched open quote in list"),
+            ListFault::AfterBrace(shown) => followed_message(alloc, "braces", shown),
+            ListFault::AfterQuote(shown) => followed_message(alloc, "quotes", shown),
+        }
+    }
+}
+
+fn followed_message(alloc: Global, kind: &str, shown: &Text) -> Result<Text, AllocError>
+    ensures { IfOk result (λ made. made ≡ shown_after kind.now shown.now) }
+{
+    let mut message = String::from_str(alloc, "list element in ")?;
+    message.push_str(kind)?;
+    message.push_str(" followed by \"")?;
+    message.push_str(shown.as_str())?;
+    message.push_str("\" instead of space")?;
+    Text::from_string(alloc, message)
+}
+
+/// Why no list was read.
+#[derive(Debug, Drop, PartialEq)]
+pub enum ListError {
+    /// Memory ran out.
+    Memory,
+    /// The text spells no list.
+    Fault(ListFault),
+}
+
+impl From<AllocError> for ListError {
+    ghost from_gives = { λ _ e. e ≡ Memory };
+
+    fn from(_e: AllocError) -> ListError {
+        ListError::Memory
+    }
+}
+
+impl<T: Drop> From<AllocFailed<T>> for ListError {
+    ghost from_gives = { λ _ e. e ≡ Memory };
+
+    fn from(_e: AllocFailed<T>) -> ListError {
+        ListError::Memory
+    }
+}
+
+pub(crate) fn is_white(byte: u8) -> bool
+    ensures { result ≡ is_white byte }
+{
+    byte == b' ' || (9..=13).contains(&byte)
+}
+
+/// The text without the white space at its head.
+fn skip_white(text: &str) -> &str
+    ensures rest { result.now ≡ drop (prefix_len is_white text.now) text.now }
+{
+    let bytes = text.as_bytes();
+    let mut count = 0;
+    'white: while count < bytes.len() && is_white(bytes[count]) {
+        count += 1;
+    }
+    let (_, rest) = text.split_at(count);
+    rest
+}
+
+/// Whether an element may end before this text: at its end, or at white space.
+fn is_end(text: &str) -> bool
+    ensures { result ≡ ends text.now }
+{
+    match text.as_bytes() {
+        [] => true,
+        [first, ..] => is_white(*first),
+    }
+}
+
+/// Braces as they are counted, from the left.
+#[derive(Clone, Copy)]
+pub(crate) struct Braces {
+    /// How many are open.
+    pub(crate) depth: usize,
+    /// Whether the next character is skipped, since a backslash stands before it.
+    pub(crate) skips: bool,
+}
+
+impl Braces {
+    /// Before the first byte.
+    pub(crate) const NONE_OPEN: Braces = Braces {
+        depth: 0,
+        skips: false,
+    };
+
+    /// Counts a byte; `None` where it closes a brace that isn't open.
+    pub(crate) fn count(self, byte: u8) -> Option<Braces>
+        requires { self.depth + 1 < 2 ^ 64 }
+        ensures { result ≡ count self byte }
+    {
+        let depth = self.depth;
+        let plain = Braces {
+            depth,
+            skips: false,
+        };
+        if self.skips {
+            return Some(plain);
+        }
+        match byte {
+            b'\\' => Some(Braces { depth, skips: true }),
+            b'{' => Some(Braces {
+                depth: depth + 1,
+                skips: false,
+            }),
+            b'}' if depth == 0 => None,
+            b'}' => Some(Braces {
+                depth: depth - 1,
+                skips: false,
+            }),
+            _ => Some(plain),
+        }
+    }
+}
+
+/// The text before the close brace of an open brace that stands before this text, and the text behind it.
+fn split_braced(text: &str) -> Option<(&str, &str)>
+    ensures { MatchOption result (close_brace text.now none_open ≡ None) (λ parts. close_brace text.now none_open ≡ Some (parts.0.now, parts.1.now)) }
+{
+    let mut braces = Braces::NONE_OPEN;
+    'bytes: for (i, byte) in text.as_bytes().iter().enumerate() {
+        match braces.count(*byte) {
+            Some(next) => braces = next,
+            None => {
+                let (inside, _) = text.split_at(i);
+                let (_, after) = text.split_at(i + 1);
+                return Some((inside, after));
+            }
+        }
+    }
+    None
+}
+
+/// What ends a run of units.
+#[derive(Clone, Copy)]
+enum Stop {
+    White,
+    Quote,
+}
+
+impl Stop {
+    fn is_at(self, byte: u8) -> bool
+        ensures { result ≡ stop_test self byte }
+    {
+        match self {
+            Stop::White => is_white(byte),
+            Stop::Quote => byte == b'"',
+        }
+    }
+
+    /// Whether a byte stands for itself, within a run that ends so.
+    fn is_plain(self, byte: u8) -> bool
+        ensures { result ≡ is_plain (stop_test self) byte }
+    {
+        byte != b'\\' && !self.is_at(byte)
+    }
+
+    /// The text before the first backslash or the end of the run, and from there on.
+    fn split_plain(self, text: &str) -> (&str, &str)
+        ensures plain { result.0.now ≡ take (prefix_len (is_plain (stop_test self)) text.now) text.now }
+        ensures rest { result.1.now ≡ drop (prefix_len (is_plain (stop_test self)) text.now) text.now }
+    {
+        let bytes = text.as_bytes();
+        let mut count = 0;
+        'plain: while count < bytes.len() && self.is_plain(bytes[count]) {
+            count += 1;
+        }
+        text.split_at(count)
+    }
+}
+
+/// What follows this ASCII character at the head of a text.
+fn strip_mark(text: &str, mark: char) -> Option<&str>
+    requires { mark < 128 }
+    ensures { MatchOption result ((rest : List ℕ) → text.now ≢ mark ∷ rest) (λ rest. text.now ≡ mark ∷ rest.now) }
+{
+    text.strip_prefix(mark)
+}
+
+/// What the units up to the end of the run mean, and the text from there on.
+fn read_units(alloc: Global, text: &str, stop: Stop) -> Result<(Text, &str), AllocError>
+    ensures { IfOk result (λ read. units (stop_test stop) text.now 0 ≡ (read.0, read.1.now)) }
+{
+    let (plain, rest) = stop.split_plain(text);
+    let Some(_) = strip_mark(rest, '\\') else {
+        return Ok((Text::new(alloc, plain)?, rest));
+    };
+    let mut meaning = String::from_str(alloc, plain)?;
+    let mut rest = rest;
+    'sequences: while let Some(after) = strip_mark(rest, '\\') {
+        let (character, after) = read_escape(after);
+        let (plain, after) = stop.split_plain(after);
+        meaning.push(character)?;
+        meaning.push_str(plain)?;
+        rest = after;
+    }
+    Ok((Text::from_string(alloc, meaning)?, rest))
+}
+
+/// The text up to its first white space.
+fn first_word(text: &str) -> &str
+    ensures { result.now ≡ take_while (λ b. not (is_white b)) text.now }
+{
+    let bytes = text.as_bytes();
+    let mut count = 0;
+    'dark: while count < bytes.len() && !is_white(bytes[count]) {
+        count += 1;
+    }
+    let (word, _) = text.split_at(count);
+    word
+}
+
+/// The text up to its first white space, and at most 20 characters of it.
+fn offending_text(alloc: Global, text: &str) -> Result<Text, AllocError>
+    ensures { IfOk result (λ made. made ≡ offending text.now) }
+{
+    Text::new(alloc, first_characters(first_word(text), 20))
+}
+
+/// The element at the head of a text, and what follows it.
+fn read_element(alloc: Global, text: &str) -> Result<(Text, &str), ListError>
+    ensures { Gives (λ read. (read.0, read.1.now)) result (element_at text.now) }
+{
+    if let Some(inside) = strip_mark(text, '{') {
+        let Some((inside, rest)) = split_braced(inside) else {
+            return Err(ListError::Fault(ListFault::UnmatchedBrace));
+        };
+        if !is_end(rest) {
+            let shown = offending_text(alloc, rest)?;
+            return Err(ListError::Fault(ListFault::AfterBrace(shown)));
+        }
+        return Ok((Text::new(alloc, inside)?, rest));
+    }
+    if let Some(inside) = strip_mark(text, '"') {
+        let (element, rest) = read_units(alloc, inside, Stop::Quote)?;
+        let Some(rest) = strip_mark(rest, '"') else {
+            return Err(ListError::Fault(ListFault::UnmatchedQuote));
+        };
+        if !is_end(rest) {
+            let shown = offending_text(alloc, rest)?;
+            return Err(ListError::Fault(ListFault::AfterQuote(shown)));
+        }
+        return Ok((element, rest));
+    }
+    Ok(read_units(alloc, text, Stop::White)?)
+}
+
+/// The list that a text spells: elements in braces, in quotes or bare, with white space between them.
+/// A backslash and what follows it have their meaning in quotes and in bare elements, and nothing else is replaced.
+///
+/// # Errors
+/// The fault of a text that spells none, and want of memory.
+pub fn read_list(alloc: Global, text: &str) -> Result<Vec<Text>, ListError>
+    ensures reads { Gives (λ list. list.items) result (list_of text.now) }
+    ensures found { IfOk result (λ list. Spells list.items text.now) }
+    ensures only { (list : List (List ℕ)) → Spells list text.now → Gives (λ found. found.items) result (Ok list) }
+    ensures fault { IfErr result (λ error. IfFault error (HasFault text.now)) }
+    ensures only_fault { (fault : ListFault) → HasFault text.now fault → Gives (λ found. found.items) result (Err fault) }
+{
+    read_all(alloc, text)
+}
+
+fn read_all(alloc: Global, text: &str) -> Result<Vec<Text>, ListError>
+    ensures { Gives (λ list. list.items) result (list_of text.now) }
+{
+    let mut list = Vec::new(alloc);
+    let mut rest = skip_white(text);
+    'elements: while !rest.is_empty() {
+        let (element, after) = read_element(alloc, rest)?;
+        list.push(element)?;
+        rest = skip_white(after);
+    }
+    Ok(list)
+}
+
+/// Each text spells a list or has a fault.
+pub fn each_text_is_decided()
+    ensures { Decided }
+{}
+
+/// No text spells two lists.
+pub fn one_list_at_most()
+    ensures { OneList }
+{}
+
+/// No text has two faults.
+pub fn one_fault_at_most()
+    ensures { OneFault }
+{}
+
+/// No text that spells a list has a fault.
+pub fn never_list_and_fault()
+    ensures { NeverBoth }
+{}
+
+/// `list_of` gives the list that a text spells, and the fault that it has, and nothing else.
+pub fn list_of_decides()
+    ensures list { GivesList }
+    ensures fault { GivesFault }
+{}
+
+#[cfg(test)]
+mod tests {
+    use super::*;
+    use std::process::Abort;
+    use std::test::Fail;
+
+    fn assert_reads(
+        rt: &impl Abort,
+        alloc: Global,
+        text: &str,
+        elements: &[&str],
+    ) -> Result<(), Fail> {
+        let list = read_list(alloc, text)?;
+        assert_eq!(rt; list.len(), elements.len(), "elements of {text}");
+        for (read, element) in list.iter().zip(elements) {
+            assert!(rt; read.as_str() == *element, "{read:?} of {text}");
+        }
+        Ok(())
+    }
+
+    fn assert_message(
+        rt: &impl Abort,
+        alloc: Global,
+        text: &str,
+        message: &str,
+    ) -> Result<(), Fail> {
+        match read_list(alloc, text) {
+            Err(ListError::Fault(fault)) => {
+                assert!(rt;
+                    fault.message(alloc)?.as_str() == message,
+                    "message of {text}"
+                );
+                Ok(())
+            }
+            Ok(_) | Err(ListError::Memory) => Err("no fault")?,
+        }
+    }
+
+    fn assert_writes(
+        rt: &impl Abort,
+        alloc: Global,
+        elements: &[&str],
+        text: &str,
+    ) -> Result<(), Fail> {
+        let mut list = Vec::new(alloc);
+        for element in elements {
+            list.push(Text::new(alloc, element)?)?;
+        }
+        let written = write_list(alloc, list.as_slice())?;
+        assert!(rt; written.as_str() == text, "{written}");
+        assert_reads(rt, alloc, text, elements)
+    }
+
+    #[test]
+    fn lists_are_read(rt: HostRuntime) -> Result<(), Fail> {
+        let alloc = rt.alloc();
+        assert_reads(&rt, alloc, "", &[])?;
+        assert_reads(&rt, alloc, " a\tb\n", &["a", "b"])?;
+        assert_reads(
+            &rt,
+            alloc,
+            "a {b {c d}} \"e f\" g\\ h",
+            &["a", "b {c d}", "e f", "g h"],
+        )?;
+        assert_reads(&rt, alloc, "{a\\}b} \\x41\\u00e9 #", &["a\\}b", "Aé", "#"])?;
+        assert_reads(&rt, alloc, "a\"b c{d", &["a\"b", "c{d"])
+    }
+
+    #[test]
+    fn faults_are_told(rt: HostRuntime) -> Result<(), Fail> {
+        let alloc = rt.alloc();
+        assert_message(&rt, alloc, "a {b", "unmatched open brace in list")?;
+        assert_message(&rt, alloc, "a \"b", "unmatched open quote in list")?;
+        assert_message(
+            &rt,
+            alloc,
+            "{a}b",
+            "list element in braces followed by \"b\" instead of space",
+        )?;
+        assert_message(
+            &rt,
+            alloc,
+            "\"a\"bc d",
+            "list element in quotes followed by \"bc\" instead of space",
+        )?;
+        assert_message(
+            &rt,
+            alloc,
+            "{a}12345678901234567890123",
+            "list element in braces followed by \"12345678901234567890\" instead of space",
+        )
+    }
+
+    #[test]
+    fn lists_are_written(rt: HostRuntime) -> Result<(), Fail> {
+        let alloc = rt.alloc();
+        assert_writes(&rt, alloc, &["a{", "b\\", "c  d"], "a\\{ b\\\\ {c  d}")?;
+        assert_writes(&rt, alloc, &["#", "a"], "{#} a")?;
+        assert_writes(&rt, alloc, &["a", "#", ""], "a # {}")?;
+        assert_writes(&rt, alloc, &["#\n}", "x\\\ny"], "\\#\\n\\} x\\\\\\ny")
+    }
+
+    #[test]
+    fn elements_are_measured(rt: HostRuntime) -> Result<(), Fail> {
+        assert_eq!(rt; written_len("", true), 2);
+        assert_eq!(rt; written_len("ab", true), 2);
+        assert_eq!(rt; written_len("#", true), 3);
+        assert_eq!(rt; written_len("#", false), 1);
+        assert_eq!(rt; written_len("a{ b", false), 6);
+        let mut text = String::from_str(rt.alloc(), "a ")?;
+        write_element(&mut text, "b c", false)?;
+        assert!(rt; text.as_str() == "a {b c}");
+        Ok(())
+    }
+
+    #[test]
+    fn many_elements(rt: HostRuntime) -> Result<(), Fail> {
+        let alloc = rt.alloc();
+        let mut text = String::new(alloc);
+        for _ in 0..100_000 {
+            text.push_str("a \\n {b c} ")?;
+        }
+        assert_eq!(rt; read_list(alloc, text.as_str())?.len(), 300_000);
+        Ok(())
+    }
+}

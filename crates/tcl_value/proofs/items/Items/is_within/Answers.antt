@@ -1,0 +1,9 @@
+use Rattle.std.proofs.Common.{arith}
+use Rattle.std.proofs.lemmas.Bool.Decides.{nat_tests}
+use Rattle.tcl_value.proofs.Weights.{length-kept}
+use Rattle.tcl_value.proofs.items.Items.is_within.Goals as goal
+
+pub returns : goal.returns
+returns c =
+    let len = length-kept c.self.inside.weight _ c.args.self.now c.self.invariant.weighs c.self.view_is in
+    (λ h. grind (arith, nat_tests), λ h. grind (arith, nat_tests))

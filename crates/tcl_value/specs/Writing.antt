@@ -1,0 +1,16 @@
+-- How lists are written.
+use Rattle.std.specs.Prelude.{ℕ, Bool, false, List, ◌∷◌}
+use Rattle.std.specs.List.{flat_map}
+use Rattle.tcl_text.specs.Writing.{written, written_list}
+
+-- how an element is written, which depends on whether it is the first of its list
+abbrev pub write_element : Bool → List ℕ → List ℕ
+write_element first x = written first x
+
+-- elements after the first
+abbrev pub write_rest : List (List ℕ) → List ℕ
+write_rest xs = flat_map (λ y. 32 ∷ written false y) xs
+
+-- the text of a list
+abbrev pub write : List (List ℕ) → List ℕ
+write xs = written_list xs

@@ -1,0 +1,234 @@
+//! Lists that carry no text.
+ghost use Rattle.std.specs.Prelude.{◌≡◌, ◌<◌, ◌≤◌, ◌++◌, ◌∷◌, ◌↔◌, [], length, IfOk, OnOk, OnErr, IfErr, IsErr, IsErrOf, IsTrue, slice_index_or, slice_set};
+ghost use Rattle.std.specs.String.{string_bytes};
+ghost use Rattle.tcl_value.specs.Limits.{IsWithin, IsPast};
+ghost use Rattle.tcl_value.specs.Writing.{write};
+ghost use Rattle.tcl_value.specs.Texts.{element_text, texts, IsElement, AreElements, weight};
+
+use crate::element::Element;
+use crate::value::ValueError;
+use std::alloc::{AllocError, Global};
+use std::marker::Model;
+
+/// The weight of a list whose text is as long as a value may be: its bytes and one more.
+const MOST_WEIGHT: u128 = 16_777_217;
+
+/// The elements of a list, the weight of their text and a bound on how deep lists stand in them.
+#[cycle(element)]
+#[derive(Drop)]
+pub(crate) struct Items {
+    elements: Vec<Element>,
+    weight: u128,
+    depth: u32,
+}
+
+impl Model for Items {
+    ghost use Rattle.std.specs.Prelude.{List, ℕ, length};
+
+    ghost Value = { List (List ℕ) };
+
+    ghost use Rattle.std.proofs.Common.{arith};
+    ghost use Rattle.tcl_value.specs.Writing.{write};
+    ghost use Rattle.tcl_value.specs.Texts.{texts, IsItems};
+
+    ghost view = { λ a. texts a.elements.items };
+
+    ghost invariant = { λ a. IsItems a.weight (texts a.elements.items) a.elements.items };
+
+    ghost size = { λ v. length (write v) };
+
+    ghost use Rattle.tcl_value.specs.Falls.{items_fall};
+
+    ghost size_decreases = { λ a h. Prim.omega (arith, items_fall a.weight a.elements.items h) };
+}
+
+impl Items {
+    /// The list with no element.
+    pub(crate) fn new(alloc: Global) -> Items
+        ensures { result ≡ [] }
+    {
+        Items {
+            elements: Vec::new(alloc),
+            weight: 0,
+            depth: 0,
+        }
+    }
+
+    /// The list of these elements.
+    pub(crate) fn from_elements(elements: Vec<Element>) -> Items
+        requires { AreElements elements.items }
+        ensures { result ≡ texts elements.items }
+    {
+        let weight = weigh(&elements);
+        let depth = elements
+            .iter()
+            .map(|element| element.depth())
+            .max()
+            .unwrap_or(0);
+        Items {
+            elements,
+            weight,
+            depth,
+        }
+    }
+
+    /// How many elements it has.
+    pub(crate) fn len(&self) -> usize
+        ensures { result ≡ length self.now }
+    {
+        self.elements.len()
+    }
+
+    /// The element at a place.
+    pub(crate) fn get(&self, index: usize) -> &Element
+        requires { index < length self.now }
+        ensures text { element_text result.now ≡ slice_index_or self.now index (element_text result.now) }
+        ensures element { IsElement result.now }
+    {
+        &self.elements[index]
+    }
+
+    /// How many bytes its text has.
+    pub(crate) fn written_len(&self) -> usize
+        requires { IsWithin (write self.now) }
+        ensures { result ≡ length (write self.now) }
+    {
+        (self.weight as usize).saturating_sub(1)
+    }
+
+    /// Whether its text is short enough for a value.
+    pub(crate) fn is_within(&self) -> bool
+        ensures { IsTrue result ↔ IsWithin (write self.now) }
+    {
+        self.weight <= MOST_WEIGHT
+    }
+
+    /// How deep lists and dicts stand in it, at most.
+    pub(crate) fn depth(&self) -> u32 {
+        self.depth
+    }
+
+    /// Writes its text to the end of a string.
+    ///
+    /// # Errors
+    /// Want of memory.
+    #[cycle(write)]
+    pub(crate) fn write_to(&self, out: &mut String) -> Result<(), AllocError>
+        ensures { OnOk result (string_bytes out.new ≡ string_bytes out.old ++ write self.now) }
+    {
+        'elements: for (index, element) in self.elements.iter().enumerate() {
+            if index > 0 {
+                out.push(' ')?;
+            }
+            element.write_to(index == 0, out)?;
+        }
+        Ok(())
+    }
+
+    /// Its text.
+    ///
+    /// # Errors
+    /// Want of memory.
+    pub(crate) fn write(&self, alloc: Global) -> Result<String, AllocError>
+        requires { IsWithin (write self.now) }
+        ensures { IfOk result (λ text. string_bytes text ≡ write self.now) }
+    {
+        let mut text = String::with_capacity(alloc, self.written_len())?;
+        self.write_to(&mut text)?;
+        Ok(text)
+    }
+
+    /// What it would weigh with one more element.
+    fn weight_with(&self, element: &Element) -> u128
+        requires { IsElement element.now }
+        ensures { result ≡ weight (self.now ++ element_text element.now ∷ []) }
+    {
+        let more = element.written_len(self.elements.is_empty());
+        self.weight + more as u128 + 1
+    }
+
+    /// What it would weigh with an element in the place of another.
+    fn weight_with_at(&self, index: usize, element: &Element) -> u128
+        requires element { IsElement element.now }
+        requires in_bounds { index < length self.now }
+        ensures { result ≡ weight (slice_set self.now index (element_text element.now)) }
+    {
+        let first = index == 0;
+        let less = self.elements[index].written_len(first);
+        let more = element.written_len(first);
+        self.weight + more as u128 - less as u128
+    }
+
+    /// Adds an element at the end.
+    ///
+    /// # Errors
+    /// [`ValueError::TooLong`] exactly where the text would be too long for a value; want of memory.
+    pub(crate) fn push(&mut self, element: Element) -> Result<(), ValueError>
+        requires { IsElement element }
+        ensures pushed { OnOk result (self.new ≡ self.old ++ element_text element ∷ []) }
+        ensures within { OnOk result (IsWithin (write self.new)) }
+        ensures refused { IsErrOf result ValueError.TooLong ↔ IsPast (write (self.old ++ element_text element ∷ [])) }
+        ensures unchanged { OnErr result (self.new ≡ self.old) }
+    {
+        let weight = self.weight_with(&element);
+        if weight > MOST_WEIGHT {
+            return Err(ValueError::TooLong);
+        }
+        let depth = self.depth.max(element.depth());
+        self.elements.push(element)?;
+        self.weight = weight;
+        self.depth = depth;
+        Ok(())
+    }
+
+    /// Puts an element in the place of another.
+    ///
+    /// # Errors
+    /// [`ValueError::TooLong`] exactly where the text would be too long for a value.
+    pub(crate) fn set(&mut self, index: usize, element: Element) -> Result<(), ValueError>
+        requires element { IsElement element }
+        requires in_bounds { index < length self.old }
+        ensures set { OnOk result (self.new ≡ slice_set self.old index (element_text element)) }
+        ensures within { OnOk result (IsWithin (write self.new)) }
+        ensures refused { IsErr result ↔ IsPast (write (slice_set self.old index (element_text element))) }
+        ensures error { IfErr result (λ e. e ≡ ValueError.TooLong) }
+        ensures unchanged { OnErr result (self.new ≡ self.old) }
+    {
+        let weight = self.weight_with_at(index, &element);
+        if weight > MOST_WEIGHT {
+            return Err(ValueError::TooLong);
+        }
+        let depth = self.depth.max(element.depth());
+        self.elements[index] = element;
+        self.weight = weight;
+        self.depth = depth;
+        Ok(())
+    }
+}
+
+/// What a list of these elements weighs.
+fn weigh(elements: &[Element]) -> u128
+    requires { AreElements elements.now }
+    ensures { result ≡ weight (texts elements.now) }
+{
+    let mut weight = 0;
+    'elements: for (index, element) in elements.iter().enumerate() {
+        weight += element.written_len(index == 0) as u128 + 1;
+    }
+    weight
+}
+
+impl Clone for Items {
+    ghost is_clone = { λ x y. y ≡ x };
+
+    fn clone(&self) -> Result<Items, AllocError> {
+        let elements = self.elements.clone()?;
+        let weight = self.weight;
+        let depth = self.depth;
+        Ok(Items {
+            elements,
+            weight,
+            depth,
+        })
+    }
+}

@@ -1,0 +1,171 @@
+//! Lists, whose elements are values.
+ghost use Rattle.std.specs.Prelude.{◌≡◌, ◌<◌, ◌==◌, ◌++◌, ◌∷◌, ◌↔◌, [], length, IfOk, OnOk, OnErr, IsErr, IfErr, IsErrOf, IsTrue, slice_index_or, slice_set};
+ghost use Rattle.std.specs.Fmt.{signed_decimal};
+ghost use Rattle.std.specs.String.{string_bytes};
+ghost use Rattle.tcl_value.specs.Limits.{IsWithin, IsPast};
+ghost use Rattle.tcl_value.specs.Writing.{write};
+ghost use Rattle.tcl_value.specs.Reading.{list_of};
+ghost use Rattle.tcl_text.specs.Reading.{Gives};
+ghost use Rattle.tcl_value.specs.Texts.{element_text, texts as texts_of, flat, IsElement, AreElements};
+
+use crate::element::Element;
+use crate::entries::Entries;
+use crate::items::Items;
+use crate::value::{MOST_BYTES, Value, ValueError};
+use std::alloc::{AllocError, Global};
+use std::marker::Model;
+use std::rc::Rc;
+use tcl_text::list::{ListError, read_list};
+use tcl_text::text::Text;
+
+/// A list of values, which contracts see as the list of their texts.
+///
+/// A clone shares the elements. A list that isn't shared is changed in place.
+#[derive(Drop)]
+pub struct List {
+    items: Rc<Items>,
+}
+
+impl Model for List {
+    ghost use Rattle.std.specs.Prelude.{ℕ, List as Items};
+
+    ghost Value = { Items (Items ℕ) };
+
+    ghost view = { λ a. a.items.value };
+}
+
+impl List {
+    /// The list with no element.
+    ///
+    /// # Errors
+    /// Want of memory.
+    pub fn new(alloc: Global) -> Result<List, AllocError>
+        ensures { IfOk result (λ list. list ≡ []) }
+    {
+        let items = Rc::new(alloc, Items::new(alloc))?;
+        Ok(List { items })
+    }
+
+    /// The list of these elements.
+    pub(crate) fn from_items(items: Rc<Items>) -> List
+        ensures { result ≡ items.value }
+    {
+        List { items }
+    }
+
+    /// Its elements, shared.
+    pub(crate) fn to_items(&self) -> Result<Rc<Items>, AllocError>
+        ensures { IfOk result (λ items. items.value ≡ self.now) }
+    {
+        self.items.clone()
+    }
+
+    /// The list that a text spells.
+    pub(crate) fn read(alloc: Global, text: &str) -> Result<List, ListError>
+        ensures { Gives (λ list. list) result (list_of text.now) }
+    {
+        let texts = read_list(alloc, text)?;
+        let elements = elements_of(alloc, &texts)?;
+        let items = Rc::new(alloc, Items::from_elements(elements))?;
+        Ok(List { items })
+    }
+
+    /// The keys and values of a dict in turn.
+    pub(crate) fn of_entries(alloc: Global, entries: &Entries) -> Result<List, AllocError>
+        ensures { IfOk result (λ list. list ≡ flat entries.now) }
+    {
+        let items = Rc::new(alloc, Items::from_elements(entries.to_elements(alloc)?))?;
+        Ok(List { items })
+    }
+
+    /// The list of one number.
+    pub(crate) fn of_number(alloc: Global, n: i64) -> Result<List, AllocError>
+        ensures { IfOk result (λ list. list ≡ signed_decimal n ∷ []) }
+    {
+        let mut elements = Vec::new(alloc);
+        elements.push(Element::Number(n))?;
+        let items = Rc::new(alloc, Items::from_elements(elements))?;
+        Ok(List { items })
+    }
+
+    /// Whether its text is short enough for a value.
+    pub fn is_within(&self) -> bool
+        ensures { IsTrue result ↔ IsWithin (write self.now) }
+    {
+        self.items.is_within()
+    }
+
+    /// Its text.
+    ///
+    /// # Errors
+    /// Want of memory.
+    pub fn write(&self, alloc: Global) -> Result<String, AllocError>
+        requires { IsWithin (write self.now) }
+        ensures { IfOk result (λ text. string_bytes text ≡ write self.now) }
+    {
+        self.items.write(alloc)
+    }
+
+    /// How many elements it has.
+    pub fn len(&self) -> usize
+        ensures { result ≡ length self.now }
+    {
+        self.items.len()
+    }
+
+    /// Whether it has no element.
+    pub fn is_empty(&self) -> bool
+        ensures { result ≡ (length self.now == 0) }
+    {
+        self.items.len() == 0
+    }
+
+    /// The element at a place.
+    ///
+    /// # Errors
+    /// Want of memory.
+    pub fn get(&self, index: usize) -> Result<Value, AllocError>
+        requires { index < length self.now }
+        ensures { IfOk result (λ value. value ≡ slice_index_or self.now index value) }
+    {
+        Value::from_element(self.items.get(index))
+    }
+
+    /// Adds an element at the end: in place where the list isn't shared.
+    ///
+    /// # Errors
+    /// [`ValueError::TooLong`] exactly where the list's text would be too long for a value; want of memory.
+    pub(crate) fn push_element(&mut self, element: Element) -> Result<(), ValueError>
+        requires { IsElement element }
+        ensures pushed { OnOk result (self.new ≡ self.old ++ element_text element ∷ []) }
+        ensures within { OnOk result (IsWithin (write self.new)) }
+        ensures refused { IsErrOf result ValueError.TooLong → IsPast (write (self.old ++ element_text element ∷ [])) }
+        ensures unchanged { OnErr result (self.new ≡ self.old) }
+    {
+        Rc::make_mut(&mut self.items)?.push(element)
+    }
+}
+
+/// The elements of these texts.
+fn elements_of(alloc: Global, texts: &[Text]) -> Result<Vec<Element>, AllocError>
+    ensures texts { IfOk result (λ made. texts_of made.items ≡ texts.now) }
+    ensures elements { IfOk result (λ made. AreElements made.items) }
+{
+    let mut elements = Vec::with_capacity(alloc, texts.len())?;
+    'texts: for text in texts {
+        if text.len() > MOST_BYTES {
+            return Err(AllocError);
+        }
+        elements.push(Element::Text(text.clone()?))?;
+    }
+    Ok(elements)
+}
+
+impl Clone for List {
+    ghost is_clone = { λ x y. y ≡ x };
+
+    fn clone(&self) -> Result<List, AllocError> {
+        let items = self.items.clone()?;
+        Ok(List { items })
+    }
+}
