@@ -237,6 +237,7 @@ least_some xs a at =
   where
     nothing : (a : Aside) → None ≡ Some a → ⊥
     nothing a e = cc
+
     above_same : (b a : Aside) → Some b ≡ Some a → b.above ≡ a.above
     above_same b a e = let same : b ≡ a = cc in ap (λ (c : Aside). c.above) same
 
@@ -304,9 +305,10 @@ sound_cut fs ks gs xs ys zs n m k g y z l room h =
     let kept = k ∙ ap (λ i. take i fs) (one_more n) in
     let taken = g ∙ ap (λ i. drop i fs) (one_more n) in
     let part = reverse_popped ys zs (record { above = n; frames = gs }) y ∙ ap (λ (us : Levels). record { above = n; frames = us } ∷ reverse zs) taken ∙ ap (λ (us : List Aside). record { above = n; frames = drop (suc n) fs } ∷ reverse us) z in
-    let d = length-drop (suc n) fs in
-    (subst (λ (us : List Aside). IsSound (chain ks us)) (sym part) (subst (λ (us : Levels). IsSound (chain us (record { above = n; frames = drop (suc n) fs } ∷ reverse xs))) (sym kept) (sound_set_aside fs (reverse xs) n l h.0)),
-     subst (HasRoom m) (sym part) (room_cons m (record { above = n; frames = drop (suc n) fs }) (reverse xs) (omega (arith, d)) h.1))
+    let d = length-drop (suc n) fs in (
+      subst (λ (us : List Aside). IsSound (chain ks us)) (sym part) (subst (λ (us : Levels). IsSound (chain us (record { above = n; frames = drop (suc n) fs } ∷ reverse xs))) (sym kept) (sound_set_aside fs (reverse xs) n l h.0)),
+      subst (HasRoom m) (sym part) (room_cons m (record { above = n; frames = drop (suc n) fs }) (reverse xs) (omega (arith, d)) h.1),
+    )
 
 pub cut_is : (fs ks gs : Levels) (xs ys zs : List Aside) (n : ℕ) (c : Chain) → ks ≡ take (n + 1) fs → gs ≡ drop (n + 1) fs → ys ≡ zs ++ record { above = n; frames = gs } ∷ [] → zs ≡ xs → n < length fs → chain fs (reverse xs) ≡ c
     → set_aside c n ≡ Ok (chain ks (reverse ys))

@@ -51,13 +51,13 @@ module _ {A E : Type 0} (F self : Frame) (same : F ≡ self) (x : Text) (v w : V
       → OnOk r (rebound self x (assigned part (lookup (bytes_eq x) self.variables) t name) ≡ Ok (record { words = F.words; variables = es }))
   assign_lent part t name h =
       subst (λ (s : Frame). OnOk r (rebound s x (assigned part (lookup (bytes_eq x) s.variables) t name) ≡ Ok (record { words = F.words; variables = es }))) same
-          (on_ok_weaker r (λ p. rebound_is F x v w _ es (ap (λ o. assigned part o t name) found ∙ p) set found) h)
+      (on_ok_weaker r (λ p. rebound_is F x v w _ es (ap (λ o. assigned part o t name) found ∙ p) set found) h)
 
   pub remove_lent : (k name : Text) → OnOk r (left_of (element k) (Some v) name ≡ Ok (Some w))
       → OnOk r (unbound self x (left_of (element k) (lookup (bytes_eq x) self.variables) name) ≡ Ok (record { words = F.words; variables = es }))
   remove_lent k name h =
       subst (λ (s : Frame). OnOk r (unbound s x (left_of (element k) (lookup (bytes_eq x) s.variables) name) ≡ Ok (record { words = F.words; variables = es }))) same
-          (on_ok_weaker r (λ p. unbound_is F x v w _ es (ap (λ o. left_of (element k) o name) found ∙ p) set found) h)
+      (on_ok_weaker r (λ p. unbound_is F x v w _ es (ap (λ o. left_of (element k) o name) found ∙ p) set found) h)
 
   pub lent_same : OnErr r (w ≡ v) → OnErr r (record { words = F.words; variables = es } ≡ self)
   lent_same h = on_err_weaker r (λ p. ap (λ (gs : Variables). record { words = F.words; variables = gs }) (set ∙ ap (set_value (bytes_eq x) F.variables) p ∙ set_same x F.variables v found) ∙ same) h

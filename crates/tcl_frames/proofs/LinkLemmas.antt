@@ -162,13 +162,14 @@ pub bind_link_fit : (fs : Levels) → AreFit 0 fs → (local : Text) (q : Place)
 unfolding bind
 bind_link_fit fs fit local q free low apart end =
     fit_level 0 fs (current fs) (λ es. insert_entry bytes_eq es local (Link q)) fit
-        (λ f at here.
-            let zero_n : 0 + current fs ≡ current fs = omega arith in
-            fit_linked (0 + current fs) f local q (subst IsFree (bound_at fs (current fs) local f at) free) (omega arith)
-                (λ e. let same : q.level ≡ current fs = omega arith in
-                    (not_there q.level (current fs) (bytes_eq local q.name) apart same,
-                     subst IsNoLink (ap (λ n. bound fs n q.name) same ∙ bound_at fs (current fs) q.name f at) end))
-                here)
+    (λ f at here.
+    let zero_n : 0 + current fs ≡ current fs = omega arith in
+    fit_linked (0 + current fs) f local q (subst IsFree (bound_at fs (current fs) local f at) free) (omega arith)
+    (λ e. let same : q.level ≡ current fs = omega arith in (
+      not_there q.level (current fs) (bytes_eq local q.name) apart same,
+      subst IsNoLink (ap (λ n. bound fs n q.name) same ∙ bound_at fs (current fs) q.name f at) end,
+    ))
+    here)
 
 ok_levels : (a gs : Levels) → AreFit 0 a → ◌≡◌ {A = Result Levels FrameFault} (Ok a) (Ok gs) → AreFit 0 gs
 ok_levels a gs h e = let same : a ≡ gs = cc in subst (AreFit 0) same h

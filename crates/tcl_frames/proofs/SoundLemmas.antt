@@ -122,13 +122,13 @@ linked_end : (n : ℕ) (es : Variables) (x : Text) (q : Place) → ((y : Text) �
 linked_end n es x q end far None old free y =
     let count : links_in (insert_entry bytes_eq es x (Link q)) ≡ suc (links_in es) = let a = links_inserted es x (Link q) in let b = ap link_at old in omega arith in
     subst (λ k. Ends k (hop n (insert_entry bytes_eq es x (Link q))) (Some y)) (sym count)
-        (ends_fresh (hop n es) (hop n (insert_entry bytes_eq es x (Link q))) (is_name x) (hop_to (q.level == n) q.name) (hop_same n es x q) (hop_anew n es x q) (hop_stop n es x q far (q.level == n) refl) (links_in es) (Some y) (end y))
+    (ends_fresh (hop n es) (hop n (insert_entry bytes_eq es x (Link q))) (is_name x) (hop_to (q.level == n) q.name) (hop_same n es x q) (hop_anew n es x q) (hop_stop n es x q far (q.level == n) refl) (links_in es) (Some y) (end y))
 linked_end n es x q end far (Some (Scalar t)) old free y = absurd free
 linked_end n es x q end far (Some (Array fs)) old free y = absurd free
 linked_end n es x q end far (Some (Link p)) old free y =
     let count : links_in (insert_entry bytes_eq es x (Link q)) ≡ links_in es = let a = links_inserted es x (Link q) in let b = ap link_at old in omega arith in
     subst (λ k. Ends k (hop n (insert_entry bytes_eq es x (Link q))) (Some y)) (sym count)
-        (ends_again (hop n es) (hop n (insert_entry bytes_eq es x (Link q))) (is_name x) (hop_to (q.level == n) q.name) (hop_same n es x q) (hop_anew n es x q) (hop_stop n es x q far (q.level == n) refl) (hop_was n es x q p old) (links_in es) (Some y) (end y))
+    (ends_again (hop n es) (hop n (insert_entry bytes_eq es x (Link q))) (is_name x) (hop_to (q.level == n) q.name) (hop_same n es x q) (hop_anew n es x q) (hop_stop n es x q far (q.level == n) refl) (hop_was n es x q p old) (links_in es) (Some y) (end y))
 
 pub fit_linked : (n : ℕ) (f : Frame) (x : Text) (q : Place) → IsFree (lookup (bytes_eq x) f.variables) → q.level ≤ n → (q.level ≡ n → (bytes_eq x q.name ≡ false) × IsNoLink (lookup (bytes_eq q.name) f.variables)) → IsFit n f → IsFit n (record { words = f.words; variables = insert_entry bytes_eq f.variables x (Link q) })
 fit_linked n f x q free low far fit = record {
@@ -243,13 +243,13 @@ level_ends fs n b f at within below (suc k) x part h =
           let on = next_is fs (record { level = n; name = x; part = part }) (Some (Link s.0)) (bound_at fs n x f at ∙ s.1) in
           let low : s.0.level ≤ n = within_found n f.variables x (Link s.0) within s.1 in
           let there : Ends (k + b) (next fs) (under s.0 part) = elim (test_of (s.0.level == n)) [
-              | inl t ↦
-                  let same = equal_levels s.0.level n t in
-                  let rest_here : Ends k (hop n f.variables) (Some s.0.name) = subst (λ v. Ends k (hop n f.variables) (hop_to v s.0.name)) t rest in
-                  subst (λ m. Ends (k + b) (next fs) (record { level = m; name = s.0.name; part = merge (part_of s.0.key) part })) (sym same)
-                      (level_ends fs n b f at within below k s.0.name (merge (part_of s.0.key) part) rest_here)
-              | inr t ↦ ends_add k b (next fs) (under s.0 part) (below (under s.0 part) (lower_level s.0.level n low t))
-            ] in
+            | inl t ↦
+                let same = equal_levels s.0.level n t in
+                let rest_here : Ends k (hop n f.variables) (Some s.0.name) = subst (λ v. Ends k (hop n f.variables) (hop_to v s.0.name)) t rest in
+                subst (λ m. Ends (k + b) (next fs) (record { level = m; name = s.0.name; part = merge (part_of s.0.key) part })) (sym same)
+                (level_ends fs n b f at within below k s.0.name (merge (part_of s.0.key) part) rest_here)
+            | inr t ↦ ends_add k b (next fs) (under s.0 part) (below (under s.0 part) (lower_level s.0.level n low t))
+          ] in
           subst (λ m. Ends m (next fs) (record { level = n; name = x; part = part })) (suc_plus k b) (ends_step (k + b) (next fs) _ (under s.0 part) on there)
     ]
 
@@ -268,9 +268,9 @@ ends_below fs fit zero p l = absurd (omega arith)
 ends_below fs fit (suc n) p l =
     elim (get_cases fs n) [
       | inl none ↦ elim (earlier p.level n l) [
-          | inl low ↦ subst (λ (gs : Levels). Ends (links gs) (next fs) p) (sym (take_none fs n none)) (ends_below fs fit n p low)
-          | inr same ↦ ends_at (links (take (suc n) fs)) (next fs) p (next_none fs p (subst IsNoLink (sym (bound_past fs p.level p.name (ap (slice_get fs) same ∙ none))) tt))
-        ]
+        | inl low ↦ subst (λ (gs : Levels). Ends (links gs) (next fs) p) (sym (take_none fs n none)) (ends_below fs fit n p low)
+        | inr same ↦ ends_at (links (take (suc n) fs)) (next fs) p (next_none fs p (subst IsNoLink (sym (bound_past fs p.level p.name (ap (slice_get fs) same ∙ none))) tt))
+      ]
       | inr some ↦
           let up = links_up fs n some.0 some.1 in
           elim (earlier p.level n l) [

@@ -173,7 +173,7 @@ fit_level n [] i g fit h = fit
 fit_level n (f ∷ fs) zero g fit h = fit_cons n (changed g f) fs (fit_from_zero n (changed g f) (h f refl (fit_zero n f (fit_head n f fs fit)))) (fit_tail n f fs fit)
 fit_level n (f ∷ fs) (suc i) g fit h =
     fit_cons n f (on_level fs i g) (fit_head n f fs fit)
-        (fit_level (suc n) fs i g (fit_tail n f fs fit) (λ k at here. fit_there n i (changed g k) (h k at (fit_here n i k here))))
+    (fit_level (suc n) fs i g (fit_tail n f fs fit) (λ k at here. fit_there n i (changed g k) (h k at (fit_here n i k here))))
 
 set_level : (fs : Levels) (i : ℕ) (f : Frame) (g : Variables → Variables) → slice_get fs i ≡ Some f → on_level fs i g ≡ slice_set fs i (changed g f)
 set_level [] i f g at = absurd (cc)
@@ -262,6 +262,7 @@ left_plain (element k) (Some (Array es)) x v e = by (lookup (bytes_eq k) es) e
   where
     some_of : (a w : Variable) → IsNoLink (Some a) → ◌≡◌ {A = Result (Option Variable) FrameFault} (Ok (Some a)) (Ok (Some w)) → IsNoLink (Some w)
     some_of a w h e = let same : a ≡ w = cc in subst (λ u. IsNoLink (Some u)) same h
+
     by : (o : Option Text) → without_element o es k x ≡ Ok (Some v) → IsNoLink (Some v)
     by None e = absurd (cc)
     by (Some t) e = some_of (Array (remove_entry (bytes_eq k) es)) v tt e
@@ -285,19 +286,19 @@ pub written_fit : (fs gs : Levels) (x t : Text) → AreFit 0 fs → written fs x
 unfolding written
 written_fit fs gs x t fit e =
     at_name_fit fs gs x _
-        (λ p h. fit_bound fs gs fit (end_of fs p) (end_no_link fs fit p) _ (λ v. assigned_plain (end_of fs p).part (bound fs (end_of fs p).level (end_of fs p).name) t x v) h) e
+    (λ p h. fit_bound fs gs fit (end_of fs p) (end_no_link fs fit p) _ (λ v. assigned_plain (end_of fs p).part (bound fs (end_of fs p).level (end_of fs p).name) t x v) h) e
 
 pub made_array_fit : (fs gs : Levels) (x : Text) → AreFit 0 fs → made_array fs x ≡ Ok gs → AreFit 0 gs
 unfolding made_array
 made_array_fit fs gs x fit e =
     at_name_fit fs gs x _
-        (λ p h. fit_bound fs gs fit (end_of fs p) (end_no_link fs fit p) _ (λ v. arrayed_plain (end_of fs p).part (bound fs (end_of fs p).level (end_of fs p).name) x v) h) e
+    (λ p h. fit_bound fs gs fit (end_of fs p) (end_no_link fs fit p) _ (λ v. arrayed_plain (end_of fs p).part (bound fs (end_of fs p).level (end_of fs p).name) x v) h) e
 
 pub removed_fit : (fs gs : Levels) (x : Text) → AreFit 0 fs → removed fs x ≡ Ok gs → AreFit 0 gs
 unfolding removed
 removed_fit fs gs x fit e =
     at_name_fit fs gs x _
-        (λ p h. fit_left fs gs fit (end_of fs p) (end_no_link fs fit p) _ (λ v. left_plain (end_of fs p).part (bound fs (end_of fs p).level (end_of fs p).name) x v) h) e
+    (λ p h. fit_left fs gs fit (end_of fs p) (end_no_link fs fit p) _ (λ v. left_plain (end_of fs p).part (bound fs (end_of fs p).level (end_of fs p).name) x v) h) e
 
 -- ## What the code finds
 
@@ -316,7 +317,6 @@ pub find_some : (fs : Levels) → AreFit 0 fs → (n : ℕ) (x : Text) (q : Plac
 find_some fs fit n x q p o link e is =
     let on = e ∙ sym (follow_end fs fit (start n x) q link) in
     (is ∙ ap (λ (r : Spot). bound_where fs r) on, ap (λ (r : Spot). r.part) on)
-
 
 pub target_none : (fs : Levels) (n : ℕ) (x : Text) (r : Part) → link_of (bound fs n x) ≡ None → end_of fs (over (start n x) r) ≡ over (start n x) r
 target_none fs n x r e = end_over fs (start n x) r ∙ ap (λ (p : Spot). over p r) (start_end_none fs n x e)

@@ -147,9 +147,9 @@ module _ {A : Type 0} where
         elim (test_of (t p)) [
           | inl is ↦ ends_step (suc n) g p e (anew p is) (ends_at (suc n) g e stop)
           | inr is ↦ elim (step_of f p) [
-              | inl none ↦ ends_at (suc (suc n)) g p (same p is ∙ none)
-              | inr s ↦ ends_step (suc n) g p s.0 (same p is ∙ s.1) (ends_fresh n s.0 (ends_back n f p s.0 s.1 h))
-            ]
+            | inl none ↦ ends_at (suc (suc n)) g p (same p is ∙ none)
+            | inr s ↦ ends_step (suc n) g p s.0 (same p is ∙ s.1) (ends_fresh n s.0 (ends_back n f p s.0 s.1 h))
+          ]
         ]
 
     pub ends_again : ((a : A) → t a ≡ true → (b : A) × (f a ≡ Some b)) → (n : ℕ) (p : A) → Ends n f p → Ends n g p
@@ -162,9 +162,9 @@ module _ {A : Type 0} where
         elim (test_of (t p)) [
           | inl is ↦ ends_step n g p e (anew p is) (ends_at n g e stop)
           | inr is ↦ elim (step_of f p) [
-              | inl none ↦ ends_at (suc n) g p (same p is ∙ none)
-              | inr s ↦ ends_step n g p s.0 (same p is ∙ s.1) (ends_again was n s.0 (ends_back n f p s.0 s.1 h))
-            ]
+            | inl none ↦ ends_at (suc n) g p (same p is ∙ none)
+            | inr s ↦ ends_step n g p s.0 (same p is ∙ s.1) (ends_again was n s.0 (ends_back n f p s.0 s.1 h))
+          ]
         ]
 
   -- a test that no place on the way passes, the last one doesn't

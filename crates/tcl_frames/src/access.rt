@@ -35,7 +35,11 @@ fn whole_value<'a>(variable: Option<&'a Variable>, name: &Text) -> Result<&'a Va
     }
 }
 
-fn read_element<'a>(elements: &'a NameMap<Value>, key: &str, name: &Text) -> Result<&'a Value, FrameError>
+fn read_element<'a>(
+    elements: &'a NameMap<Value>,
+    key: &str,
+    name: &Text,
+) -> Result<&'a Value, FrameError>
     ensures ok { IfOk result (λ v. read_element (lookup (bytes_eq key.now) elements.now) name.now ≡ Ok v.now) }
     ensures err { IfErr result (λ e. Refuses e (read_element (lookup (bytes_eq key.now) elements.now) name.now)) }
 {

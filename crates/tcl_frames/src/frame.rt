@@ -196,7 +196,12 @@ impl Frame {
     }
 
     /// Makes a name a link.
-    pub(crate) fn link(&mut self, alloc: Global, local: &str, place: Place) -> Result<(), AllocError>
+    pub(crate) fn link(
+        &mut self,
+        alloc: Global,
+        local: &str,
+        place: Place,
+    ) -> Result<(), AllocError>
         ensures ok { OnOk result (self.new ≡ with_variable self.old local.now (Link place)) }
         ensures unchanged { OnErr result (self.new ≡ self.old) }
     {

@@ -112,10 +112,7 @@ fn push_own(
 }
 
 /// The names that are no links.
-fn unlinked_names(
-    alloc: Global,
-    variables: &NameMap<Variable>,
-) -> Result<Vec<Text>, AllocError>
+fn unlinked_names(alloc: Global, variables: &NameMap<Variable>) -> Result<Vec<Text>, AllocError>
     ensures { IfOk result (λ names. names.items ≡ names_own variables.now) }
 {
     let mut names = Vec::new(alloc);

@@ -234,11 +234,7 @@ impl OwnedPart {
         }
     }
 
-    fn with_key(
-        alloc: Global,
-        part: Part<'_>,
-        key: Option<&str>,
-    ) -> Result<OwnedPart, AllocError>
+    fn with_key(alloc: Global, part: Part<'_>, key: Option<&str>) -> Result<OwnedPart, AllocError>
         ensures { IfOk result (λ owned. owned_part owned ≡ merge (seen_part part.entry) (part_of (option_copied key.entry))) }
     {
         match key {
@@ -363,15 +359,7 @@ fn change_from(
     ensures unchanged { OnErr result (frames.new ≡ frames.old) }
 {
     match find_target(frames, alloc, level, base, key)? {
-        None => change_at(
-            frames,
-            alloc,
-            level,
-            base,
-            part_written(key),
-            change,
-            name,
-        ),
+        None => change_at(frames, alloc, level, base, part_written(key), change, name),
         Some(end) => {
             let base = end.name.as_str();
             let part = end.part.as_part();

@@ -13,6 +13,6 @@ returns c =
     let at = sym c.entry.ensures ∙ ap (option_map lent_entry) c.in-Some.is in
     let e = end_of c.args.frames.now (start c.args.level c.in-Some.name.now) in
     let is = c.holds_in-is_held.ensures
-            ∙ ap (λ r. is_held r (option_copied c.find-found.result.variable)) c.find-found.ensures.part
-            ∙ ap (λ o. is_held e.part o) c.find-found.ensures.variable in
+    ∙ ap (λ r. is_held r (option_copied c.find-found.result.variable)) c.find-found.ensures.part
+    ∙ ap (λ o. is_held e.part o) c.find-found.ensures.variable in
     on_ok_weaker c.push_if.result (λ made. held_step c.args.frames.now c.args.level c.args.variables.now c.args.index (c.in-Some.name.now, c.in-Some.field-0-1.now) c.holds_in-is_held.result c.args.names.now.items c.push_if.new.names.items at is made) c.push_if.ensures

@@ -19,4 +19,4 @@ returns-clause-err c =
     let f = get_or c.args.frames.now c.args.level c.index-frames-level.result in
     let at = slice_get-get_or c.args.frames.now c.args.level c.index-frames-level.result c.requires in
     IfErr-weaker c.change.result (λ e. Refuses e (change_frame c.args.change f c.args.base.now (seen_part c.args.part) c.args.name.now)) (λ e. Refuses e (change_levels c.args.change c.args.frames.now (over (start c.args.level c.args.base.now) (seen_part c.args.part)) c.args.name.now))
-        (λ e p. refuses_level e c.args.change c.args.frames.now (over (start c.args.level c.args.base.now) (seen_part c.args.part)) f c.args.name.now at p) c.change.ensures.err
+    (λ e p. refuses_level e c.args.change c.args.frames.now (over (start c.args.level c.args.base.now) (seen_part c.args.part)) f c.args.name.now at p) c.change.ensures.err

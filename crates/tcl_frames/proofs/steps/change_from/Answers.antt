@@ -9,4 +9,4 @@ use Rattle.tcl_frames.proofs.steps.change_from.Goals as goal
 pub change_at-requires-in-Some : goal.change_at-requires-in-Some
 change_at-requires-in-Some c =
     target_within c.args.frames.now c.requires.fit c.args.level c.args.base.now (part_of (option_copied c.args.key)) _ c.requires.within
-        (c.in_ok-find_target.ensures ∙ ap (target_or (start c.args.level c.args.base.now) (part_of (option_copied c.args.key))) c.in-Some.is)
+    (c.in_ok-find_target.ensures ∙ ap (target_or (start c.args.level c.args.base.now) (part_of (option_copied c.args.key))) c.in-Some.is)

@@ -16,13 +16,13 @@ returns-in-None-clause-part c =
 pub returns-in-Some-clause-variable : goal.returns-in-Some-clause-variable
 returns-in-Some-clause-variable c =
     (find_some c.args.frames.now c.requires c.args.level c.args.base.now c.in-Some.link.now (reached c.reach-end.result) (option_copied c.variable_at.result)
-        (ap link_of (sym c.variable_at-variable.ensures) ∙ sym c.link_in.ensures ∙ ap option_copied c.in-Some.is)
-        c.reach-end.ensures
-        (c.variable_at.ensures ∙ ap (bound c.args.frames.now c.reach-end.result.level) c.as_str.ensures)).0
+    (ap link_of (sym c.variable_at-variable.ensures) ∙ sym c.link_in.ensures ∙ ap option_copied c.in-Some.is)
+    c.reach-end.ensures
+    (c.variable_at.ensures ∙ ap (bound c.args.frames.now c.reach-end.result.level) c.as_str.ensures)).0
 
 pub returns-in-Some-clause-part : goal.returns-in-Some-clause-part
 returns-in-Some-clause-part c =
     (find_some c.args.frames.now c.requires c.args.level c.args.base.now c.in-Some.link.now (reached c.reach-end.result) (option_copied c.variable_at.result)
-        (ap link_of (sym c.variable_at-variable.ensures) ∙ sym c.link_in.ensures ∙ ap option_copied c.in-Some.is)
-        c.reach-end.ensures
-        (c.variable_at.ensures ∙ ap (bound c.args.frames.now c.reach-end.result.level) c.as_str.ensures)).1
+    (ap link_of (sym c.variable_at-variable.ensures) ∙ sym c.link_in.ensures ∙ ap option_copied c.in-Some.is)
+    c.reach-end.ensures
+    (c.variable_at.ensures ∙ ap (bound c.args.frames.now c.reach-end.result.level) c.as_str.ensures)).1

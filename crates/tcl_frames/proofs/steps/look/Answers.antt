@@ -11,5 +11,5 @@ returns-in-None-clause-err c =
 pub returns-in-Some-clause-ok : goal.returns-in-Some-clause-ok
 returns-in-Some-clause-ok c =
     stands c.args.frames.now c.args.name.now (seen c.in-Some.written) c.level_meant-level.result (option_copied c.find-found.result.variable) (seen_part c.find-found.result.part)
-        (read_some c.read_name.result c.as_str.result.now c.args.name.now c.in-Some.written c.read_name.ensures c.as_str.ensures c.in-Some.is)
-        c.level_meant-level.ensures c.find-found.ensures.variable c.find-found.ensures.part
+    (read_some c.read_name.result c.as_str.result.now c.args.name.now c.in-Some.written c.read_name.ensures c.as_str.ensures c.in-Some.is)
+    c.level_meant-level.ensures c.find-found.ensures.variable c.find-found.ensures.part

@@ -15,7 +15,7 @@ links-smaller c =
     let q = c.in-Some.next.now in
     let found = sym c.link_at.ensures ∙ ap option_copied c.in-Some.is in
     subst (λ (r : Part). hops (links c.args.frames.now) (next c.args.frames.now) (record { level = q.level; name = q.name; part = r }) < hops (links c.args.frames.now) (next c.args.frames.now) p)
-        (sym c.part_under-part-in-Some.ensures) (follow_falls c.args.frames.now c.requires p q found)
+    (sym c.part_under-part-in-Some.ensures) (follow_falls c.args.frames.now c.requires p q found)
 
 pub links-preserved : goal.links-preserved
 links-preserved c =

@@ -29,7 +29,7 @@ invariant_of-self c =
     let joined = c.append.ensures.items ∙ ap (λ r. if is_ok r then c.truncate.new.self.items ++ c.part.inside.frames.items else c.truncate.new.self.items) c.unwrap.ensures in
     let same = joined ∙ ap (λ (gs : Levels). gs ++ c.part.inside.frames.items) (c.truncate.ensures.items ∙ ap (λ n. take n fs) (one_more c.part.inside.above)) in
     sound_kept (take (suc c.part.inside.above) fs ++ c.part.inside.frames.items) c.append.new.self.items (reverse c.pop.new.self.items) c.self.inside.frames.cap c.append.new.self.cap
-        same (omega (arith, c.truncate.ensures.capacity, c.append.ensures.capacity)) (b.sound, b.later)
+    same (omega (arith, c.truncate.ensures.capacity, c.append.ensures.capacity)) (b.sound, b.later)
 
 pub returns-in-Some : goal.returns-in-Some
 returns-in-Some c =

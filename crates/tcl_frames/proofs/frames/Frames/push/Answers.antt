@@ -9,4 +9,4 @@ invariant_of-self c =
 pub invariant_of-self-2 : goal.invariant_of-self-2
 invariant_of-self-2 c =
     sound_push c.self.inside.frames.items c.push.new.self.items c.new.result (reverse c.self.inside.aside.items) c.args.words.items c.self.inside.frames.cap c.push.new.self.cap
-        c.in_ok-push.ensures.items c.new.ensures.words c.new.ensures.variables c.in_ok-push.ensures.capacity c.self.invariant
+    c.in_ok-push.ensures.items c.new.ensures.words c.new.ensures.variables c.in_ok-push.ensures.capacity c.self.invariant

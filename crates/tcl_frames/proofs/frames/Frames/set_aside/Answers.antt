@@ -13,7 +13,7 @@ invariant_of-self-2 c =
     let below : c.args.level < length fs = omega (arith, c.len.ensures, c.if-level-len.false, c.self.inside.frames.ok.0) in
     let room : length fs ≤ c.self.inside.frames.cap = omega (arith, c.self.inside.frames.ok.0, c.self.inside.frames.ok.1) in
     let cut = sound_cut fs c.split_frames.new.frames.items c.in_ok-frames.frames.items c.self.inside.aside.items c.push_reserved.new.self.items c.reserve.new.self.items c.args.level c.self.inside.frames.cap
-            c.in_ok-frames.ensures.kept c.in_ok-frames.ensures.taken c.push_reserved.ensures.items c.in_ok-reserve.ensures.items below room c.self.invariant in
+    c.in_ok-frames.ensures.kept c.in_ok-frames.ensures.taken c.push_reserved.ensures.items c.in_ok-reserve.ensures.items below room c.self.invariant in
     (cut.0, subst (λ n. HasRoom n (reverse c.push_reserved.new.self.items)) (sym c.in_ok-frames.ensures.room) cut.1)
 
 pub returns-clause-ok : goal.returns-clause-ok
@@ -21,4 +21,4 @@ returns-clause-ok c =
     let fs = c.self.inside.frames.items in
     let below : c.args.level < length fs = omega (arith, c.len.ensures, c.if-level-len.false, c.self.inside.frames.ok.0) in
     cut_is fs c.split_frames.new.frames.items c.in_ok-frames.frames.items c.self.inside.aside.items c.push_reserved.new.self.items c.reserve.new.self.items c.args.level c.args.self.now
-        c.in_ok-frames.ensures.kept c.in_ok-frames.ensures.taken c.push_reserved.ensures.items c.in_ok-reserve.ensures.items below c.self.view_is
+    c.in_ok-frames.ensures.kept c.in_ok-frames.ensures.taken c.push_reserved.ensures.items c.in_ok-reserve.ensures.items below c.self.view_is
