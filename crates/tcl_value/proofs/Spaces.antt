@@ -6,7 +6,8 @@ use Rattle.std.specs.Char.{digit_value}
 use Rattle.std.proofs.lemmas.Bool.Decides.{nat_tests}
 use Rattle.tcl_text.specs.declared.integer.Integers.{Integers}
 use Rattle.tcl_text.specs.declared.integer.Integers.TheVariants.{Tcl8, Tcl9}
-use Rattle.tcl_text.specs.Numbers.{is_white, trim_start, trim_end, before_trimmed, are_digits, sum_of_digits, in_base, is_letter, base_after_zero, after_zero, unsigned, with_sign, signed, integer_of}
+use Rattle.tcl_text.specs.Lists.{is_white}
+use Rattle.tcl_text.specs.Numbers.{trim_start, trim_end, before_trimmed, are_digits, sum_of_digits, in_base, is_letter, base_after_zero, after_zero, unsigned, with_sign, signed, integer_of}
 
 -- a space stands in a text
 abbrev pub has_space : List ℕ → Bool

@@ -5,6 +5,4 @@ mod element;
 mod entries;
 mod items;
 pub mod list;
-#[cfg(test)]
-mod tests;
 pub mod value;
