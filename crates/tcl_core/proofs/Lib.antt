@@ -21,3 +21,6 @@ pub mod Parting
 pub mod Worked
 pub mod Worlds
 pub mod Unended
+pub mod Refusals
+pub mod Lending
+pub mod Beginnings

@@ -123,16 +123,16 @@ module _ {O : Type 0} (c : Place) where
       no2 : On ≡ Off r → Prim.⊥
       no2 h = cc
 
-  changing_on : (o : O) (n : Option (Node O)) → (changing o n).2 ≡ On
+  pub changing_on : (o : O) (n : Option (Node O)) → (changing o n).2 ≡ On
   changing_on o None = refl
   changing_on o (Some n) = refl
 
-  making_on : (name : List ℕ) (o : O) (s : Bool) (parent n : Option (Node O)) → (making name o s parent n).2 ≡ On
+  pub making_on : (name : List ℕ) (o : O) (s : Bool) (parent n : Option (Node O)) → (making name o s parent n).2 ≡ On
   making_on name o s None n = refl
   making_on name o s (Some m) None = refl
   making_on name o s (Some m) (Some n) = refl
 
-  dropping_on : (name : List ℕ) (n : Option (Node O)) → (dropping name n).2 ≡ On
+  pub dropping_on : (name : List ℕ) (n : Option (Node O)) → (dropping name n).2 ≡ On
   dropping_on name None = refl
   dropping_on name (Some n) = go n.depth
     where

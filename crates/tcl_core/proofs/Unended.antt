@@ -36,11 +36,11 @@ module _ {O : Type 0} where
   IsUncut [] = Unit {0}
   IsUncut (ev ∷ τ) = Uncut ev.place ev.what × IsUncut τ
 
-abbrev IsNoCut : Next → Type 0
+abbrev pub IsNoCut : Next → Type 0
 IsNoCut (Off (Cut c)) = Prim.⊥
 IsNoCut _ = Unit {0}
 
-abbrev NotCut : Reply → Type 0
+abbrev pub NotCut : Reply → Type 0
 NotCut (Cut c) = Prim.⊥
 NotCut _ = Unit {0}
 
@@ -102,7 +102,7 @@ module _ {O : Type 0} where
       by zero = tt
       by (suc d) = tt
 
-  decide_uncut : (d : Act O) (T : Tree O) (p : Place) (gs : Grants) (x : Deed O) → decide d T p gs ≡ Some x → IsNoCut x.2 → Uncut (spot p x.0) x.1
+  pub decide_uncut : (d : Act O) (T : Tree O) (p : Place) (gs : Grants) (x : Deed O) → decide d T p gs ≡ Some x → IsNoCut x.2 → Uncut (spot p x.0) x.1
   decide_uncut Look T p gs x e = of_deed p (None, Seen, On) x (λ c. tt) e
   decide_uncut (Change o) T p gs x e = of_deed p (changing o (T p)) x (λ c. changing_uncut p o (T p)) e
   decide_uncut Charge T p gs x e = metered_uncut is_spent T p Count Charged (blocked is_spent T p) gs x refl tt e
@@ -111,7 +111,7 @@ module _ {O : Type 0} where
   decide_uncut (Make name o s) T p gs x e = of_deed p (making name o s (T p) (T (p ++ name ∷ []))) x (λ c. making_uncut p name o s (T p) (T (p ++ name ∷ []))) e
   decide_uncut (Drop name) T p gs x e = of_deed p (dropping name (T (p ++ name ∷ []))) x (λ c. dropping_uncut p name (T (p ++ name ∷ []))) e
 
-  opens_uncut : (b : Wrap O) (T : Tree O) (p : Place) (gs : Grants) (x : Deed O) → opens b T p gs ≡ Some x → IsNoCut x.2 → Uncut (spot p x.0) x.1
+  pub opens_uncut : (b : Wrap O) (T : Tree O) (p : Place) (gs : Grants) (x : Deed O) → opens b T p gs ≡ Some x → IsNoCut x.2 → Uncut (spot p x.0) x.1
   opens_uncut Deeper T p gs x e = metered_uncut is_deep T p Depth Nested (blocked is_deep T p) gs x refl tt e
   opens_uncut (Framed o back) T p gs x e = of_deed p (changing o (T p)) x (λ c. changing_uncut p o (T p)) e
 
@@ -147,7 +147,7 @@ module _ {O : Type 0} where
       by (Enter u i ∷ ms) x = halt x
 
 -- a reply that isn't cut, as the caller is told it, wasn't
-carried_cut : (h : Height) (p : Place) (down : Path) (r : Reply) → NotCut (carried h p down r) → NotCut r
+pub carried_cut : (h : Height) (p : Place) (down : Path) (r : Reply) → NotCut (carried h p down r) → NotCut r
 carried_cut h p down (Completed c) f = tt
 carried_cut h p down (Stop n m) f = tt
 carried_cut h p down (Exit n) f = tt

@@ -101,7 +101,7 @@ module _ {O I : Type 0} where
       living prog k l.0 (inside_of c w) (inside_of c v) refl (lasting c w.tape st) un (view_ins c w.tape ∙ b ∙ sym (view_dones c w.tape)) (ap (view c) f) l.1
 
   -- a life that halts, with the first moves alone
-  first_part : (prog : Table O I) (w v : World O) (a b : List (Move O)) → Derives prog w [] (wait idle never) v None → w.moves ≡ a ++ b → Stops w (Run_of prog w a [] (wait idle never))
+  pub first_part : (prog : Table O I) (w v : World O) (a b : List (Move O)) → Derives prog w [] (wait idle never) v None → w.moves ≡ a ++ b → Stops w (Run_of prog w a [] (wait idle never))
   first_part prog w v a b d m = by (part prog d a b m)
     where
       by : Result w v (Run_of prog w a [] (wait idle never)) None b → Stops w (Run_of prog w a [] (wait idle never))

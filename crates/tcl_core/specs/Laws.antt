@@ -295,3 +295,11 @@ Bounded O I = (prog : Table O I) (w v : World O) (p : Place) (x : Prog O I) (e :
 abbrev pub Passing : Type 0 → Type 0 → Type 0
 Passing O I = (prog : Table O I) (w u v : World O) (p : Place) (i : I) (k : Completion → Prog O I) (r : Reply) (e : Ending) →
     IsQuit r → Runs prog w p (prog.program i) u (Some r) → Runs prog w p (go i k) v e → e ≡ Some r
+
+-- Where an entry is ended from outside, what is told before that is a beginning of what React tells, for the moves before it: and so for each
+-- beginning of what happens in the subtree in which nothing is ended from outside. The budget is one that the whole doesn't pass.
+abbrev pub IsolationUntil : Type 0 → Type 0 → Type 0
+IsolationUntil O I = (prog : Table O I) (c : Place) (w v : World O) (t : Path) (i : Entry) (r : Reply) (m : ℕ) (before later : List (Event O)) (x : Outcome) (outs : List (Event O)) (V : Tree O) →
+    Visits prog (Runs prog) w None t i v (Some r) → v.moves ≡ [] → v.tape ≡ [] →
+    view c w.tape ≡ before ++ later → IsUnended before → steps_of (view c w.tape) ≤ m →
+    React prog (at w.tree c) (moves_of before) m x outs V → (more : List (Event O)) × (outs ≡ outs_of before ++ more)

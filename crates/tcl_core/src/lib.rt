@@ -3,7 +3,7 @@
 #![tactic(auto)]
 
 ghost use Rattle.tcl_core.specs.Example.{WorkedLife};
-ghost use Rattle.tcl_core.specs.Laws.{AllAgree, Bounded, Counting, Determinism, Disciplined, Happenings, Inner, Isolation, Limiting, LivesWithin, Moments, MoreMoves, NonInterference, Passing, QuietOutside, Stopping, TwoWorlds};
+ghost use Rattle.tcl_core.specs.Laws.{AllAgree, Bounded, Counting, Determinism, Disciplined, Happenings, Inner, Isolation, IsolationUntil, Limiting, LivesWithin, Moments, MoreMoves, NonInterference, Passing, QuietOutside, Stopping, TwoWorlds};
 ghost use Rattle.tcl_core.specs.Meaning.{RulesAreRuns, ThreadsAreRuns, Unrolling};
 
 /// A run is what `Unrolled` says of runs.
@@ -69,6 +69,11 @@ pub fn limiting<O, I>()
 /// What an evaluation anywhere in the tree does in a subtree is what that subtree alone does with the crossings into it.
 pub fn isolation<O, I>()
     ensures { Isolation O I }
+{}
+
+/// Where an entry is ended from outside, what is told before that is a beginning of what the subtree alone tells.
+pub fn isolation_until<O, I>()
+    ensures { IsolationUntil O I }
 {}
 
 /// From an entry into a subtree to the next call or end that leaves it, nothing outside it changes.
