@@ -11,7 +11,7 @@ use Rattle.tcl_core.specs.Programs.Prog.{go, wait}
 use Rattle.tcl_core.specs.Runs.{World, Ending, Run, Follows, Then, Unrolled, Runs}
 use Rattle.tcl_core.specs.Views.{from_above, kept, view, inside_of}
 use Rattle.tcl_core.specs.Lives.{idle, never}
-use Rattle.tcl_core.specs.Laws.{Inner, after, Moments, retape, Agrees, Determinism, LivesWithin, NonInterference, Passing}
+use Rattle.tcl_core.specs.Laws.{Inner, after, Moments, retape, Agrees, Determinism, LivesWithin, NonInterference}
 use Rattle.tcl_core.proofs.PathLaws.{rise_back, strip-sound}
 use Rattle.tcl_core.proofs.TreeLaws.{effect_fall, effect_within, effect_apart}
 use Rattle.tcl_core.proofs.Folding.{unroll}
@@ -61,18 +61,3 @@ module _ {O : Type 0} where
 
   pub inner : Inner O
   inner a down i ms = ap (λ o. where_none o (Enter (a ++ down) i) ms) (rise_back a down)
-
-module _ {O I : Type 0} where
-  follows_quit : (R : Run O I) (w : World O) (p : Place) (k : Completion → Prog O I) (r : Reply) (v : World O) (e : Ending) → IsQuit r → Follows R w p k r v e → e ≡ Some r
-  follows_quit R w p k (Completed c) v e f a = absurd f
-  follows_quit R w p k (Stop n m) v e f a = a.1
-  follows_quit R w p k (Exit n) v e f a = a.1
-  follows_quit R w p k (Cut c) v e f a = a.1
-
-  pub passing : Passing O I
-  passing prog w u v p i k r e q a b = by (unroll prog w p (go i k) v e b)
-    where
-      by : Unrolled prog (Runs prog) w p (go i k) v e → e ≡ Some r
-      by (u2, o, c, d) =
-          let g : Agrees w w.tape u (Some r) u2 o = runs_same prog w w.tape p (prog.program i) u (Some r) u2 o a c in
-          follows_quit (Runs prog) u2 p k r v e q (subst (λ l. Then (Runs prog) u2 p k l v e) g.ending d)

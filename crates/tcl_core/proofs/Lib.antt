@@ -24,3 +24,4 @@ pub mod Unended
 pub mod Refusals
 pub mod Lending
 pub mod Beginnings
+pub mod Quits

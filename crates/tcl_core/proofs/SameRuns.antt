@@ -164,7 +164,7 @@ module _ {O I : Type 0} where
     leaves_same w τ g t None v y a b = at_once w τ v None y None a b refl
     leaves_same w τ g t (Some r) v y a b = step_end w τ t (Done g r) v y a b v (Some r) y (Some r) (Some r) refl refl refl refl
 
-    visits_same : (w : World O) (τ : List (Event O)) (g : Height) (t : Place) (i : Entry) (v : World O) (e : Ending) (y : World O) (o : Ending) → Visits prog R w g t i v e → Visits prog S (retape w τ) g t i y o → Agrees w τ v e y o
+    pub visits_same : (w : World O) (τ : List (Event O)) (g : Height) (t : Place) (i : Entry) (v : World O) (e : Ending) (y : World O) (o : Ending) → Visits prog R w g t i v e → Visits prog S (retape w τ) g t i y o → Agrees w τ v e y o
     visits_same w τ g t i v e y o a b =
         let inner : Agrees w τ a.left e b.left o = step_goes_on w τ t t (In g i) a.entered b.entered (entering prog (w.tree t) i) a.left e b.left o a.entry b.entry a.run b.run in
         let out : Leaves (retape a.left inner.rest) g t e y = subst (λ l. Leaves (retape a.left inner.rest) g t l y) inner.ending (subst (λ l. Leaves l g t o y) inner.world b.leaving) in

@@ -4,14 +4,16 @@ use Rattle.tcl_core.specs.Paths.{Path, Place, Height, strip, rise_to}
 use Rattle.tcl_core.specs.Endings.{Meter, Completion, Reply, IsQuit}
 use Rattle.tcl_core.specs.Endings.Meter.{Count, Depth}
 use Rattle.tcl_core.specs.Endings.Reply.{Stop, Exit, Cut}
-use Rattle.tcl_core.specs.Entries.{Entry}
+use Rattle.tcl_core.specs.Entries.{Entry, Said}
 use Rattle.tcl_core.specs.Entries.Answer.{Replied}
 use Rattle.tcl_core.specs.Trees.{asked, effect, Grant, Grants, Tree, Node, What, Event, Move, at, on_some}
 use Rattle.tcl_core.specs.Trees.Grants.{Listed, Budget}
+use Rattle.tcl_core.specs.Trees.Move.{Come}
 use Rattle.tcl_core.specs.Trees.What.{Charged, Refused, Limited, Made, Dropped, Out, In, Done, Back}
-use Rattle.tcl_core.specs.Programs.{Prog, Table}
-use Rattle.tcl_core.specs.Programs.Prog.{go}
-use Rattle.tcl_core.specs.Runs.{World, Ending, Runs, Visits}
+use Rattle.tcl_core.specs.Programs.{Act, Wrap, Wait, Deed, Prog, Table, spot, decide, opens}
+use Rattle.tcl_core.specs.Programs.Next.{On, Off}
+use Rattle.tcl_core.specs.Programs.Prog.{act, go, inside, call, wait}
+use Rattle.tcl_core.specs.Runs.{World, Ending, Step, Runs, Visits, carried, reached, fits}
 use Rattle.tcl_core.specs.Views.{grants_of, moves_of, steps_of, view, inside_of}
 use Rattle.tcl_core.specs.Tables.{AllCall, Discipline, Keeps_to, IsGood, AreTame, AreAllowed}
 use Rattle.tcl_core.specs.Lives.{Lives, Outcome, React, outs_of}
@@ -291,10 +293,25 @@ abbrev pub Bounded : Type 0 → Type 0 → Type 0
 Bounded O I = (prog : Table O I) (w v : World O) (p : Place) (x : Prog O I) (e : Ending) (n : ℕ) →
     Runs prog w p x v e → w.grants ≡ Budget n → v.tape ≡ [] → (k : ℕ) × (v.grants ≡ Budget k) × (k + steps_of w.tape ≡ n)
 
--- What is no completion passes: where an inner evaluation ends by a stop, an exit or a cut, the whole ends by it, whatever was to follow.
-abbrev pub Passing : Type 0 → Type 0 → Type 0
-Passing O I = (prog : Table O I) (w u v : World O) (p : Place) (i : I) (k : Completion → Prog O I) (r : Reply) (e : Ending) →
-    IsQuit r → Runs prog w p (prog.program i) u (Some r) → Runs prog w p (go i k) v e → e ≡ Some r
+-- What is no completion passes, whatever was to follow: no program goes on after a stop, an exit or an end from outside.
+pub record Passing (O I : Type 0) : Type 0 where
+  -- an act that is refused so ends the whole so, and so does a wrap that doesn't open
+  pub act : (prog : Table O I) (w v : World O) (p : Place) (d : Act O) (k : Tree O → Prog O I) (x : Deed O) (r : Reply) (e : Ending) →
+      decide d w.tree p w.grants ≡ Some x → x.2 ≡ Off r → Runs prog w p (act d k) v e → e ≡ Some r
+  pub shut : (prog : Table O I) (w v : World O) (p : Place) (b : Wrap O) (i : I) (k : Completion → Prog O I) (x : Deed O) (r : Reply) (e : Ending) →
+      opens b w.tree p w.grants ≡ Some x → x.2 ≡ Off r → Runs prog w p (inside b i k) v e → e ≡ Some r
+  -- where an inner evaluation ends so, the whole does, with a wrap or without
+  pub inner : (prog : Table O I) (w u v : World O) (p : Place) (i : I) (k : Completion → Prog O I) (r : Reply) (e : Ending) →
+      IsQuit r → Runs prog w p (prog.program i) u (Some r) → Runs prog w p (go i k) v e → e ≡ Some r
+  pub wrapped : (prog : Table O I) (w u z v : World O) (p : Place) (b : Wrap O) (i : I) (k : Completion → Prog O I) (x : Deed O) (r : Reply) (e : Ending) →
+      IsQuit r → opens b w.tree p w.grants ≡ Some x → x.2 ≡ On → Step w (spot p x.0) x.1 u → Runs prog u p (prog.program i) z (Some r) → Runs prog w p (inside b i k) v e → e ≡ Some r
+  -- where a call within the tree is answered so, as its caller is told it
+  pub called : (prog : Table O I) (w u z v : World O) (p a t : Place) (h : Height) (down : Path) (i : Entry) (lost : Completion) (k : Said → Prog O I) (r : Reply) (e : Ending) →
+      IsQuit (carried h p down r) → rise_to h p ≡ Some a → Step w p (Out h down i) u → reached u.tree a down ≡ Some t → Visits prog (Runs prog) u (Some (length down)) t i z (Some r) →
+      Runs prog w p (call h down i lost k) v e → e ≡ Some (carried h p down r)
+  -- and where one that left the tree is
+  pub answered : (prog : Table O I) (w v : World O) (p : Place) (s : Wait) (k : Said → Prog O I) (ms : List (Move O)) (r : Reply) (e : Ending) →
+      IsQuit r → w.moves ≡ Come (Replied r) ∷ ms → fits {O = O} s (Come (Replied r)) ≡ true → Runs prog w p (wait s k) v e → e ≡ Some r
 
 -- Where an entry is ended from outside, what is told before that is a beginning of what React tells, for the moves before it: and so for each
 -- beginning of what happens in the subtree in which nothing is ended from outside. The budget is one that the whole doesn't pass.

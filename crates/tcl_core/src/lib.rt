@@ -106,7 +106,7 @@ pub fn bounded<O, I>()
     ensures { Bounded O I }
 {}
 
-/// Where an inner evaluation ends by a stop, an exit or a cut, the whole ends by it.
+/// Where an act, an inner evaluation or a call ends by a stop, an exit or from outside, the whole ends by it: no program goes on after one.
 pub fn passing<O, I>()
     ensures { Passing O I }
 {}

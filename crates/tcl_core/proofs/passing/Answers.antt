@@ -1,4 +1,4 @@
-use Rattle.tcl_core.proofs.Conclusions.{passing}
+use Rattle.tcl_core.proofs.Quits.{passing}
 use Rattle.tcl_core.proofs.passing.Goals as goal
 
 pub returns : goal.returns
