@@ -25,3 +25,4 @@ pub mod Refusals
 pub mod Lending
 pub mod Beginnings
 pub mod Quits
+pub mod Depths

@@ -8,7 +8,7 @@ use Rattle.tcl_core.specs.Entries.{Entry, Said}
 use Rattle.tcl_core.specs.Entries.Answer.{Replied}
 use Rattle.tcl_core.specs.Trees.{asked, effect, Grant, Grants, Tree, Node, What, Event, Move, at, on_some}
 use Rattle.tcl_core.specs.Trees.Grants.{Listed, Budget}
-use Rattle.tcl_core.specs.Trees.Move.{Come}
+use Rattle.tcl_core.specs.Trees.Move.{Born, Fall, Come}
 use Rattle.tcl_core.specs.Trees.What.{Charged, Refused, Limited, Made, Dropped, Out, In, Done, Back}
 use Rattle.tcl_core.specs.Programs.{Act, Wrap, Wait, Deed, Prog, Table, spot, decide, opens}
 use Rattle.tcl_core.specs.Programs.Next.{On, Off}
@@ -320,3 +320,34 @@ IsolationUntil O I = (prog : Table O I) (c : Place) (w v : World O) (t : Path) (
     Visits prog (Runs prog) w None t i v (Some r) → v.moves ≡ [] → v.tape ≡ [] →
     view c w.tape ≡ before ++ later → IsUnended before → steps_of (view c w.tape) ≤ m →
     React prog (at w.tree c) (moves_of before) m x outs V → (more : List (Event O)) × (outs ≡ outs_of before ++ more)
+
+-- how many evaluations are in progress in an interpreter; none where none stands
+abbrev pub depth_of : {O : Type 0} → Option (Node O) → ℕ
+depth_of None = 0
+depth_of (Some n) = n.depth
+
+abbrev pub Beneath : {O : Type 0} → Option (Node O) → Option (Node O) → Type 0
+Beneath a None = Unit {0}
+Beneath None (Some n) = Prim.⊥
+Beneath (Some m) (Some n) = n.depth ≤ m.depth
+
+-- above each that stands all stand, and are in use as deeply
+abbrev pub IsUpright : {O : Type 0} → Tree O → Type 0
+IsUpright T = (p q z : Place) → strip p q ≡ Some z → Beneath (T p) (T q)
+
+-- the tree as a whole is neither made nor dropped by what is handed in
+abbrev pub KeepsTop : {O : Type 0} → List (Move O) → Type 0
+KeepsTop [] = Unit {0}
+KeepsTop (Born o s ∷ ms) = Prim.⊥
+KeepsTop (Fall ∷ ms) = Prim.⊥
+KeepsTop (m ∷ ms) = KeepsTop ms
+
+-- After a run that came to its end each depth is what it was; and what is in use at first is neither made nor dropped by it, whether it
+-- came to its end or not. So an interpreter in use stands as long as it is in use.
+pub record IsSteady {O : Type 0} (w v : World O) (e : Ending) : Type 0 where
+  pub depths : (r : Reply) → e ≡ Some r → (q : Place) → depth_of (v.tree q) ≡ depth_of (w.tree q)
+  pub upright : (r : Reply) → e ≡ Some r → IsUpright v.tree
+  pub standing : (c : Place) → 1 ≤ depth_of (w.tree c) → IsStanding c v.tape → IsStanding c w.tape
+
+abbrev pub Steady : Type 0 → Type 0 → Type 0
+Steady O I = (prog : Table O I) (w v : World O) (p : Place) (x : Prog O I) (e : Ending) → Runs prog w p x v e → IsUpright w.tree → KeepsTop w.moves → IsSteady w v e

@@ -3,7 +3,7 @@
 #![tactic(auto)]
 
 ghost use Rattle.tcl_core.specs.Example.{WorkedLife};
-ghost use Rattle.tcl_core.specs.Laws.{AllAgree, Bounded, Counting, Determinism, Disciplined, Happenings, Inner, Isolation, IsolationUntil, Limiting, LivesWithin, Moments, MoreMoves, NonInterference, Passing, QuietOutside, Stopping, TwoWorlds};
+ghost use Rattle.tcl_core.specs.Laws.{AllAgree, Bounded, Counting, Determinism, Disciplined, Happenings, Inner, Isolation, IsolationUntil, Limiting, LivesWithin, Moments, MoreMoves, NonInterference, Passing, QuietOutside, Steady, Stopping, TwoWorlds};
 ghost use Rattle.tcl_core.specs.Meaning.{RulesAreRuns, ThreadsAreRuns, Unrolling};
 
 /// A run is what `Unrolled` says of runs.
@@ -89,6 +89,11 @@ pub fn stopping<O, I>()
 /// What a safe subtree whose commands keep a discipline does keeps it, where what is handed in does.
 pub fn disciplined<O, I>()
     ensures { Disciplined O I }
+{}
+
+/// After a run each depth is what it was, and what was in use still stands.
+pub fn steady<O, I>()
+    ensures { Steady O I }
 {}
 
 /// Two worlds in which a subtree is the same, and is first handed the same: the same happens there up to the first move that differs.
