@@ -1,5 +1,5 @@
 -- What a discipline forbids does not happen.
-use Rattle.std.proofs.Common.{sym, ◌≡◌, ℕ, zero, suc, ℤ, Bool, true, false, List, [], ◌∷◌, ◌++◌, Option, Some, None, refl, ◌∙◌, ap, subst}
+use Rattle.std.proofs.Common.{sym, ◌≡◌, ◌⊎◌, inl, inr, ℕ, zero, suc, ℤ, Bool, true, false, List, [], ◌∷◌, ◌++◌, Option, Some, None, refl, ◌∙◌, ap, subst}
 use Rattle.tcl_core.specs.Paths.{Path, Place, Height, strip, rise_to}
 use Rattle.tcl_core.specs.Endings.{Meter}
 use Rattle.tcl_core.specs.Endings.Meter.{Count, Depth}
@@ -12,7 +12,7 @@ use Rattle.tcl_core.specs.Trees.Grant.{Allow, Deny}
 use Rattle.tcl_core.specs.Trees.Grants.{Listed, Budget}
 use Rattle.tcl_core.specs.Trees.What.{Seen, Changed, Charged, Refused, Nested, Unnested, Limited, DepthLimited, Made, Dropped, Out, In, Back}
 use Rattle.tcl_core.specs.Trees.Move.{Born, Fall, Enter, Come}
-use Rattle.tcl_core.specs.Programs.{Deed, Act, Wrap, Wait, Prog, Table, decide, opens, closes, changing, making, dropping, dropping_at, either, metered, by_limit, blocked, is_spent, is_deep}
+use Rattle.tcl_core.specs.Programs.{Deed, spot, Act, Wrap, Wait, Prog, Table, decide, opens, closes, changing, making, dropping, dropping_at, either, metered, by_limit, blocked, is_spent, is_deep}
 use Rattle.tcl_core.specs.Programs.Next.{On, Off}
 use Rattle.tcl_core.specs.Programs.Act.{Look, Change, Charge, Limit, LimitDepth, Make, Drop}
 use Rattle.tcl_core.specs.Programs.Wrap.{Deeper, Framed}
@@ -22,7 +22,7 @@ use Rattle.tcl_core.specs.Rules.{Derives}
 use Rattle.tcl_core.specs.Rules.Derives.{completed, exited, acted, refused, unheard, went, passed, halted, wrapped, wrapped_passed, wrapped_halted, too_deep, shut, unheard_inside, called, called_passed, called_halted, unreached, called_out, unanswered, unfit, answered, heard, answered_passed, entered, entered_halted, entered_exiting, born, fallen}
 use Rattle.tcl_core.specs.Views.{view, inside_of}
 use Rattle.tcl_core.specs.Lives.{idle, never}
-use Rattle.tcl_core.specs.Tables.{Discipline, IsGoodNode, IsGood, Modest_act, Modest_wrap, Modest_call, Modest, Keeps_to, AreTame, Allowed, AreAllowed}
+use Rattle.tcl_core.specs.Tables.{Discipline, IsGoodNode, IsGood, Modest_act, Modest_wrap, Modest_call, Modest, Keeps_to, Tame_move, AreTame, Limitable, Allowed, AreAllowed}
 use Rattle.tcl_core.specs.Laws.{Disciplined}
 use Rattle.tcl_core.proofs.PathLaws.{not_both, Some-inj}
 use Rattle.tcl_core.proofs.RuleLaws.{runs_derived}
@@ -46,7 +46,7 @@ module _ {O I : Type 0} (R : Discipline O I) where
   own_good y f None a = a
   own_good y f (Some n) a = (a.0, f)
 
-  effect_good : (p : Place) (x : What O) (T : Tree O) → Allowed R x → IsGood R T → IsGood R (effect p x T)
+  effect_good : (p : Place) (x : What O) (T : Tree O) → Allowed R p x → IsGood R T → IsGood R (effect p x T)
   effect_good p (Changed o) T f g = λ r. at_end_good (with_own o) (strip p r) (T r) (g r) (own_good o f (T r) (g r))
   effect_good p (Limited l) T f g = λ r. at_end_good (with_limit l) (strip p r) (T r) (g r) (meter_good (λ n. record n { limit = l }) (λ n. (refl, refl)) (T r) (g r))
   effect_good p (DepthLimited l) T f g = λ r. at_end_good (with_depth_limit l) (strip p r) (T r) (g r) (meter_good (λ n. record n { depth_limit = l }) (λ n. (refl, refl)) (T r) (g r))
@@ -76,78 +76,82 @@ module _ {O I : Type 0} (R : Discipline O I) where
   abbrev Good : World O → Type 0
   Good w = IsGood R w.tree × AreTame R w.moves
 
-  good_step : (w : World O) (p : Place) (x : What O) (u : World O) → Allowed R x → Step w p x u → Good w → Good u
+  good_step : (w : World O) (p : Place) (x : What O) (u : World O) → Allowed R p x → Step w p x u → Good w → Good u
   good_step w p x u f s (g, t) = (subst (IsGood R) (sym s.tree) (effect_good p x w.tree f g), tame_left p x u.moves (subst (AreTame R) s.moves t))
 
   -- what an act comes to
-  deed_of : (y x : Deed O) → Allowed R y.1 → Some y ≡ Some x → Allowed R x.1
-  deed_of y x f e = subst (λ z. Allowed R z.1) (Some-inj y e) f
+  deed_of : (p : Place) (y x : Deed O) → Allowed R (spot p y.0) y.1 → Some y ≡ Some x → Allowed R (spot p x.0) x.1
+  deed_of p y x f e = subst (λ z. Allowed R (spot p z.0) z.1) (Some-inj y e) f
 
-  metered_allowed : (m : Meter) (y : What O) (b : Option ℕ) (gs : Grants) (x : Deed O) → Allowed R y → metered m y b gs ≡ Some x → Allowed R x.1
-  metered_allowed m y (Some n) gs x f e = deed_of (None, Refused m (Some n), by_limit m n) x tt e
-  metered_allowed m y None (Listed []) x f e = absurd (not_both refl e)
-  metered_allowed m y None (Listed (Allow ∷ gs)) x f e = deed_of (None, y, On) x f e
-  metered_allowed m y None (Listed (Deny ∷ gs)) x f e = deed_of (None, Refused m None, Off (Cut Above)) x tt e
-  metered_allowed Count y None (Budget zero) x f e = deed_of (None, Refused Count None, Off (Cut Over)) x tt e
-  metered_allowed Count y None (Budget (suc n)) x f e = deed_of (None, y, On) x f e
-  metered_allowed Depth y None (Budget n) x f e = deed_of (None, y, On) x f e
+  metered_allowed : (p : Place) (m : Meter) (y : What O) (b : Option ℕ) (gs : Grants) (x : Deed O) → Allowed R p y → metered m y b gs ≡ Some x → Allowed R (spot p x.0) x.1
+  metered_allowed p m y (Some n) gs x f e = deed_of p (None, Refused m (Some n), by_limit m n) x tt e
+  metered_allowed p m y None (Listed []) x f e = absurd (not_both refl e)
+  metered_allowed p m y None (Listed (Allow ∷ gs)) x f e = deed_of p (None, y, On) x f e
+  metered_allowed p m y None (Listed (Deny ∷ gs)) x f e = deed_of p (None, Refused m None, Off (Cut Above)) x tt e
+  metered_allowed p Count y None (Budget zero) x f e = deed_of p (None, Refused Count None, Off (Cut Over)) x tt e
+  metered_allowed p Count y None (Budget (suc n)) x f e = deed_of p (None, y, On) x f e
+  metered_allowed p Depth y None (Budget n) x f e = deed_of p (None, y, On) x f e
 
-  changing_allowed : (o : O) (n : Option (Node O)) → R.plain o ≡ true → Allowed R (changing o n).1
-  changing_allowed o None f = tt
-  changing_allowed o (Some n) f = f
+  changing_allowed : (p : Place) (o : O) (n : Option (Node O)) → R.plain o ≡ true → Allowed R (spot p (changing o n).0) (changing o n).1
+  changing_allowed p o None f = tt
+  changing_allowed p o (Some n) f = f
 
   either_true : (s b : Bool) → b ≡ true → either s b ≡ true
   either_true true b e = refl
   either_true false b e = e
 
-  making_allowed : (name : List ℕ) (o : O) (s : Bool) (parent n : Option (Node O)) → IsGoodNode R parent → R.plain o ≡ true → Allowed R (making name o s parent n).1
-  making_allowed name o s None n g f = tt
-  making_allowed name o s (Some p) None g f = (either_true s p.safe g.0, f)
-  making_allowed name o s (Some p) (Some n) g f = tt
+  making_allowed : (p : Place) (name : List ℕ) (o : O) (s : Bool) (parent n : Option (Node O)) → IsGoodNode R parent → R.plain o ≡ true → Allowed R (spot p (making name o s parent n).0) (making name o s parent n).1
+  making_allowed p name o s None n g f = tt
+  making_allowed p name o s (Some m) None g f = (either_true s m.safe g.0, f)
+  making_allowed p name o s (Some m) (Some n) g f = tt
 
-  dropping_allowed : (name : List ℕ) (n : Option (Node O)) → Allowed R (dropping name n).1
-  dropping_allowed name None = tt
-  dropping_allowed name (Some n) = by n.depth
+  dropping_allowed : (p : Place) (name : List ℕ) (n : Option (Node O)) → Allowed R (spot p (dropping name n).0) (dropping name n).1
+  dropping_allowed p name None = tt
+  dropping_allowed p name (Some n) = by n.depth
     where
-      by : (d : ℕ) → Allowed R (dropping_at {O = O} name d).1
+      by : (d : ℕ) → Allowed R (spot p (dropping_at {O = O} name d).0) (dropping_at {O = O} name d).1
       by zero = tt
       by (suc d) = tt
 
-  decide_allowed : (d : Act O) (T : Tree O) (p : Place) (gs : Grants) (x : Deed O) → Modest_act R d → IsGood R T → decide d T p gs ≡ Some x → Allowed R x.1
-  decide_allowed Look T p gs x f g e = deed_of (None, Seen, On) x tt e
-  decide_allowed (Change o) T p gs x f g e = deed_of (changing o (T p)) x (changing_allowed o (T p) f) e
-  decide_allowed Charge T p gs x f g e = metered_allowed Count Charged (blocked is_spent T p) gs x tt e
-  decide_allowed (Limit l) T p gs x f g e = deed_of (None, Limited l, On) x f e
-  decide_allowed (LimitDepth l) T p gs x f g e = deed_of (None, DepthLimited l, On) x f e
-  decide_allowed (Make name o s) T p gs x f g e = deed_of (making name o s (T p) (T (p ++ name ∷ []))) x (making_allowed name o s (T p) (T (p ++ name ∷ [])) (g p) f) e
-  decide_allowed (Drop name) T p gs x f g e = deed_of (dropping name (T (p ++ name ∷ []))) x (dropping_allowed name (T (p ++ name ∷ []))) e
+  -- where limits may be set, if they may be by what goes on
+  abbrev Licence : Bool → Place → Type 0
+  Licence l p = l ≡ true → Limitable R p
 
-  opens_allowed : (b : Wrap O) (T : Tree O) (p : Place) (gs : Grants) (x : Deed O) → Modest_wrap R b → opens b T p gs ≡ Some x → Allowed R x.1
-  opens_allowed Deeper T p gs x f e = metered_allowed Depth Nested (blocked is_deep T p) gs x tt e
-  opens_allowed (Framed o back) T p gs x f e = deed_of (changing o (T p)) x (changing_allowed o (T p) f.0) e
+  decide_allowed : (l : Bool) (d : Act O) (T : Tree O) (p : Place) (gs : Grants) (x : Deed O) → Licence l p → Modest_act R l d → IsGood R T → decide d T p gs ≡ Some x → Allowed R (spot p x.0) x.1
+  decide_allowed l Look T p gs x q f g e = deed_of p (None, Seen, On) x tt e
+  decide_allowed l (Change o) T p gs x q f g e = deed_of p (changing o (T p)) x (changing_allowed p o (T p) f) e
+  decide_allowed l Charge T p gs x q f g e = metered_allowed p Count Charged (blocked is_spent T p) gs x tt e
+  decide_allowed l (Limit y) T p gs x q f g e = deed_of p (None, Limited y, On) x (q f) e
+  decide_allowed l (LimitDepth y) T p gs x q f g e = deed_of p (None, DepthLimited y, On) x (q f) e
+  decide_allowed l (Make name o s) T p gs x q f g e = deed_of p (making name o s (T p) (T (p ++ name ∷ []))) x (making_allowed p name o s (T p) (T (p ++ name ∷ [])) (g p) f) e
+  decide_allowed l (Drop name) T p gs x q f g e = deed_of p (dropping name (T (p ++ name ∷ []))) x (dropping_allowed p name (T (p ++ name ∷ []))) e
 
-  closes_allowed : (b : Wrap O) (n : Option (Node O)) → Modest_wrap R b → IsGoodNode R n → Allowed R (closes b n)
-  closes_allowed Deeper n f g = tt
-  closes_allowed (Framed o back) None f g = tt
-  closes_allowed (Framed o back) (Some n) f g = f.1 n.own g.1
+  opens_allowed : (b : Wrap O) (T : Tree O) (p : Place) (gs : Grants) (x : Deed O) → Modest_wrap R b → opens b T p gs ≡ Some x → Allowed R (spot p x.0) x.1
+  opens_allowed Deeper T p gs x f e = metered_allowed p Depth Nested (blocked is_deep T p) gs x tt e
+  opens_allowed (Framed o back) T p gs x f e = deed_of p (changing o (T p)) x (changing_allowed p o (T p) f.0) e
 
-  out_allowed : (h : Height) (down : Path) (i : Entry) → Modest_call R h i → Allowed R (Out h down i)
-  out_allowed None down i f = f
-  out_allowed (Some h) down i f = tt
+  closes_allowed : (p : Place) (b : Wrap O) (n : Option (Node O)) → Modest_wrap R b → IsGoodNode R n → Allowed R p (closes b n)
+  closes_allowed p Deeper n f g = tt
+  closes_allowed p (Framed o back) None f g = tt
+  closes_allowed p (Framed o back) (Some n) f g = f.1 n.own g.1
+
+  out_allowed : (p : Place) (h : Height) (down : Path) (i : Entry) → Modest_call R h i → Allowed R p (Out h down i)
+  out_allowed p None down i f = f
+  out_allowed p (Some h) down i f = tt
 
   -- a program that keeps the discipline, or one that waits for such a call
-  abbrev Fit : Prog O I → Type 0
-  Fit (wait s k) = (y : Said) → Modest R (k y)
-  Fit x = Modest R x
+  abbrev Fit : Bool → Prog O I → Type 0
+  Fit l (wait s k) = (y : Said) → Modest R l (k y)
+  Fit l x = Modest R l x
 
-  fit_of : (x : Prog O I) → Modest R x → Fit x
-  fit_of (wait s k) f = absurd f
-  fit_of (done c) f = f
-  fit_of (exit n) f = f
-  fit_of (act d k) f = f
-  fit_of (go i k) f = f
-  fit_of (inside b i k) f = f
-  fit_of (call h down i lost k) f = f
+  fit_of : (l : Bool) (x : Prog O I) → Modest R l x → Fit l x
+  fit_of l (wait s k) f = absurd f
+  fit_of l (done c) f = f
+  fit_of l (exit n) f = f
+  fit_of l (act d k) f = f
+  fit_of l (go i k) f = f
+  fit_of l (inside b i k) f = f
+  fit_of l (call h down i lost k) f = f
 
   pub record Kept (w v : World O) : Type 0 where
     pub allowed : AreAllowed R v.tape → AreAllowed R w.tape
@@ -156,7 +160,7 @@ module _ {O I : Type 0} (R : Discipline O I) where
   here : (w : World O) → Good w → Kept w w
   here w g = record { allowed = λ a. a; good = g }
 
-  step_kept : (w : World O) (p : Place) (x : What O) (u v : World O) → Allowed R x → Step w p x u → Kept u v → Kept w v
+  step_kept : (w : World O) (p : Place) (x : What O) (u v : World O) → Allowed R p x → Step w p x u → Kept u v → Kept w v
   step_kept w p x u v f s k = record { allowed = λ a. subst (AreAllowed R) (sym s.tape) (f, k.allowed a); good = k.good }
 
   then_kept : (w u v : World O) → Kept w u → Kept u v → Kept w v
@@ -166,9 +170,18 @@ module _ {O I : Type 0} (R : Discipline O I) where
   below w p g = λ q. g.0 (p ++ q)
 
   module _ (prog : Table O I) (all : Keeps_to R prog) where
-    fit_entry : (n : Option (Node O)) (i : Entry) → R.tame i ≡ true → Modest R (entering prog n i)
+    fit_entry : (n : Option (Node O)) (i : Entry) → R.tame i ≡ true → Modest R R.may_limit (entering prog n i)
     fit_entry None i f = tt
     fit_entry (Some n) i f = all.entries i f
+
+    fit_limit : (n : Option (Node O)) (i : Entry) → R.limits i ≡ true → Modest R true (entering prog n i)
+    fit_limit None i f = tt
+    fit_limit (Some n) i f = all.limiting i f
+
+    -- an entry that is handed in, and whether it may set limits
+    fit_move : (n : Option (Node O)) (t : Place) (i : Entry) → Tame_move R (Enter t i) → (l : Bool) × Licence l t × Fit l (entering prog n i)
+    fit_move n t i (inl f) = (R.may_limit, (λ e. inl e), fit_of R.may_limit _ (fit_entry n i f))
+    fit_move n t i (inr f) = (true, (λ e. inr f.1), fit_of true _ (fit_limit n i f.0))
 
     exits_kept : (w : World O) (p : Place) (s : Wait) (n : ℤ) (ms : List (Move O)) (v : World O) (e : Ending) → Exits w p s n ms v e → Good w → Kept w v
     exits_kept w p s n ms v e a g = by ms a
@@ -188,87 +201,93 @@ module _ {O I : Type 0} (R : Discipline O I) where
         by (Enter u i ∷ ms) x = halt x
 
     -- the entry that is read is tame
-    entry_tame : (w : World O) (t : Place) (i : Entry) (u : World O) → Step w t (In None i) u → Good w → R.tame i ≡ true
+    entry_tame : (w : World O) (t : Place) (i : Entry) (u : World O) → Step w t (In None i) u → Good w → Tame_move R (Enter t i)
     entry_tame w t i u s g = let h : AreTame R (Enter t i ∷ u.moves) = subst (AreTame R) s.moves g.1 in h.0
 
-    keep : {w : World O} {p : Place} {x : Prog O I} {v : World O} {e : Ending} → Derives prog w p x v e → Fit x → Good w → Kept w v
-    keep (completed w p y) f g = here w g
-    keep (exited w p n) f g = here w g
-    keep (acted w p d k x u v e j on s a) f g =
-        let l = decide_allowed d w.tree p w.grants x f.0 g.0 j in
-        step_kept w _ x.1 u v l s (keep a (fit_of _ (f.1 (at w.tree p) (below w p g))) (good_step w _ x.1 u l s g))
-    keep (refused w p d k x r u j off s) f g =
-        let l = decide_allowed d w.tree p w.grants x f.0 g.0 j in
+    keep : (l : Bool) {w : World O} {p : Place} {x : Prog O I} {v : World O} {e : Ending} → Derives prog w p x v e → Licence l p → Fit l x → Good w → Kept w v
+    keep q0 (completed w p y) lic f g = here w g
+    keep q0 (exited w p n) lic f g = here w g
+    keep q0 (acted w p d k x u v e j on s a) lic f g =
+        let l = decide_allowed q0 d w.tree p w.grants x lic f.0 g.0 j in
+        step_kept w _ x.1 u v l s (keep q0 a lic (fit_of q0 _ (f.1 (at w.tree p) (below w p g))) (good_step w _ x.1 u l s g))
+    keep q0 (refused w p d k x r u j off s) lic f g =
+        let l = decide_allowed q0 d w.tree p w.grants x lic f.0 g.0 j in
         step_kept w _ x.1 u u l s (here u (good_step w _ x.1 u l s g))
-    keep (unheard w p d k j t) f g = here w g
-    keep (went w p i k u y v e a b) f g =
-        let m = keep a (fit_of _ (all.programs i f.0)) g in
-        then_kept w u v m (keep b (fit_of _ (f.1 y)) m.good)
-    keep (passed w p i k u r q a) f g = keep a (fit_of _ (all.programs i f.0)) g
-    keep (halted w p i k u a) f g = keep a (fit_of _ (all.programs i f.0)) g
-    keep (wrapped w p b i k x inner left closed v y e j on s a t d) f g =
+    keep q0 (unheard w p d k j t) lic f g = here w g
+    keep q0 (went w p i k u y v e a b) lic f g =
+        let m = keep R.may_limit a (λ e. inl e) (fit_of R.may_limit _ (all.programs i f.0)) g in
+        then_kept w u v m (keep q0 b lic (fit_of q0 _ (f.1 y)) m.good)
+    keep q0 (passed w p i k u r q a) lic f g = keep R.may_limit a (λ e. inl e) (fit_of R.may_limit _ (all.programs i f.0)) g
+    keep q0 (halted w p i k u a) lic f g = keep R.may_limit a (λ e. inl e) (fit_of R.may_limit _ (all.programs i f.0)) g
+    keep q0 (wrapped w p b i k x inner left closed v y e j on s a t d) lic f g =
         let l = opens_allowed b w.tree p w.grants x f.1 j in
-        let m = keep a (fit_of _ (all.programs i f.0)) (good_step w _ x.1 inner l s g) in
-        let n = closes_allowed b (left.tree p) f.1 (m.good.0 p) in
-        step_kept w _ x.1 inner v l s (then_kept inner left v m (step_kept left p _ closed v n t (keep d (fit_of _ (f.2 y)) (good_step left p _ closed n t m.good))))
-    keep (wrapped_passed w p b i k x inner left closed r q j on s a t) f g =
+        let m = keep R.may_limit a (λ e. inl e) (fit_of R.may_limit _ (all.programs i f.0)) (good_step w _ x.1 inner l s g) in
+        let n = closes_allowed p b (left.tree p) f.1 (m.good.0 p) in
+        step_kept w _ x.1 inner v l s (then_kept inner left v m (step_kept left p _ closed v n t (keep q0 d lic (fit_of q0 _ (f.2 y)) (good_step left p _ closed n t m.good))))
+    keep q0 (wrapped_passed w p b i k x inner left closed r q j on s a t) lic f g =
         let l = opens_allowed b w.tree p w.grants x f.1 j in
-        let m = keep a (fit_of _ (all.programs i f.0)) (good_step w _ x.1 inner l s g) in
-        let n = closes_allowed b (left.tree p) f.1 (m.good.0 p) in
+        let m = keep R.may_limit a (λ e. inl e) (fit_of R.may_limit _ (all.programs i f.0)) (good_step w _ x.1 inner l s g) in
+        let n = closes_allowed p b (left.tree p) f.1 (m.good.0 p) in
         step_kept w _ x.1 inner closed l s (then_kept inner left closed m (step_kept left p _ closed closed n t (here closed (good_step left p _ closed n t m.good))))
-    keep (wrapped_halted w p b i k x inner left j on s a) f g =
+    keep q0 (wrapped_halted w p b i k x inner left j on s a) lic f g =
         let l = opens_allowed b w.tree p w.grants x f.1 j in
-        step_kept w _ x.1 inner left l s (keep a (fit_of _ (all.programs i f.0)) (good_step w _ x.1 inner l s g))
-    keep (too_deep w p b i k x u v e j deep s a) f g =
+        step_kept w _ x.1 inner left l s (keep R.may_limit a (λ e. inl e) (fit_of R.may_limit _ (all.programs i f.0)) (good_step w _ x.1 inner l s g))
+    keep q0 (too_deep w p b i k x u v e j deep s a) lic f g =
         let l = opens_allowed b w.tree p w.grants x f.1 j in
-        step_kept w _ x.1 u v l s (keep a (fit_of _ (f.2 _)) (good_step w _ x.1 u l s g))
-    keep (shut w p b i k x r u j off s) f g =
+        step_kept w _ x.1 u v l s (keep q0 a lic (fit_of q0 _ (f.2 _)) (good_step w _ x.1 u l s g))
+    keep q0 (shut w p b i k x r u j off s) lic f g =
         let l = opens_allowed b w.tree p w.grants x f.1 j in
         step_kept w _ x.1 u u l s (here u (good_step w _ x.1 u l s g))
-    keep (unheard_inside w p b i k j t) f g = here w g
-    keep (called w p None down i lost k a t out inner left told back v r y e z s1 j s2 x s3 so s4 b) f g = absurd (not_both refl z)
-    keep (called w p (Some h) down i lost k a t out inner left told back v r y e z s1 j s2 x s3 so s4 b) f g =
+    keep q0 (unheard_inside w p b i k j t) lic f g = here w g
+    keep q0 (called w p None down i lost k a t out inner left told back v r y e z s1 j s2 x s3 so s4 b) lic f g = absurd (not_both refl z)
+    keep q0 (called w p (Some h) down i lost k a t out inner left told back v r y e z s1 j s2 x s3 so s4 b) lic f g =
         let g1 = good_step w p _ out tt s1 g in
-        let m = keep x (fit_of _ (fit_entry (out.tree t) i f.0)) (good_step out t _ inner tt s2 g1) in
+        let m = keep R.may_limit x (λ e. inl e) (fit_of R.may_limit _ (fit_entry (out.tree t) i f.0)) (good_step out t _ inner tt s2 g1) in
         let g3 = good_step left t _ told tt s3 m.good in
-        step_kept w p _ out v tt s1 (step_kept out t _ inner v tt s2 (then_kept inner left v m (step_kept left t _ told v tt s3 (step_kept told p _ back v tt s4 (keep b (fit_of _ (f.1 _)) (good_step told p _ back tt s4 g3))))))
-    keep (called_passed w p None down i lost k a t out inner left told back r z s1 j s2 x s3 q s4) f g = absurd (not_both refl z)
-    keep (called_passed w p (Some h) down i lost k a t out inner left told back r z s1 j s2 x s3 q s4) f g =
+        step_kept w p _ out v tt s1 (step_kept out t _ inner v tt s2 (then_kept inner left v m (step_kept left t _ told v tt s3 (step_kept told p _ back v tt s4 (keep q0 b lic (fit_of q0 _ (f.1 _)) (good_step told p _ back tt s4 g3))))))
+    keep q0 (called_passed w p None down i lost k a t out inner left told back r z s1 j s2 x s3 q s4) lic f g = absurd (not_both refl z)
+    keep q0 (called_passed w p (Some h) down i lost k a t out inner left told back r z s1 j s2 x s3 q s4) lic f g =
         let g1 = good_step w p _ out tt s1 g in
-        let m = keep x (fit_of _ (fit_entry (out.tree t) i f.0)) (good_step out t _ inner tt s2 g1) in
+        let m = keep R.may_limit x (λ e. inl e) (fit_of R.may_limit _ (fit_entry (out.tree t) i f.0)) (good_step out t _ inner tt s2 g1) in
         let g3 = good_step left t _ told tt s3 m.good in
         step_kept w p _ out back tt s1 (step_kept out t _ inner back tt s2 (then_kept inner left back m (step_kept left t _ told back tt s3 (step_kept told p _ back back tt s4 (here back (good_step told p _ back tt s4 g3))))))
-    keep (called_halted w p None down i lost k a t out inner left z s1 j s2 x) f g = absurd (not_both refl z)
-    keep (called_halted w p (Some h) down i lost k a t out inner left z s1 j s2 x) f g =
+    keep q0 (called_halted w p None down i lost k a t out inner left z s1 j s2 x) lic f g = absurd (not_both refl z)
+    keep q0 (called_halted w p (Some h) down i lost k a t out inner left z s1 j s2 x) lic f g =
         let g1 = good_step w p _ out tt s1 g in
-        step_kept w p _ out left tt s1 (step_kept out t _ inner left tt s2 (keep x (fit_of _ (fit_entry (out.tree t) i f.0)) (good_step out t _ inner tt s2 g1)))
-    keep (unreached w p None down i lost k a out back v e z s1 j s2 x) f g = absurd (not_both refl z)
-    keep (unreached w p (Some h) down i lost k a out back v e z s1 j s2 x) f g =
+        step_kept w p _ out left tt s1 (step_kept out t _ inner left tt s2 (keep R.may_limit x (λ e. inl e) (fit_of R.may_limit _ (fit_entry (out.tree t) i f.0)) (good_step out t _ inner tt s2 g1)))
+    keep q0 (unreached w p None down i lost k a out back v e z s1 j s2 x) lic f g = absurd (not_both refl z)
+    keep q0 (unreached w p (Some h) down i lost k a out back v e z s1 j s2 x) lic f g =
         let g1 = good_step w p _ out tt s1 g in
-        step_kept w p _ out v tt s1 (step_kept out p _ back v tt s2 (keep x (fit_of _ (f.1 _)) (good_step out p _ back tt s2 g1)))
-    keep (called_out w p h down i lost k u v e z s a) f g =
-        let l : Allowed R (Out h down i) = out_allowed h down i f.0 in
-        step_kept w p _ u v l s (keep a f.1 (good_step w p _ u l s g))
-    keep (unanswered w p s k j m t) f g = here w g
-    keep (unfit w p s k m ms j l n t) f g = here w g
-    keep (answered w p s k y u v e j l t a) f g = step_kept w p _ u v tt t (keep a (fit_of _ (f _)) (good_step w p _ u tt t g))
-    keep (heard w p s k y u v e j l t a) f g = step_kept w p _ u v tt t (keep a (fit_of _ (f _)) (good_step w p _ u tt t g))
-    keep (answered_passed w p s k r u q j l t) f g = step_kept w p _ u u tt t (here u (good_step w p _ u tt t g))
-    keep (entered w p s k t i inner left told v r e j s1 a s2 n b) f g =
-        let m = keep a (fit_of _ (fit_entry (w.tree t) i (entry_tame w t i inner s1 g))) (good_step w t _ inner tt s1 g) in
-        step_kept w t _ inner v tt s1 (then_kept inner left v m (step_kept left t _ told v tt s2 (keep b f (good_step left t _ told tt s2 m.good))))
-    keep (entered_halted w p s k t i inner left j s1 a) f g =
-        step_kept w t _ inner left tt s1 (keep a (fit_of _ (fit_entry (w.tree t) i (entry_tame w t i inner s1 g))) (good_step w t _ inner tt s1 g))
-    keep (entered_exiting w p s k t i inner left told v n e j s1 a s2 b) f g =
-        let m = keep a (fit_of _ (fit_entry (w.tree t) i (entry_tame w t i inner s1 g))) (good_step w t _ inner tt s1 g) in
+        step_kept w p _ out v tt s1 (step_kept out p _ back v tt s2 (keep q0 x lic (fit_of q0 _ (f.1 _)) (good_step out p _ back tt s2 g1)))
+    keep q0 (called_out w p h down i lost k u v e z s a) lic f g =
+        let l : Allowed R p (Out h down i) = out_allowed p h down i f.0 in
+        step_kept w p _ u v l s (keep q0 a lic f.1 (good_step w p _ u l s g))
+    keep q0 (unanswered w p s k j m t) lic f g = here w g
+    keep q0 (unfit w p s k m ms j l n t) lic f g = here w g
+    keep q0 (answered w p s k y u v e j l t a) lic f g = step_kept w p _ u v tt t (keep q0 a lic (fit_of q0 _ (f _)) (good_step w p _ u tt t g))
+    keep q0 (heard w p s k y u v e j l t a) lic f g = step_kept w p _ u v tt t (keep q0 a lic (fit_of q0 _ (f _)) (good_step w p _ u tt t g))
+    keep q0 (answered_passed w p s k r u q j l t) lic f g = step_kept w p _ u u tt t (here u (good_step w p _ u tt t g))
+    keep q0 (entered w p s k t i inner left told v r e j s1 a s2 n b) lic f g =
+        let m = (let y = fit_move (w.tree t) t i (entry_tame w t i inner s1 g) in keep y.0 a y.1 y.2) (good_step w t _ inner tt s1 g) in
+        step_kept w t _ inner v tt s1 (then_kept inner left v m (step_kept left t _ told v tt s2 (keep q0 b lic f (good_step left t _ told tt s2 m.good))))
+    keep q0 (entered_halted w p s k t i inner left j s1 a) lic f g =
+        step_kept w t _ inner left tt s1 ((let y = fit_move (w.tree t) t i (entry_tame w t i inner s1 g) in keep y.0 a y.1 y.2) (good_step w t _ inner tt s1 g))
+    keep q0 (entered_exiting w p s k t i inner left told v n e j s1 a s2 b) lic f g =
+        let m = (let y = fit_move (w.tree t) t i (entry_tame w t i inner s1 g) in keep y.0 a y.1 y.2) (good_step w t _ inner tt s1 g) in
         step_kept w t _ inner v tt s1 (then_kept inner left v m (step_kept left t _ told v tt s2 (exits_kept told p s n told.moves v e b (good_step left t _ told tt s2 m.good))))
-    keep (born w p s k o b u v e j t a) f g =
+    keep q0 (born w p s k o b u v e j t a) lic f g =
         let h : AreTame R (Born o b ∷ u.moves) = subst (AreTame R) t.moves g.1 in
-        step_kept w [] _ u v h.0 t (keep a f (good_step w [] _ u h.0 t g))
-    keep (fallen w p s k u v e j t a) f g = step_kept w [] _ u v tt t (keep a f (good_step w [] _ u tt t g))
+        step_kept w [] _ u v h.0 t (keep q0 a lic f (good_step w [] _ u h.0 t g))
+    keep q0 (fallen w p s k u v e j t a) lic f g = step_kept w [] _ u v tt t (keep q0 a lic f (good_step w [] _ u tt t g))
+
+bad : {A : Type 0} → false ≡ true → A
+bad e = absurd (no2 e)
+  where
+    no2 : false ≡ true → Prim.⊥
+    no2 f = cc
 
 module _ {O I : Type 0} where
   pub disciplined : Disciplined O I
   disciplined R prog all c w v a f g t =
-      let k : Kept R (inside_of c w) (inside_of c v) = keep R prog all (runs_derived prog (inside_of c w) [] (wait idle never) (inside_of c v) None (lives_within prog c w v a)) (λ y. tt) (g, t) in
+      let k : Kept R (inside_of c w) (inside_of c v) = keep R prog all false (runs_derived prog (inside_of c w) [] (wait idle never) (inside_of c v) None (lives_within prog c w v a)) (λ e. bad e) (λ y. tt) (g, t) in
       (k.allowed (subst (λ τ. AreAllowed R (view c τ)) (sym f) tt), k.good.0)
