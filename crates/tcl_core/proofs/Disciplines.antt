@@ -280,7 +280,7 @@ module _ {O I : Type 0} (R : Discipline O I) where
         step_kept w [] _ u v h.0 t (keep q0 a lic f (good_step w [] _ u h.0 t g))
     keep q0 (fallen w p s k u v e j t a) lic f g = step_kept w [] _ u v tt t (keep q0 a lic f (good_step w [] _ u tt t g))
 
-bad : {A : Type 0} → false ≡ true → A
+pub bad : {A : Type 0} → false ≡ true → A
 bad e = absurd (no2 e)
   where
     no2 : false ≡ true → Prim.⊥

@@ -26,3 +26,4 @@ pub mod Lending
 pub mod Beginnings
 pub mod Quits
 pub mod Depths
+pub mod Safeguards

@@ -1,5 +1,5 @@
 -- The laws. They hold whatever the commands are: `prog` is their table.
-use Rattle.std.specs.Prelude.{length, nat_le, ◌≡◌, ℕ, zero, suc, ◌≤◌, ◌+◌, Bool, true, false, List, [], ◌∷◌, ◌++◌, Option, Some, None}
+use Rattle.std.specs.Prelude.{length, nat_le, ◌≡◌, ◌⊎◌, ℕ, zero, suc, ◌≤◌, ◌+◌, Bool, true, false, List, [], ◌∷◌, ◌++◌, Option, Some, None}
 use Rattle.tcl_core.specs.Paths.{Path, Place, Height, strip, rise_to}
 use Rattle.tcl_core.specs.Endings.{Meter, Completion, Reply, IsQuit}
 use Rattle.tcl_core.specs.Endings.Meter.{Count, Depth}
@@ -8,14 +8,14 @@ use Rattle.tcl_core.specs.Entries.{Entry, Said}
 use Rattle.tcl_core.specs.Entries.Answer.{Replied}
 use Rattle.tcl_core.specs.Trees.{asked, effect, Grant, Grants, Tree, Node, What, Event, Move, at, on_some}
 use Rattle.tcl_core.specs.Trees.Grants.{Listed, Budget}
-use Rattle.tcl_core.specs.Trees.Move.{Born, Fall, Come}
+use Rattle.tcl_core.specs.Trees.Move.{Born, Fall, Enter, Come}
 use Rattle.tcl_core.specs.Trees.What.{Charged, Refused, Limited, Made, Dropped, Out, In, Done, Back}
 use Rattle.tcl_core.specs.Programs.{Act, Wrap, Wait, Deed, Prog, Table, spot, decide, opens}
 use Rattle.tcl_core.specs.Programs.Next.{On, Off}
 use Rattle.tcl_core.specs.Programs.Prog.{act, go, inside, call, wait}
 use Rattle.tcl_core.specs.Runs.{World, Ending, Step, Runs, Visits, carried, reached, fits}
 use Rattle.tcl_core.specs.Views.{grants_of, moves_of, steps_of, view, inside_of}
-use Rattle.tcl_core.specs.Tables.{AllCall, Discipline, Keeps_to, IsGood, AreTame, AreAllowed}
+use Rattle.tcl_core.specs.Tables.{AllCall, Discipline, Keeps_to, IsGood, AreTame, AreAllowed, exposes, hostless, sets_limit, unlimiting}
 use Rattle.tcl_core.specs.Lives.{Lives, Outcome, React, outs_of}
 
 -- the same world with another tape
@@ -351,3 +351,56 @@ pub record IsSteady {O : Type 0} (w v : World O) (e : Ending) : Type 0 where
 
 abbrev pub Steady : Type 0 → Type 0 → Type 0
 Steady O I = (prog : Table O I) (w v : World O) (p : Place) (x : Prog O I) (e : Ending) → Runs prog w p x v e → IsUpright w.tree → KeepsTop w.moves → IsSteady w v e
+
+-- below a safe interpreter all are safe; and the one at c is
+abbrev pub IsSafeBelow : {O : Type 0} → Tree O → Type 0
+IsSafeBelow {O} T = (p q z : Place) (m n : Node O) → strip p q ≡ Some z → T p ≡ Some m → m.safe ≡ true → T q ≡ Some n → n.safe ≡ true
+
+abbrev pub IsSafeAt : {O : Type 0} → Tree O → Place → Type 0
+IsSafeAt {O} T c = (n : Node O) × (T c ≡ Some n) × (n.safe ≡ true)
+
+-- all own parts are plain
+abbrev pub ArePlain : {O : Type 0} → (O → Bool) → Tree O → Type 0
+ArePlain {O} plain T = (p : Place) (n : Node O) → T p ≡ Some n → plain n.own ≡ true
+
+-- no entry is such a one
+abbrev pub AreFree : {O : Type 0} → (Entry → Bool) → List (Move O) → Type 0
+AreFree f [] = Unit {0}
+AreFree f (Enter t i ∷ ms) = (f i ≡ false) × AreFree f ms
+AreFree f (m ∷ ms) = AreFree f ms
+
+abbrev pub IsNoRequest : {O : Type 0} → What O → Type 0
+IsNoRequest (Out None down i) = Prim.⊥
+IsNoRequest x = Unit {0}
+
+-- the host is asked for nothing
+abbrev pub AsksNothing : {O : Type 0} → List (Event O) → Type 0
+AsksNothing [] = Unit {0}
+AsksNothing (ev ∷ τ) = IsNoRequest ev.what × AsksNothing τ
+
+-- A safe interpreter in whose subtree nobody has a host command, `plain` being the test of an own part for that, asks the host for nothing,
+-- where nobody is asked from outside to expose a command or to invoke a hidden one. Of the table it wants that its commands keep to that.
+abbrev pub NoRequests : Type 0 → Type 0 → Type 0
+NoRequests O I = (plain : O → Bool) (fine : I → Bool) (prog : Table O I) → Keeps_to (hostless plain fine) prog → (c : Place) (w v : World O) (t : Path) (i : Entry) (r : Reply) →
+    Visits prog (Runs prog) w None t i v (Some r) → v.moves ≡ [] → v.tape ≡ [] → IsStanding c w.tape → IsSafeBelow w.tree → IsSafeAt w.tree c → ArePlain plain (at w.tree c) →
+    AreFree exposes (moves_of (view c w.tape)) → AsksNothing (view c w.tape)
+
+-- nobody asks from outside for a limit of the interpreter at q
+abbrev pub Unasked : {O : Type 0} → Place → List (Move O) → Type 0
+Unasked q [] = Unit {0}
+Unasked q (Enter t i ∷ ms) = (sets_limit i ≡ true → t ≡ q → Prim.⊥) × Unasked q ms
+Unasked q (m ∷ ms) = Unasked q ms
+
+-- the limits of `now`: those of a new interpreter, or those that were
+abbrev pub AsLimited : {O : Type 0} → Option (Node O) → Option (Node O) → Type 0
+AsLimited was None = Unit {0}
+AsLimited {O} was (Some m) = ((m.limit ≡ None) × (m.depth_limit ≡ 200)) ⊎ ((n : Node O) × (was ≡ Some n) × (m.limit ≡ n.limit) × (m.depth_limit ≡ n.depth_limit))
+
+-- In the subtree of a safe interpreter no script changes a limit: where nobody asks from outside for a limit of the interpreter at q below it,
+-- that has the limits that it had, or is new and has those of a new one; and one that is neither made nor dropped has those that it had.
+abbrev pub LimitsKept : Type 0 → Type 0 → Type 0
+LimitsKept O I = (fine : I → Bool) (prog : Table O I) → ((limited : Place → Bool) → Keeps_to (unlimiting fine limited) prog) → (c : Place) (w v : World O) (t : Path) (i : Entry) (r : Reply) →
+    Visits prog (Runs prog) w None t i v (Some r) → v.moves ≡ [] → v.tape ≡ [] → IsStanding c w.tape → IsSafeBelow w.tree → IsSafeAt w.tree c →
+    (q : Place) → Unasked q (moves_of (view c w.tape)) →
+    AsLimited (w.tree (c ++ q)) (v.tree (c ++ q)) ×
+    ((n : Node O) → w.tree (c ++ q) ≡ Some n → IsStanding (c ++ q) w.tape → (m : Node O) × (v.tree (c ++ q) ≡ Some m) × (m.limit ≡ n.limit) × (m.depth_limit ≡ n.depth_limit))

@@ -3,7 +3,7 @@
 #![tactic(auto)]
 
 ghost use Rattle.tcl_core.specs.Example.{WorkedLife};
-ghost use Rattle.tcl_core.specs.Laws.{AllAgree, Bounded, Counting, Determinism, Disciplined, Happenings, Inner, Isolation, IsolationUntil, Limiting, LivesWithin, Moments, MoreMoves, NonInterference, Passing, QuietOutside, Steady, Stopping, TwoWorlds};
+ghost use Rattle.tcl_core.specs.Laws.{AllAgree, Bounded, Counting, Determinism, Disciplined, Happenings, Inner, Isolation, IsolationUntil, Limiting, LimitsKept, LivesWithin, Moments, MoreMoves, NonInterference, NoRequests, Passing, QuietOutside, Steady, Stopping, TwoWorlds};
 ghost use Rattle.tcl_core.specs.Meaning.{RulesAreRuns, ThreadsAreRuns, Unrolling};
 
 /// A run is what `Unrolled` says of runs.
@@ -94,6 +94,16 @@ pub fn disciplined<O, I>()
 /// After a run each depth is what it was, and what was in use still stands.
 pub fn steady<O, I>()
     ensures { Steady O I }
+{}
+
+/// A safe interpreter in whose subtree nobody has a host command asks the host for nothing, where nobody exposes one from outside.
+pub fn no_requests<O, I>()
+    ensures { NoRequests O I }
+{}
+
+/// In the subtree of a safe interpreter no script changes a limit.
+pub fn limits_kept<O, I>()
+    ensures { LimitsKept O I }
 {}
 
 /// Two worlds in which a subtree is the same, and is first handed the same: the same happens there up to the first move that differs.
