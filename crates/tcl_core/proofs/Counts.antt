@@ -5,13 +5,14 @@ use Rattle.std.proofs.lemmas.Bool.Decides.{nat_tests}
 use Rattle.tcl_core.specs.Paths.{Place, strip}
 use Rattle.tcl_core.specs.Paths.{rise_to}
 use Rattle.tcl_core.specs.Trees.Grants.{Listed, Budget}
-use Rattle.tcl_core.specs.Trees.{Grants, granted, denied, Tree, What, Event, Node, paid, at_end, where_some, effect, with_own, with_limit, with_depth_limit, counted, deeper, shallower, fresh, seen_what}
+use Rattle.tcl_core.specs.Trees.{asked, Grants, granted, denied, Tree, What, Event, Node, paid, at_end, where_some, effect, with_own, with_limit, with_depth_limit, counted, deeper, shallower, fresh, seen_what}
 use Rattle.tcl_core.specs.Trees.What.{Seen, Changed, Charged, Refused, Nested, Unnested, Limited, DepthLimited, Made, Dropped, Out, In, Done, Back}
-use Rattle.tcl_core.specs.Programs.{blocked, full_at, nearer, is_spent, limit_or}
-use Rattle.tcl_core.specs.Runs.{World}
+use Rattle.tcl_core.specs.Programs.{Prog, Table, blocked, full_at, nearer, is_spent, limit_or}
+use Rattle.tcl_core.specs.Runs.{World, Ending, Runs}
 use Rattle.tcl_core.specs.Views.{IsDue, from_above, steps_of, kept, view}
-use Rattle.tcl_core.specs.Laws.{Bounded, Stands, IsStanding, Lowers, IsLowering, Counting, Limiting, Happenings, after}
+use Rattle.tcl_core.specs.Laws.{Bounded, Stands, IsStanding, Spares, IsSpared, IsHeld, Lasts, Lowers, IsLowering, Counting, Limiting, Happenings, after}
 use Rattle.tcl_core.proofs.PathLaws.{strip-sound}
+use Rattle.tcl_core.proofs.Standing.{stands_of, held_left}
 use Rattle.tcl_core.proofs.Keeping.{runs_keep, KeepsSteps}
 
 module _ {O : Type 0} where
@@ -105,21 +106,22 @@ module _ {O : Type 0} where
   steps_kept (Some q) b x τ = paid_seen q x (steps_of τ)
 
   abbrev Total : Place → ℕ → World O → Type 0
-  Total c total u = IsStanding c u.tape × ((m : Node O) × (u.tree c ≡ Some m) × (m.count + steps_of (view c u.tape) ≡ total))
+  Total c total u = IsSpared c u.tape × IsHeld c u.moves × ((m : Node O) × (u.tree c ≡ Some m) × (m.count + steps_of (view c u.tape) ≡ total))
 
   total_step : (c : Place) (total : ℕ) → KeepsSteps (Total c total)
-  total_step c total w p x v due s (st, (n, e, t)) =
-      let st2 : Stands c p x × IsStanding c v.tape = subst (IsStanding c) s.tape st in
-      let a : Meters c p x w.tree n = meters c p x w.tree n st2.0 e in
+  total_step c total w p x v due s (st, held, (n, e, t)) =
+      let st2 : Spares c p x × IsSpared c v.tape = subst (IsSpared c) s.tape st in
+      let held2 : IsHeld c (asked p x v.moves) = subst (IsHeld c) s.moves held in
+      let a : Meters c p x w.tree n = meters c p x w.tree n (stands_of c p x w.tree n v.moves due e st2.0 held2) e in
       let k : steps_of (view c w.tape) ≡ taken (strip c p) x (steps_of (view c v.tape)) = ap (λ τ. steps_of (view c τ)) s.tape ∙ steps_kept (strip c p) (strip p c) x (view c v.tape) in
-      (st2.1, (a.0, ap (λ T. T c) s.tree ∙ a.1, a.2 (steps_of (view c v.tape)) ∙ ap (λ j. n.count + j) (sym k) ∙ t))
+      (st2.1, held_left c p x v.moves held2, (a.0, ap (λ T. T c) s.tree ∙ a.1, a.2 (steps_of (view c v.tape)) ∙ ap (λ j. n.count + j) (sym k) ∙ t))
 
 module _ {O I : Type 0} where
   pub counting : Counting O I
   counting prog c p w x v e n a st f =
       let total : ℕ = n.count + steps_of (view c w.tape) in
-      let g : Total c total v = runs_keep (Total c total) (total_step c total) prog w p x v e a (st, (n, f, refl)) in
-      g.1
+      let g : Total c total v = runs_keep (Total c total) (total_step c total) prog w p x v e a (st.spared, st.held, (n, f, refl)) in
+      g.2
 
 -- below its limit
 open_none : (o : Option ℕ) (b : Bool) (m : ℕ) → nearer o b m ≡ None → (o ≡ None) × (b ≡ false)
@@ -139,7 +141,7 @@ module _ {O : Type 0} where
       grind (arith, nat_tests)
 
   abbrev Within : Place → ℕ → ℕ → World O → Type 0
-  Within c l b u = IsStanding c u.tape × IsLowering l c u.tape × ((m : Node O) × (k : ℕ) × (u.tree c ≡ Some m) × (m.limit ≡ Some k) × (k ≤ l) × (m.count ≤ b))
+  Within c l b u = IsSpared c u.tape × IsLowering l c u.tape × IsHeld c u.moves × ((m : Node O) × (k : ℕ) × (u.tree c ≡ Some m) × (m.limit ≡ Some k) × (k ≤ l) × (m.count ≤ b))
 
   -- a charge finds room
   room_for : (c p : Place) (x : What O) (T : Tree O) (n : Node O) (k b : ℕ) → IsDue T p x → T c ≡ Some n → n.limit ≡ Some k → k ≤ b → n.count ≤ b → (j : ℕ) → (s : Option Place) → strip c p ≡ s → n.count + taken s x j ≤ b + j
@@ -159,19 +161,20 @@ module _ {O : Type 0} where
   limit_step l k x b o a f g = (k, f, g)
 
   within_step : (c : Place) (l b : ℕ) → l ≤ b → KeepsSteps (Within c l b)
-  within_step c l b lb w p x v due s (st, un, (n, k, e, f, kl, g)) =
-      let st2 : Stands c p x × IsStanding c v.tape = subst (IsStanding c) s.tape st in
+  within_step c l b lb w p x v due s (st, un, held, (n, k, e, f, kl, g)) =
+      let st2 : Spares c p x × IsSpared c v.tape = subst (IsSpared c) s.tape st in
+      let held2 : IsHeld c (asked p x v.moves) = subst (IsHeld c) s.moves held in
       let un2 : Lowers l x (strip p c) × IsLowering l c v.tape = subst (IsLowering l c) s.tape un in
-      let a : Meters c p x w.tree n = meters c p x w.tree n st2.0 e in
+      let a : Meters c p x w.tree n = meters c p x w.tree n (stands_of c p x w.tree n v.moves due e st2.0 held2) e in
       let r : n.count + taken (strip c p) x 0 ≤ b + 0 = room_for c p x w.tree n k b due e f (omega arith) g 0 (strip c p) refl in
       let j : (j : ℕ) × (limit_after x (strip p c) n.limit ≡ Some j) × (j ≤ l) = limit_step l k x (strip p c) n.limit un2.0 f kl in
-      (st2.1, un2.1, (a.0, j.0, ap (λ T. T c) s.tree ∙ a.1, a.3 ∙ j.1, j.2, omega (arith, a.2 0, r)))
+      (st2.1, un2.1, held_left c p x v.moves held2, (a.0, j.0, ap (λ T. T c) s.tree ∙ a.1, a.3 ∙ j.1, j.2, omega (arith, a.2 0, r)))
 
 module _ {O I : Type 0} where
   pub limiting : Limiting O I
   limiting prog c p w x v e n l b a st un f g lb h =
-      let r : Within c l b v = runs_keep (Within c l b) (within_step c l b lb) prog w p x v e a (st, un, (n, l, f, g, omega arith, h)) in
-      r.2
+      let r : Within c l b v = runs_keep (Within c l b) (within_step c l b lb) prog w p x v e a (st.spared, un, st.held, (n, l, f, g, omega arith, h)) in
+      r.3
 
 module _ {O : Type 0} where
   pub after-append : (σ τ : List (Event O)) (T : Tree O) → after (σ ++ τ) T ≡ after τ (after σ T)
@@ -222,3 +225,22 @@ module _ {O I : Type 0} where
     where
       no_more : (n : ℕ) → n + 0 ≡ n
       no_more n = omega arith
+
+module _ {O : Type 0} where
+  -- what lasts is neither made nor dropped
+  abbrev Lasting_on : Place → World O → World O → Type 0
+  Lasting_on c w u = IsSpared c u.tape × IsHeld c u.moves × ((m : Node O) × (u.tree c ≡ Some m)) × (IsStanding c u.tape → IsStanding c w.tape)
+
+  lasting_step : (c : Place) (w : World O) → KeepsSteps (Lasting_on c w)
+  lasting_step c w u p x v due s (st, held, (n, e), f) =
+      let st2 : Spares c p x × IsSpared c v.tape = subst (IsSpared c) s.tape st in
+      let held2 : IsHeld c (asked p x v.moves) = subst (IsHeld c) s.moves held in
+      let here : Stands c p x = stands_of c p x u.tree n v.moves due e st2.0 held2 in
+      let a : Meters c p x u.tree n = meters c p x u.tree n here e in
+      (st2.1, held_left c p x v.moves held2, (a.0, ap (λ T. T c) s.tree ∙ a.1), (λ g. f (subst (IsStanding c) (sym s.tape) (here, g))))
+
+module _ {O I : Type 0} where
+  pub standing : (prog : Table O I) (c : Place) (w : World O) (p : Place) (x : Prog O I) (v : World O) (e : Ending) → Runs prog w p x v e → Lasts c w → v.tape ≡ [] → IsStanding c w.tape
+  standing prog c w p x v e a l f =
+      let g : Lasting_on c w v = runs_keep (Lasting_on c w) (lasting_step c w) prog w p x v e a (l.spared, l.held, (l.node, l.stands), (λ b. b)) in
+      g.3 (subst (IsStanding c) (sym f) tt)

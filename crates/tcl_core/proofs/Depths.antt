@@ -322,7 +322,7 @@ module _ {O : Type 0} where
   place_top [] m ms f b = f b
   place_top (x ∷ p) m ms f b = b
 
-  asked_top : (p : Place) (x : What O) (ms : List (Move O)) → KeepsTop (asked p x ms) → KeepsTop ms
+  pub asked_top : (p : Place) (x : What O) (ms : List (Move O)) → KeepsTop (asked p x ms) → KeepsTop ms
   asked_top p (In h i) ms f = by (rise_to h p) f
     where
       by : (o : Option Path) → KeepsTop (where_none o (Enter p i) ms) → KeepsTop ms

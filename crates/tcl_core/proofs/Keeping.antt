@@ -18,7 +18,7 @@ use Rattle.tcl_core.specs.Programs.Wrap.{Deeper, Framed}
 use Rattle.tcl_core.specs.Runs.{World, Step, Ending, Exits, Exiting, Halts, Runs, ends_call, height_of}
 use Rattle.tcl_core.specs.Rules.{Derives}
 use Rattle.tcl_core.specs.Rules.Derives.{completed, exited, acted, refused, unheard, went, passed, halted, wrapped, wrapped_passed, wrapped_halted, too_deep, shut, unheard_inside, called, called_passed, called_halted, unreached, called_out, unanswered, unfit, answered, heard, answered_passed, entered, entered_halted, entered_exiting, born, fallen}
-use Rattle.tcl_core.specs.Views.{IsDue}
+use Rattle.tcl_core.specs.Views.{IsFree, IsDue}
 use Rattle.tcl_core.proofs.PathLaws.{not_both, Some-inj}
 use Rattle.tcl_core.proofs.RuleLaws.{runs_derived}
 
@@ -39,10 +39,14 @@ module _ {O : Type 0} where
   changing_due T p o None = tt
   changing_due T p o (Some n) = tt
 
-  making_due : (T : Tree O) (p : Place) (name : List ℕ) (o : O) (s : Bool) (parent n : Option (Node O)) → IsDue T (spot p (making name o s parent n).0) (making name o s parent n).1
-  making_due T at name o s None n = tt
-  making_due T at name o s (Some m) None = tt
-  making_due T at name o s (Some m) (Some n) = tt
+  free_at : (T : Tree O) (p : Place) (name : List ℕ) → T (p ++ name ∷ []) ≡ None → IsFree T (p ++ name ∷ [])
+  free_at T [] name e = e
+  free_at T (x ∷ p) name e = e
+
+  making_due : (T : Tree O) (p : Place) (name : List ℕ) (o : O) (s : Bool) (parent n : Option (Node O)) → T (p ++ name ∷ []) ≡ n → IsDue T (spot p (making name o s parent n).0) (making name o s parent n).1
+  making_due T p name o s None n e = tt
+  making_due T p name o s (Some m) None e = free_at T p name e
+  making_due T p name o s (Some m) (Some n) e = tt
 
   dropping_due : (T : Tree O) (p : Place) (name : List ℕ) (n : Option (Node O)) → IsDue T (spot p (dropping name n).0) (dropping name n).1
   dropping_due T p name None = tt
@@ -59,7 +63,7 @@ module _ {O : Type 0} where
   decide_due Charge T p gs x e = metered_due is_spent T p Count Charged gs x (λ e. e) (blocked is_spent T p) refl e
   decide_due (Limit l) T p gs x e = due_of T p (None, Limited l, On) x tt e
   decide_due (LimitDepth l) T p gs x e = due_of T p (None, DepthLimited l, On) x tt e
-  decide_due (Make name o s) T p gs x e = due_of T p (making name o s (T p) (T (p ++ name ∷ []))) x (making_due T p name o s (T p) (T (p ++ name ∷ []))) e
+  decide_due (Make name o s) T p gs x e = due_of T p (making name o s (T p) (T (p ++ name ∷ []))) x (making_due T p name o s (T p) (T (p ++ name ∷ [])) refl) e
   decide_due (Drop name) T p gs x e = due_of T p (dropping name (T (p ++ name ∷ []))) x (dropping_due T p name (T (p ++ name ∷ []))) e
 
   pub opens_due : (b : Wrap O) (T : Tree O) (p : Place) (gs : Grants) (x : Deed O) → opens b T p gs ≡ Some x → IsDue T (spot p x.0) x.1

@@ -27,3 +27,4 @@ pub mod Beginnings
 pub mod Quits
 pub mod Depths
 pub mod Safeguards
+pub mod Standing

@@ -21,6 +21,7 @@ use Rattle.tcl_core.proofs.TreeLaws.{unseen}
 use Rattle.tcl_core.proofs.Subtrees.{wait_halt, wait_enter}
 use Rattle.tcl_core.proofs.SameRuns.{asked-inj}
 use Rattle.tcl_core.proofs.RuleLaws.{derived_runs, runs_derived}
+use Rattle.tcl_core.proofs.Counts.{standing}
 use Rattle.tcl_core.proofs.Keeping.{KeepsSteps, runs_keep}
 use Rattle.tcl_core.proofs.Budgets.{budgeted, step_budget, fine_step, uncut_keep, derived_budget}
 use Rattle.tcl_core.proofs.Balance.{ins, dones, Owes, owes, visit_owes, halted_more, view_ins, view_dones}
@@ -202,7 +203,7 @@ module _ {O I : Type 0} where
       let g : m ≡ steps_of (view c w.tape) + k = omega (arith, le) in
       let x : Outcome = outcome_of (view c w.tape) Finished in
       let z : Reacts prog (budgeted k (inside_of c w)) (budgeted k (inside_of c v)) x =
-      reacting prog k l.0 (inside_of c w) (inside_of c v) x refl refl (lasting c w.tape st) un (view_ins c w.tape ∙ b ∙ sym (view_dones c w.tape)) (ap (view c) f) l.1 in
+      reacting prog k l.0 (inside_of c w) (inside_of c v) x refl refl (lasting c w.tape (standing prog c w [] (wait idle never) v None (life_of prog w v t i r a e f) st f)) un (view_ins c w.tape ∙ b ∙ sym (view_dones c w.tape)) (ap (view c) f) l.1 in
       record {
         tape = view c w.tape;
         last = budgeted k (inside_of c v);

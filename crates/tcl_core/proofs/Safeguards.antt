@@ -14,7 +14,7 @@ use Rattle.tcl_core.specs.Tables.{Discipline, IsGoodNode, IsGood, AreTame, Allow
 use Rattle.tcl_core.specs.Laws.{Stands, IsStanding, KeepsTop, IsSafeBelow, IsSafeAt, ArePlain, AreFree, IsNoRequest, AsksNothing, NoRequests, Unasked, AsLimited, LimitsKept, after}
 use Rattle.tcl_core.proofs.PathLaws.{not_both, Some-inj, strip_own, strip-append, strip-sound}
 use Rattle.tcl_core.proofs.TreeLaws.{unseen}
-use Rattle.tcl_core.proofs.Counts.{happenings}
+use Rattle.tcl_core.proofs.Counts.{happenings, standing}
 use Rattle.tcl_core.proofs.Conclusions.{lives_within}
 use Rattle.tcl_core.proofs.Reacting.{Lasting, IsLasting, lasting, life_of}
 use Rattle.tcl_core.proofs.Disciplines.{bad, disciplined}
@@ -69,7 +69,7 @@ module _ {O I : Type 0} where
   pub no_requests : NoRequests O I
   no_requests plain fine prog all c w v t i r a e f st s sc p m =
       let k : AreAllowed (hostless plain fine) (view c w.tape) × IsGood (hostless plain fine) (at v.tree c) =
-      disciplined (hostless plain fine) prog all c w v (life_of prog w v t i r a e f) f (good_at (hostless plain fine) w.tree c s sc p) (free_tame plain fine (moves_of (view c w.tape)) (lasting_top (view c w.tape) (lasting c w.tape st)) m) in
+      disciplined (hostless plain fine) prog all c w v (life_of prog w v t i r a e f) f (good_at (hostless plain fine) w.tree c s sc p) (free_tame plain fine (moves_of (view c w.tape)) (lasting_top (view c w.tape) (lasting c w.tape (standing prog c w [] (wait idle never) v None (life_of prog w v t i r a e f) st f))) m) in
       asks_nothing plain fine (view c w.tape) k.0
 
 -- LIMITS
@@ -230,7 +230,7 @@ module _ {O I : Type 0} where
   limits_kept fine prog all c w v t i r a e f st s sc q u =
       let R : Discipline O I = unlimiting fine (elsewhere q) in
       let k : AreAllowed R (view c w.tape) × IsGood R (at v.tree c) =
-      disciplined R prog (all (elsewhere q)) c w v (life_of prog w v t i r a e f) f (good_at R w.tree c s sc (λ p n g. refl)) (unasked_tame fine q (moves_of (view c w.tape)) (lasting_top (view c w.tape) (lasting c w.tape st)) u) in
+      disciplined R prog (all (elsewhere q)) c w v (life_of prog w v t i r a e f) f (good_at R w.tree c s sc (λ p n g. refl)) (unasked_tame fine q (moves_of (view c w.tape)) (lasting_top (view c w.tape) (lasting c w.tape (standing prog c w [] (wait idle never) v None (life_of prog w v t i r a e f) st f))) u) in
       let n : AreUnlimited q (view c w.tape) = limits_not fine q (view c w.tape) k.0 in
       let l : Lives prog (inside_of c w) (inside_of c v) None = lives_within prog c w v (life_of prog w v t i r a e f) in
       let h : (made : List (Event O)) × (view c w.tape ≡ made ++ view c v.tape) × (at v.tree c ≡ after made (at w.tree c)) = happenings prog (inside_of c w) [] (wait idle never) (inside_of c v) None l in

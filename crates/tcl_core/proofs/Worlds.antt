@@ -16,7 +16,8 @@ use Rattle.tcl_core.specs.Rules.Derives.{unanswered}
 use Rattle.tcl_core.specs.Views.{moves_of, steps_of, view, inside_of}
 use Rattle.tcl_core.specs.Lives.{Lives, idle, never, outs_of}
 use Rattle.tcl_core.specs.Lives.Outcome.{Finished}
-use Rattle.tcl_core.specs.Laws.{AllAgree, TwoWorlds, AtMove, IsStanding, outcome_of, IsUnended}
+use Rattle.tcl_core.specs.Laws.{AllAgree, TwoWorlds, AtMove, Lasts, outcome_of, IsUnended}
+use Rattle.tcl_core.proofs.Counts.{standing}
 use Rattle.tcl_core.proofs.Unended.{IsUncut, uncut}
 use Rattle.tcl_core.proofs.RuleLaws.{Ruled, derived_runs, runs_derived, enter_rule}
 use Rattle.tcl_core.proofs.Budgets.{budgeted}
@@ -87,7 +88,7 @@ module _ {O I : Type 0} (prog : Table O I) (k : ℕ) where
 
 module _ {O I : Type 0} where
   -- the life of the subtree at c in an evaluation, under a budget
-  life_within : (prog : Table O I) (c : Place) (w v : World O) (t : Path) (i : Entry) (r : Reply) (k : ℕ) → Visits prog (Runs prog) w None t i v (Some r) → v.moves ≡ [] → v.tape ≡ [] → IsStanding c w.tape → IsUnended (view c w.tape) →
+  life_within : (prog : Table O I) (c : Place) (w v : World O) (t : Path) (i : Entry) (r : Reply) (k : ℕ) → Visits prog (Runs prog) w None t i v (Some r) → v.moves ≡ [] → v.tape ≡ [] → Lasts c w → IsUnended (view c w.tape) →
       Derives prog (budgeted k (inside_of c w)) [] (wait idle never) (budgeted k (inside_of c v)) None
   life_within prog c w v t i r k a e f st une =
       let l : Lives prog (inside_of c w) (inside_of c v) None = lives_within prog c w v (life_of prog w v t i r a e f) in
@@ -98,7 +99,7 @@ module _ {O I : Type 0} where
       let p : ins c v.tape ≡ 0 = ap (ins c) f in
       let q : dones c v.tape ≡ 0 = ap (dones c) f in
       let b : ins c w.tape ≡ dones c w.tape = omega arith in
-      living prog k l.0 (inside_of c w) (inside_of c v) refl (lasting c w.tape st) un (view_ins c w.tape ∙ b ∙ sym (view_dones c w.tape)) (ap (view c) f) l.1
+      living prog k l.0 (inside_of c w) (inside_of c v) refl (lasting c w.tape (standing prog c w [] (wait idle never) v None (life_of prog w v t i r a e f) st f)) un (view_ins c w.tape ∙ b ∙ sym (view_dones c w.tape)) (ap (view c) f) l.1
 
   -- a life that halts, with the first moves alone
   pub first_part : (prog : Table O I) (w v : World O) (a b : List (Move O)) → Derives prog w [] (wait idle never) v None → w.moves ≡ a ++ b → Stops w (Run_of prog w a [] (wait idle never))

@@ -70,10 +70,38 @@ abbrev pub IsStanding : {O : Type 0} → Place → List (Event O) → Type 0
 IsStanding c [] = Unit {0}
 IsStanding c (ev ∷ τ) = Stands c ev.place ev.what × IsStanding c τ
 
+-- the tree as a whole is neither made nor dropped by what is handed in
+abbrev pub KeepsTop : {O : Type 0} → List (Move O) → Type 0
+KeepsTop [] = Unit {0}
+KeepsTop (Born o s ∷ ms) = Prim.⊥
+KeepsTop (Fall ∷ ms) = Prim.⊥
+KeepsTop (m ∷ ms) = KeepsTop ms
+
+-- c isn't dropped: neither it nor one above it is
+abbrev pub Spares : {O : Type 0} → Place → Place → What O → Type 0
+Spares c p Dropped = strip p c ≡ None
+Spares c p x = Unit {0}
+
+abbrev pub IsSpared : {O : Type 0} → Place → List (Event O) → Type 0
+IsSpared c [] = Unit {0}
+IsSpared c (ev ∷ τ) = Spares c ev.place ev.what × IsSpared c τ
+
+-- c isn't the whole tree, or that isn't made anew from outside
+abbrev pub IsHeld : {O : Type 0} → Place → List (Move O) → Type 0
+IsHeld [] ms = KeepsTop ms
+IsHeld (x ∷ c) ms = Unit {0}
+
+-- c stands at first, and isn't dropped in what follows
+pub record Lasts {O : Type 0} (c : Place) (w : World O) : Type 0 where
+  pub node : Node O
+  pub stands : w.tree c ≡ Some node
+  pub spared : IsSpared c w.tape
+  pub held : IsHeld c w.moves
+
 -- An interpreter's count rises by the steps that are made in its subtree.
 abbrev pub Counting : Type 0 → Type 0 → Type 0
 Counting O I = (prog : Table O I) (c p : Place) (w : World O) (x : Prog O I) (v : World O) (e : Ending) (n : Node O) →
-    Runs prog w p x v e → IsStanding c w.tape → w.tree c ≡ Some n →
+    Runs prog w p x v e → Lasts c w → w.tree c ≡ Some n →
     (m : Node O) × (v.tree c ≡ Some m) × (m.count + steps_of (view c v.tape) ≡ n.count + steps_of (view c w.tape))
 
 -- c's limit is neither raised past l nor taken away
@@ -89,7 +117,7 @@ IsLowering l c (ev ∷ τ) = Lowers l ev.what (strip ev.place c) × IsLowering l
 -- number that both are at most.
 abbrev pub Limiting : Type 0 → Type 0 → Type 0
 Limiting O I = (prog : Table O I) (c p : Place) (w : World O) (x : Prog O I) (v : World O) (e : Ending) (n : Node O) (l b : ℕ) →
-    Runs prog w p x v e → IsStanding c w.tape → IsLowering l c w.tape → w.tree c ≡ Some n → n.limit ≡ Some l → l ≤ b → n.count ≤ b →
+    Runs prog w p x v e → Lasts c w → IsLowering l c w.tape → w.tree c ≡ Some n → n.limit ≡ Some l → l ≤ b → n.count ≤ b →
     (m : Node O) × (k : ℕ) × (v.tree c ≡ Some m) × (m.limit ≡ Some k) × (k ≤ l) × (m.count ≤ b)
 
 -- After any happenings the subtree at c is as those in it leave it.
@@ -146,7 +174,7 @@ outcome_of (ev ∷ τ) x = outcome_of τ (outcome_at ev.place ev.what x)
 abbrev pub Isolation : Type 0 → Type 0 → Type 0
 Isolation O I = (prog : Table O I) (c : Place) (w v : World O) (t : Path) (i : Entry) (r : Reply) (m : ℕ) →
     Visits prog (Runs prog) w None t i v (Some r) → v.moves ≡ [] → v.tape ≡ [] →
-    IsStanding c w.tape → IsUnended (view c w.tape) → steps_of (view c w.tape) ≤ m →
+    Lasts c w → IsUnended (view c w.tape) → steps_of (view c w.tape) ≤ m →
     React prog (at w.tree c) (moves_of (view c w.tape)) m (outcome_of (view c w.tape) Outcome.Finished) (outs_of (view c w.tape)) (at v.tree c)
 
 -- an interpreter but for its count and its depth
@@ -275,16 +303,16 @@ AtMove (ev ∷ τ) = ReadsMove ev
 -- there up to where a further move is read, and so the same is told to the outside.
 abbrev pub TwoWorlds : Type 0 → Type 0 → Type 0
 TwoWorlds O I = (prog : Table O I) (c : Place) (w v z y : World O) (t t2 : Path) (i i2 : Entry) (r r2 : Reply) (ms a b : List (Move O)) →
-    Visits prog (Runs prog) w None t i v (Some r) → v.moves ≡ [] → v.tape ≡ [] → IsStanding c w.tape → IsUnended (view c w.tape) →
-    Visits prog (Runs prog) z None t2 i2 y (Some r2) → y.moves ≡ [] → y.tape ≡ [] → IsStanding c z.tape → IsUnended (view c z.tape) →
+    Visits prog (Runs prog) w None t i v (Some r) → v.moves ≡ [] → v.tape ≡ [] → Lasts c w → IsUnended (view c w.tape) →
+    Visits prog (Runs prog) z None t2 i2 y (Some r2) → y.moves ≡ [] → y.tape ≡ [] → Lasts c z → IsUnended (view c z.tape) →
     at w.tree c ≡ at z.tree c → moves_of (view c w.tape) ≡ ms ++ a → moves_of (view c z.tape) ≡ ms ++ b →
     (same : List (Event O)) × (rest1 : List (Event O)) × (rest2 : List (Event O)) × (view c w.tape ≡ same ++ rest1) × (view c z.tape ≡ same ++ rest2) × AtMove rest1 × AtMove rest2
 
 -- Where all moves agree, so does all that happens in the subtree, and the subtree that is left.
 abbrev pub AllAgree : Type 0 → Type 0 → Type 0
 AllAgree O I = (prog : Table O I) (c : Place) (w v z y : World O) (t t2 : Path) (i i2 : Entry) (r r2 : Reply) →
-    Visits prog (Runs prog) w None t i v (Some r) → v.moves ≡ [] → v.tape ≡ [] → IsStanding c w.tape → IsUnended (view c w.tape) →
-    Visits prog (Runs prog) z None t2 i2 y (Some r2) → y.moves ≡ [] → y.tape ≡ [] → IsStanding c z.tape → IsUnended (view c z.tape) →
+    Visits prog (Runs prog) w None t i v (Some r) → v.moves ≡ [] → v.tape ≡ [] → Lasts c w → IsUnended (view c w.tape) →
+    Visits prog (Runs prog) z None t2 i2 y (Some r2) → y.moves ≡ [] → y.tape ≡ [] → Lasts c z → IsUnended (view c z.tape) →
     at w.tree c ≡ at z.tree c → moves_of (view c w.tape) ≡ moves_of (view c z.tape) →
     (view c w.tape ≡ view c z.tape) × (outs_of (view c w.tape) ≡ outs_of (view c z.tape)) × (at v.tree c ≡ at y.tree c)
 
@@ -335,13 +363,6 @@ Beneath (Some m) (Some n) = n.depth ≤ m.depth
 abbrev pub IsUpright : {O : Type 0} → Tree O → Type 0
 IsUpright T = (p q z : Place) → strip p q ≡ Some z → Beneath (T p) (T q)
 
--- the tree as a whole is neither made nor dropped by what is handed in
-abbrev pub KeepsTop : {O : Type 0} → List (Move O) → Type 0
-KeepsTop [] = Unit {0}
-KeepsTop (Born o s ∷ ms) = Prim.⊥
-KeepsTop (Fall ∷ ms) = Prim.⊥
-KeepsTop (m ∷ ms) = KeepsTop ms
-
 -- After a run that came to its end each depth is what it was; and what is in use at first is neither made nor dropped by it, whether it
 -- came to its end or not. So an interpreter in use stands as long as it is in use.
 pub record IsSteady {O : Type 0} (w v : World O) (e : Ending) : Type 0 where
@@ -382,7 +403,7 @@ AsksNothing (ev ∷ τ) = IsNoRequest ev.what × AsksNothing τ
 -- where nobody is asked from outside to expose a command or to invoke a hidden one. Of the table it wants that its commands keep to that.
 abbrev pub NoRequests : Type 0 → Type 0 → Type 0
 NoRequests O I = (plain : O → Bool) (fine : I → Bool) (prog : Table O I) → Keeps_to (hostless plain fine) prog → (c : Place) (w v : World O) (t : Path) (i : Entry) (r : Reply) →
-    Visits prog (Runs prog) w None t i v (Some r) → v.moves ≡ [] → v.tape ≡ [] → IsStanding c w.tape → IsSafeBelow w.tree → IsSafeAt w.tree c → ArePlain plain (at w.tree c) →
+    Visits prog (Runs prog) w None t i v (Some r) → v.moves ≡ [] → v.tape ≡ [] → Lasts c w → IsSafeBelow w.tree → IsSafeAt w.tree c → ArePlain plain (at w.tree c) →
     AreFree exposes (moves_of (view c w.tape)) → AsksNothing (view c w.tape)
 
 -- nobody asks from outside for a limit of the interpreter at q
@@ -400,7 +421,7 @@ AsLimited {O} was (Some m) = ((m.limit ≡ None) × (m.depth_limit ≡ 200)) ⊎
 -- that has the limits that it had, or is new and has those of a new one; and one that is neither made nor dropped has those that it had.
 abbrev pub LimitsKept : Type 0 → Type 0 → Type 0
 LimitsKept O I = (fine : I → Bool) (prog : Table O I) → ((limited : Place → Bool) → Keeps_to (unlimiting fine limited) prog) → (c : Place) (w v : World O) (t : Path) (i : Entry) (r : Reply) →
-    Visits prog (Runs prog) w None t i v (Some r) → v.moves ≡ [] → v.tape ≡ [] → IsStanding c w.tape → IsSafeBelow w.tree → IsSafeAt w.tree c →
+    Visits prog (Runs prog) w None t i v (Some r) → v.moves ≡ [] → v.tape ≡ [] → Lasts c w → IsSafeBelow w.tree → IsSafeAt w.tree c →
     (q : Place) → Unasked q (moves_of (view c w.tape)) →
     AsLimited (w.tree (c ++ q)) (v.tree (c ++ q)) ×
     ((n : Node O) → w.tree (c ++ q) ≡ Some n → IsStanding (c ++ q) w.tape → (m : Node O) × (v.tree (c ++ q) ≡ Some m) × (m.limit ≡ n.limit) × (m.depth_limit ≡ n.depth_limit))

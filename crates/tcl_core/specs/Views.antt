@@ -3,7 +3,7 @@ use Rattle.std.specs.Prelude.{◌≡◌, ℕ, List, [], ◌∷◌, Option, Some,
 use Rattle.tcl_core.specs.Paths.{Place, strip}
 use Rattle.tcl_core.specs.Trees.{Grants, granted, Tree, What, Event, Move, at, asked, paid, seen_what}
 use Rattle.tcl_core.specs.Trees.Grants.{Listed}
-use Rattle.tcl_core.specs.Trees.What.{Charged, Nested, Dropped}
+use Rattle.tcl_core.specs.Trees.What.{Charged, Nested, Made, Dropped}
 use Rattle.tcl_core.specs.Programs.{blocked, is_spent, is_deep}
 use Rattle.tcl_core.specs.Runs.{World}
 
@@ -39,8 +39,13 @@ module _ {O : Type 0} where
   abbrev pub inside_of : Place → World O → World O
   inside_of c w = record { tree = at w.tree c; moves = moves_of (view c w.tape); grants = grants_of (view c w.tape); tape = view c w.tape }
 
-  -- a step is counted, or an evaluation begins, only where no interpreter at p or above is full
+  abbrev pub IsFree : Tree O → Place → Type 0
+  IsFree T [] = Unit {0}
+  IsFree T (x ∷ p) = T (x ∷ p) ≡ None
+
+  -- a step is counted, or an evaluation begins, only where no interpreter at p or above is full; and a child is made where none stands
   abbrev pub IsDue : Tree O → Place → What O → Type 0
   IsDue T p Charged = blocked is_spent T p ≡ None
   IsDue T p Nested = blocked is_deep T p ≡ None
+  IsDue T p (Made o s) = IsFree T p
   IsDue T p _ = Unit {0}
