@@ -19,7 +19,7 @@ use Rattle.tcl_core.specs.Runs.{World, Step, Ending, Halts, Exits, Exiting, ends
 use Rattle.tcl_core.specs.Rules.{Derives}
 use Rattle.tcl_core.specs.Rules.Derives.{completed, exited, acted, refused, unheard, went, passed, halted, wrapped, wrapped_passed, wrapped_halted, too_deep, shut, unheard_inside, called, called_passed, called_halted, unreached, called_out, unanswered, unfit, answered, heard, answered_passed, entered, entered_halted, entered_exiting, born, fallen}
 use Rattle.tcl_core.specs.Views.{steps_of}
-use Rattle.tcl_core.proofs.Unended.{IsUncut, Uncut}
+use Rattle.tcl_core.specs.Lives.{IsUncut, Uncut}
 use Rattle.tcl_core.proofs.PathLaws.{not_both, Some-inj}
 use Rattle.tcl_core.proofs.MoreMoves.{none_not}
 use Rattle.tcl_core.proofs.Keeping.{KeepsSteps, derived_keep}

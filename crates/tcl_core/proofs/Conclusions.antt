@@ -4,17 +4,13 @@ use Rattle.tcl_core.specs.Paths.{Place, strip}
 use Rattle.tcl_core.specs.Trees.{where_none, What, Tree, Event, effect, at}
 use Rattle.tcl_core.specs.Trees.What.{Dropped}
 use Rattle.tcl_core.specs.Trees.Move.{Enter}
-use Rattle.tcl_core.specs.Endings.{Completion, Reply, IsQuit}
-use Rattle.tcl_core.specs.Endings.Reply.{Completed, Stop, Exit, Cut}
-use Rattle.tcl_core.specs.Programs.{Prog}
-use Rattle.tcl_core.specs.Programs.Prog.{go, wait}
-use Rattle.tcl_core.specs.Runs.{World, Ending, Run, Follows, Then, Unrolled, Runs}
+use Rattle.tcl_core.specs.Programs.Prog.{wait}
+use Rattle.tcl_core.specs.Runs.{Ending, Runs}
 use Rattle.tcl_core.specs.Views.{from_above, kept, view, inside_of}
 use Rattle.tcl_core.specs.Lives.{idle, never}
 use Rattle.tcl_core.specs.Laws.{Inner, after, Moments, retape, Agrees, Determinism, LivesWithin, NonInterference}
 use Rattle.tcl_core.proofs.PathLaws.{rise_back, strip-sound}
 use Rattle.tcl_core.proofs.TreeLaws.{effect_fall, effect_within, effect_apart}
-use Rattle.tcl_core.proofs.Folding.{unroll}
 use Rattle.tcl_core.proofs.SameRuns.{runs_same}
 use Rattle.tcl_core.proofs.Subtrees.{runs_within, runs_apart}
 

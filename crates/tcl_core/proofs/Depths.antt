@@ -1,25 +1,24 @@
 -- Depths come back to what they were, and what is in use stays.
-use Rattle.std.proofs.Common.{pred, sym, ◌≡◌, ℕ, zero, suc, ℤ, ◌≤◌, Bool, true, false, List, [], ◌∷◌, ◌++◌, Option, Some, None, length, refl, ◌∙◌, ap, subst, arith, append-nil, append_assoc}
-use Rattle.tcl_core.specs.Paths.{Path, Place, Height, strip, rise_to}
-use Rattle.tcl_core.specs.Endings.{Meter, Completion, Reply}
+use Rattle.std.proofs.Common.{pred, sym, ◌≡◌, ℕ, zero, suc, ℤ, ◌≤◌, Bool, true, false, List, [], ◌∷◌, ◌++◌, Option, Some, None, refl, ◌∙◌, ap, subst, arith, append-nil, append_assoc}
+use Rattle.tcl_core.specs.Paths.{Path, Place, strip, rise_to}
+use Rattle.tcl_core.specs.Endings.{Reply}
 use Rattle.tcl_core.specs.Endings.Meter.{Count, Depth}
 use Rattle.tcl_core.specs.Endings.Reply.{Completed, Stop, Exit, Cut}
 use Rattle.tcl_core.specs.Endings.Cause.{Above, Over}
-use Rattle.tcl_core.specs.Entries.{Answer}
 use Rattle.tcl_core.specs.Entries.Answer.{Replied}
-use Rattle.tcl_core.specs.Trees.{Grants, Tree, Node, What, Event, Move, asked, where_none, at_top, at_end, where_some, on_node, on_line, on_subtree, on_some, effect, with_own, with_limit, with_depth_limit, counted, deeper, shallower, fresh}
+use Rattle.tcl_core.specs.Trees.{Grants, Tree, Node, What, Move, asked, where_none, at_top, at_end, where_some, on_node, on_line, on_some, effect, counted, deeper, shallower, fresh}
 use Rattle.tcl_core.specs.Trees.Grant.{Allow, Deny}
 use Rattle.tcl_core.specs.Trees.Grants.{Listed, Budget}
-use Rattle.tcl_core.specs.Trees.What.{Seen, Changed, Charged, Refused, Nested, Unnested, Limited, DepthLimited, Made, Dropped, Out, In, Done, Back}
+use Rattle.tcl_core.specs.Trees.What.{Seen, Changed, Charged, Refused, Nested, Unnested, Limited, DepthLimited, Made, Dropped, In, Back}
 use Rattle.tcl_core.specs.Trees.Move.{Born, Fall, Enter, Come}
 use Rattle.tcl_core.specs.Programs.{Deed, spot, Act, Wrap, Wait, Next, Prog, Table, decide, opens, closes, changing, making, dropping, dropping_at, either, metered, by_limit, blocked, is_spent, is_deep}
 use Rattle.tcl_core.specs.Programs.Next.{On, TooDeep, Off}
 use Rattle.tcl_core.specs.Programs.Act.{Look, Change, Charge, Limit, LimitDepth, Make, Drop}
 use Rattle.tcl_core.specs.Programs.Wrap.{Deeper, Framed}
 use Rattle.tcl_core.specs.Runs.{World, Step, Ending, Halts, Exits, Exiting, ends_call, height_of}
-use Rattle.tcl_core.specs.Rules.{Derives, IsOn}
+use Rattle.tcl_core.specs.Rules.{Derives}
 use Rattle.tcl_core.specs.Rules.Derives.{completed, exited, acted, refused, unheard, went, passed, halted, wrapped, wrapped_passed, wrapped_halted, too_deep, shut, unheard_inside, called, called_passed, called_halted, unreached, called_out, unanswered, unfit, answered, heard, answered_passed, entered, entered_halted, entered_exiting, born, fallen}
-use Rattle.tcl_core.specs.Laws.{Stands, IsStanding, depth_of, Beneath, IsUpright, KeepsTop, IsSteady, Steady}
+use Rattle.tcl_core.specs.Laws.{Stands, IsStanding, depth_of, Beneath, IsUpright, KeepsTop, Steady}
 use Rattle.tcl_core.proofs.PathLaws.{not_both, Some-inj, strip_own, strip-sound, child_in}
 use Rattle.tcl_core.proofs.RuleLaws.{runs_derived}
 

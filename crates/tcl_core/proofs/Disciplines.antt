@@ -1,5 +1,5 @@
 -- What a discipline forbids does not happen.
-use Rattle.std.proofs.Common.{sym, ◌≡◌, ◌⊎◌, inl, inr, ℕ, zero, suc, ℤ, Bool, true, false, List, [], ◌∷◌, ◌++◌, Option, Some, None, refl, ◌∙◌, ap, subst}
+use Rattle.std.proofs.Common.{sym, ◌≡◌, inl, inr, ℕ, zero, suc, ℤ, Bool, true, false, List, [], ◌∷◌, ◌++◌, Option, Some, None, refl, ◌∙◌, ap, subst}
 use Rattle.tcl_core.specs.Paths.{Path, Place, Height, strip, rise_to}
 use Rattle.tcl_core.specs.Endings.{Meter}
 use Rattle.tcl_core.specs.Endings.Meter.{Count, Depth}

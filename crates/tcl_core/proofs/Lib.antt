@@ -23,8 +23,8 @@ pub mod Worlds
 pub mod Unended
 pub mod Refusals
 pub mod Lending
-pub mod Beginnings
 pub mod Quits
 pub mod Depths
 pub mod Safeguards
 pub mod Standing
+pub mod Beginnings

@@ -168,7 +168,7 @@ module _ {O : Type 0} where
       by zero = λ ms. top_silent p name Fall ms
       by (suc d) = λ ms. refl
 
-  act_silent : (d : Act O) (T : Tree O) (p : Place) (gs : Grants) (x : Deed O) → decide d T p gs ≡ Some x → Silent (spot p x.0) x.1
+  pub act_silent : (d : Act O) (T : Tree O) (p : Place) (gs : Grants) (x : Deed O) → decide d T p gs ≡ Some x → Silent (spot p x.0) x.1
   act_silent Look T p gs x e = sil_of p (None, Seen, On) x (λ ms. refl) e
   act_silent (Change o) T p gs x e = sil_of p (changing o (T p)) x (changing_silent p o (T p)) e
   act_silent Charge T p gs x e = metered_silent p Count Charged (blocked is_spent T p) gs x (λ ms. refl) e
@@ -177,11 +177,11 @@ module _ {O : Type 0} where
   act_silent (Make name o s) T p gs x e = sil_of p (making name o s (T p) (T (p ++ name ∷ []))) x (making_silent p name o s (T p) (T (p ++ name ∷ []))) e
   act_silent (Drop name) T p gs x e = sil_of p (dropping name (T (p ++ name ∷ []))) x (dropping_silent p name (T (p ++ name ∷ []))) e
 
-  opens_silent : (b : Wrap O) (T : Tree O) (p : Place) (gs : Grants) (x : Deed O) → opens b T p gs ≡ Some x → Silent (spot p x.0) x.1
+  pub opens_silent : (b : Wrap O) (T : Tree O) (p : Place) (gs : Grants) (x : Deed O) → opens b T p gs ≡ Some x → Silent (spot p x.0) x.1
   opens_silent Deeper T p gs x e = metered_silent p Depth Nested (blocked is_deep T p) gs x (λ ms. refl) e
   opens_silent (Framed o back) T p gs x e = sil_of p (changing o (T p)) x (changing_silent p o (T p)) e
 
-  closes_silent : (p : Place) (b : Wrap O) (n : Option (Node O)) → Silent p (closes b n)
+  pub closes_silent : (p : Place) (b : Wrap O) (n : Option (Node O)) → Silent p (closes b n)
   closes_silent p Deeper n = λ ms. refl
   closes_silent p (Framed o back) None = λ ms. refl
   closes_silent p (Framed o back) (Some n) = λ ms. refl
@@ -194,7 +194,7 @@ module _ {O : Type 0} where
   split w u m [] b e f = inl refl
   split w u m (x ∷ a) b e f = let g : x ∷ (a ++ b) ≡ m ∷ u.moves = sym e ∙ f in inr (a, cc, cc)
 
-  reads_at : (w u : World O) (p : Place) (x : What O) → Step w p x u → ReadsMove (record { place = p; what = x }) → AtMove w.tape
+  pub reads_at : (w u : World O) (p : Place) (x : What O) → Step w p x u → ReadsMove (record { place = p; what = x }) → AtMove w.tape
   reads_at w u p x s f = subst AtMove (sym s.tape) f
 
 module _ {O I : Type 0} (prog : Table O I) where
@@ -250,13 +250,13 @@ module _ {O I : Type 0} (prog : Table O I) where
   reached_at None t p e = absurd (not_both refl e)
   reached_at (Some n) t p e = sym (Some-inj p e)
 
-  in_silent : (u : World O) (a t : Place) (down : Path) (i : Entry) → reached u.tree a down ≡ Some t → (ms : List (Move O)) → ms ≡ asked t (In (Some (length down)) i) ms
+  pub in_silent : (u : World O) (a t : Place) (down : Path) (i : Entry) → reached u.tree a down ≡ Some t → (ms : List (Move O)) → ms ≡ asked t (In (Some (length down)) i) ms
   in_silent u a t down i e ms = sym (ap (λ r. asked r (In (Some (length down)) i) ms) (reached_at (u.tree (a ++ down)) t (a ++ down) e) ∙ ap (λ o. where_none o (Enter (a ++ down) i) ms) (rise_back a down))
 
-  back_silent : (p a : Place) (h : Height) (y : Answer) → rise_to h p ≡ Some a → Silent {O = O} p (Back h y)
+  pub back_silent : (p a : Place) (h : Height) (y : Answer) → rise_to h p ≡ Some a → Silent {O = O} p (Back h y)
   back_silent p a h y e ms = ap (λ o. where_none o (Come y) ms) e
 
-  back_reads : (p : Place) (h : Height) (y : Answer) → rise_to h p ≡ None → (ms : List (Move O)) → Come y ∷ ms ≡ asked p (Back h y) ms
+  pub back_reads : (p : Place) (h : Height) (y : Answer) → rise_to h p ≡ None → (ms : List (Move O)) → Come y ∷ ms ≡ asked p (Back h y) ms
   back_reads p h y e ms = sym (ap (λ o. where_none o (Come y) ms) e)
 
   -- where the first moves are used up the run waits

@@ -1,31 +1,28 @@
--- What an evaluation does in a subtree is what React does there.
-use Rattle.std.proofs.Common.{sym, ◌≡◌, ℕ, zero, suc, ℤ, ◌+◌, ◌-◌, List, [], ◌∷◌, Option, Some, None, refl, ◌∙◌, ap, subst, arith, append-nil}
+-- What is kept along the entries of a subtree.
+use Rattle.std.proofs.Common.{sym, ◌≡◌, ℕ, suc, ℤ, ◌+◌, List, [], ◌∷◌, Option, Some, None, refl, ◌∙◌, ap, subst, arith, append-nil}
 use Rattle.tcl_core.specs.Paths.{Path, Place, strip}
 use Rattle.tcl_core.specs.Endings.{Reply}
 use Rattle.tcl_core.specs.Endings.Reply.{Completed, Stop, Exit, Cut}
 use Rattle.tcl_core.specs.Entries.{Entry}
-use Rattle.tcl_core.specs.Trees.{What, Event, Move, at}
+use Rattle.tcl_core.specs.Trees.{What, Event, Move}
 use Rattle.tcl_core.specs.Trees.What.{Made, Dropped, In, Done}
 use Rattle.tcl_core.specs.Trees.Move.{Born, Fall, Enter, Come}
 use Rattle.tcl_core.specs.Programs.{Table}
-use Rattle.tcl_core.specs.Programs.Prog.{wait}
-use Rattle.tcl_core.specs.Runs.{World, Step, Ending, Halts, Exits, Stays, Visits, Waits, Runs, RunsIn, entering}
-use Rattle.tcl_core.specs.Views.{moves_of, steps_of, view, inside_of, kept, from_above}
-use Rattle.tcl_core.specs.Lives.{Lives, Outcome, Reacts, alone, idle, never}
-use Rattle.tcl_core.specs.Lives.Outcome.{Finished, Exited}
-use Rattle.tcl_core.specs.Lives.Reacts.{finished, served, over}
-use Rattle.tcl_core.specs.Laws.{Isolation, IsStanding, Stands, outcome_of, outcome_at, ending_of}
-use Rattle.tcl_core.proofs.Unended.{IsUncut, Uncut, uncut}
+use Rattle.tcl_core.specs.Runs.{World, Step, Ending, Halts, Exits, Stays, Visits, Runs, RunsIn, entering}
+use Rattle.tcl_core.specs.Views.{moves_of, view, kept, from_above}
+use Rattle.tcl_core.specs.Lives.{Lives, Outcome, idle, never}
+use Rattle.tcl_core.specs.Lives.Outcome.{Finished}
+use Rattle.tcl_core.specs.Lives.{outcome_of, outcome_at, ending_of}
+use Rattle.tcl_core.specs.Laws.{IsStanding, Stands}
+use Rattle.tcl_core.specs.Lives.{IsUncut, Uncut}
 use Rattle.tcl_core.proofs.PathLaws.{not_both, strip-sound, strip_own}
 use Rattle.tcl_core.proofs.TreeLaws.{unseen}
 use Rattle.tcl_core.proofs.Subtrees.{wait_halt, wait_enter}
 use Rattle.tcl_core.proofs.SameRuns.{asked-inj}
 use Rattle.tcl_core.proofs.RuleLaws.{derived_runs, runs_derived}
-use Rattle.tcl_core.proofs.Counts.{standing}
 use Rattle.tcl_core.proofs.Keeping.{KeepsSteps, runs_keep}
 use Rattle.tcl_core.proofs.Budgets.{budgeted, step_budget, fine_step, uncut_keep, derived_budget}
-use Rattle.tcl_core.proofs.Balance.{ins, dones, Owes, owes, visit_owes, halted_more, view_ins, view_dones}
-use Rattle.tcl_core.proofs.Conclusions.{lives_within}
+use Rattle.tcl_core.proofs.Balance.{ins, dones, Owes, owes, visit_owes, halted_more}
 
 own_place : (c p : Place) → strip c p ≡ Some [] → strip p c ≡ Some []
 own_place c p e = subst (λ r. strip r c ≡ Some []) (sym (strip-sound c p [] e ∙ append-nil c)) (subst (λ r. strip c r ≡ Some []) (append-nil c) (strip_own c []))
@@ -133,48 +130,6 @@ module _ {O I : Type 0} (prog : Table O I) (k : ℕ) where
   pub lift_visits : (n : ℕ) (z : World O) (t : Place) (i : Entry) (u : World O) (o : Ending) → Visits prog (RunsIn prog n) z None t i u o → Visits prog (Runs prog) z None t i u o
   lift_visits n z t i u o a = record { entered = a.entered; left = a.left; entry = a.entry; run = (n, a.run); leaving = a.leaving }
 
-  abbrev Reacting : ℕ → Type 0
-  Reacting n = (z y : World O) (x : Outcome) → x ≡ outcome_of z.tape Finished → IsHanded z → IsLasting z.tape → IsUncut z.tape → ins [] z.tape ≡ dones [] z.tape → y.tape ≡ [] →
-      RunsIn prog n z [] (wait idle never) y None → Reacts prog (bud z) (bud y) x
-
-  ended : (z y : World O) (x : Outcome) → x ≡ outcome_of z.tape Finished → IsHanded z → Halts z y None → Reacts prog (bud z) (bud y) x
-  ended z y x e a h =
-      let m : z.moves ≡ [] = a ∙ ap moves_of h.tape in
-      let f : Finished ≡ x = sym (e ∙ ap (λ τ. outcome_of τ Finished) h.tape) in
-      subst (λ o. Reacts prog (bud z) (bud y) o) f (subst (λ u. Reacts prog (bud z) (bud u) Finished) (sym h.same) (finished (bud z) m h.tape))
-
-  -- after an entry
-  goes_on : (n : ℕ) → Reacting n → (z u y : World O) (t : Place) (i : Entry) (r : Reply) (x : Outcome) → x ≡ outcome_of z.tape Finished → IsHanded z → IsLasting z.tape → IsUncut z.tape → ins [] z.tape ≡ dones [] z.tape → y.tape ≡ [] →
-      Visits prog (Runs prog) z None t i u (Some r) → Stays (RunsIn prog n) u [] idle never (Some r) y None → Reacts prog (bud z) (bud y) x
-  goes_on n ih z u y t i (Completed c) x e a b l d f v s =
-      let j : IsHanded u × IsLasting u.tape × IsUncut u.tape × (x ≡ outcome_of u.tape Finished) × Uncut {O = O} t (Done None (Completed c)) = after_visit z t i u (Completed c) x e a b l v in
-      served (bud z) (bud u) (bud y) t i (Completed c) x (visit_budget z t i u (Completed c) l v) refl (ih u y x j.3 j.0 j.1 j.2 (balanced_after z t i u (Completed c) v d) f s)
-  goes_on n ih z u y t i (Stop q m) x e a b l d f v s =
-      let j : IsHanded u × IsLasting u.tape × IsUncut u.tape × (x ≡ outcome_of u.tape Finished) × Uncut {O = O} t (Done None (Stop q m)) = after_visit z t i u (Stop q m) x e a b l v in
-      served (bud z) (bud u) (bud y) t i (Stop q m) x (visit_budget z t i u (Stop q m) l v) refl (ih u y x j.3 j.0 j.1 j.2 (balanced_after z t i u (Stop q m) v d) f s)
-  goes_on n ih z u y t i (Exit q) x e a b l d f v s =
-      let j : IsHanded u × IsLasting u.tape × IsUncut u.tape × (x ≡ outcome_of u.tape (Exited q)) × Uncut {O = O} t (Done None (Exit q)) = after_visit z t i u (Exit q) x e a b l v in
-      let h : Halts u y None = exits_idle u q u.moves y s in
-      let g : x ≡ Exited q = j.3 ∙ ap (λ τ. outcome_of τ (Exited q)) h.tape in
-      subst (λ o. Reacts prog (bud z) (bud y) o) (sym g) (subst (λ o. Reacts prog (bud z) (bud o) (Exited q)) (sym h.same) (over (bud z) (bud u) t i (Exit q) (Exited q) (visit_budget z t i u (Exit q) l v) refl h.tape))
-  goes_on n ih z u y t i (Cut q) x e a b l d f v s =
-      let j : IsHanded u × IsLasting u.tape × IsUncut u.tape × (x ≡ outcome_of u.tape Finished) × Uncut {O = O} t (Done None (Cut q)) = after_visit z t i u (Cut q) x e a b l v in
-      absurd (j.4 refl)
-
-  -- a life in which nothing is ended from outside is a reaction
-  reacting_next : (n : ℕ) → Reacting n → (z y : World O) (x : Outcome) → x ≡ outcome_of z.tape Finished → IsHanded z → IsLasting z.tape → IsUncut z.tape → ins [] z.tape ≡ dones [] z.tape → y.tape ≡ [] →
-      (ms : List (Move O)) → z.moves ≡ ms → Waits prog (RunsIn prog n) z [] idle never ms y None → Reacts prog (bud z) (bud y) x
-  reacting_next n ih z y x e a b l d f [] q h = ended z y x e a h
-  reacting_next n ih z y x e a b l d f (Come w ∷ ms) q h = no_move z (Come w) ms a q h.tape
-  reacting_next n ih z y x e a b l d f (Born o s ∷ ms) q (u, t, h) = lasts z (Made o s) u t b (λ g. absurd (g refl))
-  reacting_next n ih z y x e a b l d f (Fall ∷ ms) q (u, t, h) = lasts z Dropped u t b (λ g. absurd (g refl))
-  reacting_next n ih z y x e a b l d f (Enter t i ∷ ms) q (u, None, v, s) = never_halts z t i u (lift_visits n z t i u None v) d (ap (λ w. w.tape) (sym s.0) ∙ f)
-  reacting_next n ih z y x e a b l d f (Enter t i ∷ ms) q (u, Some r, v, s) = goes_on n ih z u y t i r x e a b l d f (lift_visits n z t i u (Some r) v) s
-
-  pub reacting : (n : ℕ) → Reacting n
-  reacting zero z y x e a b c d f g = absurd g
-  reacting (suc n) z y x e a b c d f (g, h) = reacting_next n (reacting n) z y x e a b c d f z.moves refl h
-
 module _ {O I : Type 0} where
   -- a whole evaluation is a life
   pub life_of : (prog : Table O I) (w v : World O) (t : Path) (i : Entry) (r : Reply) → Visits prog (Runs prog) w None t i v (Some r) → v.moves ≡ [] → v.tape ≡ [] → Lives prog w v None
@@ -188,26 +143,3 @@ module _ {O I : Type 0} where
       by (Stop n k) = wait_halt prog v [] idle never v None refl m still
       by (Cut c) = wait_halt prog v [] idle never v None refl m still
       by (Exit n) = subst (λ ms. Exits v [] idle n ms v None) (sym m) still
-
-  pub isolation : Isolation O I
-  isolation prog c w v t i r m a e f st une le =
-      let k : ℕ = m - steps_of (view c w.tape) in
-      let l : Lives prog (inside_of c w) (inside_of c v) None = lives_within prog c w v (life_of prog w v t i r a e f) in
-      let un : IsUncut (view c w.tape) = uncut prog (runs_derived prog (inside_of c w) [] (wait idle never) (inside_of c v) None l) une tt (subst (λ τ. IsUncut (view c τ)) (sym f) tt) in
-      let o : Owes c w v (Some r) = visit_owes c w a.entered a.left v None t i r a.entry (owes c prog (runs_derived prog a.entered t (entering prog (w.tree t) i) a.left (Some r) a.run)) a.leaving in
-      let s : ins c w.tape + dones c v.tape ≡ dones c w.tape + ins c v.tape + o.open_ins = o.sum in
-      let n : o.open_ins ≡ 0 = o.none_left r refl in
-      let p : ins c v.tape ≡ 0 = ap (ins c) f in
-      let q : dones c v.tape ≡ 0 = ap (dones c) f in
-      let b : ins c w.tape ≡ dones c w.tape = omega arith in
-      let g : m ≡ steps_of (view c w.tape) + k = omega (arith, le) in
-      let x : Outcome = outcome_of (view c w.tape) Finished in
-      let z : Reacts prog (budgeted k (inside_of c w)) (budgeted k (inside_of c v)) x =
-      reacting prog k l.0 (inside_of c w) (inside_of c v) x refl refl (lasting c w.tape (standing prog c w [] (wait idle never) v None (life_of prog w v t i r a e f) st f)) un (view_ins c w.tape ∙ b ∙ sym (view_dones c w.tape)) (ap (view c) f) l.1 in
-      record {
-        tape = view c w.tape;
-        last = budgeted k (inside_of c v);
-        run = subst (λ j. Reacts prog (alone (at w.tree c) (moves_of (view c w.tape)) j (view c w.tape)) (budgeted k (inside_of c v)) x) (sym g) z;
-        told = refl;
-        left = refl;
-      }

@@ -4,12 +4,11 @@ use Rattle.tcl_core.specs.Paths.{Path, Place, Height, rise_to}
 use Rattle.tcl_core.specs.Endings.{Meter, Completion, Reply, Cause}
 use Rattle.tcl_core.specs.Endings.Meter.{Count, Depth}
 use Rattle.tcl_core.specs.Endings.Reply.{Completed, Stop, Exit, Cut}
-use Rattle.tcl_core.specs.Entries.{Answer}
 use Rattle.tcl_core.specs.Entries.Answer.{Replied}
 use Rattle.tcl_core.specs.Trees.{Grants, Tree, Node, What, Event, Move}
 use Rattle.tcl_core.specs.Trees.Grant.{Allow, Deny}
 use Rattle.tcl_core.specs.Trees.Grants.{Listed, Budget}
-use Rattle.tcl_core.specs.Trees.What.{Seen, Charged, Nested, Limited, DepthLimited, Refused, Out, In, Done, Back}
+use Rattle.tcl_core.specs.Trees.What.{Seen, Charged, Nested, Limited, DepthLimited, Refused, Out, Done, Back}
 use Rattle.tcl_core.specs.Trees.Move.{Born, Fall, Enter, Come}
 use Rattle.tcl_core.specs.Programs.{Deed, spot, Act, Wrap, Wait, Next, Prog, Table, decide, opens, closes, changing, making, dropping, metered, by_limit, blocked, is_spent, is_deep}
 use Rattle.tcl_core.specs.Programs.Act.{Look, Change, Charge, Limit, LimitDepth, Make, Drop}
@@ -23,7 +22,8 @@ use Rattle.tcl_core.specs.Lives.{outs_of, put, told}
 use Rattle.tcl_core.specs.Laws.{Unended, IsUnended}
 use Rattle.tcl_core.proofs.PathLaws.{not_both, Some-inj, rise_back}
 use Rattle.tcl_core.proofs.Stops.{changing_on, making_on, dropping_on}
-use Rattle.tcl_core.proofs.Unended.{Uncut, IsNoCut, decide_uncut, opens_uncut}
+use Rattle.tcl_core.specs.Lives.{Uncut}
+use Rattle.tcl_core.proofs.Unended.{IsNoCut, decide_uncut, opens_uncut}
 
 pub cut_or : (n : Next) → IsNoCut n ⊎ ((c : Cause) × (n ≡ Off (Cut c)))
 cut_or On = inl tt

@@ -1,18 +1,15 @@
 -- A safe subtree asks the host for nothing, and sets no limit.
 use Rattle.std.proofs.Common.{pred, sym, ◌≡◌, ◌⊎◌, inl, inr, ℕ, suc, Bool, true, false, not, List, [], ◌∷◌, ◌++◌, Option, Some, None, refl, ◌∙◌, ap, subst, append-nil}
-use Rattle.tcl_core.specs.Paths.{Path, Place, Height, strip, rise_to}
-use Rattle.tcl_core.specs.Entries.{Entry}
+use Rattle.tcl_core.specs.Paths.{Place, strip, rise_to}
 use Rattle.tcl_core.specs.Trees.{Tree, Node, What, Event, Move, at, at_end, where_some, on_some, effect, with_own, with_limit, with_depth_limit, counted, deeper, shallower, fresh, asked, where_none, at_top, seen_what}
 use Rattle.tcl_core.specs.Trees.What.{Changed, Charged, Nested, Unnested, Limited, DepthLimited, Made, Dropped, Out, In, Back}
 use Rattle.tcl_core.specs.Trees.Move.{Born, Fall, Enter, Come}
-use Rattle.tcl_core.specs.Programs.{Table}
 use Rattle.tcl_core.specs.Programs.Prog.{wait}
-use Rattle.tcl_core.specs.Runs.{World, Ending, Runs}
 use Rattle.tcl_core.specs.Views.{moves_of, view, inside_of, kept, from_above}
 use Rattle.tcl_core.specs.Lives.{Lives, idle, never}
 use Rattle.tcl_core.specs.Tables.{Discipline, IsGoodNode, IsGood, AreTame, Allowed, AreAllowed, exposes, hostless, sets_limit, unlimiting}
 use Rattle.tcl_core.specs.Laws.{Stands, IsStanding, KeepsTop, IsSafeBelow, IsSafeAt, ArePlain, AreFree, IsNoRequest, AsksNothing, NoRequests, Unasked, AsLimited, LimitsKept, after}
-use Rattle.tcl_core.proofs.PathLaws.{not_both, Some-inj, strip_own, strip-append, strip-sound}
+use Rattle.tcl_core.proofs.PathLaws.{not_both, strip_own, strip-append, strip-sound}
 use Rattle.tcl_core.proofs.TreeLaws.{unseen}
 use Rattle.tcl_core.proofs.Counts.{happenings, standing}
 use Rattle.tcl_core.proofs.Conclusions.{lives_within}

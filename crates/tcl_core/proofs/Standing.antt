@@ -1,6 +1,6 @@
 -- What stands and isn't dropped isn't made either.
-use Rattle.std.proofs.Common.{sym, ◌≡◌, List, [], ◌∷◌, Option, Some, None, ◌∙◌, ap, subst, append-nil}
-use Rattle.tcl_core.specs.Paths.{Place, strip}
+use Rattle.std.proofs.Common.{sym, ◌≡◌, List, [], ◌∷◌, Some, ◌∙◌, ap, subst, append-nil}
+use Rattle.tcl_core.specs.Paths.{Place}
 use Rattle.tcl_core.specs.Trees.{Tree, Node, What, Move, asked}
 use Rattle.tcl_core.specs.Trees.What.{Made, Dropped}
 use Rattle.tcl_core.specs.Trees.Move.{Born}

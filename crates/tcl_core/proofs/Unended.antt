@@ -1,13 +1,13 @@
 -- Where no entry is ended from outside, nothing is refused from there.
 use Rattle.std.proofs.Common.{sym, ◌≡◌, ℕ, zero, suc, ℤ, Bool, true, false, List, [], ◌∷◌, ◌++◌, Option, Some, None, length, refl, subst}
-use Rattle.tcl_core.specs.Paths.{Path, Place, Height, rise_to}
+use Rattle.tcl_core.specs.Paths.{Path, Place, Height}
 use Rattle.tcl_core.specs.Endings.{Meter, Reply}
 use Rattle.tcl_core.specs.Endings.Meter.{Count, Depth}
 use Rattle.tcl_core.specs.Endings.Reply.{Completed, Stop, Exit, Cut}
 use Rattle.tcl_core.specs.Endings.Cause.{Above, Over}
 use Rattle.tcl_core.specs.Entries.{Answer}
 use Rattle.tcl_core.specs.Entries.Answer.{Replied, Heard}
-use Rattle.tcl_core.specs.Trees.{Grants, Tree, Node, What, Event, Move}
+use Rattle.tcl_core.specs.Trees.{Grants, Tree, Node, What, Move}
 use Rattle.tcl_core.specs.Trees.Grant.{Allow, Deny}
 use Rattle.tcl_core.specs.Trees.Grants.{Listed, Budget}
 use Rattle.tcl_core.specs.Trees.What.{Seen, Charged, Refused, Nested, Limited, DepthLimited, Done, Back}
@@ -19,22 +19,11 @@ use Rattle.tcl_core.specs.Programs.Wrap.{Deeper, Framed}
 use Rattle.tcl_core.specs.Runs.{World, Step, Ending, Halts, Exits, Exiting, carried, ends_call, height_of}
 use Rattle.tcl_core.specs.Rules.{Derives, IsOn}
 use Rattle.tcl_core.specs.Rules.Derives.{completed, exited, acted, refused, unheard, went, passed, halted, wrapped, wrapped_passed, wrapped_halted, too_deep, shut, unheard_inside, called, called_passed, called_halted, unreached, called_out, unanswered, unfit, answered, heard, answered_passed, entered, entered_halted, entered_exiting, born, fallen}
+use Rattle.tcl_core.specs.Lives.{Uncut, IsUncut}
 use Rattle.tcl_core.specs.Laws.{Unended, IsUnended}
 use Rattle.tcl_core.proofs.PathLaws.{not_both, Some-inj, rise_some}
 use Rattle.tcl_core.proofs.TreeLaws.{blocked_near}
 use Rattle.tcl_core.proofs.Keeping.{KeepsSteps, derived_keep}
-
-module _ {O : Type 0} where
-  -- nothing is refused from outside either
-  abbrev pub Uncut : Place → What O → Type 0
-  Uncut p (Refused m h) = rise_to h p ≡ None → Prim.⊥
-  Uncut p (Done h (Cut x)) = rise_to h p ≡ None → Prim.⊥
-  Uncut p (Back h (Replied (Cut x))) = rise_to h p ≡ None → Prim.⊥
-  Uncut p _ = Unit {0}
-
-  abbrev pub IsUncut : List (Event O) → Type 0
-  IsUncut [] = Unit {0}
-  IsUncut (ev ∷ τ) = Uncut ev.place ev.what × IsUncut τ
 
 abbrev pub IsNoCut : Next → Type 0
 IsNoCut (Off (Cut c)) = Prim.⊥

@@ -1,12 +1,12 @@
 -- Two worlds in which a subtree is the same and is first handed the same.
-use Rattle.std.proofs.Common.{sym, ◌≡◌, inl, inr, ℕ, zero, suc, ℤ, ◌+◌, List, [], ◌∷◌, ◌++◌, Some, None, refl, ◌∙◌, ap, subst, arith, append-nil}
-use Rattle.tcl_core.specs.Paths.{Path, Place}
+use Rattle.std.proofs.Common.{sym, ◌≡◌, inl, inr, ℕ, zero, suc, ℤ, ◌+◌, ◌-◌, Option, List, [], ◌∷◌, ◌++◌, Some, None, refl, ◌∙◌, ap, subst, arith, append-nil}
+use Rattle.tcl_core.specs.Paths.{Path, Place, rise_to}
 use Rattle.tcl_core.specs.Endings.{Reply}
 use Rattle.tcl_core.specs.Endings.Reply.{Completed, Stop, Exit, Cut}
 use Rattle.tcl_core.specs.Entries.{Entry}
-use Rattle.tcl_core.specs.Trees.{Event, Move}
+use Rattle.tcl_core.specs.Trees.{What, Event, Move, at}
 use Rattle.tcl_core.specs.Trees.Grants.{Budget}
-use Rattle.tcl_core.specs.Trees.What.{Made, Dropped}
+use Rattle.tcl_core.specs.Trees.What.{Made, Dropped, In, Done}
 use Rattle.tcl_core.specs.Trees.Move.{Born, Fall, Enter, Come}
 use Rattle.tcl_core.specs.Programs.{Table}
 use Rattle.tcl_core.specs.Programs.Prog.{wait}
@@ -14,14 +14,19 @@ use Rattle.tcl_core.specs.Runs.{World, Ending, Halts, Exits, Stays, Visits, Wait
 use Rattle.tcl_core.specs.Rules.{Derives}
 use Rattle.tcl_core.specs.Rules.Derives.{unanswered}
 use Rattle.tcl_core.specs.Views.{moves_of, steps_of, view, inside_of}
-use Rattle.tcl_core.specs.Lives.{Lives, idle, never, outs_of}
+use Rattle.tcl_core.specs.Lives
+use Rattle.tcl_core.specs.Lives.{Lives, Outcome, Reacts, AllRead, alone, begun, begun_at, ended, ended_at, idle, never, outs_of}
+use Rattle.tcl_core.specs.Lives.Reacts.{over}
+use Rattle.tcl_core.proofs.Balance
 use Rattle.tcl_core.specs.Lives.Outcome.{Finished}
-use Rattle.tcl_core.specs.Laws.{AllAgree, TwoWorlds, AtMove, Lasts, outcome_of, IsUnended}
+use Rattle.tcl_core.specs.Lives.{outcome_of}
+use Rattle.tcl_core.specs.Laws.{AllAgree, TwoWorlds, Isolation, AtMove, Lasts, IsUnended}
 use Rattle.tcl_core.proofs.Counts.{standing}
-use Rattle.tcl_core.proofs.Unended.{IsUncut, uncut}
+use Rattle.tcl_core.specs.Lives.{IsUncut}
+use Rattle.tcl_core.proofs.Unended.{uncut}
 use Rattle.tcl_core.proofs.RuleLaws.{Ruled, derived_runs, runs_derived, enter_rule}
 use Rattle.tcl_core.proofs.Budgets.{budgeted}
-use Rattle.tcl_core.proofs.Balance.{ins, dones, Owes, owes, visit_owes, view_ins, view_dones}
+use Rattle.tcl_core.proofs.Balance.{in_at, done_at, ins, dones, Owes, owes, visit_owes, view_ins, view_dones}
 use Rattle.tcl_core.proofs.Reacting.{IsHanded, IsLasting, lasting, lasts, no_move, exits_idle, visit_budget, after_visit, balanced_after, never_halts, lift_visits, life_of}
 use Rattle.tcl_core.proofs.Outside.{halted_tape}
 use Rattle.tcl_core.proofs.Parting.{cut, Beyond, Stops, Result, Run_of, part}
@@ -42,6 +47,39 @@ module _ {O : Type 0} where
   at_move left rest (inl e) = subst AtMove (sym e) tt
   at_move left rest (inr e) = e.1
 
+module _ {O : Type 0} where
+  begun_ins : (τ : List (Event O)) → begun τ ≡ ins [] τ
+  begun_ins [] = refl
+  begun_ins (ev ∷ τ) = step ev.place ev.what (begun τ) (ins [] τ) (begun_ins τ)
+    where
+      more : (o : Option Place) (n m : ℕ) → n ≡ m → Lives.one_more o n ≡ Balance.one_more o m
+      more None n m e = ap suc e
+      more (Some a) n m e = e
+
+      step : (p : Place) (x : What O) (n m : ℕ) → n ≡ m → begun_at p x n ≡ in_at [] p x m
+      step p (In h i) n m e = more (rise_to h p) n m e
+      step p x n m e = e
+
+  ended_dones : (τ : List (Event O)) → ended τ ≡ dones [] τ
+  ended_dones [] = refl
+  ended_dones (ev ∷ τ) = step ev.place ev.what (ended τ) (dones [] τ) (ended_dones τ)
+    where
+      more : (o : Option Place) (n m : ℕ) → n ≡ m → Lives.one_more o n ≡ Balance.one_more o m
+      more None n m e = ap suc e
+      more (Some a) n m e = e
+
+      step : (p : Place) (x : What O) (n m : ℕ) → n ≡ m → ended_at p x n ≡ done_at [] p x m
+      step p (Done h r) n m e = more (rise_to h p) n m e
+      step p x n m e = e
+
+  all_read : (x : Outcome) (ms : List (Move O)) → ms ≡ [] → AllRead x ms
+  all_read Outcome.Finished ms e = e
+  all_read Outcome.Waiting ms e = e
+  all_read Outcome.Ended ms e = e
+  all_read (Outcome.Exited n) ms e = tt
+  all_read Outcome.Spent ms e = e
+  all_read Outcome.Misfit ms e = e
+
 module _ {O I : Type 0} (prog : Table O I) (k : ℕ) where
   abbrev bud : World O → World O
   bud w = budgeted k w
@@ -55,8 +93,8 @@ module _ {O I : Type 0} (prog : Table O I) (k : ℕ) where
   ruled_visit : (z : World O) (t : Path) (i : Entry) (u : World O) (r : Reply) → Visits prog (Runs prog) z None t i u (Some r) → Visits prog (Ruled prog) z None t i u (Some r)
   ruled_visit z t i u r a = record { entered = a.entered; left = a.left; entry = a.entry; run = runs_derived prog a.entered t (entering prog (z.tree t) i) a.left (Some r) a.run; leaving = a.leaving }
 
-  ended : (z y : World O) → IsHanded z → Halts z y None → Life_of z y
-  ended z y a h = subst (λ u. Derives prog (bud z) [] (wait idle never) (bud u) None) (sym h.same) (unanswered (bud z) [] idle never refl (a ∙ ap moves_of h.tape) h.tape)
+  ended_life : (z y : World O) → IsHanded z → Halts z y None → Life_of z y
+  ended_life z y a h = subst (λ u. Derives prog (bud z) [] (wait idle never) (bud u) None) (sym h.same) (unanswered (bud z) [] idle never refl (a ∙ ap moves_of h.tape) h.tape)
 
   goes_on : (n : ℕ) → Living n → (z u y : World O) (t : Path) (i : Entry) (r : Reply) → IsHanded z → IsLasting z.tape → IsUncut z.tape → ins [] z.tape ≡ dones [] z.tape → y.tape ≡ [] →
       Visits prog (Runs prog) z None t i u (Some r) → Stays (RunsIn prog n) u [] idle never (Some r) y None → Life_of z y
@@ -75,7 +113,7 @@ module _ {O I : Type 0} (prog : Table O I) (k : ℕ) where
       absurd (j.4 refl)
 
   living_next : (n : ℕ) → Living n → (z y : World O) → IsHanded z → IsLasting z.tape → IsUncut z.tape → ins [] z.tape ≡ dones [] z.tape → y.tape ≡ [] → (ms : List (Move O)) → z.moves ≡ ms → Waits prog (RunsIn prog n) z [] idle never ms y None → Life_of z y
-  living_next n ih z y a b l d f [] q h = ended z y a h
+  living_next n ih z y a b l d f [] q h = ended_life z y a h
   living_next n ih z y a b l d f (Come w ∷ ms) q h = no_move z (Come w) ms a q h.tape
   living_next n ih z y a b l d f (Born o s ∷ ms) q (u, t, h) = lasts z (Made o s) u t b (λ g. absurd (g refl))
   living_next n ih z y a b l d f (Fall ∷ ms) q (u, t, h) = lasts z Dropped u t b (λ g. absurd (g refl))
@@ -87,19 +125,29 @@ module _ {O I : Type 0} (prog : Table O I) (k : ℕ) where
   living (suc n) z y a b c d f (g, h) = living_next n (living n) z y a b c d f z.moves refl h
 
 module _ {O I : Type 0} where
-  -- the life of the subtree at c in an evaluation, under a budget
-  life_within : (prog : Table O I) (c : Place) (w v : World O) (t : Path) (i : Entry) (r : Reply) (k : ℕ) → Visits prog (Runs prog) w None t i v (Some r) → v.moves ≡ [] → v.tape ≡ [] → Lasts c w → IsUnended (view c w.tape) →
-      Derives prog (budgeted k (inside_of c w)) [] (wait idle never) (budgeted k (inside_of c v)) None
-  life_within prog c w v t i r k a e f st une =
+  -- nothing in it is cut off, and each entry into it comes to its end
+  within_uncut : (prog : Table O I) (c : Place) (w v : World O) (t : Path) (i : Entry) (r : Reply) → Visits prog (Runs prog) w None t i v (Some r) → v.moves ≡ [] → v.tape ≡ [] → IsUnended (view c w.tape) → IsUncut (view c w.tape)
+  within_uncut prog c w v t i r a e f une =
       let l : Lives prog (inside_of c w) (inside_of c v) None = lives_within prog c w v (life_of prog w v t i r a e f) in
-      let un : IsUncut (view c w.tape) = uncut prog (runs_derived prog (inside_of c w) [] (wait idle never) (inside_of c v) None l) une tt (subst (λ τ. IsUncut (view c τ)) (sym f) tt) in
+      uncut prog (runs_derived prog (inside_of c w) [] (wait idle never) (inside_of c v) None l) une tt (subst (λ τ. IsUncut (view c τ)) (sym f) tt)
+
+  within_done : (prog : Table O I) (c : Place) (w v : World O) (t : Path) (i : Entry) (r : Reply) → Visits prog (Runs prog) w None t i v (Some r) → v.tape ≡ [] → ins [] (view c w.tape) ≡ dones [] (view c w.tape)
+  within_done prog c w v t i r a f =
       let o : Owes c w v (Some r) = visit_owes c w a.entered a.left v None t i r a.entry (owes c prog (runs_derived prog a.entered t (entering prog (w.tree t) i) a.left (Some r) a.run)) a.leaving in
       let s : ins c w.tape + dones c v.tape ≡ dones c w.tape + ins c v.tape + o.open_ins = o.sum in
       let n : o.open_ins ≡ 0 = o.none_left r refl in
       let p : ins c v.tape ≡ 0 = ap (ins c) f in
       let q : dones c v.tape ≡ 0 = ap (dones c) f in
       let b : ins c w.tape ≡ dones c w.tape = omega arith in
-      living prog k l.0 (inside_of c w) (inside_of c v) refl (lasting c w.tape (standing prog c w [] (wait idle never) v None (life_of prog w v t i r a e f) st f)) un (view_ins c w.tape ∙ b ∙ sym (view_dones c w.tape)) (ap (view c) f) l.1
+      view_ins c w.tape ∙ b ∙ sym (view_dones c w.tape)
+
+  -- the life of the subtree at c in an evaluation, under a budget
+  life_within : (prog : Table O I) (c : Place) (w v : World O) (t : Path) (i : Entry) (r : Reply) (k : ℕ) → Visits prog (Runs prog) w None t i v (Some r) → v.moves ≡ [] → v.tape ≡ [] → Lasts c w → IsUnended (view c w.tape) →
+      Derives prog (budgeted k (inside_of c w)) [] (wait idle never) (budgeted k (inside_of c v)) None
+  life_within prog c w v t i r k a e f st une =
+      let l : Lives prog (inside_of c w) (inside_of c v) None = lives_within prog c w v (life_of prog w v t i r a e f) in
+      living prog k l.0 (inside_of c w) (inside_of c v) refl (lasting c w.tape (standing prog c w [] (wait idle never) v None (life_of prog w v t i r a e f) st f)) (within_uncut prog c w v t i r a e f une)
+      (within_done prog c w v t i r a f) (ap (view c) f) l.1
 
   -- a life that halts, with the first moves alone
   pub first_part : (prog : Table O I) (w v : World O) (a b : List (Move O)) → Derives prog w [] (wait idle never) v None → w.moves ≡ a ++ b → Stops w (Run_of prog w a [] (wait idle never))
@@ -141,3 +189,21 @@ module _ {O I : Type 0} where
       determinism prog (budgeted n2 (inside_of c w)) (budgeted n1 (inside_of c z)) [] (wait idle never) (budgeted n2 (inside_of c v)) (budgeted n1 (inside_of c y)) None None same m (ap Budget sum)
       (derived_runs prog d1) (derived_runs prog d2) (ap (view c) f1) (ap (view c) f2) in
       (h.0, ap outs_of h.0, ap (λ u. u.tree) h.1)
+
+  pub isolation : Isolation O I
+  isolation prog c w v t i r m a e f st une le =
+      let k : ℕ = m - steps_of (view c w.tape) in
+      let d : Derives prog (budgeted k (inside_of c w)) [] (wait idle never) (budgeted k (inside_of c v)) None = life_within prog c w v t i r k a e f st une in
+      let n : ins [] (view c w.tape) ≡ dones [] (view c w.tape) = within_done prog c w v t i r a f in
+      let b : begun (view c w.tape) ≡ ended (view c w.tape) = begun_ins (view c w.tape) ∙ n ∙ sym (ended_dones (view c w.tape)) in
+      let g : m ≡ steps_of (view c w.tape) + k = omega (arith, le) in
+      let x : Outcome = outcome_of (view c w.tape) Finished in
+      let y : Reacts prog (budgeted k (inside_of c w)) (budgeted k (inside_of c v)) x =
+      over (budgeted k (inside_of c w)) (budgeted k (inside_of c v)) x (derived_runs prog d) (within_uncut prog c w v t i r a e f une) (let z : begun (view c w.tape) ≡ ended (view c w.tape) + 0 = omega arith in z) refl (all_read x (moves_of (view c v.tape)) (ap (λ τ. moves_of (view c τ)) f)) in
+      record {
+        tape = view c w.tape;
+        last = budgeted k (inside_of c v);
+        run = subst (λ j. Reacts prog (alone (at w.tree c) (moves_of (view c w.tape)) j (view c w.tape)) (budgeted k (inside_of c v)) x) (sym g) y;
+        told = refl;
+        left = refl;
+      }

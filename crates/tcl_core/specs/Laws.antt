@@ -3,7 +3,7 @@ use Rattle.std.specs.Prelude.{length, nat_le, ◌≡◌, ◌⊎◌, ℕ, zero, s
 use Rattle.tcl_core.specs.Paths.{Path, Place, Height, strip, rise_to}
 use Rattle.tcl_core.specs.Endings.{Meter, Completion, Reply, IsQuit}
 use Rattle.tcl_core.specs.Endings.Meter.{Count, Depth}
-use Rattle.tcl_core.specs.Endings.Reply.{Stop, Exit, Cut}
+use Rattle.tcl_core.specs.Endings.Reply.{Stop, Cut}
 use Rattle.tcl_core.specs.Entries.{Entry, Said}
 use Rattle.tcl_core.specs.Entries.Answer.{Replied}
 use Rattle.tcl_core.specs.Trees.{asked, effect, Grant, Grants, Tree, Node, What, Event, Move, at, on_some}
@@ -16,7 +16,7 @@ use Rattle.tcl_core.specs.Programs.Prog.{act, go, inside, call, wait}
 use Rattle.tcl_core.specs.Runs.{World, Ending, Step, Runs, Visits, carried, reached, fits}
 use Rattle.tcl_core.specs.Views.{grants_of, moves_of, steps_of, view, inside_of}
 use Rattle.tcl_core.specs.Tables.{AllCall, Discipline, Keeps_to, IsGood, AreTame, AreAllowed, exposes, hostless, sets_limit, unlimiting}
-use Rattle.tcl_core.specs.Lives.{Lives, Outcome, React, outs_of}
+use Rattle.tcl_core.specs.Lives.{Lives, Outcome, React, outs_of, outcome_of}
 
 -- the same world with another tape
 abbrev pub retape : {O : Type 0} → World O → List (Event O) → World O
@@ -150,24 +150,6 @@ Unended p _ = Unit {0}
 abbrev pub IsUnended : {O : Type 0} → List (Event O) → Type 0
 IsUnended [] = Unit {0}
 IsUnended (ev ∷ τ) = Unended ev.place ev.what × IsUnended τ
-
--- how the life of a tree is over whose last entry ended so
-abbrev pub ending_of : Reply → Outcome
-ending_of (Exit n) = Outcome.Exited n
-ending_of r = Outcome.Finished
-
-abbrev pub last_of : Option Place → Reply → Outcome → Outcome
-last_of None r x = ending_of r
-last_of (Some a) r x = x
-
--- the outcome that the last entry's end gives; x where there is none
-abbrev pub outcome_at : {O : Type 0} → Place → What O → Outcome → Outcome
-outcome_at p (Done h r) x = last_of (rise_to h p) r x
-outcome_at p _ x = x
-
-abbrev pub outcome_of : {O : Type 0} → List (Event O) → Outcome → Outcome
-outcome_of [] x = x
-outcome_of (ev ∷ τ) x = outcome_of τ (outcome_at ev.place ev.what x)
 
 -- What an evaluation anywhere in the tree does in the subtree at c is what React does with that subtree alone and the crossings into
 -- it, with every budget that is not less than the steps made in it: the same is told to its outside, and the same subtree left.

@@ -1,15 +1,16 @@
 -- The life of a tree: what is handed in is done, in order. A subtree by itself, under a budget; a whole tree; two worlds.
 use Rattle.std.specs.Prelude.{◌≡◌, ℕ, zero, suc, ℤ, Bool, true, false, nat_lt, ◌+◌, List, [], ◌∷◌, ◌++◌, Option, Some, None, length}
 use Rattle.tcl_core.specs.Paths.{Text, Path, Place, rise_to}
-use Rattle.tcl_core.specs.Endings.{Meter, Completion, Reply, ok, refusal}
+use Rattle.tcl_core.specs.Endings.{Meter, Completion, Reply, Cause, ok, refusal}
+use Rattle.tcl_core.specs.Endings.Meter.{Count}
 use Rattle.tcl_core.specs.Endings.Reply.{Completed, Stop, Exit, Cut}
 use Rattle.tcl_core.specs.Endings.Cause.{Above, Over}
-use Rattle.tcl_core.specs.Entries.{Entry, Answer, Said}
+use Rattle.tcl_core.specs.Entries.{Answer, Said}
 use Rattle.tcl_core.specs.Entries.Entry.{Eval}
 use Rattle.tcl_core.specs.Entries.Answer.{Replied}
 use Rattle.tcl_core.specs.Trees.{Node, Tree, What, Event, Move, at, on_node, with_limit}
 use Rattle.tcl_core.specs.Trees.Grants.{Budget}
-use Rattle.tcl_core.specs.Trees.What.{Out, Done}
+use Rattle.tcl_core.specs.Trees.What.{Refused, Out, In, Done, Back}
 use Rattle.tcl_core.specs.Trees.Move.{Enter, Come}
 use Rattle.tcl_core.specs.Programs.{Wait, Prog, Table}
 use Rattle.tcl_core.specs.Programs.Prog.{done, wait}
@@ -49,35 +50,102 @@ pub data Outcome : Type 0 where
   Spent : Outcome
   Misfit : Outcome
 
--- how the life is over where an entry ended so
-abbrev pub over_by : Reply → Option Outcome
-over_by (Completed c) = None
-over_by (Stop n m) = None
-over_by (Exit n) = Some (Exited n)
-over_by (Cut Above) = Some Ended
-over_by (Cut Over) = Some Spent
+-- how the life of a tree is over whose last entry ended so
+abbrev pub ending_of : Reply → Outcome
+ending_of (Exit n) = Outcome.Exited n
+ending_of r = Outcome.Finished
 
--- the same, where the moves are these and then an end from outside
-abbrev pub unwound : {O : Type 0} → World O → List (Move O) → Reply → List (Event O) → World O
-unwound w ms r τ = record { tree = w.tree; moves = ms ++ Come (Replied r) ∷ []; grants = w.grants; tape = τ }
+abbrev pub last_of : Option Place → Reply → Outcome → Outcome
+last_of None r x = ending_of r
+last_of (Some a) r x = x
 
--- what ends the open call from outside: that the run is over, or the exit by which an entry of that call ended
+-- the outcome that the last entry's end gives; x where there is none
+abbrev pub outcome_at : {O : Type 0} → Place → What O → Outcome → Outcome
+outcome_at p (Done h r) x = last_of (rise_to h p) r x
+outcome_at p _ x = x
+
+abbrev pub outcome_of : {O : Type 0} → List (Event O) → Outcome → Outcome
+outcome_of [] x = x
+outcome_of (ev ∷ τ) x = outcome_of τ (outcome_at ev.place ev.what x)
+
+-- nothing is cut off from outside: no step is refused there, and no entry is ended nor a call answered so
+abbrev pub Uncut : {O : Type 0} → Place → What O → Type 0
+Uncut p (Refused m h) = rise_to h p ≡ None → Prim.⊥
+Uncut p (Done h (Cut x)) = rise_to h p ≡ None → Prim.⊥
+Uncut p (Back h (Replied (Cut x))) = rise_to h p ≡ None → Prim.⊥
+Uncut p _ = Unit {0}
+
+abbrev pub IsUncut : {O : Type 0} → List (Event O) → Type 0
+IsUncut [] = Unit {0}
+IsUncut (ev ∷ τ) = Uncut ev.place ev.what × IsUncut τ
+
+-- the entries from outside that begin here, and those that end
+abbrev pub one_more : Option Place → ℕ → ℕ
+one_more None n = suc n
+one_more (Some a) n = n
+
+abbrev pub begun_at : {O : Type 0} → Place → What O → ℕ → ℕ
+begun_at p (In h i) n = one_more (rise_to h p) n
+begun_at p _ n = n
+
+abbrev pub ended_at : {O : Type 0} → Place → What O → ℕ → ℕ
+ended_at p (Done h r) n = one_more (rise_to h p) n
+ended_at p _ n = n
+
+abbrev pub begun : {O : Type 0} → List (Event O) → ℕ
+begun [] = 0
+begun (ev ∷ τ) = begun_at ev.place ev.what (begun τ)
+
+abbrev pub ended : {O : Type 0} → List (Event O) → ℕ
+ended [] = 0
+ended (ev ∷ τ) = ended_at ev.place ev.what (ended τ)
+
+-- after these happenings k entries are in progress; where nothing more happens in them, each has a call open
+abbrev pub InProgress : {O : Type 0} → ℕ → List (Event O) → Type 0
+InProgress k τ = begun τ ≡ ended τ + k
+
+abbrev pub copies : {A : Type 0} → ℕ → A → List A
+copies zero x = []
+copies (suc k) x = x ∷ copies k x
+
+-- the same world, where the moves are these alone, or these and then k ends from outside
+abbrev pub handed : {O : Type 0} → World O → List (Move O) → World O
+handed w ms = record { tree = w.tree; moves = ms; grants = w.grants; tape = w.tape }
+
+abbrev pub unwound : {O : Type 0} → World O → List (Move O) → ℕ → Reply → List (Event O) → World O
+unwound w ms k r τ = record { tree = w.tree; moves = ms ++ copies k (Come (Replied r)); grants = w.grants; tape = τ }
+
+-- what ends the open calls where the run is over: that it is, or the exit by which an entry of the innermost of them ended
 abbrev pub IsEnd : Reply → Type 0
 IsEnd (Cut Over) = Unit {0}
 IsEnd (Exit n) = Unit {0}
 IsEnd _ = Prim.⊥
 
--- A tree by itself does what is handed in, entry by entry, up to the first that ends it.
+-- after an exit the rest is left unread
+abbrev pub AllRead : {O : Type 0} → Outcome → List (Move O) → Type 0
+AllRead (Exited n) ms = Unit {0}
+AllRead x ms = ms ≡ []
+
+-- the budget refuses a step at p
+abbrev pub spent_at : {O : Type 0} → Place → Event O
+spent_at p = record { place = p; what = Refused Count None }
+
+-- A tree by itself does what is handed in, entry by entry, up to what first ends it: from w, whose tape is all that is told until then, to v.
 pub data Reacts {O I : Type 0} (prog : Table O I) : World O → World O → Outcome → Type 0 where
-  finished : (w : World O) → w.moves ≡ [] → w.tape ≡ [] → Reacts prog w w Finished
-  uncalled : (w : World O) (a : Answer) (ms : List (Move O)) → w.moves ≡ Come a ∷ ms → w.tape ≡ [] → Reacts prog w w Misfit
-  served : (w u v : World O) (t : Path) (i : Entry) (r : Reply) (x : Outcome) → Visits prog (Runs prog) w None t i u (Some r) → over_by r ≡ None → Reacts prog u v x → Reacts prog w v x
-  over : (w u : World O) (t : Path) (i : Entry) (r : Reply) (x : Outcome) → Visits prog (Runs prog) w None t i u (Some r) → over_by r ≡ Some x → u.tape ≡ [] → Reacts prog w u x
-  waiting : (w u : World O) (t : Path) (i : Entry) → Visits prog (Runs prog) w None t i u None → u.moves ≡ [] → Reacts prog w u Waiting
-  -- a move that doesn't fit: the tree is left as if an end from outside had come in its place
-  unfit : (w u v : World O) (t : Path) (i : Entry) (ms : List (Move O)) (m : Move O) (rest : List (Move O)) (r : Reply) (τ : List (Event O)) →
-      Visits prog (Runs prog) w None t i u None → u.moves ≡ m ∷ rest → w.moves ≡ ms ++ m ∷ rest → IsEnd r →
-      Visits prog (Runs prog) (unwound w ms r τ) None t i v (Some r) → v.tape ≡ [] → Reacts prog w v Misfit
+  -- no entry is in progress, and all moves are read, or the last entry ended by an exit
+  over : (w v : World O) (x : Outcome) → Lives prog w v None → IsUncut w.tape → InProgress 0 w.tape → x ≡ outcome_of w.tape Finished → AllRead x v.moves → Reacts prog w v x
+  -- all are read, and a call is open
+  waiting : (w v : World O) (k : ℕ) → Lives prog w v None → IsUncut w.tape → InProgress (suc k) w.tape → v.moves ≡ [] → Reacts prog w v Waiting
+  -- an answer where no call is open; and a move that doesn't fit where one is: the tree is left as if an end from outside had come in its place
+  uncalled : (w v : World O) (m : Move O) (rest : List (Move O)) → Lives prog w v None → IsUncut w.tape → InProgress 0 w.tape → outcome_of w.tape Finished ≡ Finished → v.moves ≡ m ∷ rest → Reacts prog w v Misfit
+  unfit : (w u v : World O) (k : ℕ) (ms : List (Move O)) (m : Move O) (rest : List (Move O)) (r : Reply) (τ : List (Event O)) → Lives prog w u None → IsUncut w.tape → InProgress (suc k) w.tape →
+      u.moves ≡ m ∷ rest → w.moves ≡ ms ++ m ∷ rest → IsEnd r → Lives prog (unwound w ms (suc k) r τ) v None → v.moves ≡ [] → Reacts prog w v Misfit
+  -- an answer from outside ends the open call, and so all that are open
+  ended_so : (w u v : World O) (k : ℕ) (ms : List (Move O)) (c : Cause) (rest : List (Move O)) (τ : List (Event O)) → w.moves ≡ ms ++ Come (Replied (Cut c)) ∷ rest → Lives prog (handed w ms) u None → u.moves ≡ [] →
+      IsUncut w.tape → InProgress (suc k) w.tape → Lives prog (unwound w ms (suc k) (Cut Above) τ) v None → v.moves ≡ [] → Reacts prog w v Ended
+  -- the budget refuses the next step, and so ends the entry in progress and all calls that are open
+  spent : (w v : World O) (k : ℕ) (ms rest : List (Move O)) (p : Place) (τ : List (Event O)) → w.moves ≡ ms ++ rest → moves_of w.tape ≡ ms → IsUncut w.tape → InProgress (suc k) w.tape →
+      Lives prog (unwound w ms k (Cut Over) (w.tape ++ spent_at p ∷ τ)) v None → v.moves ≡ [] → Reacts prog w v Spent
 
 abbrev pub alone : {O : Type 0} → Tree O → List (Move O) → ℕ → List (Event O) → World O
 alone S ms n τ = record { tree = S; moves = ms; grants = Budget n; tape = τ }

@@ -1,4 +1,4 @@
-use Rattle.tcl_core.proofs.Reacting.{isolation}
+use Rattle.tcl_core.proofs.Worlds.{isolation}
 use Rattle.tcl_core.proofs.isolation.Goals as goal
 
 pub returns : goal.returns
