@@ -1,0 +1,11 @@
+pub mod EntryLemmas
+pub mod NameLemmas
+pub mod WalkLemmas
+pub mod ListLemmas
+pub mod SoundLemmas
+pub mod FrameLemmas
+pub mod ReachLemmas
+pub mod StepLemmas
+pub mod LinkLemmas
+pub mod ChainLemmas
+pub mod NamesLemmas
