@@ -6,11 +6,12 @@ use Rattle.std.specs.Map.{lookup, remove_entry, keys_of}
 use Rattle.std.specs.Str.{bytes_eq}
 use Rattle.std.proofs.lemmas.Map.{lookup-remove_entry}
 use Rattle.indexmap.specs.IndexMap.{insert_entry}
-use Rattle.tcl_frames.specs.Names.{Text}
-use Rattle.tcl_frames.specs.Places.{Variables, plus_link, links_in}
+use Rattle.tcl_variables.specs.Names.{Text}
+use Rattle.tcl_variables.specs.Variables.{Variables}
+use Rattle.tcl_frames.specs.Places.{plus_link, links_in}
 use Rattle.tcl_frames.specs.Sound.{IsWithin, AreWithin}
-use Rattle.tcl_frames.specs.declared.variable.Variable.{Variable}
-use Rattle.tcl_frames.specs.declared.variable.Variable.TheVariants.{Scalar, Array, Link}
+use Rattle.tcl_variables.specs.declared.variable.Variable.{Variable}
+use Rattle.tcl_variables.specs.declared.variable.Variable.TheVariants.{Scalar, Array, Link}
 use Rattle.tcl_frames.proofs.WalkLemmas.{test_of}
 
 pub same_bytes : (x y : Text) → bytes_eq x y ≡ true → x ≡ y

@@ -1,12 +1,13 @@
 -- Listing names.
 use Rattle.std.proofs.Common.{◌≡◌, ℕ, zero, suc, pred, ◌+◌, ◌-◌, ◌<◌, ◌≤◌, ◌==◌, Bool, true, false, cond, List, [], ◌∷◌, ◌++◌, length, drop, slice_get, Some, None, refl, sym, ◌∙◌, ap, arith, append_assoc, append-nil}
 use Rattle.std.proofs.lemmas.Bool.Decides.{nat_tests}
-use Rattle.tcl_frames.specs.Names.{Text}
-use Rattle.tcl_frames.specs.Places.{Frame, Levels, Variables, current, end_of}
+use Rattle.tcl_variables.specs.Names.{Text}
+use Rattle.tcl_variables.specs.Variables.{Frame, Variables}
+use Rattle.tcl_frames.specs.Places.{Levels, current, end_of}
 use Rattle.tcl_frames.specs.Chain.{holds, kept_if, names_held, names_own, is_own, variables_at, names_of}
 use Rattle.tcl_frames.specs.Reached.{start}
-use Rattle.tcl_frames.specs.declared.variable.Variable.{Variable}
-use Rattle.tcl_frames.specs.declared.variable.Scope.TheVariants.{Visible, Global, Local}
+use Rattle.tcl_variables.specs.declared.variable.Variable.{Variable}
+use Rattle.tcl_frames.specs.declared.scope.Scope.TheVariants.{Visible, Global, Local}
 
 drop_at : {A : Type 0} (xs : List A) (i : ℕ) (x : A) → slice_get xs i ≡ Some x → drop i xs ≡ x ∷ drop (suc i) xs
 drop_at [] i x e = absurd (cc)

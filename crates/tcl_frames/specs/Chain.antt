@@ -3,17 +3,19 @@ use Rattle.std.specs.Prelude.{ℕ, zero, suc, pred, ◌==◌, nat_le, nat_lt, Bo
 use Rattle.std.specs.Str.{bytes_eq}
 use Rattle.std.specs.Map.{lookup, remove_entry}
 use Rattle.indexmap.specs.IndexMap.{insert_entry}
-use Rattle.tcl_frames.specs.Names.{Text, Name, name_of, is_plain}
-use Rattle.tcl_frames.specs.Places.{Frame, Spot, Part, Levels, Variables, current, bound, spot_of, next, passes, links, end_of, is_at}
-use Rattle.tcl_frames.specs.Places.Part.{whole, element, nested}
-use Rattle.tcl_frames.specs.declared.variable.Place.{Place}
-use Rattle.tcl_frames.specs.declared.variable.Variable.{Variable}
-use Rattle.tcl_frames.specs.declared.variable.Variable.TheVariants.{Scalar, Array, Link}
-use Rattle.tcl_frames.specs.declared.variable.Scope.{Scope}
-use Rattle.tcl_frames.specs.declared.variable.Scope.TheVariants.{Visible, Global, Local}
-use Rattle.tcl_frames.specs.declared.fault.Verb.TheVariants.{Read, Set, Unset}
-use Rattle.tcl_frames.specs.declared.fault.FrameFault.{FrameFault}
-use Rattle.tcl_frames.specs.declared.fault.FrameFault.TheVariants.{NoVariable, IsArray, NotArray, NoElement, BadLevel, Exists, Itself, BadName}
+use Rattle.tcl_variables.specs.Names.{Text, Name, name_of, is_plain}
+use Rattle.tcl_variables.specs.Variables.{Frame, Part, Variables}
+use Rattle.tcl_variables.specs.Access.{value_of, is_held, elements_of, assigned, arrayed, left_of}
+use Rattle.tcl_frames.specs.Places.{Spot, Levels, current, bound, spot_of, next, passes, links, end_of, is_at}
+use Rattle.tcl_variables.specs.Variables.Part.{whole, element, nested}
+use Rattle.tcl_variables.specs.declared.variable.Place.{Place}
+use Rattle.tcl_variables.specs.declared.variable.Variable.{Variable}
+use Rattle.tcl_variables.specs.declared.variable.Variable.TheVariants.{Scalar, Array, Link}
+use Rattle.tcl_frames.specs.declared.scope.Scope.{Scope}
+use Rattle.tcl_frames.specs.declared.scope.Scope.TheVariants.{Visible, Global, Local}
+use Rattle.tcl_variables.specs.declared.fault.Verb.TheVariants.{Read}
+use Rattle.tcl_variables.specs.declared.fault.FrameFault.{FrameFault}
+use Rattle.tcl_variables.specs.declared.fault.FrameFault.TheVariants.{NotArray, BadLevel, Exists, Itself, BadName}
 
 -- Frames that were set aside: those that stood above a level.
 pub record Aside : Type 0 where
@@ -49,35 +51,9 @@ at_name fs x f = by_place (place_named fs x) x f
 
 -- ## Reading
 
-abbrev pub read_element : Option Text → Text → Result Text FrameFault
-read_element None x = Err (NoElement Read x)
-read_element (Some t) x = Ok t
-
-abbrev pub value_of : Part → Option Variable → Text → Result Text FrameFault
-value_of whole None x = Err (NoVariable Read x)
-value_of whole (Some (Scalar t)) x = Ok t
-value_of whole (Some (Array es)) x = Err (IsArray Read x)
-value_of whole (Some (Link q)) x = Err (NotArray Read x)
-value_of (element k) None x = Err (NoVariable Read x)
-value_of (element k) (Some (Scalar t)) x = Err (NotArray Read x)
-value_of (element k) (Some (Array es)) x = read_element (lookup (bytes_eq k) es) x
-value_of (element k) (Some (Link q)) x = Err (NotArray Read x)
-value_of nested v x = Err (NotArray Read x)
-
 -- what the name holds
 unfoldable pub read : Levels → Text → Result Text FrameFault
 read fs x = at_name fs x (λ p. value_of p.part (bound fs p.level p.name) x)
-
-abbrev pub is_held : Part → Option Variable → Bool
-is_held whole None = false
-is_held whole (Some (Scalar t)) = true
-is_held whole (Some (Array es)) = true
-is_held whole (Some (Link q)) = false
-is_held (element k) None = false
-is_held (element k) (Some (Scalar t)) = false
-is_held (element k) (Some (Array es)) = is_some (lookup (bytes_eq k) es)
-is_held (element k) (Some (Link q)) = false
-is_held nested v = false
 
 -- whether there is a value where a name stands
 abbrev pub holds : Levels → Spot → Bool
@@ -102,17 +78,6 @@ bind fs n x v = on_level fs n (λ es. insert_entry bytes_eq es x v)
 unfoldable pub unbind : Levels → ℕ → Text → Levels
 unbind fs n x = on_level fs n (remove_entry (bytes_eq x))
 
-abbrev pub assigned : Part → Option Variable → Text → Text → Result Variable FrameFault
-assigned whole None t x = Ok (Scalar t)
-assigned whole (Some (Scalar s)) t x = Ok (Scalar t)
-assigned whole (Some (Array es)) t x = Err (IsArray Set x)
-assigned whole (Some (Link q)) t x = Err (NotArray Set x)
-assigned (element k) None t x = Ok (Array ((k, t) ∷ []))
-assigned (element k) (Some (Scalar s)) t x = Err (NotArray Set x)
-assigned (element k) (Some (Array es)) t x = Ok (Array (insert_entry bytes_eq es k t))
-assigned (element k) (Some (Link q)) t x = Err (NotArray Set x)
-assigned nested v t x = Err (NotArray Set x)
-
 abbrev pub bound_to : Levels → Spot → Result Variable FrameFault → Result Levels FrameFault
 bound_to fs p (Ok v) = Ok (bind fs p.level p.name v)
 bound_to fs p (Err e) = Err e
@@ -121,33 +86,9 @@ bound_to fs p (Err e) = Err e
 unfoldable pub written : Levels → Text → Text → Result Levels FrameFault
 written fs x t = at_name fs x (λ p. bound_to fs p (assigned p.part (bound fs p.level p.name) t x))
 
-abbrev pub arrayed : Part → Option Variable → Text → Result Variable FrameFault
-arrayed whole None x = Ok (Array [])
-arrayed whole (Some (Scalar s)) x = Err (NotArray Set x)
-arrayed whole (Some (Array es)) x = Ok (Array es)
-arrayed whole (Some (Link q)) x = Err (NotArray Set x)
-arrayed (element k) v x = Err (NotArray Set x)
-arrayed nested v x = Err (NotArray Set x)
-
 -- the frames after the name is made an array, where it isn't one yet
 unfoldable pub made_array : Levels → Text → Result Levels FrameFault
 made_array fs x = at_name fs x (λ p. bound_to fs p (arrayed p.part (bound fs p.level p.name) x))
-
-abbrev pub without_element : Option Text → List (Text × Text) → Text → Text → Result (Option Variable) FrameFault
-without_element None es k x = Err (NoElement Unset x)
-without_element (Some t) es k x = Ok (Some (Array (remove_entry (bytes_eq k) es)))
-
--- what is left of a variable, where something is
-abbrev pub left_of : Part → Option Variable → Text → Result (Option Variable) FrameFault
-left_of whole None x = Err (NoVariable Unset x)
-left_of whole (Some (Scalar t)) x = Ok None
-left_of whole (Some (Array es)) x = Ok None
-left_of whole (Some (Link q)) x = Err (NotArray Unset x)
-left_of (element k) None x = Err (NoVariable Unset x)
-left_of (element k) (Some (Scalar t)) x = Err (NotArray Unset x)
-left_of (element k) (Some (Array es)) x = without_element (lookup (bytes_eq k) es) es k x
-left_of (element k) (Some (Link q)) x = Err (NotArray Unset x)
-left_of nested v x = Err (NotArray Unset x)
 
 abbrev pub left_at : Levels → Spot → Result (Option Variable) FrameFault → Result Levels FrameFault
 left_at fs p (Ok None) = Ok (unbind fs p.level p.name)
@@ -238,14 +179,6 @@ names_of Global fs = names_held fs 0 (variables_at fs 0)
 names_of Local fs = if current fs == 0 then [] else names_own (variables_at fs (current fs))
 
 -- ## Arrays
-
-abbrev pub elements_of : Part → Option Variable → Option (List (Text × Text))
-elements_of whole None = None
-elements_of whole (Some (Scalar t)) = None
-elements_of whole (Some (Array es)) = Some es
-elements_of whole (Some (Link q)) = None
-elements_of (element k) v = None
-elements_of nested v = None
 
 -- the elements of the array that the name is, in the order of insertion
 unfoldable pub array_at : Levels → Text → Result (Option (List (Text × Text))) FrameFault

@@ -1,12 +1,7 @@
-pub mod Entries
-pub mod Faults
-pub mod Lending
-pub mod Parts
-pub mod Names
 pub mod Places
 pub mod Chain
 pub mod Reached
-pub mod Rebinding
+pub mod Changes
 pub mod Sound
 pub mod Targets
-pub mod Written
+pub mod LendingChain

@@ -2,19 +2,11 @@
 use Rattle.std.specs.Prelude.{ℕ, zero, suc, pred, ◌+◌, Bool, true, false, ◌&&◌, ◌==◌, List, [], ◌∷◌, length, slice_get, Option, Some, None}
 use Rattle.std.specs.Str.{bytes_eq}
 use Rattle.std.specs.Map.{lookup}
-use Rattle.tcl_frames.specs.Names.{Text, Name}
-use Rattle.tcl_frames.specs.declared.variable.Place.{Place}
-use Rattle.tcl_frames.specs.declared.variable.Variable.{Variable}
-use Rattle.tcl_frames.specs.declared.variable.Variable.TheVariants.{Scalar, Array, Link}
-
--- what names stand for, in the order of insertion
-abbrev pub Variables : Type 0
-Variables = List (Text × Variable)
-
--- A frame: the words of its call, and its variables.
-pub record Frame : Type 0 where
-  pub words : List Text
-  pub variables : Variables
+use Rattle.tcl_variables.specs.Names.{Text, Name}
+use Rattle.tcl_variables.specs.Variables.{Variables, Frame, Part, merge, part_of}
+use Rattle.tcl_variables.specs.declared.variable.Place.{Place}
+use Rattle.tcl_variables.specs.declared.variable.Variable.{Variable}
+use Rattle.tcl_variables.specs.declared.variable.Variable.TheVariants.{Scalar, Array, Link}
 
 -- the frames of a chain, level 0 first
 abbrev pub Levels : Type 0
@@ -31,24 +23,6 @@ bound_in (Some f) x = lookup (bytes_eq x) f.variables
 -- what a name stands for at a level
 unfoldable pub bound : Levels → ℕ → Text → Option Variable
 bound fs n x = bound_in (slice_get fs n) x
-
--- Which part of a variable is meant: all of it, an element, or an element of an element, of which there is none.
-pub data Part : Type 0 where
-  whole : Part
-  element : Text → Part
-  nested : Part
-
--- a part of a part
-abbrev pub merge : Part → Part → Part
-merge whole p = p
-merge (element k) whole = element k
-merge (element k) (element j) = nested
-merge (element k) nested = nested
-merge nested p = nested
-
-abbrev pub part_of : Option Text → Part
-part_of None = whole
-part_of (Some k) = element k
 
 -- Where a name stands: a level, a name there, and the part that is meant.
 pub record Spot : Type 0 where

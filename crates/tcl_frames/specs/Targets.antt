@@ -1,7 +1,8 @@
 -- Where a change goes, as the code keeps it.
 use Rattle.std.specs.Prelude.{Option, Some, None}
-use Rattle.tcl_frames.specs.Places.{Spot, Part}
-use Rattle.tcl_frames.specs.Places.Part.{whole, element, nested}
+use Rattle.tcl_frames.specs.Places.{Spot}
+use Rattle.tcl_variables.specs.Variables.{Part}
+use Rattle.tcl_variables.specs.Variables.Part.{whole, element, nested}
 use Rattle.tcl_frames.specs.Reached.{over}
 use Rattle.tcl_frames.specs.declared.steps.OwnedPart.{OwnedPart}
 use Rattle.tcl_frames.specs.declared.steps.OwnedPart.TheVariants.{Whole, Element, Nested}

@@ -5,17 +5,21 @@ ghost use Rattle.std.specs.Vec.{vec_capacity};
 ghost use Rattle.std.specs.Prelude.{reverse, nat_lt};
 ghost use Rattle.tcl_frames.specs.Chain.{least};
 
-use crate::fault::{FrameError, FrameFault};
-use crate::frame::{Change, Frame};
 use crate::links::link_frames;
-use crate::name_map::NameMap;
 use crate::names::{names_at, own_names};
-use crate::steps::{array_in, change_in, exists_in, get_in};
-use crate::variable::Scope;
+use crate::scope::Scope;
+use crate::steps::{
+    array_in, change_in, exists_in, find_target, get_in, level_meant, part_written,
+};
 use std::alloc::{AllocError, Global};
 use std::marker::Model;
 use tcl_text::text::Text;
 use tcl_value::value::Value;
+use tcl_variables::access::Part;
+use tcl_variables::fault::{FrameError, FrameFault, Refusal, refused};
+use tcl_variables::frame::{Change, Frame};
+use tcl_variables::name::read_name;
+use tcl_variables::name_map::NameMap;
 
 /// Frames that were set aside: those that stood above a level.
 #[derive(Drop)]
@@ -87,9 +91,9 @@ fn may_pop(aside: &[SetAside], count: usize) -> bool
 impl Frames {
     ghost use Rattle.std.specs.Prelude.{[], ◌∷◌, IsSome};
     ghost use Rattle.tcl_frames.specs.Chain.{fresh, read, exists_at, array_at, after_set, after_array, after_unset, after_link, with_frames, names_of, words_at, pushed, popped, set_aside, brought_back};
-    ghost use Rattle.tcl_frames.specs.Faults.{Refuses};
+    ghost use Rattle.tcl_variables.specs.Faults.{Refuses};
     ghost use Rattle.tcl_frames.specs.Places.{current};
-    ghost use Rattle.tcl_frames.specs.Rebinding.{change_named};
+    ghost use Rattle.tcl_frames.specs.Changes.{change_named};
 
     /// A chain of the global frame alone, which has no words and no variables.
     ///
@@ -289,6 +293,73 @@ impl Frames {
                 self.frames.append(&mut frames).unwrap();
             }
             None => {}
+        }
+    }
+}
+
+impl Frames {
+    ghost use Rattle.std.specs.Borrow.{sem};
+    ghost use Rattle.tcl_variables.specs.Access.{value_of};
+    ghost use Rattle.tcl_variables.specs.Faults.{Refuses};
+    ghost use Rattle.tcl_variables.specs.Parts.{seen_part};
+    ghost use Rattle.tcl_variables.specs.Variables.{part_of};
+    ghost use Rattle.tcl_frames.specs.Chain.{read};
+    ghost use Rattle.tcl_frames.specs.Places.{bound, end_of};
+    ghost use Rattle.tcl_frames.specs.Reached.{start, over};
+    ghost use Rattle.tcl_frames.specs.LendingChain.{LendsPartAt, LendsEnd, LendsSet};
+
+    /// What a part of a name at a level holds, to write.
+    fn lend(
+        &mut self,
+        level: usize,
+        base: &str,
+        part: Part<'_>,
+        name: &Text,
+    ) -> Result<&mut Value, FrameError>
+        requires { level < length self.old.frames }
+        ensures* writes_back { sem 𝓛 (LendsPartAt self.entry level base.now (seen_part part.entry) name.now result) }
+        ensures ok { IfOk result (λ v. value_of (seen_part part.entry) (bound self.old.frames level base.now) name.now ≡ Ok v.now) }
+        ensures err { IfErr result (λ e. Refuses e (value_of (seen_part part.entry) (bound self.old.frames level base.now) name.now)) }
+    {
+        let frame = &mut self.frames[level];
+        frame.value_mut(base, part, name)
+    }
+
+    /// What there is where the links from a name at a level end, to write.
+    fn lend_end(
+        &mut self,
+        alloc: Global,
+        level: usize,
+        base: &str,
+        key: Option<&str>,
+        name: &Text,
+    ) -> Result<&mut Value, FrameError>
+        requires { level < length self.old.frames }
+        ensures* writes_back { sem 𝓛 (LendsEnd self.entry level base.now (option_copied key.entry) name.now result) }
+        ensures ok { IfOk result (λ v. let p = end_of self.old.frames (over (start level base.now) (part_of (option_copied key.entry))) in value_of p.part (bound self.old.frames p.level p.name) name.now ≡ Ok v.now) }
+        ensures err { IfErr result (λ e. let p = end_of self.old.frames (over (start level base.now) (part_of (option_copied key.entry))) in Refuses e (value_of p.part (bound self.old.frames p.level p.name) name.now)) }
+    {
+        match find_target(self.frames.as_slice(), alloc, level, base, key)? {
+            None => self.lend(level, base, part_written(key), name),
+            Some(end) => self.lend(end.level, end.name.as_str(), end.part.as_part(), name),
+        }
+    }
+
+    /// What a name holds, to write: once the borrow ends, the chain is as after [`Frames::set`] of the value that was left.
+    ///
+    /// # Errors
+    /// Want of memory; refusals 231 to 234 and 238 (of reading).
+    pub fn get_mut(&mut self, alloc: Global, name: &Text) -> Result<&mut Value, FrameError>
+        ensures* writes_back { sem 𝓛 (LendsSet self.entry name.now result) }
+        ensures ok { IfOk result (λ v. read self.old.frames name.now ≡ Ok v.now) }
+        ensures err { IfErr result (λ e. Refuses e (read self.old.frames name.now)) }
+    {
+        match read_name(name.as_str()) {
+            None => Err(refused(Refusal::BadName, name)),
+            Some(written) => {
+                let level = level_meant(self.frames.as_slice(), written.is_global);
+                self.lend_end(alloc, level, written.base, written.key, name)
+            }
         }
     }
 }

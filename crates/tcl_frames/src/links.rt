@@ -2,19 +2,20 @@
 ghost use Rattle.std.specs.Prelude.{◌≡◌, ◌<◌, Ok, length, IfOk, OnOk, IfErr, OnErr, MatchOption};
 ghost use Rattle.std.specs.Option.{option_copied};
 ghost use Rattle.tcl_frames.specs.Chain.{link_over, linked};
-ghost use Rattle.tcl_frames.specs.Faults.{Refuses};
-ghost use Rattle.tcl_frames.specs.Places.{bound, under, end_of, part_of, current, links, next, passes, is_at};
-ghost use Rattle.tcl_frames.specs.Places.Part.{whole, nested};
+ghost use Rattle.tcl_variables.specs.Faults.{Refuses};
+ghost use Rattle.tcl_frames.specs.Places.{bound, under, end_of, current, links, next, passes, is_at};
+ghost use Rattle.tcl_variables.specs.Variables.{part_of};
+ghost use Rattle.tcl_variables.specs.Variables.Part.{whole, nested};
 ghost use Rattle.tcl_frames.specs.Reached.{start, over, may_link};
 ghost use Rattle.tcl_frames.specs.Sound.{AreFit};
 
-use crate::fault::{FrameError, FrameFault, Refusal, Verb, refused};
-use crate::frame::Frame;
-use crate::name::{is_plain_name, read_name};
 use crate::steps::{find_target, level_for, link_at, link_in, variable_at};
-use crate::variable::{Place, Variable};
 use std::alloc::{AllocError, Global};
 use tcl_text::text::Text;
+use tcl_variables::fault::{FrameError, FrameFault, Refusal, Verb, refused};
+use tcl_variables::frame::Frame;
+use tcl_variables::name::{is_plain_name, read_name};
+use tcl_variables::variable::{Place, Variable};
 
 /// Whether a name at a level is that of another.
 fn is_name_at(level: usize, base: &str, here: usize, local: &Text) -> bool

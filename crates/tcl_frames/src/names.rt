@@ -4,15 +4,15 @@ ghost use Rattle.tcl_frames.specs.Chain.{holds, kept_if, names_held, names_own, 
 ghost use Rattle.tcl_frames.specs.Places.{end_of};
 ghost use Rattle.tcl_frames.specs.Reached.{start};
 ghost use Rattle.tcl_frames.specs.Sound.{AreFit};
-ghost use Rattle.tcl_frames.specs.declared.variable.Scope.TheVariants.{Local};
+ghost use Rattle.tcl_frames.specs.declared.scope.Scope.TheVariants.{Local};
 
-use crate::access::holds_in;
-use crate::frame::Frame;
-use crate::name_map::NameMap;
 use crate::steps::find;
-use crate::variable::Variable;
 use std::alloc::{AllocError, Global};
 use tcl_text::text::Text;
+use tcl_variables::access::holds_in;
+use tcl_variables::frame::Frame;
+use tcl_variables::name_map::NameMap;
+use tcl_variables::variable::Variable;
 
 /// Adds a name to its end, if it is wanted.
 fn push_if(

@@ -2,25 +2,26 @@
 ghost use Rattle.std.specs.Prelude.{◌≡◌, ◌<◌, Ok, Some, None, length, IfOk, OnOk, IfErr, OnErr};
 ghost use Rattle.std.specs.Option.{option_copied};
 ghost use Rattle.tcl_frames.specs.Chain.{read, exists_at, array_at, place_named};
-ghost use Rattle.tcl_frames.specs.Faults.{Refuses, IsRefusal};
-ghost use Rattle.tcl_frames.specs.Places.{bound, under, end_of, merge, part_of, current, level_of};
-ghost use Rattle.tcl_frames.specs.Places.Part.{whole, element};
-ghost use Rattle.tcl_frames.specs.Parts.{seen_part};
+ghost use Rattle.tcl_variables.specs.Faults.{Refuses, IsRefusal};
+ghost use Rattle.tcl_frames.specs.Places.{bound, under, end_of, current, level_of};
+ghost use Rattle.tcl_variables.specs.Variables.{merge, part_of};
+ghost use Rattle.tcl_variables.specs.Variables.Part.{whole, element};
+ghost use Rattle.tcl_variables.specs.Parts.{seen_part};
 ghost use Rattle.tcl_frames.specs.Reached.{reached, link_of, start, over, bound_where, Stands};
-ghost use Rattle.tcl_frames.specs.Rebinding.{change_levels, change_named};
+ghost use Rattle.tcl_frames.specs.Changes.{change_levels, change_named};
 ghost use Rattle.tcl_frames.specs.Targets.{owned_part, target_or};
-ghost use Rattle.tcl_frames.specs.declared.fault.FrameFault.TheVariants.{BadName};
+ghost use Rattle.tcl_variables.specs.declared.fault.FrameFault.TheVariants.{BadName};
 ghost use Rattle.tcl_frames.specs.Sound.{AreFit};
 
-use crate::access::{Part, elements_in, holds_in, value_in};
-use crate::fault::{FrameError, Refusal, refused};
-use crate::frame::{Change, Frame};
-use crate::name::read_name;
-use crate::name_map::NameMap;
-use crate::variable::{Place, Variable};
 use std::alloc::{AllocError, Global};
 use tcl_text::text::Text;
 use tcl_value::value::Value;
+use tcl_variables::access::{Part, elements_in, holds_in, value_in};
+use tcl_variables::fault::{FrameError, Refusal, refused};
+use tcl_variables::frame::{Change, Frame};
+use tcl_variables::name::read_name;
+use tcl_variables::name_map::NameMap;
+use tcl_variables::variable::{Place, Variable};
 
 /// What a name stands for at a level.
 pub(crate) fn variable_at<'a>(frames: &'a [Frame], level: usize, name: &str) -> Option<&'a Variable>
@@ -139,7 +140,7 @@ pub(crate) fn level_for(is_global: bool, level: usize) -> usize
 }
 
 /// The level that a name means: 0, or the current one.
-fn level_meant(frames: &[Frame], is_global: bool) -> usize
+pub(crate) fn level_meant(frames: &[Frame], is_global: bool) -> usize
     ensures { result ≡ level_of is_global (current frames.now) }
 {
     level_for(is_global, frames.len().saturating_sub(1))
@@ -243,7 +244,7 @@ impl OwnedPart {
         }
     }
 
-    fn as_part(&self) -> Part<'_>
+    pub(crate) fn as_part(&self) -> Part<'_>
         ensures { seen_part result ≡ owned_part self.now }
     {
         match self {
@@ -257,15 +258,15 @@ impl OwnedPart {
 /// Where the links from a name end.
 #[derive(Drop)]
 pub(crate) struct Target {
-    level: usize,
-    name: Text,
-    part: OwnedPart,
+    pub(crate) level: usize,
+    pub(crate) name: Text,
+    pub(crate) part: OwnedPart,
 }
 
 impl Target {
     ghost use Rattle.std.specs.Prelude.{MatchOption};
     ghost use Rattle.tcl_frames.specs.Places.{under};
-    ghost use Rattle.tcl_frames.specs.Places.Part.{whole, nested};
+    ghost use Rattle.tcl_variables.specs.Variables.Part.{whole, nested};
     ghost use Rattle.tcl_frames.specs.Targets.{owned_part, target_spot};
 
     /// The place that it is, or none where it is an element of an element.
@@ -314,7 +315,7 @@ pub(crate) fn find_target<'a>(
 }
 
 /// The part that a key means.
-fn part_written(key: Option<&str>) -> Part<'_>
+pub(crate) fn part_written(key: Option<&str>) -> Part<'_>
     ensures { seen_part result ≡ part_of (option_copied key.entry) }
 {
     match key {

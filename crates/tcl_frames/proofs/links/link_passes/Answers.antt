@@ -1,7 +1,8 @@
 use Rattle.std.proofs.Common.{◌∙◌, sym, ap}
 use Rattle.std.specs.Option.{option_copied}
-use Rattle.tcl_frames.specs.Places.{links, next, is_at, under, merge, part_of}
-use Rattle.tcl_frames.specs.Places.Part.{whole}
+use Rattle.tcl_frames.specs.Places.{links, next, is_at, under}
+use Rattle.tcl_variables.specs.Variables.{merge, part_of}
+use Rattle.tcl_variables.specs.Variables.Part.{whole}
 use Rattle.tcl_frames.proofs.WalkLemmas.{passes_yes}
 use Rattle.tcl_frames.proofs.LinkLemmas.{passes_next, passes_last, hops_next}
 use Rattle.tcl_frames.proofs.links.link_passes.Goals as goal

@@ -1,6 +1,6 @@
 use Rattle.std.proofs.Common.{◌≡◌}
 use Rattle.tcl_frames.specs.Places.{passes, links, next, is_at, under}
-use Rattle.tcl_frames.specs.Places.Part.{whole}
+use Rattle.tcl_variables.specs.Variables.Part.{whole}
 use Rattle.tcl_frames.proofs.WalkLemmas.{hops}
 use Rattle.tcl_frames.proofs.links.link_passes.Given as goal
 

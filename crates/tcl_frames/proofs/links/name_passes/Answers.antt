@@ -1,7 +1,7 @@
 use Rattle.std.proofs.Common.{◌∙◌, sym, ap}
 use Rattle.std.specs.Option.{option_copied}
 use Rattle.tcl_frames.specs.Places.{links, next, is_at}
-use Rattle.tcl_frames.specs.Places.Part.{whole}
+use Rattle.tcl_variables.specs.Variables.Part.{whole}
 use Rattle.tcl_frames.specs.Reached.{start, link_of}
 use Rattle.tcl_frames.proofs.WalkLemmas.{passes_yes}
 use Rattle.tcl_frames.proofs.LinkLemmas.{passes_next, passes_last}

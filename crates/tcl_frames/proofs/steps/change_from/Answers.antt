@@ -1,6 +1,6 @@
 use Rattle.std.proofs.Common.{◌∙◌, ap}
 use Rattle.std.specs.Option.{option_copied}
-use Rattle.tcl_frames.specs.Places.{part_of}
+use Rattle.tcl_variables.specs.Variables.{part_of}
 use Rattle.tcl_frames.specs.Reached.{start}
 use Rattle.tcl_frames.specs.Targets.{target_or}
 use Rattle.tcl_frames.proofs.StepLemmas.{target_within}

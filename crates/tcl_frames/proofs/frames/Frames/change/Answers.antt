@@ -1,6 +1,6 @@
 use Rattle.std.proofs.Common.{◌≡◌, sym, ap, arith, reverse, length, subst}
 use Rattle.tcl_frames.specs.Sound.{AreFit}
-use Rattle.tcl_frames.specs.Rebinding.{change_named}
+use Rattle.tcl_frames.specs.Changes.{change_named}
 use Rattle.tcl_frames.proofs.ChainLemmas.{chain, sound_positive, whole_again, fit_either, sound_changed}
 use Rattle.tcl_frames.proofs.StepLemmas.{change_fit}
 use Rattle.tcl_frames.proofs.frames.Frames.change.Goals as goal
