@@ -6,3 +6,4 @@ pub mod StepLemmas
 pub mod LinkLemmas
 pub mod ChainLemmas
 pub mod NamesLemmas
+pub mod LendLemmas

@@ -1,5 +1,5 @@
 -- What the calls on names come to.
-use Rattle.std.proofs.Common.{◌≡◌, ℕ, zero, suc, ◌+◌, ◌<◌, ◌≤◌, inl, inr, Bool, true, false, [], ◌∷◌, length, slice_get, slice_set, Option, Some, None, Result, Ok, Err, refl, sym, ◌∙◌, ap, subst, arith}
+use Rattle.std.proofs.Common.{◌≡◌, ℕ, zero, suc, ◌+◌, ◌<◌, ◌≤◌, inl, inr, Bool, true, false, List, [], ◌∷◌, length, slice_get, slice_set, Option, Some, None, Result, Ok, Err, refl, sym, ◌∙◌, ap, subst, arith}
 use Rattle.std.specs.Borrow.{Bor}
 use Rattle.std.specs.Option.{option_map, option_copied}
 use Rattle.std.specs.Map.{lookup, remove_entry}
@@ -444,3 +444,45 @@ pub change_fit : (c : Change) (fs gs : Levels) (x : Text) → AreFit 0 fs → ch
 change_fit (Assign t) fs gs x fit e = written_fit fs gs x t fit (written_is fs x t ∙ e)
 change_fit MakeArray fs gs x fit e = made_array_fit fs gs x fit (made_array_is fs x ∙ e)
 change_fit Unset fs gs x fit e = removed_fit fs gs x fit (removed_is fs x ∙ e)
+
+-- ## What is lent
+
+-- what is set is no link
+assigned_over : (o : Option Variable) (r : Part) (t x : Text) (v : Variable) → assigned r o t x ≡ Ok v → IsNoLink o
+assigned_over None r t x v e = tt
+assigned_over (Some (Scalar s)) r t x v e = tt
+assigned_over (Some (Array es)) r t x v e = tt
+assigned_over (Some (Link q)) whole t x v e = absurd (cc)
+assigned_over (Some (Link q)) (element k) t x v e = absurd (cc)
+assigned_over (Some (Link q)) nested t x v e = absurd (cc)
+
+bound_over : (fs gs : Levels) (p : Spot) (o : Result Variable FrameFault) → bound_to fs p o ≡ Ok gs → (v : Variable) × (o ≡ Ok v)
+bound_over fs gs p (Ok v) e = (v, refl)
+bound_over fs gs p (Err f) e = absurd (cc)
+
+pub lent_fit : (fs gs : Levels) (p : Spot) (t x : Text) → AreFit 0 fs → change_levels (Assign t) fs p x ≡ Ok gs → AreFit 0 gs
+lent_fit fs gs p t x fit e =
+    let made = bound_over fs gs p (assigned p.part (bound fs p.level p.name) t x) e in
+    fit_bound fs gs fit p (assigned_over (bound fs p.level p.name) p.part t x made.0 made.1) _ (λ v. assigned_plain p.part (bound fs p.level p.name) t x v) e
+
+-- what is read where a name's links end
+read_there : (fs : Levels) (x : Text) (p : Spot) → place_named fs x ≡ Some p → read fs x ≡ value_of p.part (bound fs p.level p.name) x
+unfolding read
+read_there fs x p e = ap (λ o. by_place o x (λ (q : Spot). value_of q.part (bound fs q.level q.name) x)) e
+
+pub read_is : (fs : Levels) (x : Text) (w : Name) (n : ℕ) → name_of x ≡ Some w → n ≡ level_of w.is_global (current fs)
+    → read fs x ≡ value_of (end_of fs (over (start n w.base) (part_of w.key))).part (bound fs (end_of fs (over (start n w.base) (part_of w.key))).level (end_of fs (over (start n w.base) (part_of w.key))).name) x
+read_is fs x w n e is =
+    read_there fs x _ (place_good fs x w n e is)
+    ∙ ap (λ (p : Spot). value_of p.part (bound fs p.level p.name) x) (sym (end_over fs (start n w.base) (part_of w.key)))
+
+pub below_current : (g : Bool) (fs : Levels) (n : ℕ) → n ≡ level_of g (current fs) → 0 < length fs → n < length fs
+below_current g [] n e h = absurd (omega arith)
+below_current true (f ∷ fs) n e h = omega arith
+below_current false (f ∷ fs) n e h = omega arith
+
+-- a frame that is put where it stands
+pub set_here : {A : Type 0} (fs : List A) (i : ℕ) (f : A) → slice_get fs i ≡ Some f → slice_set fs i f ≡ fs
+set_here [] i f e = refl
+set_here (g ∷ gs) zero f e = let same : g ≡ f = cc in ap (λ h. h ∷ gs) (sym same)
+set_here (g ∷ gs) (suc i) f e = ap (λ hs. g ∷ hs) (set_here gs i f e)

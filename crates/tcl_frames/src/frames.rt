@@ -8,9 +8,7 @@ ghost use Rattle.tcl_frames.specs.Chain.{least};
 use crate::links::link_frames;
 use crate::names::{names_at, own_names};
 use crate::scope::Scope;
-use crate::steps::{
-    array_in, change_in, exists_in, find_target, get_in, level_meant, part_written,
-};
+use crate::steps::{array_in, change_in, end_or, exists_in, find_target, get_in, level_meant};
 use std::alloc::{AllocError, Global};
 use std::marker::Model;
 use tcl_text::text::Text;
@@ -34,6 +32,18 @@ impl Model for SetAside {
     ghost Value = { Aside };
 
     ghost view = { λ a. record { above = a.above; frames = a.frames.items } };
+}
+
+impl Clone for SetAside {
+    ghost is_clone = { λ x y. y ≡ x };
+
+    fn clone(&self) -> Result<SetAside, AllocError> {
+        let frames = self.frames.clone()?;
+        Ok(SetAside {
+            above: self.above,
+            frames,
+        })
+    }
 }
 
 /// The chain of frames of an interpreter, with the parts of chains that are set aside.
@@ -108,6 +118,20 @@ impl Frames {
             frames,
             aside: Vec::new(alloc),
         })
+    }
+
+    /// A chain equal to this one, which shares the values.
+    ///
+    /// # Errors
+    /// Want of memory.
+    pub fn copy(&self) -> Result<Frames, AllocError>
+        ensures { IfOk result (λ made. made ≡ self.now) }
+    {
+        let mut frames = self.frames.clone()?;
+        let room = self.frames.capacity().saturating_sub(self.frames.len());
+        frames.reserve(room)?;
+        let aside = self.aside.clone()?;
+        Ok(Frames { frames, aside })
     }
 
     /// The level that runs: that of the frame on top.
@@ -322,7 +346,10 @@ impl Frames {
         ensures err { IfErr result (λ e. Refuses e (value_of (seen_part part.entry) (bound self.old.frames level base.now) name.now)) }
     {
         let frame = &mut self.frames[level];
-        frame.value_mut(base, part, name)
+        match frame.value_mut(base, part, name) {
+            Ok(value) => Ok(value),
+            Err(error) => Err(error),
+        }
     }
 
     /// What there is where the links from a name at a level end, to write.
@@ -339,10 +366,9 @@ impl Frames {
         ensures ok { IfOk result (λ v. let p = end_of self.old.frames (over (start level base.now) (part_of (option_copied key.entry))) in value_of p.part (bound self.old.frames p.level p.name) name.now ≡ Ok v.now) }
         ensures err { IfErr result (λ e. let p = end_of self.old.frames (over (start level base.now) (part_of (option_copied key.entry))) in Refuses e (value_of p.part (bound self.old.frames p.level p.name) name.now)) }
     {
-        match find_target(self.frames.as_slice(), alloc, level, base, key)? {
-            None => self.lend(level, base, part_written(key), name),
-            Some(end) => self.lend(end.level, end.name.as_str(), end.part.as_part(), name),
-        }
+        let end = find_target(self.frames.as_slice(), alloc, level, base, key)?;
+        let at = end_or(&end, level, base, key);
+        self.lend(at.level, at.base, at.part, name)
     }
 
     /// What a name holds, to write: once the borrow ends, the chain is as after [`Frames::set`] of the value that was left.

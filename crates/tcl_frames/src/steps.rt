@@ -9,7 +9,7 @@ ghost use Rattle.tcl_variables.specs.Variables.Part.{whole, element};
 ghost use Rattle.tcl_variables.specs.Parts.{seen_part};
 ghost use Rattle.tcl_frames.specs.Reached.{reached, link_of, start, over, bound_where, Stands};
 ghost use Rattle.tcl_frames.specs.Changes.{change_levels, change_named};
-ghost use Rattle.tcl_frames.specs.Targets.{owned_part, target_or};
+ghost use Rattle.tcl_frames.specs.Targets.{owned_part, target_or, ended};
 ghost use Rattle.tcl_variables.specs.declared.fault.FrameFault.TheVariants.{BadName};
 ghost use Rattle.tcl_frames.specs.Sound.{AreFit};
 
@@ -315,12 +315,43 @@ pub(crate) fn find_target<'a>(
 }
 
 /// The part that a key means.
-pub(crate) fn part_written(key: Option<&str>) -> Part<'_>
+fn part_written(key: Option<&str>) -> Part<'_>
     ensures { seen_part result ≡ part_of (option_copied key.entry) }
 {
     match key {
         None => Part::Whole,
         Some(key) => Part::Element(key),
+    }
+}
+
+/// Where the links from a name end, borrowed.
+#[derive(Clone, Copy)]
+pub(crate) struct Ended<'a> {
+    pub(crate) level: usize,
+    pub(crate) base: &'a str,
+    pub(crate) part: Part<'a>,
+}
+
+/// Where the links from a name at a level end: at the target, or at the name itself where there is none.
+pub(crate) fn end_or<'a>(
+    target: &'a Option<Target>,
+    level: usize,
+    base: &'a str,
+    key: Option<&'a str>,
+) -> Ended<'a>
+    ensures { ended result ≡ target_or (start level base.now) (part_of (option_copied key.entry)) target.now }
+{
+    match target {
+        None => Ended {
+            level,
+            base,
+            part: part_written(key),
+        },
+        Some(end) => Ended {
+            level: end.level,
+            base: end.name.as_str(),
+            part: end.part.as_part(),
+        },
     }
 }
 

@@ -5,7 +5,7 @@ use std::alloc::{AllocError, Global};
 use std::test::Fail;
 use tcl_text::text::Text;
 use tcl_value::value::Value;
-use tcl_variables::fault::{FrameError, FrameFault};
+use tcl_variables::fault::FrameError;
 
 fn text(alloc: Global, text: &str) -> Result<Text, AllocError> {
     Text::new(alloc, text)
@@ -99,7 +99,9 @@ fn array_holds_no_value(rt: HostRuntime) -> Result<(), Fail> {
     let mut frames = Frames::new(alloc)?;
     set(&mut frames, alloc, "a(x)", "1")?;
     assert_eq!(rt; get(&frames, alloc, "a(x)")?.as_str(), "1");
-    let refused = frames.set(alloc, &text(alloc, "a")?, value(alloc, "5")?);
+    let refused = frames
+        .set(alloc, &text(alloc, "a")?, value(alloc, "5")?)
+        .err();
     assert_eq!(rt;
         told(alloc, refused)?.as_str(),
         "can't set \"a\": variable is array"
@@ -232,10 +234,159 @@ fn value_is_changed_in_place(rt: HostRuntime) -> Result<(), Fail> {
 }
 
 /// What a script is told of a refusal; `-` where there is none.
-fn told(alloc: Global, done: Result<(), FrameError>) -> Result<Text, Fail> {
-    match done {
-        Ok(()) => Ok(text(alloc, "-")?),
-        Err(FrameError::Fault(fault)) => Ok(fault.message(alloc)?),
-        Err(FrameError::Memory) => Err(Fail::new("memory")),
+fn told(alloc: Global, refusal: Option<FrameError>) -> Result<Text, Fail> {
+    match refusal {
+        None => Ok(text(alloc, "-")?),
+        Some(FrameError::Fault(fault)) => Ok(fault.message(alloc)?),
+        Some(FrameError::Memory) => Err(Fail::new("memory")),
     }
+}
+
+/// A value `k`, an array `a` and, in a procedure's frame, a value `own` and a link `v` to `k`.
+fn chain(alloc: Global) -> Result<Frames, Fail> {
+    let mut frames = Frames::new(alloc)?;
+    set(&mut frames, alloc, "k", "5")?;
+    set(&mut frames, alloc, "a(x)", "1")?;
+    frames.push(alloc, words(alloc)?)?;
+    set(&mut frames, alloc, "own", "2")?;
+    link(&mut frames, alloc, 0, "k", "v")?;
+    Ok(frames)
+}
+
+/// Whether a chain is as [`chain`] makes it, as far as its names show.
+fn is_as_made(frames: &Frames, alloc: Global) -> Result<bool, Fail> {
+    let visible = joined(alloc, &frames.names(alloc, Scope::Visible)?)?;
+    let global = joined(alloc, &frames.names(alloc, Scope::Global)?)?;
+    let local = joined(alloc, &frames.names(alloc, Scope::Local)?)?;
+    let values = joined(
+        alloc,
+        &[
+            get(frames, alloc, "own")?,
+            get(frames, alloc, "v")?,
+            get(frames, alloc, "::a(x)")?,
+        ],
+    )?;
+    Ok(
+        visible.as_str() == "own|v"
+            && global.as_str() == "k|a"
+            && local.as_str() == "own"
+            && values.as_str() == "2|5|1"
+            && frames.level() == 1,
+    )
+}
+
+#[test]
+fn reading_is_refused(rt: HostRuntime) -> Result<(), Fail> {
+    let alloc = rt.alloc();
+    let frames = chain(alloc)?;
+    for (name, message) in [
+        ("nope", "can't read \"nope\": no such variable"),
+        ("::a", "can't read \"::a\": variable is array"),
+        ("v(x)", "can't read \"v(x)\": variable isn't array"),
+        ("::a(z)", "can't read \"::a(z)\": no such element in array"),
+        ("a::b", "bad name \"a::b\""),
+    ] {
+        let refusal = frames.get(&text(alloc, name)?).err();
+        assert_eq!(rt; told(alloc, refusal)?.as_str(), message);
+    }
+    assert!(rt; is_as_made(&frames, alloc)?);
+    Ok(())
+}
+
+#[test]
+fn setting_is_refused(rt: HostRuntime) -> Result<(), Fail> {
+    let alloc = rt.alloc();
+    let mut frames = chain(alloc)?;
+    for (name, message) in [
+        ("::a", "can't set \"::a\": variable is array"),
+        ("own(x)", "can't set \"own(x)\": variable isn't array"),
+        ("a::b", "bad name \"a::b\""),
+    ] {
+        let refusal = frames
+            .set(alloc, &text(alloc, name)?, value(alloc, "7")?)
+            .err();
+        assert_eq!(rt; told(alloc, refusal)?.as_str(), message);
+    }
+    assert!(rt; is_as_made(&frames, alloc)?);
+    Ok(())
+}
+
+#[test]
+fn unsetting_is_refused(rt: HostRuntime) -> Result<(), Fail> {
+    let alloc = rt.alloc();
+    let mut frames = chain(alloc)?;
+    for (name, message) in [
+        ("nope", "can't unset \"nope\": no such variable"),
+        ("own(x)", "can't unset \"own(x)\": variable isn't array"),
+        ("::a(z)", "can't unset \"::a(z)\": no such element in array"),
+    ] {
+        let refusal = frames.unset(alloc, &text(alloc, name)?).err();
+        assert_eq!(rt; told(alloc, refusal)?.as_str(), message);
+    }
+    assert!(rt; is_as_made(&frames, alloc)?);
+    Ok(())
+}
+
+/// The refusals of a link, `upvar 0 a a` among them.
+#[test]
+fn linking_is_refused(rt: HostRuntime) -> Result<(), Fail> {
+    let alloc = rt.alloc();
+    let mut frames = chain(alloc)?;
+    for (level, other, local, message) in [
+        (2, "k", "w", "bad level \"2\""),
+        (0, "k", "own", "variable \"own\" already exists"),
+        (1, "a", "a", "can't upvar from variable to itself"),
+        (0, "k", "w(x)", "bad name \"w(x)\""),
+        (0, "k", "::w", "bad name \"::w\""),
+    ] {
+        let refusal = frames
+            .link(alloc, level, &text(alloc, other)?, &text(alloc, local)?)
+            .err();
+        assert_eq!(rt; told(alloc, refusal)?.as_str(), message);
+    }
+    assert!(rt; is_as_made(&frames, alloc)?);
+    Ok(())
+}
+
+/// An element of an element that is linked to is asked for.
+#[test]
+fn element_has_no_elements(rt: HostRuntime) -> Result<(), Fail> {
+    let alloc = rt.alloc();
+    let mut frames = chain(alloc)?;
+    link(&mut frames, alloc, 0, "a(x)", "e")?;
+    let refusal = frames
+        .link(alloc, 1, &text(alloc, "e(y)")?, &text(alloc, "w")?)
+        .err();
+    assert_eq!(rt;
+        told(alloc, refusal)?.as_str(),
+        "can't read \"e(y)\": variable isn't array"
+    );
+    assert_eq!(rt; get(&frames, alloc, "e")?.as_str(), "1");
+    Ok(())
+}
+
+/// A level that there isn't is refused, and the frames stay.
+#[test]
+fn setting_aside_is_refused(rt: HostRuntime) -> Result<(), Fail> {
+    let alloc = rt.alloc();
+    let mut frames = chain(alloc)?;
+    let refusal = frames.set_aside(alloc, 2).err();
+    assert_eq!(rt; told(alloc, refusal)?.as_str(), "bad level \"2\"");
+    assert!(rt; is_as_made(&frames, alloc)?);
+    Ok(())
+}
+
+/// A copy has what was set aside, too, and what is done to it leaves the chain as it is.
+#[test]
+fn copy_is_a_chain_of_its_own(rt: HostRuntime) -> Result<(), Fail> {
+    let alloc = rt.alloc();
+    let mut frames = chain(alloc)?;
+    frames.set_aside(alloc, 0)?;
+    let mut copy = frames.copy()?;
+    copy.bring_back();
+    assert!(rt; is_as_made(&copy, alloc)?);
+    set(&mut copy, alloc, "v", "6")?;
+    assert_eq!(rt; get(&frames, alloc, "k")?.as_str(), "5");
+    assert_eq!(rt; get(&copy, alloc, "::k")?.as_str(), "6");
+    Ok(())
 }
