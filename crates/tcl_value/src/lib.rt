@@ -5,4 +5,6 @@ mod element;
 mod entries;
 mod items;
 pub mod list;
+#[cfg(test)]
+mod tests;
 pub mod value;

@@ -1,0 +1,10 @@
+//! The variables of an interpreter: a chain of frames, whose names hold values, arrays or links.
+#![tactic(auto)]
+
+pub mod frames;
+mod links;
+mod names;
+pub mod scope;
+mod steps;
+#[cfg(test)]
+mod tests;

@@ -1,0 +1,163 @@
+//! Making links.
+ghost use Rattle.std.specs.Prelude.{◌≡◌, ◌<◌, Ok, length, IfOk, OnOk, IfErr, OnErr, MatchOption};
+ghost use Rattle.std.specs.Option.{option_copied};
+ghost use Rattle.tcl_frames.specs.Chain.{link_over, linked};
+ghost use Rattle.tcl_variables.specs.Faults.{Refuses};
+ghost use Rattle.tcl_frames.specs.Places.{bound, under, end_of, current, links, next, passes, is_at};
+ghost use Rattle.tcl_variables.specs.Variables.{part_of};
+ghost use Rattle.tcl_variables.specs.Variables.Part.{whole, nested};
+ghost use Rattle.tcl_frames.specs.Reached.{start, over, may_link};
+ghost use Rattle.tcl_frames.specs.Sound.{AreFit};
+
+use crate::steps::{find_target, level_for, link_at, link_in, variable_at};
+use std::alloc::{AllocError, Global};
+use tcl_text::text::Text;
+use tcl_variables::fault::{FrameError, FrameFault, Refusal, Verb, refused};
+use tcl_variables::frame::Frame;
+use tcl_variables::name::{is_plain_name, read_name};
+use tcl_variables::variable::{Place, Variable};
+
+/// Whether a name at a level is that of another.
+fn is_name_at(level: usize, base: &str, here: usize, local: &Text) -> bool
+    ensures { result ≡ is_at here local.now (start level base.now) }
+{
+    level == here && local.as_str() == base
+}
+
+/// Whether a place is a name at a level, or an element of it.
+fn is_place_at(place: &Place, here: usize, local: &Text) -> bool
+    ensures { result ≡ is_at here local.now (under place.now whole) }
+{
+    place.level == here && *local == place.name
+}
+
+/// Whether a link or one that it leads to passes a name at a level.
+fn link_passes(frames: &[Frame], link: &Place, here: usize, local: &Text) -> bool
+    requires { AreFit 0 frames.now }
+    ensures { result ≡ passes (links frames.now) (next frames.now) (is_at here local.now) (under link.now whole) }
+{
+    let mut place = link;
+    'links: loop {
+        if is_place_at(place, here, local) {
+            return true;
+        }
+        match link_at(frames, place.level, &place.name) {
+            Some(next) => place = next,
+            None => return false,
+        }
+    }
+}
+
+/// Whether following a name at a level passes a name at another.
+fn name_passes(frames: &[Frame], level: usize, base: &str, here: usize, local: &Text) -> bool
+    requires { AreFit 0 frames.now }
+    ensures { result ≡ passes (links frames.now) (next frames.now) (is_at here local.now) (start level base.now) }
+{
+    if is_name_at(level, base, here, local) {
+        return true;
+    }
+    match link_in(variable_at(frames, level, base)) {
+        Some(link) => link_passes(frames, link, here, local),
+        None => false,
+    }
+}
+
+/// The text of a key.
+fn owned_key(alloc: Global, key: Option<&str>) -> Result<Option<Text>, AllocError>
+    ensures { IfOk result (λ owned. owned ≡ option_copied key.entry) }
+{
+    match key {
+        None => Ok(None),
+        Some(key) => Ok(Some(Text::new(alloc, key)?)),
+    }
+}
+
+/// The place where the links from a name at a level end, or none where that is an element of an element.
+fn end_place(
+    frames: &[Frame],
+    alloc: Global,
+    level: usize,
+    base: &str,
+    key: Option<&str>,
+) -> Result<Option<Place>, AllocError>
+    requires { AreFit 0 frames.now }
+    ensures { IfOk result (λ place. MatchOption place ((end_of frames.now (over (start level base.now) (part_of (option_copied key.entry)))).part ≡ nested) (λ q. end_of frames.now (over (start level base.now) (part_of (option_copied key.entry))) ≡ under q whole)) }
+{
+    match find_target(frames, alloc, level, base, key)? {
+        None => {
+            let name = Text::new(alloc, base)?;
+            let key = owned_key(alloc, key)?;
+            Ok(Some(Place { level, name, key }))
+        }
+        Some(target) => Ok(target.into_place()),
+    }
+}
+
+/// Whether a name with this variable may be made a link.
+fn is_free(variable: Option<&Variable>) -> bool
+    ensures { result ≡ may_link (option_copied variable.entry) }
+{
+    match variable {
+        None => true,
+        Some(Variable::Link(_)) => true,
+        Some(Variable::Scalar(_)) => false,
+        Some(Variable::Array(_)) => false,
+    }
+}
+
+/// Makes a name of the current level a link, where it holds no value.
+fn link_here(
+    frames: &mut [Frame],
+    alloc: Global,
+    local: &Text,
+    place: Place,
+) -> Result<(), FrameError>
+    requires { 0 < length frames.old }
+    ensures ok { OnOk result (link_over frames.old (bound frames.old (current frames.old) local.now) local.now place ≡ Ok frames.new) }
+    ensures err { IfErr result (λ e. Refuses e (link_over frames.old (bound frames.old (current frames.old) local.now) local.now place)) }
+    ensures unchanged { OnErr result (frames.new ≡ frames.old) }
+{
+    let here = frames.len() - 1;
+    if !is_free(variable_at(frames, here, local.as_str())) {
+        return Err(refused(Refusal::Exists, local));
+    }
+    let frame = &mut frames[here];
+    frame.link(alloc, local.as_str(), place)?;
+    Ok(())
+}
+
+/// Makes a name of the current level a link to what another name is at a level.
+pub(crate) fn link_frames(
+    frames: &mut [Frame],
+    alloc: Global,
+    level: usize,
+    other: &Text,
+    local: &Text,
+) -> Result<(), FrameError>
+    requires fit { AreFit 0 frames.old }
+    requires some { 0 < length frames.old }
+    ensures ok { OnOk result (linked frames.old level other.now local.now ≡ Ok frames.new) }
+    ensures err { IfErr result (λ e. Refuses e (linked frames.old level other.now local.now)) }
+    ensures unchanged { OnErr result (frames.new ≡ frames.old) }
+{
+    if level >= frames.len() {
+        return Err(FrameError::Fault(FrameFault::BadLevel(level)));
+    }
+    let here = frames.len() - 1;
+    match read_name(other.as_str()) {
+        None => Err(refused(Refusal::BadName, other)),
+        Some(written) => {
+            if !is_plain_name(local.as_str()) {
+                return Err(refused(Refusal::BadName, local));
+            }
+            let from = level_for(written.is_global, level);
+            if name_passes(frames, from, written.base, here, local) {
+                return Err(FrameError::Fault(FrameFault::Itself));
+            }
+            match end_place(frames, alloc, from, written.base, written.key)? {
+                None => Err(refused(Refusal::NotArray(Verb::Read), other)),
+                Some(place) => link_here(frames, alloc, local, place),
+            }
+        }
+    }
+}

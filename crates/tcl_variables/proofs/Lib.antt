@@ -1,0 +1,4 @@
+pub mod EntryLemmas
+pub mod NameLemmas
+pub mod FrameLemmas
+pub mod LendLemmas

@@ -1,0 +1,11 @@
+pub mod Entries
+pub mod Faults
+pub mod Lending
+pub mod Parts
+pub mod Names
+pub mod Variables
+pub mod Access
+pub mod Rebinding
+pub mod Written
+pub mod Messages
+pub mod LendingParts

@@ -1,0 +1,173 @@
+//! Why a call on the variables is refused.
+ghost use Rattle.std.specs.Prelude.{◌≡◌};
+ghost use Rattle.tcl_variables.specs.declared.fault.FrameError.TheVariants.{Memory};
+ghost use Rattle.tcl_variables.specs.declared.fault.FrameFault.TheVariants.{BadLevel};
+ghost use Rattle.tcl_variables.specs.Faults.{fault_of, IsRefusal};
+ghost use Rattle.tcl_variables.specs.Messages.{verb_word, cannot, quoted, message};
+ghost use Rattle.std.specs.Prelude.{IfOk};
+
+use std::alloc::{AllocError, AllocFailed, Global};
+use tcl_text::text::Text;
+
+/// What a call was about to do.
+#[derive(Clone, Copy, Debug, Drop)]
+pub enum Verb {
+    Read,
+    Set,
+    Unset,
+}
+
+/// Why a call on the variables is refused. Each text is the name as it was written.
+#[derive(Debug, Drop)]
+pub enum FrameFault {
+    /// There is no such variable (231).
+    NoVariable(Verb, Text),
+    /// The variable is an array (232).
+    IsArray(Verb, Text),
+    /// The variable isn't an array (233).
+    NotArray(Verb, Text),
+    /// The array has no such element (234).
+    NoElement(Verb, Text),
+    /// There is no such level (235).
+    BadLevel(usize),
+    /// The variable holds a value already (236).
+    Exists(Text),
+    /// A link would lead through its own name (237).
+    Itself,
+    /// No variable may have this name (238).
+    BadName(Text),
+}
+
+impl Verb {
+    /// Its word.
+    fn word(self) -> &'static str
+        ensures { result.now ≡ verb_word self }
+    {
+        match self {
+            Verb::Read => "read",
+            Verb::Set => "set",
+            Verb::Unset => "unset",
+        }
+    }
+}
+
+/// `can't read "x": no such variable`
+fn cannot(alloc: Global, verb: Verb, name: &Text, why: &str) -> Result<Text, AllocError>
+    ensures { IfOk result (λ text. text ≡ cannot verb name.now why.now) }
+{
+    let mut text = String::from_str(alloc, "can't ")?;
+    text.push_str(verb.word())?;
+    text.push_str(" \"")?;
+    text.push_str(name.as_str())?;
+    text.push_str("\": ")?;
+    text.push_str(why)?;
+    Text::from_string(alloc, text)
+}
+
+/// `bad name "x"`
+fn quoted(alloc: Global, before: &str, name: &str, after: &str) -> Result<Text, AllocError>
+    ensures { IfOk result (λ text. text ≡ quoted before.now name.now after.now) }
+{
+    let mut text = String::from_str(alloc, before)?;
+    text.push_str("\"")?;
+    text.push_str(name)?;
+    text.push_str("\"")?;
+    text.push_str(after)?;
+    Text::from_string(alloc, text)
+}
+
+/// `bad level "7"`
+fn bad_level(alloc: Global, level: usize) -> Result<Text, AllocError>
+    ensures { IfOk result (λ text. text ≡ message (BadLevel level)) }
+{
+    let number = format!(in alloc; "{level}")?;
+    quoted(alloc, "bad level ", number.as_str(), "")
+}
+
+impl FrameFault {
+    /// What a script is told of the refusal, as `can't read "x": no such variable`.
+    ///
+    /// # Errors
+    /// Want of memory.
+    pub fn message(&self, alloc: Global) -> Result<Text, AllocError>
+        ensures { IfOk result (λ text. text ≡ message self.now) }
+    {
+        match self {
+            FrameFault::NoVariable(verb, name) => cannot(alloc, *verb, name, "no such variable"),
+            FrameFault::IsArray(verb, name) => cannot(alloc, *verb, name, "variable is array"),
+            FrameFault::NotArray(verb, name) => cannot(alloc, *verb, name, "variable isn't array"),
+            FrameFault::NoElement(verb, name) => {
+                cannot(alloc, *verb, name, "no such element in array")
+            }
+            FrameFault::BadLevel(level) => bad_level(alloc, *level),
+            FrameFault::Exists(name) => quoted(
+                alloc,
+                "variable ",
+                name.as_str(),
+                " already exists",
+            ),
+            FrameFault::Itself => Text::new(alloc, "can't upvar from variable to itself"),
+            FrameFault::BadName(name) => quoted(alloc, "bad name ", name.as_str(), ""),
+        }
+    }
+}
+
+/// Why a call on the variables did nothing.
+#[derive(Debug, Drop)]
+pub enum FrameError {
+    /// Want of memory.
+    Memory,
+    /// A refusal.
+    Fault(FrameFault),
+}
+
+impl From<AllocError> for FrameError {
+    ghost from_gives = { λ _ e. e ≡ Memory };
+
+    fn from(_error: AllocError) -> FrameError {
+        FrameError::Memory
+    }
+}
+
+impl<T: Drop> From<AllocFailed<T>> for FrameError {
+    ghost from_gives = { λ _ e. e ≡ Memory };
+
+    fn from(_error: AllocFailed<T>) -> FrameError {
+        FrameError::Memory
+    }
+}
+
+/// Which refusal a name meets.
+#[derive(Clone, Copy)]
+pub enum Refusal {
+    NoVariable(Verb),
+    IsArray(Verb),
+    NotArray(Verb),
+    NoElement(Verb),
+    Exists,
+    BadName,
+}
+
+/// The refusal with the name in it.
+fn fault(refusal: Refusal, name: Text) -> FrameFault
+    ensures { result ≡ fault_of refusal name }
+{
+    match refusal {
+        Refusal::NoVariable(verb) => FrameFault::NoVariable(verb, name),
+        Refusal::IsArray(verb) => FrameFault::IsArray(verb, name),
+        Refusal::NotArray(verb) => FrameFault::NotArray(verb, name),
+        Refusal::NoElement(verb) => FrameFault::NoElement(verb, name),
+        Refusal::Exists => FrameFault::Exists(name),
+        Refusal::BadName => FrameFault::BadName(name),
+    }
+}
+
+/// The refusal of a name.
+pub fn refused(refusal: Refusal, name: &Text) -> FrameError
+    ensures { IsRefusal result (fault_of refusal name.now) }
+{
+    match name.clone() {
+        Ok(name) => FrameError::Fault(fault(refusal, name)),
+        Err(_) => FrameError::Memory,
+    }
+}

@@ -1,0 +1,250 @@
+//! A frame of a chain.
+ghost use Rattle.std.specs.Prelude.{◌≡◌, Ok, Some, None, OnOk, IfErr, OnErr};
+ghost use Rattle.std.specs.Map.{lookup};
+ghost use Rattle.std.specs.Option.{option_copied};
+ghost use Rattle.std.specs.Str.{bytes_eq};
+ghost use Rattle.tcl_variables.specs.Access.{value_of};
+ghost use Rattle.tcl_variables.specs.Faults.{Refuses};
+ghost use Rattle.tcl_variables.specs.Parts.{seen_part};
+
+use crate::access::{Part, new_variable};
+use crate::fault::{FrameError, Refusal, Verb, refused};
+use crate::name_map::NameMap;
+use crate::variable::{Place, Variable};
+use std::alloc::{AllocError, Global};
+use std::marker::Model;
+use tcl_text::text::Text;
+use tcl_value::value::Value;
+
+/// A frame: the words of its call, and its variables.
+#[derive(Drop)]
+pub struct Frame {
+    words: Vec<Value>,
+    variables: NameMap<Variable>,
+}
+
+impl Model for Frame {
+    ghost use Rattle.tcl_variables.specs.Variables.{Frame as Seen};
+
+    ghost Value = { Seen };
+
+    ghost view = { λ a. record { words = a.words.items; variables = a.variables } };
+}
+
+/// The refusal of reading a part of what stands for nothing.
+fn unread(part: Part<'_>, name: &Text) -> FrameError
+    ensures { Refuses result (value_of (seen_part part.entry) None name.now) }
+{
+    match part {
+        Part::Whole => refused(Refusal::NoVariable(Verb::Read), name),
+        Part::Element(_) => refused(Refusal::NoVariable(Verb::Read), name),
+        Part::Nested => refused(Refusal::NotArray(Verb::Read), name),
+    }
+}
+
+/// A change of what a name stands for.
+#[derive(Drop)]
+pub enum Change {
+    Assign(Value),
+    MakeArray,
+    Unset,
+}
+
+impl Frame {
+    ghost use Rattle.std.specs.Prelude.{[]};
+    ghost use Rattle.tcl_variables.specs.Variables.Part.{whole, element};
+    ghost use Rattle.tcl_variables.specs.Access.{assigned, arrayed, left_of};
+    ghost use Rattle.tcl_variables.specs.Rebinding.{rebound, unbound, with_variable, change_frame};
+    ghost use Rattle.tcl_variables.specs.declared.variable.Variable.TheVariants.{Link};
+
+    /// A frame with these words and no variables, which takes no memory.
+    pub fn new(alloc: Global, words: Vec<Value>) -> Frame
+        ensures words { result.words ≡ words.items }
+        ensures variables { result.variables ≡ [] }
+    {
+        Frame {
+            words,
+            variables: NameMap::new(alloc),
+        }
+    }
+
+    /// The words of its call.
+    pub fn words(&self) -> &[Value]
+        ensures { result.now ≡ self.now.words }
+    {
+        self.words.as_slice()
+    }
+
+    /// Its variables.
+    pub fn variables(&self) -> &NameMap<Variable>
+        ensures { result.now ≡ self.now.variables }
+    {
+        &self.variables
+    }
+
+    /// What a name stands for.
+    pub fn variable(&self, name: &str) -> Option<&Variable>
+        ensures { option_copied result ≡ lookup (bytes_eq name.now) self.now.variables }
+    {
+        self.variables.get(name)
+    }
+
+    /// Sets a part of what a name stands for.
+    fn assign(
+        &mut self,
+        alloc: Global,
+        base: &str,
+        part: Part<'_>,
+        value: Value,
+        name: &Text,
+    ) -> Result<(), FrameError>
+        ensures ok { OnOk result (rebound self.old base.now (assigned (seen_part part.entry) (lookup (bytes_eq base.now) self.old.variables) value name.now) ≡ Ok self.new) }
+        ensures err { IfErr result (λ e. Refuses e (rebound self.old base.now (assigned (seen_part part.entry) (lookup (bytes_eq base.now) self.old.variables) value name.now))) }
+        ensures unchanged { OnErr result (self.new ≡ self.old) }
+    {
+        if let Some(variable) = self.variables.get_mut(base) {
+            return variable.assign(alloc, part, value, name);
+        }
+        let variable = new_variable(alloc, part, value, name)?;
+        self.variables.insert(alloc, base, variable)?;
+        Ok(())
+    }
+
+    /// Unsets all of what a name stands for.
+    fn unset_whole(&mut self, base: &str, name: &Text) -> Result<(), FrameError>
+        ensures ok { OnOk result (unbound self.old base.now (left_of whole (lookup (bytes_eq base.now) self.old.variables) name.now) ≡ Ok self.new) }
+        ensures err { IfErr result (λ e. Refuses e (unbound self.old base.now (left_of whole (lookup (bytes_eq base.now) self.old.variables) name.now))) }
+        ensures unchanged { OnErr result (self.new ≡ self.old) }
+    {
+        match self.variables.get(base) {
+            None => return Err(refused(Refusal::NoVariable(Verb::Unset), name)),
+            Some(Variable::Link(_)) => return Err(refused(Refusal::NotArray(Verb::Unset), name)),
+            Some(Variable::Scalar(_)) => {}
+            Some(Variable::Array(_)) => {}
+        }
+        self.variables.remove(base);
+        Ok(())
+    }
+
+    /// Unsets an element of what a name stands for.
+    fn unset_element(&mut self, base: &str, key: &str, name: &Text) -> Result<(), FrameError>
+        ensures ok { OnOk result (unbound self.old base.now (left_of (element key.now) (lookup (bytes_eq base.now) self.old.variables) name.now) ≡ Ok self.new) }
+        ensures err { IfErr result (λ e. Refuses e (unbound self.old base.now (left_of (element key.now) (lookup (bytes_eq base.now) self.old.variables) name.now))) }
+        ensures unchanged { OnErr result (self.new ≡ self.old) }
+    {
+        if let Some(variable) = self.variables.get_mut(base) {
+            return variable.remove_element(key, name);
+        }
+        Err(refused(Refusal::NoVariable(Verb::Unset), name))
+    }
+
+    /// Unsets a part of what a name stands for.
+    fn unset(&mut self, base: &str, part: Part<'_>, name: &Text) -> Result<(), FrameError>
+        ensures ok { OnOk result (unbound self.old base.now (left_of (seen_part part.entry) (lookup (bytes_eq base.now) self.old.variables) name.now) ≡ Ok self.new) }
+        ensures err { IfErr result (λ e. Refuses e (unbound self.old base.now (left_of (seen_part part.entry) (lookup (bytes_eq base.now) self.old.variables) name.now))) }
+        ensures unchanged { OnErr result (self.new ≡ self.old) }
+    {
+        match part {
+            Part::Whole => self.unset_whole(base, name),
+            Part::Element(key) => self.unset_element(base, key, name),
+            Part::Nested => Err(refused(Refusal::NotArray(Verb::Unset), name)),
+        }
+    }
+
+    /// Makes a name an array, where it isn't one.
+    fn make_whole_array(&mut self, alloc: Global, base: &str, name: &Text) -> Result<(), FrameError>
+        ensures ok { OnOk result (rebound self.old base.now (arrayed whole (lookup (bytes_eq base.now) self.old.variables) name.now) ≡ Ok self.new) }
+        ensures err { IfErr result (λ e. Refuses e (rebound self.old base.now (arrayed whole (lookup (bytes_eq base.now) self.old.variables) name.now))) }
+        ensures unchanged { OnErr result (self.new ≡ self.old) }
+    {
+        match self.variables.get(base) {
+            None => {}
+            Some(Variable::Array(_)) => return Ok(()),
+            Some(Variable::Scalar(_)) => return Err(refused(Refusal::NotArray(Verb::Set), name)),
+            Some(Variable::Link(_)) => return Err(refused(Refusal::NotArray(Verb::Set), name)),
+        }
+        self.variables
+            .insert(alloc, base, Variable::Array(NameMap::new(alloc)))?;
+        Ok(())
+    }
+
+    /// Makes what a name stands for an array, where it isn't one.
+    fn make_array(
+        &mut self,
+        alloc: Global,
+        base: &str,
+        part: Part<'_>,
+        name: &Text,
+    ) -> Result<(), FrameError>
+        ensures ok { OnOk result (rebound self.old base.now (arrayed (seen_part part.entry) (lookup (bytes_eq base.now) self.old.variables) name.now) ≡ Ok self.new) }
+        ensures err { IfErr result (λ e. Refuses e (rebound self.old base.now (arrayed (seen_part part.entry) (lookup (bytes_eq base.now) self.old.variables) name.now))) }
+        ensures unchanged { OnErr result (self.new ≡ self.old) }
+    {
+        match part {
+            Part::Whole => self.make_whole_array(alloc, base, name),
+            Part::Element(_) => Err(refused(Refusal::NotArray(Verb::Set), name)),
+            Part::Nested => Err(refused(Refusal::NotArray(Verb::Set), name)),
+        }
+    }
+
+    /// Changes a part of what a name stands for.
+    pub fn change(
+        &mut self,
+        alloc: Global,
+        base: &str,
+        part: Part<'_>,
+        change: Change,
+        name: &Text,
+    ) -> Result<(), FrameError>
+        ensures ok { OnOk result (change_frame change self.old base.now (seen_part part.entry) name.now ≡ Ok self.new) }
+        ensures err { IfErr result (λ e. Refuses e (change_frame change self.old base.now (seen_part part.entry) name.now)) }
+        ensures unchanged { OnErr result (self.new ≡ self.old) }
+    {
+        match change {
+            Change::Assign(value) => self.assign(alloc, base, part, value, name),
+            Change::MakeArray => self.make_array(alloc, base, part, name),
+            Change::Unset => self.unset(base, part, name),
+        }
+    }
+
+    /// Makes a name a link.
+    pub fn link(&mut self, alloc: Global, local: &str, place: Place) -> Result<(), AllocError>
+        ensures ok { OnOk result (self.new ≡ with_variable self.old local.now (Link place)) }
+        ensures unchanged { OnErr result (self.new ≡ self.old) }
+    {
+        self.variables.insert(alloc, local, Variable::Link(place))
+    }
+}
+
+impl Frame {
+    ghost use Rattle.std.specs.Borrow.{sem};
+    ghost use Rattle.std.specs.Prelude.{IfOk};
+    ghost use Rattle.tcl_variables.specs.LendingParts.{LendsNamed};
+
+    /// What a part of what a name stands for holds, to write. Of memory it takes none but for a refusal.
+    pub fn value_mut(
+        &mut self,
+        base: &str,
+        part: Part<'_>,
+        name: &Text,
+    ) -> Result<&mut Value, FrameError>
+        ensures* writes_back { sem 𝓛 (LendsNamed self.entry base.now (seen_part part.entry) name.now result) }
+        ensures ok { IfOk result (λ v. value_of (seen_part part.entry) (lookup (bytes_eq base.now) self.old.variables) name.now ≡ Ok v.now) }
+        ensures err { IfErr result (λ e. Refuses e (value_of (seen_part part.entry) (lookup (bytes_eq base.now) self.old.variables) name.now)) }
+    {
+        match self.variables.get_mut(base) {
+            Some(variable) => variable.value_mut(part, name),
+            None => Err(unread(part, name)),
+        }
+    }
+}
+
+impl Clone for Frame {
+    ghost is_clone = { λ x y. y ≡ x };
+
+    fn clone(&self) -> Result<Frame, AllocError> {
+        let words = self.words.clone()?;
+        let variables = self.variables.clone()?;
+        Ok(Frame { words, variables })
+    }
+}

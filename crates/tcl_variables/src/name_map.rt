@@ -1,0 +1,109 @@
+//! Maps from names, in the order of insertion.
+ghost use Rattle.std.specs.Prelude.{◌≡◌, [], None, length, slice_get, OnOk, OnErr};
+ghost use Rattle.std.specs.Borrow.{sem};
+ghost use Rattle.std.specs.Map.{lookup, remove_entry};
+ghost use Rattle.std.specs.Option.{option_map, option_copied, option_copied_mut};
+ghost use Rattle.std.specs.Str.{bytes_eq};
+ghost use Rattle.indexmap.specs.IndexMap.{insert_entry};
+ghost use Rattle.tcl_variables.specs.Entries.{lent_entry};
+
+use indexmap::IndexMap;
+use std::alloc::{AllocError, Global};
+use std::marker::Model;
+
+/// A map from names, which contracts see as its entries in the order of insertion.
+#[derive(Drop)]
+pub struct NameMap<V> {
+    entries: IndexMap<String, V>,
+}
+
+impl<V> Model for NameMap<V> {
+    ghost use Rattle.std.specs.Prelude.{List, ℕ, ◌≡◌};
+    ghost use Rattle.tcl_variables.specs.Entries.{named};
+
+    ghost Value = { List (List ℕ × V) };
+
+    ghost view = { λ a. named a.entries.entries };
+}
+
+impl<V> NameMap<V> {
+    ghost use Rattle.tcl_variables.specs.Lending.{lends_named};
+
+    /// The empty map, which takes no memory.
+    pub fn new(alloc: Global) -> NameMap<V>
+        ensures { result ≡ [] }
+    {
+        NameMap {
+            entries: IndexMap::new(alloc),
+        }
+    }
+
+    /// How many entries it has.
+    pub fn len(&self) -> usize
+        ensures { result ≡ length self.now }
+    {
+        self.entries.len()
+    }
+
+    /// What a name has. This takes no memory.
+    pub fn get(&self, name: &str) -> Option<&V>
+        ensures { option_copied result ≡ lookup (bytes_eq name.now) self.now }
+    {
+        self.entries.get(name)
+    }
+
+    /// The entry at a place in the order of insertion, from 0. This takes no memory.
+    pub fn entry(&self, index: usize) -> Option<(&str, &V)>
+        ensures { option_map lent_entry result ≡ slice_get self.now index }
+    {
+        match self.entries.get_index(index) {
+            Some((name, value)) => Some((name.as_str(), value)),
+            None => None,
+        }
+    }
+
+    /// What a name has, to write. This takes no memory.
+    pub fn get_mut(&mut self, name: &str) -> Option<&mut V>
+        ensures* writes_back { sem 𝓛 (lends_named V.row self.entry name.now result) }
+        ensures value { option_copied_mut result ≡ lookup (bytes_eq name.now) self.old }
+    {
+        self.entries.get_mut(name)
+    }
+}
+
+impl<V: Drop> NameMap<V> {
+    /// Gives a name this value: where it stands, or at the end.
+    ///
+    /// # Errors
+    /// Want of memory, which leaves the map as it was.
+    pub fn insert(&mut self, alloc: Global, name: &str, value: V) -> Result<(), AllocError>
+        ensures inserted { OnOk result (self.new ≡ insert_entry bytes_eq self.old name.now value) }
+        ensures unchanged { OnErr result (self.new ≡ self.old) }
+    {
+        if let Some(place) = self.entries.get_mut(name) {
+            *place = value;
+            return Ok(());
+        }
+        let name = String::from_str(alloc, name)?;
+        self.entries.insert(name, value)?;
+        Ok(())
+    }
+
+    /// Takes a name out, if it is there. This takes no memory.
+    pub fn remove(&mut self, name: &str)
+        ensures { self.new ≡ remove_entry (bytes_eq name.now) self.old }
+    {
+        let _ = self.entries.shift_remove(name);
+    }
+}
+
+impl<V: Clone> Clone for NameMap<V> {
+    ghost use Rattle.std.specs.List.{AllZip};
+
+    ghost is_clone = { λ m n. AllZip (λ p q. (q.0 ≡ p.0) × V.is_clone p.1 q.1) m n };
+
+    fn clone(&self) -> Result<NameMap<V>, AllocError> {
+        let entries = self.entries.clone()?;
+        Ok(NameMap { entries })
+    }
+}
