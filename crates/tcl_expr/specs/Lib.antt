@@ -1,0 +1,4 @@
+pub mod Faults
+pub mod Tokens
+pub mod Views
+pub mod Expressions

@@ -1,0 +1,10 @@
+//! Expressions read from their texts.
+#![tactic(auto)]
+
+pub mod fault;
+pub mod laws;
+pub mod lexer;
+mod operand;
+mod symbol;
+#[cfg(test)]
+mod tests;
