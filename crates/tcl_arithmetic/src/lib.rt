@@ -213,7 +213,8 @@ fn two_to(exponent: i64) -> i64
 /// `NegativeShift`.
 pub fn shift_right(a: i64, places: i64) -> Result<i64, ArithmeticFault>
     ensures quotient { (n : ℕ) → places ≡ pos n → IfOk result (λ q. (r : ℤ) × IsDivision a (pos (2 ^ n)) q r) }
-    ensures negative { IfErr result (λ e. (e ≡ ArithmeticFault.NegativeShift) × (places <ℤ pos 0)) }
+    ensures negative { places <ℤ pos 0 → result ≡ Err ArithmeticFault.NegativeShift }
+    ensures fault { IfErr result (λ e. (e ≡ ArithmeticFault.NegativeShift) × (places <ℤ pos 0)) }
 {
     if places < 0 {
         return Err(ArithmeticFault::NegativeShift);

@@ -1,3 +1,3 @@
-pub mod Completeness
-pub mod Soundness
-pub mod Misfits
+pub mod Words
+pub mod Substitutions
+pub mod Decisions

@@ -1,6 +1,10 @@
-//! Expressions: the trees that their tokens spell.
+//! Expressions read from their texts.
 #![tactic(auto)]
 
-pub mod grammar;
-pub mod operator;
-pub mod token;
+pub mod fault;
+pub mod laws;
+pub mod lexer;
+mod operand;
+mod symbol;
+#[cfg(test)]
+mod tests;

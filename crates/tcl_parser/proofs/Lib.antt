@@ -1,12 +1,12 @@
-mod EndLemmas
+pub mod EndLemmas
 mod RunLemmas
 mod GapLemmas
 mod NameLemmas
 mod BraceLemmas
 mod SeveralLemmas
-mod PartLemmas
+pub mod PartLemmas
 mod WordLemmas
-mod SkipLemmas
+pub mod SkipLemmas
 mod ReadLemmas
 mod GrammarLemmas
 mod PartRules

@@ -4,8 +4,8 @@
 pub mod fault;
 pub mod laws;
 pub mod reader;
-mod scan;
+pub mod scan;
 pub mod script;
-mod skip;
+pub mod skip;
 #[cfg(test)]
 mod tests;

@@ -116,7 +116,10 @@ fn add(
 }
 
 /// The parts of a word, in quotes or by itself, and what follows them.
-fn read_parts(alloc: Global, text: &str, quoted: bool) -> Result<(Vec<Part>, &str), Stop>
+///
+/// # Errors
+/// The first fault of the text, or want of memory.
+pub fn read_parts(alloc: Global, text: &str, quoted: bool) -> Result<(Vec<Part>, &str), Stop>
     ensures { Yields (λ x. (x.0.items, x.1.now)) result (joined_parts (read_parts (level_at 0) quoted (zero, text.now))) }
 {
     let mut parts = Vec::new(alloc);

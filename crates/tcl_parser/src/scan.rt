@@ -48,7 +48,7 @@ pub fn is_command_end(inside: bool, byte: u8) -> bool
 }
 
 /// A letter, a digit or an underscore.
-fn is_name_character(byte: u8) -> bool
+pub fn is_name_character(byte: u8) -> bool
     ensures { result ≡ is_name_character byte }
 {
     byte.is_ascii_lowercase() || byte.is_ascii_uppercase() || byte.is_ascii_digit() || byte == b'_'

@@ -84,6 +84,9 @@ fn read_variable(text: &str, indexes: usize) -> Result<Piece<'_>, Fault>
 }
 
 /// What follows the close brace of a word in braces, from behind its open brace on.
+///
+/// # Errors
+/// The text ends inside the word.
 pub fn skip_braces(text: &str) -> Result<&str, Fault>
     ensures { Gives (λ rest. rest.now) result (rest_of (in_braces false zero text.now)) }
 {
@@ -102,6 +105,9 @@ pub fn skip_braces(text: &str) -> Result<&str, Fault>
 }
 
 /// What follows a word in braces or quotes, which may be white space, a command's end or the text's end.
+///
+/// # Errors
+/// The fault, where something else follows.
 pub fn closed(rest: &str, inside: bool, fault: Fault) -> Result<&str, Fault>
     ensures { Gives (λ after. after.now) result (if word_ends inside rest.now then Ok rest.now else Err fault) }
 {

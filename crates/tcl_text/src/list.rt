@@ -155,7 +155,7 @@ impl Braces {
 }
 
 /// The text before the close brace of an open brace that stands before this text, and the text behind it.
-fn split_braced(text: &str) -> Option<(&str, &str)>
+pub fn split_braced(text: &str) -> Option<(&str, &str)>
     ensures { MatchOption result (close_brace text.now none_open ≡ None) (λ parts. close_brace text.now none_open ≡ Some (parts.0.now, parts.1.now)) }
 {
     let mut braces = Braces::NONE_OPEN;

@@ -1,0 +1,111 @@
+//! Why a text is no expression.
+ghost use Rattle.std.specs.Prelude.{◌≡◌, ◌++◌, IfOk, codes};
+ghost use Rattle.tcl_expr.specs.Faults.{message_of};
+ghost use Rattle.tcl_expr.specs.declared.fault.ExprError.TheVariants.{Memory};
+
+use std::alloc::{AllocError, AllocFailed, Global};
+use tcl_parser::fault::Fault;
+use tcl_parser::reader::Stop;
+use tcl_text::integer::too_large_message;
+use tcl_text::text::Text;
+
+/// What is wrong with a text that is no expression.
+#[derive(Clone, Copy, Debug, PartialEq, Eq)]
+pub enum ExprFault {
+    /// 211: no expression begins so.
+    Syntax,
+    /// 217: only an expression that nests too deep begins so.
+    TooDeep,
+    /// 112: an integer literal is out of range.
+    TooLarge,
+    /// 201 to 206: an operand ends too early, or a script in it is at fault.
+    Operand(Fault),
+}
+
+impl ExprFault {
+    /// What an error says of it, where this is the whole expression.
+    ///
+    /// # Errors
+    /// Want of memory.
+    pub fn message(self, alloc: Global, expression: &str) -> Result<Text, AllocError>
+        ensures { IfOk result (λ made. made ≡ message_of expression.now self) }
+    {
+        match self {
+            ExprFault::Syntax => syntax_message(alloc, expression),
+            ExprFault::TooDeep => Text::new(alloc, "expression nested too deeply"),
+            ExprFault::TooLarge => too_large_message(alloc),
+            ExprFault::Operand(fault) => Text::new(alloc, fault.message()),
+        }
+    }
+}
+
+/// What is told of a text that isn't an expression (211).
+fn syntax_message(alloc: Global, expression: &str) -> Result<Text, AllocError>
+    ensures { IfOk result (λ made. made ≡ codes "syntax error in expression \"" ++ expression.now ++ codes "\"") }
+{
+    let mut made = String::from_str(alloc, "syntax error in expression \"")?;
+    made.push_str(expression)?;
+    made.push_str("\"")?;
+    Text::from_string(alloc, made)
+}
+
+/// Why an expression isn't read.
+#[derive(Clone, Copy, Debug, PartialEq, Eq)]
+pub enum ExprError {
+    /// Memory ran out.
+    Memory,
+    /// The text is no expression.
+    Fault(ExprFault),
+}
+
+impl From<AllocError> for ExprError {
+    ghost from_gives = { λ _ e. e ≡ Memory };
+
+    fn from(_e: AllocError) -> ExprError {
+        ExprError::Memory
+    }
+}
+
+impl<T: Drop> From<AllocFailed<T>> for ExprError {
+    ghost from_gives = { λ _ e. e ≡ Memory };
+
+    fn from(_e: AllocFailed<T>) -> ExprError {
+        ExprError::Memory
+    }
+}
+
+impl From<ExprFault> for ExprError {
+    ghost use Rattle.std.specs.Prelude.{◌≡◌};
+    ghost use Rattle.tcl_expr.specs.declared.fault.ExprError.TheVariants.{Fault};
+
+    ghost from_gives = { λ fault e. e ≡ Fault fault };
+
+    fn from(fault: ExprFault) -> ExprError {
+        ExprError::Fault(fault)
+    }
+}
+
+impl From<Fault> for ExprError {
+    ghost use Rattle.std.specs.Prelude.{◌≡◌};
+    ghost use Rattle.tcl_expr.specs.Faults.{error_of_fault};
+
+    ghost from_gives = { λ fault e. e ≡ error_of_fault fault };
+
+    fn from(fault: Fault) -> ExprError {
+        ExprError::Fault(ExprFault::Operand(fault))
+    }
+}
+
+impl From<Stop> for ExprError {
+    ghost use Rattle.std.specs.Prelude.{◌≡◌};
+    ghost use Rattle.tcl_expr.specs.Faults.{error_of_stop};
+
+    ghost from_gives = { λ stop e. e ≡ error_of_stop stop };
+
+    fn from(stop: Stop) -> ExprError {
+        match stop {
+            Stop::Memory => ExprError::Memory,
+            Stop::Fault(fault) => ExprError::Fault(ExprFault::Operand(fault)),
+        }
+    }
+}

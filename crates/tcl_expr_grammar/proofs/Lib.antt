@@ -1,0 +1,3 @@
+pub mod Completeness
+pub mod Soundness
+pub mod Misfits

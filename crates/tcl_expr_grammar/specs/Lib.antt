@@ -1,0 +1,4 @@
+pub mod Trees
+pub mod Grammar
+pub mod Reading
+pub mod Misfits

@@ -1,0 +1,4 @@
+pub mod Digitwise
+pub mod Numbers
+pub mod Truths
+pub mod Lists

@@ -1,0 +1,4 @@
+pub mod Kinds
+pub mod WholeNumbers
+pub mod Apply
+pub mod Messages
