@@ -1,0 +1,11 @@
+//! The interpreters of a tree, in one table: their frames, commands and limits.
+#![tactic(auto)]
+
+pub mod alias;
+pub mod builtin;
+pub mod command;
+pub mod node;
+pub mod parameter;
+pub mod procedure;
+pub mod refusal;
+pub mod tree;
