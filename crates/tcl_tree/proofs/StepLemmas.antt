@@ -200,7 +200,6 @@ none_of (Some x) e = let y : true ≡ false = e in cc
 pub some_of : {T : Type 0} (o : Option T) (b : Bool) → b ≡ is_some o → b ≡ true → is_some o ≡ true
 some_of o b e t = sym e ∙ t
 
-
 pub some_there : (o : Option Node) → o ≢ None → is_some (option_map view_of o) ≡ true
 some_there None h = absurd (h refl)
 some_there (Some x) h = refl
@@ -370,3 +369,7 @@ follow_append h (n ∷ p) r k = by (child_in h k n) (λ c. follow_append h p r c
         → option_and_then (λ c. follow h c (p ++ r)) o ≡ option_and_then (λ c. follow h c r) (option_and_then (λ c. follow h c p) o)
     by None ih = refl
     by (Some c) ih = ih c
+
+pub on_some : {T P : Type 0} (o : Option T) → P → OnSome o P
+on_some None h = tt
+on_some (Some x) h = h

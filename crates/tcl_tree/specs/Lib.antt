@@ -4,3 +4,6 @@ pub mod Own
 pub mod Paths
 pub mod Nodes
 pub mod TreeOf
+pub mod Changes
+pub mod Lending
+pub mod LendingTree

@@ -11,6 +11,10 @@ use std::alloc::{AllocError, Global};
 use tcl_text::integer::Integers;
 use tcl_text::text::Text;
 
+mod limits;
+mod looks;
+mod variables;
+
 /// An interpreter that is reached with no walk along its path: its key.
 #[derive(Clone, Copy, Debug, Drop)]
 pub struct Place {

@@ -43,15 +43,18 @@ climb-smaller-in-Some-get_mut c =
     omega arith
 
 pub climb-preserved-in-Some-get_mut : goal.climb-preserved-in-Some-get_mut
-climb-preserved-in-Some-get_mut c = record { marks = c.climb.invariant.marks; at = λ p lead.
-    let i = c.climb.invariant.at p lead in
-    let at = at_next _ _ _ _ c.in-Some.is i.leads in
-    record {
-      keys = λ q. follow_write c.climb.self.nodes _ c.climb.self.sound (ancestor p i.count) _ at.1 _ _ (sym c.in-Some-get_mut.ensures.value) (record { parent = refl; name = refl; level = refl; children = refl; safe = c.advance.ensures.safe }) q ∙ i.keys q;
-      count = i.count + 1;
-      tree = charge_tree c.climb.self.nodes _ c.climb.self.sound p i.count _ at.0 at.1 _ _ (sym c.in-Some-get_mut.ensures.value) (record { parent = refl; name = refl; level = refl; children = refl; safe = c.advance.ensures.safe }) (moved c.args.meter) _ i.tree (sym (c.advance.ensures.moved (is_none c.in-Some-get_mut.node.now.parent) (keys c.in-Some-get_mut.node.now.children)));
-      leads = charge_leads c.climb.self.nodes _ c.climb.self.sound p i.count _ at.0 at.1 _ _ (sym c.in-Some-get_mut.ensures.value) (record { parent = refl; name = refl; level = refl; children = refl; safe = c.advance.ensures.safe }) (moved c.args.meter) _ i.tree;
-    } }
+climb-preserved-in-Some-get_mut c = record {
+  marks = c.climb.invariant.marks;
+  at = λ p lead.
+      let i = c.climb.invariant.at p lead in
+      let at = at_next _ _ _ _ c.in-Some.is i.leads in
+      record {
+        keys = λ q. follow_write c.climb.self.nodes _ c.climb.self.sound (ancestor p i.count) _ at.1 _ _ (sym c.in-Some-get_mut.ensures.value) (record { parent = refl; name = refl; level = refl; children = refl; safe = c.advance.ensures.safe }) q ∙ i.keys q;
+        count = i.count + 1;
+        tree = charge_tree c.climb.self.nodes _ c.climb.self.sound p i.count _ at.0 at.1 _ _ (sym c.in-Some-get_mut.ensures.value) (record { parent = refl; name = refl; level = refl; children = refl; safe = c.advance.ensures.safe }) (moved c.args.meter) _ i.tree (sym (c.advance.ensures.moved (is_none c.in-Some-get_mut.node.now.parent) (keys c.in-Some-get_mut.node.now.children)));
+        leads = charge_leads c.climb.self.nodes _ c.climb.self.sound p i.count _ at.0 at.1 _ _ (sym c.in-Some-get_mut.ensures.value) (record { parent = refl; name = refl; level = refl; children = refl; safe = c.advance.ensures.safe }) (moved c.args.meter) _ i.tree;
+      };
+}
 
 pub climb-preserved : goal.climb-preserved
 climb-preserved c =
