@@ -1,5 +1,5 @@
 -- What a tree lends.
-use Rattle.std.specs.Prelude.{◌≡◌, Option, OnSome}
+use Rattle.std.specs.Prelude.{◌≡◌, Option, IsSome}
 use Rattle.std.specs.Borrow.{LendsSo, MutBor, Fml}
 use Rattle.tcl_frames.specs.Chain.{Chain}
 use Rattle.tcl_frames.specs.contracts.frames.Frames.{the_row as frames_row}
@@ -24,8 +24,8 @@ pub record HasFrames (old new : Tree) (p : Path) (chain : Chain) : Type 0 where
 
 -- Once the borrow ends, the interpreter at the path has the frames that were left; at `None` the tree is as it was.
 abbrev pub LendsFramesOf : MutBor Tree → Path → Option (MutBor Chain) → Fml
-LendsFramesOf s p r = LendsSo the_row frames_row s r (λ n w. OnSome r (HasFrames s.now n p w)) (λ n. IsAsBefore s.now n)
+LendsFramesOf s p r = LendsSo the_row frames_row s r (λ n w. IsSome r → HasFrames s.now n p w) (λ n. IsAsBefore s.now n)
 
 -- the same at each path of a place
 abbrev pub LendsFramesIn : MutBor Tree → Place → Option (MutBor Chain) → Fml
-LendsFramesIn s place r = LendsSo the_row frames_row s r (λ n w. OnSome r ((p : Path) → Names s.now place p → HasFrames s.now n p w)) (λ n. IsAsBefore s.now n)
+LendsFramesIn s place r = LendsSo the_row frames_row s r (λ n w. IsSome r → (p : Path) → Names s.now place p → HasFrames s.now n p w) (λ n. IsAsBefore s.now n)

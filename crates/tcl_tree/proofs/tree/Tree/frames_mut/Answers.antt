@@ -1,8 +1,7 @@
-use Rattle.std.proofs.Common.{refl, sym, ◌∙◌, ap}
+use Rattle.std.proofs.Common.{◌≡◌, true, false, refl, sym, ◌∙◌, ap}
 use Rattle.std.specs.Option.{option_map}
 use Rattle.tcl_tree.specs.Nodes.{NodeView}
 use Rattle.tcl_tree.proofs.HeapLemmas.{tree-none}
-use Rattle.tcl_tree.proofs.StepLemmas.{on_some}
 use Rattle.tcl_tree.proofs.OwnLemmas.{frames_sound, frames_guarded, frames_tree, frames_keys, chain_value}
 use Rattle.tcl_tree.proofs.tree.Tree.frames_mut.Goals as goal
 
@@ -16,11 +15,11 @@ pub returns : goal.returns
 returns c = (
   (
     refl,
-    (λ w. on_some _ (record {
+    (λ w _. record {
       tree = frames_tree c.args.self.now.nodes _ c.args.self.now.sound c.args.path.now _ (sym c.in-Some.ensures) w;
       keys = frames_keys c.args.self.now.nodes _ c.args.self.now.sound c.args.path.now _ (sym c.in-Some.ensures) w;
       marks = refl;
-    })),
+    }),
     record { tree = refl; keys = λ q. refl; marks = refl },
   ),
   record { writes_back = tt; value = c.frames_at.ensures.value ∙ chain_value _ _ c.args.path.now _ (sym c.in-Some.ensures) },
@@ -28,6 +27,6 @@ returns c = (
 
 pub returns-in_default : goal.returns-in_default
 returns-in_default c = (
-  (refl, (λ w. tt), record { tree = refl; keys = λ q. refl; marks = refl }),
+  (refl, (λ w h. let x : false ≡ true = h in cc), record { tree = refl; keys = λ q. refl; marks = refl }),
   record { writes_back = tt; value = sym (ap (option_map (λ (n : NodeView). n.own.chain)) (tree-none _ _ _ (sym c.in_default.ensures))) },
 )

@@ -1,5 +1,4 @@
 use Rattle.std.proofs.Common.{refl, ◌∙◌}
-use Rattle.tcl_tree.proofs.StepLemmas.{on_some}
 use Rattle.tcl_tree.proofs.OwnLemmas.{frames_sound, frames_guarded, frames_tree, frames_keys, chain_value}
 use Rattle.tcl_tree.proofs.tree.Tree.frames_of.Goals as goal
 
@@ -13,11 +12,11 @@ pub returns : goal.returns
 returns c = (
   (
     refl,
-    (λ w. on_some _ (λ p lead. record {
+    (λ w _ p lead. record {
       tree = frames_tree c.args.self.now.nodes _ c.args.self.now.sound p _ lead w;
       keys = frames_keys c.args.self.now.nodes _ c.args.self.now.sound p _ lead w;
       marks = refl;
-    })),
+    }),
     record { tree = refl; keys = λ q. refl; marks = refl },
   ),
   record { writes_back = tt; value = λ p lead. c.frames_at.ensures.value ∙ chain_value _ _ p _ lead },
