@@ -29,6 +29,9 @@ follow-snoc h (m ∷ p) k n = by (child_in h k m) (λ c. follow-snoc h p c n)
 pub same_link : (a b : ℕ) (n m : Text) → ◌≡◌ {A = Option (Option (ℕ × Text))} (Some (Some (a, n))) (Some (Some (b, m))) → (a ≡ b) × (n ≡ m)
 same_link a b n m e = some_pair_parts a b n m (same_Some _ _ e)
 
+clash : {A : Type 0} (a : A) → None ≡ Some a → Prim.⊥
+clash a e = cc
+
 pub follow-nil : (h : Heap) (k : ℕ) → follow h k [] ≡ Some k
 unfolding follow
 follow-nil h k = refl
@@ -186,6 +189,45 @@ module _ (h h₁ : Heap) (root pk : ℕ) (name : Text) (nk : ℕ) (g : Grows h h
     ];
   }
 
+  -- what is guarded stays so as the table grows
+  pub guarded-grows : IsSound h root → IsGuarded h → ((k : ℕ) → k ≢ nk → safe_in h₁ k ≡ safe_in h k) → (safe_in h pk ≡ true → safe_in h₁ nk ≡ true) → ((k : ℕ) → children_in h₁ k ≤ 256) → IsGuarded h₁
+  guarded-grows s t others new few = record {
+    safe = λ k n c e f. elim (child_at k n) [
+      | inl w ↦ let x : None ≡ Some c = sym w.1 ∙ e in cc
+      | inr w ↦ elim w [
+        | inl v ↦
+            let here : Some nk ≡ Some c = sym v.2 ∙ e in
+            let parent : safe_in h pk ≡ true = sym (others pk g.apart) ∙ ap (safe_in h₁) (sym v.0) ∙ f in
+            ap (safe_in h₁) (sym (same_Some _ _ here)) ∙ new parent
+        | inr v ↦
+            let was : child_in h k n ≡ Some c = sym v.0 ∙ e in
+            let other : c ≢ nk = λ same. clash (Some (k, n)) (sym g.link_was ∙ ap (link_in h) (sym same) ∙ s.down k n c was) in
+            others c other ∙ t.safe k n c was (sym (others k v.1) ∙ f)
+      ]
+    ];
+    few = few;
+  }
+
+  -- and as it shrinks
+  pub guarded-shrinks : IsSound h₁ root → IsGuarded h₁ → ((k : ℕ) → k ≢ nk → safe_in h₁ k ≡ safe_in h k) → ((k : ℕ) → children_in h k ≤ children_in h₁ k) → IsGuarded h
+  guarded-shrinks s t others less = record {
+    safe = λ k n c e f. elim (child_at k n) [
+      | inl w ↦ let x : None ≡ Some c = sym w.2 ∙ e in cc
+      | inr w ↦ elim w [
+        | inl v ↦ let x : None ≡ Some c = sym v.3 ∙ e in cc
+        | inr v ↦
+            let now : child_in h₁ k n ≡ Some c = v.0 ∙ e in
+            let other : c ≢ nk = λ same.
+            let link : ◌≡◌ {A = Option (Option (ℕ × Text))} (Some (Some (pk, name))) (Some (Some (k, n))) = sym g.link_new ∙ ap (link_in h₁) (sym same) ∙ s.down k n c now in
+            let parts = same_link pk k name n link in
+            let x : None ≡ Some c = sym g.absent ∙ (λ i. child_in h (parts.0 i) (parts.1 i)) ∙ e in
+            cc in
+            sym (others c other) ∙ t.safe k n c now (others k v.1 ∙ f)
+      ]
+    ];
+    few = λ k. let f = t.few k in let l = less k in omega arith;
+  }
+
   module _ (s : IsSound h root) (p : Path) (at : follow h root p ≡ Some pk) where
     -- the new node has the new path, and the others keep theirs
     pub follow-grows : (q : Path) → follow h₁ root q ≡ cond (path_eq q (p ++ name ∷ [])) (Some nk) (follow h root q)
@@ -302,6 +344,22 @@ module _ (h h₁ : Heap) (root pk : ℕ) (name : Text) (nk : ℕ) (g : Grows h h
             let links = ap (link_in h) {x = k} {y = nk} in
             let heaps = ap h {x = k} {y = pk} in
             grind arith
+
+  -- a path that leads somewhere leads there in the grown table, too
+  pub follow_grown : IsSound h root → (q : Path) (k : ℕ) → follow h root q ≡ Some k → follow h₁ root q ≡ Some k
+  follow_grown s = snoc_ind (λ q. (k : ℕ) → follow h root q ≡ Some k → follow h₁ root q ≡ Some k) base step
+    where
+      base : (k : ℕ) → follow h root [] ≡ Some k → follow h₁ root [] ≡ Some k
+      base k e = follow-nil h₁ root ∙ sym (follow-nil h root) ∙ e
+
+      step : (q : Path) (n : Text) → ((k : ℕ) → follow h root q ≡ Some k → follow h₁ root q ≡ Some k) → (k : ℕ) → follow h root (q ++ n ∷ []) ≡ Some k → follow h₁ root (q ++ n ∷ []) ≡ Some k
+      step q n ih k e =
+          let l = last_step h root q n k e in
+          let w = child_at l.parent n in
+          let i = ih l.parent l.front in
+          let t = then_child h₁ root q n l.parent in
+          let c = l.child in
+          grind arith
 
   -- a path to another key than the new one leads there in the table before, too
   pub follow-shrinks : (q : Path) (k : ℕ) → follow h₁ root q ≡ Some k → k ≢ nk → follow h root q ≡ Some k

@@ -22,51 +22,59 @@ use Rattle.tcl_tree.proofs.PathLemmas.{path_cases, text_cases, ends_cases, ances
 use Rattle.slab.proofs.SlabLemmas.{Updates-with_value}
 use Rattle.tcl_tree.proofs.HeapLemmas.{follow-nil, same_link, last_step, tree-at, tree-none, SamePlace, sound-same, guarded-same, follow-same, level-same, tree-same, then_child, linked}
 
-child-at : (h : Heap) (k : ℕ) (n : Text) (node : Node) → h k ≡ Some node → child_in h k n ≡ get bytes_eq node.children n
+pub child-at : (h : Heap) (k : ℕ) (n : Text) (node : Node) → h k ≡ Some node → child_in h k n ≡ get bytes_eq node.children n
 unfolding child_in
 child-at h k n node e = ap (option_and_then (λ node. get bytes_eq node.children n)) e
 
-child-eq : (h h₁ : Heap) (k : ℕ) (n : Text) → h k ≡ h₁ k → child_in h k n ≡ child_in h₁ k n
+pub child-eq : (h h₁ : Heap) (k : ℕ) (n : Text) → h k ≡ h₁ k → child_in h k n ≡ child_in h₁ k n
 unfolding child_in
 child-eq h h₁ k n e = ap (option_and_then (λ node. get bytes_eq node.children n)) e
 
-link-at : (h : Heap) (k : ℕ) (node : Node) → h k ≡ Some node → link_in h k ≡ Some (link_of node)
+pub link-at : (h : Heap) (k : ℕ) (node : Node) → h k ≡ Some node → link_in h k ≡ Some (link_of node)
 unfolding link_in
 link-at h k node e = ap (option_map link_of) e
 
-link-none : (h : Heap) (k : ℕ) → h k ≡ None → link_in h k ≡ None
+pub link-none : (h : Heap) (k : ℕ) → h k ≡ None → link_in h k ≡ None
 unfolding link_in
 link-none h k e = ap (option_map link_of) e
 
-link-eq : (h h₁ : Heap) (k : ℕ) → h k ≡ h₁ k → link_in h k ≡ link_in h₁ k
+pub link-eq : (h h₁ : Heap) (k : ℕ) → h k ≡ h₁ k → link_in h k ≡ link_in h₁ k
 unfolding link_in
 link-eq h h₁ k e = ap (option_map link_of) e
 
-level-at : (h : Heap) (k : ℕ) (node : Node) → h k ≡ Some node → level_in h k ≡ node.level
+pub level-at : (h : Heap) (k : ℕ) (node : Node) → h k ≡ Some node → level_in h k ≡ node.level
 unfolding level_in
 level-at h k node e = ap (λ o. option_map_or (λ (node : Node). node.level) o 0) e
 
-level-none : (h : Heap) (k : ℕ) → h k ≡ None → level_in h k ≡ 0
+pub level-none : (h : Heap) (k : ℕ) → h k ≡ None → level_in h k ≡ 0
 unfolding level_in
 level-none h k e = ap (λ o. option_map_or (λ (node : Node). node.level) o 0) e
 
-level-eq : (h h₁ : Heap) (k : ℕ) → h k ≡ h₁ k → level_in h k ≡ level_in h₁ k
+pub level-eq : (h h₁ : Heap) (k : ℕ) → h k ≡ h₁ k → level_in h k ≡ level_in h₁ k
 unfolding level_in
 level-eq h h₁ k e = ap (λ o. option_map_or (λ (node : Node). node.level) o 0) e
 
-safe-at : (h : Heap) (k : ℕ) (node : Node) → h k ≡ Some node → safe_in h k ≡ node.state.safe
+pub safe-at : (h : Heap) (k : ℕ) (node : Node) → h k ≡ Some node → safe_in h k ≡ node.state.safe
 unfolding safe_in
 safe-at h k node e = ap (λ o. option_map_or (λ (node : Node). node.state.safe) o false) e
 
-children-at : (h : Heap) (k : ℕ) (node : Node) → h k ≡ Some node → children_in h k ≡ length (keys node.children)
+pub children-at : (h : Heap) (k : ℕ) (node : Node) → h k ≡ Some node → children_in h k ≡ length (keys node.children)
 unfolding children_in
 children-at h k node e = ap (λ o. option_map_or (λ (node : Node). length (keys node.children)) o 0) e
 
-children-none : (h : Heap) (k : ℕ) → h k ≡ None → children_in h k ≡ 0
+pub children-none : (h : Heap) (k : ℕ) → h k ≡ None → children_in h k ≡ 0
 unfolding children_in
 children-none h k e = ap (λ o. option_map_or (λ (node : Node). length (keys node.children)) o 0) e
 
-child-none : (h : Heap) (k : ℕ) (n : Text) → h k ≡ None → child_in h k n ≡ None
+pub safe-eq : (h h₁ : Heap) (k : ℕ) → h k ≡ h₁ k → safe_in h k ≡ safe_in h₁ k
+unfolding safe_in
+safe-eq h h₁ k e = ap (λ o. option_map_or (λ (node : Node). node.state.safe) o false) e
+
+pub children-eq : (h h₁ : Heap) (k : ℕ) → h k ≡ h₁ k → children_in h k ≡ children_in h₁ k
+unfolding children_in
+children-eq h h₁ k e = ap (λ o. option_map_or (λ (node : Node). length (keys node.children)) o 0) e
+
+pub child-none : (h : Heap) (k : ℕ) (n : Text) → h k ≡ None → child_in h k n ≡ None
 unfolding child_in
 child-none h k n e = ap (option_and_then (λ node. get bytes_eq node.children n)) e
 

@@ -4,13 +4,12 @@ use Rattle.std.specs.Option.{option_and_then, option_map, option_map_or}
 use Rattle.std.specs.Str.{bytes_eq}
 use Rattle.indexmap.specs.IndexMap.{get, keys}
 use Rattle.std.specs.Map.{keys_of}
-use Rattle.indexmap.specs.IndexSet.{remove_key}
 use Rattle.slab.specs.Slab as slab
 use Rattle.slab.specs.Slab.{Slab}
 use Rattle.tcl_core.specs.Trees as core
 use Rattle.tcl_core.specs.Programs.{is_spent, is_deep}
 use Rattle.tcl_tree.specs.Paths.{Text, Path, is_above, ancestor, with_node}
-use Rattle.tcl_tree.specs.Own.{Own, new_own}
+use Rattle.tcl_tree.specs.Own.{Own, new_own, with_new_child, without_old_child}
 use Rattle.tcl_tree.specs.declared.node.Node.{Node}
 use Rattle.tcl_tree.specs.declared.node.State.{State}
 use Rattle.tcl_tree.specs.declared.node.Meter.{Meter}
@@ -109,23 +108,77 @@ pub record IsGuarded (h : Heap) : Type 0 where
   pub few : (k : ℕ) → children_in h k ≤ 256
 
 abbrev pub with_child : Text → NodeView → NodeView
-with_child n v = record v { own = record v.own { children = v.own.children ++ n ∷ [] } }
+with_child n v = record v { own = with_new_child n v.own }
+
+abbrev pub without_child : Text → NodeView → NodeView
+without_child n v = record v { own = without_old_child n v.own }
 
 abbrev pub Tree_fn : Type 0
 Tree_fn = Path → Option NodeView
 
+-- the tree with one more interpreter, or one less, whose name the parent has
+unfoldable pub grown : Tree_fn → Path → Text → NodeView → Tree_fn
+grown f p n v = with_node (with_node f p (option_map (with_child n) (f p))) (p ++ n ∷ []) (Some v)
+
+unfoldable pub pruned : Tree_fn → Path → Text → Tree_fn
+pruned f p n = with_node (with_node f p (option_map (without_child n) (f p))) (p ++ n ∷ []) None
+
+unfoldable pub deleted : Tree_fn → Path → Text → Tree_fn
+deleted f p n q = cond (is_above (p ++ n ∷ []) q) None (with_node f p (option_map (without_child n) (f p)) q)
+
 unfoldable pub charged : (NodeView → NodeView) → Tree_fn → Path → Tree_fn
 charged once f p q = cond (is_above q p) (option_map once (f q)) (f q)
 
--- a node but for the room of its map of children
+-- a node but for the room of its maps
 abbrev pub Shape : Type 0
-Shape = Option ℕ × Text × ℕ × List (Text × ℕ) × State
+Shape = Option ℕ × Text × ℕ × List (Text × ℕ) × NodeView
 
 abbrev pub shape_of : Node → Shape
-shape_of node = (node.parent, node.name, node.level, node.children.entries, node.state)
+shape_of node = (node.parent, node.name, node.level, node.children.entries, state_view node.state false [])
 
 abbrev pub view_shape : Shape → NodeView
-view_shape shape = state_view shape.4 (is_none shape.0) (keys_of shape.3)
+view_shape shape = record shape.4 { own = record shape.4.own { children = keys_of shape.3 }; root = is_none shape.0 }
+
+abbrev pub shape_at : Slab Node → ℕ → Option Shape
+shape_at s k = option_map shape_of (slab.get s k)
+
+-- the two differ in room alone
+abbrev pub SameTable : Slab Node → Slab Node → Type 0
+SameTable s t = (k : ℕ) → shape_at t k ≡ shape_at s k
+
+-- t is s with the node under a new key, and under the label among the children of the node at pk
+pub record Attached (s t : Slab Node) (pk : ℕ) (label : Text) (node : Node) : Type 0 where
+  pub key : ℕ
+  pub was : slab.get s key ≡ None
+  pub here : slab.get t key ≡ Some node
+  pub old : Node
+  pub old_is : slab.get s pk ≡ Some old
+  pub new : Node
+  pub new_is : slab.get t pk ≡ Some new
+  pub parent : new.parent ≡ old.parent
+  pub name : new.name ≡ old.name
+  pub level : new.level ≡ old.level
+  pub view : view_of new ≡ with_child label (view_of old)
+  pub gets : (q : Text) → get bytes_eq new.children q ≡ cond (bytes_eq label q) (Some key) (get bytes_eq old.children q)
+  pub others : (k : ℕ) → k ≢ pk → k ≢ key → slab.get t k ≡ slab.get s k
+
+-- t is s with no node under the key, and none of its name among the children of the node at pk
+pub record Detached (s t : Slab Node) (key : ℕ) (node : Node) (pk : ℕ) : Type 0 where
+  pub gone : slab.get t key ≡ None
+  pub old : Node
+  pub old_is : slab.get s pk ≡ Some old
+  pub new : Node
+  pub new_is : slab.get t pk ≡ Some new
+  pub parent : new.parent ≡ old.parent
+  pub name : new.name ≡ old.name
+  pub level : new.level ≡ old.level
+  pub view : view_of new ≡ without_child node.name (view_of old)
+  pub gets : (q : Text) → get bytes_eq new.children q ≡ cond (bytes_eq node.name q) None (get bytes_eq old.children q)
+  pub others : (k : ℕ) → k ≢ pk → k ≢ key → slab.get t k ≡ slab.get s k
+
+-- the node at the key has no children
+abbrev pub IsLeaf : Slab Node → ℕ → Type 0
+IsLeaf s key = IfSome (slab.get s key) (λ node. node.children.entries ≡ [])
 
 -- whether the node is full that is so many levels above the one at the path
 unfoldable pub full_up : (NodeView → Bool) → Tree_fn → Path → ℕ → Bool

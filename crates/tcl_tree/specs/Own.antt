@@ -1,5 +1,8 @@
 -- The own part of an interpreter.
-use Rattle.std.specs.Prelude.{List, Bool, true, false, [], ◌++◌, map}
+use Rattle.std.specs.Prelude.{List, Bool, true, false, [], ◌∷◌, ◌++◌, map, Option, is_some}
+use Rattle.std.specs.Str.{bytes_eq}
+use Rattle.std.specs.Map.{lookup, remove_entry}
+use Rattle.indexmap.specs.IndexSet.{remove_key}
 use Rattle.tcl_core.specs.Paths.{Text}
 use Rattle.tcl_frames.specs.Chain as frames
 use Rattle.tcl_frames.specs.Chain.{Chain}
@@ -35,3 +38,17 @@ hidden_of false = []
 -- a new interpreter's own part
 abbrev pub new_own : Bool → Own
 new_own safe = record { chain = frames.fresh; commands = commands_of safe; hidden = hidden_of safe; children = [] }
+
+-- with a child of this name, which is a command; and without it
+abbrev pub with_new_child : Text → Own → Own
+with_new_child n own = record own { commands = own.commands ++ (n, command.Child) ∷ []; children = own.children ++ n ∷ [] }
+
+abbrev pub without_old_child : Text → Own → Own
+without_old_child n own = record own { commands = remove_entry (bytes_eq n) own.commands; children = remove_key (bytes_eq n) own.children }
+
+-- what a name stands for
+abbrev pub command_in : Own → Text → Option Command
+command_in own n = lookup (bytes_eq n) own.commands
+
+abbrev pub hidden_in : Own → Text → Option Command
+hidden_in own n = lookup (bytes_eq n) own.hidden

@@ -4,8 +4,10 @@
 pub mod alias;
 pub mod builtin;
 pub mod command;
+mod name;
 pub mod node;
 pub mod parameter;
 pub mod procedure;
 pub mod refusal;
+mod steps;
 pub mod tree;

@@ -11,6 +11,7 @@ use std::alloc::{AllocError, Global};
 use tcl_text::integer::Integers;
 use tcl_text::text::Text;
 
+pub mod children;
 mod limits;
 mod looks;
 mod variables;
