@@ -1,0 +1,73 @@
+-- What a write to one interpreter does, in the words of the core.
+use Rattle.std.proofs.Common.{◌≡◌, ℕ, ◌∙◌, refl, sym, ap, List, Option, Some, None}
+use Rattle.std.specs.Prelude.{◌≢◌}
+use Rattle.std.specs.Option.{option_map, option_map_or}
+use Rattle.std.proofs.lemmas.Option.{same_Some}
+use Rattle.slab.specs.Slab as slab
+use Rattle.slab.specs.Slab.{Slab}
+use Rattle.tcl_core.specs.Trees.{effect}
+use Rattle.tcl_core.specs.Trees.What.{Limited, DepthLimited}
+use Rattle.tcl_frames.specs.Chain.{Chain}
+use Rattle.tcl_tree.specs.Paths.{Path}
+use Rattle.tcl_tree.specs.Own.{Own}
+use Rattle.tcl_tree.specs.Nodes.{NodeView, view_of, tree_in, follow, IsSound, IsGuarded}
+use Rattle.tcl_tree.specs.Changes.{Rewrites}
+use Rattle.tcl_tree.specs.Lending.{with_frames, with_frames_at}
+use Rattle.tcl_tree.specs.declared.node.Node.{Node}
+use Rattle.tcl_tree.proofs.HeapLemmas.{SamePlace, tree-at}
+use Rattle.tcl_tree.proofs.StepLemmas.{tree_some, tree_write, sound_write, guarded_write, follow_write, leads_somewhere}
+use Rattle.tcl_tree.proofs.CoreLemmas.{node_done}
+
+module _ (s : Slab Node) (root : ℕ) (sound : IsSound (slab.get s) root) (p : Path) (k : ℕ) (at : follow (slab.get s) root p ≡ Some k)
+    (old new : Node) (is : slab.get s k ≡ Some old) (same : SamePlace old new) where
+  -- the own part is written
+  pub own_write : (change : Own → Own) → record (view_of old) { own = change (view_of old).own } ≡ view_of new
+      → Rewrites (tree_in (slab.get s) root) (tree_in (slab.get (slab.with_value s k new)) root) p change
+  own_write change e = λ n here.
+      let n_is : n ≡ view_of old = same_Some _ _ (sym here ∙ tree_some (slab.get s) root p k old at is) in
+      node_done (λ (v : NodeView). record v { own = change n.own }) _ _ p
+      (tree_write s root sound p k at old new is same _ (ap (λ (v : NodeView). record (view_of old) { own = change v.own }) n_is ∙ e))
+
+  pub limit_write : (l : Option ℕ) → record (view_of old) { limit = l } ≡ view_of new → tree_in (slab.get (slab.with_value s k new)) root ≡ effect p (Limited l) (tree_in (slab.get s) root)
+  limit_write l e = node_done (λ (v : NodeView). record v { limit = l }) _ _ p (tree_write s root sound p k at old new is same _ e)
+
+  pub depth_write : (l : ℕ) → record (view_of old) { depth_limit = l } ≡ view_of new → tree_in (slab.get (slab.with_value s k new)) root ≡ effect p (DepthLimited l) (tree_in (slab.get s) root)
+  depth_write l e = node_done (λ (v : NodeView). record v { depth_limit = l }) _ _ p (tree_write s root sound p k at old new is same _ e)
+
+-- frames that are written through a loan
+module _ (s : Slab Node) (root : ℕ) (sound : IsSound (slab.get s) root) (p : Path) (key : ℕ) (leads : follow (slab.get s) root p ≡ Some key) (w : Chain) where
+  pub frames_sound : IsSound (slab.get (with_frames_at s key w)) root
+  frames_sound = by (slab.get s key) refl
+    where
+      by : (o : Option Node) → slab.get s key ≡ o → IsSound (slab.get (option_map_or (λ node. slab.with_value s key (with_frames node w)) o s)) root
+      by None e = sound
+      by (Some node) e = sound_write s root sound p key leads node (with_frames node w) e (record { parent = refl; name = refl; level = refl; children = refl; safe = refl })
+
+  pub frames_guarded : IsGuarded (slab.get s) → IsGuarded (slab.get (with_frames_at s key w))
+  frames_guarded g = by (slab.get s key) refl
+    where
+      by : (o : Option Node) → slab.get s key ≡ o → IsGuarded (slab.get (option_map_or (λ node. slab.with_value s key (with_frames node w)) o s))
+      by None e = g
+      by (Some node) e = guarded_write s root sound p key leads node (with_frames node w) e (record { parent = refl; name = refl; level = refl; children = refl; safe = refl }) g
+
+  pub frames_tree : Rewrites (tree_in (slab.get s) root) (tree_in (slab.get (with_frames_at s key w)) root) p (λ own. record own { chain = w })
+  frames_tree = by (slab.get s key) refl
+    where
+      by : (o : Option Node) → slab.get s key ≡ o → Rewrites (tree_in (slab.get s) root) (tree_in (slab.get (option_map_or (λ node. slab.with_value s key (with_frames node w)) o s)) root) p (λ own. record own { chain = w })
+      by None e = absurd (leads_somewhere (slab.get s) root sound p key leads e)
+      by (Some node) e = own_write s root sound p key leads node (with_frames node w) e (record { parent = refl; name = refl; level = refl; children = refl; safe = refl }) (λ own. record own { chain = w }) refl
+
+  pub frames_keys : (q : Path) → follow (slab.get (with_frames_at s key w)) root q ≡ follow (slab.get s) root q
+  frames_keys = by (slab.get s key) refl
+    where
+      by : (o : Option Node) → slab.get s key ≡ o → (q : Path) → follow (slab.get (option_map_or (λ node. slab.with_value s key (with_frames node w)) o s)) root q ≡ follow (slab.get s) root q
+      by None e = λ q. refl
+      by (Some node) e = follow_write s root sound p key leads node (with_frames node w) e (record { parent = refl; name = refl; level = refl; children = refl; safe = refl })
+
+-- where the key leads somewhere or nowhere
+pub chain_value : (h : ℕ → Option Node) (root : ℕ) (p : Path) (k : ℕ) → follow h root p ≡ Some k → option_map (λ (node : Node). node.state.frames) (h k) ≡ option_map (λ (n : NodeView). n.own.chain) (tree_in h root p)
+chain_value h root p k leads = by (h k) ∙ sym (ap (option_map (λ (n : NodeView). n.own.chain)) (tree-at h root p k leads))
+  where
+    by : (o : Option Node) → option_map (λ (node : Node). node.state.frames) o ≡ option_map (λ (n : NodeView). n.own.chain) (option_map view_of o)
+    by None = refl
+    by (Some node) = refl

@@ -1,0 +1,13 @@
+use Rattle.std.specs.Prelude.{OnOk}
+use Rattle.tcl_core.specs.Programs.{is_spent}
+use Rattle.tcl_tree.specs.TreeOf.{tree_of}
+use Rattle.tcl_tree.specs.Nodes.{moved}
+use Rattle.tcl_tree.specs.declared.node.Meter.TheVariants.{Steps}
+use Rattle.tcl_tree.proofs.CoreLemmas.{on_both, if_err, line_done, none_blocked, near_blocked}
+use Rattle.tcl_tree.proofs.tree.Tree.charge_at.Goals as goal
+
+pub returns-clause-charged : goal.returns-clause-charged
+returns-clause-charged c = on_both c.move_at.result c.move_at.ensures.room c.move_at.ensures.charged (λ room done p at. (none_blocked is_spent p _ (room p at), line_done (moved Steps) _ _ p (done p at)))
+
+pub returns-clause-refused : goal.returns-clause-refused
+returns-clause-refused c = if_err c.move_at.result c.move_at.ensures.full c.move_at.ensures.unchanged (λ n near same p at. (near_blocked is_spent p _ n (near p at), λ i q. same q i))

@@ -1,0 +1,44 @@
+use Rattle.std.proofs.Common.{◌≡◌, sym, []}
+use Rattle.tcl_tree.specs.declared.node.Node.{Node}
+use Rattle.tcl_tree.proofs.StepLemmas.{leads_somewhere, at_some}
+use Rattle.tcl_tree.proofs.MakeLemmas.{no_parent_is_root, sound_detached, guarded_detached, keys_detached, parent_detached, tree_detached, parent_there, parent_apart}
+use Rattle.tcl_tree.proofs.tree.Tree.prune.Goals as goal
+
+pub unreachable-requires : goal.unreachable-requires
+unreachable-requires c = leads_somewhere _ _ c.args.self.now.sound _ _ c.requires.there.2 (sym c.in_default.ensures)
+
+pub unreachable-requires-in_default-parent : goal.unreachable-requires-in_default-parent
+unreachable-requires-in_default-parent c = no_parent_is_root _ _ c.args.self.now.sound c.requires.there.0 c.requires.there.1 _ _ c.requires.there.2 (sym c.in-Some.ensures) c.in_default-parent.is
+
+pub detach-requires-clause-parent : goal.detach-requires-clause-parent
+detach-requires-clause-parent c = parent_there _ _ c.args.self.now.sound _ _ _ (sym c.in-Some.ensures) c.in-Some-parent.is
+
+pub detach-requires-clause-apart : goal.detach-requires-clause-apart
+detach-requires-clause-apart c = parent_apart _ _ c.args.self.now.sound _ _ _ (sym c.in-Some.ensures) c.in-Some-parent.is
+
+pub invariant_of-self : goal.invariant_of-self
+invariant_of-self c =
+    let is = sym c.in-Some.ensures in
+    let leaf = at_some _ (λ (node : Node). node.children.entries ≡ []) _ is c.requires.leaf in
+    record {
+      sound = sound_detached c.args.self.now.nodes c.detach.new.nodes _ c.args.self.now.sound _ _ _ (c.detach.ensures.detached _ is) is c.in-Some-parent.is leaf;
+      guarded = guarded_detached c.args.self.now.nodes c.detach.new.nodes _ c.args.self.now.sound _ _ _ (c.detach.ensures.detached _ is) is c.in-Some-parent.is leaf c.args.self.now.guarded;
+    }
+
+pub returns-clause-tree : goal.returns-clause-tree
+returns-clause-tree c =
+    let is = sym c.in-Some.ensures in
+    let leaf = at_some _ (λ (node : Node). node.children.entries ≡ []) _ is c.requires.leaf in
+    λ p n leads q. tree_detached c.args.self.now.nodes c.detach.new.nodes _ c.args.self.now.sound _ _ _ (c.detach.ensures.detached _ is) is c.in-Some-parent.is leaf p n leads q
+
+pub returns-clause-parent : goal.returns-clause-parent
+returns-clause-parent c =
+    let is = sym c.in-Some.ensures in
+    let leaf = at_some _ (λ (node : Node). node.children.entries ≡ []) _ is c.requires.leaf in
+    λ p n leads. parent_detached c.args.self.now.nodes c.detach.new.nodes _ c.args.self.now.sound _ _ _ (c.detach.ensures.detached _ is) is c.in-Some-parent.is leaf p n leads
+
+pub returns-clause-keys : goal.returns-clause-keys
+returns-clause-keys c =
+    let is = sym c.in-Some.ensures in
+    let leaf = at_some _ (λ (node : Node). node.children.entries ≡ []) _ is c.requires.leaf in
+    keys_detached c.args.self.now.nodes c.detach.new.nodes _ c.args.self.now.sound _ _ _ (c.detach.ensures.detached _ is) is c.in-Some-parent.is leaf

@@ -1,0 +1,21 @@
+use Rattle.std.proofs.Common.{◌≡◌, ◌∙◌, refl, ap, false, true, List, ℕ}
+use Rattle.std.specs.Map.{keys_of}
+use Rattle.indexmap.specs.IndexMap.{keys}
+use Rattle.tcl_tree.specs.Nodes.{new_view}
+use Rattle.tcl_tree.specs.Paths.{Path}
+use Rattle.tcl_tree.specs.TreeOf.{alone}
+use Rattle.tcl_tree.proofs.StepLemmas.{sound-single, guarded-single, tree-single, vacant_slots}
+use Rattle.tcl_tree.proofs.tree.Tree.with_integers.Goals as goal
+
+pub invariant_of-result : goal.invariant_of-result
+invariant_of-result c =
+    let u = c.insert_reserved-root.ensures.updates in
+    record {
+      sound = sound-single _ _ _ u.changed refl refl c.new-3.ensures.empty (λ k other. u.others k other ∙ vacant_slots c.reserve.new.self (ap (λ s. s.slots) c.in_ok-reserve.ensures.rest_kept ∙ c.new-nodes.ensures.empty) k);
+      guarded = guarded-single _ _ _ u.changed refl refl c.new-3.ensures.empty (λ k other. u.others k other ∙ vacant_slots c.reserve.new.self (ap (λ s. s.slots) c.in_ok-reserve.ensures.rest_kept ∙ c.new-nodes.ensures.empty) k);
+    }
+
+pub returns-clause-tree : goal.returns-clause-tree
+returns-clause-tree c = λ i (q : Path).
+    (tree-single _ _ _ c.insert_reserved-root.ensures.updates.changed refl refl c.new-3.ensures.empty (λ k other. c.insert_reserved-root.ensures.updates.others k other ∙ vacant_slots c.reserve.new.self (ap (λ s. s.slots) c.in_ok-reserve.ensures.rest_kept ∙ c.new-nodes.ensures.empty) k) q
+    ∙ ap (λ v. alone v q) (c.in_ok-state.ensures.view true (keys c.new-3.result) ∙ ap (new_view false 1000 true) (ap keys_of c.new-3.ensures.empty))) i

@@ -1,0 +1,9 @@
+pub mod Builtins
+pub mod Commands
+pub mod Own
+pub mod Paths
+pub mod Nodes
+pub mod TreeOf
+pub mod Changes
+pub mod Lending
+pub mod LendingTree

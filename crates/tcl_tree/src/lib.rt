@@ -1,0 +1,13 @@
+//! The interpreters of a tree, in one table: their frames, commands and limits.
+#![tactic(auto)]
+
+pub mod alias;
+pub mod builtin;
+pub mod command;
+mod name;
+pub mod node;
+pub mod parameter;
+pub mod procedure;
+pub mod refusal;
+mod steps;
+pub mod tree;

@@ -1,0 +1,179 @@
+//! Children: interpreters that are made and deleted.
+ghost use Rattle.std.specs.Prelude.{◌≡◌, ◌≢◌, ◌+◌, List, ℕ, Bool, true, false, [], ◌∷◌, ◌++◌, IfErr, OnOk, OnErr, Some, None, IsSome};
+ghost use Rattle.slab.specs.Slab.{slab_len};
+ghost use Rattle.tcl_core.specs.Programs.{either};
+
+use crate::name::is_name;
+use crate::node::{Node, State};
+use crate::refusal::Refusal;
+use crate::steps::{attach, detach, make_room};
+use crate::tree::Tree;
+use indexmap::IndexMap;
+use std::alloc::Global;
+use tcl_text::text::Text;
+
+/// The most children that an interpreter has.
+pub const MOST_CHILDREN: usize = 256;
+
+/// The limit of depth with which a child begins.
+pub const CHILD_DEPTH: u64 = 200;
+
+// Whether a child is safe: where that is asked for, or its parent is.
+fn is_child_safe(asked: bool, parent: bool) -> bool
+    ensures { result ≡ either asked parent }
+{
+    asked || parent
+}
+
+impl Tree {
+    ghost use Rattle.tcl_tree.specs.Paths.{is_above};
+    ghost use Rattle.tcl_tree.specs.Nodes.{NodeView, IsLeaf, pruned};
+    ghost use Rattle.tcl_tree.specs.Changes.{MayMake, Makes, RefusesMake, Drops, RefusesDrop};
+    ghost use Rattle.tcl_tree.specs.TreeOf.{tree_of, key_of, marks_of};
+
+    /// Makes a child of this name in the interpreter at the path: safe where that is asked for or the parent is safe.
+    ///
+    /// # Errors
+    /// Refusals, in this order: 301 of the path; 238 of the name; 302 where it is a command; 307. Want of memory.
+    pub fn create(
+        &mut self,
+        alloc: Global,
+        path: &[Text],
+        name: &Text,
+        safe: bool,
+    ) -> Result<(), Refusal>
+        ensures may { OnOk result (MayMake (tree_of self.old) path.now name.now) }
+        ensures made { OnOk result (Makes (tree_of self.old) (tree_of self.new) path.now name.now safe) }
+        ensures refused { IfErr result (λ e. RefusesMake e (tree_of self.old) path.now name.now) }
+        ensures unchanged { OnErr result (tree_of self.new ≡ tree_of self.old) }
+        ensures keys { (q : List (List ℕ)) (k : ℕ) → key_of self.old q ≡ Some k → key_of self.new q ≡ Some k }
+        ensures marks { marks_of self.new ≡ marks_of self.old }
+    {
+        let Some(parent) = self.find(path) else {
+            return Err(Refusal::NoInterpreter);
+        };
+        let Some(up) = self.nodes.get(parent) else {
+            return Err(Refusal::NoInterpreter);
+        };
+        if !is_name(name) {
+            return Err(Refusal::BadName);
+        }
+        if up.state.commands.contains_key(name) {
+            return Err(Refusal::Exists);
+        }
+        if up.children.contains_key(name) {
+            return Err(Refusal::Exists);
+        }
+        if up.children.len() >= MOST_CHILDREN {
+            return Err(Refusal::TooMany);
+        }
+        // So deep a chain of interpreters fits no memory.
+        let Some(level) = up.level.checked_add(1) else {
+            return Err(Refusal::Memory);
+        };
+        let safe = is_child_safe(safe, up.state.safe);
+        let state = State::new(alloc, safe, CHILD_DEPTH)?;
+        let own_name = name.clone()?;
+        let label = name.clone()?;
+        let twin = name.clone()?;
+        make_room(&mut self.nodes, parent)?;
+        let node = Node {
+            parent: Some(parent),
+            name: own_name,
+            level,
+            children: IndexMap::new(alloc),
+            state,
+        };
+        attach(&mut self.nodes, parent, label, twin, node);
+        Ok(())
+    }
+
+    // A node below this one, or this one, that has no children.
+    fn deepest(&self, key: usize) -> usize
+        requires { (p : List (List ℕ)) × (key_of self.now p ≡ Some key) }
+        ensures leads { (p : List (List ℕ)) → key_of self.now p ≡ Some key → (rest : List (List ℕ)) × (key_of self.now (p ++ rest) ≡ Some result) }
+        ensures leaf { IsLeaf self.now.nodes result }
+    {
+        let mut at = key;
+        'descend: loop {
+            let Some(node) = self.nodes.get(at) else {
+                return at;
+            };
+            let last = node.children.len().saturating_sub(1);
+            let Some((_, child)) = node.children.get_index(last) else {
+                return at;
+            };
+            at = *child;
+        }
+    }
+
+    // Removes a node that has no children and is not the root, and answers with the key of its parent.
+    fn prune(&mut self, key: usize) -> usize
+        requires there { (p : List (List ℕ)) × (n : List ℕ) × (key_of self.old (p ++ n ∷ []) ≡ Some key) }
+        requires leaf { IsLeaf self.old.nodes key }
+        ensures tree { (p : List (List ℕ)) (n : List ℕ) → key_of self.old (p ++ n ∷ []) ≡ Some key → (q : List (List ℕ)) → tree_of self.new q ≡ pruned (tree_of self.old) p n q }
+        ensures parent { (p : List (List ℕ)) (n : List ℕ) → key_of self.old (p ++ n ∷ []) ≡ Some key → key_of self.new p ≡ Some result }
+        ensures keys { (q : List (List ℕ)) (k : ℕ) → key_of self.old q ≡ Some k → k ≢ key → key_of self.new q ≡ Some k }
+        ensures marks { marks_of self.new ≡ marks_of self.old }
+        ensures len { slab_len self.new.nodes + 1 ≡ slab_len self.old.nodes }
+    {
+        let Some(node) = self.nodes.get(key) else {
+            unreachable!();
+        };
+        let Some(parent) = node.parent else {
+            unreachable!();
+        };
+        detach(&mut self.nodes, key, parent);
+        parent
+    }
+
+    // Removes a node that is not the root, with all below it.
+    fn fell(&mut self, top: usize)
+        requires { (p : List (List ℕ)) × (n : List ℕ) × (key_of self.old (p ++ n ∷ []) ≡ Some top) }
+        ensures dropped { (p : List (List ℕ)) (n : List ℕ) → key_of self.old (p ++ n ∷ []) ≡ Some top → Drops (tree_of self.old) (tree_of self.new) p n }
+        ensures keys { (p : List (List ℕ)) (n : List ℕ) → key_of self.old (p ++ n ∷ []) ≡ Some top → (q : List (List ℕ)) (k : ℕ) → is_above (p ++ n ∷ []) q ≡ false → key_of self.old q ≡ Some k → key_of self.new q ≡ Some k }
+        ensures marks { marks_of self.new ≡ marks_of self.old }
+    {
+        let mut at = top;
+        'prune: loop {
+            let leaf = self.deepest(at);
+            at = self.prune(leaf);
+            if leaf == top {
+                return;
+            }
+        }
+    }
+
+    /// Deletes the child of this name of the interpreter at the path, with all below it. This takes no memory.
+    ///
+    /// # Errors
+    /// Refusal 301 where there is none, and 303 where an evaluation is in progress in it.
+    pub fn delete(&mut self, path: &[Text], name: &Text) -> Result<(), Refusal>
+        ensures there { OnOk result (IsSome (tree_of self.old (path.now ++ name.now ∷ []))) }
+        ensures idle { OnOk result ((v : NodeView) → tree_of self.old (path.now ++ name.now ∷ []) ≡ Some v → v.depth ≡ 0) }
+        ensures dropped { OnOk result (Drops (tree_of self.old) (tree_of self.new) path.now name.now) }
+        ensures refused { IfErr result (λ e. RefusesDrop e (tree_of self.old) path.now name.now) }
+        ensures unchanged { OnErr result (tree_of self.new ≡ tree_of self.old) }
+        ensures keys { (q : List (List ℕ)) (k : ℕ) → is_above (path.now ++ name.now ∷ []) q ≡ false → key_of self.old q ≡ Some k → key_of self.new q ≡ Some k }
+        ensures marks { marks_of self.new ≡ marks_of self.old }
+    {
+        let Some(parent) = self.find(path) else {
+            return Err(Refusal::NoInterpreter);
+        };
+        let Some(up) = self.nodes.get(parent) else {
+            return Err(Refusal::NoInterpreter);
+        };
+        let Some(child) = up.children.get(name) else {
+            return Err(Refusal::NoInterpreter);
+        };
+        let top = *child;
+        let Some(node) = self.nodes.get(top) else {
+            return Err(Refusal::NoInterpreter);
+        };
+        if node.state.depth > 0 {
+            return Err(Refusal::InUse);
+        }
+        self.fell(top);
+        Ok(())
+    }
+}

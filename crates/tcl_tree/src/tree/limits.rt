@@ -1,0 +1,130 @@
+//! Steps and levels: what is counted in an interpreter and in all above it.
+ghost use Rattle.std.specs.Prelude.{◌≡◌, List, ℕ, IfOk, IfErr, OnOk, OnErr, Some, None, [], IsSome};
+
+use crate::node::Meter;
+use crate::refusal::Refusal;
+use crate::tree::{Place, Tree};
+use tcl_text::text::Text;
+
+impl Tree {
+    ghost use Rattle.tcl_core.specs.Trees.{effect};
+    ghost use Rattle.tcl_core.specs.Trees.What.{Charged, Nested, Unnested, Limited};
+    ghost use Rattle.tcl_core.specs.Programs.{blocked, is_spent, is_deep};
+    ghost use Rattle.tcl_tree.specs.Changes.{RefusesStep, RefusesLevel};
+    ghost use Rattle.tcl_tree.specs.Nodes.{NoneFull, IsNearestFull, charged, full_of, moved};
+    ghost use Rattle.tcl_tree.specs.TreeOf.{tree_of, key_of, marks_of, Names};
+
+    // Moves a meter of the interpreter and of those above it, or says how many levels up it is full.
+    fn move_at(&mut self, key: usize, meter: Meter) -> Result<(), usize>
+        requires { (p : List (List ℕ)) × (key_of self.old p ≡ Some key) }
+        ensures keys { (q : List (List ℕ)) → key_of self.new q ≡ key_of self.old q }
+        ensures marks { marks_of self.new ≡ marks_of self.old }
+        ensures charged { OnOk result ((p : List (List ℕ)) → key_of self.old p ≡ Some key → (q : List (List ℕ)) → tree_of self.new q ≡ charged (moved meter) (tree_of self.old) p q) }
+        ensures room { OnOk result ((p : List (List ℕ)) → key_of self.old p ≡ Some key → NoneFull (full_of meter) (tree_of self.old) p) }
+        ensures full { IfErr result (λ level. (p : List (List ℕ)) → key_of self.old p ≡ Some key → IsNearestFull (full_of meter) (tree_of self.old) p level) }
+        ensures unchanged { OnErr result ((q : List (List ℕ)) → tree_of self.new q ≡ tree_of self.old q) }
+    {
+        if let Some(level) = self.full_level(key, meter) {
+            return Err(level);
+        }
+        self.raise(key, meter);
+        Ok(())
+    }
+
+    /// Counts a step in the interpreter and in all above it. This takes no memory.
+    ///
+    /// # Errors
+    /// How many levels up the nearest interpreter is whose limit would be passed, itself first (refusal 308). Then nothing is counted.
+    pub fn charge_at(&mut self, place: Place) -> Result<(), usize>
+        requires { (p : List (List ℕ)) × Names self.old place p }
+        ensures keys { (q : List (List ℕ)) → key_of self.new q ≡ key_of self.old q }
+        ensures marks { marks_of self.new ≡ marks_of self.old }
+        ensures charged { OnOk result ((p : List (List ℕ)) → Names self.old place p → (blocked is_spent (tree_of self.old) p ≡ None) × (tree_of self.new ≡ effect p Charged (tree_of self.old))) }
+        ensures refused { IfErr result (λ n. (p : List (List ℕ)) → Names self.old place p → (blocked is_spent (tree_of self.old) p ≡ Some n) × (tree_of self.new ≡ tree_of self.old)) }
+    {
+        self.move_at(place.key, Meter::Steps)
+    }
+
+    /// Begins an evaluation in the interpreter, so that it and all above it are one level deeper. This takes no memory.
+    ///
+    /// # Errors
+    /// How many levels up the nearest interpreter is whose limit would be passed, itself first (refusal 308). Then nothing begins.
+    pub fn nest_at(&mut self, place: Place) -> Result<(), usize>
+        requires { (p : List (List ℕ)) × Names self.old place p }
+        ensures keys { (q : List (List ℕ)) → key_of self.new q ≡ key_of self.old q }
+        ensures marks { marks_of self.new ≡ marks_of self.old }
+        ensures nested { OnOk result ((p : List (List ℕ)) → Names self.old place p → (blocked is_deep (tree_of self.old) p ≡ None) × (tree_of self.new ≡ effect p Nested (tree_of self.old))) }
+        ensures refused { IfErr result (λ n. (p : List (List ℕ)) → Names self.old place p → (blocked is_deep (tree_of self.old) p ≡ Some n) × (tree_of self.new ≡ tree_of self.old)) }
+    {
+        self.move_at(place.key, Meter::Levels)
+    }
+
+    /// Ends an evaluation in the interpreter, so that it and all above it are one level less deep. This takes no memory.
+    pub fn unnest(&mut self, place: Place)
+        requires { (p : List (List ℕ)) × Names self.old place p }
+        ensures keys { (q : List (List ℕ)) → key_of self.new q ≡ key_of self.old q }
+        ensures marks { marks_of self.new ≡ marks_of self.old }
+        ensures unnested { (p : List (List ℕ)) → Names self.old place p → tree_of self.new ≡ effect p Unnested (tree_of self.old) }
+    {
+        self.raise(place.key, Meter::Back);
+    }
+
+    /// Counts a step in the interpreter at the path and in all above it. This takes no memory.
+    ///
+    /// # Errors
+    /// Refusal 301; or 308, with how many levels up the nearest interpreter is whose limit would be passed, itself first. Then nothing
+    /// is counted.
+    pub fn charge(&mut self, path: &[Text]) -> Result<(), Refusal>
+        ensures keys { (q : List (List ℕ)) → key_of self.new q ≡ key_of self.old q }
+        ensures marks { marks_of self.new ≡ marks_of self.old }
+        ensures there { OnOk result (IsSome (tree_of self.old path.now)) }
+        ensures room { OnOk result (blocked is_spent (tree_of self.old) path.now ≡ None) }
+        ensures charged { OnOk result (tree_of self.new ≡ effect path.now Charged (tree_of self.old)) }
+        ensures refused { IfErr result (λ e. RefusesStep e (tree_of self.old) path.now) }
+        ensures unchanged { OnErr result (tree_of self.new ≡ tree_of self.old) }
+    {
+        let Some(key) = self.find(path) else {
+            return Err(Refusal::NoInterpreter);
+        };
+        match self.charge_at(Place { key }) {
+            Ok(()) => Ok(()),
+            Err(levels) => Err(Refusal::CountLimit(levels)),
+        }
+    }
+
+    /// Begins an evaluation in the interpreter at the path, and gives its place, by which the evaluation is ended. This takes no memory.
+    ///
+    /// # Errors
+    /// Refusal 301; or 308, with how many levels up the nearest interpreter is whose limit would be passed, itself first. Then nothing
+    /// begins.
+    pub fn nest(&mut self, path: &[Text]) -> Result<Place, Refusal>
+        ensures keys { (q : List (List ℕ)) → key_of self.new q ≡ key_of self.old q }
+        ensures marks { marks_of self.new ≡ marks_of self.old }
+        ensures place { IfOk result (λ place. Names self.new place path.now) }
+        ensures room { OnOk result (blocked is_deep (tree_of self.old) path.now ≡ None) }
+        ensures nested { OnOk result (tree_of self.new ≡ effect path.now Nested (tree_of self.old)) }
+        ensures refused { IfErr result (λ e. RefusesLevel e (tree_of self.old) path.now) }
+        ensures unchanged { OnErr result (tree_of self.new ≡ tree_of self.old) }
+    {
+        let Some(key) = self.find(path) else {
+            return Err(Refusal::NoInterpreter);
+        };
+        let place = Place { key };
+        match self.nest_at(place) {
+            Ok(()) => Ok(place),
+            Err(levels) => Err(Refusal::DepthLimit(levels)),
+        }
+    }
+
+    /// Sets or clears the root's limit of steps, as a run does for its length. This takes no memory.
+    pub fn set_run_limit(&mut self, limit: Option<u64>)
+        ensures keys { (q : List (List ℕ)) → key_of self.new q ≡ key_of self.old q }
+        ensures marks { marks_of self.new ≡ marks_of self.old }
+        ensures limited { tree_of self.new ≡ effect [] (Limited limit) (tree_of self.old) }
+    {
+        match self.nodes.get_mut(self.root) {
+            Some(node) => node.state.limit = limit,
+            None => unreachable!(),
+        }
+    }
+}
