@@ -1,0 +1,6 @@
+pub mod LetterSteps
+pub mod Ends
+pub mod Orders
+pub mod StandLemmas
+pub mod ByteLemmas
+pub mod MapLemmas

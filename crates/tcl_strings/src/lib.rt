@@ -1,0 +1,14 @@
+//! Texts by their characters: the string commands of the Tcl command language, below their words.
+#![tactic(auto)]
+
+pub mod classes;
+pub mod copies;
+pub mod letters;
+pub mod limit;
+pub mod mapping;
+pub mod order;
+pub mod parts;
+pub mod places;
+#[cfg(test)]
+mod tests;
+pub mod trimming;
