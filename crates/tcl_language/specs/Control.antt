@@ -1,0 +1,245 @@
+-- The commands that evaluate scripts in their own interpreter, and those that only end one.
+use Rattle.std.specs.Prelude.{ℕ, zero, suc, ℤ, pos, negsuc, Bool, true, false, List, [], ◌∷◌, ◌++◌, Option, Some, None, Result, Ok, Err, codes, ◌&&◌}
+use Rattle.std.specs.Fmt.{decimal, signed_decimal}
+use Rattle.std.specs.Str.{bytes_eq}
+use Rattle.tcl_core.specs.Paths.{Text}
+use Rattle.tcl_core.specs.Endings.{Options, Completion, ok, completion, leave_proc}
+use Rattle.tcl_core.specs.Programs.Act.{Charge}
+use Rattle.tcl_core.specs.Programs.Wrap.{Framed}
+use Rattle.tcl_core.specs.Programs.Prog.{done, act, go, inside}
+use Rattle.tcl_frames.specs.Chain.{Chain, after_set, set_aside, brought_back, pushed, popped}
+use Rattle.tcl_variables.specs.declared.fault.FrameFault.{FrameFault}
+use Rattle.tcl_text.specs.declared.integer.Integers.{Integers}
+use Rattle.tcl_text.specs.Lists.{list_of}
+use Rattle.tcl_text.specs.Writing.{written_list, fault_message}
+use Rattle.tcl_tree.specs.Own.{Own}
+use Rattle.tcl_tree.specs.Commands.{ProcedureView}
+use Rattle.tcl_tree.specs.declared.parameter.Parameter.{Parameter}
+use Rattle.tcl_language.specs.Instructions.{Walk, Instr, Program, either, fits, fails, gives, grown, or_fails, look, with_chain, too_long}
+use Rattle.tcl_language.specs.Instructions.Instr.{Script, Foreach}
+use Rattle.tcl_language.specs.Faults.{wrong_args, frame_message}
+use Rattle.tcl_language.specs.Words.{concat, is_level}
+use Rattle.tcl_language.specs.Variables.{sets, level}
+
+-- `eval arg ?arg ...?`
+abbrev pub eval : List Text → Program
+eval [] = fails (wrong_args (codes "eval arg ?arg ...?"))
+eval (arg ∷ args) = grown (concat (arg ∷ args)) (λ text. go (Script text) done)
+
+-- ## Levels
+
+abbrev pub chain_or : Chain → Result Chain FrameFault → Chain
+chain_or chain (Ok other) = other
+chain_or chain (Err f) = chain
+
+-- the own part while frames above a level are set aside, and after they are back
+abbrev pub at_level : ℕ → Own → Own
+at_level n own = with_chain own (chain_or own.chain (set_aside own.chain n))
+
+abbrev pub level_over : Own → Own
+level_over own = with_chain own (brought_back own.chain)
+
+-- a script at a level: the frames above it are set aside, and come back however it ends
+abbrev pub inner_script : ℕ → Own → Text → Program
+inner_script n own text = inside (Framed (at_level n own) level_over) (Script text) done
+
+abbrev pub script_at : List Text → ℕ → Program
+script_at args n = grown (concat args) (λ text. look (λ node. inner_script n node.own text))
+
+abbrev pub uplevel_words : Integers → Text → List Text → Bool → Program
+uplevel_words style word rest true = level style word (script_at rest)
+uplevel_words style word rest false = level style (codes "1") (script_at (word ∷ rest))
+
+-- `uplevel ?level? arg ?arg ...?`: there is a level where two words or more begin with digits, or `#` and digits
+abbrev pub uplevel : Integers → List Text → Program
+uplevel style [] = fails (wrong_args (codes "uplevel ?level? arg ?arg ...?"))
+uplevel style (arg ∷ []) = level style (codes "1") (script_at (arg ∷ []))
+uplevel style (word ∷ arg ∷ args) = uplevel_words style word (arg ∷ args) (is_level word)
+
+-- ## Catching
+
+-- the code and the level of a caught completion: those of a return that is pending, or its own code and 0
+abbrev pub caught_code : ℤ → Completion → ℤ × ℕ
+caught_code (pos (suc (suc zero))) c = (c.options.code, c.options.level)
+caught_code n c = (n, 0)
+
+abbrev pub errorcode_words : ℤ → Text → List Text
+errorcode_words (pos (suc zero)) errorcode = codes "-errorcode" ∷ errorcode ∷ []
+errorcode_words n errorcode = []
+
+abbrev pub options_words : ℤ × ℕ → Text → List Text
+options_words p errorcode = codes "-code" ∷ signed_decimal p.0 ∷ codes "-level" ∷ decimal p.1 ∷ errorcode_words p.0 errorcode
+
+-- the dictionary of a caught completion's options
+abbrev pub options_text : Completion → Text
+options_text c = written_list (options_words (caught_code c.code c) c.options.errorcode)
+
+abbrev pub code_text : Completion → Text
+code_text c = signed_decimal c.code
+
+-- `catch script ?resultVarName? ?optionVarName?` gives the code. Stops and exits it is never told of.
+abbrev pub catch : List Text → Program
+catch (script ∷ []) = go (Script script) (λ c. done (ok (code_text c)))
+catch (script ∷ result ∷ []) = go (Script script) (λ c. sets result c.text (done (ok (code_text c))))
+catch (script ∷ result ∷ options ∷ []) =
+    go (Script script) (λ c. sets result c.text (grown (options_text c) (λ text. sets options text (done (ok (code_text c))))))
+catch _ = fails (wrong_args (codes "catch script ?resultVarName? ?optionVarName?"))
+
+-- ## Ends
+
+abbrev pub with_code : ℕ → Text → Program
+with_code n text = done (completion (pos n) text)
+
+-- `break` and `continue`
+abbrev pub breaks : List Text → Program
+breaks [] = with_code 3 []
+breaks (x ∷ xs) = fails (wrong_args (codes "break"))
+
+abbrev pub continues : List Text → Program
+continues [] = with_code 4 []
+continues (x ∷ xs) = fails (wrong_args (codes "continue"))
+
+abbrev pub error_with : Text → Text → Program
+error_with message errorcode = done (record { code = pos 1; text = message; options = record { code = pos 1; level = 0; errorcode = errorcode } })
+
+-- `error message ?errorInfo? ?errorCode?`
+abbrev pub error : List Text → Program
+error (message ∷ []) = error_with message (codes "NONE")
+error (message ∷ info ∷ []) = error_with message (codes "NONE")
+error (message ∷ info ∷ errorcode ∷ []) = error_with message errorcode
+error _ = fails (wrong_args (codes "error message ?errorInfo? ?errorCode?"))
+
+-- ## Loops
+
+-- what a loop does after the body ended so: on, or it is over, or the body's end is its own
+abbrev pub after_body : ℤ → Completion → Program → Program
+after_body (pos zero) c more = more
+after_body (pos (suc zero)) c more = done c
+after_body (pos (suc (suc zero))) c more = done c
+after_body (pos (suc (suc (suc zero)))) c more = done (ok [])
+after_body (pos (suc (suc (suc (suc zero))))) c more = more
+after_body (pos (suc (suc (suc (suc (suc n)))))) c more = done c
+after_body (negsuc n) c more = done c
+
+-- whether elements are left for a turn
+abbrev pub is_empty : List Text → Bool
+is_empty [] = true
+is_empty (x ∷ xs) = false
+
+abbrev pub is_over : List Walk → Bool
+is_over [] = true
+is_over (walk ∷ walks) = is_empty walk.left && is_over walks
+
+-- the variables are set to the elements that come next, from the left; where none is left to the empty text
+abbrev pub sets_names : List Text → List Text → (List Text → Program) → Program
+sets_names [] left k = k left
+sets_names (name ∷ names) [] k = sets name [] (sets_names names [] k)
+sets_names (name ∷ names) (x ∷ left) k = sets name x (sets_names names left k)
+
+abbrev pub sets_walks : List Walk → (List Walk → Program) → Program
+sets_walks [] k = k []
+sets_walks (walk ∷ walks) k = sets_names walk.names walk.left (λ left. sets_walks walks (λ more. k (record { names = walk.names; left = left } ∷ more)))
+
+-- A turn is counted before its variables are set.
+abbrev pub foreach_turns : List Walk → Text → Program
+foreach_turns walks body = either (is_over walks) (done (ok []))
+    (act Charge (λ T. sets_walks walks (λ rest. go (Script body) (λ c. after_body c.code c (go (Foreach rest body) done)))))
+
+abbrev pub foreach_form : Text
+foreach_form = codes "foreach varList list ?varList list ...? command"
+
+-- the lists are read from the left; a list of no variables is refused
+abbrev pub walk_of : List Text → List Text → (Walk → Program) → Program
+walk_of [] left k = fails (wrong_args foreach_form)
+walk_of (name ∷ names) left k = k (record { names = name ∷ names; left = left })
+
+abbrev pub walks_of : List Text → List Walk → (List Walk → Text → Program) → Program
+walks_of (names ∷ elements ∷ rest) walks k =
+    or_fails fault_message (list_of names) (λ xs. or_fails fault_message (list_of elements) (λ ys. walk_of xs ys (λ walk. walks_of rest (walks ++ walk ∷ []) k)))
+walks_of (body ∷ []) walks k = k walks body
+walks_of [] walks k = fails (wrong_args foreach_form)
+
+abbrev pub is_odd_many : {A : Type 0} → List A → Bool
+is_odd_many [] = false
+is_odd_many (x ∷ []) = true
+is_odd_many (x ∷ y ∷ xs) = is_odd_many xs
+
+-- `foreach varList list ?varList list ...? command`
+abbrev pub foreach : List Text → Program
+foreach (names ∷ elements ∷ rest) = either (is_odd_many rest) (walks_of (names ∷ elements ∷ rest) [] (λ walks body. go (Foreach walks body) done)) (fails (wrong_args foreach_form))
+foreach _ = fails (wrong_args foreach_form)
+
+-- ## Procedures
+
+-- a parameter in the form of its procedure
+abbrev pub parameter_form : Text → Option Text → Text
+parameter_form name None = name
+parameter_form name (Some default) = codes "?" ++ name ++ codes "?"
+
+abbrev pub by_default : Text → Option Text → Option (List (Text × Text)) → Option (List (Text × Text))
+by_default name None rest = None
+by_default name (Some default) None = None
+by_default name (Some default) (Some rest) = Some ((name, default) ∷ rest)
+
+-- whether a last parameter takes all words that are left
+abbrev pub is_rest : Text → Bool
+is_rest name = bytes_eq name (codes "args")
+
+abbrev pub last_form : Parameter → Text
+last_form p = either (is_rest p.name) (codes "?arg ...?") (parameter_form p.name p.default)
+
+abbrev pub parameters_form : List Parameter → Text
+parameters_form [] = []
+parameters_form (p ∷ []) = 32 ∷ last_form p
+parameters_form (p ∷ q ∷ ps) = 32 ∷ (parameter_form p.name p.default ++ parameters_form (q ∷ ps))
+
+-- the form of a call of a procedure
+abbrev pub proc_form : Text → List Parameter → Text
+proc_form name ps = name ++ parameters_form ps
+
+abbrev pub also : Text × Text → Option (List (Text × Text)) → Option (List (Text × Text))
+also binding None = None
+also binding (Some rest) = Some (binding ∷ rest)
+
+-- a last parameter, where these words are left
+abbrev pub last_bound : Bool → Parameter → List Text → Option (List (Text × Text))
+last_bound true p words = Some ((p.name, written_list words) ∷ [])
+last_bound false p (word ∷ []) = Some ((p.name, word) ∷ [])
+last_bound false p (word ∷ more ∷ words) = None
+last_bound false p [] = by_default p.name p.default (Some [])
+
+-- What the parameters of a call are bound to, from the left: a word, or the default where none is left. A last `args` takes the list
+-- of what is left. None where words are too few or too many.
+abbrev pub bindings : List Parameter → List Text → Option (List (Text × Text))
+bindings [] [] = Some []
+bindings [] (word ∷ words) = None
+bindings (p ∷ []) words = last_bound (is_rest p.name) p words
+bindings (p ∷ q ∷ ps) (word ∷ words) = also (p.name, word) (bindings (q ∷ ps) words)
+bindings (p ∷ q ∷ ps) [] = by_default p.name p.default (bindings (q ∷ ps) [])
+
+-- the variables are set in the frame on top
+abbrev pub bound : List (Text × Text) → Chain → Chain
+bound [] chain = chain
+bound (b ∷ bs) chain = bound bs (chain_or chain (after_set chain b.0 b.1))
+
+abbrev pub fit_all : List (Text × Text) → Bool
+fit_all [] = true
+fit_all (b ∷ bs) = fits b.1 && fit_all bs
+
+-- the own part in a call, and after it
+abbrev pub in_frame : List Text → List (Text × Text) → Own → Own
+in_frame words bs own = with_chain own (bound bs (pushed own.chain words))
+
+abbrev pub out_of_frame : Own → Own
+out_of_frame own = with_chain own (popped own.chain)
+
+abbrev pub runs_body : ProcedureView → List Text → List (Text × Text) → Program
+runs_body p words bs = look (λ n. inside (Framed (in_frame words bs n.own) out_of_frame) (Script p.body) (λ c. done (leave_proc c)))
+
+abbrev pub call_bound : ProcedureView → Text → List Text → Option (List (Text × Text)) → Program
+call_bound p name words None = fails (wrong_args (proc_form name p.parameters))
+call_bound p name words (Some bs) = either (fit_all bs) (runs_body p words bs) (done too_long)
+
+-- A call of a procedure binds its parameters in a frame of its own and runs the body that it had when it was called.
+abbrev pub procedure : ProcedureView → Text → List Text → Program
+procedure p name args = call_bound p name (name ∷ args) (bindings p.parameters args)

@@ -1,0 +1,14 @@
+pub mod Control
+pub mod Definitions
+pub mod Faults
+pub mod Hosting
+pub mod Inspection
+pub mod Instructions
+pub mod Interpreters
+pub mod Names
+pub mod Playing
+pub mod Rows
+pub mod Scripts
+pub mod Table
+pub mod Variables
+pub mod Words

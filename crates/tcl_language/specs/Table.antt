@@ -1,0 +1,131 @@
+-- What each instruction does, and what each entry: the table of commands.
+use Rattle.std.specs.Prelude.{ℕ, Bool, true, false, List, [], ◌∷◌, ◌++◌, Option, Some, None, Result, Ok, Err, codes}
+use Rattle.std.specs.Str.{bytes_eq}
+use Rattle.std.specs.Map.{lookup}
+use Rattle.tcl_core.specs.Paths.{Text}
+use Rattle.tcl_core.specs.Endings.{Completion, ok, error, settle}
+use Rattle.tcl_core.specs.Entries.{Entry, Said}
+use Rattle.tcl_core.specs.Entries.Entry.{Eval, CallWords, InvokeHidden, SetAlias, ClearAlias, Hide, Expose, SetCountLimit, SetDepthLimit, Create, Delete, Ask, AskHost}
+use Rattle.tcl_core.specs.Entries.Said.{Finished, Told}
+use Rattle.tcl_core.specs.Trees.{Node}
+use Rattle.tcl_core.specs.Programs.{Table}
+use Rattle.tcl_core.specs.Programs.Act.{Charge}
+use Rattle.tcl_core.specs.Programs.Wrap.{Deeper, Framed}
+use Rattle.tcl_core.specs.Programs.Prog.{done, act, go, inside, call}
+use Rattle.tcl_text.specs.declared.integer.Integers.{Integers}
+use Rattle.tcl_text.specs.Writing.{written_list}
+use Rattle.tcl_tree.specs.Own.{Own}
+use Rattle.tcl_tree.specs.Commands.{AliasView}
+use Rattle.tcl_tree.specs.declared.builtin.Builtin.{Builtin}
+use Rattle.tcl_tree.specs.declared.builtin.Builtin.TheVariants as name
+use Rattle.tcl_tree.specs.declared.command.Command.{Command}
+use Rattle.tcl_tree.specs.declared.command.Command.TheVariants as command
+use Rattle.tcl_language.specs.Instructions.{Instr, Program, fails, gives, look}
+use Rattle.tcl_language.specs.Instructions.Instr.{Script, Commands, Words, Parts, Call, Target, Invoke, Hidden, Foreach, Serve}
+use Rattle.tcl_language.specs.Faults.{invalid_command, invalid_hidden, lost_alias, bad_name}
+use Rattle.tcl_language.specs.Scripts as scripts
+use Rattle.tcl_language.specs.Variables as variables
+use Rattle.tcl_language.specs.Control as control
+use Rattle.tcl_language.specs.Definitions as definitions
+use Rattle.tcl_language.specs.Hosting as hosting
+use Rattle.tcl_language.specs.Inspection as inspection
+use Rattle.tcl_language.specs.Interpreters as interpreters
+use Rattle.tcl_language.specs.Control.{at_level, level_over}
+use Rattle.tcl_tree.specs.Naming.{command_name}
+
+-- the program of a built-in command with its arguments; a command that isn't written yet is no command
+abbrev pub builtin : Integers → Builtin → Text → List Text → Program
+builtin style name.Set word args = variables.set args
+builtin style name.Unset word args = variables.unset args
+builtin style name.Incr word args = variables.incr style args
+builtin style name.Append word args = variables.append args
+builtin style name.Global word args = variables.global args
+builtin style name.Upvar word args = variables.upvar style args
+builtin style name.Uplevel word args = control.uplevel style args
+builtin style name.Eval word args = control.eval args
+builtin style name.Catch word args = control.catch args
+builtin style name.Error word args = control.error args
+builtin style name.Break word args = control.breaks args
+builtin style name.Continue word args = control.continues args
+builtin style name.Foreach word args = control.foreach args
+builtin style name.List word args = gives (written_list args)
+builtin style name.Info word args = inspection.info style args
+builtin style name.Proc word args = definitions.proc args
+builtin style name.Rename word args = definitions.rename args
+builtin style name.Interp word args = interpreters.interp style args
+builtin style name.Puts word args = hosting.puts args
+builtin style name.Exit word args = hosting.exit_with style args
+builtin style _ word args = fails (invalid_command word)
+
+-- the name by which a child is kept, whose command was called so
+abbrev pub child_name : Option Text → Text
+child_name None = []
+child_name (Some plain) = plain
+
+abbrev pub dispatch : Integers → Text → List Text → (Text → Text) → Option Command → Program
+dispatch style word args missing None = fails (missing word)
+dispatch style word args missing (Some (command.Builtin b)) = builtin style b word args
+dispatch style word args missing (Some (command.Procedure p)) = control.procedure p word args
+dispatch style word args missing (Some (command.Alias a)) = interpreters.call_alias a word args
+dispatch style word args missing (Some command.Child) = interpreters.child style (child_name (command_name word)) args
+
+-- on with the name by which a command is kept, or the error that no command has such a name
+abbrev pub kept_name : Option Text → Text → (Text → Program) → Program
+kept_name None word k = fails (bad_name word)
+kept_name (Some plain) word k = k plain
+
+-- A call looks the first word up among the commands; among these no hidden name is found.
+abbrev pub called : Integers → List Text → Program
+called style [] = done (ok [])
+called style (word ∷ args) = kept_name (command_name word) word (λ plain. look (λ n. dispatch style word args invalid_command (lookup (bytes_eq plain) n.own.commands)))
+
+-- and one of a hidden command among the hidden ones
+abbrev pub invoked : Integers → List Text → Program
+invoked style [] = done (ok [])
+invoked style (word ∷ args) = look (λ n. dispatch style word args invalid_hidden (lookup (bytes_eq word) n.own.hidden))
+
+-- no word is one empty word
+abbrev pub some_words : List Text → List Text
+some_words [] = [] ∷ []
+some_words (word ∷ words) = word ∷ words
+
+abbrev pub settled : Completion → Program
+settled c = done (settle c)
+
+-- a hidden command is counted, then nested, then looked up, at level 0 where that is asked for; and settled
+abbrev pub invoked_at : Bool → List Text → Program
+invoked_at true words = look (λ n. inside (Framed (at_level 0 n.own) level_over) (Invoke words) settled)
+invoked_at false words = go (Invoke words) settled
+
+-- What another interpreter, or the outside, asks for.
+abbrev pub serve : Integers → Entry → Program
+serve style (Eval text) = go (Script text) settled
+serve style (CallWords words) = act Charge (λ T. go (Target (some_words words)) done)
+serve style (InvokeHidden is_global words) = act Charge (λ T. invoked_at is_global (some_words words))
+serve style (SetAlias name up down words) = interpreters.sets_alias name up down words
+serve style (ClearAlias name) = interpreters.clears_alias name
+serve style (Hide name hidden) = interpreters.hides name hidden
+serve style (Expose hidden name) = interpreters.exposes hidden name
+serve style (SetCountLimit limit) = interpreters.limits limit
+serve style (SetDepthLimit limit) = interpreters.limits_depth limit
+serve style (Create None safe) = look (λ n. interpreters.creates (interpreters.free_name n.own) safe)
+serve style (Create (Some name) safe) = interpreters.creates name safe
+serve style (Delete name) = interpreters.deletes name
+serve style (Ask question) = interpreters.answers question
+serve style (AskHost request) = done (ok [])
+
+abbrev pub program : Integers → Instr → Program
+program style (Script text) = scripts.script text
+program style (Commands commands fault last) = scripts.commands commands fault last
+program style (Words words before) = scripts.words words before
+program style (Parts parts elements before) = scripts.parts parts elements before
+program style (Call words) = called style words
+program style (Target words) = inside Deeper (Call words) done
+program style (Invoke words) = inside Deeper (Hidden words) done
+program style (Hidden words) = invoked style words
+program style (Foreach walks body) = control.foreach_turns walks body
+program style (Serve entry) = serve style entry
+
+-- the language, in a style of integer texts
+abbrev pub language : Integers → Table Own Instr
+language style = record { program = program style; entry = serve style; lost = error (codes "could not find interpreter \"\"") }
