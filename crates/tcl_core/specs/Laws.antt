@@ -219,6 +219,20 @@ QuietOutside O I = (prog : Table O I) → AllCall prog → (c : Place) (w v : Wo
     Lives prog w v e → v.tape ≡ [] → w.tape ≡ first ++ ev ∷ (mid ++ last) → turn c ev ≡ Enters → NoLeaving c mid →
     rest (after mid (after (first ++ ev ∷ []) w.tree)) c ≡ rest (after (first ++ ev ∷ []) w.tree) c
 
+-- nobody in the subtree at c calls an interpreter outside it, or the host
+abbrev pub Inward : {O : Type 0} → Option Place → What O → Type 0
+Inward (Some q) (Out h down i) = rise_to h q ≡ None → Prim.⊥
+Inward b x = Unit {0}
+
+abbrev pub AreInward : {O : Type 0} → Place → List (Event O) → Type 0
+AreInward c [] = Unit {0}
+AreInward c (ev ∷ τ) = Inward (strip c ev.place) ev.what × AreInward c τ
+
+-- Where the evaluation is in the subtree at c and nobody there calls outside it, all outside it is afterwards what it was.
+abbrev pub Untouched : Type 0 → Type 0 → Type 0
+Untouched O I = (prog : Table O I) → AllCall prog → (c : Place) (w v : World O) (t : Path) (i : Entry) (r : Reply) →
+    Visits prog (Runs prog) w None (c ++ t) i v (Some r) → AreInward c w.tape → rest v.tree c ≡ rest w.tree c
+
 -- a reply, told at q in c, that is a stop which names c or one above it, or an end from outside
 abbrev pub ends_in : Place → Reply → Bool
 ends_in q (Stop n m) = nat_le (length q) n
