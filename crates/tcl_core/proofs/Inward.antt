@@ -1,12 +1,11 @@
 -- What calls nobody outside changes nothing there.
-use Rattle.std.proofs.Common.{sym, ◌≡◌, ℕ, ℤ, List, [], ◌∷◌, ◌++◌, Option, Some, None, length, refl, ◌∙◌, ap, subst, append_assoc}
+use Rattle.std.proofs.Common.{sym, ◌≡◌, ℕ, List, ◌++◌, Option, Some, None, refl, ◌∙◌, ap, subst, append_assoc}
 use Rattle.tcl_core.specs.Paths.{Path, Place, Height, strip, rise_to}
-use Rattle.tcl_core.specs.Endings.{Reply}
 use Rattle.tcl_core.specs.Entries.{Entry}
-use Rattle.tcl_core.specs.Trees.{Node, What, Event, effect}
-use Rattle.tcl_core.specs.Trees.What.{Out, In, Done, Back}
-use Rattle.tcl_core.specs.Programs.{spot, Prog, Table, closes}
-use Rattle.tcl_core.specs.Tables.{Calls_only, AllCall}
+use Rattle.tcl_core.specs.Trees.{Node, What, effect}
+use Rattle.tcl_core.specs.Trees.What.{Out, In, Done}
+use Rattle.tcl_core.specs.Programs.{spot, Prog, Table}
+use Rattle.tcl_core.specs.Programs.{Calls_only}
 use Rattle.tcl_core.specs.Runs.{World, Step, Ending, entering, where_stands}
 use Rattle.tcl_core.specs.Rules.{Derives}
 use Rattle.tcl_core.specs.Rules.Derives.{completed, exited, acted, refused, unheard, went, passed, halted, wrapped, wrapped_passed, wrapped_halted, too_deep, shut, unheard_inside, called, called_passed, called_halted, unreached, called_out, unanswered, unfit, answered, heard, answered_passed, entered, entered_halted, entered_exiting, born, fallen}
@@ -60,10 +59,10 @@ module _ {O : Type 0} (c : Place) where
           let there : t ≡ c ++ (b ++ down) = reached_at n t (a ++ down) j ∙ ap (λ l. l ++ down) top ∙ append_assoc c b down in
           (b ++ down, ap (strip c) there ∙ strip_own c (b ++ down))
 
-module _ {O I : Type 0} (c : Place) (prog : Table O I) (all : AllCall prog) where
+module _ {O I : Type 0} (c : Place) (prog : Table O I) where
   fit_entry : (n : Option (Node O)) (i : Entry) → Calls_only (entering prog n i)
   fit_entry None i = tt
-  fit_entry (Some n) i = all.entries i
+  fit_entry (Some n) i = prog.entries_call i
 
   keep : {w : World O} {p : Place} {x : Prog O I} {v : World O} {e : Ending} → Derives prog w p x v e → (q : Place) → strip c p ≡ Some q → Calls_only x → AreInward c w.tape → Kept c w v
   keep (completed w p y) q n f h = (refl, h)
@@ -71,14 +70,14 @@ module _ {O I : Type 0} (c : Place) (prog : Table O I) (all : AllCall prog) wher
   keep (acted w p d k x u v e g on s a) q n f h = step c w _ (spot q x.0) x.1 u v (spot_in c p q x.0 n) s h (λ j. keep a q n (f _) j)
   keep (refused w p d k x r u g off s) q n f h = step c w _ (spot q x.0) x.1 u u (spot_in c p q x.0 n) s h (λ j. (refl, j))
   keep (unheard w p d k g t) q n f h = (refl, h)
-  keep (went w p i k u y v e a b) q n f h = run c w u v (keep a q n (all.programs i) h) (λ j. keep b q n (f y) j)
-  keep (passed w p i k u r l a) q n f h = keep a q n (all.programs i) h
-  keep (halted w p i k u a) q n f h = keep a q n (all.programs i) h
+  keep (went w p i k u y v e a b) q n f h = run c w u v (keep a q n (prog.programs_call i) h) (λ j. keep b q n (f y) j)
+  keep (passed w p i k u r l a) q n f h = keep a q n (prog.programs_call i) h
+  keep (halted w p i k u a) q n f h = keep a q n (prog.programs_call i) h
   keep (wrapped w p b i k x inner left closed v y e g on s a t d) q n f h =
-      step c w _ (spot q x.0) x.1 inner v (spot_in c p q x.0 n) s h (λ j. run c inner left v (keep a q n (all.programs i) j) (λ j2. step c left p q _ closed v n t j2 (λ j3. keep d q n (f y) j3)))
+      step c w _ (spot q x.0) x.1 inner v (spot_in c p q x.0 n) s h (λ j. run c inner left v (keep a q n (prog.programs_call i) j) (λ j2. step c left p q _ closed v n t j2 (λ j3. keep d q n (f y) j3)))
   keep (wrapped_passed w p b i k x inner left closed r l g on s a t) q n f h =
-      step c w _ (spot q x.0) x.1 inner closed (spot_in c p q x.0 n) s h (λ j. run c inner left closed (keep a q n (all.programs i) j) (λ j2. step c left p q _ closed closed n t j2 (λ j3. (refl, j3))))
-  keep (wrapped_halted w p b i k x inner left g on s a) q n f h = step c w _ (spot q x.0) x.1 inner left (spot_in c p q x.0 n) s h (λ j. keep a q n (all.programs i) j)
+      step c w _ (spot q x.0) x.1 inner closed (spot_in c p q x.0 n) s h (λ j. run c inner left closed (keep a q n (prog.programs_call i) j) (λ j2. step c left p q _ closed closed n t j2 (λ j3. (refl, j3))))
+  keep (wrapped_halted w p b i k x inner left g on s a) q n f h = step c w _ (spot q x.0) x.1 inner left (spot_in c p q x.0 n) s h (λ j. keep a q n (prog.programs_call i) j)
   keep (too_deep w p b i k x u v e g deep s a) q n f h = step c w _ (spot q x.0) x.1 u v (spot_in c p q x.0 n) s h (λ j. keep a q n (f _) j)
   keep (shut w p b i k x r u g off s) q n f h = step c w _ (spot q x.0) x.1 u u (spot_in c p q x.0 n) s h (λ j. (refl, j))
   keep (unheard_inside w p b i k g t) q n f h = (refl, h)
@@ -113,9 +112,9 @@ module _ {O I : Type 0} (c : Place) (prog : Table O I) (all : AllCall prog) wher
 
 module _ {O I : Type 0} where
   pub untouched : Untouched O I
-  untouched prog all c w v t i r a f =
+  untouched prog c w v t i r a f =
       let n : strip c (c ++ t) ≡ Some t = strip_own c t in
       let k : Kept c w v =
-      step c w (c ++ t) t (In None i) a.entered v n a.entry f (λ j. run c a.entered a.left v (keep c prog all (runs_derived prog a.entered (c ++ t) (entering prog (w.tree (c ++ t)) i) a.left (Some r) a.run) t n (fit_entry c prog all (w.tree (c ++ t)) i) j)
+      step c w (c ++ t) t (In None i) a.entered v n a.entry f (λ j. run c a.entered a.left v (keep c prog (runs_derived prog a.entered (c ++ t) (entering prog (w.tree (c ++ t)) i) a.left (Some r) a.run) t n (fit_entry c prog (w.tree (c ++ t)) i) j)
       (λ l. step c a.left (c ++ t) t (Done None r) v v n a.leaving l (λ m. (refl, m)))) in
       k.0
