@@ -28,3 +28,4 @@ pub mod Depths
 pub mod Safeguards
 pub mod Standing
 pub mod Beginnings
+pub mod Inward

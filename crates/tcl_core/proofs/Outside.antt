@@ -11,7 +11,7 @@ use Rattle.tcl_core.specs.Trees.What.{Changed, Charged, Nested, Unnested, Limite
 use Rattle.tcl_core.specs.Trees.Move.{Born, Fall, Enter, Come}
 use Rattle.tcl_core.specs.Programs.{Deed, spot, Act, Wrap, Wait, Prog, Table, decide, opens, closes}
 use Rattle.tcl_core.specs.Programs.Prog.{done, exit, act, go, inside, call, wait}
-use Rattle.tcl_core.specs.Tables.{Calls_only, AllCall}
+use Rattle.tcl_core.specs.Programs.{Calls_only}
 use Rattle.tcl_core.specs.Runs.{World, Step, Ending, Halts, Exits, Exiting, entering, reached, where_stands, ends_call, height_of}
 use Rattle.tcl_core.specs.Rules.{Derives}
 use Rattle.tcl_core.specs.Rules.Derives.{completed, exited, acted, refused, unheard, went, passed, halted, wrapped, wrapped_passed, wrapped_halted, too_deep, shut, unheard_inside, called, called_passed, called_halted, unreached, called_out, unanswered, unfit, answered, heard, answered_passed, entered, entered_halted, entered_exiting, born, fallen}
@@ -310,7 +310,7 @@ module _ {O I : Type 0} (prog : Table O I) where
   halted_tape (born w p s k o b u v e f t a) q = halted_tape a q
   halted_tape (fallen w p s k u v e f t a) q = halted_tape a q
 
-module _ {O I : Type 0} (top : Place) (prog : Table O I) (all : AllCall prog) where
+module _ {O I : Type 0} (top : Place) (prog : Table O I) where
   -- where a program's control is: at p, or outside while it waits
   abbrev Control : World O → Place → Prog O I → Type 0
   Control w p (wait s k) = Tracked top w.tape (gone (strip top p) (height_of s))
@@ -341,7 +341,7 @@ module _ {O I : Type 0} (top : Place) (prog : Table O I) (all : AllCall prog) wh
 
   fit_entry : (n : Option (Node O)) (i : Entry) → Calls_only (entering prog n i)
   fit_entry None i = tt
-  fit_entry (Some n) i = all.entries i
+  fit_entry (Some n) i = prog.entries_call i
 
   no_tape : (w : World O) (b : Bool) → w.tape ≡ [] → Tracked top w.tape b
   no_tape w b e = subst (λ τ. Tracked top τ b) (sym e) tt
@@ -373,14 +373,14 @@ module _ {O I : Type 0} (top : Place) (prog : Table O I) (all : AllCall prog) wh
   track (acted w p d k x u v e g on s a) f h = act_here top w p d x u g s (control_here u p _ (f _) (track a (fit_of _ (f _)) h))
   track (refused w p d k x r u g off s) f h = act_here top w p d x u g s h
   track (unheard w p d k g t) f h = h
-  track (went w p i k u c v e a b) f h = control_here w p _ (all.programs i) (track a (fit_of _ (all.programs i)) (control_here u p _ (f c) (track b (fit_of _ (f c)) h)))
-  track (passed w p i k u r q a) f h = control_here w p _ (all.programs i) (track a (fit_of _ (all.programs i)) h)
-  track (halted w p i k u a) f h = control_here w p _ (all.programs i) (track a (fit_of _ (all.programs i)) h)
+  track (went w p i k u c v e a b) f h = control_here w p _ (prog.programs_call i) (track a (fit_of _ (prog.programs_call i)) (control_here u p _ (f c) (track b (fit_of _ (f c)) h)))
+  track (passed w p i k u r q a) f h = control_here w p _ (prog.programs_call i) (track a (fit_of _ (prog.programs_call i)) h)
+  track (halted w p i k u a) f h = control_here w p _ (prog.programs_call i) (track a (fit_of _ (prog.programs_call i)) h)
   track (wrapped w p b i k x inner left closed v c e g on s a t d) f h =
-      open_here top w p b x inner g s (control_here inner p _ (all.programs i) (track a (fit_of _ (all.programs i)) (close_here top left p b closed t (control_here closed p _ (f c) (track d (fit_of _ (f c)) h)))))
+      open_here top w p b x inner g s (control_here inner p _ (prog.programs_call i) (track a (fit_of _ (prog.programs_call i)) (close_here top left p b closed t (control_here closed p _ (f c) (track d (fit_of _ (f c)) h)))))
   track (wrapped_passed w p b i k x inner left closed r q g on s a t) f h =
-      open_here top w p b x inner g s (control_here inner p _ (all.programs i) (track a (fit_of _ (all.programs i)) (close_here top left p b closed t h)))
-  track (wrapped_halted w p b i k x inner left g on s a) f h = open_here top w p b x inner g s (control_here inner p _ (all.programs i) (track a (fit_of _ (all.programs i)) h))
+      open_here top w p b x inner g s (control_here inner p _ (prog.programs_call i) (track a (fit_of _ (prog.programs_call i)) (close_here top left p b closed t h)))
+  track (wrapped_halted w p b i k x inner left g on s a) f h = open_here top w p b x inner g s (control_here inner p _ (prog.programs_call i) (track a (fit_of _ (prog.programs_call i)) h))
   track (too_deep w p b i k x u v e g deep s a) f h = open_here top w p b x u g s (control_here u p _ (f _) (track a (fit_of _ (f _)) h))
   track (shut w p b i k x r u g off s) f h = open_here top w p b x u g s h
   track (unheard_inside w p b i k g t) f h = h
@@ -445,8 +445,8 @@ module _ {O : Type 0} (c : Place) where
 
 module _ {O I : Type 0} where
   pub quiet_outside : QuietOutside O I
-  quiet_outside prog all c w v e first mid last ev a f g h n =
-      let t : Control c prog all w [] (wait idle never) = track c prog all (runs_derived prog w [] (wait idle never) v e a) (λ y. tt) (no_tape c prog all v _ f) in
+  quiet_outside prog c w v e first mid last ev a f g h n =
+      let t : Control c prog w [] (wait idle never) = track c prog (runs_derived prog w [] (wait idle never) v e a) (λ y. tt) (no_tape c prog v _ f) in
       let s : (d : Bool) × Tracked c (ev ∷ (mid ++ last)) d = tracked_after c first (ev ∷ (mid ++ last)) (gone (strip c []) None) (subst (λ τ. Tracked c τ (gone (strip c []) None)) g t) in
       let y : Turned (Tracked c (mid ++ last)) Enters s.0 = subst (λ x. Turned (Tracked c (mid ++ last)) x s.0) h s.1 in
       quiet c mid last (after (first ++ ev ∷ []) w.tree) y.1 n

@@ -12,7 +12,7 @@ use Rattle.tcl_core.specs.Trees.{Node, Tree, Event, What, Move, effect}
 use Rattle.tcl_core.specs.Trees.Grants.{Budget}
 use Rattle.tcl_core.specs.Trees.What.{Changed, Charged, Nested, Unnested, Out, In, Done, Back}
 use Rattle.tcl_core.specs.Trees.Move.{Enter}
-use Rattle.tcl_core.specs.Programs.{Prog, Table}
+use Rattle.tcl_core.specs.Programs.{Prog, Calls_only, Table}
 use Rattle.tcl_core.specs.Programs.Act.{Charge, Change}
 use Rattle.tcl_core.specs.Programs.Wrap.{Deeper}
 use Rattle.tcl_core.specs.Programs.Prog.{done, act, inside, call, wait}
@@ -48,8 +48,20 @@ abbrev pub entry : Entry → Prog ℕ Script
 entry (Eval t) = inside Deeper (script_of t) done
 entry i = done lost
 
+abbrev pub finish_calls : (a : Said) → Calls_only (finish a)
+finish_calls (Finished c) = tt
+finish_calls (Told a) = tt
+
+abbrev pub program_calls : (i : Script) → Calls_only (program i)
+program_calls SetSeven = λ T. λ U. tt
+program_calls TellChild = λ T. finish_calls
+
+abbrev pub entry_calls : (i : Entry) → Calls_only (entry i)
+entry_calls (Eval t) = λ c. tt
+entry_calls i = tt
+
 abbrev pub commands : Table ℕ Script
-commands = record { program = program; entry = entry; lost = lost }
+commands = record { program = program; entry = entry; lost = lost; programs_call = program_calls; entries_call = entry_calls }
 
 abbrev pub root : Node ℕ
 root = record { own = 0; safe = false; root = true; count = 0; limit = None; depth = 0; depth_limit = 1000 }

@@ -15,7 +15,7 @@ use Rattle.tcl_core.specs.Programs.Next.{On, Off}
 use Rattle.tcl_core.specs.Programs.Prog.{act, go, inside, call, wait}
 use Rattle.tcl_core.specs.Runs.{World, Ending, Step, Runs, Visits, carried, reached, fits}
 use Rattle.tcl_core.specs.Views.{grants_of, moves_of, steps_of, view, inside_of}
-use Rattle.tcl_core.specs.Tables.{AllCall, Discipline, Keeps_to, IsGood, AreTame, AreAllowed, exposes, hostless, sets_limit, unlimiting}
+use Rattle.tcl_core.specs.Tables.{Discipline, Keeps_to, IsGood, AreTame, AreAllowed, exposes, hostless, sets_limit, unlimiting}
 use Rattle.tcl_core.specs.Lives.{Lives, Outcome, React, outs_of, outcome_of}
 
 -- the same world with another tape
@@ -215,9 +215,23 @@ NoLeaving c (ev ∷ τ) = (turn c ev ≡ Leaves → Prim.⊥) × NoLeaving c τ
 
 -- From an entry into c, or an answer to a call of c's, to the next call or end that leaves it, nothing outside c changes.
 abbrev pub QuietOutside : Type 0 → Type 0 → Type 0
-QuietOutside O I = (prog : Table O I) → AllCall prog → (c : Place) (w v : World O) (e : Ending) (first mid last : List (Event O)) (ev : Event O) →
+QuietOutside O I = (prog : Table O I) (c : Place) (w v : World O) (e : Ending) (first mid last : List (Event O)) (ev : Event O) →
     Lives prog w v e → v.tape ≡ [] → w.tape ≡ first ++ ev ∷ (mid ++ last) → turn c ev ≡ Enters → NoLeaving c mid →
     rest (after mid (after (first ++ ev ∷ []) w.tree)) c ≡ rest (after (first ++ ev ∷ []) w.tree) c
+
+-- nobody in the subtree at c calls an interpreter outside it, or the host
+abbrev pub Inward : {O : Type 0} → Option Place → What O → Type 0
+Inward (Some q) (Out h down i) = rise_to h q ≡ None → Prim.⊥
+Inward b x = Unit {0}
+
+abbrev pub AreInward : {O : Type 0} → Place → List (Event O) → Type 0
+AreInward c [] = Unit {0}
+AreInward c (ev ∷ τ) = Inward (strip c ev.place) ev.what × AreInward c τ
+
+-- Where the evaluation is in the subtree at c and nobody there calls outside it, all outside it is afterwards what it was.
+abbrev pub Untouched : Type 0 → Type 0 → Type 0
+Untouched O I = (prog : Table O I) (c : Place) (w v : World O) (t : Path) (i : Entry) (r : Reply) →
+    Visits prog (Runs prog) w None (c ++ t) i v (Some r) → AreInward c w.tape → rest v.tree c ≡ rest w.tree c
 
 -- a reply, told at q in c, that is a stop which names c or one above it, or an end from outside
 abbrev pub ends_in : Place → Reply → Bool

@@ -115,11 +115,10 @@ handed w ms = record { tree = w.tree; moves = ms; grants = w.grants; tape = w.ta
 abbrev pub unwound : {O : Type 0} → World O → List (Move O) → ℕ → Reply → List (Event O) → World O
 unwound w ms k r τ = record { tree = w.tree; moves = ms ++ copies k (Come (Replied r)); grants = w.grants; tape = τ }
 
--- what ends the open calls where the run is over: that it is, or the exit by which an entry of the innermost of them ended
-abbrev pub IsEnd : Reply → Type 0
-IsEnd (Cut Over) = Unit {0}
-IsEnd (Exit n) = Unit {0}
-IsEnd _ = Prim.⊥
+-- what ends the open calls where a move doesn't fit: the exit by which the last entry ended, or else that the run is over
+abbrev pub end_of : Outcome → Reply
+end_of (Exited n) = Exit n
+end_of x = Cut Over
 
 -- after an exit the rest is left unread
 abbrev pub AllRead : {O : Type 0} → Outcome → List (Move O) → Type 0
@@ -138,8 +137,8 @@ pub data Reacts {O I : Type 0} (prog : Table O I) : World O → World O → Outc
   waiting : (w v : World O) (k : ℕ) → Lives prog w v None → IsUncut w.tape → InProgress (suc k) w.tape → v.moves ≡ [] → Reacts prog w v Waiting
   -- an answer where no call is open; and a move that doesn't fit where one is: the tree is left as if an end from outside had come in its place
   uncalled : (w v : World O) (m : Move O) (rest : List (Move O)) → Lives prog w v None → IsUncut w.tape → InProgress 0 w.tape → outcome_of w.tape Finished ≡ Finished → v.moves ≡ m ∷ rest → Reacts prog w v Misfit
-  unfit : (w u v : World O) (k : ℕ) (ms : List (Move O)) (m : Move O) (rest : List (Move O)) (r : Reply) (τ : List (Event O)) → Lives prog w u None → IsUncut w.tape → InProgress (suc k) w.tape →
-      u.moves ≡ m ∷ rest → w.moves ≡ ms ++ m ∷ rest → IsEnd r → Lives prog (unwound w ms (suc k) r τ) v None → v.moves ≡ [] → Reacts prog w v Misfit
+  unfit : (w u v : World O) (k : ℕ) (ms : List (Move O)) (m : Move O) (rest : List (Move O)) (τ : List (Event O)) → Lives prog w u None → IsUncut w.tape → InProgress (suc k) w.tape →
+      u.moves ≡ m ∷ rest → w.moves ≡ ms ++ m ∷ rest → Lives prog (unwound w ms (suc k) (end_of (outcome_of w.tape Finished)) τ) v None → v.moves ≡ [] → Reacts prog w v Misfit
   -- an answer from outside ends the open call, and so all that are open
   ended_so : (w u v : World O) (k : ℕ) (ms : List (Move O)) (c : Cause) (rest : List (Move O)) (τ : List (Event O)) → w.moves ≡ ms ++ Come (Replied (Cut c)) ∷ rest → Lives prog (handed w ms) u None → u.moves ≡ [] →
       IsUncut w.tape → InProgress (suc k) w.tape → Lives prog (unwound w ms (suc k) (Cut Above) τ) v None → v.moves ≡ [] → Reacts prog w v Ended

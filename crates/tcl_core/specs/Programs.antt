@@ -44,12 +44,24 @@ pub data Prog (O I : Type 0) : Type 0 where
   call : Height → (down : Path) → Entry → (lost : Completion) → (Said → Prog O I) → Prog O I
   wait : Wait → (Said → Prog O I) → Prog O I
 
+-- A program calls, and doesn't wait without a call. (A program that waits for an answer is what a run makes of a call.)
+abbrev pub Calls_only : {O I : Type 0} → Prog O I → Type 0
+Calls_only (done c) = Unit {0}
+Calls_only (exit n) = Unit {0}
+Calls_only {O} (act d k) = (T : Tree O) → Calls_only (k T)
+Calls_only (go i k) = (c : Completion) → Calls_only (k c)
+Calls_only (inside b i k) = (c : Completion) → Calls_only (k c)
+Calls_only (call h down i lost k) = (s : Said) → Calls_only (k s)
+Calls_only (wait s k) = Prim.⊥
+
 -- What the interpreters' commands are: the program of each instruction and of each entry, and what an entry into no interpreter is
--- told (its path is put in where that is shown).
+-- told (its path is put in where that is shown). All of them call, and none waits.
 pub record Table (O I : Type 0) : Type 0 where
   pub program : I → Prog O I
   pub entry : Entry → Prog O I
   pub lost : Completion
+  pub programs_call : (i : I) → Calls_only (program i)
+  pub entries_call : (i : Entry) → Calls_only (entry i)
 
 -- How it goes on after an act: the program goes on; the evaluation is too deep, which is an error; or it ends so.
 pub data Next : Type 0 where

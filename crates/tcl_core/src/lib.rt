@@ -3,7 +3,7 @@
 #![tactic(auto)]
 
 ghost use Rattle.tcl_core.specs.Example.{WorkedLife};
-ghost use Rattle.tcl_core.specs.Laws.{AllAgree, Bounded, Counting, Determinism, Disciplined, Happenings, Inner, Isolation, IsolationUntil, Limiting, LimitsKept, LivesWithin, Moments, MoreMoves, NonInterference, NoRequests, Passing, QuietOutside, Steady, Stopping, TwoWorlds};
+ghost use Rattle.tcl_core.specs.Laws.{AllAgree, Bounded, Counting, Determinism, Disciplined, Happenings, Inner, Isolation, IsolationUntil, Limiting, LimitsKept, LivesWithin, Moments, MoreMoves, NonInterference, NoRequests, Passing, QuietOutside, Steady, Stopping, TwoWorlds, Untouched};
 ghost use Rattle.tcl_core.specs.Meaning.{RulesAreRuns, ThreadsAreRuns, Unrolling};
 
 /// A run is what `Unrolled` says of runs.
@@ -79,6 +79,11 @@ pub fn isolation_until<O, I>()
 /// From an entry into a subtree to the next call or end that leaves it, nothing outside it changes.
 pub fn quiet_outside<O, I>()
     ensures { QuietOutside O I }
+{}
+
+/// Where an evaluation is in a subtree and nobody there calls outside it, all outside it is afterwards what it was.
+pub fn untouched<O, I>()
+    ensures { Untouched O I }
 {}
 
 /// Once a stop that names an interpreter or one above it is raised in its subtree or comes into it, no step is made there before it has left.
