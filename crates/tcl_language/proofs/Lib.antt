@@ -1,3 +1,2 @@
-mod Calling
 mod Played
 mod RowsComputed

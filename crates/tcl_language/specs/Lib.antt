@@ -1,3 +1,4 @@
+pub mod Calling
 pub mod Control
 pub mod Definitions
 pub mod Faults
@@ -5,6 +6,7 @@ pub mod Hosting
 pub mod Inspection
 pub mod Instructions
 pub mod Interpreters
+pub mod Language
 pub mod Names
 pub mod Playing
 pub mod Rows

@@ -7,7 +7,8 @@ use Rattle.tcl_core.specs.Entries.Entry.{Eval}
 use Rattle.tcl_core.specs.Trees.{Node, Tree}
 use Rattle.tcl_text.specs.declared.integer.Integers.TheVariants.{Tcl8}
 use Rattle.tcl_tree.specs.Own.{Own, new_own}
-use Rattle.tcl_language.specs.Table.{language, serve}
+use Rattle.tcl_language.specs.Language.{language}
+use Rattle.tcl_language.specs.Table.{serve}
 use Rattle.tcl_language.specs.Playing.{play, ends}
 
 abbrev pub root : Node Own

@@ -1,4 +1,4 @@
--- What each instruction does, and what each entry: the table of commands.
+-- What each instruction does, and what each entry.
 use Rattle.std.specs.Prelude.{ℕ, Bool, true, false, List, [], ◌∷◌, ◌++◌, Option, Some, None, Result, Ok, Err, codes}
 use Rattle.std.specs.Str.{bytes_eq}
 use Rattle.std.specs.Map.{lookup}
@@ -8,7 +8,6 @@ use Rattle.tcl_core.specs.Entries.{Entry, Said}
 use Rattle.tcl_core.specs.Entries.Entry.{Eval, CallWords, InvokeHidden, SetAlias, ClearAlias, Hide, Expose, SetCountLimit, SetDepthLimit, Create, Delete, Ask, AskHost}
 use Rattle.tcl_core.specs.Entries.Said.{Finished, Told}
 use Rattle.tcl_core.specs.Trees.{Node}
-use Rattle.tcl_core.specs.Programs.{Table}
 use Rattle.tcl_core.specs.Programs.Act.{Charge}
 use Rattle.tcl_core.specs.Programs.Wrap.{Deeper, Framed}
 use Rattle.tcl_core.specs.Programs.Prog.{done, act, go, inside, call}
@@ -125,7 +124,3 @@ program style (Invoke words) = inside Deeper (Hidden words) done
 program style (Hidden words) = invoked style words
 program style (Foreach walks body) = control.foreach_turns walks body
 program style (Serve entry) = serve style entry
-
--- the language, in a style of integer texts
-abbrev pub language : Integers → Table Own Instr
-language style = record { program = program style; entry = serve style; lost = error (codes "could not find interpreter \"\"") }

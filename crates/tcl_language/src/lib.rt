@@ -2,16 +2,8 @@
 //! here is a law.
 #![tactic(auto)]
 
-ghost use Rattle.tcl_core.specs.Tables.{AllCall};
 ghost use Rattle.tcl_language.specs.Playing.{PlayIsRun};
 ghost use Rattle.tcl_language.specs.Rows.{AreRows};
-ghost use Rattle.tcl_language.specs.Table.{language};
-ghost use Rattle.tcl_text.specs.declared.integer.Integers.{Integers};
-
-/// Commands wait only for calls that they made.
-pub fn commands_call()
-    ensures { (style : Integers) → AllCall (language style) }
-{}
 
 /// Worked scripts give what they must.
 pub fn rows()

@@ -1,4 +1,4 @@
--- Commands wait only for calls that they made.
+-- Commands wait only for calls that they made: what is here is the proof that the table brings along.
 use Rattle.std.specs.Prelude.{ℕ, zero, suc, ℤ, pos, negsuc, Bool, true, false, List, [], ◌∷◌, ◌++◌, Option, Some, None, Result, Ok, Err, codes, ◌==◌, ◌+ℤ◌, ◌&&◌, ◌||◌, cond, nat_le, length, is_some, not}
 use Rattle.std.specs.Str.{bytes_eq}
 use Rattle.std.specs.Map.{lookup}
@@ -11,9 +11,10 @@ use Rattle.tcl_core.specs.Entries.Entry.{Eval, CallWords, InvokeHidden, SetAlias
 use Rattle.tcl_core.specs.Entries.Question.{Exists, IsSafe, Aliases, AliasOf, Hidden as HiddenNames, Slaves, CountLimitOf, DepthLimitOf}
 use Rattle.tcl_core.specs.Entries.Said.{Finished, Told}
 use Rattle.tcl_core.specs.Trees.{Node, Tree}
+use Rattle.tcl_core.specs.Programs.{Calls_only}
 use Rattle.tcl_core.specs.Programs.Act.{Look, Limit, LimitDepth}
 use Rattle.tcl_core.specs.Programs.Prog.{done, go, act, exit}
-use Rattle.tcl_core.specs.Tables.{Calls_only, AllCall}
+
 use Rattle.tcl_frames.specs.Chain.{Chain, read, exists_at, words_at, after_set, after_unset, after_link}
 use Rattle.tcl_frames.specs.declared.scope.Scope.{Scope}
 use Rattle.tcl_frames.specs.declared.scope.Scope.TheVariants.{Visible, Global, Local}
@@ -733,7 +734,7 @@ invoked_at : (b : Bool) (ws : List Text) → Calling (table.invoked_at b ws)
 invoked_at true ws = by_look _ (λ n c. tt)
 invoked_at false ws = λ c. tt
 
-serve : (style : Integers) (e : Entry) → Calling (table.serve style e)
+pub serve : (style : Integers) (e : Entry) → Calling (table.serve style e)
 serve style (Eval text) = λ c. tt
 serve style (CallWords ws) = λ T c. tt
 serve style (InvokeHidden b ws) = λ T. invoked_at b (table.some_words ws)
@@ -749,7 +750,7 @@ serve style (Delete name) = deletes name
 serve style (Ask q) = answers q
 serve style (AskHost request) = tt
 
-program : (style : Integers) (i : Instr) → Calling (table.program style i)
+pub program : (style : Integers) (i : Instr) → Calling (table.program style i)
 program style (Script text) = λ c. tt
 program style (Commands ws fault last) = commands ws fault last
 program style (Words ws before) = words ws before
@@ -761,5 +762,3 @@ program style (Hidden ws) = invoked style ws
 program style (Foreach walks body) = foreach_turns walks body
 program style (Serve e) = serve style e
 
-pub commands_call : (style : Integers) → AllCall (table.language style)
-commands_call style = record { programs = program style; entries = serve style }
