@@ -1,17 +1,24 @@
 -- The small life is a life.
-use Rattle.std.proofs.Common.{[], ◌∷◌, Some, None, refl}
+use Rattle.std.proofs.Common.{List, [], ◌∷◌, ◌++◌, ℕ, Some, None, refl}
 use Rattle.tcl_core.specs.Endings.{ok}
-use Rattle.tcl_core.specs.Endings.Reply.{Completed}
+use Rattle.tcl_core.specs.Endings.Meter.{Count}
+use Rattle.tcl_core.specs.Endings.Reply.{Completed, Cut}
+use Rattle.tcl_core.specs.Endings.Cause.{Over}
 use Rattle.tcl_core.specs.Entries.Entry.{Eval}
 use Rattle.tcl_core.specs.Entries.Answer.{Replied}
-use Rattle.tcl_core.specs.Trees.What.{Changed, Charged, Nested, Unnested, Out, In, Done, Back}
-use Rattle.tcl_core.specs.Programs.Next.{On}
+use Rattle.tcl_core.specs.Trees.{Event}
+use Rattle.tcl_core.specs.Trees.Move.{Come}
+use Rattle.tcl_core.specs.Trees.What.{Refused, Changed, Charged, Nested, Unnested, Out, In, Done, Back}
+use Rattle.tcl_core.specs.Programs.Next.{On, Off}
 use Rattle.tcl_core.specs.Programs.Prog.{wait}
-use Rattle.tcl_core.specs.Runs.{Step}
+use Rattle.tcl_core.specs.Runs.{World, Step}
+use Rattle.tcl_core.specs.Views.{view}
+use Rattle.tcl_core.specs.Threads.{event}
 use Rattle.tcl_core.specs.Rules.{Derives}
-use Rattle.tcl_core.specs.Rules.Derives.{completed, acted, wrapped, called, unanswered, entered}
-use Rattle.tcl_core.specs.Lives.{idle, never}
-use Rattle.tcl_core.specs.Example.{WorkedLife, Script, child, commands, entry, program, tell, start, w1, w2, w3, w4, w5, w6, w7, w8, w9, w10, w11, w12, w13}
+use Rattle.tcl_core.specs.Rules.Derives.{completed, acted, refused, wrapped, wrapped_passed, called, unanswered, unfit, entered}
+use Rattle.tcl_core.specs.Lives.{Outcome, alone, idle, never, spent_at, unwound}
+use Rattle.tcl_core.specs.Lives.Reacts.{over, uncalled, spent}
+use Rattle.tcl_core.specs.Example.{WorkedLife, WorkedReactions, child_alone, one_entry, an_answer, log, next, Script, child, commands, entry, program, tell, start, w1, w2, w3, w4, w5, w6, w7, w8, w9, w10, w11, w12, w13}
 use Rattle.tcl_core.proofs.RuleLaws.{derived_runs}
 
 s1 : Step start [] (In None tell) w1
@@ -71,3 +78,83 @@ life = entered _ _ _ _ [] tell w1 w12 w13 _ (Completed (ok [])) _ refl s1 root_r
 
 pub worked_life : WorkedLife
 worked_life = record { life = derived_runs commands life; child_ends = refl; root_ends = refl; child_is_handed = refl; child_tells = refl }
+
+-- THE CHILD ALONE
+abbrev a0 : World ℕ
+a0 = alone child_alone one_entry 1 (view (child ∷ []) log)
+
+abbrev a1 : World ℕ
+a1 = next [] (In None (Eval [])) [] 1 a0
+
+abbrev a2 : World ℕ
+a2 = next [] Nested [] 1 a1
+
+abbrev a3 : World ℕ
+a3 = next [] Charged [] 0 a2
+
+abbrev a4 : World ℕ
+a4 = next [] (Changed 7) [] 0 a3
+
+abbrev a5 : World ℕ
+a5 = next [] Unnested [] 0 a4
+
+abbrev a6 : World ℕ
+a6 = next [] (Done None (Completed (ok []))) [] 0 a5
+
+alone_set : Derives commands a2 [] (program Script.SetSeven) a4 (Some (Completed (ok [])))
+alone_set = acted _ _ _ _ (None, Charged, On) a3 _ _ refl tt (record { tape = refl; tree = refl; moves = refl; grants = refl })
+    (acted _ _ _ _ (None, Changed 7, On) a4 _ _ refl tt (record { tape = refl; tree = refl; moves = refl; grants = refl }) (completed _ _ _))
+
+alone_run : Derives commands a1 [] (entry (Eval [])) a5 (Some (Completed (ok [])))
+alone_run = wrapped _ _ _ _ _ (None, Nested, On) a2 a4 a5 _ (ok []) _ refl refl (record { tape = refl; tree = refl; moves = refl; grants = refl }) alone_set
+    (record { tape = refl; tree = refl; moves = refl; grants = refl }) (completed _ _ _)
+
+alone_life : Derives commands a0 [] (wait idle never) a6 None
+alone_life = entered _ _ _ _ [] (Eval []) a1 a5 a6 _ (Completed (ok [])) _ refl (record { tape = refl; tree = refl; moves = refl; grants = refl }) alone_run
+    (record { tape = refl; tree = refl; moves = refl; grants = refl }) tt (unanswered _ _ _ _ refl refl refl)
+
+-- no step is left
+abbrev told_then : List (Event ℕ)
+told_then = event [] (In None (Eval [])) ∷ event [] Nested ∷ []
+
+abbrev then_undone : List (Event ℕ)
+then_undone = event [] Unnested ∷ event [] (Done None (Cut Over)) ∷ []
+
+abbrev b0 : World ℕ
+b0 = unwound (alone child_alone one_entry 0 told_then) one_entry 0 (Cut Over) (told_then ++ spent_at [] ∷ then_undone)
+
+abbrev b1 : World ℕ
+b1 = next [] (In None (Eval [])) [] 0 b0
+
+abbrev b2 : World ℕ
+b2 = next [] Nested [] 0 b1
+
+abbrev b3 : World ℕ
+b3 = next [] (Refused Count None) [] 0 b2
+
+abbrev b4 : World ℕ
+b4 = next [] Unnested [] 0 b3
+
+abbrev b5 : World ℕ
+b5 = next [] (Done None (Cut Over)) [] 0 b4
+
+spent_set : Derives commands b2 [] (program Script.SetSeven) b3 (Some (Cut Over))
+spent_set = refused _ _ _ _ (None, Refused Count None, Off (Cut Over)) (Cut Over) b3 refl refl (record { tape = refl; tree = refl; moves = refl; grants = refl })
+
+spent_run : Derives commands b1 [] (entry (Eval [])) b4 (Some (Cut Over))
+spent_run = wrapped_passed _ _ _ _ _ (None, Nested, On) b2 b3 b4 (Cut Over) tt refl refl (record { tape = refl; tree = refl; moves = refl; grants = refl }) spent_set
+    (record { tape = refl; tree = refl; moves = refl; grants = refl })
+
+spent_life : Derives commands b0 [] (wait idle never) b5 None
+spent_life = entered _ _ _ _ [] (Eval []) b1 b4 b5 _ (Cut Over) _ refl (record { tape = refl; tree = refl; moves = refl; grants = refl }) spent_run
+    (record { tape = refl; tree = refl; moves = refl; grants = refl }) tt (unanswered _ _ _ _ refl refl refl)
+
+abbrev c0 : World ℕ
+c0 = alone child_alone an_answer 1 []
+
+pub worked_reactions : WorkedReactions
+worked_reactions = record {
+  served = (a6.tree, record { tape = view (child ∷ []) log; last = a6; run = over a0 a6 Outcome.Finished (derived_runs commands alone_life) (tt, (tt, (tt, (tt, (tt, (tt, tt)))))) refl refl refl; told = refl; left = refl }, refl);
+  spent = (b5.tree, record { tape = told_then; last = b5; run = spent (alone child_alone one_entry 0 told_then) b5 0 one_entry [] [] then_undone refl refl (tt, (tt, tt)) refl (derived_runs commands spent_life) refl; told = refl; left = refl }, refl);
+  uncalled = record { tape = []; last = c0; run = uncalled c0 c0 (Come (Replied (Completed (ok [])))) [] (derived_runs commands (unfit _ _ _ _ _ [] refl refl refl refl)) tt refl refl refl; told = refl; left = refl };
+}

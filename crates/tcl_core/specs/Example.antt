@@ -8,17 +8,17 @@ use Rattle.tcl_core.specs.Entries.{Entry, Said}
 use Rattle.tcl_core.specs.Entries.Entry.{Eval}
 use Rattle.tcl_core.specs.Entries.Said.{Finished, Told}
 use Rattle.tcl_core.specs.Entries.Answer.{Replied}
-use Rattle.tcl_core.specs.Trees.{Node, Tree, Event, What, Move, effect}
+use Rattle.tcl_core.specs.Trees.{Node, Tree, Event, What, Move, at, effect}
 use Rattle.tcl_core.specs.Trees.Grants.{Budget}
 use Rattle.tcl_core.specs.Trees.What.{Changed, Charged, Nested, Unnested, Out, In, Done, Back}
-use Rattle.tcl_core.specs.Trees.Move.{Enter}
+use Rattle.tcl_core.specs.Trees.Move.{Enter, Come}
 use Rattle.tcl_core.specs.Programs.{Prog, Calls_only, Table}
 use Rattle.tcl_core.specs.Programs.Act.{Charge, Change}
 use Rattle.tcl_core.specs.Programs.Wrap.{Deeper}
 use Rattle.tcl_core.specs.Programs.Prog.{done, act, inside, call, wait}
 use Rattle.tcl_core.specs.Runs.{World, Runs}
 use Rattle.tcl_core.specs.Views.{moves_of, view}
-use Rattle.tcl_core.specs.Lives.{idle, never, outs_of}
+use Rattle.tcl_core.specs.Lives.{Outcome, React, idle, never, outs_of}
 use Rattle.tcl_core.specs.Threads.{event}
 
 pub data Script : Type 0 where
@@ -143,3 +143,20 @@ pub record WorkedLife : Type 0 where
   pub root_ends : w13.tree [] ≡ Some (record root { count = 2 })
   pub child_is_handed : moves_of (view (child ∷ []) log) ≡ Enter [] (Eval []) ∷ []
   pub child_tells : outs_of (view (child ∷ []) log) ≡ event [] (Done None (Completed (ok []))) ∷ []
+
+-- THE CHILD ALONE, handed that entry. With a budget of one step it does what it did in the life above; with none it is spent at its first
+-- step, tells nothing, and is left as it was.
+abbrev pub child_alone : Tree ℕ
+child_alone = at first_tree (child ∷ [])
+
+abbrev pub one_entry : List (Move ℕ)
+one_entry = Enter [] (Eval []) ∷ []
+
+abbrev pub an_answer : List (Move ℕ)
+an_answer = Come (Replied (Completed (ok []))) ∷ []
+
+pub record WorkedReactions : Type 0 where
+  pub served : (V : Tree ℕ) × React commands child_alone one_entry 1 Outcome.Finished (event [] (Done None (Completed (ok []))) ∷ []) V × (V [] ≡ Some (record safe_child { own = 7; count = 1 }))
+  pub spent : (V : Tree ℕ) × React commands child_alone one_entry 0 Outcome.Spent [] V × (V [] ≡ Some safe_child)
+  -- an answer to a call that it didn't make
+  pub uncalled : React commands child_alone an_answer 1 Outcome.Misfit [] child_alone

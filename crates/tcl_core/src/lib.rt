@@ -2,7 +2,7 @@
 //! `O` is the own part of an interpreter, `I` what can be going on in one; each law holds for every table of commands.
 #![tactic(auto)]
 
-ghost use Rattle.tcl_core.specs.Example.{WorkedLife};
+ghost use Rattle.tcl_core.specs.Example.{WorkedLife, WorkedReactions};
 ghost use Rattle.tcl_core.specs.Laws.{AllAgree, Bounded, Counting, Determinism, Disciplined, Happenings, Inner, Isolation, IsolationUntil, Limiting, LimitsKept, LivesWithin, Moments, MoreMoves, NonInterference, NoRequests, Passing, QuietOutside, Steady, Stopping, TwoWorlds, Untouched};
 ghost use Rattle.tcl_core.specs.Meaning.{RulesAreRuns, ThreadsAreRuns, Unrolling};
 
@@ -134,4 +134,9 @@ pub fn passing<O, I>()
 /// A worked life: what it does, and what it is to the child in it.
 pub fn worked_life()
     ensures { WorkedLife }
+{}
+
+/// What the child of that life does by itself, with a budget that is enough, with none, and handed what it did not ask for.
+pub fn worked_reactions()
+    ensures { WorkedReactions }
 {}
