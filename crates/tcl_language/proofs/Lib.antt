@@ -1,2 +1,4 @@
+mod Keeping
+mod Plainness
 mod Played
 mod RowsComputed

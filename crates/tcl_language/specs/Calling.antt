@@ -40,7 +40,7 @@ use Rattle.tcl_language.specs.Instructions.{Open, Walk, Instr, Program, either, 
 use Rattle.tcl_language.specs.Instructions.Instr.{Script, Commands, Words, Parts, Call, Target, Invoke, Hidden, Foreach, Serve}
 use Rattle.tcl_language.specs.Faults.{frame_message, integer_message, invalid_command, invalid_hidden, bad_name}
 use Rattle.tcl_language.specs.Names.{is_name}
-use Rattle.tcl_tree.specs.Naming.{Named, command_name, removed, renamed}
+use Rattle.tcl_language.specs.Naming.{Named, command_name, removed, renamed}
 use Rattle.tcl_tree.specs.declared.parameter.Parameter.{Parameter}
 use Rattle.tcl_language.specs.Words.{concat, is_level}
 use Rattle.tcl_language.specs.Scripts as scripts

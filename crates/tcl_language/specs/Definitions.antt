@@ -7,7 +7,8 @@ use Rattle.tcl_core.specs.Programs.Prog.{done}
 use Rattle.tcl_variables.specs.Names.{is_plain}
 use Rattle.tcl_text.specs.Lists.{list_of}
 use Rattle.tcl_text.specs.Writing.{written_list, fault_message}
-use Rattle.tcl_tree.specs.Naming.{command_name, is_child, named, renamed, removed}
+use Rattle.tcl_tree.specs.Changes.{is_child}
+use Rattle.tcl_language.specs.Naming.{command_name, named, renamed, removed}
 use Rattle.tcl_tree.specs.Own.{Own, command_in}
 use Rattle.tcl_tree.specs.declared.command.Command.TheVariants as command
 use Rattle.tcl_tree.specs.declared.parameter.Parameter.{Parameter}

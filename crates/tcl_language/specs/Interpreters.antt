@@ -17,7 +17,7 @@ use Rattle.tcl_text.specs.Lists.{list_of}
 use Rattle.tcl_text.specs.Writing.{written_list, fault_message}
 use Rattle.tcl_tree.specs.Own.{Own, CommandMap, new_own, with_new_child, without_old_child}
 use Rattle.tcl_tree.specs.Commands.{AliasView}
-use Rattle.tcl_tree.specs.Naming.{Named, named, cleared, hidden_as, exposed_as}
+use Rattle.tcl_language.specs.Naming.{Named, named, cleared, hidden_as, exposed_as}
 use Rattle.tcl_tree.specs.declared.refusal.Refusal.{Refusal}
 use Rattle.tcl_tree.specs.declared.refusal.Refusal.TheVariants as refusal
 use Rattle.tcl_tree.specs.declared.command.Command.{Command}

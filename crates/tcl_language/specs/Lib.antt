@@ -8,8 +8,10 @@ pub mod Instructions
 pub mod Interpreters
 pub mod Language
 pub mod Names
+pub mod Naming
 pub mod Playing
 pub mod Rows
+pub mod Safety
 pub mod Scripts
 pub mod Table
 pub mod Variables

@@ -30,7 +30,7 @@ use Rattle.tcl_language.specs.Hosting as hosting
 use Rattle.tcl_language.specs.Inspection as inspection
 use Rattle.tcl_language.specs.Interpreters as interpreters
 use Rattle.tcl_language.specs.Control.{at_level, level_over}
-use Rattle.tcl_tree.specs.Naming.{command_name}
+use Rattle.tcl_language.specs.Naming.{command_name}
 
 -- the program of a built-in command with its arguments; a command that isn't written yet is no command
 abbrev pub builtin : Integers → Builtin → Text → List Text → Program

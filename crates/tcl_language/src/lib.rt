@@ -4,6 +4,7 @@
 
 ghost use Rattle.tcl_language.specs.Playing.{PlayIsRun};
 ghost use Rattle.tcl_language.specs.Rows.{AreRows};
+ghost use Rattle.tcl_language.specs.Safety.{KeepsLimits, KeepsQuiet};
 
 /// Worked scripts give what they must.
 pub fn rows()
@@ -13,4 +14,14 @@ pub fn rows()
 /// What is played is a run.
 pub fn play_is_run<O, I>()
     ensures { PlayIsRun O I }
+{}
+
+/// Scripts in a safe interpreter whose commands don't reach the host ask the host for nothing.
+pub fn safe_scripts_ask_nothing()
+    ensures { KeepsQuiet }
+{}
+
+/// Scripts in a safe interpreter set no limit.
+pub fn safe_scripts_set_no_limit()
+    ensures { KeepsLimits }
 {}

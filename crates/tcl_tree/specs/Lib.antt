@@ -1,6 +1,5 @@
 pub mod Builtins
 pub mod Commands
-pub mod Naming
 pub mod Own
 pub mod Paths
 pub mod Nodes
