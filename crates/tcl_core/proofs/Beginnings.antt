@@ -114,12 +114,12 @@ module _ {O : Type 0} where
       by (inr (q, g, h)) = further q g h a.at
 
   -- moves that end nothing from outside
-  abbrev NoEnds : List (Move O) → Type 0
+  abbrev pub NoEnds : List (Move O) → Type 0
   NoEnds [] = Unit {0}
   NoEnds (Come (Replied (Cut c)) ∷ ms) = Prim.⊥
   NoEnds (m ∷ ms) = NoEnds ms
 
-  no_ends : (τ : List (Event O)) → IsUnended τ → NoEnds (moves_of τ)
+  pub no_ends : (τ : List (Event O)) → IsUnended τ → NoEnds (moves_of τ)
   no_ends [] f = tt
   no_ends (ev ∷ τ) f = step ev.place ev.what f.0 (moves_of τ) (no_ends τ f.1)
     where
@@ -154,7 +154,7 @@ module _ {O : Type 0} where
       step p Dropped f ms g = top p Fall ms g g
       step p x f ms g = g
 
-  no_end_in : {A : Type 0} (ms : List (Move O)) (c : Cause) (rest : List (Move O)) → NoEnds (ms ++ Come (Replied (Cut c)) ∷ rest) → A
+  pub no_end_in : {A : Type 0} (ms : List (Move O)) (c : Cause) (rest : List (Move O)) → NoEnds (ms ++ Come (Replied (Cut c)) ∷ rest) → A
   no_end_in [] c rest f = absurd f
   no_end_in (Come (Replied (Cut d)) ∷ ms) c rest f = absurd f
   no_end_in (m ∷ ms) c rest f = no_end_in ms c rest f

@@ -8,7 +8,7 @@ use Rattle.tcl_core.specs.Entries.{Entry, Answer}
 use Rattle.tcl_core.specs.Entries.Answer.{Replied}
 use Rattle.tcl_core.specs.Trees.{Tree, What, Event, Move, at_top, asked, where_none}
 use Rattle.tcl_core.specs.Trees.Grants.{Budget}
-use Rattle.tcl_core.specs.Trees.What.{Made, Dropped, In, Back}
+use Rattle.tcl_core.specs.Trees.What.{Made, Dropped, In, Back, Done}
 use Rattle.tcl_core.specs.Trees.Move.{Born, Fall, Enter, Come}
 use Rattle.tcl_core.specs.Programs.{Prog, Table}
 use Rattle.tcl_core.specs.Programs.Prog.{wait}
@@ -16,9 +16,9 @@ use Rattle.tcl_core.specs.Runs.{World}
 use Rattle.tcl_core.specs.Rules.{Derives}
 use Rattle.tcl_core.specs.Views.{moves_of, steps_of}
 use Rattle.tcl_core.specs.Lives.{Lives, Outcome, Reacts, alone, idle, never, outs_of, outcome_of, Uncut, IsUncut, begun, ended, InProgress, AllRead, copies, handed, unwound, spent_at}
-use Rattle.tcl_core.specs.Lives.Outcome.{Finished}
+use Rattle.tcl_core.specs.Lives.Outcome.{Waiting, Finished}
 use Rattle.tcl_core.specs.Lives.Reacts.{over, waiting, uncalled, unfit, ended_so, spent}
-use Rattle.tcl_core.specs.Laws.{AtMove, IsDone, OneReaction}
+use Rattle.tcl_core.specs.Laws.{Unended, IsUnended, AtMove, StopsByItself, OneReaction}
 use Rattle.tcl_core.proofs.MoreMoves.{asked_more}
 use Rattle.tcl_core.proofs.Keeping.{KeepsSteps, derived_keep}
 use Rattle.tcl_core.proofs.Counts.{bounded}
@@ -27,7 +27,7 @@ use Rattle.tcl_core.proofs.RuleLaws.{runs_derived}
 use Rattle.tcl_core.proofs.Outside.{halted_tape}
 use Rattle.tcl_core.proofs.Refusals.{IsRefusal, clash}
 use Rattle.tcl_core.proofs.Lending.{moves_append, IsListed, IsStop, Alike, runs_meet}
-use Rattle.tcl_core.proofs.Beginnings.{Nested, nested, no_longer, not_at}
+use Rattle.tcl_core.proofs.Beginnings.{Nested, nested, no_longer, not_at, NoEnds, no_ends, no_end_in}
 
 not_cons : {A B : Type 0} (x : B) (xs : List B) → [] ≡ x ∷ xs → A
 not_cons x xs e = absurd (bad e)
@@ -98,6 +98,15 @@ module _ {O : Type 0} where
       bad f = cc
   reads_cut p Dropped c l e u = not_fall (Replied (Cut c)) Fall refl (top_same p Fall (Come (Replied (Cut c))) l e)
   reads_cut p x c l e u = itself (Come (Replied (Cut c))) l e
+
+  unended_at : (p : Place) (x : What O) → Uncut p x → Unended p x
+  unended_at p (Done h (Cut c)) f = f
+  unended_at p (Back h (Replied (Cut c))) f = f
+  unended_at p x f = tt
+
+  uncut_unended : (τ : List (Event O)) → IsUncut τ → IsUnended τ
+  uncut_unended [] f = tt
+  uncut_unended (ev ∷ τ) f = (unended_at ev.place ev.what f.0, uncut_unended τ f.1)
 
   not_both_open : {A : Type 0} (τ σ : List (Event O)) (k : ℕ) → τ ≡ σ → InProgress 0 τ → InProgress (suc k) σ → A
   not_both_open τ σ k e f g =
@@ -247,9 +256,29 @@ module _ {O I : Type 0} (prog : Table O I) where
     same_as z v x τ d un pr q r u y (spent z2 u2 k ms2 rest p ρ a b us ps l c) e =
         not_spent τ z.tape v u ms2 rest k p ρ d un (sym (ap (λ j. j.moves) e) ∙ a) b (subst (λ j. Life (unwound j ms2 k (Cut Over) (z.tape ++ spent_at p ∷ ρ)) u) e l)
 
-    first_so : (z v : World O) (x : Outcome) → Reacts prog z v x → IsDone x → z ≡ alone S ms n z.tape → (u : World O) (y : Outcome) (z2 : World O) → Reacts prog z2 u y → z2 ≡ alone S ms n z2.tape → Same v x z.tape u y z2.tape
+    -- one that waits
+    waits_as : (z v : World O) (j : ℕ) (τ : List (Event O)) → Life (alone S ms n τ) v → IsUncut τ → InProgress (suc j) τ → v.moves ≡ [] → (u : World O) (y : Outcome) → Reacts prog z u y → z ≡ alone S ms n z.tape → Same v Waiting τ u y z.tape
+    waits_as z v j τ d un pr r u y (over z2 u2 y2 l us ps qs rs) e =
+        let h : (τ ≡ z.tape) × (v ≡ u) = same_life τ z.tape v u d (subst (λ i. Life i u) e l) in
+        not_both_open z.tape τ j (sym h.0) ps pr
+    waits_as z v j τ d un pr r u y (waiting z2 u2 k l us ps qs) e =
+        let h : (τ ≡ z.tape) × (v ≡ u) = same_life τ z.tape v u d (subst (λ i. Life i u) e l) in
+        (refl, sym h.0, ap (λ i. i.tree) (sym h.1))
+    waits_as z v j τ d un pr r u y (uncalled z2 u2 m rest l us ps qs rs) e =
+        let h : (τ ≡ z.tape) × (v ≡ u) = same_life τ z.tape v u d (subst (λ i. Life i u) e l) in
+        not_both_open z.tape τ j (sym h.0) ps pr
+    waits_as z v j τ d un pr r u y (unfit z2 u1 u2 k ms1 m rest ρ l us ps a b l2 c) e =
+        let h : (τ ≡ z.tape) × (v ≡ u1) = same_life τ z.tape v u1 d (subst (λ i. Life i u1) e l) in
+        one_move v.moves m rest r (ap (λ i. i.moves) h.1 ∙ a)
+    waits_as z v j τ d un pr r u y (ended_so z2 u1 u2 k ms1 c rest ρ a l b us ps l2 f) e =
+        let all : ms ≡ moves_of τ = life_reads (alone S ms n τ) v d ∙ ap (λ i. moves_of τ ++ i) r ∙ append-nil (moves_of τ) in
+        no_end_in ms1 c rest (subst NoEnds (sym all ∙ sym (ap (λ i. i.moves) e) ∙ a) (no_ends τ (uncut_unended τ un)))
+    waits_as z v j τ d un pr r u y (spent z2 u2 k ms2 rest p ρ a b us ps l c) e =
+        not_spent τ z.tape v u ms2 rest k p ρ d un (sym (ap (λ i. i.moves) e) ∙ a) b (subst (λ i. Life (unwound i ms2 k (Cut Over) (z.tape ++ spent_at p ∷ ρ)) u) e l)
+
+    first_so : (z v : World O) (x : Outcome) → Reacts prog z v x → StopsByItself x → z ≡ alone S ms n z.tape → (u : World O) (y : Outcome) (z2 : World O) → Reacts prog z2 u y → z2 ≡ alone S ms n z2.tape → Same v x z.tape u y z2.tape
     first_so z v x (over z1 v1 x1 l us ps qs rs) f e u y z2 b g = same_as z2 v x z.tape (subst (λ j. Life j v) e l) us ps qs rs u y b g
-    first_so z v x (waiting z1 v1 k l us ps qs) f e u y z2 b g = absurd f
+    first_so z v x (waiting z1 v1 k l us ps qs) f e u y z2 b g = waits_as z2 v k z.tape (subst (λ j. Life j v) e l) us ps qs u y b g
     first_so z v x (uncalled z1 v1 m rest l us ps qs rs) f e u y z2 b g = absurd f
     first_so z v x (unfit z1 u1 v1 k ms1 m rest ρ l us ps a b2 l2 c) f e u y z2 b g = absurd f
     first_so z v x (ended_so z1 u1 v1 k ms1 c rest ρ a l b2 us ps l2 f2) f e u y z2 b g = absurd f

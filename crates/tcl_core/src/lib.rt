@@ -71,7 +71,7 @@ pub fn isolation<O, I>()
     ensures { Isolation O I }
 {}
 
-/// Where a tree by itself comes to its end, that is all that it does with these moves and this budget.
+/// Where a tree by itself stops by itself, that is all that it does with these moves and this budget.
 pub fn one_reaction<O, I>()
     ensures { OneReaction O I }
 {}
