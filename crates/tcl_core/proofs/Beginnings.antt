@@ -23,7 +23,7 @@ use Rattle.tcl_core.proofs.RuleLaws.{runs_derived}
 use Rattle.tcl_core.proofs.Conclusions.{lives_within}
 use Rattle.tcl_core.proofs.Reacting.{life_of}
 use Rattle.tcl_core.proofs.Refusals.{IsRefusal, Shuts, shutting, quiet_outs, refusal_told}
-use Rattle.tcl_core.proofs.Lending.{moves_append, AtRefusal, Alike, runs_meet}
+use Rattle.tcl_core.proofs.Lending.{moves_append, AtRefusal, IsStop, Alike, runs_meet}
 
 module _ {O : Type 0} where
   -- LISTS OF HAPPENINGS
@@ -49,10 +49,10 @@ module _ {O : Type 0} where
   shuts_back (ev ∷ a) b f = shuts_back a b f.1
 
   -- two beginnings of one list: one begins with the other
-  abbrev Nested : List (Event O) → List (Event O) → List (Event O) → List (Event O) → Type 0
+  abbrev pub Nested : List (Event O) → List (Event O) → List (Event O) → List (Event O) → Type 0
   Nested a b c d = ((q : List (Event O)) × (c ≡ a ++ q) × (b ≡ q ++ d)) ⊎ ((q : List (Event O)) × (a ≡ c ++ q) × (d ≡ q ++ b))
 
-  nested : (a b c d : List (Event O)) → a ++ b ≡ c ++ d → Nested a b c d
+  pub nested : (a b c d : List (Event O)) → a ++ b ≡ c ++ d → Nested a b c d
   nested [] b c d e = inl (c, refl, e)
   nested (x ∷ a) b [] d e = inr (x ∷ a, refl, sym e)
   nested (x ∷ a) b (y ∷ c) d e = by (nested a b c d cc)
@@ -65,7 +65,7 @@ module _ {O : Type 0} where
       by (inr (q, f, g)) = inr (q, cc, g)
 
   -- a happening that reads a move, and later ones, after some that read all
-  no_longer : {A : Type 0} (made rest : List (Event O)) (ev : Event O) (q : List (Event O)) → AtMove (ev ∷ rest) → moves_of (made ++ (ev ∷ q)) ≡ moves_of made → A
+  pub no_longer : {A : Type 0} (made rest : List (Event O)) (ev : Event O) (q : List (Event O)) → AtMove (ev ∷ rest) → moves_of (made ++ (ev ∷ q)) ≡ moves_of made → A
   no_longer made rest ev q f e =
       let one : (y : Move O) × (asked ev.place ev.what (moves_of q) ≡ y ∷ moves_of q) = f (moves_of q) in
       let l : moves_of made ++ (one.0 ∷ moves_of q) ≡ moves_of made = ap (λ j. moves_of made ++ j) (sym one.1) ∙ sym (moves_append made (ev ∷ q)) ∙ e in
@@ -114,12 +114,12 @@ module _ {O : Type 0} where
       by (inr (q, g, h)) = further q g h a.at
 
   -- moves that end nothing from outside
-  abbrev NoEnds : List (Move O) → Type 0
+  abbrev pub NoEnds : List (Move O) → Type 0
   NoEnds [] = Unit {0}
   NoEnds (Come (Replied (Cut c)) ∷ ms) = Prim.⊥
   NoEnds (m ∷ ms) = NoEnds ms
 
-  no_ends : (τ : List (Event O)) → IsUnended τ → NoEnds (moves_of τ)
+  pub no_ends : (τ : List (Event O)) → IsUnended τ → NoEnds (moves_of τ)
   no_ends [] f = tt
   no_ends (ev ∷ τ) f = step ev.place ev.what f.0 (moves_of τ) (no_ends τ f.1)
     where
@@ -154,7 +154,7 @@ module _ {O : Type 0} where
       step p Dropped f ms g = top p Fall ms g g
       step p x f ms g = g
 
-  no_end_in : {A : Type 0} (ms : List (Move O)) (c : Cause) (rest : List (Move O)) → NoEnds (ms ++ Come (Replied (Cut c)) ∷ rest) → A
+  pub no_end_in : {A : Type 0} (ms : List (Move O)) (c : Cause) (rest : List (Move O)) → NoEnds (ms ++ Come (Replied (Cut c)) ∷ rest) → A
   no_end_in [] c rest f = absurd f
   no_end_in (Come (Replied (Cut d)) ∷ ms) c rest f = absurd f
   no_end_in (m ∷ ms) c rest f = no_end_in ms c rest f
@@ -168,8 +168,8 @@ module _ {O I : Type 0} (prog : Table O I) (k : ℕ) where
   ahead_of w v a b σ y f (inl g) = record { made = g.made; rest1 = v.tape; rest2 = g.rest; first = g.first; second = g.second; at = inl (subst AtRefusal (sym f) tt) }
   ahead_of w v a b σ y f (inr g) = record { made = g.made; rest1 = g.rest1; rest2 = g.rest2; first = g.first; second = g.second; at = by g.at }
     where
-      by : AtRefusal g.rest1 ⊎ ((a ≡ moves_of g.made) × AtMove g.rest1 × AtMove g.rest2) → AtRefusal g.rest1 ⊎ ((a ≡ moves_of g.made) × AtMove g.rest1)
-      by (inl h) = inl h
+      by : IsStop w g.rest1 ⊎ ((a ≡ moves_of g.made) × AtMove g.rest1 × AtMove g.rest2) → AtRefusal g.rest1 ⊎ ((a ≡ moves_of g.made) × AtMove g.rest1)
+      by (inl h) = inl h.0
       by (inr (h, i, j)) = inr (h, i)
 
   -- a life with these moves
@@ -178,7 +178,7 @@ module _ {O I : Type 0} (prog : Table O I) (k : ℕ) where
       ahead_of w v a b σ y f (runs_meet k b [] prog w a σ m [] (wait idle never) v None y None l (subst (λ j. Lives prog (given w j σ) y None) (sym (append-nil a)) e))
 
   -- at a step that the budget refuses no move is read
-  not_at : {A : Type 0} (p : Place) (τ : List (Event O)) → AtMove (spent_at p ∷ τ) → A
+  pub not_at : {A : Type 0} (p : Place) (τ : List (Event O)) → AtMove (spent_at p ∷ τ) → A
   not_at p τ f = let g : (y : Move O) × ([] ≡ y ∷ []) = f [] in absurd (bad g.0 g.1)
     where
       bad : (y : Move O) → [] ≡ y ∷ [] → Prim.⊥
@@ -212,13 +212,17 @@ module _ {O I : Type 0} (prog : Table O I) (k : ℕ) where
       by (inl (q, g, h)) = longer q g h r
       by (inr (q, g, h)) = shorter q g h r
 
+  stop_of : (w : World O) (ms : List (Move O)) (made r1 r2 : List (Event O)) → IsStop w r1 ⊎ ((ms ≡ moves_of made) × AtMove r1 × AtMove r2) → AtRefusal r1 ⊎ ((ms ≡ moves_of made) × AtMove r1 × AtMove r2)
+  stop_of w ms made r1 r2 (inl h) = inl h.0
+  stop_of w ms made r1 r2 (inr h) = inr h
+
   spends : (w v : World O) (a b : List (Move O)) (σ : List (Event O)) (y : World O) (j : ℕ) (ms rest : List (Move O)) (p : Place) (τ : List (Event O)) → w.moves ≡ a ++ b → v.tape ≡ [] → Lives prog w v None → a ≡ ms ++ rest → moves_of σ ≡ ms →
       Lives prog (unwound (given w a σ) ms j (Cut Over) (σ ++ spent_at p ∷ τ)) y None → Ahead a w.tape σ
   spends w v a b σ y j ms rest p τ m f l e n d = by (runs_meet k (rest ++ b) (copies j (Come (Replied (Cut Over)))) prog w ms (σ ++ spent_at p ∷ τ) (m ∙ ap (λ x. x ++ b) e ∙ append_assoc ms rest b) [] (wait idle never) v None y None l d)
     where
       by : Alike k (rest ++ b) (copies j (Come (Replied (Cut Over)))) w ms (σ ++ spent_at p ∷ τ) v None y None → Ahead a w.tape σ
       by (inl g) = spent_there w a σ p τ g.made v.tape g.rest g.first g.second ms n (inl (subst AtRefusal (sym f) tt))
-      by (inr g) = spent_there w a σ p τ g.made g.rest1 g.rest2 g.first g.second ms n g.at
+      by (inr g) = spent_there w a σ p τ g.made g.rest1 g.rest2 g.first g.second ms n (stop_of w ms g.made g.rest1 g.rest2 g.at)
 
   reacted : (z y : World O) (x : Outcome) → Reacts prog z y x → (w v : World O) (a b : List (Move O)) → z ≡ given w a z.tape → w.moves ≡ a ++ b → NoEnds a → v.tape ≡ [] → Lives prog w v None → Ahead a w.tape z.tape
   reacted z y x (over z2 y2 x2 d u p q r) w v a b e m n f l = lived w v a b z.tape y m f l (subst (λ j. Lives prog j y None) e d)

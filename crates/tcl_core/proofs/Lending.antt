@@ -1,17 +1,20 @@
 -- A run and one under a budget: they go the same way up to where the outside of the first refuses.
 use Rattle.std.proofs.Common.{◌≡◌, ◌⊎◌, inl, inr, ℕ, zero, suc, ℤ, ◌+◌, Bool, true, false, List, [], ◌∷◌, ◌++◌, Option, Some, None, length, refl, sym, ◌∙◌, ap, append_assoc, subst}
 use Rattle.tcl_core.specs.Paths.{Path, Place, Height, rise_to}
-use Rattle.tcl_core.specs.Endings.{Completion, Reply, Cause, refusal}
-use Rattle.tcl_core.specs.Endings.Meter.{Depth}
+use Rattle.tcl_core.specs.Endings.{Meter, Completion, Reply, Cause, refusal}
+use Rattle.tcl_core.specs.Endings.Meter.{Count, Depth}
 use Rattle.tcl_core.specs.Endings.Reply.{Completed, Stop, Exit, Cut}
 use Rattle.tcl_core.specs.Entries.{Entry, Answer, Said}
 use Rattle.tcl_core.specs.Entries.Answer.{Replied, Heard}
 use Rattle.tcl_core.specs.Entries.Said.{Finished, Told}
-use Rattle.tcl_core.specs.Trees.{Tree, What, Event, Move, at, asked}
-use Rattle.tcl_core.specs.Trees.Grants.{Budget}
-use Rattle.tcl_core.specs.Trees.What.{Made, Dropped, Out, In, Done, Back}
+use Rattle.tcl_core.specs.Trees.{Tree, What, Event, Move, Grants, granted, allowing, denied, at, asked}
+use Rattle.tcl_core.specs.Trees.Grants.{Listed, Budget}
+use Rattle.tcl_core.specs.Programs.Act.{Look, Change, Charge, Limit, LimitDepth, Make, Drop}
+use Rattle.tcl_core.specs.Programs.Wrap.{Deeper, Framed}
+use Rattle.tcl_core.proofs.PathLaws.{not_both}
+use Rattle.tcl_core.specs.Trees.What.{Charged, Nested, Refused, Made, Dropped, Out, In, Done, Back}
 use Rattle.tcl_core.specs.Trees.Move.{Born, Fall, Enter, Come}
-use Rattle.tcl_core.specs.Programs.{Act, Deed, spot, Wrap, Wait, Next, Prog, Table, decide, opens, closes}
+use Rattle.tcl_core.specs.Programs.{Act, Deed, spot, Wrap, Wait, Next, Prog, Table, decide, opens, closes, metered, blocked, is_spent, is_deep}
 use Rattle.tcl_core.specs.Programs.Next.{On, TooDeep, Off}
 use Rattle.tcl_core.specs.Programs.Prog.{done, exit, act, go, inside, call, wait}
 use Rattle.tcl_core.specs.Runs.{World, Step, Ending, Run, Halts, Follows, Then, Closes, Acted, Acts, Opened, Opens, Hears, Answered, Leaves, Visits, Returns, Reaches, Calls, Exiting, Exits, Stays, Moves, Fitting, Waits, Unrolled, RunsIn, Runs, carried, reached, entering, fits, ends_call, height_of}
@@ -25,11 +28,58 @@ use Rattle.tcl_core.proofs.Budgets.{budgeted, step_budget, decide_budget, opens_
 use Rattle.tcl_core.proofs.Unended.{IsNoCut, decide_uncut, opens_uncut}
 use Rattle.tcl_core.proofs.Refusals.{IsRefusal, cut_or, decide_refused, opens_refused}
 
+-- words of the outside, and no budget
+abbrev pub IsListed : Grants → Type 0
+IsListed (Listed gs) = Unit {0}
+IsListed (Budget n) = Prim.⊥
+
+allowing_listed : (m : Meter) (gs : Grants) → IsListed gs → IsListed (allowing m gs)
+allowing_listed m (Listed gs) f = tt
+allowing_listed m (Budget n) f = absurd f
+
+denied_listed : (o : Option Place) (gs : Grants) → IsListed gs → IsListed (denied o gs)
+denied_listed None (Listed gs) f = tt
+denied_listed None (Budget n) f = absurd f
+denied_listed (Some a) gs f = f
+
 module _ {O : Type 0} where
   -- nothing more, or a refusal from outside
   abbrev pub AtRefusal : List (Event O) → Type 0
   AtRefusal [] = Unit {0}
   AtRefusal (ev ∷ τ) = IsRefusal ev.place ev.what
+
+  granted_listed : (p : Place) (x : What O) (gs : Grants) → IsListed gs → IsListed (granted p x gs)
+  granted_listed p Charged gs f = allowing_listed Count gs f
+  granted_listed p Nested gs f = allowing_listed Depth gs f
+  granted_listed p (Refused m h) gs f = denied_listed (rise_to h p) gs f
+  granted_listed p x gs f = f
+
+  none_listed : (m : Meter) (y : What O) (b : Option ℕ) (gs : Grants) → metered m y b gs ≡ None → IsListed gs
+  none_listed m y b (Listed gs) e = tt
+  none_listed m y (Some n) (Budget j) e = absurd (not_both e refl)
+  none_listed Count y None (Budget zero) e = absurd (not_both e refl)
+  none_listed Count y None (Budget (suc n)) e = absurd (not_both e refl)
+  none_listed Depth y None (Budget n) e = absurd (not_both e refl)
+
+  decide_listed : (d : Act O) (T : Tree O) (p : Place) (gs : Grants) → decide d T p gs ≡ None → IsListed gs
+  decide_listed Charge T p gs e = none_listed Count Charged (blocked is_spent T p) gs e
+  decide_listed Look T p gs e = absurd (not_both e refl)
+  decide_listed (Change o) T p gs e = absurd (not_both e refl)
+  decide_listed (Limit l) T p gs e = absurd (not_both e refl)
+  decide_listed (LimitDepth l) T p gs e = absurd (not_both e refl)
+  decide_listed (Make name o s) T p gs e = absurd (not_both e refl)
+  decide_listed (Drop name) T p gs e = absurd (not_both e refl)
+
+  opens_listed : (b : Wrap O) (T : Tree O) (p : Place) (gs : Grants) → opens b T p gs ≡ None → IsListed gs
+  opens_listed Deeper T p gs e = none_listed Depth Nested (blocked is_deep T p) gs e
+  opens_listed (Framed o back) T p gs e = absurd (not_both e refl)
+
+  -- where the first comes to its end for want of a word, it has words and no budget
+  abbrev pub IsStop : World O → List (Event O) → Type 0
+  IsStop w τ = AtRefusal τ × (τ ≡ [] → IsListed w.grants)
+
+  stop_step : (w : World O) (p : Place) (x : What O) (u : World O) → Step w p x u → IsListed u.grants → IsListed w.grants
+  stop_step w p x u s f = subst IsListed (sym s.grants) (granted_listed p x u.grants f)
 
   pub moves_append : (a b : List (Event O)) → moves_of (a ++ b) ≡ moves_of a ++ moves_of b
   moves_append [] b = refl
@@ -52,6 +102,7 @@ module _ {O : Type 0} (k : ℕ) (b0 y0 : List (Move O)) where
     pub ending : o ≡ e
     pub first : w.tape ≡ made ++ v.tape
     pub second : τ ≡ made ++ rest
+    pub listed : IsListed v.grants → IsListed w.grants
 
   -- they went the same way up to a refusal, or to where the moves are used up that both have
   pub record Apart (w : World O) (a : List (Move O)) (τ : List (Event O)) : Type 0 where
@@ -60,7 +111,7 @@ module _ {O : Type 0} (k : ℕ) (b0 y0 : List (Move O)) where
     pub rest2 : List (Event O)
     pub first : w.tape ≡ made ++ rest1
     pub second : τ ≡ made ++ rest2
-    pub at : AtRefusal rest1 ⊎ ((a ≡ moves_of made) × AtMove rest1 × AtMove rest2)
+    pub at : IsStop w rest1 ⊎ ((a ≡ moves_of made) × AtMove rest1 × AtMove rest2)
 
   abbrev pub Alike : World O → List (Move O) → List (Event O) → World O → Ending → World O → Ending → Type 0
   Alike w a τ v e y o = Together w a τ v e y o ⊎ Apart w a τ
@@ -91,6 +142,7 @@ module _ {O : Type 0} (k : ℕ) (b0 y0 : List (Move O)) where
     ending = a.ending;
     first = s.tape ∙ ap (λ l. record { place = p; what = x } ∷ l) a.first;
     second = t.tape ∙ ap (λ l. record { place = p; what = x } ∷ l) a.second;
+    listed = λ f. stop_step w p x u s (a.listed f);
   })
   after_step w a0 τ p x u z a1 q s t v e y o (inr a) = inr (record {
     made = record { place = p; what = x } ∷ a.made;
@@ -101,8 +153,8 @@ module _ {O : Type 0} (k : ℕ) (b0 y0 : List (Move O)) where
     at = by a.at;
   })
     where
-      by : AtRefusal a.rest1 ⊎ ((a1 ≡ moves_of a.made) × AtMove a.rest1 × AtMove a.rest2) → AtRefusal a.rest1 ⊎ ((a0 ≡ asked p x (moves_of a.made)) × AtMove a.rest1 × AtMove a.rest2)
-      by (inl f) = inl f
+      by : IsStop u a.rest1 ⊎ ((a1 ≡ moves_of a.made) × AtMove a.rest1 × AtMove a.rest2) → IsStop w a.rest1 ⊎ ((a0 ≡ asked p x (moves_of a.made)) × AtMove a.rest1 × AtMove a.rest2)
+      by (inl f) = inl (f.0, λ g. stop_step w p x u s (f.1 g))
       by (inr (f, g, h)) = inr (q ∙ ap (asked p x) f, g, h)
 
   -- after a run
@@ -113,8 +165,8 @@ module _ {O : Type 0} (k : ℕ) (b0 y0 : List (Move O)) where
       more : (b : List (Event O)) (l : List (Move O)) → a.left ≡ moves_of b ++ l → a0 ≡ moves_of (a.made ++ b) ++ l
       more b l g = a.used ∙ ap (λ j. moves_of a.made ++ j) g ∙ sym (append_assoc (moves_of a.made) (moves_of b) l) ∙ ap (λ j. j ++ l) (sym (moves_append a.made b))
 
-      parted : (r1 r2 b : List (Event O)) → AtRefusal r1 ⊎ ((a.left ≡ moves_of b) × AtMove r1 × AtMove r2) → AtRefusal r1 ⊎ ((a0 ≡ moves_of (a.made ++ b)) × AtMove r1 × AtMove r2)
-      parted r1 r2 b (inl g) = inl g
+      parted : (r1 r2 b : List (Event O)) → IsStop u r1 ⊎ ((a.left ≡ moves_of b) × AtMove r1 × AtMove r2) → IsStop w r1 ⊎ ((a0 ≡ moves_of (a.made ++ b)) × AtMove r1 × AtMove r2)
+      parted r1 r2 b (inl g) = inl (g.0, λ h. a.listed (g.1 h))
       parted r1 r2 b (inr (g, h, i)) = inr (a.used ∙ ap (λ j. moves_of a.made ++ j) g ∙ sym (moves_append a.made b), h, i)
 
       by : Alike u a.left a.rest v e y l → Alike w a0 τ v e y l
@@ -128,6 +180,7 @@ module _ {O : Type 0} (k : ℕ) (b0 y0 : List (Move O)) where
         ending = b.ending;
         first = a.first ∙ ap (λ t. a.made ++ t) b.first ∙ sym (append_assoc a.made b.made v.tape);
         second = a.second ∙ ap (λ t. a.made ++ t) b.second ∙ sym (append_assoc a.made b.made b.rest);
+        listed = λ g. a.listed (b.listed g);
       })
       by (inr b) = inr (record {
         made = a.made ++ b.made;
@@ -150,6 +203,7 @@ module _ {O : Type 0} (k : ℕ) (b0 y0 : List (Move O)) where
     ending = sym c;
     first = ap (λ u. u.tape) (sym a);
     second = refl;
+    listed = λ f. subst (λ u. IsListed u.grants) a f;
   })
 
   both_end : (w : World O) (a0 : List (Move O)) (τ : List (Event O)) → Has w a0 → (v : World O) (e : Ending) (y : World O) (o r : Ending) → v ≡ w → e ≡ r → y ≡ lent w a0 τ → o ≡ r → Alike w a0 τ v e y o
@@ -164,11 +218,14 @@ module _ {O : Type 0} (k : ℕ) (b0 y0 : List (Move O)) where
       after_step w a0 τ p x u z a1 q s t v e y o (both_end u a1 z.tape (left_step w a0 p x u a1 q s m) v e y o r a b (c ∙ lent_step w a0 τ p x u z a1 q s t) d)
 
   -- the first halts here, or is refused
-  one_halts : (w : World O) (a0 : List (Move O)) (τ : List (Event O)) (v : World O) (e : Ending) (y : World O) (o : Ending) → w.tape ≡ [] → Alike w a0 τ v e y o
-  one_halts w a0 τ v e y o f = inr (record { made = []; rest1 = w.tape; rest2 = τ; first = refl; second = refl; at = inl (subst AtRefusal (sym f) tt) })
+  one_halts : (w : World O) (a0 : List (Move O)) (τ : List (Event O)) (v : World O) (e : Ending) (y : World O) (o : Ending) → w.tape ≡ [] → IsListed w.grants → Alike w a0 τ v e y o
+  one_halts w a0 τ v e y o f g = inr (record { made = []; rest1 = w.tape; rest2 = τ; first = refl; second = refl; at = inl (subst AtRefusal (sym f) tt, λ h. g) })
 
   one_refused : (w u : World O) (a0 : List (Move O)) (τ : List (Event O)) (p : Place) (x : What O) (v : World O) (e : Ending) (y : World O) (o : Ending) → Step w p x u → IsRefusal p x → Alike w a0 τ v e y o
-  one_refused w u a0 τ p x v e y o s f = inr (record { made = []; rest1 = w.tape; rest2 = τ; first = refl; second = refl; at = inl (subst AtRefusal (sym s.tape) f) })
+  one_refused w u a0 τ p x v e y o s f = inr (record { made = []; rest1 = w.tape; rest2 = τ; first = refl; second = refl; at = inl (subst AtRefusal (sym s.tape) f, λ g. absurd (bad (sym s.tape ∙ g))) })
+    where
+      bad : record { place = p; what = x } ∷ u.tape ≡ [] → Prim.⊥
+      bad h = cc
 
   -- the moves are used up that both have
   used_up : (w : World O) (τ : List (Event O)) (v : World O) (e : Ending) (y : World O) (o : Ending) → AtMove w.tape → AtMove τ → Alike w [] τ v e y o
@@ -345,7 +402,7 @@ module _ {O : Type 0} (k : ℕ) (b0 y0 : List (Move O)) where
               acts_meet w a0 τ m0 p x (act_silent d w.tree p w.grants x g) f v e y o (u, s, a2) (subst (λ l. Acts S (lent w a0 τ) p l f y o) h b)
 
           by : (x : Option (Deed O)) → decide d w.tree p w.grants ≡ x → Acts R w p x f v e → Alike w a0 τ v e y o
-          by None g a2 = one_halts w a0 τ v e y o a2.tape
+          by None g a2 = one_halts w a0 τ v e y o a2.tape (decide_listed d w.tree p w.grants g)
           by (Some x) g (u, s, a2) = on x g u s a2 (cut_or x.2)
 
       open_meets : (w : World O) (a0 : List (Move O)) (τ : List (Event O)) (m0 : Has w a0) (p : Place) (l : Wrap O) (i : I) (f : Completion → Prog O I) (v : World O) (e : Ending) (y : World O) (o : Ending) → Opens prog R w p (opens l w.tree p w.grants) l i f v e → Opens prog S (lent w a0 τ) p (opens l w.tree p (lent w a0 τ).grants) l i f y o → Alike w a0 τ v e y o
@@ -358,7 +415,7 @@ module _ {O : Type 0} (k : ℕ) (b0 y0 : List (Move O)) where
               opens_meet w a0 τ m0 p x (opens_silent l w.tree p w.grants x g) l i f v e y o (u, s, a2) (subst (λ j. Opens prog S (lent w a0 τ) p j l i f y o) h b)
 
           by : (x : Option (Deed O)) → opens l w.tree p w.grants ≡ x → Opens prog R w p x l i f v e → Alike w a0 τ v e y o
-          by None g a2 = one_halts w a0 τ v e y o a2.tape
+          by None g a2 = one_halts w a0 τ v e y o a2.tape (opens_listed l w.tree p w.grants g)
           by (Some x) g (u, s, a2) = on x g u s a2 (cut_or x.2)
 
       pub unrolled_meet : (w : World O) (a0 : List (Move O)) (τ : List (Event O)) (m0 : Has w a0) (p : Place) (x : Prog O I) (v : World O) (e : Ending) (y : World O) (o : Ending) → Unrolled prog R w p x v e → Unrolled prog S (lent w a0 τ) p x y o → Alike w a0 τ v e y o

@@ -29,3 +29,4 @@ pub mod Safeguards
 pub mod Standing
 pub mod Beginnings
 pub mod Inward
+pub mod Reactions

@@ -66,7 +66,7 @@ module _ {O : Type 0} where
   IsRefusal p (Refused m h) = rise_to h p ≡ None
   IsRefusal p x = Prim.⊥
 
-  clash : {A : Type 0} (p : Place) (x : What O) → Uncut p x → IsRefusal p x → A
+  pub clash : {A : Type 0} (p : Place) (x : What O) → Uncut p x → IsRefusal p x → A
   clash p (Refused m h) f e = absurd (f e)
   clash p x f e = absurd e
 

@@ -3,7 +3,7 @@
 #![tactic(auto)]
 
 ghost use Rattle.tcl_core.specs.Example.{WorkedLife, WorkedReactions};
-ghost use Rattle.tcl_core.specs.Laws.{AllAgree, Bounded, Counting, Determinism, Disciplined, Happenings, Inner, Isolation, IsolationUntil, Limiting, LimitsKept, LivesWithin, Moments, MoreMoves, NonInterference, NoRequests, Passing, QuietOutside, Steady, Stopping, TwoWorlds, Untouched};
+ghost use Rattle.tcl_core.specs.Laws.{AllAgree, Bounded, Counting, Determinism, Disciplined, Happenings, Inner, Isolation, IsolationUntil, Limiting, LimitsKept, LivesWithin, Moments, MoreMoves, NonInterference, NoRequests, OneReaction, Passing, QuietOutside, Steady, Stopping, TwoWorlds, Untouched};
 ghost use Rattle.tcl_core.specs.Meaning.{RulesAreRuns, ThreadsAreRuns, Unrolling};
 
 /// A run is what `Unrolled` says of runs.
@@ -69,6 +69,11 @@ pub fn limiting<O, I>()
 /// What an evaluation anywhere in the tree does in a subtree is what that subtree alone does with the crossings into it.
 pub fn isolation<O, I>()
     ensures { Isolation O I }
+{}
+
+/// Where a tree by itself stops by itself, that is all that it does with these moves and this budget.
+pub fn one_reaction<O, I>()
+    ensures { OneReaction O I }
 {}
 
 /// Where an entry is ended from outside, what is told before that is a beginning of what the subtree alone tells.
