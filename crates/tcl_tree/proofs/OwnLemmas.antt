@@ -1,6 +1,7 @@
 -- What a write to one interpreter does, in the words of the core.
-use Rattle.std.proofs.Common.{◌≡◌, ℕ, ◌∙◌, refl, sym, ap, List, Option, Some, None}
-use Rattle.std.specs.Prelude.{◌≢◌}
+use Rattle.std.proofs.Common.{◌≡◌, ℕ, ◌∙◌, refl, sym, ap, cond, inl, inr, arith, suc, Bool, true, false, length, [], ◌∷◌, List, Option, Some, None}
+use Rattle.std.specs.Prelude.{◌≢◌, ◌==◌}
+use Rattle.std.proofs.lemmas.Bool.Decides.{nat_tests}
 use Rattle.std.specs.Option.{option_map, option_map_or}
 use Rattle.std.proofs.lemmas.Option.{same_Some}
 use Rattle.slab.specs.Slab as slab
@@ -8,7 +9,8 @@ use Rattle.slab.specs.Slab.{Slab}
 use Rattle.tcl_core.specs.Trees.{effect}
 use Rattle.tcl_core.specs.Trees.What.{Limited, DepthLimited}
 use Rattle.tcl_frames.specs.Chain.{Chain}
-use Rattle.tcl_tree.specs.Paths.{Path}
+use Rattle.tcl_tree.specs.Paths.{Path, with_node}
+use Rattle.tcl_tree.proofs.PathLemmas.{path_cases}
 use Rattle.tcl_tree.specs.Own.{Own}
 use Rattle.tcl_tree.specs.Nodes.{NodeView, view_of, tree_in, follow, IsSound, IsGuarded}
 use Rattle.tcl_tree.specs.Changes.{Rewrites}
@@ -17,6 +19,18 @@ use Rattle.tcl_tree.specs.declared.node.Node.{Node}
 use Rattle.tcl_tree.proofs.HeapLemmas.{SamePlace, tree-at}
 use Rattle.tcl_tree.proofs.StepLemmas.{tree_some, tree_write, sound_write, guarded_write, follow_write, leads_somewhere}
 use Rattle.tcl_tree.proofs.CoreLemmas.{node_done}
+
+-- a node that is put where it stands
+with_same : (f : Path → Option NodeView) (p q : Path) → with_node f p (option_map (λ v. v) (f p)) q ≡ f q
+unfolding with_node
+with_same f p q = elim (path_cases q p) [
+  | inl w ↦ ap (λ b. cond b (option_map (λ v. v) (f p)) (f q)) w.1 ∙ by (f p) ∙ ap f (sym w.0)
+  | inr w ↦ ap (λ b. cond b (option_map (λ v. v) (f p)) (f q)) w.1
+]
+  where
+    by : (o : Option NodeView) → option_map (λ v. v) o ≡ o
+    by None = refl
+    by (Some v) = refl
 
 module _ (s : Slab Node) (root : ℕ) (sound : IsSound (slab.get s) root) (p : Path) (k : ℕ) (at : follow (slab.get s) root p ≡ Some k)
     (old new : Node) (is : slab.get s k ≡ Some old) (same : SamePlace old new) where
@@ -27,6 +41,10 @@ module _ (s : Slab Node) (root : ℕ) (sound : IsSound (slab.get s) root) (p : P
       let n_is : n ≡ view_of old = same_Some _ _ (sym here ∙ tree_some (slab.get s) root p k old at is) in
       node_done (λ (v : NodeView). record v { own = change n.own }) _ _ p
       (tree_write s root sound p k at old new is same _ (ap (λ (v : NodeView). record (view_of old) { own = change v.own }) n_is ∙ e))
+
+  -- nothing is seen of what is written
+  pub view_write : view_of old ≡ view_of new → tree_in (slab.get (slab.with_value s k new)) root ≡ tree_in (slab.get s) root
+  view_write e = λ i q. (tree_write s root sound p k at old new is same (λ v. v) e q ∙ with_same (tree_in (slab.get s) root) p q) i
 
   pub limit_write : (l : Option ℕ) → record (view_of old) { limit = l } ≡ view_of new → tree_in (slab.get (slab.with_value s k new)) root ≡ effect p (Limited l) (tree_in (slab.get s) root)
   limit_write l e = node_done (λ (v : NodeView). record v { limit = l }) _ _ p (tree_write s root sound p k at old new is same _ e)
@@ -71,3 +89,14 @@ chain_value h root p k leads = by (h k) ∙ sym (ap (option_map (λ (n : NodeVie
     by : (o : Option Node) → option_map (λ (node : Node). node.state.frames) o ≡ option_map (λ (n : NodeView). n.own.chain) (option_map view_of o)
     by None = refl
     by (Some node) = refl
+
+-- a test for no names
+pub empty_path : (xs : Path) (b : Bool) → b ≡ (length xs == 0) → b ≡ true → xs ≡ []
+empty_path [] b e t = refl
+empty_path (x ∷ xs) b e t = absurd (never (length xs) (sym e ∙ t))
+  where
+    never : (n : ℕ) → (suc n == 0) ≡ true → Prim.⊥
+    never n h = grind (arith, nat_tests)
+
+pub no_empty_path : (xs : Path) (b : Bool) → b ≡ (length xs == 0) → b ≡ false → xs ≢ []
+no_empty_path xs b e f none = let x : true ≡ false = sym (e ∙ ap (λ (ys : Path). length ys == 0) none) ∙ f in cc

@@ -1,13 +1,19 @@
 -- What calls on a tree change, and when they are refused.
-use Rattle.std.specs.Prelude.{◌≡◌, ◌⊎◌, ◌<◌, ◌≤◌, ℕ, Bool, true, false, List, [], ◌∷◌, ◌++◌, ◌==◌, ◌&&◌, ◌||◌, not, length, Option, Some, None, IsSome}
+use Rattle.std.specs.Str.{bytes_eq}
+use Rattle.std.specs.Option.{unwrap_or}
+use Rattle.std.specs.Map.{remove_entry}
+use Rattle.indexmap.specs.IndexMap.{insert_entry}
+use Rattle.tcl_tree.specs.declared.command.Command.{Command}
+use Rattle.tcl_tree.specs.declared.command.Command.TheVariants.{Alias, Child}
+use Rattle.std.specs.Prelude.{◌≡◌, ◌≢◌, ◌⊎◌, ◌<◌, ◌≤◌, ℕ, Bool, true, false, List, [], ◌∷◌, ◌++◌, ◌==◌, ◌&&◌, ◌||◌, not, length, Option, Some, None, IsSome}
 use Rattle.tcl_core.specs.Trees.{effect}
 use Rattle.tcl_core.specs.Trees.What.{Changed, Made, Dropped}
-use Rattle.tcl_core.specs.Programs.{blocked, is_spent, is_deep, either}
+use Rattle.tcl_core.specs.Programs.{blocked, is_spent, is_deep, either, most_steps}
 use Rattle.tcl_tree.specs.Paths.{Text, Path}
 use Rattle.tcl_tree.specs.Own.{Own, new_own, with_new_child, without_old_child, command_in, hidden_in}
 use Rattle.tcl_tree.specs.Nodes.{NodeView}
 use Rattle.tcl_tree.specs.declared.refusal.Refusal.{Refusal}
-use Rattle.tcl_tree.specs.declared.refusal.Refusal.TheVariants.{Memory, BadName, NoInterpreter, Exists, InUse, TooMany, CountLimit, DepthLimit}
+use Rattle.tcl_tree.specs.declared.refusal.Refusal.TheVariants.{Memory, BadName, NoInterpreter, Exists, InUse, Denied, NoCommand, BadCount, BadDepthLimit, TooMany, CountLimit, DepthLimit}
 
 -- the own part of the interpreter at p is changed so, and nothing else
 abbrev pub Rewrites : (Path → Option NodeView) → (Path → Option NodeView) → Path → (Own → Own) → Type 0
@@ -78,3 +84,81 @@ abbrev pub RefusesDrop : Refusal → (Path → Option NodeView) → Path → Tex
 RefusesDrop NoInterpreter f p n = f (p ++ n ∷ []) ≡ None
 RefusesDrop InUse f p n = (v : NodeView) × (f (p ++ n ∷ []) ≡ Some v) × (0 < v.depth)
 RefusesDrop _ f p n = Prim.⊥
+
+-- ## Limits
+
+-- A safe interpreter sets no limit, and none sets its own limit of steps.
+pub record MayLimit (f : Path → Option NodeView) (p down : Path) (limit : Option ℕ) : Type 0 where
+  pub asker : NodeView
+  pub here : f p ≡ Some asker
+  pub trusted : asker.safe ≡ false
+  pub other : down ≢ []
+  pub there : IsSome (f (p ++ down))
+  pub fits : unwrap_or limit 0 ≤ most_steps
+
+abbrev pub RefusesLimit : Refusal → (Path → Option NodeView) → Path → Path → Option ℕ → Type 0
+RefusesLimit NoInterpreter f p down limit = (f p ≡ None) ⊎ (f (p ++ down) ≡ None)
+RefusesLimit Denied f p down limit = (v : NodeView) × (f p ≡ Some v) × ((v.safe ≡ true) ⊎ (down ≡ []))
+RefusesLimit BadCount f p down limit = IsSome (f (p ++ down)) × (most_steps < unwrap_or limit 0)
+RefusesLimit _ f p down limit = Prim.⊥
+
+-- the greatest limit of depth
+abbrev pub most_depth : ℕ
+most_depth = 1000
+
+-- A safe interpreter sets no limit, and none sets the root's limit of depth.
+pub record MayLimitDepth (f : Path → Option NodeView) (p down : Path) (limit : ℕ) : Type 0 where
+  pub asker : NodeView
+  pub here : f p ≡ Some asker
+  pub trusted : asker.safe ≡ false
+  pub below_root : p ++ down ≢ []
+  pub there : IsSome (f (p ++ down))
+  pub least : 1 ≤ limit
+  pub most : limit ≤ most_depth
+
+abbrev pub RefusesDepthLimit : Refusal → (Path → Option NodeView) → Path → Path → ℕ → Type 0
+RefusesDepthLimit NoInterpreter f p down limit = (f p ≡ None) ⊎ (f (p ++ down) ≡ None)
+RefusesDepthLimit Denied f p down limit = (v : NodeView) × (f p ≡ Some v) × ((v.safe ≡ true) ⊎ (p ++ down ≡ []))
+RefusesDepthLimit BadDepthLimit f p down limit = IsSome (f (p ++ down)) × ((limit ≡ 0) ⊎ (most_depth < limit))
+RefusesDepthLimit _ f p down limit = Prim.⊥
+
+-- ## Commands
+
+-- the name stands for this, where it did or at the end
+abbrev pub with_command : Text → Command → Own → Own
+with_command n c own = record own { commands = insert_entry bytes_eq own.commands n c }
+
+abbrev pub without_command : Text → Own → Own
+without_command n own = record own { commands = remove_entry (bytes_eq n) own.commands }
+
+-- a name that commands can have: no two colons stand side by side in it
+abbrev pub is_command_name : Text → Bool
+is_command_name n = not (has_colons n)
+
+abbrev pub is_child : Option Command → Bool
+is_child (Some Child) = true
+is_child _ = false
+
+abbrev pub is_alias : Option Command → Bool
+is_alias (Some (Alias a)) = true
+is_alias _ = false
+
+-- no name of a child is given to another command
+pub record MaySet (f : Path → Option NodeView) (p : Path) (n : Text) : Type 0 where
+  pub owner : NodeView
+  pub here : f p ≡ Some owner
+  pub named : is_command_name n ≡ true
+  pub free : is_child (command_in owner.own n) ≡ false
+
+abbrev pub RefusesSet : Refusal → (Path → Option NodeView) → Path → Text → Type 0
+RefusesSet NoInterpreter f p n = f p ≡ None
+RefusesSet BadName f p n = IsSome (f p) × (is_command_name n ≡ false)
+RefusesSet Exists f p n = (v : NodeView) × (f p ≡ Some v) × (is_command_name n ≡ true) × (is_child (command_in v.own n) ≡ true)
+RefusesSet Memory f p n = Unit {0}
+RefusesSet _ f p n = Prim.⊥
+
+-- an alias is cleared where the name is one
+abbrev pub RefusesClear : Refusal → (Path → Option NodeView) → Path → Text → Type 0
+RefusesClear NoInterpreter f p n = f p ≡ None
+RefusesClear NoCommand f p n = (v : NodeView) × (f p ≡ Some v) × (is_alias (command_in v.own n) ≡ false)
+RefusesClear _ f p n = Prim.⊥

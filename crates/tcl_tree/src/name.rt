@@ -1,6 +1,6 @@
 //! The names that commands and interpreters can have.
 ghost use Rattle.std.specs.Prelude.{◌≡◌};
-ghost use Rattle.tcl_tree.specs.Changes.{has_colons, is_name};
+ghost use Rattle.tcl_tree.specs.Changes.{has_colons, is_command_name, is_name};
 
 use tcl_text::text::Text;
 
@@ -17,6 +17,13 @@ fn has_colons(bytes: &[u8]) -> bool
         after_colon = is_colon;
     }
     false
+}
+
+/// Whether a command can have the name: it has no two colons side by side.
+pub(crate) fn is_command_name(name: &Text) -> bool
+    ensures { result ≡ is_command_name name.now }
+{
+    !has_colons(name.as_str().as_bytes())
 }
 
 /// Whether an interpreter can have the name: it isn't empty, and has no two colons side by side.

@@ -12,7 +12,8 @@ use tcl_text::integer::Integers;
 use tcl_text::text::Text;
 
 pub mod children;
-mod limits;
+mod commands;
+pub mod limits;
 mod looks;
 mod variables;
 

@@ -1,10 +1,13 @@
 //! Steps and levels: what is counted in an interpreter and in all above it.
-ghost use Rattle.std.specs.Prelude.{◌≡◌, List, ℕ, IfOk, IfErr, OnOk, OnErr, Some, None, [], IsSome};
+ghost use Rattle.std.specs.Prelude.{◌≡◌, ◌++◌, List, ℕ, IfOk, IfErr, OnOk, OnErr, Some, None, [], IsSome};
 
-use crate::node::Meter;
+use crate::node::{MOST_STEPS, Meter};
 use crate::refusal::Refusal;
 use crate::tree::{Place, Tree};
 use tcl_text::text::Text;
+
+/// The greatest limit of depth.
+pub const MOST_DEPTH: u64 = 1000;
 
 impl Tree {
     ghost use Rattle.tcl_core.specs.Trees.{effect};
@@ -125,6 +128,118 @@ impl Tree {
         match self.nodes.get_mut(self.root) {
             Some(node) => node.state.limit = limit,
             None => unreachable!(),
+        }
+    }
+}
+
+impl Tree {
+    ghost use Rattle.tcl_core.specs.Trees.{effect};
+    ghost use Rattle.tcl_core.specs.Trees.What.{Limited, DepthLimited};
+    ghost use Rattle.tcl_tree.specs.TreeOf.{tree_of, key_of, marks_of};
+    ghost use Rattle.tcl_tree.specs.Changes.{MayLimit, RefusesLimit, MayLimitDepth, RefusesDepthLimit};
+
+    // The key of the interpreter that these names lead to from another.
+    fn descend(&self, key: usize, down: &[Text]) -> Option<usize>
+        ensures { (p : List (List ℕ)) → key_of self.now p ≡ Some key → result ≡ key_of self.now (p ++ down.now) }
+    {
+        let mut at = key;
+        'names: for name in down {
+            let node = self.nodes.get(at)?;
+            at = *node.children.get(name)?;
+        }
+        Some(at)
+    }
+
+    /// Sets or clears, for the interpreter at a path, the limit of steps of the one that names lead to from there. This takes no memory.
+    ///
+    /// # Errors
+    /// Refusals, in this order: 301 of the path; 304 where the one that asks is safe or would limit itself; 301 of the names; 245 where
+    /// the limit is greater than [`MOST_STEPS`](crate::node::MOST_STEPS).
+    pub fn set_limit(
+        &mut self,
+        path: &[Text],
+        down: &[Text],
+        limit: Option<u64>,
+    ) -> Result<(), Refusal>
+        ensures may { OnOk result (MayLimit (tree_of self.old) path.now down.now limit) }
+        ensures limited { OnOk result (tree_of self.new ≡ effect (path.now ++ down.now) (Limited limit) (tree_of self.old)) }
+        ensures refused { IfErr result (λ e. RefusesLimit e (tree_of self.old) path.now down.now limit) }
+        ensures unchanged { OnErr result (tree_of self.new ≡ tree_of self.old) }
+        ensures keys { (q : List (List ℕ)) → key_of self.new q ≡ key_of self.old q }
+        ensures marks { marks_of self.new ≡ marks_of self.old }
+    {
+        let Some(asking) = self.find(path) else {
+            return Err(Refusal::NoInterpreter);
+        };
+        let Some(asker) = self.nodes.get(asking) else {
+            return Err(Refusal::NoInterpreter);
+        };
+        if asker.state.safe {
+            return Err(Refusal::Denied);
+        }
+        if down.is_empty() {
+            return Err(Refusal::Denied);
+        }
+        let Some(key) = self.descend(asking, down) else {
+            return Err(Refusal::NoInterpreter);
+        };
+        if limit.unwrap_or(0) > MOST_STEPS {
+            return Err(Refusal::BadCount);
+        }
+        match self.nodes.get_mut(key) {
+            Some(node) => {
+                node.state.limit = limit;
+                Ok(())
+            }
+            None => Err(Refusal::NoInterpreter),
+        }
+    }
+
+    /// Sets, for the interpreter at a path, the limit of depth of the one that names lead to from there. This takes no memory.
+    ///
+    /// # Errors
+    /// Refusals, in this order: 301 of the path; 304 where the one that asks is safe, or the limit would be the root's; 301 of the
+    /// names; 309 where the limit isn't from 1 to [`MOST_DEPTH`].
+    pub fn set_depth_limit(
+        &mut self,
+        path: &[Text],
+        down: &[Text],
+        limit: u64,
+    ) -> Result<(), Refusal>
+        ensures may { OnOk result (MayLimitDepth (tree_of self.old) path.now down.now limit) }
+        ensures limited { OnOk result (tree_of self.new ≡ effect (path.now ++ down.now) (DepthLimited limit) (tree_of self.old)) }
+        ensures refused { IfErr result (λ e. RefusesDepthLimit e (tree_of self.old) path.now down.now limit) }
+        ensures unchanged { OnErr result (tree_of self.new ≡ tree_of self.old) }
+        ensures keys { (q : List (List ℕ)) → key_of self.new q ≡ key_of self.old q }
+        ensures marks { marks_of self.new ≡ marks_of self.old }
+    {
+        let Some(asking) = self.find(path) else {
+            return Err(Refusal::NoInterpreter);
+        };
+        let Some(asker) = self.nodes.get(asking) else {
+            return Err(Refusal::NoInterpreter);
+        };
+        if asker.state.safe {
+            return Err(Refusal::Denied);
+        }
+        let Some(key) = self.descend(asking, down) else {
+            return Err(Refusal::NoInterpreter);
+        };
+        if key == self.root {
+            return Err(Refusal::Denied);
+        }
+        if limit == 0 {
+            return Err(Refusal::BadDepthLimit);
+        }
+        if limit > MOST_DEPTH {
+            return Err(Refusal::BadDepthLimit);
+        }
+        match self.nodes.get_mut(key) {
+            Some(node) => {
+                node.state.depth_limit = limit;
+                Ok(())
+            }
+            None => Err(Refusal::NoInterpreter),
         }
     }
 }
