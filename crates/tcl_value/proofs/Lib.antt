@@ -3,7 +3,13 @@ pub mod Written
 pub mod Weights
 pub mod Lasts
 pub mod Writes
+pub mod Puts
+pub mod Entered
+pub mod Removed
 pub mod Spaces
 pub mod Laws
+pub mod Inner
+pub mod Ends
 pub mod Changed
+pub mod Dicted
 pub mod Errors

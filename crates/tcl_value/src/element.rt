@@ -1,17 +1,21 @@
 //! The elements of lists and the values of dicts.
-ghost use Rattle.std.specs.Prelude.{◌≡◌, ◌≤◌, ◌++◌, length, OnOk};
+ghost use Rattle.std.specs.Prelude.{◌≡◌, ◌≤◌, ◌++◌, length, OnOk, IfOk};
 ghost use Rattle.std.specs.String.{string_bytes};
 ghost use Rattle.std.specs.Fmt.{signed_decimal};
+ghost use Rattle.tcl_value.specs.Limits.{IsWithin};
 ghost use Rattle.tcl_value.specs.Writing.{write_element};
-ghost use Rattle.tcl_value.specs.Texts.{element_text, IsElement};
+ghost use Rattle.tcl_value.specs.Texts.{element_text, ends_in_backslash, IsElement};
 
 use crate::entries::Entries;
 use crate::items::Items;
-use std::alloc::AllocError;
+use std::alloc::{AllocError, Global};
 use std::rc::Rc;
-use tcl_text::integer::{int_len, push_int};
+use tcl_text::integer::{int_len, push_int, write_int};
 use tcl_text::list::{write_element, written_len};
 use tcl_text::text::Text;
+
+/// How deep lists and dicts may stand in one another without a text: what writes, drops or copies them goes down as deep.
+pub(crate) const MOST_DEPTH: u32 = 100;
 
 /// An element, which may be kept as the number, the list or the dict that its text writes.
 #[cycle(element)]
@@ -24,6 +28,23 @@ pub(crate) enum Element {
 }
 
 impl Element {
+    /// Its text.
+    ///
+    /// # Errors
+    /// Want of memory.
+    pub(crate) fn text(&self, alloc: Global) -> Result<Text, AllocError>
+        requires { IsElement self.now }
+        ensures text { IfOk result (λ text. text ≡ element_text self.now) }
+        ensures within { IfOk result IsWithin }
+    {
+        match self {
+            Element::Text(text) => text.clone(),
+            Element::Number(n) => Text::from_string(alloc, write_int(alloc, *n)?),
+            Element::List(items) => Text::from_string(alloc, items.write(alloc)?),
+            Element::Dict(entries) => Text::from_string(alloc, entries.write(alloc)?),
+        }
+    }
+
     /// How many bytes write it in a list, where it is the first element or another.
     pub(crate) fn written_len(&self, first: bool) -> usize
         requires { IsElement self.now }
@@ -35,6 +56,17 @@ impl Element {
             Element::Number(n) => number_len(*n, first),
             Element::List(items) => items.written_len() + 2,
             Element::Dict(entries) => entries.written_len() + 2,
+        }
+    }
+
+    /// Whether its text ends in a backslash.
+    pub(crate) fn ends_in_backslash(&self) -> bool
+        requires { IsElement self.now }
+        ensures { result ≡ ends_in_backslash (element_text self.now) }
+    {
+        match self {
+            Element::Text(text) => has_backslash_end(text.as_str().as_bytes()),
+            Element::Number(_) | Element::List(_) | Element::Dict(_) => false,
         }
     }
 
@@ -70,6 +102,16 @@ impl Element {
             Element::List(items) => items.depth().saturating_add(1),
             Element::Dict(entries) => entries.depth().saturating_add(1),
         }
+    }
+}
+
+/// Whether the last byte is a backslash.
+fn has_backslash_end(text: &[u8]) -> bool
+    ensures { result ≡ ends_in_backslash text.now }
+{
+    match text {
+        [] => false,
+        [.., last] => *last == b'\\',
     }
 }
 
