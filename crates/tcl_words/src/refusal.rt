@@ -1,0 +1,99 @@
+//! How commands refuse.
+ghost use Rattle.std.specs.Prelude.{◌≡◌, ◌++◌, codes, Err, IfOk};
+ghost use Rattle.std.specs.Prelude.{List, ℕ};
+ghost use Rattle.tcl_words.specs.Outcomes.{Refuses};
+ghost use Rattle.tcl_words.specs.Faults.{quoted, wrong_arguments, bad_option, bad_count, unknown_subcommand, missing_value, too_long};
+
+use std::alloc::{AllocError, AllocFailed, Global};
+use tcl_text::text::Text;
+
+/// Why a command gives nothing.
+#[derive(Debug, Drop)]
+pub enum Refusal {
+    /// Want of memory.
+    Memory,
+    /// The error with this text.
+    Fault(Text),
+}
+
+impl From<AllocError> for Refusal {
+    ghost use Rattle.tcl_words.specs.declared.refusal.Refusal.TheVariants.{Memory};
+
+    ghost from_gives = { λ _ e. e ≡ Memory };
+
+    fn from(_e: AllocError) -> Refusal {
+        Refusal::Memory
+    }
+}
+
+impl<T: Drop> From<AllocFailed<T>> for Refusal {
+    ghost use Rattle.tcl_words.specs.declared.refusal.Refusal.TheVariants.{Memory};
+
+    ghost from_gives = { λ _ e. e ≡ Memory };
+
+    fn from(_e: AllocFailed<T>) -> Refusal {
+        Refusal::Memory
+    }
+}
+
+/// The refusal with a text that was made, or want of memory.
+pub(crate) fn told(message: Result<Text, AllocError>) -> Refusal
+    ensures { (text : List ℕ) → IfOk message (λ made. made ≡ text) → Refuses {X = List ℕ} result (Err text) }
+{
+    match message {
+        Ok(text) => Refusal::Fault(text),
+        Err(_) => Refusal::Memory,
+    }
+}
+
+/// A text between a front and a quotation mark.
+fn quoting(alloc: Global, front: &str, text: &str) -> Result<Text, AllocError>
+    ensures { IfOk result (λ made. made ≡ quoted front.now text.now) }
+{
+    let mut made = String::from_str(alloc, front)?;
+    made.push_str(text)?;
+    made.push_str("\"")?;
+    Text::from_string(alloc, made)
+}
+
+/// What is told of words that don't fit the form of their command (241).
+pub fn wrong_arguments(alloc: Global, form: &str) -> Refusal
+    ensures { Refuses {X = List ℕ} result (Err (wrong_arguments form.now)) }
+{
+    told(quoting(alloc, "wrong # args: should be \"", form))
+}
+
+/// What is told of a word that is no option (221).
+pub fn bad_option(alloc: Global, word: &str) -> Refusal
+    ensures { Refuses {X = List ℕ} result (Err (bad_option word.now)) }
+{
+    told(quoting(alloc, "bad option \"", word))
+}
+
+/// What is told of a count below 0 (245).
+pub fn bad_count(alloc: Global, word: &str) -> Refusal
+    ensures { Refuses {X = List ℕ} result (Err (bad_count word.now)) }
+{
+    told(quoting(alloc, "bad count \"", word))
+}
+
+/// What is told of a word that is no subcommand (244).
+pub fn unknown_subcommand(alloc: Global, word: &str) -> Refusal
+    ensures { Refuses {X = List ℕ} result (Err (unknown_subcommand word.now)) }
+{
+    told(quoting(alloc, "unknown subcommand \"", word))
+}
+
+/// What is told of a key without a value (121).
+pub fn missing_value(alloc: Global) -> Refusal
+    ensures { Refuses {X = List ℕ} result (Err missing_value) }
+{
+    told(Text::new(alloc, "missing value to go with key"))
+}
+
+/// What is told of a value that would be too long (122).
+pub fn too_long(alloc: Global) -> Refusal
+    ensures { Refuses {X = List ℕ} result (Err too_long) }
+{
+    told(Text::new(alloc, "value longer than 16777216 bytes"))
+}
