@@ -218,21 +218,6 @@ fn unset_goes_through_a_link(rt: HostRuntime) -> Result<(), Fail> {
     Ok(())
 }
 
-/// `proc f {} {upvar 1 l v; lappend v x}` adds to the caller's `l`, which isn't copied.
-#[test]
-fn value_is_changed_in_place(rt: HostRuntime) -> Result<(), Fail> {
-    let alloc = rt.alloc();
-    let mut frames = Frames::new(alloc)?;
-    set(&mut frames, alloc, "l", "a b")?;
-    frames.push(alloc, Vec::new(alloc))?;
-    link(&mut frames, alloc, 0, "l", "v")?;
-    frames
-        .get_mut(alloc, &text(alloc, "v")?)?
-        .append(alloc, " x")?;
-    assert_eq!(rt; get(&frames, alloc, "::l")?.as_str(), "a b x");
-    Ok(())
-}
-
 /// What a script is told of a refusal; `-` where there is none.
 fn told(alloc: Global, refusal: Option<FrameError>) -> Result<Text, Fail> {
     match refusal {
