@@ -157,8 +157,11 @@ module _ (R : Discipline Own Instr) (F : Facts R) (l : Bool) where
 
   words : (ws : List WordRead) (before : List Text) → Keeps (scripts.words ws before)
   words [] before = by_charged before
-  words (word ∷ rest) before = (F.parts word.parts [] [], by_ok (λ text. scripts.spread word.expand text (λ more. go (Words rest (before ++ more)) done))
-      (λ text. by_spread word.expand text (λ more. go (Words rest (before ++ more)) done) (λ more. by_go (Words rest (before ++ more)) (F.words rest (before ++ more)))))
+  words (word ∷ rest) before = (
+    F.parts word.parts [] [],
+    by_ok (λ text. scripts.spread word.expand text (λ more. go (Words rest (before ++ more)) done))
+        (λ text. by_spread word.expand text (λ more. go (Words rest (before ++ more)) done) (λ more. by_go (Words rest (before ++ more)) (F.words rest (before ++ more)))),
+  )
 
   on_parts : (rest : List Part) (elements : List Open) (text : Text) → Keeps (grown text (λ all. go (Parts rest elements all) done))
   on_parts rest elements text = by_grown text (λ all. go (Parts rest elements all) done) (λ all. by_go (Parts rest elements all) (F.parts rest elements all))
@@ -300,8 +303,11 @@ module _ (R : Discipline Own Instr) (F : Facts R) (l : Bool) where
   catch [] = tt
   catch (script ∷ []) = (F.script script, λ c. tt)
   catch (script ∷ result ∷ []) = (F.script script, λ c. by_sets result c.text (done (ok (control.code_text c))) tt)
-  catch (script ∷ result ∷ options ∷ []) = (F.script script, λ c. by_sets result c.text (grown (control.options_text c) (λ text. variables.sets options text (done (ok (control.code_text c)))))
-      (by_grown (control.options_text c) (λ text. variables.sets options text (done (ok (control.code_text c)))) (λ text. by_sets options text (done (ok (control.code_text c))) tt)))
+  catch (script ∷ result ∷ options ∷ []) = (
+    F.script script,
+    λ c. by_sets result c.text (grown (control.options_text c) (λ text. variables.sets options text (done (ok (control.code_text c)))))
+        (by_grown (control.options_text c) (λ text. variables.sets options text (done (ok (control.code_text c)))) (λ text. by_sets options text (done (ok (control.code_text c))) tt)),
+  )
   catch (script ∷ result ∷ options ∷ more ∷ rest) = tt
 
   breaks : (args : List Text) → Keeps (control.breaks args)
@@ -353,8 +359,8 @@ module _ (R : Discipline Own Instr) (F : Facts R) (l : Bool) where
   by_lists (body ∷ []) walks k f = f walks body
   by_lists (names ∷ elements ∷ rest) walks k f =
       by_result fault_message (list_of names) (λ xs. or_fails fault_message (list_of elements) (λ ys. control.walk_of xs ys (λ walk. control.walks_of rest (walks ++ walk ∷ []) k)))
-        (λ xs. by_result fault_message (list_of elements) (λ ys. control.walk_of xs ys (λ walk. control.walks_of rest (walks ++ walk ∷ []) k))
-          (λ ys. by_walk xs ys (λ walk. control.walks_of rest (walks ++ walk ∷ []) k) (λ walk. by_lists rest (walks ++ walk ∷ []) k f)))
+      (λ xs. by_result fault_message (list_of elements) (λ ys. control.walk_of xs ys (λ walk. control.walks_of rest (walks ++ walk ∷ []) k))
+      (λ ys. by_walk xs ys (λ walk. control.walks_of rest (walks ++ walk ∷ []) k) (λ walk. by_lists rest (walks ++ walk ∷ []) k f)))
 
   foreach : (args : List Text) → Keeps (control.foreach args)
   foreach [] = tt
@@ -486,8 +492,8 @@ module _ (R : Discipline Own Instr) (F : Facts R) (l : Bool) where
   creates : (name : Text) (safe : Bool) → Keeps (interpreters.creates name safe)
   creates name safe = by_look _ (λ n s p. by_either (is_name name) _ (fails (bad_name name))
       (by_either (is_some (lookup (bytes_eq name) n.own.commands)) (fails (interpreters.already_exists name)) _ tt
-        (by_either (nat_le interpreters.most_children (length n.own.children)) (fails (codes "too many interpreters")) (interpreters.makes name (safe || n.safe) n.own) tt
-          (makes name (safe || n.safe) n.own (or_true safe n.safe s) p))) tt)
+      (by_either (nat_le interpreters.most_children (length n.own.children)) (fails (codes "too many interpreters")) (interpreters.makes name (safe || n.safe) n.own) tt
+      (makes name (safe || n.safe) n.own (or_true safe n.safe s) p))) tt)
 
   by_depth : (name : Text) (own : Own) (depth : ℕ) → R.plain own ≡ true → Keeps (interpreters.drops_at name own depth)
   by_depth name own zero p = (F.dropped name own p, λ T g. (tt, λ U h. tt))
@@ -515,8 +521,11 @@ module _ (R : Discipline Own Instr) (F : Facts R) (l : Bool) where
 
   makes_named : (text : Text) (safe : Bool) (path : List Text) → Keeps (interpreters.makes_named text safe path)
   makes_named text safe [] = tt
-  makes_named text safe (x ∷ xs) = (tt, λ T g. by_standing text _ (λ n. by_asks (interpreters.before_last x xs).0 (Create (Some (interpreters.before_last x xs).1) safe) (interpreters.with_text text)
-      (F.tame_create (Some (interpreters.before_last x xs).1) safe) (with_text text)) (T (interpreters.before_last x xs).0))
+  makes_named text safe (x ∷ xs) = (
+    tt,
+    λ T g. by_standing text _ (λ n. by_asks (interpreters.before_last x xs).0 (Create (Some (interpreters.before_last x xs).1) safe) (interpreters.with_text text)
+        (F.tame_create (Some (interpreters.before_last x xs).1) safe) (with_text text)) (T (interpreters.before_last x xs).0),
+  )
 
   create_path : (safe : Bool) (args : List Text) → Keeps (interpreters.create_path safe args)
   create_path safe [] = by_look _ (λ n s p. by_asks [] (Create (Some (interpreters.free_name n.own)) safe) (interpreters.with_text (interpreters.free_name n.own)) (F.tame_create (Some (interpreters.free_name n.own)) safe) (with_text (interpreters.free_name n.own)))
@@ -527,7 +536,7 @@ module _ (R : Discipline Own Instr) (F : Facts R) (l : Bool) where
   create_options safe [] = create_path safe []
   create_options safe (word ∷ words) = by_either (interpreters.is_option word) _ (interpreters.create_path safe (word ∷ words))
       (by_either (bytes_eq word (codes "--")) (interpreters.create_path safe words) _ (create_path safe words)
-        (by_either (bytes_eq word (codes "-safe")) (interpreters.create_options true words) (fails (interpreters.bad_option word)) (create_options true words) tt))
+      (by_either (bytes_eq word (codes "-safe")) (interpreters.create_options true words) (fails (interpreters.bad_option word)) (create_options true words) tt))
       (create_path safe (word ∷ words))
 
   after_delete : (text : Text) (more : Program) → Keeps more → (c : Completion) → Keeps (interpreters.after_delete text more c)
@@ -723,7 +732,7 @@ module _ (R : Discipline Own Instr) (F : Facts R) (l : Bool) where
   proc (name ∷ args ∷ body ∷ []) = by_result fault_message (list_of args)
       (λ texts. definitions.parameters texts [] (λ ps. interpreters.renaming interpreters.done_so (λ own. named own name (command.Procedure (record { parameters = ps; body = body })))))
       (λ texts. by_parameters texts [] (λ ps. interpreters.renaming interpreters.done_so (λ own. named own name (command.Procedure (record { parameters = ps; body = body }))))
-        (λ ps. by_renaming interpreters.done_so (λ own. named own name (command.Procedure (record { parameters = ps; body = body }))) (λ own p. F.procedure own name (record { parameters = ps; body = body }) p) tt))
+      (λ ps. by_renaming interpreters.done_so (λ own. named own name (command.Procedure (record { parameters = ps; body = body }))) (λ own p. F.procedure own name (record { parameters = ps; body = body }) p) tt))
   proc (a ∷ b ∷ c ∷ d ∷ rest) = tt
 
   deletes_child : (o : Option Text) → Keeps (definitions.deletes_child o)
@@ -785,7 +794,7 @@ module _ (R : Discipline Own Instr) (F : Facts R) (l : Bool) where
   called style [] = tt
   called style (word ∷ args) = by_name (command_name word) word (λ plain. look (λ n. table.dispatch style word args invalid_command (lookup (bytes_eq plain) n.own.commands)))
       (λ plain. by_look (λ n. table.dispatch style word args invalid_command (lookup (bytes_eq plain) n.own.commands))
-        (λ n s p. dispatch style word args invalid_command (lookup (bytes_eq plain) n.own.commands) (λ b e h. F.host n.own plain b p e h)))
+      (λ n s p. dispatch style word args invalid_command (lookup (bytes_eq plain) n.own.commands) (λ b e h. F.host n.own plain b p e h)))
 
   invoked : (style : Integers) (ws : List Text) → R.may_ask ≡ true → Keeps (table.invoked style ws)
   invoked style [] h = tt

@@ -138,7 +138,7 @@ module _ {O I : Type 0} (prog : Table O I) where
       ((V : Tree O) (e : Completion) → IsRun V p (k (Finished e)) (c V e)) → ((t : Place) → IsRun T t (entering prog (T t) i) (inner t)) → IsRun T p (k (Told Accepted)) out →
       (o : Option Place) → rise_to h p ≡ o →
       IsRun T p (call h down i lost k) (playing.risen_by prog (λ a. playing.reached_by prog (λ t. playing.follow prog (inner t) (λ U r. playing.on_completed prog c U (carried h p down r))) (c T lost) (reached T a down))
-          (playing.where_fit prog (playing.accepts prog h i) out) o)
+      (playing.where_fit prog (playing.accepts prog h i) out) o)
   by_rise T p h down i lost k c inner out f g t None e = by_fit T p h down i lost k out t e (playing.accepts prog h i) refl
   by_rise T p h down i lost k c inner out f g t (Some a) e = by_reach T p a h down i lost k c inner f g e (reached T a down) refl
 
@@ -148,15 +148,15 @@ module _ {O I : Type 0} (prog : Table O I) where
   runs (suc n) T p (exit s) = exited
   runs (suc n) T p (act d k) =
       subst (λ o. IsRun T p (act d k) (playing.acted prog (λ U. play prog n U p (k (at T p))) T p o)) (sym (decided d T p).1)
-        (by_act T p d k (λ U. play prog n U p (k (at T p))) (λ U. runs n U p (k (at T p))) (decided d T p).0 (decided d T p).2)
+      (by_act T p d k (λ U. play prog n U p (k (at T p))) (λ U. runs n U p (k (at T p))) (decided d T p).0 (decided d T p).2)
   runs (suc n) T p (go i k) = after T T p p (go i k) (prog.program i) _ (λ U r t. by_go T U p i k (λ V c. play prog n V p (k c)) (λ V c. runs n V p (k c)) r t) (play prog n T p (prog.program i)) (runs n T p (prog.program i))
   runs (suc n) T p (inside b i k) =
       subst (λ o. IsRun T p (inside b i k) (playing.wrapped prog (λ U. playing.follow prog (play prog n U p (prog.program i)) (λ V r. playing.on_completed prog (λ W c. play prog n W p (k c)) (effect p (closes b (V p)) V) r))
-          (λ U. play prog n U p (k (refusal Depth))) T p o)) (sym (opened b T p).1)
-        (by_wrap T p b i k (λ V c. play prog n V p (k c)) (λ U. play prog n U p (prog.program i)) (λ V c. runs n V p (k c)) (λ U. runs n U p (prog.program i)) (opened b T p).0 (opened b T p).2)
+      (λ U. play prog n U p (k (refusal Depth))) T p o)) (sym (opened b T p).1)
+      (by_wrap T p b i k (λ V c. play prog n V p (k c)) (λ U. play prog n U p (prog.program i)) (λ V c. runs n V p (k c)) (λ U. runs n U p (prog.program i)) (opened b T p).0 (opened b T p).2)
   runs (suc n) T p (call h down i lost k) =
       by_rise T p h down i lost k (λ V c. play prog n V p (k (Finished c))) (λ t. play prog n T t (entering prog (T t) i)) (play prog n T p (k (Told Accepted)))
-        (λ V c. runs n V p (k (Finished c))) (λ t. runs n T t (entering prog (T t) i)) (runs n T p (k (Told Accepted))) (rise_to h p) refl
+      (λ V c. runs n V p (k (Finished c))) (λ t. runs n T t (entering prog (T t) i)) (runs n T p (k (Told Accepted))) (rise_to h p) refl
   runs (suc n) T p (wait s k) = tt
 
   pub play_is_run : (n : ℕ) (T V : Tree O) (p : Place) (x : Prog O I) (r : Reply) → play prog n T p x ≡ Some (V, r) → Goes T p x V r

@@ -14,7 +14,6 @@ use Rattle.tcl_core.specs.Trees.{Node, Tree}
 use Rattle.tcl_core.specs.Programs.{Calls_only}
 use Rattle.tcl_core.specs.Programs.Act.{Look, Limit, LimitDepth}
 use Rattle.tcl_core.specs.Programs.Prog.{done, go, act, exit}
-
 use Rattle.tcl_frames.specs.Chain.{Chain, read, exists_at, words_at, after_set, after_unset, after_link}
 use Rattle.tcl_frames.specs.declared.scope.Scope.{Scope}
 use Rattle.tcl_frames.specs.declared.scope.Scope.TheVariants.{Visible, Global, Local}
@@ -406,8 +405,8 @@ makes name safe own = λ T U. tt
 creates : (name : Text) (safe : Bool) → Calling (interpreters.creates name safe)
 creates name safe = by_look _ (λ n. by_either (is_name name) _ (fails (bad_name name))
     (by_either (is_some (lookup (bytes_eq name) n.own.commands)) (fails (interpreters.already_exists name)) _ tt
-      (by_either (nat_le interpreters.most_children (length n.own.children)) (fails (codes "too many interpreters")) (interpreters.makes name (safe || n.safe) n.own) tt
-        (makes name (safe || n.safe) n.own))) tt)
+    (by_either (nat_le interpreters.most_children (length n.own.children)) (fails (codes "too many interpreters")) (interpreters.makes name (safe || n.safe) n.own) tt
+    (makes name (safe || n.safe) n.own))) tt)
 
 by_depth : (name : Text) (own : Own) (depth : ℕ) → Calling (interpreters.drops_at name own depth)
 by_depth name own zero = λ T U. tt
@@ -446,7 +445,7 @@ create_options : (safe : Bool) (args : List Text) → Calling (interpreters.crea
 create_options safe [] = create_path safe []
 create_options safe (word ∷ words) = by_either (interpreters.is_option word) _ (interpreters.create_path safe (word ∷ words))
     (by_either (bytes_eq word (codes "--")) (interpreters.create_path safe words) _ (create_path safe words)
-      (by_either (bytes_eq word (codes "-safe")) (interpreters.create_options true words) (fails (interpreters.bad_option word)) (create_options true words) tt))
+    (by_either (bytes_eq word (codes "-safe")) (interpreters.create_options true words) (fails (interpreters.bad_option word)) (create_options true words) tt))
     (create_path safe (word ∷ words))
 
 after_delete : (text : Text) (more : Program) → Calling more → (c : Completion) → Calling (interpreters.after_delete text more c)
@@ -761,4 +760,3 @@ program style (Invoke ws) = λ c. tt
 program style (Hidden ws) = invoked style ws
 program style (Foreach walks body) = foreach_turns walks body
 program style (Serve e) = serve style e
-

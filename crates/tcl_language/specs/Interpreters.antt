@@ -90,10 +90,10 @@ makes name safe own = change (with_new_child name own) (act (Make name (new_own 
 abbrev pub creates : Text → Bool → Program
 creates name safe = look (λ n.
     either (is_name name)
-      (either (is_some (lookup (bytes_eq name) n.own.commands)) (fails (already_exists name))
-        (either (nat_le most_children (length n.own.children)) (fails (codes "too many interpreters"))
-          (makes name (safe || n.safe) n.own)))
-      (fails (bad_name name)))
+    (either (is_some (lookup (bytes_eq name) n.own.commands)) (fails (already_exists name))
+    (either (nat_le most_children (length n.own.children)) (fails (codes "too many interpreters"))
+    (makes name (safe || n.safe) n.own)))
+    (fails (bad_name name)))
 
 abbrev pub numbered : ℕ → Text
 numbered n = codes "interp" ++ decimal n
@@ -238,7 +238,7 @@ abbrev pub invoked_as : Text → Text → Bool → List Text → Program
 invoked_as text form global [] = fails (wrong_args form)
 invoked_as text form global (name ∷ args) =
     either (is_option name && not global) (either (is_global name) (invoked_as text form true args) (fails (bad_option name)))
-      (asks_trusted text (InvokeHidden global (name ∷ args)))
+    (asks_trusted text (InvokeHidden global (name ∷ args)))
 
 -- `interp invokehidden path ?-global? hiddenName ?arg ...?`
 abbrev pub invoke_hidden : List Text → Program
@@ -279,9 +279,9 @@ abbrev pub create_options : Bool → List Text → Program
 create_options safe [] = create_path safe []
 create_options safe (word ∷ words) =
     either (is_option word)
-      (either (bytes_eq word (codes "--")) (create_path safe words)
-        (either (bytes_eq word (codes "-safe")) (create_options true words) (fails (bad_option word))))
-      (create_path safe (word ∷ words))
+    (either (bytes_eq word (codes "--")) (create_path safe words)
+    (either (bytes_eq word (codes "-safe")) (create_options true words) (fails (bad_option word))))
+    (create_path safe (word ∷ words))
 
 -- ## `interp delete ?path ...?`
 
@@ -305,7 +305,7 @@ delete (text ∷ texts) = at_path text (λ path n. deletes_named text path (dele
 abbrev pub alias_path : Text → Text → Text → Text → List Text → Program
 alias_path source name target word args =
     at_path source (λ path n. or_fails fault_message (list_of target) (λ goal.
-      asks_at path (SetAlias name (length path - together path goal) (drop (together path goal) goal) (word ∷ args)) (with_text name)))
+    asks_at path (SetAlias name (length path - together path goal) (drop (together path goal) goal) (word ∷ args)) (with_text name)))
 
 abbrev pub alias_form : Text
 alias_form = codes "interp alias srcPath srcCmd ?targetPath? ?targetCmd? ?arg ...?"

@@ -69,10 +69,10 @@ module _ {O I : Type 0} (prog : Table O I) where
   play (suc n) T p (go i k) = follow (play n T p (prog.program i)) (on_completed (λ U c. play n U p (k c)))
   play (suc n) T p (inside b i k) =
       wrapped (λ U. follow (play n U p (prog.program i)) (λ V r. on_completed (λ W c. play n W p (k c)) (effect p (closes b (V p)) V) r))
-          (λ U. play n U p (k (refusal Depth))) T p (opens b T p (Budget 1000))
+      (λ U. play n U p (k (refusal Depth))) T p (opens b T p (Budget 1000))
   play (suc n) T p (call h down i lost k) =
       risen_by (λ a. reached_by (λ t. follow (play n T t (entering prog (T t) i)) (λ U r. on_completed (λ V c. play n V p (k (Finished c))) U (carried h p down r)))
-          (play n T p (k (Finished lost))) (reached T a down)) (where_fit (accepts h i) (play n T p (k (Told Accepted)))) (rise_to h p)
+      (play n T p (k (Finished lost))) (reached T a down)) (where_fit (accepts h i) (play n T p (k (Told Accepted)))) (rise_to h p)
   play (suc n) T p (wait s k) = None
 
 -- how it ends
