@@ -47,13 +47,13 @@ snoc_plain : (cs : CommandMap) (x : Text) (c : Command) → are_plain cs ≡ tru
 snoc_plain [] x c f g = both (is_plain c) true g refl
 snoc_plain (e ∷ es) x c f g = both (is_plain e.1) (are_plain (es ++ (x, c) ∷ [])) (left_of (is_plain e.1) (are_plain es) f) (snoc_plain es x c (right_of (is_plain e.1) (are_plain es) f) g)
 
-if_plain : (b : Bool) (as bs : CommandMap) → are_plain as ≡ true → are_plain bs ≡ true → are_plain (if b then as else bs) ≡ true
-if_plain true as bs f g = f
-if_plain false as bs f g = g
+if_plain : (b : Bool) (xs ys : CommandMap) → are_plain xs ≡ true → are_plain ys ≡ true → are_plain (if b then xs else ys) ≡ true
+if_plain true xs ys f g = f
+if_plain false xs ys f g = g
 
-cond_map : (b : Bool) (as bs : CommandMap) → are_plain as ≡ true → are_plain bs ≡ true → are_plain (cond b as bs) ≡ true
-cond_map true as bs f g = f
-cond_map false as bs f g = g
+cond_map : (b : Bool) (xs ys : CommandMap) → are_plain xs ≡ true → are_plain ys ≡ true → are_plain (cond b xs ys) ≡ true
+cond_map true xs ys f g = f
+cond_map false xs ys f g = g
 
 insert_plain : (cs : CommandMap) (x : Text) (c : Command) → are_plain cs ≡ true → is_plain c ≡ true → are_plain (insert_entry bytes_eq cs x c) ≡ true
 insert_plain [] x c f g = both (is_plain c) true g refl
