@@ -228,8 +228,8 @@ module _ {O I : Type 0} (prog : Table O I) (k : ℕ) where
   reacted z y x (over z2 y2 x2 d u p q r) w v a b e m n f l = lived w v a b z.tape y m f l (subst (λ j. Lives prog j y None) e d)
   reacted z y x (waiting z2 y2 j d u p r) w v a b e m n f l = lived w v a b z.tape y m f l (subst (λ j. Lives prog j y None) e d)
   reacted z y x (uncalled z2 y2 g rest d u p q r) w v a b e m n f l = lived w v a b z.tape y m f l (subst (λ j. Lives prog j y None) e d)
-  reacted z y x (unfit z2 u y2 j ms g rest τ d c p q s d2 q2) w v a b e m n f l = lived w v a b z.tape u m f l (subst (λ j. Lives prog j u None) e d)
-  reacted z y x (ended_so z2 u y2 j ms c rest τ g d q s p d2 q2) w v a b e m n f l = no_end_in ms c rest (subst NoEnds (sym (ap (λ j. j.moves) e) ∙ g) n)
+  reacted z y x (unfit z2 u y2 j ms g rest τ d c p q s d2 q2 q3) w v a b e m n f l = lived w v a b z.tape u m f l (subst (λ j. Lives prog j u None) e d)
+  reacted z y x (ended_so z2 u y2 j ms c rest τ g d q s p d2 q2 q3) w v a b e m n f l = no_end_in ms c rest (subst NoEnds (sym (ap (λ j. j.moves) e) ∙ g) n)
   reacted z y x (spent z2 y2 j ms rest p τ g s c q d r) w v a b e m n f l =
       spends w v a b z.tape y j ms rest p τ m f l (sym (ap (λ j. j.moves) e) ∙ g) s (subst (λ q. Lives prog (unwound q ms j (Cut Over) (z.tape ++ spent_at p ∷ τ)) y None) e d)
 

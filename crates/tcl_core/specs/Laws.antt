@@ -16,7 +16,6 @@ use Rattle.tcl_core.specs.Programs.Prog.{act, go, inside, call, wait}
 use Rattle.tcl_core.specs.Runs.{World, Ending, Step, Runs, Visits, carried, reached, fits}
 use Rattle.tcl_core.specs.Views.{grants_of, moves_of, steps_of, view, inside_of}
 use Rattle.tcl_core.specs.Tables.{Discipline, Keeps_to, IsGood, AreTame, AreAllowed, exposes, hostless, sets_limit, unlimiting}
-use Rattle.tcl_core.specs.Lives.Outcome.{Finished, Waiting, Exited}
 use Rattle.tcl_core.specs.Lives.{Lives, Outcome, React, outs_of, outcome_of}
 
 -- the same world with another tape
@@ -423,14 +422,7 @@ LimitsKept O I = (fine : I → Bool) (prog : Table O I) → ((limited : Place �
     AsLimited (w.tree (c ++ q)) (v.tree (c ++ q)) ×
     ((n : Node O) → w.tree (c ++ q) ≡ Some n → IsStanding (c ++ q) w.tape → (m : Node O) × (v.tree (c ++ q) ≡ Some m) × (m.limit ≡ n.limit) × (m.depth_limit ≡ n.depth_limit))
 
--- it stops by itself: all entries came to their end, or all moves are read and a call is open
-abbrev pub StopsByItself : Outcome → Type 0
-StopsByItself Finished = Unit {0}
-StopsByItself (Exited n) = Unit {0}
-StopsByItself Waiting = Unit {0}
-StopsByItself x = Prim.⊥
-
--- Where a tree by itself stops by itself, that is all that it does with these moves and this budget: no other life of it comes to anything else.
+-- What a tree does by itself with these moves and this budget is one thing: there is no other.
 abbrev pub OneReaction : Type 0 → Type 0 → Type 0
 OneReaction O I = (prog : Table O I) (S : Tree O) (ms : List (Move O)) (n : ℕ) (x y : Outcome) (outs told : List (Event O)) (V W : Tree O) →
-    React prog S ms n x outs V → StopsByItself x → React prog S ms n y told W → (y ≡ x) × (told ≡ outs) × (W ≡ V)
+    React prog S ms n x outs V → React prog S ms n y told W → (y ≡ x) × (told ≡ outs) × (W ≡ V)

@@ -120,6 +120,12 @@ abbrev pub end_of : Outcome → Reply
 end_of (Exited n) = Exit n
 end_of x = Cut Over
 
+-- an answer that ends the open call from outside fits, but after an exit
+abbrev pub Unfitting : {O : Type 0} → Outcome → Move O → Type 0
+Unfitting (Exited n) m = Unit {0}
+Unfitting x (Come (Replied (Cut c))) = Prim.⊥
+Unfitting x m = Unit {0}
+
 -- after an exit the rest is left unread
 abbrev pub AllRead : {O : Type 0} → Outcome → List (Move O) → Type 0
 AllRead (Exited n) ms = Unit {0}
@@ -138,10 +144,10 @@ pub data Reacts {O I : Type 0} (prog : Table O I) : World O → World O → Outc
   -- an answer where no call is open; and a move that doesn't fit where one is: the tree is left as if an end from outside had come in its place
   uncalled : (w v : World O) (m : Move O) (rest : List (Move O)) → Lives prog w v None → IsUncut w.tape → InProgress 0 w.tape → outcome_of w.tape Finished ≡ Finished → v.moves ≡ m ∷ rest → Reacts prog w v Misfit
   unfit : (w u v : World O) (k : ℕ) (ms : List (Move O)) (m : Move O) (rest : List (Move O)) (τ : List (Event O)) → Lives prog w u None → IsUncut w.tape → InProgress (suc k) w.tape →
-      u.moves ≡ m ∷ rest → w.moves ≡ ms ++ m ∷ rest → Lives prog (unwound w ms (suc k) (end_of (outcome_of w.tape Finished)) τ) v None → v.moves ≡ [] → Reacts prog w v Misfit
+      u.moves ≡ m ∷ rest → w.moves ≡ ms ++ m ∷ rest → Lives prog (unwound w ms (suc k) (end_of (outcome_of w.tape Finished)) τ) v None → v.moves ≡ [] → Unfitting (outcome_of w.tape Finished) m → Reacts prog w v Misfit
   -- an answer from outside ends the open call, and so all that are open
   ended_so : (w u v : World O) (k : ℕ) (ms : List (Move O)) (c : Cause) (rest : List (Move O)) (τ : List (Event O)) → w.moves ≡ ms ++ Come (Replied (Cut c)) ∷ rest → Lives prog (handed w ms) u None → u.moves ≡ [] →
-      IsUncut w.tape → InProgress (suc k) w.tape → Lives prog (unwound w ms (suc k) (Cut Above) τ) v None → v.moves ≡ [] → Reacts prog w v Ended
+      IsUncut w.tape → InProgress (suc k) w.tape → Lives prog (unwound w ms (suc k) (Cut Above) τ) v None → v.moves ≡ [] → outcome_of w.tape Finished ≡ Finished → Reacts prog w v Ended
   -- the budget refuses the next step, and so ends the entry in progress and all calls that are open
   spent : (w v : World O) (k : ℕ) (ms rest : List (Move O)) (p : Place) (τ : List (Event O)) → w.moves ≡ ms ++ rest → moves_of w.tape ≡ ms → IsUncut w.tape → InProgress (suc k) w.tape →
       Lives prog (unwound w ms k (Cut Over) (w.tape ++ spent_at p ∷ τ)) v None → v.moves ≡ [] → Reacts prog w v Spent
