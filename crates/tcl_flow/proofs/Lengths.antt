@@ -5,6 +5,11 @@ use Rattle.tcl_flow.specs.declared.completion.Completion.{Completion as Made}
 use Rattle.tcl_flow.specs.View.{completion_of}
 use Rattle.std.proofs.Common.{◌≡◌, ◌∙◌, sym, Result, Ok, Err, IfOk, ap, refl, ℕ, zero, suc, pos, negsuc, ◌+◌, ◌≤◌, ◌<◌, ◌^◌, ℤ, List, ◌++◌, length, length-append, FitsSigned, w64, codes, arith, lit<}
 use Rattle.std.specs.Fmt.{signed_decimal}
+use Rattle.std.specs.Prelude.{MatchResult, IsErrOf}
+use Rattle.std.proofs.Common.{subst}
+use Rattle.tcl_value.specs.Limits.{IsWithin, IsPast}
+use Rattle.tcl_value.specs.declared.value.ValueError.{ValueError}
+use Rattle.tcl_value.specs.declared.value.ValueError.TheVariants.{TooLong}
 use Rattle.std.proofs.lemmas.Fmt.{length_signed_le}
 
 pub with_number : (front bytes : List ℕ) (n : ℤ) → FitsSigned w64 n → length front ≤ 50 → bytes ≡ front ++ signed_decimal n → length bytes ≤ 100
@@ -28,3 +33,13 @@ pub made_error : (r : Result Made AllocError) (message : List ℕ) (n : ℤ) →
     message ≡ codes "command returned bad code: " ++ signed_decimal n → IfOk r (λ c. completion_of c ≡ error message) → IfOk r (λ c. (of : Completion) → completion_of c ≡ settled n of)
 made_error (Err e) message n a b d f m h = tt
 made_error (Ok c) message n a b d f m h = λ of. h ∙ ap error m ∙ sym (settled_other n of a b d f)
+
+-- ## What a text gives
+
+pub made_text : (r : Result (List ℕ) ValueError) (x y : List ℕ) → x ≡ y → MatchResult r (λ v. (v ≡ x) × IsWithin x) (λ e. (e ≡ TooLong) × IsPast x) → IfOk r (λ v. v ≡ y)
+made_text (Ok v) x y is h = h.0 ∙ is
+made_text (Err e) x y is h = tt
+
+pub past_text : (r : Result (List ℕ) ValueError) (x y : List ℕ) → x ≡ y → MatchResult r (λ v. (v ≡ x) × IsWithin x) (λ e. (e ≡ TooLong) × IsPast x) → IsErrOf r TooLong → IsPast y
+past_text (Ok v) x y is h e = absurd (cc)
+past_text (Err f) x y is h e = subst IsPast is h.1

@@ -3,3 +3,5 @@
 
 pub mod completion;
 pub mod messages;
+pub mod returning;
+pub mod stop;

@@ -8,7 +8,7 @@ use tcl_text::text::Text;
 use tcl_value::value::Value;
 
 /// The value of a text of few bytes.
-fn short_value(alloc: Global, text: String) -> Result<Value, AllocError>
+pub(crate) fn short_value(alloc: Global, text: String) -> Result<Value, AllocError>
     requires { length (string_bytes text) ≤ 100 }
     ensures { IfOk result (λ value. value ≡ string_bytes text) }
 {

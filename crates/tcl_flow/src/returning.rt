@@ -1,0 +1,337 @@
+//! `return`, and the options dictionary of a completion.
+ghost use Rattle.std.specs.Prelude.{◌≡◌, ◌++◌, ◌∷◌, [], ◌<◌, ◌^◌, ◌-◌, IfOk, OnOk, IsErrOf, codes};
+ghost use Rattle.std.specs.Fmt.{decimal, signed_decimal};
+ghost use Rattle.tcl_flow.specs.Caught.{seen_caught};
+ghost use Rattle.tcl_value.specs.Limits.{IsPast};
+ghost use Rattle.tcl_value.specs.Writing.{write};
+ghost use Rattle.tcl_flow.specs.View.{options_of, completion_of};
+ghost use Rattle.tcl_flow.specs.Returning.{code_word, code_of, level_of, plain, raised, returned, errorcode_shown, shown, caught, options_message};
+
+use crate::completion::{Completion, ERROR, OK, Options, RETURN};
+use crate::messages::no_errorcode;
+use std::alloc::{AllocError, Global};
+use tcl_text::integer::Integers;
+use tcl_text::list::write_list;
+use tcl_text::text::Text;
+use tcl_value::value::{Value, ValueError};
+
+/// Why the options of a return are refused (221).
+#[derive(Debug, Drop)]
+pub enum OptionsFault {
+    /// A level that is no integer from 0 up, or options that are no dict.
+    BadOption(Text),
+    /// A code that is neither a word nor an integer.
+    BadCode(Text),
+}
+
+/// `bad option "x"`
+fn quoted(alloc: Global, before: &str, name: &Text) -> Result<Text, AllocError>
+    ensures { IfOk result (λ text. text ≡ before.now ++ name.now ++ codes "\"") }
+{
+    let mut text = String::from_str(alloc, before)?;
+    text.push_str(name.as_str())?;
+    text.push_str("\"")?;
+    Text::from_string(alloc, text)
+}
+
+impl OptionsFault {
+    /// What a script is told of the refusal.
+    ///
+    /// # Errors
+    /// Want of memory.
+    pub fn message(&self, alloc: Global) -> Result<Text, AllocError>
+        ensures { IfOk result (λ text. text ≡ options_message self.now) }
+    {
+        match self {
+            OptionsFault::BadOption(name) => quoted(alloc, "bad option \"", name),
+            OptionsFault::BadCode(name) => quoted(alloc, "bad completion code \"", name),
+        }
+    }
+}
+
+/// The code of a word.
+fn code_word(word: &str) -> Option<i64>
+    ensures { result ≡ code_word word.now }
+{
+    if word == "ok" {
+        Some(0)
+    } else if word == "error" {
+        Some(1)
+    } else if word == "return" {
+        Some(2)
+    } else if word == "break" {
+        Some(3)
+    } else if word == "continue" {
+        Some(4)
+    } else {
+        None
+    }
+}
+
+/// The code that a value is: `ok`, `error`, `return`, `break`, `continue` or an integer of 64 bits.
+///
+/// # Errors
+/// Want of memory.
+pub fn code_of(alloc: Global, style: Integers, value: &mut Value) -> Result<Option<i64>, AllocError>
+    ensures read { IfOk result (λ code. code ≡ code_of style value.old) }
+    ensures text { value.new ≡ value.old }
+{
+    let text = value.text(alloc)?;
+    match code_word(text.as_str()) {
+        Some(code) => Ok(Some(code)),
+        None => match value.as_int(style) {
+            Ok(code) => Ok(Some(code)),
+            Err(_) => Ok(None),
+        },
+    }
+}
+
+/// The level that a value is: an integer from 0 up. This takes no memory.
+pub fn level_of(style: Integers, value: &mut Value) -> Option<u64>
+    ensures read { result ≡ level_of style value.old }
+    ensures text { value.new ≡ value.old }
+{
+    match value.as_int(style) {
+        Ok(level) => u64::try_from(level).ok(),
+        Err(_) => None,
+    }
+}
+
+impl Options {
+    /// The options of a return that is given none: its text is that of the procedure that it leaves.
+    ///
+    /// # Errors
+    /// Want of memory.
+    pub fn new(alloc: Global) -> Result<Options, AllocError>
+        ensures { IfOk result (λ options. options_of options ≡ plain) }
+    {
+        Ok(Options {
+            code: OK,
+            level: 1,
+            errorcode: no_errorcode(alloc)?,
+        })
+    }
+
+    /// The same, where a return of a return is a return one level higher.
+    fn raised(self) -> Options
+        requires { self.level < 2 ^ 64 - 1 }
+        ensures { options_of result ≡ raised (options_of self) }
+    {
+        match self.code {
+            RETURN => {
+                let Options {
+                    code: _,
+                    level,
+                    errorcode,
+                } = self;
+                Options {
+                    code: OK,
+                    level: level + 1,
+                    errorcode,
+                }
+            }
+            _ => self,
+        }
+    }
+}
+
+/// The completion of `return` with these options and this result: at level 0 the code applies at once, and `-code return` is
+/// `-code ok` one level higher.
+pub fn make_return(options: Options, text: Value) -> Completion
+    requires { options.level < 2 ^ 64 - 1 }
+    ensures { completion_of result ≡ returned (raised (options_of options)) text }
+{
+    let options = options.raised();
+    let code = if options.level == 0 {
+        options.code
+    } else {
+        RETURN
+    };
+    Completion {
+        code,
+        text,
+        options,
+    }
+}
+
+/// What a caught completion shows of its options.
+#[derive(Clone, Copy)]
+struct CaughtOptions<'a> {
+    code: i64,
+    level: u64,
+    errorcode: &'a Value,
+}
+
+/// What a caught completion shows: of one that is no return its code, at level 0.
+fn caught(completion: &Completion) -> CaughtOptions<'_>
+    ensures { seen_caught result ≡ caught (completion_of completion.now) }
+{
+    let errorcode = &completion.options.errorcode;
+    match completion.code {
+        RETURN => CaughtOptions {
+            code: completion.options.code,
+            level: completion.options.level,
+            errorcode,
+        },
+        code => CaughtOptions {
+            code,
+            level: 0,
+            errorcode,
+        },
+    }
+}
+
+/// Adds a key and its value.
+fn push_pair(words: &mut Vec<Text>, alloc: Global, key: &str, value: Text) -> Result<(), AllocError>
+    ensures { OnOk result (words.new.items ≡ words.old.items ++ key.now ∷ value ∷ []) }
+{
+    words.push(Text::new(alloc, key)?)?;
+    words.push(value)?;
+    Ok(())
+}
+
+/// Adds the errorcode of an error.
+fn push_errorcode(
+    words: &mut Vec<Text>,
+    alloc: Global,
+    code: i64,
+    errorcode: &Value,
+) -> Result<(), AllocError>
+    ensures { OnOk result (words.new.items ≡ words.old.items ++ errorcode_shown code errorcode.now) }
+{
+    match code {
+        ERROR => push_pair(words, alloc, "-errorcode", errorcode.text(alloc)?),
+        _ => Ok(()),
+    }
+}
+
+/// The text of a code.
+fn code_text(alloc: Global, code: i64) -> Result<Text, AllocError>
+    ensures { IfOk result (λ text. text ≡ signed_decimal code) }
+{
+    Text::from_string(alloc, format!(in alloc; "{code}")?)
+}
+
+/// The text of a level.
+fn level_text(alloc: Global, level: u64) -> Result<Text, AllocError>
+    ensures { IfOk result (λ text. text ≡ decimal level) }
+{
+    Text::from_string(alloc, format!(in alloc; "{level}")?)
+}
+
+/// The keys and values of the options dictionary.
+fn shown(alloc: Global, options: &CaughtOptions<'_>) -> Result<Vec<Text>, AllocError>
+    ensures { IfOk result (λ words. words.items ≡ shown (seen_caught options.now)) }
+{
+    let mut words = Vec::new(alloc);
+    push_pair(&mut words, alloc, "-code", code_text(alloc, options.code)?)?;
+    push_pair(
+        &mut words,
+        alloc,
+        "-level",
+        level_text(alloc, options.level)?,
+    )?;
+    push_errorcode(&mut words, alloc, options.code, options.errorcode)?;
+    Ok(words)
+}
+
+/// The text of the options dictionary.
+fn options_text(alloc: Global, completion: &Completion) -> Result<Text, AllocError>
+    ensures { IfOk result (λ text. text ≡ write (shown (caught (completion_of completion.now)))) }
+{
+    let words = shown(alloc, &caught(completion))?;
+    Text::from_string(alloc, write_list(alloc, words.as_slice())?)
+}
+
+/// The options dictionary of a completion that was caught: `-code c -level n` and, where c is 1, `-errorcode e`. Where it is no return,
+/// c is its code and n is 0.
+///
+/// # Errors
+/// [`ValueError::TooLong`] only where the dictionary would be too long for a value; want of memory.
+pub fn caught_options(alloc: Global, completion: &Completion) -> Result<Value, ValueError>
+    ensures made { IfOk result (λ value. value ≡ write (shown (caught (completion_of completion.now)))) }
+    ensures refused { IsErrOf result ValueError.TooLong → IsPast (write (shown (caught (completion_of completion.now)))) }
+{
+    let text = options_text(alloc, completion)?;
+    Value::from_text(text)
+}
+
+#[cfg(test)]
+mod tests {
+    use super::*;
+    use crate::completion::error;
+    use crate::stop::StopKind;
+    use std::test::Fail;
+
+    fn value(alloc: Global, text: &str) -> Result<Value, Fail> {
+        Ok(Value::from_text(Text::new(alloc, text)?)?)
+    }
+
+    /// `catch {return -code 7 -level 2 x} m o` gives 2, and `$o` is `-code 7 -level 2`.
+    #[test]
+    fn return_shows_its_options(rt: HostRuntime) -> Result<(), Fail> {
+        let alloc = rt.alloc();
+        let options = Options {
+            code: 7,
+            level: 2,
+            errorcode: no_errorcode(alloc)?,
+        };
+        let returned = make_return(options, value(alloc, "x")?);
+        assert_eq!(rt; returned.code, RETURN);
+        let shown = caught_options(alloc, &returned)?.text(alloc)?;
+        assert_eq!(rt; shown.as_str(), "-code 7 -level 2");
+        Ok(())
+    }
+
+    /// `catch {error boom {} {A 1}} m o; set o` gives `-code 1 -level 0 -errorcode {A 1}`.
+    #[test]
+    fn error_shows_its_errorcode(rt: HostRuntime) -> Result<(), Fail> {
+        let alloc = rt.alloc();
+        let mut boom = error(alloc, value(alloc, "boom")?)?;
+        boom.options.errorcode = value(alloc, "A 1")?;
+        let shown = caught_options(alloc, &boom)?.text(alloc)?;
+        assert_eq!(rt; shown.as_str(), "-code 1 -level 0 -errorcode {A 1}");
+        Ok(())
+    }
+
+    /// `-code return` is `-code ok` one level higher.
+    #[test]
+    fn return_of_a_return_is_one_higher(rt: HostRuntime) -> Result<(), Fail> {
+        let alloc = rt.alloc();
+        let mut options = Options::new(alloc)?;
+        options.code = RETURN;
+        let returned = make_return(options, value(alloc, "x")?);
+        assert_eq!(rt; returned.options.code, OK);
+        assert_eq!(rt; returned.options.level, 2);
+        Ok(())
+    }
+
+    #[test]
+    fn codes_and_levels_are_read(rt: HostRuntime) -> Result<(), Fail> {
+        let alloc = rt.alloc();
+        for (word, code) in [("break", Some(3)), ("-7", Some(-7)), ("broke", None)] {
+            let mut word = value(alloc, word)?;
+            assert_eq!(rt; code_of(alloc, Integers::Tcl8, &mut word)?, code);
+        }
+        for (word, level) in [("2", Some(2)), ("-1", None), ("08", None)] {
+            let mut word = value(alloc, word)?;
+            assert_eq!(rt; level_of(Integers::Tcl8, &mut word), level);
+        }
+        Ok(())
+    }
+
+    #[test]
+    fn messages_are_told(rt: HostRuntime) -> Result<(), Fail> {
+        let alloc = rt.alloc();
+        let option = OptionsFault::BadOption(Text::new(alloc, "x")?);
+        assert_eq!(rt; option.message(alloc)?.as_str(), "bad option \"x\"");
+        let code = OptionsFault::BadCode(Text::new(alloc, "x")?);
+        assert_eq!(rt; code.message(alloc)?.as_str(), "bad completion code \"x\"");
+        let count = StopKind::Count.error(alloc)?;
+        assert_eq!(rt;
+            count.text.text(alloc)?.as_str(),
+            "command count limit exceeded"
+        );
+        Ok(())
+    }
+}
