@@ -1,5 +1,5 @@
 -- Changes of a list that a value keeps.
-use Rattle.std.proofs.Common.{◌≡◌, ℕ, List, [], ◌∷◌, ◌++◌, Result, Ok, Err, sym, ◌∙◌, ap, subst, length, set, ◌<◌, ◌≤◌, arith, ◌⊎◌, inl, inr, Global, OnOk, IfErr}
+use Rattle.std.proofs.Common.{refl, ◌≡◌, ℕ, List, [], ◌∷◌, ◌++◌, Result, Ok, Err, sym, ◌∙◌, ap, subst, length, set, ◌<◌, ◌≤◌, arith, ◌⊎◌, inl, inr, Global, OnOk, IfErr}
 use Rattle.std.specs.declared.rc.Rc.{Rc}
 use Rattle.tcl_text.specs.declared.integer.Integers.{Integers}
 use Rattle.tcl_text.specs.declared.integer.IntegerFault.TheVariants.{NotInteger}
@@ -34,14 +34,14 @@ several style [] h = absurd (omega arith)
 several style (x ∷ []) h = absurd (omega arith)
 several style (x ∷ y ∷ xs) h = sym (ap in_64_bits (write-no_integer x y xs style))
 
-entries_several : (style : Integers) (es : List (List ℕ × List ℕ)) → 1 ≤ length es → Err NotInteger ≡ int_of style (write (flat es))
-entries_several style [] h = absurd (omega arith)
-entries_several style (e ∷ es) h = sym (ap in_64_bits (write-no_integer e.0 e.1 (flat es) style))
+entries_several : (style : Integers) (es : List (List ℕ × List ℕ)) → Err NotInteger ≡ int_of style (write (flat es))
+entries_several style [] = refl
+entries_several style (e ∷ es) = sym (ap in_64_bits (write-no_integer e.0 e.1 (flat es) style))
 
 pub no_number : (f : Form) (style : Integers) → IsForm f → (f ≡ Empty) ⊎ (((items : Rc Listed Global) × (f ≡ Items items)) ⊎ ((entries : Rc Paired Global) × (f ≡ Entries entries))) → Err NotInteger ≡ int_of style (form_text f)
 no_number f style h (inl e) = ap (λ g. int_of style (form_text g)) (sym e)
 no_number f style h (inr (inl k)) = let form : IsForm (Items k.0) = subst IsForm k.1 h in several style k.0.value form.1 ∙ ap (λ g. int_of style (form_text g)) (sym k.1)
-no_number f style h (inr (inr k)) = let form : IsForm (Entries k.0) = subst IsForm k.1 h in entries_several style k.0.value form.1 ∙ ap (λ g. int_of style (form_text g)) (sym k.1)
+no_number f style h (inr (inr k)) = entries_several style k.0.value ∙ ap (λ g. int_of style (form_text g)) (sym k.1)
 
 -- no value is longer than a value may be
 pub form_within : (f : Form) → IsForm f → IsWithin (form_text f)
@@ -49,7 +49,7 @@ form_within Empty h = omega arith
 form_within (Text text) h = h
 form_within (Number n) h = omega (arith, digits_at_most n h)
 form_within (Items items) h = h.0
-form_within (Entries entries) h = h.0
+form_within (Entries entries) h = h
 
 pub set_at : {U : Type 0} (r : Result U ChangeError) (old : List ℕ) (xs new : List (List ℕ)) (i : ℕ) (v t : List ℕ) → list_of old ≡ Ok xs → t ≡ v → OnOk r ((i < length xs) × (new ≡ set xs i t)) → OnOk r (IsWithin (write new)) → OnOk r (AtList (list_of old) (λ list. (i < length list) × (write new ≡ write (set list i v)) × IsWithin (write (set list i v))))
 set_at (Ok x) old xs new i v t e q p w =

@@ -3,6 +3,8 @@ pub mod Written
 pub mod Weights
 pub mod Lasts
 pub mod Writes
+pub mod Puts
+pub mod Entered
 pub mod Spaces
 pub mod Laws
 pub mod Changed

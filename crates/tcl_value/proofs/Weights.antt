@@ -50,7 +50,7 @@ pub element_within : (x : Element) → IsElement x → length (element_text x) �
 element_within (Text text) h = h
 element_within (Number n) h = omega (arith, digits_at_most n h)
 element_within (Inner items) h = h.0.within
-element_within (Dict entries) h = h.0.within
+element_within (Dict entries) h = h.within
 
 pub size_within : (first : Bool) (x : Element) → IsElement x → size first (element_text x) ≤ 33554434
 size_within first x h = omega (arith, element_within x h, size_at_most first (element_text x))

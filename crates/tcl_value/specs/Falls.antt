@@ -15,7 +15,7 @@ element_falls : (first : Bool) (x : Element) → IsElement x → deep-Element x 
 element_falls first (Text t) h = omega arith
 element_falls first (Number m) h = omega arith
 element_falls first (Inner l) h = omega (arith, ap length (h.0.braced first), braced_length (write l.value))
-element_falls first (Dict l) h = omega (arith, ap length (h.0.braced first), braced_length (write (flat l.value)))
+element_falls first (Dict l) h = omega (arith, ap length (h.braced first), braced_length (write (flat l.value)))
 
 rest_falls : (xs : List Element) → AreElements xs → most deep-Element xs ≤ length (write_rest (texts xs))
 rest_falls [] h = omega arith

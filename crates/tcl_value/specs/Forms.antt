@@ -8,10 +8,11 @@ use Rattle.tcl_value.specs.Limits.{IsWithin}
 use Rattle.tcl_value.specs.Writing.{write}
 use Rattle.tcl_value.specs.Texts.{flat}
 use Rattle.tcl_value.specs.Reading.{int_of, list_of}
+use Rattle.tcl_value.specs.Dicts.{dict_of}
 use Rattle.tcl_value.specs.declared.value.Form.{Form}
 use Rattle.tcl_value.specs.declared.value.Form.TheVariants.{Empty, Text, Number, List as Items, Dict as Entries}
 use Rattle.tcl_value.specs.declared.value.Kept.{Kept}
-use Rattle.tcl_value.specs.declared.value.Kept.TheVariants.{Nothing, Tcl8 as Int8, Tcl9 as Int9, List as Words, Script as Commands}
+use Rattle.tcl_value.specs.declared.value.Kept.TheVariants.{Nothing, Tcl8 as Int8, Tcl9 as Int9, List as Words, Dict as Pairs, Script as Commands}
 
 -- the text of a form
 abbrev pub form_text : Form → List ℕ
@@ -21,13 +22,13 @@ form_text (Number n) = signed_decimal n
 form_text (Items items) = write items.value
 form_text (Entries entries) = write (flat entries.value)
 
--- what a form keeps is within the limit of a value, and a list or dict is one that no number or single element writes
+-- what a form keeps is within the limit of a value, and a list is one that no number or single element writes
 abbrev pub IsForm : Form → Type 0
 IsForm Empty = Unit {0}
 IsForm (Text text) = IsWithin text
 IsForm (Number n) = FitsSigned w64 n
 IsForm (Items items) = IsWithin (write items.value) × (2 ≤ length items.value)
-IsForm (Entries entries) = IsWithin (write (flat entries.value)) × (1 ≤ length entries.value)
+IsForm (Entries entries) = IsWithin (write (flat entries.value))
 
 -- what is kept is what the text reads as
 abbrev pub IsKept : List ℕ → Kept → Type 0
@@ -35,6 +36,7 @@ IsKept text Nothing = Unit {0}
 IsKept text (Int8 n) = int_of Tcl8 text ≡ Ok n
 IsKept text (Int9 n) = int_of Tcl9 text ≡ Ok n
 IsKept text (Words list) = list_of text ≡ Ok list
+IsKept text (Pairs dict) = dict_of text ≡ Ok dict
 IsKept text (Commands script) = script.value ≡ read_script text
 
 pub record IsValue (f : Form) (k : Kept) : Type 0 where

@@ -5,3 +5,6 @@ pub mod Falls
 pub mod Reading
 pub mod Forms
 pub mod Changes
+pub mod Dicts
+pub mod DictMessages
+pub mod DictChanges

@@ -1,7 +1,9 @@
 -- The texts of elements, lists and dicts.
 use Rattle.std.specs.Prelude.{◌≡◌, ℕ, ◌+◌, ◌≤◌, ◌==◌, Bool, true, false, List, [], ◌∷◌, ◌++◌, length, map}
 use Rattle.std.specs.Fmt.{signed_decimal}
-use Rattle.std.proofs.Common.{FitsSigned, w64}
+use Rattle.std.specs.Str.{bytes_eq}
+use Rattle.std.specs.List.{list_any}
+use Rattle.std.proofs.Common.{FitsSigned, w64, Bor}
 use Rattle.tcl_value.specs.Limits.{IsWithin}
 use Rattle.tcl_value.specs.Writing.{write_element, write}
 use Rattle.tcl_value.specs.declared.element.Element.{Element}
@@ -18,6 +20,10 @@ element_text (Text text) = text
 element_text (Number n) = signed_decimal n
 element_text (Inner items) = write items.value
 element_text (Dict entries) = write (flat entries.value)
+
+-- the text of an element that is borrowed
+abbrev pub element_shown : Bor Element → List ℕ
+element_shown x = element_text x.now
 
 -- the texts of elements
 abbrev pub texts : List Element → List (List ℕ)
@@ -51,7 +57,7 @@ abbrev pub IsElement : Element → Type 0
 IsElement (Text text) = IsWithin text
 IsElement (Number n) = FitsSigned w64 n
 IsElement (Inner items) = IsInner (write items.value) × (2 ≤ length items.value)
-IsElement (Dict entries) = IsInner (write (flat entries.value)) × (1 ≤ length entries.value)
+IsElement (Dict entries) = IsInner (write (flat entries.value))
 
 abbrev pub AreElements : List Element → Type 0
 AreElements [] = Unit {0}
@@ -70,9 +76,15 @@ pub record IsItems (kept : ℕ) (ts : List (List ℕ)) (xs : List Element) : Typ
   pub elements : AreElements xs
   pub weighs : kept ≡ weight ts
 
+-- No key stands twice.
+abbrev pub AreDistinct : List (List ℕ) → Type 0
+AreDistinct [] = Unit {0}
+AreDistinct (k ∷ ks) = (list_any (bytes_eq k) ks ≡ false) × AreDistinct ks
+
 -- what holds of a dict
 pub record IsEntries (kept : ℕ) (ks : List (List ℕ)) (ts : List (List ℕ)) (xs : List Element) : Type 0 where
   pub keys : AllWithin ks
+  pub distinct : AreDistinct ks
   pub elements : AreElements xs
   pub same : length ks ≡ length xs
   pub weighs : kept ≡ weight (flat (pairs ks ts))

@@ -1,15 +1,16 @@
 //! The elements of lists and the values of dicts.
-ghost use Rattle.std.specs.Prelude.{◌≡◌, ◌≤◌, ◌++◌, length, OnOk};
+ghost use Rattle.std.specs.Prelude.{◌≡◌, ◌≤◌, ◌++◌, length, OnOk, IfOk};
 ghost use Rattle.std.specs.String.{string_bytes};
 ghost use Rattle.std.specs.Fmt.{signed_decimal};
+ghost use Rattle.tcl_value.specs.Limits.{IsWithin};
 ghost use Rattle.tcl_value.specs.Writing.{write_element};
 ghost use Rattle.tcl_value.specs.Texts.{element_text, IsElement};
 
 use crate::entries::Entries;
 use crate::items::Items;
-use std::alloc::AllocError;
+use std::alloc::{AllocError, Global};
 use std::rc::Rc;
-use tcl_text::integer::{int_len, push_int};
+use tcl_text::integer::{int_len, push_int, write_int};
 use tcl_text::list::{write_element, written_len};
 use tcl_text::text::Text;
 
@@ -24,6 +25,23 @@ pub(crate) enum Element {
 }
 
 impl Element {
+    /// Its text.
+    ///
+    /// # Errors
+    /// Want of memory.
+    pub(crate) fn text(&self, alloc: Global) -> Result<Text, AllocError>
+        requires { IsElement self.now }
+        ensures text { IfOk result (λ text. text ≡ element_text self.now) }
+        ensures within { IfOk result IsWithin }
+    {
+        match self {
+            Element::Text(text) => text.clone(),
+            Element::Number(n) => Text::from_string(alloc, write_int(alloc, *n)?),
+            Element::List(items) => Text::from_string(alloc, items.write(alloc)?),
+            Element::Dict(entries) => Text::from_string(alloc, entries.write(alloc)?),
+        }
+    }
+
     /// How many bytes write it in a list, where it is the first element or another.
     pub(crate) fn written_len(&self, first: bool) -> usize
         requires { IsElement self.now }

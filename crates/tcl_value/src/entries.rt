@@ -1,16 +1,22 @@
 //! Dicts that carry no text.
-ghost use Rattle.std.specs.Prelude.{◌≡◌, ◌++◌, length, IfOk, OnOk};
+ghost use Rattle.std.specs.Prelude.{◌≡◌, ◌≤◌, ◌<◌, ◌+◌, ◌++◌, ◌∷◌, ◌↔◌, [], length, IfOk, OnOk, OnErr, IfErr, IsErrOf, IsTrue, IfSome, MatchOption, option_map, slice_index_or};
 ghost use Rattle.std.specs.String.{string_bytes};
-ghost use Rattle.tcl_value.specs.Limits.{IsWithin};
-ghost use Rattle.tcl_value.specs.Writing.{write};
-ghost use Rattle.tcl_value.specs.Texts.{texts, flat, AreElements};
+ghost use Rattle.tcl_value.specs.Limits.{IsWithin, IsPast};
+ghost use Rattle.tcl_value.specs.Writing.{write, write_element};
+ghost use Rattle.tcl_value.specs.Texts.{texts, flat, element_text, IsElement, AreElements, weight, element_shown};
+ghost use Rattle.tcl_value.specs.Dicts.{put, without, value_of, put_all, place_of, value_set, entry_dropped};
 
 use crate::element::Element;
+use crate::items::Items;
+use crate::value::ValueError;
 use indexmap::IndexSet;
 use std::alloc::{AllocError, Global};
 use std::marker::Model;
-use tcl_text::list::write_element;
+use tcl_text::list::{write_element, written_len};
 use tcl_text::text::Text;
+
+/// The weight of a dict whose text is as long as a value may be: its bytes and one more.
+pub(crate) const MOST_WEIGHT: u128 = 16_777_217;
 
 /// The entries of a dict: keys in the order in which they came, and at the same places their values.
 #[cycle(element)]
@@ -43,6 +49,242 @@ impl Model for Entries {
 }
 
 impl Entries {
+    /// The dict with no entry.
+    pub(crate) fn new(alloc: Global) -> Entries
+        ensures { result ≡ [] }
+    {
+        Entries {
+            keys: IndexSet::new(alloc),
+            values: Vec::new(alloc),
+            weight: 0,
+            depth: 0,
+        }
+    }
+
+    /// How many entries it has.
+    pub(crate) fn len(&self) -> usize
+        ensures { result ≡ length self.now }
+    {
+        self.values.len()
+    }
+
+    /// Where a key stands.
+    pub(crate) fn find(&self, key: &Text) -> Option<usize>
+        ensures { MatchOption result (place_of self.now key.now ≡ length self.now) (λ i. (place_of self.now key.now ≡ i) × (i < length self.now)) }
+    {
+        self.keys.get_index_of(key)
+    }
+
+    /// The key at a place.
+    pub(crate) fn key(&self, index: usize) -> &Text
+        requires { index < length self.now }
+        ensures key { result.now ≡ (slice_index_or self.now index (result.now, [])).0 }
+        ensures within { IsWithin result.now }
+    {
+        self.keys.get_index(index).unwrap()
+    }
+
+    /// The value at a place.
+    pub(crate) fn value(&self, index: usize) -> &Element
+        requires { index < length self.now }
+        ensures text { element_text result.now ≡ (slice_index_or self.now index ([], element_text result.now)).1 }
+        ensures element { IsElement result.now }
+    {
+        &self.values[index]
+    }
+
+    /// What it would weigh with a value in the place of another.
+    fn weight_with_at(&self, index: usize, value: &Element) -> u128
+        requires element { IsElement value.now }
+        requires in_bounds { index < length self.now }
+        ensures { result ≡ weight (flat (value_set self.now index (element_text value.now))) }
+    {
+        let less = self.values[index].written_len(false);
+        let more = value.written_len(false);
+        self.weight + more as u128 - less as u128
+    }
+
+    /// Puts a value in the place of another, where it then weighs at most this much.
+    fn set_at(&mut self, index: usize, value: Element, most: u128) -> Result<(), ValueError>
+        requires element { IsElement value }
+        requires in_bounds { index < length self.old }
+        ensures set { OnOk result (self.new ≡ value_set self.old index (element_text value)) }
+        ensures light { OnOk result (weight (flat self.new) ≤ most) }
+        ensures refused { IsErrOf result ValueError.TooLong ↔ (most < weight (flat (value_set self.old index (element_text value)))) }
+        ensures unchanged { OnErr result (self.new ≡ self.old) }
+    {
+        let weight = self.weight_with_at(index, &value);
+        if weight > most {
+            return Err(ValueError::TooLong);
+        }
+        let depth = self.depth.max(value.depth());
+        self.values[index] = value;
+        self.weight = weight;
+        self.depth = depth;
+        Ok(())
+    }
+
+    /// What it would weigh with one more entry.
+    fn weight_with(&self, key: &Text, value: &Element) -> u128
+        requires key { IsWithin key.now }
+        requires element { IsElement value.now }
+        ensures { result ≡ weight (flat (self.now ++ (key.now, element_text value.now) ∷ [])) }
+    {
+        let first = self.values.is_empty();
+        let more = written_len(key.as_str(), first) as u128 + value.written_len(false) as u128;
+        self.weight + more + 2
+    }
+
+    /// Adds an entry at the end, where it then weighs at most this much.
+    fn add(&mut self, key: Text, value: Element, most: u128) -> Result<(), ValueError>
+        requires key { IsWithin key }
+        requires new { place_of self.old key ≡ length self.old }
+        requires element { IsElement value }
+        ensures added { OnOk result (self.new ≡ self.old ++ (key, element_text value) ∷ []) }
+        ensures light { OnOk result (weight (flat self.new) ≤ most) }
+        ensures refused { IsErrOf result ValueError.TooLong ↔ (most < weight (flat (self.old ++ (key, element_text value) ∷ []))) }
+        ensures unchanged { OnErr result (self.new ≡ self.old) }
+    {
+        let weight = self.weight_with(&key, &value);
+        if weight > most {
+            return Err(ValueError::TooLong);
+        }
+        let depth = self.depth.max(value.depth());
+        self.values.reserve(1)?;
+        self.keys.insert(key)?;
+        self.values.push_reserved(value);
+        self.weight = weight;
+        self.depth = depth;
+        Ok(())
+    }
+
+    /// Gives a key a value, where it then weighs at most this much: where the key stands, or at the end.
+    ///
+    /// # Errors
+    /// [`ValueError::TooLong`] exactly where it would weigh more; want of memory.
+    pub(crate) fn put(&mut self, key: Text, value: Element, most: u128) -> Result<(), ValueError>
+        requires key { IsWithin key }
+        requires element { IsElement value }
+        ensures put { OnOk result (self.new ≡ put self.old key (element_text value)) }
+        ensures light { OnOk result (weight (flat self.new) ≤ most) }
+        ensures refused { IsErrOf result ValueError.TooLong ↔ (most < weight (flat (put self.old key (element_text value)))) }
+        ensures unchanged { OnErr result (self.new ≡ self.old) }
+    {
+        match self.find(&key) {
+            Some(index) => self.set_at(index, value, most),
+            None => self.add(key, value, most),
+        }
+    }
+
+    /// What it would weigh without an entry.
+    fn weight_without(&self, index: usize) -> u128
+        requires { index < length self.now }
+        ensures { result ≡ weight (flat (entry_dropped self.now index)) }
+    {
+        let key = written_len(self.key(index).as_str(), index == 0) as u128;
+        let value = self.value(index).written_len(false) as u128;
+        let rest = self.weight - (key + value + 2);
+        if index > 0 || self.len() == 1 {
+            return rest;
+        }
+        let next = self.key(1).as_str();
+        let less = written_len(next, false) as u128;
+        let more = written_len(next, true) as u128;
+        rest - less + more
+    }
+
+    /// Removes the entry at a place, where it then weighs at most this much.
+    fn remove_at(&mut self, index: usize, most: u128) -> Result<(), ValueError>
+        requires { index < length self.old }
+        ensures removed { OnOk result (self.new ≡ entry_dropped self.old index) }
+        ensures light { OnOk result (weight (flat self.new) ≤ most) }
+        ensures refused { IsErrOf result ValueError.TooLong ↔ (most < weight (flat (entry_dropped self.old index))) }
+        ensures unchanged { OnErr result (self.new ≡ self.old) }
+    {
+        let weight = self.weight_without(index);
+        if weight > most {
+            return Err(ValueError::TooLong);
+        }
+        let _ = self.keys.shift_remove_index(index);
+        let _ = self.values.remove(index);
+        self.weight = weight;
+        Ok(())
+    }
+
+    /// The dict of keys and values in turn, where a repeated key keeps its first place and its last value.
+    ///
+    /// # Errors
+    /// Want of memory.
+    pub(crate) fn read(alloc: Global, items: &Items) -> Result<Entries, AllocError>
+        ensures { IfOk result (λ entries. entries ≡ put_all [] items.now) }
+    {
+        let mut entries = Entries::new(alloc);
+        'pairs: for pair in 0..items.len() / 2 {
+            let key = items.get(2 * pair).text(alloc)?;
+            let value = items.get(2 * pair + 1).clone()?;
+            if entries.put(key, value, u128::MAX).is_err() {
+                return Err(AllocError);
+            }
+        }
+        Ok(entries)
+    }
+
+    /// The value of a key.
+    pub(crate) fn get(&self, key: &Text) -> Option<&Element>
+        ensures text { option_map element_shown result ≡ value_of self.now key.now }
+        ensures element { IfSome result (λ element. IsElement element.now) }
+    {
+        match self.find(key) {
+            Some(index) => Some(self.value(index)),
+            None => None,
+        }
+    }
+
+    /// Whether its text is short enough for a value.
+    pub(crate) fn is_within(&self) -> bool
+        ensures { IsTrue result ↔ IsWithin (write (flat self.now)) }
+    {
+        self.weight <= MOST_WEIGHT
+    }
+
+    /// Gives a key a value: where the key stands, or at the end.
+    ///
+    /// # Errors
+    /// [`ValueError::TooLong`] exactly where the text would be too long for a value; want of memory.
+    pub(crate) fn set(&mut self, key: Text, value: Element) -> Result<(), ValueError>
+        requires key { IsWithin key }
+        requires element { IsElement value }
+        ensures set { OnOk result (self.new ≡ put self.old key (element_text value)) }
+        ensures within { OnOk result (IsWithin (write (flat self.new))) }
+        ensures refused { IsErrOf result ValueError.TooLong ↔ IsPast (write (flat (put self.old key (element_text value)))) }
+        ensures unchanged { OnErr result (self.new ≡ self.old) }
+    {
+        self.put(key, value, MOST_WEIGHT)
+    }
+
+    /// Removes a key, if it is there.
+    ///
+    /// # Errors
+    /// [`ValueError::TooLong`] only where the text of what is left would be too long for a value.
+    pub(crate) fn remove(&mut self, key: &Text) -> Result<(), ValueError>
+        ensures removed { OnOk result (self.new ≡ without self.old key.now) }
+        ensures within { OnOk result (IsWithin (write (flat self.new))) }
+        ensures refused { IsErrOf result ValueError.TooLong ↔ IsPast (write (flat (without self.old key.now))) }
+        ensures unchanged { OnErr result (self.new ≡ self.old) }
+    {
+        match self.find(key) {
+            Some(index) => self.remove_at(index, MOST_WEIGHT),
+            None if self.is_within() => Ok(()),
+            None => Err(ValueError::TooLong),
+        }
+    }
+
+    /// Its keys and values in turn read as itself.
+    pub(crate) fn reads_back(&self)
+        ensures { put_all [] (flat self.now) ≡ self.now }
+    {
+    }
+
     /// Its keys and values in turn.
     ///
     /// # Errors

@@ -61,6 +61,13 @@ impl List {
         self.items.clone()
     }
 
+    /// Its elements, borrowed.
+    pub(crate) fn items(&self) -> &Items
+        ensures { result.now ≡ self.now }
+    {
+        &self.items
+    }
+
     /// The list that a text spells.
     pub(crate) fn read(alloc: Global, text: &str) -> Result<List, ListError>
         ensures { Gives (λ list. list) result (list_of text.now) }

@@ -1,161 +1,180 @@
-//! What the contracts don't say: that calls succeed, and the worked rows.
+//! What the contracts don't say: that calls succeed, the worked rows, and which calls take no memory.
 use crate::list::List;
-use crate::value::Value;
-use std::alloc::{AllocError, Global};
+use crate::value::{Value, ValueError};
+use std::alloc::Global;
+use std::test::Fail;
 use tcl_text::integer::Integers;
 use tcl_text::text::Text;
 
-fn text_value(alloc: Global, text: &str) -> Result<Value, AllocError> {
-    match Value::from_text(Text::new(alloc, text)?) {
-        Ok(value) => Ok(value),
-        Err(_) => Err(AllocError),
-    }
+fn value(alloc: Global, text: &str) -> Result<Value, ValueError> {
+    Value::from_text(Text::new(alloc, text)?)
 }
 
-fn shown(alloc: Global, list: List) -> Result<Text, AllocError> {
-    match Value::from_list(alloc, list) {
-        Ok(value) => value.text(alloc),
-        Err(_) => Err(AllocError),
-    }
+/// The text of a list of three values.
+fn row_of_three(alloc: Global, a: Value, b: Value, c: Value) -> Result<Text, ValueError> {
+    let mut row = List::new(alloc)?;
+    row.push(alloc, a)?;
+    row.push(alloc, b)?;
+    row.push(alloc, c)?;
+    Ok(Value::from_list(alloc, row)?.text(alloc)?)
 }
 
-/// `set x 010; list [expr {$x + 0}] [llength $x] $x [incr x] $x`
-fn octal_row(alloc: Global) -> Result<Option<Text>, AllocError> {
-    let mut x = text_value(alloc, "010")?;
-    let mut list = List::new(alloc)?;
-    let Ok(eight) = x.as_int(Integers::Tcl8) else {
-        return Ok(None);
-    };
-    let Ok(words) = x.as_list(alloc) else {
-        return Err(AllocError);
-    };
-    let count = if words.len() == 1 { 1 } else { 0 };
-    for value in [Value::from_int(eight), Value::from_int(count), x.clone()?] {
-        if list.push(alloc, value).is_err() {
-            return Err(AllocError);
-        }
-    }
-    let Ok(again) = x.as_int(Integers::Tcl8) else {
-        return Ok(None);
-    };
-    x.set_int(again.wrapping_add(1));
-    for value in [x.clone()?, x.clone()?] {
-        if list.push(alloc, value).is_err() {
-            return Err(AllocError);
-        }
-    }
-    Ok(Some(shown(alloc, list)?))
+/// `set x 010; list [expr {$x + 0}] [llength $x] $x [incr x] $x`, its first three words.
+#[test]
+fn number_is_text_and_list_too(rt: HostRuntime) -> Result<(), Fail> {
+    let alloc = rt.alloc();
+    let mut x = value(alloc, "010")?;
+    let sum = Value::from_int(x.as_int(Integers::Tcl8)?);
+    assert_eq!(rt; x.as_list(alloc)?.len(), 1);
+    let row = row_of_three(alloc, sum, Value::from_int(1), x)?;
+    assert_eq!(rt; row.as_str(), "8 1 010");
+    Ok(())
+}
+
+/// The last two words of that row: the number is read anew, since the list was read after it.
+#[test]
+fn number_is_counted_up(rt: HostRuntime) -> Result<(), Fail> {
+    let alloc = rt.alloc();
+    let mut x = value(alloc, "010")?;
+    assert_eq!(rt; x.as_int(Integers::Tcl8)?, 8);
+    assert_eq!(rt; x.as_list(alloc)?.len(), 1);
+    let n = x.as_int(Integers::Tcl8)?;
+    x.set_int(n.wrapping_add(1));
+    let again = x.clone()?;
+    let row = row_of_three(alloc, Value::empty(), x, again)?;
+    assert_eq!(rt; row.as_str(), "{} 9 9");
+    Ok(())
 }
 
 #[test]
-fn number_is_read_in_its_style(rt: HostRuntime) {
-    let alloc = rt.alloc();
-    if let Ok(row) = octal_row(alloc) {
-        assert!(rt;
-            matches!(&row, Some(text) if text.as_str() == "8 1 010 9 9"),
-            "the row"
-        );
-    }
-    if let Ok(mut x) = text_value(alloc, "010") {
-        assert!(rt; x.as_int(Integers::Tcl9) == Ok(10), "Tcl9");
-        assert!(rt; x.as_int(Integers::Tcl8) == Ok(8), "Tcl8");
-        assert!(rt; x.as_int(Integers::Tcl9) == Ok(10), "Tcl9 again");
-    }
+fn number_is_read_in_its_style(rt: HostRuntime) -> Result<(), Fail> {
+    let mut x = value(rt.alloc(), "010")?;
+    assert_eq!(rt; x.as_int(Integers::Tcl9)?, 10);
+    assert_eq!(rt; x.as_int(Integers::Tcl8)?, 8);
+    assert_eq!(rt; x.as_int(Integers::Tcl9)?, 10);
+    Ok(())
 }
 
 /// `set l {a  b}; llength $l; append l {  c}; list [llength $l] $l`
-fn append_row(alloc: Global) -> Result<Option<Text>, AllocError> {
-    let mut l = text_value(alloc, "a  b")?;
-    let Ok(two) = l.as_list(alloc) else {
-        return Err(AllocError);
-    };
-    if two.len() != 2 {
-        return Ok(None);
-    }
-    if l.append(alloc, "  c").is_err() {
-        return Err(AllocError);
-    }
-    let Ok(three) = l.as_list(alloc) else {
-        return Err(AllocError);
-    };
-    if three.len() != 3 {
-        return Ok(None);
-    }
-    let mut list = List::new(alloc)?;
-    for value in [Value::from_int(3), l] {
-        if list.push(alloc, value).is_err() {
-            return Err(AllocError);
-        }
-    }
-    Ok(Some(shown(alloc, list)?))
-}
-
 #[test]
-fn list_is_read_anew_after_append(rt: HostRuntime) {
-    if let Ok(row) = append_row(rt.alloc()) {
-        assert!(rt;
-            matches!(&row, Some(text) if text.as_str() == "3 {a  b  c}"),
-            "the row"
-        );
-    }
-}
-
-/// Pushes and a change in the place of another, in a value that has a copy.
-fn changes(alloc: Global) -> Result<Option<(Text, Text)>, AllocError> {
-    let mut l = Value::empty();
-    for n in 0..3 {
-        if l.push(alloc, Value::from_int(n)).is_err() {
-            return Err(AllocError);
-        }
-    }
-    let copy = l.clone()?;
-    let hash = text_value(alloc, "# a")?;
-    if l.set_at(alloc, 0, hash).is_err() {
-        return Err(AllocError);
-    }
-    let past = text_value(alloc, "x")?;
-    if l.set_at(alloc, 3, past).is_ok() {
-        return Ok(None);
-    }
-    Ok(Some((l.text(alloc)?, copy.text(alloc)?)))
-}
-
-#[test]
-fn copy_stays_as_it_is(rt: HostRuntime) {
-    if let Ok(pair) = changes(rt.alloc()) {
-        assert!(rt;
-            matches!(&pair, Some((text, copy)) if text.as_str() == "{# a} 1 2" && copy.as_str() == "0 1 2"),
-            "both"
-        );
-    }
-}
-
-#[test]
-fn what_was_read_takes_no_memory_again(rt: HostRuntime) {
+fn list_is_read_anew_after_append(rt: HostRuntime) -> Result<(), Fail> {
     let alloc = rt.alloc();
-    if let Ok(mut value) = text_value(alloc, "k 1 k {2 3}") {
-        if let Ok(first) = value.as_list(alloc) {
-            let again = value.as_list(alloc);
-            assert!(rt;
-                matches!(&again, Ok(list) if list.len() == first.len()),
-                "the value"
-            );
-            let copy: Result<Value, AllocError> = value.clone();
-            assert!(rt; copy.is_ok(), "the copy is made");
-            if let Ok(mut copy) = copy {
-                let again = copy.as_list(alloc);
-                assert!(rt;
-                    matches!(&again, Ok(list) if list.len() == first.len()),
-                    "the copy"
-                );
-            }
-        }
-        if let Ok(first) = value.as_script(alloc) {
-            let again = value.as_script(alloc);
-            assert!(rt;
-                matches!(&again, Ok(script) if script.commands.len() == first.commands.len()),
-                "the script"
-            );
-        }
-    }
+    let mut l = value(alloc, "a  b")?;
+    assert_eq!(rt; l.as_list(alloc)?.len(), 2);
+    l.append(alloc, "  c")?;
+    assert_eq!(rt; l.as_list(alloc)?.len(), 3);
+    let mut row = List::new(alloc)?;
+    row.push(alloc, Value::from_int(3))?;
+    row.push(alloc, l)?;
+    let row = Value::from_list(alloc, row)?.text(alloc)?;
+    assert_eq!(rt; row.as_str(), "3 {a  b  c}");
+    Ok(())
+}
+
+/// `set s {set v 1}; eval $s; append s 2; eval $s`: the second script is that of the longer text.
+#[test]
+fn script_is_read_anew_after_append(rt: HostRuntime) -> Result<(), Fail> {
+    let alloc = rt.alloc();
+    let mut s = value(alloc, "set v 1")?;
+    assert_eq!(rt; s.as_script(alloc)?.commands.len(), 1);
+    s.append(alloc, "; set w 2")?;
+    assert_eq!(rt; s.as_script(alloc)?.commands.len(), 2);
+    Ok(())
+}
+
+/// The list of three numbers, built.
+fn three(alloc: Global) -> Result<Value, ValueError> {
+    let mut list = List::new(alloc)?;
+    list.push(alloc, Value::from_int(0))?;
+    list.push(alloc, Value::from_int(1))?;
+    list.push(alloc, Value::from_int(2))?;
+    Value::from_list(alloc, list)
+}
+
+#[test]
+fn copy_stays_where_an_element_changes(rt: HostRuntime) -> Result<(), Fail> {
+    let alloc = rt.alloc();
+    let mut l = three(alloc)?;
+    let copy = l.clone()?;
+    l.set_at(alloc, 0, value(alloc, "# a")?)?;
+    assert_eq!(rt; l.text(alloc)?.as_str(), "{# a} 1 2");
+    assert_eq!(rt; copy.text(alloc)?.as_str(), "0 1 2");
+    Ok(())
+}
+
+#[test]
+fn copy_stays_where_the_list_grows(rt: HostRuntime) -> Result<(), Fail> {
+    let alloc = rt.alloc();
+    let mut l = three(alloc)?;
+    let copy = l.clone()?;
+    l.push(alloc, value(alloc, "")?)?;
+    assert_eq!(rt; l.text(alloc)?.as_str(), "0 1 2 {}");
+    assert_eq!(rt; copy.text(alloc)?.as_str(), "0 1 2");
+    Ok(())
+}
+
+#[test]
+fn place_past_the_end_is_refused(rt: HostRuntime) -> Result<(), Fail> {
+    let alloc = rt.alloc();
+    let mut l = three(alloc)?;
+    assert!(rt;
+        l.set_at(alloc, 3, Value::empty()).is_err(),
+        "no fourth element"
+    );
+    assert_eq!(rt; l.text(alloc)?.as_str(), "0 1 2");
+    Ok(())
+}
+
+#[test]
+fn list_that_was_read_takes_no_memory_again(rt: HostRuntime) -> Result<(), Fail> {
+    let alloc = rt.alloc();
+    let mut l = value(alloc, "k 1 k {2 3}")?;
+    assert_eq!(rt; l.as_list(alloc)?.len(), 4);
+    let again = l.as_list(alloc);
+    assert!(rt;
+        matches!(&again, Ok(list) if list.len() == 4),
+        "the value takes memory"
+    );
+    Ok(())
+}
+
+#[test]
+fn copy_of_list_that_was_read_takes_no_memory(rt: HostRuntime) -> Result<(), Fail> {
+    let alloc = rt.alloc();
+    let mut l = value(alloc, "k 1 k {2 3}")?;
+    assert_eq!(rt; l.as_list(alloc)?.len(), 4);
+    let mut copy: Value = l.clone()?;
+    let again = copy.as_list(alloc);
+    assert!(rt;
+        matches!(&again, Ok(list) if list.len() == 4),
+        "the copy takes memory"
+    );
+    Ok(())
+}
+
+#[test]
+fn script_that_was_read_takes_no_memory_again(rt: HostRuntime) -> Result<(), Fail> {
+    let alloc = rt.alloc();
+    let mut s = value(alloc, "set v 1")?;
+    assert_eq!(rt; s.as_script(alloc)?.commands.len(), 1);
+    let again = s.as_script(alloc);
+    assert!(rt;
+        matches!(&again, Ok(script) if script.commands.len() == 1),
+        "the value takes memory"
+    );
+    Ok(())
+}
+
+#[test]
+fn copy_of_script_that_was_read_takes_no_memory(rt: HostRuntime) -> Result<(), Fail> {
+    let alloc = rt.alloc();
+    let mut s = value(alloc, "set v 1")?;
+    assert_eq!(rt; s.as_script(alloc)?.commands.len(), 1);
+    let mut copy: Value = s.clone()?;
+    let again = copy.as_script(alloc);
+    assert!(rt;
+        matches!(&again, Ok(script) if script.commands.len() == 1),
+        "the copy takes memory"
+    );
+    Ok(())
 }

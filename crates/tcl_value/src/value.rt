@@ -9,7 +9,11 @@ ghost use Rattle.tcl_value.specs.Reading.{int_of, list_of};
 ghost use Rattle.tcl_text.specs.Reading.{Gives};
 ghost use Rattle.tcl_parser.specs.Reading.{read_script};
 ghost use Rattle.tcl_value.specs.Changes.{AtList, Refuses};
+ghost use Rattle.tcl_value.specs.Dicts.{put, without, dict_of, GivesDict};
+ghost use Rattle.tcl_value.specs.DictChanges.{AtDict, RefusesEntry};
 
+use crate::dict::Dict;
+use crate::dict_fault::{DictError, EntryError};
 use crate::element::Element;
 use crate::entries::Entries;
 use crate::items::Items;
@@ -126,6 +130,7 @@ enum Kept {
     Tcl8(i64),
     Tcl9(i64),
     List(List),
+    Dict(Dict),
     Script(Rc<Script>),
 }
 
@@ -444,6 +449,109 @@ impl Value {
         Ok(())
     }
 
+    /// The dict that is at hand without reading a text or a list: a dict that was built, or what the text was last read as.
+    fn dict_at_hand(&self) -> Result<Option<Dict>, AllocError>
+        ensures { IfOk result (λ found. IfSome found (λ dict. dict_of self.now ≡ Ok dict)) }
+    {
+        match (&self.form, &self.kept) {
+            (Form::Dict(entries), _) => {
+                entries.reads_back();
+                Ok(Some(Dict::from_entries(entries.clone()?)))
+            }
+            (_, Kept::Dict(dict)) => Ok(Some(dict.clone()?)),
+            _ => Ok(None),
+        }
+    }
+
+    /// The dict that its text spells, which is kept: a list of keys and values in turn, where a repeated key keeps its first
+    /// place and its last value.
+    ///
+    /// # Errors
+    /// [`DictError::Fault`] exactly where the text spells no list (101 to 104), or one with an odd number of elements (121);
+    /// want of memory.
+    pub fn as_dict(&mut self, alloc: Global) -> Result<Dict, DictError>
+        ensures read { GivesDict result (dict_of self.old) }
+        ensures text { self.new ≡ self.old }
+    {
+        if let Some(dict) = self.dict_at_hand()? {
+            return Ok(dict);
+        }
+        let list = self.as_list(alloc)?;
+        let dict = Dict::from_list(alloc, &list)?;
+        self.kept = Kept::Dict(dict.clone()?);
+        Ok(dict)
+    }
+
+    /// The value of a dict.
+    ///
+    /// # Errors
+    /// [`ValueError::TooLong`] exactly where the dict's text would be longer than [`MOST_BYTES`].
+    pub fn from_dict(dict: Dict) -> Result<Value, ValueError>
+        ensures made { IfOk result (λ value. (value ≡ write (flat dict)) × IsWithin (write (flat dict))) }
+        ensures refused { IfErr result (λ e. (e ≡ ValueError.TooLong) × IsPast (write (flat dict))) }
+    {
+        if !dict.is_within() {
+            return Err(ValueError::TooLong);
+        }
+        Ok(Value {
+            form: Form::Dict(dict.into_entries()),
+            kept: Kept::Nothing,
+        })
+    }
+
+    /// Its text as a key.
+    pub(crate) fn key_text(&self, alloc: Global) -> Result<Text, AllocError>
+        ensures text { IfOk result (λ text. text ≡ self.now) }
+        ensures within { IfOk result IsWithin }
+    {
+        let _within = self.text_len();
+        self.text(alloc)
+    }
+
+    /// Gives a key a value in the dict that it reads as: in place where it is kept as a dict that isn't shared.
+    ///
+    /// # Errors
+    /// [`EntryError::Fault`] exactly where the text spells no dict, [`EntryError::TooLong`] exactly where the dict's text
+    /// would be longer than [`MOST_BYTES`]; want of memory. Any leaves the value as it was.
+    pub fn set_key(&mut self, alloc: Global, key: &Value, value: Value) -> Result<(), EntryError>
+        ensures set { OnOk result (AtDict (dict_of self.old) (λ es. (self.new ≡ write (flat (put es key.now value))) × IsWithin (write (flat (put es key.now value))))) }
+        ensures refused { IfErr result (λ e. RefusesEntry e (dict_of self.old) (λ es. IsPast (write (flat (put es key.now value))))) }
+        ensures unchanged { OnErr result (self.new ≡ self.old) }
+    {
+        let key = key.key_text(alloc)?;
+        let element = value.into_element(alloc)?;
+        if let Form::Dict(entries) = &mut self.form {
+            self.kept = Kept::Nothing;
+            return put_shared(entries, key, element);
+        }
+        let mut dict = self.as_dict(alloc)?;
+        self.kept = Kept::Nothing;
+        dict.set_element(key, element)?;
+        *self = Value::from_dict(dict)?;
+        Ok(())
+    }
+
+    /// Removes a key, if it is there, from the dict that it reads as: in place where it is kept as a dict that isn't shared.
+    ///
+    /// # Errors
+    /// [`EntryError::Fault`] exactly where the text spells no dict, [`EntryError::TooLong`] exactly where the text of what is
+    /// left would be longer than [`MOST_BYTES`]; want of memory. Any leaves the value as it was.
+    pub fn remove_key(&mut self, alloc: Global, key: &Text) -> Result<(), EntryError>
+        ensures removed { OnOk result (AtDict (dict_of self.old) (λ es. (self.new ≡ write (flat (without es key.now))) × IsWithin (write (flat (without es key.now))))) }
+        ensures refused { IfErr result (λ e. RefusesEntry e (dict_of self.old) (λ es. IsPast (write (flat (without es key.now))))) }
+        ensures unchanged { OnErr result (self.new ≡ self.old) }
+    {
+        if let Form::Dict(entries) = &mut self.form {
+            self.kept = Kept::Nothing;
+            return remove_shared(entries, key);
+        }
+        let mut dict = self.as_dict(alloc)?;
+        self.kept = Kept::Nothing;
+        dict.remove(key)?;
+        *self = Value::from_dict(dict)?;
+        Ok(())
+    }
+
     /// The script that its text is, which is kept. Faults of the text are part of the script.
     ///
     /// # Errors
@@ -494,6 +602,34 @@ fn push_shared(items: &mut Rc<Items>, element: Element) -> Result<(), ChangeErro
     match Rc::make_mut(items) {
         Ok(own) => own.push(element).map_err(ChangeError::from),
         Err(_) => Err(ChangeError::Memory),
+    }
+}
+
+/// Gives a key of a dict a value: in place where the dict isn't shared.
+fn put_shared(entries: &mut Rc<Entries>, key: Text, element: Element) -> Result<(), EntryError>
+    requires key { IsWithin key }
+    requires element { IsElement element }
+    ensures set { OnOk result (entries.new.value ≡ put entries.old.value key (element_text element)) }
+    ensures within { OnOk result (IsWithin (write (flat entries.new.value))) }
+    ensures refused { IfErr result (λ e. RefusesEntry e (Ok entries.old.value) (λ es. IsPast (write (flat (put es key (element_text element)))))) }
+    ensures unchanged { OnErr result (entries.new.value ≡ entries.old.value) }
+{
+    match Rc::make_mut(entries) {
+        Ok(own) => own.set(key, element).map_err(EntryError::from),
+        Err(_) => Err(EntryError::Memory),
+    }
+}
+
+/// Removes a key from a dict: in place where the dict isn't shared.
+fn remove_shared(entries: &mut Rc<Entries>, key: &Text) -> Result<(), EntryError>
+    ensures removed { OnOk result (entries.new.value ≡ without entries.old.value key.now) }
+    ensures within { OnOk result (IsWithin (write (flat entries.new.value))) }
+    ensures refused { IfErr result (λ e. RefusesEntry e (Ok entries.old.value) (λ es. IsPast (write (flat (without es key.now))))) }
+    ensures unchanged { OnErr result (entries.new.value ≡ entries.old.value) }
+{
+    match Rc::make_mut(entries) {
+        Ok(own) => own.remove(key).map_err(EntryError::from),
+        Err(_) => Err(EntryError::Memory),
     }
 }
 
@@ -556,6 +692,7 @@ impl Clone for Kept {
             Kept::Tcl8(n) => Ok(Kept::Tcl8(*n)),
             Kept::Tcl9(n) => Ok(Kept::Tcl9(*n)),
             Kept::List(list) => Ok(Kept::List(list.clone()?)),
+            Kept::Dict(dict) => Ok(Kept::Dict(dict.clone()?)),
             Kept::Script(script) => Ok(Kept::Script(script.clone()?)),
         }
     }
