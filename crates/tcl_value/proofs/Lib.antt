@@ -5,6 +5,7 @@ pub mod Lasts
 pub mod Writes
 pub mod Puts
 pub mod Entered
+pub mod Removed
 pub mod Spaces
 pub mod Laws
 pub mod Changed

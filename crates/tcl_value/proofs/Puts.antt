@@ -172,7 +172,7 @@ same_test : (a b : Bool) → (IsTrue a → IsTrue b) → b ≡ false → a ≡ f
 same_test true b f h = absurd (let t : IsTrue b = f refl in cc)
 same_test false b f h = refl
 
-turned : (x y : List ℕ) → bytes_eq x y ≡ false → bytes_eq y x ≡ false
+pub turned : (x y : List ℕ) → bytes_eq x y ≡ false → bytes_eq y x ≡ false
 turned x y h = same_test (bytes_eq y x) (bytes_eq x y) (λ t. (bytes_decides x y).1 (sym ((bytes_decides y x).0 t))) h
 
 neither : (a b : Bool) → (a || b) ≡ false → (a ≡ false) × (b ≡ false)

@@ -176,6 +176,18 @@ impl Entries {
         }
     }
 
+    /// Gives a key a value, whatever it then weighs.
+    fn put_any(&mut self, key: Text, value: Element) -> Result<(), AllocError>
+        requires key { IsWithin key }
+        requires element { IsElement value }
+        ensures { OnOk result (self.new ≡ put self.old key (element_text value)) }
+    {
+        match self.put(key, value, u128::MAX) {
+            Ok(()) => Ok(()),
+            Err(_) => Err(AllocError),
+        }
+    }
+
     /// What it would weigh without an entry.
     fn weight_without(&self, index: usize) -> u128
         requires { index < length self.now }
@@ -222,9 +234,7 @@ impl Entries {
         'pairs: for pair in 0..items.len() / 2 {
             let key = items.get(2 * pair).text(alloc)?;
             let value = items.get(2 * pair + 1).clone()?;
-            if entries.put(key, value, u128::MAX).is_err() {
-                return Err(AllocError);
-            }
+            entries.put_any(key, value)?;
         }
         Ok(entries)
     }
@@ -283,6 +293,7 @@ impl Entries {
     pub(crate) fn reads_back(&self)
         ensures { put_all [] (flat self.now) ≡ self.now }
     {
+        let _ = &self.keys;
     }
 
     /// Its keys and values in turn.
