@@ -125,20 +125,44 @@ macro_rules! timed {
 fn main(rt: HostRuntime) -> io::Result<()> {
     let alloc = rt.alloc();
     timed!(&rt, "10,000,000 increments", increments(INCREMENTS));
-    timed!(&rt, "100,000 appends to a text", appends(alloc, CHANGES / 10));
+    timed!(
+        &rt,
+        "100,000 appends to a text",
+        appends(alloc, CHANGES / 10)
+    );
     timed!(&rt, "1,000,000 appends to a text", appends(alloc, CHANGES));
-    timed!(&rt, "100,000 appends to a list", pushes(alloc, CHANGES / 10));
+    timed!(
+        &rt,
+        "100,000 appends to a list",
+        pushes(alloc, CHANGES / 10)
+    );
     timed!(&rt, "1,000,000 appends to a list", pushes(alloc, CHANGES));
-    timed!(&rt, "100,000 changes of an element", sets(alloc, CHANGES / 10));
+    timed!(
+        &rt,
+        "100,000 changes of an element",
+        sets(alloc, CHANGES / 10)
+    );
     timed!(&rt, "1,000,000 changes of an element", sets(alloc, CHANGES));
     timed!(&rt, "100,000 new keys", keys_added(alloc, CHANGES / 10));
     timed!(&rt, "1,000,000 new keys", keys_added(alloc, CHANGES));
     if let Ok(keys) = keys(alloc) {
-        timed!(&rt, "100,000 changes of an entry", entries(alloc, keys.as_slice(), CHANGES / 10));
-        timed!(&rt, "1,000,000 changes of an entry", entries(alloc, keys.as_slice(), CHANGES));
+        timed!(
+            &rt,
+            "100,000 changes of an entry",
+            entries(alloc, keys.as_slice(), CHANGES / 10)
+        );
+        timed!(
+            &rt,
+            "1,000,000 changes of an entry",
+            entries(alloc, keys.as_slice(), CHANGES)
+        );
     }
     if let Ok(mut literal) = literal(alloc) {
-        timed!(&rt, "1,000,000 readings of a literal's list", reads(alloc, &mut literal, CHANGES));
+        timed!(
+            &rt,
+            "1,000,000 readings of a literal's list",
+            reads(alloc, &mut literal, CHANGES)
+        );
     }
     Ok(())
 }

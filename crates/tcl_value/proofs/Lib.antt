@@ -8,5 +8,8 @@ pub mod Entered
 pub mod Removed
 pub mod Spaces
 pub mod Laws
+pub mod Inner
+pub mod Ends
 pub mod Changed
+pub mod Dicted
 pub mod Errors

@@ -4,7 +4,7 @@ ghost use Rattle.std.specs.String.{string_bytes};
 ghost use Rattle.std.specs.Fmt.{signed_decimal};
 ghost use Rattle.tcl_value.specs.Limits.{IsWithin};
 ghost use Rattle.tcl_value.specs.Writing.{write_element};
-ghost use Rattle.tcl_value.specs.Texts.{element_text, IsElement};
+ghost use Rattle.tcl_value.specs.Texts.{element_text, ends_in_backslash, IsElement};
 
 use crate::entries::Entries;
 use crate::items::Items;
@@ -13,6 +13,9 @@ use std::rc::Rc;
 use tcl_text::integer::{int_len, push_int, write_int};
 use tcl_text::list::{write_element, written_len};
 use tcl_text::text::Text;
+
+/// How deep lists and dicts may stand in one another without a text: what writes, drops or copies them goes down as deep.
+pub(crate) const MOST_DEPTH: u32 = 100;
 
 /// An element, which may be kept as the number, the list or the dict that its text writes.
 #[cycle(element)]
@@ -56,6 +59,17 @@ impl Element {
         }
     }
 
+    /// Whether its text ends in a backslash.
+    pub(crate) fn ends_in_backslash(&self) -> bool
+        requires { IsElement self.now }
+        ensures { result ≡ ends_in_backslash (element_text self.now) }
+    {
+        match self {
+            Element::Text(text) => has_backslash_end(text.as_str().as_bytes()),
+            Element::Number(_) | Element::List(_) | Element::Dict(_) => false,
+        }
+    }
+
     /// Writes it as an element of a list, the first or another, to the end of a string.
     ///
     /// # Errors
@@ -88,6 +102,16 @@ impl Element {
             Element::List(items) => items.depth().saturating_add(1),
             Element::Dict(entries) => entries.depth().saturating_add(1),
         }
+    }
+}
+
+/// Whether the last byte is a backslash.
+fn has_backslash_end(text: &[u8]) -> bool
+    ensures { result ≡ ends_in_backslash text.now }
+{
+    match text {
+        [] => false,
+        [.., last] => *last == b'\\',
     }
 }
 

@@ -3,10 +3,10 @@ ghost use Rattle.std.specs.Prelude.{◌≡◌, ◌≤◌, ◌<◌, ◌+◌, ◌+
 ghost use Rattle.std.specs.String.{string_bytes};
 ghost use Rattle.tcl_value.specs.Limits.{IsWithin, IsPast};
 ghost use Rattle.tcl_value.specs.Writing.{write, write_element};
-ghost use Rattle.tcl_value.specs.Texts.{texts, flat, element_text, IsElement, AreElements, weight, element_shown};
+ghost use Rattle.tcl_value.specs.Texts.{texts, flat, element_text, IsElement, IsInner, AreElements, weight, element_shown};
 ghost use Rattle.tcl_value.specs.Dicts.{put, without, value_of, put_all, place_of, value_set, entry_dropped};
 
-use crate::element::Element;
+use crate::element::{Element, MOST_DEPTH};
 use crate::items::Items;
 use crate::value::ValueError;
 use indexmap::IndexSet;
@@ -352,6 +352,18 @@ impl Entries {
         let mut text = String::with_capacity(alloc, self.written_len())?;
         self.write_to(&mut text)?;
         Ok(text)
+    }
+
+    /// Whether it may stand in a list or dict without a text: its text is then written in braces.
+    pub(crate) fn fits_inside(&self) -> bool
+        requires within { IsWithin (write (flat self.now)) }
+        requires some { 1 ≤ length self.now }
+        ensures { IsTrue result → IsInner (write (flat self.now)) }
+    {
+        match self.values.last() {
+            None => false,
+            Some(last) => self.depth < MOST_DEPTH && !last.ends_in_backslash(),
+        }
     }
 
     /// How deep lists and dicts stand in it, at most.

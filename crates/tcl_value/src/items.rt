@@ -3,9 +3,9 @@ ghost use Rattle.std.specs.Prelude.{◌≡◌, ◌<◌, ◌≤◌, ◌++◌, ◌
 ghost use Rattle.std.specs.String.{string_bytes};
 ghost use Rattle.tcl_value.specs.Limits.{IsWithin, IsPast};
 ghost use Rattle.tcl_value.specs.Writing.{write};
-ghost use Rattle.tcl_value.specs.Texts.{element_text, texts, IsElement, AreElements, weight};
+ghost use Rattle.tcl_value.specs.Texts.{element_text, texts, IsElement, IsInner, AreElements, weight};
 
-use crate::element::Element;
+use crate::element::{Element, MOST_DEPTH};
 use crate::value::ValueError;
 use std::alloc::{AllocError, Global};
 use std::marker::Model;
@@ -101,6 +101,18 @@ impl Items {
         ensures { IsTrue result ↔ IsWithin (write self.now) }
     {
         self.weight <= MOST_WEIGHT
+    }
+
+    /// Whether it may stand in a list or dict without a text: its text is then written in braces.
+    pub(crate) fn fits_inside(&self) -> bool
+        requires within { IsWithin (write self.now) }
+        requires several { 2 ≤ length self.now }
+        ensures { IsTrue result → IsInner (write self.now) }
+    {
+        match self.elements.last() {
+            None => false,
+            Some(last) => self.depth < MOST_DEPTH && !last.ends_in_backslash(),
+        }
     }
 
     /// How deep lists and dicts stand in it, at most.

@@ -364,10 +364,8 @@ impl Value {
             Form::Empty => Ok(Element::Text(Text::new(alloc, "")?)),
             Form::Text(text) => Ok(Element::Text(text)),
             Form::Number(n) => Ok(Element::Number(n)),
-            Form::List(items) => Ok(Element::Text(Text::from_string(alloc, items.write(alloc)?)?)),
-            Form::Dict(entries) => {
-                Ok(Element::Text(Text::from_string(alloc, entries.write(alloc)?)?))
-            }
+            Form::List(items) => inner_list(alloc, items),
+            Form::Dict(entries) => inner_dict(alloc, entries),
         }
     }
 
@@ -521,6 +519,7 @@ impl Value {
         let key = key.key_text(alloc)?;
         let element = value.into_element(alloc)?;
         if let Form::Dict(entries) = &mut self.form {
+            entries.reads_back();
             self.kept = Kept::Nothing;
             return put_shared(entries, key, element);
         }
@@ -542,6 +541,7 @@ impl Value {
         ensures unchanged { OnErr result (self.new ≡ self.old) }
     {
         if let Form::Dict(entries) = &mut self.form {
+            entries.reads_back();
             self.kept = Kept::Nothing;
             return remove_shared(entries, key);
         }
@@ -568,6 +568,31 @@ impl Value {
         self.kept = Kept::Script(script.clone()?);
         Ok(script)
     }
+}
+
+/// A list as an element: without a text where its text is written in braces.
+fn inner_list(alloc: Global, items: Rc<Items>) -> Result<Element, AllocError>
+    requires within { IsWithin (write items.value) }
+    requires several { 2 ≤ length items.value }
+    ensures text { IfOk result (λ element. element_text element ≡ write items.value) }
+    ensures element { IfOk result IsElement }
+{
+    if items.fits_inside() {
+        return Ok(Element::List(items));
+    }
+    Ok(Element::Text(Text::from_string(alloc, items.write(alloc)?)?))
+}
+
+/// A dict as an element: without a text where its text is written in braces.
+fn inner_dict(alloc: Global, entries: Rc<Entries>) -> Result<Element, AllocError>
+    requires { IsWithin (write (flat entries.value)) }
+    ensures text { IfOk result (λ element. element_text element ≡ write (flat entries.value)) }
+    ensures element { IfOk result IsElement }
+{
+    if entries.len() > 0 && entries.fits_inside() {
+        return Ok(Element::Dict(entries));
+    }
+    Ok(Element::Text(Text::from_string(alloc, entries.write(alloc)?)?))
 }
 
 /// Puts an element in the place of another in a list: in place where it isn't shared.
