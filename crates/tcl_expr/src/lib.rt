@@ -5,6 +5,8 @@ pub mod fault;
 pub mod laws;
 pub mod lexer;
 mod operand;
+pub mod parser;
 mod symbol;
+pub mod tree;
 #[cfg(test)]
 mod tests;
