@@ -186,3 +186,16 @@ not_settle n nodes p q xs x d r is back c h = (refl, back ∙ sym is, refl, (set
 pub one_settles : (n : ℕ) (nodes more : List Node) (p xs : List Pending) (x : Pending) (d e : ℕ) (r : Option Node) (nd : Node) → p ≡ xs ++ x ∷ [] → r ≡ closing x n → r ≡ Some nd → more ≡ nodes ++ nd ∷ [] → e ≡ d - weight_of x → Settles true n nodes p d more xs e
 one_settles n nodes more p xs x d e r nd is c h new less =
     subst (λ y. Settles true n nodes p d y xs e) (sym new) (subst (λ y. Settles true n nodes p d (nodes ++ nd ∷ []) xs y) (sym less) (settles_one n nodes p xs x d nd is (sym c ∙ h)))
+
+-- what stands open and the operand settle as others do
+abbrev pub Reaches : ℕ → List Node → List Pending → ℕ → List Open → Tree → Type 0
+Reaches n nodes p d os a = (os' : List Open) × (a' : Tree) × Holds nodes p d os' (code_of a') × (settle n os' a' ≡ settle n os a)
+
+pub settled : (n : ℕ) (nodes nodes' : List Node) (p p' : List Pending) (d d' : ℕ) (os : List Open) (a : Tree) → Reaches n nodes p d os a → Settles false n nodes p d nodes' p' d' → Holds nodes' p' d' (settle n os a).os (code_of (settle n os a).tree)
+settled n nodes nodes' p p' d d' os a r s =
+    let is : settle n os a ≡ record { os = r.0; tree = r.1 } = sym r.3 ∙ s.3 r.0 r.1 r.2 in
+    subst (λ (h : Held). Holds nodes' p' d' h.os (code_of h.tree)) (sym is)
+    (subst (λ x. Holds x p' d' r.0 (code_of r.1)) (sym s.0) (subst (λ x. Holds nodes x d' r.0 (code_of r.1)) (sym s.1) (subst (λ x. Holds nodes p x r.0 (code_of r.1)) (sym s.2) r.2)))
+
+pub goes_on : (n : ℕ) (nodes nodes' : List Node) (p p' : List Pending) (d d' : ℕ) (os : List Open) (a : Tree) → Reaches n nodes p d os a → Settles true n nodes p d nodes' p' d' → Reaches n nodes' p' d' os a
+goes_on n nodes nodes' p p' d d' os a r s = let t = s r.0 r.1 r.2 in (t.0, t.1, t.2, t.3 ∙ r.3)
