@@ -1,16 +1,17 @@
 -- What calls on a tree change, and when they are refused.
 use Rattle.std.specs.Str.{bytes_eq}
 use Rattle.std.specs.Option.{unwrap_or}
-use Rattle.std.specs.Map.{remove_entry}
+use Rattle.std.specs.Map.{lookup, remove_entry}
+use Rattle.std.specs.Fmt.{decimal}
 use Rattle.indexmap.specs.IndexMap.{insert_entry}
 use Rattle.tcl_tree.specs.declared.command.Command.{Command}
 use Rattle.tcl_tree.specs.declared.command.Command.TheVariants.{Alias, Child}
-use Rattle.std.specs.Prelude.{◌≡◌, ◌≢◌, ◌⊎◌, ◌<◌, ◌≤◌, ℕ, Bool, true, false, List, [], ◌∷◌, ◌++◌, ◌==◌, ◌&&◌, ◌||◌, not, length, Option, Some, None, IsSome}
+use Rattle.std.specs.Prelude.{◌≡◌, ◌≢◌, ◌⊎◌, ◌<◌, ◌≤◌, ℕ, Bool, true, false, List, [], ◌∷◌, ◌++◌, ◌==◌, ◌&&◌, ◌||◌, not, codes, length, Option, Some, None, IsSome}
 use Rattle.tcl_core.specs.Trees.{effect}
 use Rattle.tcl_core.specs.Trees.What.{Changed, Made, Dropped}
 use Rattle.tcl_core.specs.Programs.{blocked, is_spent, is_deep, either, most_steps}
 use Rattle.tcl_tree.specs.Paths.{Text, Path}
-use Rattle.tcl_tree.specs.Own.{Own, new_own, with_new_child, without_old_child, command_in, hidden_in}
+use Rattle.tcl_tree.specs.Own.{Own, CommandMap, new_own, with_new_child, without_old_child, command_in, hidden_in}
 use Rattle.tcl_tree.specs.Nodes.{NodeView}
 use Rattle.tcl_tree.specs.declared.refusal.Refusal.{Refusal}
 use Rattle.tcl_tree.specs.declared.refusal.Refusal.TheVariants.{Memory, BadName, NoInterpreter, Exists, InUse, Denied, NoCommand, BadCount, BadDepthLimit, TooMany, CountLimit, DepthLimit}
@@ -162,3 +163,21 @@ abbrev pub RefusesClear : Refusal → (Path → Option NodeView) → Path → Te
 RefusesClear NoInterpreter f p n = f p ≡ None
 RefusesClear NoCommand f p n = (v : NodeView) × (f p ≡ Some v) × (is_alias (command_in v.own n) ≡ false)
 RefusesClear _ f p n = Prim.⊥
+
+-- ## Names of new children
+
+-- the name that a child without one gets, by its number
+abbrev pub interp_name : ℕ → Text
+interp_name n = codes "interp" ++ decimal n
+
+-- the one of the least number that is no command yet
+pub record IsFirstFree (commands : CommandMap) (t : Text) : Type 0 where
+  pub number : ℕ
+  pub is : t ≡ interp_name number
+  pub free : lookup (bytes_eq t) commands ≡ None
+  pub taken : (m : ℕ) → m < number → IsSome (lookup (bytes_eq (interp_name m)) commands)
+
+abbrev pub RefusesName : Refusal → (Path → Option NodeView) → Path → Type 0
+RefusesName NoInterpreter f p = f p ≡ None
+RefusesName Memory f p = Unit {0}
+RefusesName _ f p = Prim.⊥

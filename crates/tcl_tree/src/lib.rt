@@ -10,4 +10,6 @@ pub mod parameter;
 pub mod procedure;
 pub mod refusal;
 mod steps;
+#[cfg(test)]
+mod tests;
 pub mod tree;

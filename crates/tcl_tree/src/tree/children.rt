@@ -1,15 +1,18 @@
 //! Children: interpreters that are made and deleted.
-ghost use Rattle.std.specs.Prelude.{◌≡◌, ◌≢◌, ◌+◌, List, ℕ, Bool, true, false, [], ◌∷◌, ◌++◌, IfErr, OnOk, OnErr, Some, None, IsSome};
+ghost use Rattle.std.specs.Prelude.{◌≡◌, ◌≢◌, ◌+◌, List, ℕ, Bool, true, false, [], ◌∷◌, ◌++◌, IfOk, IfErr, OnOk, OnErr, Some, None, IsSome};
 ghost use Rattle.slab.specs.Slab.{slab_len};
 ghost use Rattle.tcl_core.specs.Programs.{either};
+ghost use Rattle.tcl_tree.specs.Changes.{interp_name, IsFirstFree, RefusesName};
+ghost use Rattle.tcl_tree.specs.declared.refusal.Refusal.TheVariants.{Memory};
 
+use crate::command::Commands;
 use crate::name::is_name;
 use crate::node::{Node, State};
 use crate::refusal::Refusal;
 use crate::steps::{attach, detach, make_room};
 use crate::tree::Tree;
 use indexmap::IndexMap;
-use std::alloc::Global;
+use std::alloc::{AllocError, Global};
 use tcl_text::text::Text;
 
 /// The most children that an interpreter has.
@@ -25,11 +28,49 @@ fn is_child_safe(asked: bool, parent: bool) -> bool
     asked || parent
 }
 
+// The name that a child without one gets, by its number.
+fn interp_name(alloc: Global, number: u64) -> Result<Text, AllocError>
+    ensures { IfOk result (λ name. name ≡ interp_name number) }
+{
+    Text::from_string(alloc, format!(in alloc; "interp{number}")?)
+}
+
+// The first such name that is no command.
+fn first_free(alloc: Global, commands: &Commands) -> Result<Text, Refusal>
+    ensures free { IfOk result (λ name. IsFirstFree commands.now.entries name) }
+    ensures refused { IfErr result (λ e. e ≡ Memory) }
+{
+    'numbers: for number in 0..u64::MAX {
+        let name = interp_name(alloc, number)?;
+        if !commands.contains_key(&name) {
+            return Ok(name);
+        }
+    }
+    // So many commands fit no memory.
+    Err(Refusal::Memory)
+}
+
 impl Tree {
     ghost use Rattle.tcl_tree.specs.Paths.{is_above};
     ghost use Rattle.tcl_tree.specs.Nodes.{NodeView, IsLeaf, pruned};
     ghost use Rattle.tcl_tree.specs.Changes.{MayMake, Makes, RefusesMake, Drops, RefusesDrop};
     ghost use Rattle.tcl_tree.specs.TreeOf.{tree_of, key_of, marks_of};
+
+    /// The name that a child of the interpreter at the path gets where none is given: `interp` and the least number with which it is no
+    /// command there.
+    ///
+    /// # Errors
+    /// Refusal 301. Want of memory.
+    pub fn free_name(&self, alloc: Global, path: &[Text]) -> Result<Text, Refusal>
+        ensures free { IfOk result (λ name. (v : NodeView) → tree_of self.now path.now ≡ Some v → IsFirstFree v.own.commands name) }
+        ensures there { OnOk result (IsSome (tree_of self.now path.now)) }
+        ensures refused { IfErr result (λ e. RefusesName e (tree_of self.now) path.now) }
+    {
+        match self.commands(path) {
+            Some(commands) => first_free(alloc, commands),
+            None => Err(Refusal::NoInterpreter),
+        }
+    }
 
     /// Makes a child of this name in the interpreter at the path: safe where that is asked for or the parent is safe.
     ///

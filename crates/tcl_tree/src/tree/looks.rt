@@ -2,8 +2,10 @@
 ghost use Rattle.std.specs.Prelude.{◌≡◌, option_map, is_some};
 ghost use Rattle.std.specs.Option.{option_copied};
 
+use crate::command::Commands;
 use crate::node::Node;
 use crate::tree::Tree;
+use indexmap::map::Keys;
 use slab::Slab;
 use tcl_text::text::Text;
 
@@ -63,6 +65,36 @@ impl Tree {
     {
         match self.node(path) {
             Some(node) => Some(node.state.depth_limit),
+            None => None,
+        }
+    }
+
+    /// The names of the children of the interpreter at the path, in order, if there is one. This takes no memory.
+    pub fn children(&self, path: &[Text]) -> Option<Keys<'_, Text, usize>>
+        ensures { result ≡ option_map (λ n. n.own.children) (tree_of self.now path.now) }
+    {
+        match self.node(path) {
+            Some(node) => Some(node.children.keys()),
+            None => None,
+        }
+    }
+
+    /// The commands of the interpreter at the path, if there is one. This takes no memory.
+    pub fn commands(&self, path: &[Text]) -> Option<&Commands>
+        ensures { option_map (λ m. m.entries) (option_copied result) ≡ option_map (λ n. n.own.commands) (tree_of self.now path.now) }
+    {
+        match self.node(path) {
+            Some(node) => Some(&node.state.commands),
+            None => None,
+        }
+    }
+
+    /// The hidden commands of the interpreter at the path, if there is one. This takes no memory.
+    pub fn hidden_commands(&self, path: &[Text]) -> Option<&Commands>
+        ensures { option_map (λ m. m.entries) (option_copied result) ≡ option_map (λ n. n.own.hidden) (tree_of self.now path.now) }
+    {
+        match self.node(path) {
+            Some(node) => Some(&node.state.hidden),
             None => None,
         }
     }
