@@ -29,7 +29,7 @@ follow-snoc h (m ∷ p) k n = by (child_in h k m) (λ c. follow-snoc h p c n)
 pub same_link : (a b : ℕ) (n m : Text) → ◌≡◌ {A = Option (Option (ℕ × Text))} (Some (Some (a, n))) (Some (Some (b, m))) → (a ≡ b) × (n ≡ m)
 same_link a b n m e = some_pair_parts a b n m (same_Some _ _ e)
 
-clash : {A : Type 0} (a : A) → None ≡ Some a → Prim.⊥
+pub clash : {A : Type 0} (a : A) → None ≡ Some a → Prim.⊥
 clash a e = cc
 
 pub follow-nil : (h : Heap) (k : ℕ) → follow h k [] ≡ Some k

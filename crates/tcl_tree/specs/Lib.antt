@@ -7,3 +7,4 @@ pub mod TreeOf
 pub mod Changes
 pub mod Lending
 pub mod LendingTree
+pub mod Refusals

@@ -1,8 +1,9 @@
 //! Why a call on the tree is refused.
-ghost use Rattle.std.specs.Prelude.{◌≡◌};
+ghost use Rattle.std.specs.Prelude.{◌≡◌, IfOk};
+ghost use Rattle.std.specs.String.{string_bytes};
 ghost use Rattle.tcl_tree.specs.declared.refusal.Refusal.TheVariants.{Memory};
 
-use std::alloc::{AllocError, AllocFailed};
+use std::alloc::{AllocError, AllocFailed, Global};
 
 /// Why a call on the tree did nothing.
 #[derive(Clone, Copy, Debug, Drop)]
@@ -48,5 +49,37 @@ impl<T: Drop> From<AllocFailed<T>> for Refusal {
 
     fn from(_error: AllocFailed<T>) -> Refusal {
         Refusal::Memory
+    }
+}
+
+impl Refusal {
+    ghost use Rattle.tcl_tree.specs.Refusals.{text_of};
+
+    /// The text of the refusal; the word is the one that is refused, as it was written.
+    ///
+    /// # Errors
+    /// Want of memory.
+    pub fn text(self, alloc: Global, word: &str) -> Result<String, AllocError>
+        ensures { IfOk result (λ text. string_bytes text ≡ text_of self word.now) }
+    {
+        match self {
+            Refusal::Memory => format!(in alloc; "out of memory"),
+            Refusal::BadName => format!(in alloc; "bad name \"{word}\""),
+            Refusal::BadCount => format!(in alloc; "bad count \"{word}\""),
+            Refusal::NoInterpreter => format!(in alloc; "could not find interpreter \"{word}\""),
+            Refusal::Exists => format!(in alloc; "\"{word}\" already exists"),
+            Refusal::InUse => format!(in alloc; "interpreter \"{word}\" is in use"),
+            Refusal::Denied => format!(in alloc; "permission denied"),
+            Refusal::NoCommand => format!(in alloc; "invalid command name \"{word}\""),
+            Refusal::NoHidden => format!(in alloc; "invalid hidden command name \"{word}\""),
+            Refusal::TooMany => format!(in alloc; "too many interpreters"),
+            Refusal::CountLimit(_) => format!(in alloc; "command count limit exceeded"),
+            Refusal::DepthLimit(_) => {
+                format!(in alloc; "too many nested evaluations (infinite loop?)")
+            }
+            Refusal::BadDepthLimit => {
+                format!(in alloc; "recursion limit must be between 1 and 1000")
+            }
+        }
     }
 }

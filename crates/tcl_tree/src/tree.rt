@@ -13,6 +13,7 @@ use tcl_text::text::Text;
 
 pub mod children;
 mod commands;
+mod hiding;
 pub mod limits;
 mod looks;
 mod variables;

@@ -13,7 +13,7 @@ use crate::tree::{Place, Tree};
 use tcl_text::text::Text;
 
 // Whether the command is a child interpreter.
-fn is_child(command: Option<&Command>) -> bool
+pub(crate) fn is_child(command: Option<&Command>) -> bool
     ensures { result ≡ is_child (option_copied command.entry) }
 {
     match command {

@@ -139,7 +139,7 @@ impl Tree {
     ghost use Rattle.tcl_tree.specs.Changes.{MayLimit, RefusesLimit, MayLimitDepth, RefusesDepthLimit};
 
     // The key of the interpreter that these names lead to from another.
-    fn descend(&self, key: usize, down: &[Text]) -> Option<usize>
+    pub(crate) fn descend(&self, key: usize, down: &[Text]) -> Option<usize>
         ensures { (p : List (List ℕ)) → key_of self.now p ≡ Some key → result ≡ key_of self.now (p ++ down.now) }
     {
         let mut at = key;
