@@ -1,20 +1,20 @@
 -- What the commands keep to in a safe interpreter: one proof for every discipline of which some facts hold.
-use Rattle.std.proofs.Common.{◌≡◌, refl, sym, ap, subst, ℕ, zero, suc, ℤ, pos, negsuc, Bool, true, false, not, ◌&&◌, ◌||◌, List, [], ◌∷◌, ◌++◌, Option, Some, None, is_some, Result, Ok, Err, codes, ◌==◌, ◌+ℤ◌, nat_le, length, drop}
+use Rattle.std.proofs.Common.{◌≡◌, refl, sym, subst, ℕ, zero, suc, ℤ, pos, negsuc, Bool, true, false, not, ◌&&◌, ◌||◌, List, [], ◌∷◌, ◌++◌, Option, Some, None, is_some, Result, Ok, Err, codes, ◌==◌, ◌+ℤ◌, nat_le, length}
 use Rattle.std.specs.Str.{bytes_eq}
 use Rattle.std.specs.Map.{lookup}
 use Rattle.std.specs.Fmt.{decimal, signed_decimal}
-use Rattle.tcl_core.specs.Paths.{Text, Path, Place}
-use Rattle.tcl_core.specs.Endings.{Completion, ok, error, leave_proc}
+use Rattle.tcl_core.specs.Paths.{Text, Path}
+use Rattle.tcl_core.specs.Endings.{Completion, ok, leave_proc}
 use Rattle.tcl_core.specs.Entries.{Entry, Question, Said, HostReply}
 use Rattle.tcl_core.specs.Entries.Entry.{Eval, CallWords, InvokeHidden, SetAlias, ClearAlias, Hide, Expose, SetCountLimit, SetDepthLimit, Create, Delete, Ask, AskHost}
 use Rattle.tcl_core.specs.Entries.Question.{Exists, IsSafe, Aliases, AliasOf, Hidden as HiddenNames, Slaves, CountLimitOf, DepthLimitOf}
 use Rattle.tcl_core.specs.Entries.HostReply.{Opened, Bytes, TheEnd, Accepted, Is, Fails}
 use Rattle.tcl_core.specs.Entries.Said.{Finished, Told}
-use Rattle.tcl_core.specs.Trees.{Node, Tree}
-use Rattle.tcl_core.specs.Programs.Act.{Look, Limit, LimitDepth, Make, Drop}
-use Rattle.tcl_core.specs.Programs.Wrap.{Deeper, Framed}
+use Rattle.tcl_core.specs.Trees.{Node}
+use Rattle.tcl_core.specs.Programs.Act.{Look, Limit, LimitDepth}
+use Rattle.tcl_core.specs.Programs.Wrap.{Framed}
 use Rattle.tcl_core.specs.Programs.Prog.{done, go, act, exit, inside}
-use Rattle.tcl_core.specs.Tables.{Discipline, IsGood, IsGoodNode, Modest}
+use Rattle.tcl_core.specs.Tables.{Discipline, IsGoodNode, Modest}
 use Rattle.tcl_frames.specs.Chain.{Chain, read, exists_at, words_at, after_set, after_unset, after_link}
 use Rattle.tcl_frames.specs.declared.scope.Scope.{Scope}
 use Rattle.tcl_frames.specs.declared.scope.Scope.TheVariants.{Visible, Global, Local}
@@ -38,9 +38,9 @@ use Rattle.tcl_tree.specs.declared.builtin.Builtin.{Builtin}
 use Rattle.tcl_tree.specs.declared.builtin.Builtin.TheVariants as name
 use Rattle.tcl_tree.specs.declared.command.Command.{Command}
 use Rattle.tcl_tree.specs.declared.command.Command.TheVariants as command
-use Rattle.tcl_language.specs.Instructions.{Open, Walk, Instr, Program, either, fits, fails, gives, grown, on_code, on_ok, or_fails, at_node, look, change, with_chain, too_long}
+use Rattle.tcl_language.specs.Instructions.{Open, Walk, Instr, Program, either, fits, fails, grown, on_code, on_ok, or_fails, at_node, look, change, with_chain, too_long}
 use Rattle.tcl_language.specs.Instructions.Instr.{Script, Commands, Words, Parts, Call, Target, Invoke, Hidden, Foreach, Serve}
-use Rattle.tcl_language.specs.Faults.{frame_message, integer_message, invalid_command, invalid_hidden, bad_name}
+use Rattle.tcl_language.specs.Faults.{frame_message, integer_message, invalid_command, invalid_hidden, bad_name, wrong_args}
 use Rattle.tcl_language.specs.Names.{is_name}
 use Rattle.tcl_language.specs.Safety.{is_host}
 use Rattle.tcl_language.specs.Words.{concat, is_level}
@@ -365,7 +365,7 @@ module _ (R : Discipline Own Instr) (F : Facts R) (l : Bool) where
   foreach : (args : List Text) → Keeps (control.foreach args)
   foreach [] = tt
   foreach (a ∷ []) = tt
-  foreach (a ∷ b ∷ rest) = by_either (control.is_odd_many rest) (control.walks_of (a ∷ b ∷ rest) [] (λ walks body. go (Foreach walks body) done)) (fails _)
+  foreach (a ∷ b ∷ rest) = by_either (control.is_odd_many rest) (control.walks_of (a ∷ b ∷ rest) [] (λ walks body. go (Foreach walks body) done)) (fails (wrong_args control.foreach_form))
       (by_lists (a ∷ b ∷ rest) [] (λ walks body. go (Foreach walks body) done) (λ walks body. by_go (Foreach walks body) (F.foreach walks body))) tt
 
   runs_body : (p : ProcedureView) (ws : List Text) (bs : List (Text × Text)) → Keeps (control.runs_body p ws bs)
@@ -451,7 +451,7 @@ module _ (R : Discipline Own Instr) (F : Facts R) (l : Bool) where
   puts (a ∷ b ∷ c ∷ d ∷ rest) e = tt
 
   exits : (n : ℤ) → Keeps (hosting.exits n)
-  exits (pos n) = by_either (nat_le n 255) (exit (pos n)) (fails _) tt tt
+  exits (pos n) = by_either (nat_le n 255) (exit (pos n)) (fails (codes "exit status must be between 0 and 255")) tt tt
   exits (negsuc n) = tt
 
   exit_with : (style : Integers) (args : List Text) → Keeps (hosting.exit_with style args)

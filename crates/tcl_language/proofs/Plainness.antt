@@ -1,13 +1,12 @@
 -- The two disciplines: no request of the host, and no limit.
-use Rattle.std.proofs.Common.{◌≡◌, refl, sym, ap, subst, Bool, true, false, not, ◌&&◌, cond, List, [], ◌∷◌, ◌++◌, Option, Some, None, is_some, Result, Ok, Err, if◌then◌else◌}
+use Rattle.std.proofs.Common.{◌≡◌, refl, subst, Bool, true, false, not, ◌&&◌, cond, [], ◌∷◌, ◌++◌, Option, Some, None, is_some, Ok, Err, if◌then◌else◌}
 use Rattle.std.specs.Str.{bytes_eq}
 use Rattle.std.specs.Map.{lookup, remove_entry}
 use Rattle.indexmap.specs.IndexMap.{insert_entry}
 use Rattle.tcl_core.specs.Paths.{Text, Place}
 use Rattle.tcl_core.specs.Entries.{Entry}
 use Rattle.tcl_core.specs.Entries.Entry.{SetCountLimit, SetDepthLimit, Eval, CallWords, InvokeHidden, SetAlias, ClearAlias, Hide, Expose, Create, Delete, Ask, AskHost}
-use Rattle.tcl_core.specs.Tables.{Discipline, Keeps_to, Modest, hostless, unlimiting}
-use Rattle.tcl_text.specs.declared.integer.Integers.{Integers}
+use Rattle.tcl_core.specs.Tables.{Discipline, Modest, hostless, unlimiting}
 use Rattle.tcl_variables.specs.Names.{has_colons}
 use Rattle.tcl_language.specs.Naming as naming
 use Rattle.tcl_language.specs.Naming.{Named, by_name, keeps_child, command_name, named, cleared, hidden_as, exposed_as, removed, renamed}
@@ -17,7 +16,6 @@ use Rattle.tcl_tree.specs.declared.builtin.Builtin.{Builtin}
 use Rattle.tcl_tree.specs.declared.command.Command.{Command}
 use Rattle.tcl_tree.specs.declared.command.Command.TheVariants as command
 use Rattle.tcl_language.specs.Instructions.{Instr}
-use Rattle.tcl_language.specs.Language.{language}
 use Rattle.tcl_language.specs.Table.{serve as serve_program}
 use Rattle.tcl_language.specs.Safety.{is_host, is_plain, are_plain, plain, is_quiet, is_modest, KeepsQuiet, KeepsLimits}
 use Rattle.tcl_language.proofs.Keeping.{Facts, Plainly, limits, limits_depth, program, serve}

@@ -1,13 +1,13 @@
 -- What is played is a run.
-use Rattle.std.proofs.Common.{◌≡◌, refl, sym, ap, subst, ℕ, zero, suc, Bool, true, false, List, [], ◌∷◌, ◌++◌, Option, Some, None, length}
+use Rattle.std.proofs.Common.{◌≡◌, refl, sym, subst, ℕ, zero, suc, Bool, true, false, List, [], ◌∷◌, ◌++◌, Option, Some, None}
 use Rattle.tcl_core.specs.Paths.{Path, Place, Height, rise_to}
-use Rattle.tcl_core.specs.Endings.{Meter, Completion, Reply, refusal}
+use Rattle.tcl_core.specs.Endings.{Completion, Reply, refusal}
 use Rattle.tcl_core.specs.Endings.Meter.{Count, Depth}
 use Rattle.tcl_core.specs.Endings.Reply.{Completed, Stop, Exit, Cut}
 use Rattle.tcl_core.specs.Entries.{Entry, Said}
 use Rattle.tcl_core.specs.Entries.HostReply.{Accepted}
 use Rattle.tcl_core.specs.Entries.Said.{Finished, Told}
-use Rattle.tcl_core.specs.Trees.{Node, Tree, What, Grant, Event, effect, granted, at}
+use Rattle.tcl_core.specs.Trees.{Tree, Grant, effect, granted, at}
 use Rattle.tcl_core.specs.Trees.What.{Charged, Nested, Refused}
 use Rattle.tcl_core.specs.Trees.Grants.{Listed, Budget}
 use Rattle.tcl_core.specs.Programs.{Act, Wrap, Deed, Prog, Table, spot, decide, opens, closes, metered, by_limit, blocked, is_spent, is_deep, changing, making, dropping}
@@ -15,7 +15,7 @@ use Rattle.tcl_core.specs.Programs.Act.{Look, Change, Charge, Limit, LimitDepth,
 use Rattle.tcl_core.specs.Programs.Wrap.{Deeper, Framed}
 use Rattle.tcl_core.specs.Programs.Next.{On, TooDeep, Off}
 use Rattle.tcl_core.specs.Programs.Prog.{done, exit, act, go, inside, call, wait}
-use Rattle.tcl_core.specs.Runs.{carried, reached, entering, fits}
+use Rattle.tcl_core.specs.Runs.{carried, reached, entering}
 use Rattle.tcl_core.specs.Threads.{Threads, Decides, Opens_so}
 use Rattle.tcl_core.specs.Threads.Threads.{completed, exited, acted as acts, refused, went, passed, wrapped as wraps, wrapped_passed, too_deep, shut, called, called_passed, unreached, called_out, heard}
 use Rattle.tcl_language.specs.Playing as playing

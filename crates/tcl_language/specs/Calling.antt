@@ -1,16 +1,16 @@
 -- Commands wait only for calls that they made: what is here is the proof that the table brings along.
-use Rattle.std.specs.Prelude.{ℕ, zero, suc, ℤ, pos, negsuc, Bool, true, false, List, [], ◌∷◌, ◌++◌, Option, Some, None, Result, Ok, Err, codes, ◌==◌, ◌+ℤ◌, ◌&&◌, ◌||◌, cond, nat_le, length, is_some, not}
+use Rattle.std.specs.Prelude.{ℕ, zero, suc, ℤ, pos, negsuc, Bool, true, false, List, [], ◌∷◌, ◌++◌, Option, Some, None, Result, Ok, Err, codes, ◌==◌, ◌+ℤ◌, ◌&&◌, ◌||◌, nat_le, length, is_some, not}
 use Rattle.std.specs.Str.{bytes_eq}
 use Rattle.std.specs.Map.{lookup}
-use Rattle.std.specs.Fmt.{decimal, signed_decimal}
+use Rattle.std.specs.Fmt.{decimal}
 use Rattle.tcl_core.specs.Paths.{Text, Path}
-use Rattle.tcl_core.specs.Endings.{Completion, ok, error}
+use Rattle.tcl_core.specs.Endings.{Completion, ok}
 use Rattle.tcl_core.specs.Entries.{Entry, Question, Said, HostReply}
 use Rattle.tcl_core.specs.Entries.HostReply.{Opened, Bytes, TheEnd, Accepted, Is, Fails}
 use Rattle.tcl_core.specs.Entries.Entry.{Eval, CallWords, InvokeHidden, SetAlias, ClearAlias, Hide, Expose, SetCountLimit, SetDepthLimit, Create, Delete, Ask, AskHost}
 use Rattle.tcl_core.specs.Entries.Question.{Exists, IsSafe, Aliases, AliasOf, Hidden as HiddenNames, Slaves, CountLimitOf, DepthLimitOf}
 use Rattle.tcl_core.specs.Entries.Said.{Finished, Told}
-use Rattle.tcl_core.specs.Trees.{Node, Tree}
+use Rattle.tcl_core.specs.Trees.{Node}
 use Rattle.tcl_core.specs.Programs.{Calls_only}
 use Rattle.tcl_core.specs.Programs.Act.{Look, Limit, LimitDepth}
 use Rattle.tcl_core.specs.Programs.Prog.{done, go, act, exit}
@@ -30,12 +30,12 @@ use Rattle.tcl_text.specs.Numbers.{integer_of, in_64_bits, fits_64}
 use Rattle.tcl_text.specs.Lists.{list_of}
 use Rattle.tcl_text.specs.Writing.{written_list, fault_message}
 use Rattle.tcl_tree.specs.Own.{Own}
-use Rattle.tcl_tree.specs.Commands.{ProcedureView, AliasView}
+use Rattle.tcl_tree.specs.Commands.{ProcedureView}
 use Rattle.tcl_tree.specs.declared.builtin.Builtin.{Builtin}
 use Rattle.tcl_tree.specs.declared.builtin.Builtin.TheVariants as name
 use Rattle.tcl_tree.specs.declared.command.Command.{Command}
 use Rattle.tcl_tree.specs.declared.command.Command.TheVariants as command
-use Rattle.tcl_language.specs.Instructions.{Open, Walk, Instr, Program, either, fits, fails, gives, grown, on_code, on_ok, or_fails, at_node, look, change, with_chain, too_long}
+use Rattle.tcl_language.specs.Instructions.{Open, Walk, Instr, Program, either, fits, fails, grown, on_code, on_ok, or_fails, at_node, look, change}
 use Rattle.tcl_language.specs.Instructions.Instr.{Script, Commands, Words, Parts, Call, Target, Invoke, Hidden, Foreach, Serve}
 use Rattle.tcl_language.specs.Faults.{frame_message, integer_message, invalid_command, invalid_hidden, bad_name}
 use Rattle.tcl_language.specs.Names.{is_name}

@@ -3,7 +3,7 @@ use Rattle.std.specs.Prelude.{ℕ, zero, suc, ℤ, pos, negsuc, Bool, true, fals
 use Rattle.std.specs.Fmt.{decimal, signed_decimal}
 use Rattle.std.specs.Str.{bytes_eq}
 use Rattle.tcl_core.specs.Paths.{Text}
-use Rattle.tcl_core.specs.Endings.{Options, Completion, ok, completion, leave_proc}
+use Rattle.tcl_core.specs.Endings.{Completion, ok, completion, leave_proc}
 use Rattle.tcl_core.specs.Programs.Act.{Charge}
 use Rattle.tcl_core.specs.Programs.Wrap.{Framed}
 use Rattle.tcl_core.specs.Programs.Prog.{done, act, go, inside}
@@ -15,9 +15,9 @@ use Rattle.tcl_text.specs.Writing.{written_list, fault_message}
 use Rattle.tcl_tree.specs.Own.{Own}
 use Rattle.tcl_tree.specs.Commands.{ProcedureView}
 use Rattle.tcl_tree.specs.declared.parameter.Parameter.{Parameter}
-use Rattle.tcl_language.specs.Instructions.{Walk, Instr, Program, either, fits, fails, gives, grown, or_fails, look, with_chain, too_long}
+use Rattle.tcl_language.specs.Instructions.{Walk, Program, either, fits, fails, grown, or_fails, look, with_chain, too_long}
 use Rattle.tcl_language.specs.Instructions.Instr.{Script, Foreach}
-use Rattle.tcl_language.specs.Faults.{wrong_args, frame_message}
+use Rattle.tcl_language.specs.Faults.{wrong_args}
 use Rattle.tcl_language.specs.Words.{concat, is_level}
 use Rattle.tcl_language.specs.Variables.{sets, level}
 

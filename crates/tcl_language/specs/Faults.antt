@@ -1,5 +1,5 @@
 -- The texts of errors.
-use Rattle.std.specs.Prelude.{ℕ, List, [], ◌++◌, codes}
+use Rattle.std.specs.Prelude.{[], ◌++◌, codes}
 use Rattle.tcl_core.specs.Paths.{Text}
 use Rattle.tcl_variables.specs.Messages.{message}
 use Rattle.tcl_variables.specs.declared.fault.FrameFault.{FrameFault}

@@ -1,8 +1,8 @@
 -- The commands that reach the host, and `exit`.
-use Rattle.std.specs.Prelude.{ℕ, ℤ, pos, negsuc, Bool, true, false, List, [], ◌∷◌, ◌++◌, Option, Some, None, codes, nat_le, ◌==◌, cond}
+use Rattle.std.specs.Prelude.{ℕ, ℤ, pos, negsuc, Bool, List, [], ◌∷◌, ◌++◌, None, codes, nat_le, ◌==◌}
 use Rattle.std.specs.Str.{bytes_eq}
 use Rattle.tcl_core.specs.Paths.{Text}
-use Rattle.tcl_core.specs.Endings.{Completion, ok, error}
+use Rattle.tcl_core.specs.Endings.{ok}
 use Rattle.tcl_core.specs.Entries.{Request, HostReply, Said}
 use Rattle.tcl_core.specs.Entries.Entry.{AskHost}
 use Rattle.tcl_core.specs.Entries.Request.{Write}

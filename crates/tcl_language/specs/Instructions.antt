@@ -1,9 +1,9 @@
 -- What can be going on inside an interpreter, and how its programs are put together.
-use Rattle.std.specs.Prelude.{ℕ, zero, suc, ℤ, pos, negsuc, Bool, true, false, List, [], ◌∷◌, ◌++◌, Option, Some, None, Result, Ok, Err, length, nat_le, codes}
+use Rattle.std.specs.Prelude.{ℕ, zero, suc, ℤ, pos, negsuc, Bool, true, false, List, [], Option, Some, None, Result, Ok, Err, length, nat_le, codes}
 use Rattle.tcl_core.specs.Paths.{Text}
 use Rattle.tcl_core.specs.Endings.{Completion, ok, error}
 use Rattle.tcl_core.specs.Entries.{Entry}
-use Rattle.tcl_core.specs.Trees.{Node, Tree}
+use Rattle.tcl_core.specs.Trees.{Node}
 use Rattle.tcl_core.specs.Programs.{Prog}
 use Rattle.tcl_core.specs.Programs.Act.{Look, Change}
 use Rattle.tcl_core.specs.Programs.Prog.{done, act}

@@ -1,5 +1,5 @@
 -- `interp`, and a child's own command: what one interpreter asks of another. Paths are lists of names downward from the one that asks.
-use Rattle.std.specs.Prelude.{ℕ, zero, suc, ℤ, pos, negsuc, Bool, true, false, ◌&&◌, ◌||◌, List, [], ◌∷◌, ◌++◌, Option, Some, None, is_some, not, Result, Ok, Err, codes, ◌-◌, ◌==◌, nat_le, length, drop}
+use Rattle.std.specs.Prelude.{ℕ, zero, suc, ℤ, pos, negsuc, Bool, true, false, ◌&&◌, ◌||◌, List, [], ◌∷◌, ◌++◌, Option, Some, None, is_some, not, codes, ◌-◌, ◌==◌, nat_le, length, drop}
 use Rattle.std.specs.Fmt.{decimal}
 use Rattle.std.specs.Str.{bytes_eq}
 use Rattle.std.specs.Map.{lookup}
@@ -9,7 +9,7 @@ use Rattle.tcl_core.specs.Entries.{Entry, Question, Said}
 use Rattle.tcl_core.specs.Entries.Entry.{Eval, CallWords, InvokeHidden, SetAlias, ClearAlias, Hide, Expose, SetCountLimit, SetDepthLimit, Create, Delete, Ask}
 use Rattle.tcl_core.specs.Entries.Question.{Exists, IsSafe, Aliases, AliasOf, Hidden as HiddenNames, Slaves, CountLimitOf, DepthLimitOf}
 use Rattle.tcl_core.specs.Entries.Said.{Finished, Told}
-use Rattle.tcl_core.specs.Trees.{Node, Tree}
+use Rattle.tcl_core.specs.Trees.{Node}
 use Rattle.tcl_core.specs.Programs.Act.{Look, Make, Drop, Limit, LimitDepth}
 use Rattle.tcl_core.specs.Programs.Prog.{done, act, go, call}
 use Rattle.tcl_text.specs.declared.integer.Integers.{Integers}
@@ -22,7 +22,7 @@ use Rattle.tcl_tree.specs.declared.refusal.Refusal.{Refusal}
 use Rattle.tcl_tree.specs.declared.refusal.Refusal.TheVariants as refusal
 use Rattle.tcl_tree.specs.declared.command.Command.{Command}
 use Rattle.tcl_tree.specs.declared.command.Command.TheVariants as command
-use Rattle.tcl_language.specs.Instructions.{Instr, Program, either, fails, gives, grown, or_fails, look, change}
+use Rattle.tcl_language.specs.Instructions.{Program, either, fails, gives, grown, or_fails, look, change}
 use Rattle.tcl_language.specs.Instructions.Instr.{Serve}
 use Rattle.tcl_language.specs.Faults.{quoted, wrong_args, lost_alias, bad_name, invalid_command, invalid_hidden, unknown_subcommand}
 use Rattle.tcl_language.specs.Names.{is_name}

@@ -1,5 +1,5 @@
 -- The names of commands.
-use Rattle.std.specs.Prelude.{ℕ, Bool, true, false, List, [], ◌∷◌, not}
+use Rattle.std.specs.Prelude.{Bool, false, [], ◌∷◌, not}
 use Rattle.tcl_core.specs.Paths.{Text}
 use Rattle.tcl_variables.specs.Names.{has_colons}
 

@@ -1,5 +1,5 @@
 -- How commands are named, hidden and exposed: what each call makes of an interpreter's own part, or why it is refused, with the text that is wrong.
-use Rattle.std.specs.Prelude.{Bool, true, false, cond, List, [], ◌∷◌, ◌++◌, Option, Some, None, is_some, Result, Ok, Err}
+use Rattle.std.specs.Prelude.{cond, [], ◌∷◌, ◌++◌, Option, Some, None, is_some, Result, Ok, Err}
 use Rattle.std.specs.Str.{bytes_eq}
 use Rattle.std.specs.Map.{remove_entry}
 use Rattle.tcl_core.specs.Paths.{Text}

@@ -1,18 +1,18 @@
 -- A run, computed: what comes of a program by itself, where no limit from outside is in the way and the host accepts all that is asked of it.
-use Rattle.std.specs.Prelude.{◌≡◌, ℕ, zero, suc, ℤ, pos, Bool, true, false, List, [], ◌∷◌, ◌++◌, Option, Some, None, length}
-use Rattle.tcl_core.specs.Paths.{Text, Path, Place, Height, rise_to}
-use Rattle.tcl_core.specs.Endings.{Completion, Reply, ok, refusal}
+use Rattle.std.specs.Prelude.{◌≡◌, ℕ, zero, suc, Bool, true, false, Option, Some, None}
+use Rattle.tcl_core.specs.Paths.{Place, Height, rise_to}
+use Rattle.tcl_core.specs.Endings.{Completion, Reply, refusal}
 use Rattle.tcl_core.specs.Endings.Meter.{Depth}
 use Rattle.tcl_core.specs.Endings.Reply.{Completed, Stop, Exit, Cut}
-use Rattle.tcl_core.specs.Entries.{Entry, HostReply, Said}
+use Rattle.tcl_core.specs.Entries.{Entry}
 use Rattle.tcl_core.specs.Entries.Answer.{Heard}
 use Rattle.tcl_core.specs.Entries.HostReply.{Accepted}
 use Rattle.tcl_core.specs.Entries.Said.{Finished, Told}
 use Rattle.tcl_core.specs.Threads.{Threads}
-use Rattle.tcl_core.specs.Trees.{Node, Tree, Event, effect, at}
+use Rattle.tcl_core.specs.Trees.{Tree, Event, effect, at}
 use Rattle.tcl_core.specs.Trees.Move.{Come}
 use Rattle.tcl_core.specs.Trees.Grants.{Budget}
-use Rattle.tcl_core.specs.Programs.{Wrap, Next, Deed, Prog, Table, spot, decide, opens, closes}
+use Rattle.tcl_core.specs.Programs.{Deed, Prog, Table, spot, decide, opens, closes}
 use Rattle.tcl_core.specs.Programs.Next.{On, TooDeep, Off}
 use Rattle.tcl_core.specs.Programs.Prog.{done, exit, act, go, inside, call, wait}
 use Rattle.tcl_core.specs.Runs.{carried, reached, entering, fits}

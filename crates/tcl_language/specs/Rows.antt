@@ -1,10 +1,10 @@
 -- Worked scripts, each run in a new interpreter.
-use Rattle.std.specs.Prelude.{◌≡◌, ℕ, ℤ, pos, Bool, true, false, List, [], ◌∷◌, ◌++◌, Option, Some, None, codes}
+use Rattle.std.specs.Prelude.{◌≡◌, ℕ, pos, true, false, List, [], ◌∷◌, Option, Some, None, codes}
 use Rattle.tcl_core.specs.Paths.{Text}
-use Rattle.tcl_core.specs.Endings.{Completion, Reply, ok, error}
+use Rattle.tcl_core.specs.Endings.{Reply, ok, error}
 use Rattle.tcl_core.specs.Endings.Reply.{Completed, Exit}
 use Rattle.tcl_core.specs.Entries.Entry.{Eval}
-use Rattle.tcl_core.specs.Trees.{Node, Tree}
+use Rattle.tcl_core.specs.Trees.{Node}
 use Rattle.tcl_text.specs.declared.integer.Integers.TheVariants.{Tcl8}
 use Rattle.tcl_tree.specs.Own.{Own, new_own}
 use Rattle.tcl_language.specs.Language.{language}

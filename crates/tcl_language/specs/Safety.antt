@@ -1,7 +1,6 @@
 -- What the commands keep to in a safe interpreter.
-use Rattle.std.specs.Prelude.{◌≡◌, Bool, true, false, not, ◌&&◌, List, [], ◌∷◌}
+use Rattle.std.specs.Prelude.{Bool, true, false, not, ◌&&◌, [], ◌∷◌}
 use Rattle.tcl_core.specs.Paths.{Place}
-use Rattle.tcl_core.specs.Entries.{Entry}
 use Rattle.tcl_core.specs.Tables.{Keeps_to, exposes, sets_limit, hostless, unlimiting}
 use Rattle.tcl_text.specs.declared.integer.Integers.{Integers}
 use Rattle.tcl_tree.specs.Own.{Own, CommandMap}

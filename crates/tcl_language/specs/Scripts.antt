@@ -1,7 +1,7 @@
 -- What a script, a command and a word mean.
-use Rattle.std.specs.Prelude.{ℕ, Bool, true, false, List, [], ◌∷◌, ◌++◌, Option, Some, None, Result, Ok, Err, codes}
+use Rattle.std.specs.Prelude.{Bool, true, false, List, [], ◌∷◌, ◌++◌, Option, Some, None, codes}
 use Rattle.tcl_core.specs.Paths.{Text}
-use Rattle.tcl_core.specs.Endings.{Completion, ok, error}
+use Rattle.tcl_core.specs.Endings.{ok}
 use Rattle.tcl_core.specs.Programs.Act.{Charge}
 use Rattle.tcl_core.specs.Programs.Wrap.{Deeper}
 use Rattle.tcl_core.specs.Programs.Prog.{done, act, go, inside}
@@ -14,7 +14,7 @@ use Rattle.tcl_parser.specs.Reading.{read_script}
 use Rattle.tcl_parser.specs.Faults.{message_of}
 use Rattle.tcl_text.specs.Lists.{list_of}
 use Rattle.tcl_text.specs.Writing.{fault_message}
-use Rattle.tcl_language.specs.Instructions.{Open, Instr, Program, fails, grown, on_ok, or_fails, look}
+use Rattle.tcl_language.specs.Instructions.{Open, Program, fails, grown, on_ok, or_fails, look}
 use Rattle.tcl_language.specs.Instructions.Instr.{Script, Commands, Words, Parts, Call}
 use Rattle.tcl_language.specs.Faults.{frame_message}
 

@@ -1,12 +1,11 @@
 -- The commands that read and change variables.
-use Rattle.std.specs.Prelude.{ℕ, zero, suc, ℤ, pos, negsuc, Bool, true, false, List, [], ◌∷◌, ◌++◌, Option, Some, None, Result, Ok, Err, codes, ◌==◌, ◌+ℤ◌, ◌-◌, nat_le, cond}
+use Rattle.std.specs.Prelude.{ℕ, ℤ, pos, negsuc, Bool, true, false, List, [], ◌∷◌, ◌++◌, Option, Some, None, Result, Ok, Err, codes, ◌==◌, ◌+ℤ◌, ◌-◌, nat_le, cond}
 use Rattle.std.specs.Fmt.{signed_decimal}
 use Rattle.std.specs.Str.{bytes_eq}
 use Rattle.tcl_core.specs.Paths.{Text}
-use Rattle.tcl_core.specs.Endings.{Completion, ok}
-use Rattle.tcl_core.specs.Programs.Wrap.{Framed}
-use Rattle.tcl_core.specs.Programs.Prog.{done, go, inside}
-use Rattle.tcl_frames.specs.Chain.{Chain, read, exists_at, after_set, after_unset, after_link, set_aside, brought_back, names_of, words_at}
+use Rattle.tcl_core.specs.Endings.{ok}
+use Rattle.tcl_core.specs.Programs.Prog.{done}
+use Rattle.tcl_frames.specs.Chain.{Chain, read, after_set, after_unset, after_link}
 use Rattle.tcl_variables.specs.Names.{name_of, Name}
 use Rattle.tcl_frames.specs.Places.{current}
 use Rattle.tcl_variables.specs.declared.fault.FrameFault.{FrameFault}

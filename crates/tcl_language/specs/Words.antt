@@ -1,5 +1,5 @@
 -- Words put together into a script.
-use Rattle.std.specs.Prelude.{ℕ, Bool, true, false, List, [], ◌∷◌, ◌++◌, ◌==◌, cond, not, ◌&&◌, nat_le}
+use Rattle.std.specs.Prelude.{Bool, true, false, List, [], ◌∷◌, ◌++◌, ◌==◌, cond, ◌&&◌, nat_le}
 use Rattle.tcl_core.specs.Paths.{Text}
 use Rattle.tcl_text.specs.Numbers.{trim_start, trim_end}
 
