@@ -60,4 +60,5 @@ rows = record {
   padded = refl;
   no_child_given_away = refl;
   deleted_by_name = refl;
+  hidden_by_name = refl;
 }

@@ -79,3 +79,4 @@ pub record AreRows : Type 0 where
   pub padded : Gives (codes "foreach {a b} {1 2 3} {set l [list $a $b]}; set l") (codes "3 {}")
   pub no_child_given_away : Fails (codes "interp create c; rename c d") (codes "\"c\" already exists")
   pub deleted_by_name : Gives (codes "interp create c; rename c {}; interp exists c") (codes "0")
+  pub hidden_by_name : Gives (codes "interp hide {} append; catch {append a b} m; set m") (codes "invalid command name \"append\"")
