@@ -20,7 +20,7 @@ use tcl_parser::script::{Command, Part, Script, Word};
 use tcl_run::failure::too_deep;
 use tcl_run::interruption::Interruption;
 use tcl_run::outside::Outside;
-use tcl_run::steps::{charge, on_ok, read_variable};
+use tcl_run::steps::{charge, known_short, on_ok, read_variable};
 use tcl_text::text::Text;
 use tcl_tree::tree::{Place, Tree};
 use tcl_value::value::Value;
@@ -137,7 +137,10 @@ fn eval_lone_part<O: Outside>(
     match part {
         Part::Literal(text) => within(alloc, text.clone()?),
         Part::Variable(name) => read_variable(tree, alloc, place, name),
-        Part::Script(script) => { on_ok(eval_script(tree, alloc, outside, place, script.as_str())) }
+        Part::Script(script) => {
+            let value = on_ok(eval_script(tree, alloc, outside, place, script.as_str()))?;
+            Ok(known_short(value))
+        }
         Part::Element(_) => Ok(Value::empty()),
         Part::EndElement => Ok(Value::empty()),
     }

@@ -1,9 +1,10 @@
 //! The steps that evaluations are put together from.
-ghost use Rattle.std.specs.Prelude.{◌≡◌, Some, None, Err, IfOk, IfErr, OnOk};
+ghost use Rattle.std.specs.Prelude.{◌≡◌, true, Some, None, Err, IfOk, IfErr, OnOk};
 ghost use Rattle.tcl_core.specs.Paths.{Path};
 ghost use Rattle.tcl_core.specs.Trees as core;
 ghost use Rattle.tcl_frames.specs.Chain.{read};
 ghost use Rattle.tcl_language.specs.Faults.{frame_message};
+ghost use Rattle.tcl_language.specs.Instructions.{fits};
 ghost use Rattle.tcl_core.specs.Programs.{blocked, is_spent};
 ghost use Rattle.tcl_core.specs.Trees.{effect};
 ghost use Rattle.tcl_core.specs.Trees.What.{Charged};
@@ -63,6 +64,17 @@ pub fn read_list(alloc: Global, value: &mut Value) -> Result<List, Interruption>
     }
 }
 
+/// A value, of which it is told that its text is within the limit.
+pub fn known_short(value: Value) -> Value
+    ensures same { result ≡ value }
+    ensures short { fits value ≡ true }
+{
+    if value.text_len() > 16777216 {
+        return Value::empty();
+    }
+    value
+}
+
 /// The value of the variable of this name.
 pub fn read_variable(
     tree: &Tree,
@@ -70,13 +82,14 @@ pub fn read_variable(
     place: Place,
     name: &Text,
 ) -> Result<Value, Interruption>
-    ensures { (p : Path) (n : core.Node Own) → Names tree.now place p → tree_of tree.now p ≡ Some n → Gave frame_message (read n.own.chain.frames name.now) result }
+    ensures read { (p : Path) (n : core.Node Own) → Names tree.now place p → tree_of tree.now p ≡ Some n → Gave frame_message (read n.own.chain.frames name.now) result }
+    ensures short { IfOk result (λ value. fits value ≡ true) }
 {
     let Some(frames) = tree.frames_seen(place) else {
         return Err(Interruption::Memory);
     };
     match frames.get(name) {
-        Ok(value) => Ok(value.clone()?),
+        Ok(value) => Ok(known_short(value.clone()?)),
         Err(error) => Err(frame_failure(alloc, error)),
     }
 }
