@@ -65,6 +65,12 @@ module _ {A : Type 0} where
   one_item (y ∷ []) x h k e = ap (λ z. z ∷ []) (sym e)
   one_item (y ∷ z ∷ zs) x h k e = absurd (omega arith)
 
+  pub two_items : (xs : List A) (x y : A) → 2 ≤ length xs → length xs < 3 → x ≡ get_or xs 0 x → y ≡ get_or xs 1 y → xs ≡ x ∷ y ∷ []
+  two_items [] x y h k e d = absurd (omega arith)
+  two_items (a ∷ []) x y h k e d = absurd (omega arith)
+  two_items (a ∷ b ∷ []) x y h k e d = ap (λ z. z ∷ b ∷ []) (sym e) ∙ ap (λ z. x ∷ z ∷ []) (sym d)
+  two_items (a ∷ b ∷ c ∷ cs) x y h k e d = absurd (omega arith)
+
   pub item_on : (xs : List A) (i : ℕ) (x : A) → i < length xs → x ≡ get_or xs i x → drop i xs ≡ x ∷ drop (i + 1) xs
   item_on xs i x h e = drop-cons xs i x h ∙ ap (λ z. z ∷ drop (suc i) xs) (sym e) ∙ ap (λ j. x ∷ drop j xs) (sym (add-one i))
 

@@ -3,4 +3,5 @@
 
 mod commands;
 pub mod evaluation;
+mod variables;
 mod words;

@@ -1,3 +1,4 @@
 pub mod Leads
 pub mod Endings
 pub mod Steady
+pub mod Plain

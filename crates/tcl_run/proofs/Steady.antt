@@ -1,11 +1,12 @@
 -- What stays as it is while an evaluation goes on.
 use Rattle.std.proofs.Common.{◌≡◌, ℕ, suc, pred, ◌+◌, ◌-◌, ◌<◌, ◌≤◌, Bool, true, false, List, [], ◌∷◌, Option, Some, None, refl, sym, ap, subst, ◌∙◌, arith, append-nil}
+use Rattle.std.specs.Prelude.{is_some}
 use Rattle.std.specs.Option.{option_map}
 use Rattle.std.proofs.lemmas.Bool.Decides.{nat_tests}
 use Rattle.tcl_core.specs.Paths.{Path, Place, strip}
 use Rattle.tcl_core.specs.Trees.{Tree, Node, effect, at_end, where_some, with_own, counted, deeper, shallower}
 use Rattle.tcl_core.specs.Trees.What.{Changed, Charged, Nested, Unnested}
-use Rattle.tcl_core.proofs.PathLaws.{strip_own, not_both}
+use Rattle.tcl_core.proofs.PathLaws.{strip_own, strip-sound, not_both}
 use Rattle.tcl_core.specs.Programs.{blocked, is_deep, nearer, full_at}
 use Rattle.tcl_tree.specs.Own.{Own}
 use Rattle.tcl_tree.specs.TreeOf.{tree_of, key_of, marks_of, Names}
@@ -161,3 +162,20 @@ nested_steady s t u v p n top m1 k1 e1 h m2 k2 e2 =
       top = back_again (tree_of s) (tree_of t) (tree_of u) (tree_of v) p [] e1 e2 h.top;
       bounded = λ b. subst (λ (x : ℕ). x ≤ 1000) (sym (limit_back (tree_of u) (tree_of v) p e2)) (h.bounded (subst (λ (x : ℕ). x ≤ 1000) (sym (limit_kept (tree_of s) (tree_of t) p e1)) b));
     }
+
+-- an own part that becomes what it was leaves the tree as it was
+pub changed_same : (T : Tree Own) (p : Path) (n : Node Own) → T p ≡ Some n → effect p (Changed n.own) T ≡ T
+changed_same T p n there = λ i q. at_place q i
+  where
+    by : (q : Path) (s : Option Path) → strip p q ≡ s → at_end s (with_own n.own) (T q) ≡ T q
+    by q None e = refl
+    by q (Some []) e = ap (with_own n.own) (ap T (strip-sound p q [] e ∙ append-nil p) ∙ there) ∙ sym (ap T (strip-sound p q [] e ∙ append-nil p) ∙ there)
+    by q (Some (x ∷ xs)) e = refl
+
+    at_place : (q : Path) → effect p (Changed n.own) T q ≡ T q
+    at_place q = by q (strip p q) refl
+
+-- an interpreter whose key a place has
+pub stands : {A : Type 0} (o : Option A) → is_some o ≡ true → (a : A) × (o ≡ Some a)
+stands None e = let x : false ≡ true = e in cc
+stands (Some a) e = (a, refl)

@@ -1,5 +1,5 @@
 -- How a run goes through the table of interpreters.
-use Rattle.std.specs.Prelude.{◌≡◌, ℕ, ◌<◌, ◌≤◌, ◌-◌, List, [], Option, Some, None, Result}
+use Rattle.std.specs.Prelude.{◌≡◌, ℕ, ◌<◌, ◌≤◌, ◌-◌, List, [], Option, Some, None, Result, Ok, Err}
 use Rattle.std.specs.Option.{option_map}
 use Rattle.tcl_core.specs.Paths.{Place, Path}
 use Rattle.tcl_core.specs.Endings.{Reply}
@@ -8,13 +8,16 @@ use Rattle.tcl_core.specs.Endings.Meter.{Count}
 use Rattle.tcl_core.specs.Programs.{blocked, is_spent}
 use Rattle.tcl_core.specs.Programs as programs
 use Rattle.tcl_core.specs.Threads.{Threads, Crossings}
-use Rattle.tcl_core.specs.Trees.{Tree, Node, Event}
+use Rattle.tcl_core.specs.Trees.{Tree, Node, Event, effect}
+use Rattle.tcl_core.specs.Trees.What.{Changed}
+use Rattle.tcl_frames.specs.Chain.{Chain}
+use Rattle.tcl_variables.specs.declared.fault.FrameFault.{FrameFault}
 use Rattle.tcl_tree.specs.Own.{Own}
 use Rattle.tcl_tree.specs.TreeOf.{tree_of, key_of, marks_of, Names}
 use Rattle.tcl_tree.specs.declared.tree.Tree as table
 use Rattle.tcl_tree.specs.declared.tree.Place as table_place
 use Rattle.tcl_text.specs.declared.integer.Integers.{Integers}
-use Rattle.tcl_language.specs.Instructions.{Instr, Program}
+use Rattle.tcl_language.specs.Instructions.{Instr, Program, with_chain}
 use Rattle.tcl_language.specs.Language.{language}
 use Rattle.tcl_run.specs.Ends.{IfEnded}
 use Rattle.tcl_run.specs.declared.interruption.Interruption.{Interruption}
@@ -97,3 +100,8 @@ Evaluates goes old o place program new z result = IfEnded result (λ r. (p : Pat
 -- the same, wherever the place is
 abbrev pub EvaluatesAt : {S : Type 0} → (S → Event Own → S → Type 0) → table.Tree → S → table_place.Place → (Integers → Program) → table.Tree → S → Result (List ℕ) Interruption → Type 0
 EvaluatesAt goes old o place program new z result = IfEnded result (λ r. (p : Path) (style : Integers) → IsThere old place p style → Comes goes (language style) (tree_of old) o p (program style) (tree_of new) z r)
+
+-- the own part at p has another chain, where there is one
+abbrev pub Rechained : Tree Own → Place → Own → Result Chain FrameFault → Tree Own → Type 0
+Rechained T p own (Ok chain) U = U ≡ effect p (Changed (with_chain own chain)) T
+Rechained T p own (Err f) U = ⊥

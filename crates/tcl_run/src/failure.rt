@@ -1,12 +1,13 @@
 //! The errors of scripts.
-ghost use Rattle.std.specs.Prelude.{◌≡◌};
+ghost use Rattle.std.specs.Prelude.{◌≡◌, ◌++◌, [], codes, IfOk};
+ghost use Rattle.tcl_language.specs.Faults as faults;
 ghost use Rattle.tcl_core.specs.Endings as core;
 ghost use Rattle.tcl_core.specs.Endings.Reply.{Completed};
 ghost use Rattle.tcl_language.specs.Instructions as language;
 ghost use Rattle.tcl_run.specs.Ends.{Interrupts, failing, too_deep_at};
 
 use crate::interruption::Interruption;
-use std::alloc::Global;
+use std::alloc::{AllocError, Global};
 use tcl_flow::completion;
 use tcl_flow::stop::{Stop, StopKind};
 use tcl_text::text::Text;
@@ -56,4 +57,47 @@ pub fn too_deep(alloc: Global, levels: usize) -> Interruption
         Ok(completion) => Interruption::Completed(completion),
         Err(_) => Interruption::Memory,
     }
+}
+
+// A front, a text in quotes and an end.
+fn quoted(alloc: Global, front: &str, text: &str, end: &str) -> Result<Text, AllocError>
+    ensures { IfOk result (λ made. made ≡ faults.quoted front.now text.now end.now) }
+{
+    let mut made = String::from_str(alloc, front)?;
+    made.push_str(" \"")?;
+    made.push_str(text)?;
+    made.push_str("\"")?;
+    made.push_str(end)?;
+    Text::from_string(alloc, made)
+}
+
+/// The error of a message that quotes a text.
+fn failure_about(alloc: Global, front: &str, text: &str) -> Interruption
+    ensures { Interrupts result (λ e. e ≡ Completed (failing (faults.quoted front.now text.now []))) }
+{
+    match quoted(alloc, front, text, "") {
+        Ok(message) => failure(alloc, message),
+        Err(_) => Interruption::Memory,
+    }
+}
+
+/// The words of a command don't have its form.
+pub fn wrong_args(alloc: Global, form: &str) -> Interruption
+    ensures { Interrupts result (λ e. e ≡ Completed (failing (faults.wrong_args form.now))) }
+{
+    failure_about(alloc, "wrong # args: should be", form)
+}
+
+/// There is no such command.
+pub fn invalid_command(alloc: Global, name: &str) -> Interruption
+    ensures { Interrupts result (λ e. e ≡ Completed (failing (faults.invalid_command name.now))) }
+{
+    failure_about(alloc, "invalid command name", name)
+}
+
+/// Nothing may have this name.
+pub fn bad_name(alloc: Global, name: &str) -> Interruption
+    ensures { Interrupts result (λ e. e ≡ Completed (failing (faults.bad_name name.now))) }
+{
+    failure_about(alloc, "bad name", name)
 }

@@ -1,17 +1,17 @@
 //! The steps that evaluations are put together from.
-ghost use Rattle.std.specs.Prelude.{◌≡◌, true, Some, None, Err, IfOk, IfErr, OnOk};
+ghost use Rattle.std.specs.Prelude.{◌≡◌, true, Some, None, Err, IfOk, IfErr, OnOk, OnErr};
 ghost use Rattle.tcl_core.specs.Paths.{Path};
 ghost use Rattle.tcl_core.specs.Trees as core;
-ghost use Rattle.tcl_frames.specs.Chain.{read};
+ghost use Rattle.tcl_frames.specs.Chain.{read, after_set};
 ghost use Rattle.tcl_language.specs.Faults.{frame_message};
 ghost use Rattle.tcl_language.specs.Instructions.{fits};
 ghost use Rattle.tcl_core.specs.Programs.{blocked, is_spent};
 ghost use Rattle.tcl_core.specs.Trees.{effect};
 ghost use Rattle.tcl_core.specs.Trees.What.{Charged};
-ghost use Rattle.tcl_run.specs.Runs.{IsLevel, StopsCounting};
+ghost use Rattle.tcl_run.specs.Runs.{IsLevel, StopsCounting, Rechained};
 ghost use Rattle.tcl_tree.specs.Own.{Own};
 ghost use Rattle.tcl_tree.specs.TreeOf.{tree_of, Names};
-ghost use Rattle.tcl_run.specs.Ends.{Interrupts, Gave, Stays, IsText, Tells, ListTells};
+ghost use Rattle.tcl_run.specs.Ends.{Interrupts, Gave, Stays, IsText, Tells, ListTells, IsFailure};
 ghost use Rattle.tcl_text.specs.Lists.{list_of};
 ghost use Rattle.tcl_text.specs.Writing.{fault_message};
 
@@ -126,5 +126,28 @@ pub fn charge(tree: &mut Tree, place: Place) -> Result<(), Interruption>
             levels_up: levels,
             kind: StopKind::Count,
         })),
+    }
+}
+
+/// Sets the variable of this name.
+pub fn write_variable(
+    tree: &mut Tree,
+    alloc: Global,
+    place: Place,
+    name: &Text,
+    value: Value,
+) -> Result<(), Interruption>
+    requires { (p : Path) × Names tree.old place p }
+    ensures written { OnOk result ((p : Path) (n : core.Node Own) → Names tree.old place p → tree_of tree.old p ≡ Some n → Rechained (tree_of tree.old) p n.own (after_set n.own.chain name.now value) (tree_of tree.new)) }
+    ensures refused { IfErr result (λ i. Interrupts i (λ e. (p : Path) (n : core.Node Own) → Names tree.old place p → tree_of tree.old p ≡ Some n → IsFailure frame_message (after_set n.own.chain name.now value) e)) }
+    ensures unchanged { OnErr result (tree_of tree.new ≡ tree_of tree.old) }
+    ensures level { IsLevel tree.old tree.new }
+{
+    let Some(frames) = tree.frames_of(place) else {
+        return Err(Interruption::Memory);
+    };
+    match frames.set(alloc, name, value) {
+        Ok(()) => Ok(()),
+        Err(error) => Err(frame_failure(alloc, error)),
     }
 }
