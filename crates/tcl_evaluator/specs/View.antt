@@ -1,5 +1,5 @@
 -- What contracts see of words that are put together.
-use Rattle.std.specs.Prelude.{◌≡◌, ◌⊎◌, ◌≤◌, length, ℕ, Bool, true, false, List, [], ◌∷◌, ◌++◌, reverse, map, Result, Ok, Err}
+use Rattle.std.specs.Prelude.{◌≡◌, ◌⊎◌, Option, Some, None, ◌≤◌, length, ℕ, Bool, true, false, List, [], ◌∷◌, ◌++◌, reverse, map, Result, Ok, Err}
 use Rattle.std.specs.String.{string_bytes}
 use Rattle.tcl_core.specs.Paths.{Path}
 use Rattle.tcl_core.specs.Trees.{Tree, Node, Event}
@@ -13,6 +13,7 @@ use Rattle.tcl_run.specs.Ends.{IsFailure}
 use Rattle.tcl_language.specs.Instructions.{Program, Open, fits, too_long}
 use Rattle.tcl_language.specs.Language.{language}
 use Rattle.tcl_language.specs.Scripts.{parts, element_text}
+use Rattle.tcl_language.specs.Control.{fit_all}
 use Rattle.tcl_parser.specs.declared.script.Part.{Part}
 use Rattle.tcl_run.specs.Runs.{Comes, IsAt}
 use Rattle.tcl_text.specs.declared.integer.Integers.{Integers}
@@ -23,6 +24,7 @@ use Rattle.tcl_tree.specs.declared.tree.Place.{Place}
 use Rattle.tcl_text.specs.Lists.{list_of}
 use Rattle.tcl_text.specs.declared.list.ListFault.{ListFault}
 use Rattle.tcl_evaluator.specs.declared.words.OpenElement.{OpenElement}
+use Rattle.tcl_evaluator.specs.declared.procedures.Binding.{Binding}
 
 -- the elements that are open, the innermost first
 abbrev pub open_of : OpenElement → Open
@@ -79,3 +81,31 @@ ClosesBy n (x ∷ xs) key e = IsFailure frame_message (read n.own.chain.frames (
 -- What may come from there may come from here.
 abbrev pub Leads : {S : Type 0} → (S → Event Own → S → Type 0) → Integers → Tree Own → S → Path → Program → Tree Own → S → Program → Type 0
 Leads {S} goes style T o p x U u y = (V : Tree Own) (z : S) (r : Reply) → Comes goes (language style) U u p y V z r → Comes goes (language style) T o p x V z r
+
+-- names with what they are bound to
+abbrev pub pair_of : Binding → List ℕ × List ℕ
+pair_of b = (b.name, b.value)
+
+abbrev pub pairs_of : List Binding → List (List ℕ × List ℕ)
+pairs_of bs = map pair_of bs
+
+-- these bindings, and then others
+abbrev pub joined : List (List ℕ × List ℕ) → Option (List (List ℕ × List ℕ)) → Option (List (List ℕ × List ℕ))
+joined before None = None
+joined before (Some rest) = Some (before ++ rest)
+
+-- the next word or the default, and the words behind it
+abbrev pub next_bound : Option (List ℕ) → List (List ℕ) → Option (List ℕ × List (List ℕ))
+next_bound default (word ∷ words) = Some (word, words)
+next_bound None [] = None
+next_bound (Some default) [] = Some (default, [])
+
+-- what was found is what the definition says, and fits
+abbrev pub Bound : Option (List (List ℕ × List ℕ)) → Option (List (List ℕ × List ℕ)) → Type 0
+Bound None given = given ≡ None
+Bound (Some bs) given = (given ≡ Some bs) × (fit_all bs ≡ true)
+
+-- a bound list is too long
+abbrev pub TooLongBound : Option (List (List ℕ × List ℕ)) → Reply → Type 0
+TooLongBound None e = ⊥
+TooLongBound (Some bs) e = (fit_all bs ≡ false) × (e ≡ Completed too_long)

@@ -3,5 +3,6 @@
 
 mod commands;
 pub mod evaluation;
+mod procedures;
 mod variables;
 mod words;

@@ -1,0 +1,143 @@
+//! Calls of procedures.
+ghost use Rattle.std.specs.Prelude.{◌≡◌, ◌++◌, ◌∷◌, [], true, false, IfOk, IfErr, OnOk, Some, None, option_map};
+ghost use Rattle.tcl_core.specs.Endings.Reply.{Completed};
+ghost use Rattle.tcl_core.specs.Paths.{Path};
+ghost use Rattle.tcl_core.specs.Trees as core;
+ghost use Rattle.tcl_core.specs.Trees.{effect};
+ghost use Rattle.tcl_core.specs.Trees.What.{Changed};
+ghost use Rattle.tcl_language.specs.Control.{last_bound, bindings, bound, in_frame, out_of_frame, fit_all, parameter_form, last_form, parameters_form, proc_form, is_rest};
+ghost use Rattle.tcl_language.specs.Instructions.{too_long as too_long_error, fits};
+ghost use Rattle.tcl_run.specs.Ends.{Interrupts};
+ghost use Rattle.tcl_run.specs.Runs.{IsLevel};
+ghost use Rattle.tcl_tree.specs.Own.{Own};
+ghost use Rattle.tcl_tree.specs.TreeOf.{tree_of, Names};
+ghost use Rattle.tcl_evaluator.specs.View.{pairs_of, joined, next_bound, Bound, TooLongBound};
+
+use std::alloc::{AllocError, Global};
+use tcl_frames::frames::Frames;
+use tcl_run::failure::too_long;
+use tcl_run::interruption::Interruption;
+use tcl_run::steps::known_short;
+use tcl_text::text::Text;
+use tcl_tree::parameter::Parameter;
+use tcl_tree::tree::{Place, Tree};
+use tcl_value::list::List;
+use tcl_value::value::Value;
+use tcl_variables::fault::FrameError;
+
+/// What a parameter is bound to in a call.
+#[derive(Drop)]
+pub struct Binding {
+    pub name: Text,
+    pub value: Value,
+}
+
+/// Sets the variables of these names in the frame on top. A name that can't be set is left out.
+fn bind_all(
+    frames: &mut Frames,
+    alloc: Global,
+    bindings: &[Binding],
+) -> Result<(), Interruption>
+    ensures { OnOk result (frames.new ≡ bound (pairs_of bindings.now) frames.old) }
+{
+    'bindings: for binding in bindings {
+        match frames.set(alloc, &binding.name, binding.value.clone()?) {
+            Ok(()) => {}
+            Err(FrameError::Fault(_)) => {}
+            Err(FrameError::Memory) => return Err(Interruption::Memory),
+        }
+    }
+    Ok(())
+}
+
+/// Puts a frame with these words and variables on top.
+fn enter_frame(
+    tree: &mut Tree,
+    alloc: Global,
+    place: Place,
+    words: Vec<Value>,
+    bindings: &[Binding],
+) -> Result<(), Interruption>
+    requires { (p : Path) × Names tree.old place p }
+    ensures entered { OnOk result ((p : Path) (n : core.Node Own) → Names tree.old place p → tree_of tree.old p ≡ Some n → tree_of tree.new ≡ effect p (Changed (in_frame words.items (pairs_of bindings.now) n.own)) (tree_of tree.old)) }
+    ensures level { IsLevel tree.old tree.new }
+{
+    let Some(frames) = tree.frames_of(place) else {
+        return Err(Interruption::Memory);
+    };
+    frames.push(alloc, words)?;
+    bind_all(frames, alloc, bindings)
+}
+
+/// Takes the frame on top off.
+fn leave_frame(tree: &mut Tree, place: Place)
+    requires { (p : Path) × Names tree.old place p }
+    ensures left { (p : Path) (n : core.Node Own) → Names tree.old place p → tree_of tree.old p ≡ Some n → tree_of tree.new ≡ effect p (Changed (out_of_frame n.own)) (tree_of tree.old) }
+    ensures level { IsLevel tree.old tree.new }
+{
+    match tree.frames_of(place) {
+        Some(frames) => frames.pop(),
+        None => unreachable!(),
+    }
+}
+
+/// What the parameters of a call are bound to, from the left: a word, or the default where none is left. A last `args` takes the list of
+/// what is left. None where words are too few or too many. (proc(n))
+fn bind(
+    alloc: Global,
+    parameters: &[Parameter],
+    args: &[Value],
+) -> Result<Option<Vec<Binding>>, Interruption>
+    ensures bound { IfOk result (λ found. Bound (option_map (λ v. pairs_of v.items) found) (bindings parameters.now args.now)) }
+    ensures refused { IfErr result (λ i. Interrupts i (λ e. TooLongBound (bindings parameters.now args.now) e)) }
+{
+    let mut made = Vec::new(alloc);
+    let mut rest = parameters;
+    let mut left = args;
+    'parameters: loop {
+        match rest {
+            [] => return Ok(if left.is_empty() { Some(made) } else { None }),
+            [last] => return bind_last(alloc, made, last, left),
+            [parameter, _, ..] => {
+                let Some((value, others)) = next_value(parameter, left)? else {
+                    return Ok(None);
+                };
+                made.push(Binding {
+                    name: parameter.name.clone()?,
+                    value: known_short(value),
+                })?;
+                rest = &rest[1..];
+                left = others;
+            }
+        }
+    }
+}
+
+/// The next word, or the parameter's default where none is left, with the words behind it.
+fn next_value<'a>(
+    parameter: &Parameter,
+    left: &'a [Value],
+) -> Result<Option<(Value, &'a [Value])>, AllocError>
+    ensures { IfOk result (λ found. option_map (λ x. (x.0, x.1.now)) found ≡ next_bound parameter.now.default left.now) }
+{
+    match left {
+        [word, others @ ..] => Ok(Some((word.clone()?, others))),
+        [] => match &parameter.default {
+            Some(default) => Ok(Some((default.clone()?, left))),
+            None => Ok(None),
+        },
+    }
+}
+
+/// The bindings with that of the last parameter.
+fn bind_last(
+    alloc: Global,
+    made: Vec<Binding>,
+    parameter: &Parameter,
+    left: &[Value],
+) -> Result<Option<Vec<Binding>>, Interruption>
+    ensures bound { IfOk result (λ found. Bound (option_map (λ v. pairs_of v.items) found) (joined (pairs_of made.items) (last_bound (is_rest parameter.now.name) parameter.now left.now))) }
+    ensures refused { IfErr result (λ i. Interrupts i (λ e. TooLongBound (joined (pairs_of made.items) (last_bound (is_rest parameter.now.name) parameter.now left.now)) e)) }
+{
+    Err(Interruption::Memory)
+}
