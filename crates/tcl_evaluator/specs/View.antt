@@ -9,7 +9,11 @@ use Rattle.tcl_core.specs.Programs.Prog.{done}
 use Rattle.tcl_core.specs.Endings.{ok}
 use Rattle.tcl_frames.specs.Chain.{read}
 use Rattle.tcl_language.specs.Faults.{frame_message}
-use Rattle.tcl_run.specs.Ends.{IsFailure}
+use Rattle.tcl_core.specs.Endings.{leave_proc}
+use Rattle.tcl_flow.specs.View.{completion_of}
+use Rattle.tcl_run.specs.Ends.{IsFailure, IfEnded}
+use Rattle.tcl_run.specs.declared.interruption.Interruption.{Interruption}
+use Rattle.tcl_run.specs.declared.interruption.Interruption.TheVariants as interruption
 use Rattle.tcl_language.specs.Instructions.{Program, Open, fits, too_long}
 use Rattle.tcl_language.specs.Language.{language}
 use Rattle.tcl_language.specs.Scripts.{parts, element_text}
@@ -109,3 +113,9 @@ Bound (Some bs) given = (given ≡ Some bs) × (fit_all bs ≡ true)
 abbrev pub TooLongBound : Option (List (List ℕ × List ℕ)) → Reply → Type 0
 TooLongBound None e = ⊥
 TooLongBound (Some bs) e = (fit_all bs ≡ false) × (e ≡ Completed too_long)
+
+-- the end of a procedure's call whose body ended so
+abbrev pub LeavesProc : Result (List ℕ) Interruption → Result (List ℕ) Interruption → Type 0
+LeavesProc (Ok text) r = r ≡ Ok text
+LeavesProc (Err (interruption.Completed c)) r = IfEnded r (λ e. e ≡ Completed (leave_proc (completion_of c)))
+LeavesProc (Err i) r = r ≡ Err i

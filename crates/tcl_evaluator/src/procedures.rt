@@ -7,10 +7,12 @@ ghost use Rattle.tcl_core.specs.Trees.{effect};
 ghost use Rattle.tcl_core.specs.Trees.What.{Changed};
 ghost use Rattle.tcl_language.specs.Control.{last_bound, bindings, bound, in_frame, out_of_frame, fit_all, parameter_form, last_form, parameters_form, proc_form, is_rest};
 ghost use Rattle.tcl_language.specs.Instructions.{too_long as too_long_error, fits};
-ghost use Rattle.tcl_run.specs.Ends.{Interrupts};
+ghost use Rattle.tcl_language.specs.Faults as faults;
+ghost use Rattle.tcl_run.specs.Ends.{Interrupts, failing};
 ghost use Rattle.tcl_run.specs.Runs.{IsLevel};
 ghost use Rattle.tcl_tree.specs.Own.{Own};
 ghost use Rattle.tcl_tree.specs.TreeOf.{tree_of, Names};
+ghost use Rattle.tcl_run.specs.declared.interruption.Interruption.TheVariants.{Memory};
 ghost use Rattle.tcl_evaluator.specs.View.{pairs_of, joined, next_bound, Bound, TooLongBound};
 
 use std::alloc::{AllocError, Global};
@@ -38,7 +40,8 @@ fn bind_all(
     alloc: Global,
     bindings: &[Binding],
 ) -> Result<(), Interruption>
-    ensures { OnOk result (frames.new ≡ bound (pairs_of bindings.now) frames.old) }
+    ensures bound { OnOk result (frames.new ≡ bound (pairs_of bindings.now) frames.old) }
+    ensures memory { IfErr result (λ i. i ≡ Memory) }
 {
     'bindings: for binding in bindings {
         match frames.set(alloc, &binding.name, binding.value.clone()?) {
@@ -51,7 +54,7 @@ fn bind_all(
 }
 
 /// Puts a frame with these words and variables on top.
-fn enter_frame(
+pub fn enter_frame(
     tree: &mut Tree,
     alloc: Global,
     place: Place,
@@ -60,6 +63,7 @@ fn enter_frame(
 ) -> Result<(), Interruption>
     requires { (p : Path) × Names tree.old place p }
     ensures entered { OnOk result ((p : Path) (n : core.Node Own) → Names tree.old place p → tree_of tree.old p ≡ Some n → tree_of tree.new ≡ effect p (Changed (in_frame words.items (pairs_of bindings.now) n.own)) (tree_of tree.old)) }
+    ensures memory { IfErr result (λ i. i ≡ Memory) }
     ensures level { IsLevel tree.old tree.new }
 {
     let Some(frames) = tree.frames_of(place) else {
@@ -70,7 +74,7 @@ fn enter_frame(
 }
 
 /// Takes the frame on top off.
-fn leave_frame(tree: &mut Tree, place: Place)
+pub fn leave_frame(tree: &mut Tree, place: Place)
     requires { (p : Path) × Names tree.old place p }
     ensures left { (p : Path) (n : core.Node Own) → Names tree.old place p → tree_of tree.old p ≡ Some n → tree_of tree.new ≡ effect p (Changed (out_of_frame n.own)) (tree_of tree.old) }
     ensures level { IsLevel tree.old tree.new }
@@ -83,7 +87,7 @@ fn leave_frame(tree: &mut Tree, place: Place)
 
 /// What the parameters of a call are bound to, from the left: a word, or the default where none is left. A last `args` takes the list of
 /// what is left. None where words are too few or too many. (proc(n))
-fn bind(
+pub fn bind(
     alloc: Global,
     parameters: &[Parameter],
     args: &[Value],
@@ -140,4 +144,11 @@ fn bind_last(
     ensures refused { IfErr result (λ i. Interrupts i (λ e. TooLongBound (joined (pairs_of made.items) (last_bound (is_rest parameter.now.name) parameter.now left.now)) e)) }
 {
     Err(Interruption::Memory)
+}
+
+/// The error of a call with too few or too many words.
+pub fn wrong_form(alloc: Global, word: &Value, parameters: &[Parameter]) -> Interruption
+    ensures { Interrupts result (λ e. e ≡ Completed (failing (faults.wrong_args (proc_form word.now parameters.now)))) }
+{
+    Interruption::Memory
 }
