@@ -17,7 +17,8 @@ use Rattle.tcl_run.specs.declared.interruption.Interruption.TheVariants as inter
 use Rattle.tcl_language.specs.Instructions.{Program, Open, fits, too_long}
 use Rattle.tcl_language.specs.Language.{language}
 use Rattle.tcl_language.specs.Scripts.{parts, element_text}
-use Rattle.tcl_language.specs.Control.{fit_all}
+use Rattle.tcl_language.specs.Control.{fit_all, last_form, parameter_form}
+use Rattle.tcl_tree.specs.declared.parameter.Parameter.{Parameter}
 use Rattle.tcl_parser.specs.declared.script.Part.{Part}
 use Rattle.tcl_run.specs.Runs.{Comes, IsAt}
 use Rattle.tcl_text.specs.declared.integer.Integers.{Integers}
@@ -119,3 +120,8 @@ abbrev pub LeavesProc : Result (List ℕ) Interruption → Result (List ℕ) Int
 LeavesProc (Ok text) r = r ≡ Ok text
 LeavesProc (Err (interruption.Completed c)) r = IfEnded r (λ e. e ≡ Completed (leave_proc (completion_of c)))
 LeavesProc (Err i) r = r ≡ Err i
+
+-- a parameter in the form of its procedure, where it is the last, and where it isn't
+abbrev pub form_of : Bool → Parameter → List ℕ
+form_of true p = last_form p
+form_of false p = parameter_form p.name p.default

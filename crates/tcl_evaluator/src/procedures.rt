@@ -1,5 +1,6 @@
 //! Calls of procedures.
 ghost use Rattle.std.specs.Prelude.{◌≡◌, ◌++◌, ◌∷◌, [], true, false, IfOk, IfErr, OnOk, Some, None, option_map};
+ghost use Rattle.std.specs.String.{string_bytes};
 ghost use Rattle.tcl_core.specs.Endings.Reply.{Completed};
 ghost use Rattle.tcl_core.specs.Paths.{Path};
 ghost use Rattle.tcl_core.specs.Trees as core;
@@ -13,11 +14,11 @@ ghost use Rattle.tcl_run.specs.Runs.{IsLevel};
 ghost use Rattle.tcl_tree.specs.Own.{Own};
 ghost use Rattle.tcl_tree.specs.TreeOf.{tree_of, Names};
 ghost use Rattle.tcl_run.specs.declared.interruption.Interruption.TheVariants.{Memory};
-ghost use Rattle.tcl_evaluator.specs.View.{pairs_of, joined, next_bound, Bound, TooLongBound};
+ghost use Rattle.tcl_evaluator.specs.View.{form_of, pairs_of, joined, next_bound, Bound, TooLongBound};
 
 use std::alloc::{AllocError, Global};
 use tcl_frames::frames::Frames;
-use tcl_run::failure::too_long;
+use tcl_run::failure::{too_long, wrong_args};
 use tcl_run::interruption::Interruption;
 use tcl_run::steps::known_short;
 use tcl_text::text::Text;
@@ -150,5 +151,44 @@ fn bind_last(
 pub fn wrong_form(alloc: Global, word: &Value, parameters: &[Parameter]) -> Interruption
     ensures { Interrupts result (λ e. e ≡ Completed (failing (faults.wrong_args (proc_form word.now parameters.now)))) }
 {
-    Interruption::Memory
+    match form(alloc, word, parameters) {
+        Ok(form) => wrong_args(alloc, form.as_str()),
+        Err(_) => Interruption::Memory,
+    }
+}
+
+/// The form of a call: the name and the parameters.
+fn form(alloc: Global, word: &Value, parameters: &[Parameter]) -> Result<String, AllocError>
+    ensures { IfOk result (λ form. string_bytes form ≡ proc_form word.now parameters.now) }
+{
+    let mut form = String::new(alloc);
+    word.write_to(alloc, &mut form)?;
+    'parameters: for index in 0..parameters.len() {
+        let is_last = parameters.len() - index == 1;
+        add_form(alloc, &mut form, &parameters[index], is_last)?;
+    }
+    Ok(form)
+}
+
+/// Adds a parameter to a form.
+fn add_form(
+    alloc: Global,
+    form: &mut String,
+    parameter: &Parameter,
+    is_last: bool,
+) -> Result<(), AllocError>
+    ensures { OnOk result (string_bytes form.new ≡ string_bytes form.old ++ 32 ∷ form_of is_last parameter.now) }
+{
+    form.push_str(" ")?;
+    if is_last && parameter.name.as_str() == "args" {
+        return form.push_str("?arg ...?");
+    }
+    match &parameter.default {
+        None => form.push_str(parameter.name.as_str()),
+        Some(_) => {
+            form.push_str("?")?;
+            form.push_str(parameter.name.as_str())?;
+            form.push_str("?")
+        }
+    }
 }
