@@ -13,3 +13,5 @@ pub mod Ends
 pub mod Changed
 pub mod Dicted
 pub mod Errors
+pub mod Same
+pub mod Falling

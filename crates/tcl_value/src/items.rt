@@ -3,9 +3,10 @@ ghost use Rattle.std.specs.Prelude.{◌≡◌, ◌<◌, ◌≤◌, ◌++◌, ◌
 ghost use Rattle.std.specs.String.{string_bytes};
 ghost use Rattle.tcl_value.specs.Limits.{IsWithin, IsPast};
 ghost use Rattle.tcl_value.specs.Writing.{write};
-ghost use Rattle.tcl_value.specs.Texts.{element_text, texts, IsElement, IsInner, AreElements, weight};
+ghost use Rattle.tcl_value.specs.Texts.{element_text, texts, flat, IsElement, IsInner, AreElements, weight};
 
 use crate::element::{Element, MOST_DEPTH};
+use crate::entries::Entries;
 use crate::value::ValueError;
 use std::alloc::{AllocError, Global};
 use std::marker::Model;
@@ -135,6 +136,60 @@ impl Items {
             element.write_to(index == 0, out)?;
         }
         Ok(())
+    }
+
+    /// Whether its text is this one. This takes no memory.
+    #[cycle(compare)]
+    pub(crate) fn is_text(&self, text: &[u8]) -> bool
+        ensures { IsTrue result ↔ (text.now ≡ write self.now) }
+    {
+        let mut rest = text;
+        'elements: for (index, element) in self.elements.iter().enumerate() {
+            match element.behind(index == 0, rest) {
+                Some(behind) => rest = behind,
+                None => return false,
+            }
+        }
+        rest.is_empty()
+    }
+
+    /// Whether another list has the same elements. This takes no memory.
+    #[cycle(same)]
+    pub(crate) fn same(&self, other: &Items) -> bool
+        ensures { IsTrue result ↔ (self.now ≡ other.now) }
+    {
+        if self.len() != other.len() {
+            return false;
+        }
+        'elements: for (index, element) in self.elements.iter().enumerate() {
+            if !element.same(other.get(index)) {
+                return false;
+            }
+        }
+        true
+    }
+
+    /// Whether its elements are the keys and values of a dict in turn. This takes no memory.
+    #[cycle(same)]
+    pub(crate) fn same_entries(&self, entries: &Entries) -> bool
+        ensures { IsTrue result ↔ (self.now ≡ flat entries.now) }
+    {
+        if self.len() % 2 == 1 {
+            return false;
+        }
+        if self.len() / 2 != entries.len() {
+            return false;
+        }
+        'entries: for index in 0..entries.len() {
+            let key = entries.key(index).as_str().as_bytes();
+            if !self.get(2 * index).is_text(key) {
+                return false;
+            }
+            if !self.get(2 * index + 1).same(entries.value(index)) {
+                return false;
+            }
+        }
+        true
     }
 
     /// Its text.

@@ -1,5 +1,5 @@
 //! Values, each of which is seen as its text.
-ghost use Rattle.std.specs.Prelude.{◌≡◌, ◌≤◌, ◌<◌, ◌++◌, ◌∷◌, ◌↔◌, [], length, Ok, IfOk, OnOk, OnErr, IsErrOf, IfErr, MatchResult, IfSome, slice_set};
+ghost use Rattle.std.specs.Prelude.{◌≡◌, ◌≤◌, ◌<◌, ◌++◌, ◌∷◌, ◌↔◌, [], length, Ok, IfOk, OnOk, OnErr, IsErrOf, IfErr, MatchResult, IfSome, IsTrue, slice_set};
 ghost use Rattle.std.specs.Fmt.{signed_decimal};
 ghost use Rattle.std.specs.String.{string_bytes};
 ghost use Rattle.tcl_value.specs.Limits.{Bytes, IsWithin, IsPast};
@@ -18,6 +18,7 @@ use crate::element::Element;
 use crate::entries::Entries;
 use crate::items::Items;
 use crate::list::List;
+use itoa::Buffer;
 use std::alloc::{AllocError, AllocFailed, Global};
 use std::marker::Model;
 use std::rc::Rc;
@@ -25,6 +26,7 @@ use tcl_parser::reader::parse;
 use tcl_parser::script::Script;
 use tcl_text::integer::{IntegerFault, Integers, int_len, push_int, read_int, write_int};
 use tcl_text::list::{ListError, ListFault};
+use tcl_text::list_comparing::is_int;
 use tcl_text::text::Text;
 
 /// The most bytes of UTF-8 that a value may have.
@@ -266,6 +268,47 @@ impl Value {
             Form::List(items) => items.write_to(out),
             Form::Dict(entries) => entries.write_to(out),
         }
+    }
+
+    /// Whether its text is this one. This takes no memory.
+    pub fn is_text(&self, text: &[u8]) -> bool
+        ensures { IsTrue result ↔ (self.now ≡ text.now) }
+    {
+        match &self.form {
+            Form::Empty => text.is_empty(),
+            Form::Text(own) => own.as_str().as_bytes() == text,
+            Form::Number(n) => is_int(text, *n),
+            Form::List(items) => items.is_text(text),
+            Form::Dict(entries) => entries.is_text(text),
+        }
+    }
+
+    /// Whether its text is that of another, however each is kept. This takes no memory.
+    pub fn same(&self, other: &Value) -> bool
+        ensures { IsTrue result ↔ (self.now ≡ other.now) }
+    {
+        if self.text_len() != other.text_len() {
+            return false;
+        }
+        match (&self.form, &other.form) {
+            (Form::Empty, _) => other.is_text(b""),
+            (_, Form::Empty) => self.is_text(b""),
+            (Form::Text(text), _) => other.is_text(text.as_str().as_bytes()),
+            (_, Form::Text(text)) => self.is_text(text.as_str().as_bytes()),
+            (Form::Number(n), _) => other.is_number(*n),
+            (_, Form::Number(n)) => self.is_number(*n),
+            (Form::List(own), Form::List(items)) => own.same(items),
+            (Form::List(own), Form::Dict(entries)) => own.same_entries(entries),
+            (Form::Dict(own), Form::List(items)) => items.same_entries(own),
+            (Form::Dict(own), Form::Dict(entries)) => own.same(entries),
+        }
+    }
+
+    /// Whether its text is that of a number. This takes no memory.
+    fn is_number(&self, n: i64) -> bool
+        ensures { IsTrue result ↔ (self.now ≡ signed_decimal n) }
+    {
+        self.is_text(Buffer::new().format(n).as_bytes())
     }
 
     /// The integer that its text reads as, in a style. This takes no memory.
