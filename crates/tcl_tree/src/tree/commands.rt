@@ -1,42 +1,16 @@
 //! The commands of one interpreter.
 ghost use Rattle.std.specs.Prelude.{◌≡◌, List, ℕ, true, IfOk, IfErr, IfSome, OnOk, OnErr, Some, None, option_map};
 ghost use Rattle.std.specs.Option.{option_copied, option_and_then};
-ghost use Rattle.tcl_tree.specs.Changes.{is_child, is_alias};
+ghost use Rattle.tcl_tree.specs.Changes.{is_alias};
 ghost use Rattle.tcl_tree.specs.Nodes.{NodeView};
 
 use crate::alias::Alias;
-use crate::command::Command;
+use crate::command::{Command, is_alias, is_child};
 use crate::name::is_command_name;
 use crate::procedure::Procedure;
 use crate::refusal::Refusal;
 use crate::tree::{Place, Tree};
 use tcl_text::text::Text;
-
-// Whether the command is a child interpreter.
-pub(crate) fn is_child(command: Option<&Command>) -> bool
-    ensures { result ≡ is_child (option_copied command.entry) }
-{
-    match command {
-        Some(Command::Child) => true,
-        Some(Command::Builtin(_)) => false,
-        Some(Command::Procedure(_)) => false,
-        Some(Command::Alias(_)) => false,
-        None => false,
-    }
-}
-
-// Whether the command is an alias.
-fn is_alias(command: Option<&Command>) -> bool
-    ensures { result ≡ is_alias (option_copied command.entry) }
-{
-    match command {
-        Some(Command::Alias(_)) => true,
-        Some(Command::Builtin(_)) => false,
-        Some(Command::Procedure(_)) => false,
-        Some(Command::Child) => false,
-        None => false,
-    }
-}
 
 impl Tree {
     ghost use Rattle.tcl_tree.specs.Own.{command_in, hidden_in};

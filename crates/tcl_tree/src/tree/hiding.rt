@@ -1,39 +1,12 @@
 //! Commands that are hidden and exposed.
 ghost use Rattle.std.specs.Prelude.{◌≡◌, ◌++◌, ◌∷◌, [], List, ℕ, true, IfOk, IfErr, OnOk, OnErr, Some, None, IsSome};
-ghost use Rattle.std.specs.Str.{bytes_eq};
-ghost use Rattle.std.specs.Map.{lookup, remove_entry};
-ghost use Rattle.tcl_tree.specs.declared.command.Command.{Command};
 ghost use Rattle.tcl_tree.specs.Nodes.{NodeView};
 
-use crate::command::Commands;
+use crate::command::is_child;
+use crate::naming::move_command;
 use crate::refusal::Refusal;
 use crate::tree::Tree;
-use crate::tree::commands::is_child;
-use std::alloc::AllocError;
 use tcl_text::text::Text;
-
-// Moves a command from one map to the end of another, under a name that is free there.
-fn move_command(
-    from: &mut Commands,
-    to: &mut Commands,
-    name: &Text,
-    new_name: Text,
-) -> Result<(), AllocError>
-    requires { lookup (bytes_eq new_name) to.old.entries ≡ None }
-    ensures taken { OnOk result ((c : Command) → lookup (bytes_eq name.now) from.old.entries ≡ Some c → from.new.entries ≡ remove_entry (bytes_eq name.now) from.old.entries) }
-    ensures put { OnOk result ((c : Command) → lookup (bytes_eq name.now) from.old.entries ≡ Some c → to.new.entries ≡ to.old.entries ++ (new_name, c) ∷ []) }
-    ensures from_kept { OnErr result (from.new.entries ≡ from.old.entries) }
-    ensures to_kept { OnErr result (to.new.entries ≡ to.old.entries) }
-{
-    to.reserve(1)?;
-    match from.shift_remove(name) {
-        Some(command) => {
-            let _ = to.insert(new_name, command);
-            Ok(())
-        }
-        None => Ok(()),
-    }
-}
 
 impl Tree {
     ghost use Rattle.tcl_tree.specs.Changes.{Rewrites, with_hidden, with_exposed, MayHide, RefusesHide, MayExpose, RefusesExpose};
