@@ -68,7 +68,7 @@ pub(crate) fn move_command(
 }
 
 impl State {
-    ghost use Rattle.tcl_tree.specs.Naming.{Follows, Stays, named, cleared, renamed, removed, hidden_under, exposed_under, named_so};
+    ghost use Rattle.tcl_tree.specs.Naming.{Follows, Stays, StaysRefused, StaysSo, named, cleared, renamed, removed, hidden_under, exposed_under, named_so};
 
     fn give(&mut self, name: Text, command: Command) -> Result<(), Refusal>
         ensures done { OnOk result (Follows (λ own. named own name command) self.old self.new) }
@@ -87,7 +87,7 @@ impl State {
 
     fn clear(&mut self, name: &Text) -> Result<(), Refusal>
         ensures done { OnOk result (Follows (λ own. cleared own name.now) self.old self.new) }
-        ensures refused { IfErr result (λ e. Stays (λ own. cleared own name.now) e self.old self.new) }
+        ensures refused { IfErr result (λ e. StaysRefused (λ own. cleared own name.now) e self.old self.new) }
         ensures safe { self.new.safe ≡ self.old.safe }
     {
         if !is_alias(self.commands.get(name)) {
@@ -120,7 +120,7 @@ impl State {
 
     fn remove(&mut self, name: &Text) -> Result<(), Refusal>
         ensures done { OnOk result (Follows (λ own. removed own name.now) self.old self.new) }
-        ensures refused { IfErr result (λ e. Stays (λ own. removed own name.now) e self.old self.new) }
+        ensures refused { IfErr result (λ e. StaysRefused (λ own. removed own name.now) e self.old self.new) }
         ensures safe { self.new.safe ≡ self.old.safe }
     {
         if !self.commands.contains_key(name) {
@@ -175,7 +175,7 @@ impl State {
     /// Does this to the name of a command.
     pub(crate) fn name(&mut self, naming: Naming<'_>) -> Result<(), Refusal>
         ensures done { OnOk result (Follows (named_so naming.entry) self.old self.new) }
-        ensures refused { IfErr result (λ e. Stays (named_so naming.entry) e self.old self.new) }
+        ensures refused { IfErr result (λ e. StaysSo naming.entry e self.old self.new) }
         ensures safe { self.new.safe ≡ self.old.safe }
     {
         match naming {

@@ -10,7 +10,7 @@ use crate::tree::{Place, Tree};
 use tcl_text::text::Text;
 
 impl Tree {
-    ghost use Rattle.tcl_tree.specs.Naming.{Becomes, RefusesNaming, named, cleared, renamed, removed, hidden_under, exposed_under, named_so};
+    ghost use Rattle.tcl_tree.specs.Naming.{Becomes, Refuses, RefusesNaming, RefusesSo, named, cleared, renamed, removed, hidden_under, exposed_under, named_so};
     ghost use Rattle.tcl_tree.specs.TreeOf.{tree_of, key_of, marks_of, Names};
     ghost use Rattle.tcl_tree.specs.declared.command.Command.TheVariants as command;
 
@@ -18,7 +18,7 @@ impl Tree {
     pub(crate) fn name_at(&mut self, place: Place, naming: Naming<'_>) -> Result<(), Refusal>
         requires { (p : List (List ℕ)) × Names self.old place p }
         ensures done { OnOk result ((p : List (List ℕ)) → Names self.old place p → Becomes (tree_of self.old) (tree_of self.new) p (named_so naming.entry)) }
-        ensures refused { IfErr result (λ e. (p : List (List ℕ)) → Names self.old place p → RefusesNaming e (tree_of self.old) p (named_so naming.entry)) }
+        ensures refused { IfErr result (λ e. (p : List (List ℕ)) → Names self.old place p → RefusesSo naming.entry e (tree_of self.old) p) }
         ensures unchanged { OnErr result (tree_of self.new ≡ tree_of self.old) }
         ensures keys { (q : List (List ℕ)) → key_of self.new q ≡ key_of self.old q }
         ensures marks { marks_of self.new ≡ marks_of self.old }
@@ -71,7 +71,7 @@ impl Tree {
     pub fn clear_alias_at(&mut self, place: Place, name: &Text) -> Result<(), Refusal>
         requires { (p : List (List ℕ)) × Names self.old place p }
         ensures cleared { OnOk result ((p : List (List ℕ)) → Names self.old place p → Becomes (tree_of self.old) (tree_of self.new) p (λ own. cleared own name.now)) }
-        ensures refused { IfErr result (λ e. (p : List (List ℕ)) → Names self.old place p → RefusesNaming e (tree_of self.old) p (λ own. cleared own name.now)) }
+        ensures refused { IfErr result (λ e. (p : List (List ℕ)) → Names self.old place p → Refuses e (tree_of self.old) p (λ own. cleared own name.now)) }
         ensures unchanged { OnErr result (tree_of self.new ≡ tree_of self.old) }
         ensures keys { (q : List (List ℕ)) → key_of self.new q ≡ key_of self.old q }
         ensures marks { marks_of self.new ≡ marks_of self.old }
@@ -101,7 +101,7 @@ impl Tree {
     pub fn remove_at(&mut self, place: Place, name: &Text) -> Result<(), Refusal>
         requires { (p : List (List ℕ)) × Names self.old place p }
         ensures removed { OnOk result ((p : List (List ℕ)) → Names self.old place p → Becomes (tree_of self.old) (tree_of self.new) p (λ own. removed own name.now)) }
-        ensures refused { IfErr result (λ e. (p : List (List ℕ)) → Names self.old place p → RefusesNaming e (tree_of self.old) p (λ own. removed own name.now)) }
+        ensures refused { IfErr result (λ e. (p : List (List ℕ)) → Names self.old place p → Refuses e (tree_of self.old) p (λ own. removed own name.now)) }
         ensures unchanged { OnErr result (tree_of self.new ≡ tree_of self.old) }
         ensures keys { (q : List (List ℕ)) → key_of self.new q ≡ key_of self.old q }
         ensures marks { marks_of self.new ≡ marks_of self.old }

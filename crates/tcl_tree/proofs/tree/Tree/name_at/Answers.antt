@@ -18,12 +18,11 @@ returns-clause-done c = ok_map c.name.result c.name.ensures.done (λ h p at.
     named_write c.args.self.now.nodes _ c.args.self.now.sound p _ at _ _ (sym c.in-Some.ensures.value) c.name.ensures.safe _ h)
 
 pub returns-clause-refused : goal.returns-clause-refused
-returns-clause-refused c = err_map c.name.result c.name.ensures.refused (λ e h p at.
-    refused_naming c.args.self.now.nodes _ c.args.self.now.sound p _ at _ _ (sym c.in-Some.ensures.value) c.name.ensures.safe _ e h)
+returns-clause-refused c = err_map c.name.result c.name.ensures.refused (λ e h p at. refused_naming _ _ p _ at _ _ (sym c.in-Some.ensures.value) _ e h)
 
 pub returns-clause-unchanged : goal.returns-clause-unchanged
 returns-clause-unchanged c = err_then c.name.result c.name.ensures.refused (λ e h.
-    unnamed_write c.args.self.now.nodes _ c.args.self.now.sound c.requires.0 _ c.requires.1 _ _ (sym c.in-Some.ensures.value) c.name.ensures.safe _ e h)
+    unnamed_write c.args.self.now.nodes _ c.args.self.now.sound c.requires.0 _ c.requires.1 _ _ (sym c.in-Some.ensures.value) c.name.ensures.safe h.same)
 
 pub returns-clause-keys : goal.returns-clause-keys
 returns-clause-keys c = follow_write c.args.self.now.nodes _ c.args.self.now.sound c.requires.0 _ c.requires.1 _ _ (sym c.in-Some.ensures.value) (state_place _ _ c.name.ensures.safe)
