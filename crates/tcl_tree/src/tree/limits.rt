@@ -125,10 +125,8 @@ impl Tree {
         ensures marks { marks_of self.new ≡ marks_of self.old }
         ensures limited { tree_of self.new ≡ effect [] (Limited limit) (tree_of self.old) }
     {
-        match self.nodes.get_mut(self.root) {
-            Some(node) => node.state.limit = limit,
-            None => unreachable!(),
-        }
+        let root = self.root();
+        self.set_limit_at(root, limit);
     }
 
     /// Sets or clears the limit of steps of the interpreter that the place names, whoever asks. This takes no memory.
