@@ -5,7 +5,7 @@ use Rattle.std.proofs.lemmas.Option.{same_Some}
 use Rattle.indexmap.proofs.CallerLemmas.{insert_entry-new}
 use Rattle.tcl_tree.proofs.HeapLemmas.{clash}
 use Rattle.tcl_tree.proofs.StepLemmas.{on_ok}
-use Rattle.tcl_tree.proofs.tree.hiding.move_command.Goals as goal
+use Rattle.tcl_tree.proofs.naming.move_command.Goals as goal
 
 pub returns-in-Some-clause-put : goal.returns-in-Some-clause-put
 returns-in-Some-clause-put c = λ command e.
