@@ -1,10 +1,11 @@
 -- The list commands as functions of texts. A value that is read as a list is the list of its elements' texts.
-use Rattle.std.specs.Prelude.{ℕ, zero, suc, ◌+◌, ℤ, pos, negsuc, ◌==◌, nat_le, nat_lt, if◌then◌else◌, List, [], ◌∷◌, ◌++◌, length, reverse, take, drop, slice_index_or, Ok, Err, codes}
+use Rattle.std.specs.Prelude.{◌≡◌, ℕ, zero, suc, ◌+◌, ℤ, pos, negsuc, ◌==◌, nat_le, nat_lt, if◌then◌else◌, List, [], ◌∷◌, ◌++◌, length, reverse, take, drop, slice_index_or, Ok, Err, codes}
 use Rattle.std.specs.declared.result.Result.{Result}
 use Rattle.tcl_text.specs.declared.integer.Integers.{Integers}
 use Rattle.tcl_text.specs.declared.index.Index.{Index}
 use Rattle.tcl_text.specs.declared.index.Index.TheVariants.{Before, At, Beyond}
-use Rattle.tcl_words.specs.Outcomes.{Outcome, next}
+use Rattle.tcl_words.specs.declared.refusal.Refusal.{Refusal}
+use Rattle.tcl_words.specs.Outcomes.{Outcome, Refuses, next}
 use Rattle.tcl_words.specs.Arguments.{one_word, three_words}
 use Rattle.tcl_words.specs.Faults.{wrong_arguments, bad_count}
 use Rattle.tcl_words.specs.Words.{integer_word, index_word, list_word}
@@ -106,23 +107,40 @@ element Before l = []
 element (At n) l = slice_index_or l n []
 element Beyond l = []
 
--- what stands at an index of a list, at the next index of that, and so on
+-- what stands at an index of the list that a text reads as
+abbrev pub at_index : Integers → List ℕ → List ℕ → Outcome
+at_index style text i =
+    next (list_word text) (λ l.
+    next (index_word style (length l) i) (λ at. Ok (element at l)))
+
+-- what stands at an index, at the next index of that, and so on
 abbrev pub at_indexes : Integers → List ℕ → Texts → Outcome
 at_indexes style text [] = Ok text
-at_indexes style text (i ∷ is) =
-    next (list_word text) (λ l.
-    next (index_word style (length l) i) (λ at.
-    at_indexes style (element at l) is))
+at_indexes style text (i ∷ is) = next (at_index style text i) (λ found. at_indexes style found is)
 
--- the same for words each of which is a list of indexes
+-- the indexes of words each of which is a list of them
+abbrev pub indexes_of : Texts → Result Texts (List ℕ)
+indexes_of [] = Ok []
+indexes_of (w ∷ ws) =
+    next (list_word w) (λ is.
+    next (indexes_of ws) (λ rest. Ok (is ++ rest)))
+
+-- Words behind a list: where there are any, the list is read first, then each word as a list of indexes, and then one index after the other.
 abbrev pub at_words : Integers → List ℕ → Texts → Outcome
 at_words style text [] = Ok text
 at_words style text (w ∷ ws) =
-    next (list_word text) (λ l.
-    next (list_word w) (λ is.
-    next (at_indexes style text is) (λ found.
-    at_words style found ws)))
+    next (list_word text) (λ _.
+    next (indexes_of (w ∷ ws)) (λ is. at_indexes style text is))
 
 abbrev pub lindex_of : Integers → Texts → Outcome
 lindex_of style words =
     next (first_and_rest (codes "lindex list ?index ...?") words) (λ p. at_words style p.0 p.1)
+
+-- the list with elements behind its own; this is written anew, also where there are none
+abbrev pub lappend_of : List ℕ → Texts → Outcome
+lappend_of old words = next (list_word old) (λ l. list_value (l ++ words))
+
+-- what a change of a value returned and left: the outcome, or the value as it was and the refusal
+abbrev pub Changes : {X : Type 0} → Result X Refusal → List ℕ → List ℕ → Outcome → Type 0
+Changes (Ok x) old new outcome = outcome ≡ Ok new
+Changes (Err e) old new outcome = Refuses e outcome × (new ≡ old)

@@ -3,6 +3,8 @@
 
 pub mod building;
 pub mod commands;
+pub mod indexes;
+pub mod lengthening;
 pub mod places;
 pub mod reading;
 pub mod refusing;

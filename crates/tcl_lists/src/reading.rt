@@ -6,6 +6,7 @@ ghost use Rattle.tcl_words.specs.Words.{integer_word, index_word, list_word};
 ghost use Rattle.std.specs.Option.{option_copied};
 ghost use Rattle.tcl_lists.specs.Lists.{first_and_rest, two_and_rest, three_and_rest};
 
+use crate::refusing::no_list;
 use std::alloc::Global;
 use tcl_text::index::Index;
 use tcl_text::integer::Integers;
@@ -122,12 +123,20 @@ pub fn list_word(alloc: Global, word: &Value) -> Result<List, Refusal>
     ensures { Gives (λ list. list) result (list_word word.now) }
 {
     let mut own = word.clone()?;
+    own_list(alloc, &mut own)
+}
+
+/// The list of a value, which keeps it.
+///
+/// # Errors
+/// 101 to 104 where its text spells no list; want of memory.
+pub fn own_list(alloc: Global, own: &mut Value) -> Result<List, Refusal>
+    ensures read { Gives (λ list. list) result (list_word own.old) }
+    ensures text { own.new ≡ own.old }
+{
     match own.as_list(alloc) {
         Ok(list) => Ok(list),
-        Err(ListError::Fault(fault)) => match fault.message(alloc) {
-            Ok(text) => Err(Refusal::Fault(text)),
-            Err(_) => Err(Refusal::Memory),
-        },
+        Err(ListError::Fault(fault)) => Err(no_list(alloc, &fault)),
         Err(ListError::Memory) => Err(Refusal::Memory),
     }
 }
