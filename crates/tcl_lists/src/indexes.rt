@@ -59,6 +59,18 @@ fn push_all(made: &mut Vec<Value>, list: &List) -> Result<(), AllocError>
     Ok(())
 }
 
+/// The elements of a list.
+///
+/// # Errors
+/// Want of memory.
+pub fn elements_of(alloc: Global, list: &List) -> Result<Vec<Value>, AllocError>
+    ensures { IfOk result (λ made. made.items ≡ list.now) }
+{
+    let mut made = Vec::with_capacity(alloc, list.len())?;
+    push_all(&mut made, list)?;
+    Ok(made)
+}
+
 /// The indexes of words each of which is a list of them.
 fn indexes_of(alloc: Global, words: &[Value]) -> Result<Vec<Value>, Refusal>
     ensures { Gives (λ made. made.items) result (indexes_of words.now) }
