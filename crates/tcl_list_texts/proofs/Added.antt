@@ -10,7 +10,6 @@ use Rattle.std.proofs.lemmas.Str.{chars_past_char}
 use Rattle.std.specs.Char.{encode_utf8}
 use Rattle.tcl_list_texts.specs.Joining.{joined, with_part, gap, onto}
 
-
 pub is_nothing : (text : List ℕ) (empty : Bool) → empty ≡ (length text == 0) → empty ≡ true → text ≡ []
 is_nothing [] empty e h = refl
 is_nothing (b ∷ text) empty e h = let x : length (b ∷ text) ≡ 0 = (Decides-eqb (length (b ∷ text)) 0).0 (sym e ∙ h) in absurd (omega arith)

@@ -14,7 +14,6 @@ or_false : (b : Bool) → (b || false) ≡ true → b ≡ true
 or_false true h = h
 or_false false h = h
 
-
 step : (t : Bool) (c d : ℕ) (ds : List ℕ) (p : Parts) → (t ≡ true → c ≡ d) → joined (letter_text c) (part_texts p) ≡ text_of ds → joined (letter_text c) (part_texts (before_parts t d p)) ≡ encode_utf8 d ++ text_of ds
 step true c d ds p same e =
     ap (λ s. (s ++ text_of p.0) ++ flat_map (λ y. letter_text c ++ y) (map text_of p.1)) (append-nil (encode_utf8 c)) ∙ (append_assoc (encode_utf8 c) (text_of p.0) (flat_map (λ y. letter_text c ++ y) (map text_of p.1)) ∙ (ap (λ r. encode_utf8 c ++ r) e ∙ ap (λ x. encode_utf8 x ++ text_of ds) (same refl)))

@@ -4,3 +4,5 @@
 pub mod joining;
 pub mod laws;
 pub mod splitting;
+#[cfg(test)]
+mod tests;

@@ -8,3 +8,5 @@ pub mod lengthening;
 pub mod places;
 pub mod reading;
 pub mod refusing;
+#[cfg(test)]
+mod tests;

@@ -15,5 +15,5 @@ returns-clause-refused c = λ l.
     let part = c.trimmed-part.result.now in
     let sep : c.gap-separator.result.now ≡ gap made = c.gap-separator.ensures ∙ ap gap c.as_str.ensures.value in
     let whole : made ++ ((c.gap-separator.result.now ++ part) ++ rest) ≡ onto made (with_part (trimmed c.args.text.now) l) =
-        ap (λ (s : List ℕ). made ++ ((s ++ part) ++ rest)) sep ∙ (part_whole made part l c.is_empty.result c.is_empty.ensures c.if-is_empty.false ∙ ap (λ (t : List ℕ). onto made (with_part t l)) c.trimmed-part.ensures) in
+    ap (λ (s : List ℕ). made ++ ((s ++ part) ++ rest)) sep ∙ (part_whole made part l c.is_empty.result c.is_empty.ensures c.if-is_empty.false ∙ ap (λ (t : List ℕ). onto made (with_part t l)) c.trimmed-part.ensures) in
     subst (λ (t : List ℕ). IfErr c.add.result (λ e. Refuses {X = List ℕ} e (limited t))) whole (c.add.ensures.refused rest)
