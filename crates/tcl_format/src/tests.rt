@@ -1,5 +1,6 @@
 //! The command by example.
 use crate::command::format;
+use crate::refusal::{bad_format, not_enough};
 use crate::specifier::{Conversion, Kind, read_specifier};
 use std::alloc::{AllocError, Global};
 use std::test::Fail;
@@ -204,5 +205,17 @@ fn reads_specifiers(rt: HostRuntime) {
         && s.width == 7
         && s.precision == Some(3)
         && matches!(s.conversion, Conversion::Value(Kind::Text)));
+    assert!(rt; right);
+}
+
+#[test]
+fn tells(rt: HostRuntime) {
+    let alloc = rt.alloc();
+    let told = bad_format(alloc, "5é x", " x");
+    let right = matches!(&told, Refusal::Fault(text) if text.as_str() == "bad format \"%5é\"");
+    assert!(rt; right);
+    let told = not_enough(alloc);
+    let right =
+        matches!(&told, Refusal::Fault(text) if text.as_str() == "not enough arguments for all format specifiers");
     assert!(rt; right);
 }
