@@ -231,6 +231,7 @@ impl Tree {
         ensures dropped { OnOk result (Drops (tree_of self.old) (tree_of self.new) path.now name.now) }
         ensures refused { IfErr result (λ e. RefusesDrop e (tree_of self.old) path.now name.now) }
         ensures unchanged { OnErr result (tree_of self.new ≡ tree_of self.old) }
+        ensures kept { OnErr result ((q : List (List ℕ)) → key_of self.new q ≡ key_of self.old q) }
         ensures keys { (q : List (List ℕ)) (k : ℕ) → is_above (path.now ++ name.now ∷ []) q ≡ false → key_of self.old q ≡ Some k → key_of self.new q ≡ Some k }
         ensures marks { marks_of self.new ≡ marks_of self.old }
     {
@@ -251,6 +252,7 @@ impl Tree {
         ensures dropped { OnOk result ((p : List (List ℕ)) → Names self.old place p → Drops (tree_of self.old) (tree_of self.new) p name.now) }
         ensures refused { IfErr result (λ e. (p : List (List ℕ)) → Names self.old place p → RefusesDrop e (tree_of self.old) p name.now) }
         ensures unchanged { OnErr result (tree_of self.new ≡ tree_of self.old) }
+        ensures kept { OnErr result ((q : List (List ℕ)) → key_of self.new q ≡ key_of self.old q) }
         ensures keys { (p : List (List ℕ)) → Names self.old place p → (q : List (List ℕ)) (k : ℕ) → is_above (p ++ name.now ∷ []) q ≡ false → key_of self.old q ≡ Some k → key_of self.new q ≡ Some k }
         ensures marks { marks_of self.new ≡ marks_of self.old }
     {

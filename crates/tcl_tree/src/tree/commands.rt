@@ -110,6 +110,7 @@ impl Tree {
         ensures renamed { OnOk result (Renames (tree_of self.old) (tree_of self.new) path.now name.now new_name) }
         ensures refused { IfErr result (λ e. RefusesRename e (tree_of self.old) path.now name.now new_name) }
         ensures unchanged { OnErr result (tree_of self.new ≡ tree_of self.old) }
+        ensures kept { OnErr result ((q : List (List ℕ)) → key_of self.new q ≡ key_of self.old q) }
         ensures keys { (q : List (List ℕ)) (k : ℕ) → is_above (path.now ++ name.now ∷ []) q ≡ false → key_of self.old q ≡ Some k → key_of self.new q ≡ Some k }
         ensures marks { marks_of self.new ≡ marks_of self.old }
     {
