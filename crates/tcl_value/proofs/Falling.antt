@@ -1,9 +1,9 @@
 -- Elements are no longer than their lists, and lists with equal texts are equal.
-use Rattle.std.proofs.Common.{◌≡◌, ℕ, ◌+◌, ◌*◌, ◌<◌, ◌≤◌, suc, zero, Bool, true, false, List, [], ◌∷◌, ◌++◌, length, refl, sym, ◌∙◌, ap, arith, get_or, drop, drop-cons, add-one, length-append, Ok, not, rules}
-use Rattle.std.specs.Prelude.{◌==◌, ◌/◌, ◌%◌, IsTrue, ◌↔◌}
+use Rattle.std.proofs.Common.{◌≡◌, ℕ, ◌+◌, ◌*◌, ◌<◌, ◌≤◌, suc, zero, true, false, List, [], ◌∷◌, length, refl, sym, ◌∙◌, ap, arith, get_or, drop, drop-cons, add-one, length-append, Ok, not, rules}
+use Rattle.std.specs.Prelude.{◌/◌, ◌%◌, ◌↔◌}
 use Rattle.std.specs.Str.{bytes_eq}
 use Rattle.std.proofs.lemmas.Slice.Eq.{bytes_eq-Decides}
-use Rattle.tcl_value.specs.Writing.{write_element, write, placed, write_from}
+use Rattle.tcl_value.specs.Writing.{write_element, write, write_from}
 use Rattle.tcl_value.specs.Texts.{flat, element_text, IsElement}
 use Rattle.tcl_value.specs.declared.element.Element.{Element}
 use Rattle.tcl_value.specs.declared.element.Element.TheVariants.{Text, Number, List as Inner, Dict}

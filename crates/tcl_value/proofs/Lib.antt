@@ -15,3 +15,4 @@ pub mod Dicted
 pub mod Errors
 pub mod Same
 pub mod Falling
+pub mod Extended

@@ -1,9 +1,9 @@
 //! Lists that carry no text.
-ghost use Rattle.std.specs.Prelude.{◌≡◌, ◌<◌, ◌≤◌, ◌++◌, ◌∷◌, ◌↔◌, [], length, IfOk, OnOk, OnErr, IfErr, IsErr, IsErrOf, IsTrue, slice_index_or, slice_set};
+ghost use Rattle.std.specs.Prelude.{◌≡◌, ◌<◌, ◌≤◌, ◌++◌, ◌∷◌, ◌^◌, ◌==◌, ◌&&◌, ◌↔◌, [], length, IfOk, OnOk, OnErr, IfErr, IsErr, IsErrOf, IsTrue, slice_index_or, slice_set};
 ghost use Rattle.std.specs.String.{string_bytes};
 ghost use Rattle.tcl_value.specs.Limits.{IsWithin, IsPast};
 ghost use Rattle.tcl_value.specs.Writing.{write};
-ghost use Rattle.tcl_value.specs.Texts.{element_text, texts, flat, IsElement, IsInner, AreElements, weight};
+ghost use Rattle.tcl_value.specs.Texts.{element_text, texts, flat, IsElement, IsInner, AreElements, weight, weight_from};
 
 use crate::element::{Element, MOST_DEPTH};
 use crate::entries::Entries;
@@ -248,6 +248,29 @@ impl Items {
         Ok(())
     }
 
+    /// Adds elements at the end, all of them or none.
+    ///
+    /// # Errors
+    /// [`ValueError::TooLong`] exactly where the text would be too long for a value; want of memory.
+    pub(crate) fn extend(&mut self, elements: Vec<Element>) -> Result<(), ValueError>
+        requires { AreElements elements.items }
+        ensures extended { OnOk result (self.new ≡ self.old ++ texts elements.items) }
+        ensures within { OnOk result (IsWithin (write self.new)) }
+        ensures refused { IsErrOf result ValueError.TooLong ↔ IsPast (write (self.old ++ texts elements.items)) }
+        ensures unchanged { OnErr result (self.new ≡ self.old) }
+    {
+        let mut elements = elements;
+        let weight = self.weight + weigh_from(self.elements.is_empty(), &elements);
+        if weight > MOST_WEIGHT {
+            return Err(ValueError::TooLong);
+        }
+        let depth = self.depth.max(deepest(&elements));
+        self.elements.append(&mut elements)?;
+        self.weight = weight;
+        self.depth = depth;
+        Ok(())
+    }
+
     /// Puts an element in the place of another.
     ///
     /// # Errors
@@ -283,6 +306,35 @@ fn weigh(elements: &[Element]) -> u128
         weight += element.written_len(index == 0) as u128 + 1;
     }
     weight
+}
+
+/// What these elements add to the weight of a list, where the first of them is the list's first or not.
+fn weigh_from(first: bool, elements: &[Element]) -> u128
+    requires { AreElements elements.now }
+    ensures weight { result ≡ weight_from first (texts elements.now) }
+    ensures few { result < 2 ^ 90 }
+{
+    let mut weight = 0;
+    'elements: for (index, element) in elements.iter().enumerate() {
+        weight += element.written_len(leads(first, index)) as u128 + 1;
+    }
+    weight
+}
+
+/// Whether the element at a place of some elements is the first of the list that they end, which they begin or not.
+fn leads(first: bool, index: usize) -> bool
+    ensures { result ≡ (first && (index == 0)) }
+{
+    first && index == 0
+}
+
+/// How deep lists and dicts stand in these elements, at most.
+fn deepest(elements: &[Element]) -> u32 {
+    elements
+        .iter()
+        .map(|element| element.depth())
+        .max()
+        .unwrap_or(0)
 }
 
 impl Clone for Items {

@@ -4,7 +4,7 @@ ghost use Rattle.std.specs.Fmt.{signed_decimal};
 ghost use Rattle.std.specs.String.{string_bytes};
 ghost use Rattle.tcl_value.specs.Limits.{Bytes, IsWithin, IsPast};
 ghost use Rattle.tcl_value.specs.Writing.{write};
-ghost use Rattle.tcl_value.specs.Texts.{element_text, flat, IsElement};
+ghost use Rattle.tcl_value.specs.Texts.{element_text, texts, flat, IsElement, AreElements};
 ghost use Rattle.tcl_value.specs.Reading.{int_of, list_of};
 ghost use Rattle.tcl_text.specs.Reading.{Gives};
 ghost use Rattle.tcl_parser.specs.Reading.{read_script};
@@ -466,6 +466,29 @@ impl Value {
         Ok(())
     }
 
+    /// Adds elements to the list that it reads as, all of them or none: in place where it is kept as a list that isn't
+    /// shared.
+    ///
+    /// # Errors
+    /// [`ChangeError::List`] exactly where the text spells no list, [`ChangeError::TooLong`] exactly where the list's text
+    /// would be longer than [`MOST_BYTES`]; want of memory. Any leaves the value as it was.
+    pub fn extend(&mut self, alloc: Global, values: &[Value]) -> Result<(), ChangeError>
+        ensures extended { OnOk result (AtList (list_of self.old) (λ list. (self.new ≡ write (list ++ values.now)) × IsWithin (write (list ++ values.now)))) }
+        ensures refused { IfErr result (λ e. Refuses e (list_of self.old) (λ list. IsPast (write (list ++ values.now))) (λ _. ⊥)) }
+        ensures unchanged { OnErr result (self.new ≡ self.old) }
+    {
+        let elements = elements_of(alloc, values)?;
+        if let Form::List(items) = &mut self.form {
+            self.kept = Kept::Nothing;
+            return extend_shared(items, elements);
+        }
+        let mut list = self.as_list(alloc)?;
+        self.kept = Kept::Nothing;
+        list.extend_elements(elements)?;
+        *self = Value::from_list(alloc, list)?;
+        Ok(())
+    }
+
     /// Puts an element in the place of another in the list that it reads as: in place where it is kept as a list that
     /// isn't shared.
     ///
@@ -671,6 +694,32 @@ fn push_shared(items: &mut Rc<Items>, element: Element) -> Result<(), ChangeErro
         Ok(own) => own.push(element).map_err(ChangeError::from),
         Err(_) => Err(ChangeError::Memory),
     }
+}
+
+/// Adds elements to a list, all of them or none: in place where it isn't shared.
+fn extend_shared(items: &mut Rc<Items>, elements: Vec<Element>) -> Result<(), ChangeError>
+    requires { AreElements elements.items }
+    ensures extended { OnOk result (items.new.value ≡ items.old.value ++ texts elements.items) }
+    ensures within { OnOk result (IsWithin (write items.new.value)) }
+    ensures refused { IfErr result (λ e. Refuses e (Ok items.old.value) (λ list. IsPast (write (list ++ texts elements.items))) (λ _. ⊥)) }
+    ensures unchanged { OnErr result (items.new.value ≡ items.old.value) }
+{
+    match Rc::make_mut(items) {
+        Ok(own) => own.extend(elements).map_err(ChangeError::from),
+        Err(_) => Err(ChangeError::Memory),
+    }
+}
+
+/// Values as the elements of a list.
+fn elements_of(alloc: Global, values: &[Value]) -> Result<Vec<Element>, AllocError>
+    ensures texts { IfOk result (λ made. texts made.items ≡ values.now) }
+    ensures elements { IfOk result (λ made. AreElements made.items) }
+{
+    let mut elements = Vec::with_capacity(alloc, values.len())?;
+    'values: for value in values {
+        elements.push(value.clone()?.into_element(alloc)?)?;
+    }
+    Ok(elements)
 }
 
 /// Gives a key of a dict a value: in place where the dict isn't shared.

@@ -1,6 +1,4 @@
 use Rattle.std.proofs.Common.{◌≡◌, ◌∙◌, refl, sym, subst, ap, arith, length, ◌+◌, ◌*◌, ◌<◌, get_or, true, false}
-use Rattle.std.specs.Prelude.{◌↔◌, IsTrue}
-use Rattle.tcl_value.specs.declared.entries.Entries.TheDeep.{deep-Element}
 use Rattle.tcl_value.specs.Writing.{write}
 use Rattle.tcl_value.specs.Texts.{element_text, texts, flat, IsElement}
 use Rattle.tcl_value.proofs.Weights.{texts-get, length-texts, AreElements-get}

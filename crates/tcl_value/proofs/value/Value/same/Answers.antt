@@ -1,4 +1,4 @@
-use Rattle.std.proofs.Common.{◌≡◌, ◌∙◌, sym, ap}
+use Rattle.std.proofs.Common.{◌∙◌, sym, ap}
 use Rattle.tcl_value.specs.Writing.{write}
 use Rattle.tcl_value.specs.Texts.{flat}
 use Rattle.tcl_value.specs.Forms.{form_text}
