@@ -67,12 +67,7 @@ pub fn get(alloc: Global, words: &[Value]) -> Result<Value, Refusal>
 }
 
 /// What stands in a value at a key, and at further keys in that.
-fn at_some_keys(
-    alloc: Global,
-    value: &Value,
-    key: &Value,
-    keys: &[Value],
-) -> Result<Value, Refusal>
+fn at_some_keys(alloc: Global, value: &Value, key: &Value, keys: &[Value]) -> Result<Value, Refusal>
     ensures { Gives (λ value. value) result (at_keys value.now (key.now ∷ keys.now)) }
 {
     let found = at_key(alloc, value, key)?;
@@ -105,8 +100,7 @@ fn truth(holds: bool) -> Value
 pub fn exists(alloc: Global, words: &[Value]) -> Result<Value, Refusal>
     ensures { Gives (λ value. value) result (exists_of words.now) }
 {
-    let (value, key, keys) =
-        two_and_rest(alloc, words, "dict exists dictionary key ?key ...?")?;
+    let (value, key, keys) = two_and_rest(alloc, words, "dict exists dictionary key ?key ...?")?;
     let given = is_given(at_some_keys(alloc, value, key, keys))?;
     Ok(truth(given))
 }

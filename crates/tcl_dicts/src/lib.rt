@@ -5,3 +5,5 @@ pub mod building;
 pub mod changing;
 pub mod finding;
 pub mod reading;
+#[cfg(test)]
+mod tests;
