@@ -96,6 +96,22 @@ fn dict_is_looked_at(rt: HostRuntime) -> Result<(), Fail> {
     Ok(())
 }
 
+/// `set l {a b}; lappend l {c d} {}` and once more: the list is changed in place, and its copy stays.
+#[test]
+fn list_is_extended(rt: HostRuntime) -> Result<(), Fail> {
+    let alloc = rt.alloc();
+    let mut l = value(alloc, "a b")?;
+    let mut more = Vec::new(alloc);
+    more.push(value(alloc, "c d")?)?;
+    more.push(Value::empty())?;
+    l.extend(alloc, &more)?;
+    let copy = l.clone()?;
+    l.extend(alloc, &more)?;
+    assert_eq!(rt; l.text(alloc)?.as_str(), "a b {c d} {} {c d} {}");
+    assert_eq!(rt; copy.text(alloc)?.as_str(), "a b {c d} {}");
+    Ok(())
+}
+
 /// The same text in every form that keeps it: a text, a list and a dict, and a list of lists.
 fn in_each_form(alloc: Global) -> Result<Vec<Value>, Fail> {
     let mut values = Vec::new(alloc);
