@@ -2,4 +2,6 @@
 #![tactic(auto)]
 
 #[cfg(test)]
+mod places;
+#[cfg(test)]
 mod table;
