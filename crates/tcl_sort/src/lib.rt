@@ -3,3 +3,5 @@
 
 pub mod ordering;
 pub mod rows;
+#[cfg(test)]
+mod tests;
