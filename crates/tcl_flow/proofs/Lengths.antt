@@ -3,7 +3,7 @@ use Rattle.tcl_core.specs.Endings.{Completion, settled, error}
 use Rattle.std.specs.declared.alloc.AllocError.{AllocError}
 use Rattle.tcl_flow.specs.declared.completion.Completion.{Completion as Made}
 use Rattle.tcl_flow.specs.View.{completion_of}
-use Rattle.std.proofs.Common.{◌≡◌, ◌∙◌, sym, Result, Ok, Err, IfOk, ap, refl, ℕ, zero, suc, pos, negsuc, ◌+◌, ◌≤◌, ◌<◌, ◌^◌, ℤ, List, ◌++◌, length, length-append, FitsSigned, w64, codes, arith, lit<}
+use Rattle.std.proofs.Common.{◌≡◌, ◌∙◌, sym, Result, Ok, Err, IfOk, ap, refl, ℕ, zero, suc, pos, negsuc, ◌+◌, ◌≤◌, ℤ, List, ◌++◌, length, length-append, FitsSigned, w64, codes, arith}
 use Rattle.std.specs.Fmt.{signed_decimal}
 use Rattle.std.specs.Prelude.{MatchResult, IsErrOf}
 use Rattle.std.proofs.Common.{subst}

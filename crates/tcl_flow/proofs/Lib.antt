@@ -1,1 +1,4 @@
 pub mod Lengths
+pub mod Shorter
+pub mod Options
+pub mod Words

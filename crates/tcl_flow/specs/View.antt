@@ -1,5 +1,4 @@
 -- What contracts see of a completion.
-use Rattle.std.specs.Prelude.{ℕ, List}
 use Rattle.tcl_core.specs.Endings as core
 use Rattle.tcl_flow.specs.declared.completion.Options.{Options}
 use Rattle.tcl_flow.specs.declared.completion.Completion.{Completion}

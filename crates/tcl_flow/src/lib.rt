@@ -3,5 +3,6 @@
 
 pub mod completion;
 pub mod messages;
+pub mod reading;
 pub mod returning;
 pub mod stop;

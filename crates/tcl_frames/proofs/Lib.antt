@@ -7,3 +7,5 @@ pub mod LinkLemmas
 pub mod ChainLemmas
 pub mod NamesLemmas
 pub mod LendLemmas
+pub mod KeyLemmas
+pub mod SameChains

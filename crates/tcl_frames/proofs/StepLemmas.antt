@@ -218,7 +218,7 @@ refuses_left e fs p (Err f) h = h
 no_link_of : (a v : Variable) → IsNoLink (Some a) → ◌≡◌ {A = Result Variable FrameFault} (Ok a) (Ok v) → IsNoLink (Some v)
 no_link_of a v h e = let same : a ≡ v = cc in subst (λ w. IsNoLink (Some w)) same h
 
-assigned_plain : (r : Part) (o : Option Variable) (t x : Text) (v : Variable) → assigned r o t x ≡ Ok v → IsNoLink (Some v)
+pub assigned_plain : (r : Part) (o : Option Variable) (t x : Text) (v : Variable) → assigned r o t x ≡ Ok v → IsNoLink (Some v)
 assigned_plain whole None t x v e = no_link_of (Scalar t) v tt e
 assigned_plain whole (Some (Scalar s)) t x v e = no_link_of (Scalar t) v tt e
 assigned_plain whole (Some (Array es)) t x v e = absurd (cc)
@@ -229,7 +229,7 @@ assigned_plain (element k) (Some (Array es)) t x v e = no_link_of (Array (insert
 assigned_plain (element k) (Some (Link q)) t x v e = absurd (cc)
 assigned_plain nested o t x v e = absurd (cc)
 
-arrayed_plain : (r : Part) (o : Option Variable) (x : Text) (v : Variable) → arrayed r o x ≡ Ok v → IsNoLink (Some v)
+pub arrayed_plain : (r : Part) (o : Option Variable) (x : Text) (v : Variable) → arrayed r o x ≡ Ok v → IsNoLink (Some v)
 arrayed_plain whole None x v e = no_link_of (Array []) v tt e
 arrayed_plain whole (Some (Scalar s)) x v e = absurd (cc)
 arrayed_plain whole (Some (Array es)) x v e = no_link_of (Array es) v tt e
@@ -254,7 +254,7 @@ pub fit_bound : (fs gs : Levels) → AreFit 0 fs → (p : Spot) → IsNoLink (bo
 fit_bound fs gs fit p old (Ok v) new e = same_levels (bind fs p.level p.name v) gs (fit_bind fs fit p.level p.name v old (new v refl)) e
 fit_bound fs gs fit p old (Err f) new e = absurd (cc)
 
-left_plain : (r : Part) (o : Option Variable) (x : Text) (v : Variable) → left_of r o x ≡ Ok (Some v) → IsNoLink (Some v)
+pub left_plain : (r : Part) (o : Option Variable) (x : Text) (v : Variable) → left_of r o x ≡ Ok (Some v) → IsNoLink (Some v)
 left_plain whole None x v e = absurd (cc)
 left_plain whole (Some (Scalar s)) x v e = absurd (cc)
 left_plain whole (Some (Array es)) x v e = absurd (cc)
@@ -281,7 +281,7 @@ at_end : (fs gs : Levels) (n : ℕ) (x : Text) (w : Option Name) (f : Spot → R
 at_end fs gs n x None f h e = absurd (cc)
 at_end fs gs n x (Some w) f h e = h (spot_of n w) e
 
-at_name_fit : (fs gs : Levels) (x : Text) (f : Spot → Result Levels FrameFault) → ((p : Spot) → f (end_of fs p) ≡ Ok gs → AreFit 0 gs) → at_name fs x f ≡ Ok gs → AreFit 0 gs
+pub at_name_fit : (fs gs : Levels) (x : Text) (f : Spot → Result Levels FrameFault) → ((p : Spot) → f (end_of fs p) ≡ Ok gs → AreFit 0 gs) → at_name fs x f ≡ Ok gs → AreFit 0 gs
 unfolding place_named
 at_name_fit fs gs x f h e = at_end fs gs (current fs) x (name_of x) f h e
 

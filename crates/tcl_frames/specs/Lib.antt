@@ -5,3 +5,4 @@ pub mod Changes
 pub mod Sound
 pub mod Targets
 pub mod LendingChain
+pub mod Keys

@@ -2,9 +2,10 @@
 ghost use Rattle.std.specs.Prelude.{◌≡◌, ◌+◌, ◌<◌, ◌≤◌, Ok, length, take, drop, IfOk, OnOk, IfErr, OnErr};
 ghost use Rattle.std.specs.Option.{option_copied};
 ghost use Rattle.std.specs.Vec.{vec_capacity};
-ghost use Rattle.std.specs.Prelude.{reverse, nat_lt};
+ghost use Rattle.std.specs.Prelude.{reverse, nat_lt, ◌↔◌, IsTrue};
 ghost use Rattle.tcl_frames.specs.Chain.{least};
 
+use crate::keys::change_key_in;
 use crate::links::link_frames;
 use crate::names::{names_at, own_names};
 use crate::scope::Scope;
@@ -14,6 +15,7 @@ use std::marker::Model;
 use tcl_text::text::Text;
 use tcl_value::value::Value;
 use tcl_variables::access::Part;
+use tcl_variables::comparing::{Same, same_items};
 use tcl_variables::fault::{FrameError, FrameFault, Refusal, refused};
 use tcl_variables::frame::{Change, Frame};
 use tcl_variables::name::read_name;
@@ -43,6 +45,12 @@ impl Clone for SetAside {
             above: self.above,
             frames,
         })
+    }
+}
+
+impl Same for SetAside {
+    fn same(&self, other: &SetAside) -> bool {
+        self.above == other.above && same_items(self.frames.as_slice(), other.frames.as_slice())
     }
 }
 
@@ -104,6 +112,7 @@ impl Frames {
     ghost use Rattle.tcl_variables.specs.Faults.{Refuses};
     ghost use Rattle.tcl_frames.specs.Places.{current};
     ghost use Rattle.tcl_frames.specs.Changes.{change_named};
+    ghost use Rattle.tcl_frames.specs.Keys.{change_key, after_set_key, after_unset_key};
 
     /// A chain of the global frame alone, which has no words and no variables.
     ///
@@ -132,6 +141,15 @@ impl Frames {
         frames.reserve(room)?;
         let aside = self.aside.clone()?;
         Ok(Frames { frames, aside })
+    }
+
+    /// Whether the other is an equal chain: the same words, the same names in the same order and what they stand for, and the same set
+    /// aside. This takes no memory.
+    pub fn same(&self, other: &Frames) -> bool
+        ensures { IsTrue result ↔ (self.now ≡ other.now) }
+    {
+        same_items(self.frames.as_slice(), other.frames.as_slice())
+            && same_items(self.aside.as_slice(), other.aside.as_slice())
     }
 
     /// The level that runs: that of the frame on top.
@@ -242,6 +260,57 @@ impl Frames {
         ensures unchanged { OnErr result (self.new ≡ self.old) }
     {
         self.change(alloc, name, Change::Unset)
+    }
+
+    /// Changes the element with a key, of what a name is.
+    fn change_key(
+        &mut self,
+        alloc: Global,
+        name: &Text,
+        key: &Text,
+        change: Change,
+    ) -> Result<(), FrameError>
+        ensures ok { OnOk result (with_frames self.old (change_key change self.old.frames name.now key.now) ≡ Ok self.new) }
+        ensures err { IfErr result (λ e. Refuses e (change_key change self.old.frames name.now key.now)) }
+        ensures unchanged { OnErr result (self.new ≡ self.old) }
+    {
+        change_key_in(self.frames.as_mut_slice(), alloc, name, key, change)
+    }
+
+    /// Sets the element with a key, of the array that a name is, which is made where there is no variable. A refusal names the
+    /// element, as `a(k)`.
+    ///
+    /// # Errors
+    /// Want of memory; refusals 233 (of setting) and 238 (of the name).
+    pub fn set_element(
+        &mut self,
+        alloc: Global,
+        name: &Text,
+        key: &Text,
+        value: Value,
+    ) -> Result<(), FrameError>
+        ensures ok { OnOk result (after_set_key self.old name.now key.now value ≡ Ok self.new) }
+        ensures err { IfErr result (λ e. Refuses e (after_set_key self.old name.now key.now value)) }
+        ensures unchanged { OnErr result (self.new ≡ self.old) }
+    {
+        self.change_key(alloc, name, key, Change::Assign(value))
+    }
+
+    /// Unsets the element with a key, of the array that a name is. A refusal names the element, as `a(k)`.
+    ///
+    /// # Errors
+    /// Want of memory; refusals 231, 233, 234 (of unsetting) and 238 (of the name).
+    pub fn unset_element(
+        &mut self,
+        alloc: Global,
+        name: &Text,
+        key: &Text,
+    ) -> Result<(), FrameError>
+        ensures ok { OnOk result (after_unset_key self.old name.now key.now ≡ Ok self.new) }
+        ensures err { IfErr result (λ e. Refuses e (after_unset_key self.old name.now key.now)) }
+        ensures unchanged { OnErr result (self.new ≡ self.old) }
+    {
+        self.change_key(alloc, name, key, Change::Unset)
     }
 
     /// Makes a local name of the current level a link to what another name is at a level.

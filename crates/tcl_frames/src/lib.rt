@@ -2,6 +2,7 @@
 #![tactic(auto)]
 
 pub mod frames;
+mod keys;
 mod links;
 mod names;
 pub mod scope;

@@ -356,7 +356,7 @@ pub(crate) fn end_or<'a>(
 }
 
 /// Changes what a name at a level stands for.
-fn change_at(
+pub(crate) fn change_at(
     frames: &mut [Frame],
     alloc: Global,
     level: usize,
@@ -375,7 +375,7 @@ fn change_at(
 }
 
 /// Changes what is where the links from a name at a level end.
-fn change_from(
+pub(crate) fn change_from(
     frames: &mut [Frame],
     alloc: Global,
     level: usize,

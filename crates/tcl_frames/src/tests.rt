@@ -238,26 +238,9 @@ fn chain(alloc: Global) -> Result<Frames, Fail> {
     Ok(frames)
 }
 
-/// Whether a chain is as [`chain`] makes it, as far as its names show.
+/// Whether a chain is as [`chain`] makes it.
 fn is_as_made(frames: &Frames, alloc: Global) -> Result<bool, Fail> {
-    let visible = joined(alloc, &frames.names(alloc, Scope::Visible)?)?;
-    let global = joined(alloc, &frames.names(alloc, Scope::Global)?)?;
-    let local = joined(alloc, &frames.names(alloc, Scope::Local)?)?;
-    let values = joined(
-        alloc,
-        &[
-            get(frames, alloc, "own")?,
-            get(frames, alloc, "v")?,
-            get(frames, alloc, "::a(x)")?,
-        ],
-    )?;
-    Ok(
-        visible.as_str() == "own|v"
-            && global.as_str() == "k|a"
-            && local.as_str() == "own"
-            && values.as_str() == "2|5|1"
-            && frames.level() == 1,
-    )
+    Ok(frames.same(&chain(alloc)?))
 }
 
 #[test]
@@ -373,5 +356,78 @@ fn copy_is_a_chain_of_its_own(rt: HostRuntime) -> Result<(), Fail> {
     set(&mut copy, alloc, "v", "6")?;
     assert_eq!(rt; get(&frames, alloc, "k")?.as_str(), "5");
     assert_eq!(rt; get(&copy, alloc, "::k")?.as_str(), "6");
+    Ok(())
+}
+
+/// Keys of any form are those of the array that the name is, which its own text needn't show.
+#[test]
+fn elements_are_set_by_key(rt: HostRuntime) -> Result<(), Fail> {
+    let alloc = rt.alloc();
+    let mut frames = Frames::new(alloc)?;
+    let name = text(alloc, "t(b")?;
+    for key in ["x", "y)", "z(", ""] {
+        frames.set_element(alloc, &name, &text(alloc, key)?, value(alloc, "1")?)?;
+    }
+    frames.unset_element(alloc, &name, &text(alloc, "x")?)?;
+    frames.set_element(alloc, &name, &text(alloc, "x")?, value(alloc, "2")?)?;
+    assert_eq!(rt;
+        elements(&frames, alloc, "t(b")?.as_str(),
+        "y)|1|z(|1||1|x|2"
+    );
+    Ok(())
+}
+
+/// A refusal by a key names the element, and leaves the chain as it was.
+#[test]
+fn keys_are_refused(rt: HostRuntime) -> Result<(), Fail> {
+    let alloc = rt.alloc();
+    let mut frames = chain(alloc)?;
+    let key = text(alloc, "q")?;
+    for (name, set, unset) in [
+        (
+            "own",
+            "can't set \"own(q)\": variable isn't array",
+            "can't unset \"own(q)\": variable isn't array",
+        ),
+        (
+            "::a(x)",
+            "can't set \"::a(x)(q)\": variable isn't array",
+            "can't unset \"::a(x)(q)\": variable isn't array",
+        ),
+        ("a::b", "bad name \"a::b\"", "bad name \"a::b\""),
+    ] {
+        let name = text(alloc, name)?;
+        let refusal = frames
+            .set_element(alloc, &name, &key, value(alloc, "7")?)
+            .err();
+        assert_eq!(rt; told(alloc, refusal)?.as_str(), set);
+        let refusal = frames.unset_element(alloc, &name, &key).err();
+        assert_eq!(rt; told(alloc, refusal)?.as_str(), unset);
+    }
+    for (name, message) in [
+        ("nope", "can't unset \"nope(q)\": no such variable"),
+        ("::a", "can't unset \"::a(q)\": no such element in array"),
+    ] {
+        let refusal = frames.unset_element(alloc, &text(alloc, name)?, &key).err();
+        assert_eq!(rt; told(alloc, refusal)?.as_str(), message);
+    }
+    assert!(rt; is_as_made(&frames, alloc)?);
+    Ok(())
+}
+
+/// Chains are equal whatever form their values keep, and aren't where the order of names, a word, or what is set aside differs.
+#[test]
+fn equal_chains_are_told(rt: HostRuntime) -> Result<(), Fail> {
+    let alloc = rt.alloc();
+    let mut frames = chain(alloc)?;
+    frames.set(alloc, &text(alloc, "own")?, Value::from_int(2))?;
+    assert!(rt; frames.same(&chain(alloc)?));
+    frames.set_aside(alloc, 0)?;
+    assert!(rt; !frames.same(&chain(alloc)?));
+    frames.bring_back();
+    assert!(rt; frames.same(&chain(alloc)?));
+    unset(&mut frames, alloc, "::k")?;
+    set(&mut frames, alloc, "::k", "5")?;
+    assert!(rt; !frames.same(&chain(alloc)?));
     Ok(())
 }

@@ -8,3 +8,5 @@ pub mod memory;
 pub mod open_mode;
 pub mod reply;
 pub mod request;
+#[cfg(test)]
+mod tests;

@@ -7,3 +7,5 @@ pub mod options;
 pub mod parts;
 pub mod searching;
 pub mod spans;
+#[cfg(test)]
+mod tests;

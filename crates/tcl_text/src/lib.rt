@@ -7,5 +7,6 @@ pub mod characters;
 pub mod index;
 pub mod integer;
 pub mod list;
+pub mod list_comparing;
 pub mod list_writing;
 pub mod text;

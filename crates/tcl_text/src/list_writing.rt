@@ -19,7 +19,7 @@ pub enum Form {
     Escaped,
 }
 
-fn is_special(byte: u8) -> bool
+pub(crate) fn is_special(byte: u8) -> bool
     ensures { result ≡ is_special byte }
 {
     is_white(byte) || matches!(byte, b'{' | b'}' | b'[' | b']' | b'$' | b';' | b'"' | b'\\')
@@ -32,7 +32,7 @@ fn has_special(text: &str) -> bool
 }
 
 /// Whether this is the first element of its list and begins with `#`.
-fn is_comment(element: &str, first: bool) -> bool
+pub(crate) fn is_comment(element: &str, first: bool) -> bool
     ensures { result ≡ is_comment first element.now }
 {
     match element.as_bytes() {
@@ -67,7 +67,7 @@ fn fits_braces(element: &str) -> bool
     braces.depth == 0 && !braces.skips && last != b'\\'
 }
 
-fn form_of(element: &str, first: bool) -> Form
+pub(crate) fn form_of(element: &str, first: bool) -> Form
     ensures { result ≡ form_of first element.now }
 {
     if element.is_empty() {
@@ -84,7 +84,7 @@ fn form_of(element: &str, first: bool) -> Form
 }
 
 /// What stands behind the backslash of a special character.
-fn letter_of(special: char) -> char
+pub(crate) fn letter_of(special: char) -> char
     ensures { result ≡ letter_of special }
 {
     match special {

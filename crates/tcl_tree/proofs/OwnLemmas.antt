@@ -13,7 +13,7 @@ use Rattle.tcl_tree.specs.Paths.{Text, Path, with_node}
 use Rattle.tcl_tree.proofs.PathLemmas.{path_cases}
 use Rattle.tcl_tree.specs.Own.{Own, CommandMap, command_in, hidden_in}
 use Rattle.tcl_tree.specs.Nodes.{NodeView, view_of, tree_in, follow, IsSound, IsGuarded}
-use Rattle.tcl_tree.specs.Changes.{Rewrites, with_hidden, hidden_as, with_exposed, exposed_as, without_command}
+use Rattle.tcl_tree.specs.Changes.{Rewrites}
 use Rattle.tcl_tree.specs.declared.command.Command.{Command}
 use Rattle.std.specs.Str.{bytes_eq}
 use Rattle.std.specs.Map.{lookup, remove_entry}
@@ -103,29 +103,3 @@ empty_path (x ∷ xs) b e t = absurd (never (length xs) (sym e ∙ t))
 
 pub no_empty_path : (xs : Path) (b : Bool) → b ≡ (length xs == 0) → b ≡ false → xs ≢ []
 no_empty_path xs b e f none = let x : true ≡ false = sym (e ∙ ap (λ (ys : Path). length ys == 0) none) ∙ f in cc
-
--- a command that was moved to the end of the hidden ones
-pub hidden_is : (v : NodeView) (n h : Text) (es fs : CommandMap) → is_some (command_in v.own n) ≡ true
-    → ((c : Command) → lookup (bytes_eq n) v.own.commands ≡ Some c → es ≡ remove_entry (bytes_eq n) v.own.commands)
-    → ((c : Command) → lookup (bytes_eq n) v.own.commands ≡ Some c → fs ≡ v.own.hidden ++ (h, c) ∷ [])
-    → record v { own = with_hidden n h v.own } ≡ record v { own = record v.own { commands = es; hidden = fs } }
-hidden_is v n h es fs found taken put = by (lookup (bytes_eq n) v.own.commands) refl found
-  where
-    by : (o : Option Command) → lookup (bytes_eq n) v.own.commands ≡ o → is_some o ≡ true → record v { own = with_hidden n h v.own } ≡ record v { own = record v.own { commands = es; hidden = fs } }
-    by None e f = let x : false ≡ true = f in cc
-    by (Some c) e f =
-        ap (λ (o : Option Command). record v { own = hidden_as h o (without_command n v.own) }) e
-        ∙ (λ i. record v { own = record v.own { commands = sym (taken c e) i; hidden = sym (put c e) i } })
-
--- and one that was moved to the end of the commands
-pub exposed_is : (v : NodeView) (h n : Text) (es fs : CommandMap) → is_some (hidden_in v.own h) ≡ true
-    → ((c : Command) → lookup (bytes_eq h) v.own.hidden ≡ Some c → es ≡ remove_entry (bytes_eq h) v.own.hidden)
-    → ((c : Command) → lookup (bytes_eq h) v.own.hidden ≡ Some c → fs ≡ v.own.commands ++ (n, c) ∷ [])
-    → record v { own = with_exposed h n v.own } ≡ record v { own = record v.own { hidden = es; commands = fs } }
-exposed_is v h n es fs found taken put = by (lookup (bytes_eq h) v.own.hidden) refl found
-  where
-    by : (o : Option Command) → lookup (bytes_eq h) v.own.hidden ≡ o → is_some o ≡ true → record v { own = with_exposed h n v.own } ≡ record v { own = record v.own { hidden = es; commands = fs } }
-    by None e f = let x : false ≡ true = f in cc
-    by (Some c) e f =
-        ap (λ (o : Option Command). record v { own = exposed_as n o (record v.own { hidden = remove_entry (bytes_eq h) v.own.hidden }) }) e
-        ∙ (λ i. record v { own = record v.own { hidden = sym (taken c e) i; commands = sym (put c e) i } })

@@ -144,26 +144,6 @@ abbrev pub is_alias : Option Command → Bool
 is_alias (Some (Alias a)) = true
 is_alias _ = false
 
--- no name of a child is given to another command
-pub record MaySet (f : Path → Option NodeView) (p : Path) (n : Text) : Type 0 where
-  pub owner : NodeView
-  pub here : f p ≡ Some owner
-  pub named : is_command_name n ≡ true
-  pub free : is_child (command_in owner.own n) ≡ false
-
-abbrev pub RefusesSet : Refusal → (Path → Option NodeView) → Path → Text → Type 0
-RefusesSet NoInterpreter f p n = f p ≡ None
-RefusesSet BadName f p n = IsSome (f p) × (is_command_name n ≡ false)
-RefusesSet Exists f p n = (v : NodeView) × (f p ≡ Some v) × (is_command_name n ≡ true) × (is_child (command_in v.own n) ≡ true)
-RefusesSet Memory f p n = Unit {0}
-RefusesSet _ f p n = Prim.⊥
-
--- an alias is cleared where the name is one
-abbrev pub RefusesClear : Refusal → (Path → Option NodeView) → Path → Text → Type 0
-RefusesClear NoInterpreter f p n = f p ≡ None
-RefusesClear NoCommand f p n = (v : NodeView) × (f p ≡ Some v) × (is_alias (command_in v.own n) ≡ false)
-RefusesClear _ f p n = Prim.⊥
-
 -- ## Names of new children
 
 -- the name that a child without one gets, by its number
@@ -181,58 +161,3 @@ abbrev pub RefusesName : Refusal → (Path → Option NodeView) → Path → Typ
 RefusesName NoInterpreter f p = f p ≡ None
 RefusesName Memory f p = Unit {0}
 RefusesName _ f p = Prim.⊥
-
--- ## Hiding and exposing
-
-abbrev pub hidden_as : Text → Option Command → Own → Own
-hidden_as h None own = own
-hidden_as h (Some c) own = record own { hidden = own.hidden ++ (h, c) ∷ [] }
-
--- the command of this name is hidden under another, last of all
-abbrev pub with_hidden : Text → Text → Own → Own
-with_hidden n h own = hidden_as h (command_in own n) (without_command n own)
-
-abbrev pub exposed_as : Text → Option Command → Own → Own
-exposed_as n None own = own
-exposed_as n (Some c) own = record own { commands = own.commands ++ (n, c) ∷ [] }
-
--- the command that is hidden under this name is a command again, last of all
-abbrev pub with_exposed : Text → Text → Own → Own
-with_exposed h n own = exposed_as n (hidden_in own h) (record own { hidden = remove_entry (bytes_eq h) own.hidden })
-
--- A safe interpreter hides nothing; a child is not hidden; and nothing is hidden over a hidden command.
-pub record MayHide (f : Path → Option NodeView) (p down : Path) (n h : Text) : Type 0 where
-  pub asker : NodeView
-  pub here : f p ≡ Some asker
-  pub trusted : asker.safe ≡ false
-  pub owner : NodeView
-  pub there : f (p ++ down) ≡ Some owner
-  pub found : IsSome (command_in owner.own n)
-  pub no_child : is_child (command_in owner.own n) ≡ false
-  pub free : hidden_in owner.own h ≡ None
-
-abbrev pub RefusesHide : Refusal → (Path → Option NodeView) → Path → Path → Text → Text → Type 0
-RefusesHide NoInterpreter f p down n h = (f p ≡ None) ⊎ (f (p ++ down) ≡ None)
-RefusesHide Denied f p down n h = (v : NodeView) × (f p ≡ Some v) × (v.safe ≡ true)
-RefusesHide NoCommand f p down n h = (v : NodeView) × (f (p ++ down) ≡ Some v) × (command_in v.own n ≡ None)
-RefusesHide Exists f p down n h = (v : NodeView) × (f (p ++ down) ≡ Some v) × ((is_child (command_in v.own n) ≡ true) ⊎ IsSome (hidden_in v.own h))
-RefusesHide Memory f p down n h = Unit {0}
-RefusesHide _ f p down n h = Prim.⊥
-
--- A safe interpreter exposes nothing, and nothing is exposed over a command.
-pub record MayExpose (f : Path → Option NodeView) (p down : Path) (h n : Text) : Type 0 where
-  pub asker : NodeView
-  pub here : f p ≡ Some asker
-  pub trusted : asker.safe ≡ false
-  pub owner : NodeView
-  pub there : f (p ++ down) ≡ Some owner
-  pub found : IsSome (hidden_in owner.own h)
-  pub free : command_in owner.own n ≡ None
-
-abbrev pub RefusesExpose : Refusal → (Path → Option NodeView) → Path → Path → Text → Text → Type 0
-RefusesExpose NoInterpreter f p down h n = (f p ≡ None) ⊎ (f (p ++ down) ≡ None)
-RefusesExpose Denied f p down h n = (v : NodeView) × (f p ≡ Some v) × (v.safe ≡ true)
-RefusesExpose NoHidden f p down h n = (v : NodeView) × (f (p ++ down) ≡ Some v) × (hidden_in v.own h ≡ None)
-RefusesExpose Exists f p down h n = (v : NodeView) × (f (p ++ down) ≡ Some v) × IsSome (command_in v.own n)
-RefusesExpose Memory f p down h n = Unit {0}
-RefusesExpose _ f p down h n = Prim.⊥

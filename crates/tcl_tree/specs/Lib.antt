@@ -8,3 +8,5 @@ pub mod Changes
 pub mod Lending
 pub mod LendingTree
 pub mod Refusals
+pub mod Naming
+pub mod Reaching

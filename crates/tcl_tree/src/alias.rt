@@ -1,5 +1,6 @@
 //! Aliases.
-ghost use Rattle.std.specs.Prelude.{◌≡◌, IfOk};
+ghost use Rattle.std.specs.Prelude.{◌≡◌, ◌≤◌, ◌-◌, ◌++◌, List, ℕ, Some, IfOk, length, drop};
+ghost use Rattle.tcl_core.specs.Paths.{rise, together};
 
 use std::alloc::{AllocError, Global};
 use std::marker::Model;
@@ -29,7 +30,42 @@ impl Model for Alias {
     ghost view = { λ a. record { up = a.shared.value.up; down = a.shared.value.down.items; words = a.shared.value.words.items } };
 }
 
+// How many leading names two paths have in common.
+fn in_common(these: &[Text], those: &[Text]) -> usize
+    ensures names { result ≡ together these.now those.now }
+    ensures these { result ≤ length these.now }
+    ensures those { result ≤ length those.now }
+{
+    let mut count = 0;
+    'names: while count < these.len() && count < those.len() {
+        if these[count] != those[count] {
+            return count;
+        }
+        count += 1;
+    }
+    count
+}
+
 impl Alias {
+    /// An alias of the interpreter that some names lead to, whose target is the one that others lead to from the same start. The leading
+    /// names that the two have in common are left out of its way.
+    ///
+    /// # Errors
+    /// Want of memory.
+    pub fn between(
+        alloc: Global,
+        from: &[Text],
+        to: &[Text],
+        words: Vec<Value>,
+    ) -> Result<Alias, AllocError>
+        ensures made { IfOk result (λ made. made ≡ record { up = length from.now - together from.now to.now; down = drop (together from.now to.now) to.now; words = words.items }) }
+        ensures leads { IfOk result (λ made. (a : List (List ℕ)) → (b : List (List ℕ)) × (rise made.up (a ++ from.now) ≡ Some b) × (b ++ made.down ≡ a ++ to.now)) }
+    {
+        let common = in_common(from, to);
+        let down = Vec::from_clones(alloc, &to[common..])?;
+        Alias::new(alloc, from.len() - common, down, words)
+    }
+
     /// An alias to the interpreter so many levels up and these names down, whose calls begin with these words.
     ///
     /// # Errors

@@ -1,4 +1,8 @@
 //! What the name of a command stands for.
+ghost use Rattle.std.specs.Prelude.{◌≡◌};
+ghost use Rattle.std.specs.Option.{option_copied};
+ghost use Rattle.tcl_tree.specs.Changes.{is_alias, is_child};
+
 use crate::alias::Alias;
 use crate::builtin::Builtin;
 use crate::procedure::Procedure;
@@ -18,3 +22,29 @@ pub enum Command {
 
 /// Commands by their names, in the order in which they were made.
 pub type Commands = IndexMap<Text, Command>;
+
+/// Whether the command is a child interpreter.
+pub(crate) fn is_child(command: Option<&Command>) -> bool
+    ensures { result ≡ is_child (option_copied command.entry) }
+{
+    match command {
+        Some(Command::Child) => true,
+        Some(Command::Builtin(_)) => false,
+        Some(Command::Procedure(_)) => false,
+        Some(Command::Alias(_)) => false,
+        None => false,
+    }
+}
+
+/// Whether the command is an alias.
+pub(crate) fn is_alias(command: Option<&Command>) -> bool
+    ensures { result ≡ is_alias (option_copied command.entry) }
+{
+    match command {
+        Some(Command::Alias(_)) => true,
+        Some(Command::Builtin(_)) => false,
+        Some(Command::Procedure(_)) => false,
+        Some(Command::Child) => false,
+        None => false,
+    }
+}

@@ -5,6 +5,7 @@ pub mod alias;
 pub mod builtin;
 pub mod command;
 mod name;
+mod naming;
 pub mod node;
 pub mod parameter;
 pub mod procedure;

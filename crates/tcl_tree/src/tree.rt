@@ -16,6 +16,8 @@ mod commands;
 mod hiding;
 pub mod limits;
 mod looks;
+mod naming;
+pub mod places;
 mod variables;
 
 /// An interpreter that is reached with no walk along its path: its key.

@@ -13,3 +13,6 @@ pub mod Ends
 pub mod Changed
 pub mod Dicted
 pub mod Errors
+pub mod Same
+pub mod Falling
+pub mod Extended

@@ -1,17 +1,19 @@
 //! The elements of lists and the values of dicts.
-ghost use Rattle.std.specs.Prelude.{◌≡◌, ◌≤◌, ◌++◌, length, OnOk, IfOk};
+ghost use Rattle.std.specs.Prelude.{◌≡◌, ◌≢◌, ◌≤◌, ◌++◌, ◌∷◌, ◌↔◌, [], length, OnOk, IfOk, IsTrue, MatchOption};
 ghost use Rattle.std.specs.String.{string_bytes};
 ghost use Rattle.std.specs.Fmt.{signed_decimal};
-ghost use Rattle.tcl_value.specs.Limits.{IsWithin};
-ghost use Rattle.tcl_value.specs.Writing.{write_element};
+ghost use Rattle.tcl_value.specs.Limits.{Bytes, IsWithin};
+ghost use Rattle.tcl_value.specs.Writing.{write_element, placed, space};
 ghost use Rattle.tcl_value.specs.Texts.{element_text, ends_in_backslash, IsElement};
 
 use crate::entries::Entries;
 use crate::items::Items;
+use itoa::Buffer;
 use std::alloc::{AllocError, Global};
 use std::rc::Rc;
 use tcl_text::integer::{int_len, push_int, write_int};
 use tcl_text::list::{write_element, written_len};
+use tcl_text::list_comparing::{is_int, is_written};
 use tcl_text::text::Text;
 
 /// How deep lists and dicts may stand in one another without a text: what writes, drops or copies them goes down as deep.
@@ -95,6 +97,81 @@ impl Element {
         }
     }
 
+    /// Whether a text is it as an element of a list, the first or another. This takes no memory.
+    #[cycle(compare)]
+    fn is_written(&self, first: bool, text: &[u8]) -> bool
+        requires { IsElement self.now }
+        ensures { IsTrue result ↔ (text.now ≡ write_element first (element_text self.now)) }
+    {
+        match self {
+            Element::Text(own) => is_written(text, own.as_str(), first),
+            Element::Number(n) => is_written_number(text, *n, first),
+            Element::List(items) => match inside_braces(text) {
+                Some(inside) => items.is_text(inside),
+                None => false,
+            },
+            Element::Dict(entries) => match inside_braces(text) {
+                Some(inside) => entries.is_text(inside),
+                None => false,
+            },
+        }
+    }
+
+    /// What stands behind it in a text where it is an element of a list, the first or another. This takes no memory.
+    #[cycle(compare)]
+    pub(crate) fn behind<'a>(&self, first: bool, text: &'a [u8]) -> Option<&'a [u8]>
+        requires { IsElement self.now }
+        ensures { MatchOption result ((rest : Bytes) → text.now ≢ placed first (element_text self.now) ++ rest) (λ rest. text.now ≡ placed first (element_text self.now) ++ rest.now) }
+    {
+        let text = behind_space(text, first)?;
+        let (front, rest) = split_off(text, self.written_len(first))?;
+        if self.is_written(first, front) {
+            Some(rest)
+        } else {
+            None
+        }
+    }
+
+    /// Whether its text is this one. This takes no memory.
+    pub(crate) fn is_text(&self, text: &[u8]) -> bool
+        requires { IsElement self.now }
+        ensures { IsTrue result ↔ (text.now ≡ element_text self.now) }
+    {
+        match self {
+            Element::Text(own) => text == own.as_str().as_bytes(),
+            Element::Number(n) => is_int(text, *n),
+            Element::List(items) => items.is_text(text),
+            Element::Dict(entries) => entries.is_text(text),
+        }
+    }
+
+    /// Whether its text is that of a number. This takes no memory.
+    fn is_number(&self, n: i64) -> bool
+        requires { IsElement self.now }
+        ensures { IsTrue result ↔ (signed_decimal n ≡ element_text self.now) }
+    {
+        self.is_text(Buffer::new().format(n).as_bytes())
+    }
+
+    /// Whether its text is that of another, however each is kept. This takes no memory.
+    #[cycle(same)]
+    pub(crate) fn same(&self, other: &Element) -> bool
+        requires own { IsElement self.now }
+        requires other { IsElement other.now }
+        ensures { IsTrue result ↔ (element_text self.now ≡ element_text other.now) }
+    {
+        match (self, other) {
+            (Element::Text(own), other) => other.is_text(own.as_str().as_bytes()),
+            (own, Element::Text(text)) => own.is_text(text.as_str().as_bytes()),
+            (Element::Number(n), other) => other.is_number(*n),
+            (own, Element::Number(n)) => own.is_number(*n),
+            (Element::List(own), Element::List(items)) => own.same(items),
+            (Element::List(own), Element::Dict(entries)) => own.same_entries(entries),
+            (Element::Dict(own), Element::List(items)) => items.same_entries(own),
+            (Element::Dict(own), Element::Dict(entries)) => own.same(entries),
+        }
+    }
+
     /// How deep lists and dicts stand in it, at most.
     pub(crate) fn depth(&self) -> u32 {
         match self {
@@ -122,6 +199,71 @@ fn number_len(n: i64, first: bool) -> usize
 {
     let _first = first;
     int_len(n)
+}
+
+/// Whether a text is a number as an element of a list.
+fn is_written_number(text: &[u8], n: i64, first: bool) -> bool
+    ensures { IsTrue result ↔ (text.now ≡ write_element first (signed_decimal n)) }
+{
+    let _first = first;
+    is_int(text, n)
+}
+
+/// What stands in braces, where a text is that.
+fn inside_braces(text: &[u8]) -> Option<&[u8]>
+    ensures { MatchOption result ((inside : Bytes) → text.now ≢ 123 ∷ inside ++ 125 ∷ []) (λ inside. text.now ≡ 123 ∷ inside.now ++ 125 ∷ []) }
+{
+    match text {
+        [b'{', rest @ ..] => before_brace(rest),
+        _ => None,
+    }
+}
+
+/// What stands before a close brace that ends a text.
+fn before_brace(text: &[u8]) -> Option<&[u8]>
+    ensures { MatchOption result ((front : Bytes) → text.now ≢ front ++ 125 ∷ []) (λ front. text.now ≡ front.now ++ 125 ∷ []) }
+{
+    match text {
+        [front @ .., last] if *last == b'}' => Some(front),
+        _ => None,
+    }
+}
+
+/// What stands behind the space before an element that isn't the first.
+fn behind_space(text: &[u8], first: bool) -> Option<&[u8]>
+    ensures { MatchOption result ((rest : Bytes) → text.now ≢ space first ++ rest) (λ rest. text.now ≡ space first ++ rest.now) }
+{
+    if first {
+        return Some(text);
+    }
+    match text {
+        [b' ', rest @ ..] => Some(rest),
+        _ => None,
+    }
+}
+
+/// The first bytes of a text, and what is behind them.
+fn split_off(text: &[u8], len: usize) -> Option<(&[u8], &[u8])>
+    ensures { MatchOption result ((front rest : Bytes) → length front ≡ len → text.now ≢ front ++ rest) (λ parts. (length parts.0.now ≡ len) × (text.now ≡ parts.0.now ++ parts.1.now)) }
+{
+    if len > text.len() {
+        return None;
+    }
+    Some(text.split_at(len))
+}
+
+/// What stands behind a key in a text where it is an element of a list, the first or another.
+pub(crate) fn behind_key<'a>(text: &'a [u8], key: &Text, first: bool) -> Option<&'a [u8]>
+    ensures { MatchOption result ((rest : Bytes) → text.now ≢ placed first key.now ++ rest) (λ rest. text.now ≡ placed first key.now ++ rest.now) }
+{
+    let text = behind_space(text, first)?;
+    let key = key.as_str();
+    let (front, rest) = split_off(text, written_len(key, first))?;
+    if is_written(front, key, first) {
+        Some(rest)
+    } else {
+        None
+    }
 }
 
 /// Writes a number as an element of a list to the end of a string.

@@ -6,7 +6,7 @@ ghost use Rattle.tcl_value.specs.Writing.{write, write_element};
 ghost use Rattle.tcl_value.specs.Texts.{texts, flat, element_text, IsElement, IsInner, AreElements, weight, element_shown};
 ghost use Rattle.tcl_value.specs.Dicts.{put, without, value_of, put_all, place_of, value_set, entry_dropped};
 
-use crate::element::{Element, MOST_DEPTH};
+use crate::element::{Element, MOST_DEPTH, behind_key};
 use crate::items::Items;
 use crate::value::ValueError;
 use indexmap::IndexSet;
@@ -339,6 +339,44 @@ impl Entries {
             value.write_to(false, out)?;
         }
         Ok(())
+    }
+
+    /// Whether its text is this one. This takes no memory.
+    #[cycle(compare)]
+    pub(crate) fn is_text(&self, text: &[u8]) -> bool
+        ensures { IsTrue result ↔ (text.now ≡ write (flat self.now)) }
+    {
+        let mut rest = text;
+        'entries: for (index, value) in self.values.iter().enumerate() {
+            let key = self.keys.get_index(index).unwrap();
+            let Some(behind) = behind_key(rest, key, index == 0) else {
+                return false;
+            };
+            match value.behind(false, behind) {
+                Some(behind) => rest = behind,
+                None => return false,
+            }
+        }
+        rest.is_empty()
+    }
+
+    /// Whether another dict has the same entries in the same order. This takes no memory.
+    #[cycle(same)]
+    pub(crate) fn same(&self, other: &Entries) -> bool
+        ensures { IsTrue result ↔ (self.now ≡ other.now) }
+    {
+        if self.len() != other.len() {
+            return false;
+        }
+        'entries: for index in 0..self.len() {
+            if self.key(index) != other.key(index) {
+                return false;
+            }
+            if !self.value(index).same(other.value(index)) {
+                return false;
+            }
+        }
+        true
     }
 
     /// Its text.

@@ -1,11 +1,12 @@
 //! Lists that carry no text.
-ghost use Rattle.std.specs.Prelude.{◌≡◌, ◌<◌, ◌≤◌, ◌++◌, ◌∷◌, ◌↔◌, [], length, IfOk, OnOk, OnErr, IfErr, IsErr, IsErrOf, IsTrue, slice_index_or, slice_set};
+ghost use Rattle.std.specs.Prelude.{◌≡◌, ◌<◌, ◌≤◌, ◌++◌, ◌∷◌, ◌^◌, ◌==◌, ◌&&◌, ◌↔◌, [], length, IfOk, OnOk, OnErr, IfErr, IsErr, IsErrOf, IsTrue, slice_index_or, slice_set};
 ghost use Rattle.std.specs.String.{string_bytes};
 ghost use Rattle.tcl_value.specs.Limits.{IsWithin, IsPast};
 ghost use Rattle.tcl_value.specs.Writing.{write};
-ghost use Rattle.tcl_value.specs.Texts.{element_text, texts, IsElement, IsInner, AreElements, weight};
+ghost use Rattle.tcl_value.specs.Texts.{element_text, texts, flat, IsElement, IsInner, AreElements, weight, weight_from};
 
 use crate::element::{Element, MOST_DEPTH};
+use crate::entries::Entries;
 use crate::value::ValueError;
 use std::alloc::{AllocError, Global};
 use std::marker::Model;
@@ -137,6 +138,60 @@ impl Items {
         Ok(())
     }
 
+    /// Whether its text is this one. This takes no memory.
+    #[cycle(compare)]
+    pub(crate) fn is_text(&self, text: &[u8]) -> bool
+        ensures { IsTrue result ↔ (text.now ≡ write self.now) }
+    {
+        let mut rest = text;
+        'elements: for (index, element) in self.elements.iter().enumerate() {
+            match element.behind(index == 0, rest) {
+                Some(behind) => rest = behind,
+                None => return false,
+            }
+        }
+        rest.is_empty()
+    }
+
+    /// Whether another list has the same elements. This takes no memory.
+    #[cycle(same)]
+    pub(crate) fn same(&self, other: &Items) -> bool
+        ensures { IsTrue result ↔ (self.now ≡ other.now) }
+    {
+        if self.len() != other.len() {
+            return false;
+        }
+        'elements: for (index, element) in self.elements.iter().enumerate() {
+            if !element.same(other.get(index)) {
+                return false;
+            }
+        }
+        true
+    }
+
+    /// Whether its elements are the keys and values of a dict in turn. This takes no memory.
+    #[cycle(same)]
+    pub(crate) fn same_entries(&self, entries: &Entries) -> bool
+        ensures { IsTrue result ↔ (self.now ≡ flat entries.now) }
+    {
+        if self.len() % 2 == 1 {
+            return false;
+        }
+        if self.len() / 2 != entries.len() {
+            return false;
+        }
+        'entries: for index in 0..entries.len() {
+            let key = entries.key(index).as_str().as_bytes();
+            if !self.get(2 * index).is_text(key) {
+                return false;
+            }
+            if !self.get(2 * index + 1).same(entries.value(index)) {
+                return false;
+            }
+        }
+        true
+    }
+
     /// Its text.
     ///
     /// # Errors
@@ -193,6 +248,29 @@ impl Items {
         Ok(())
     }
 
+    /// Adds elements at the end, all of them or none.
+    ///
+    /// # Errors
+    /// [`ValueError::TooLong`] exactly where the text would be too long for a value; want of memory.
+    pub(crate) fn extend(&mut self, elements: Vec<Element>) -> Result<(), ValueError>
+        requires { AreElements elements.items }
+        ensures extended { OnOk result (self.new ≡ self.old ++ texts elements.items) }
+        ensures within { OnOk result (IsWithin (write self.new)) }
+        ensures refused { IsErrOf result ValueError.TooLong ↔ IsPast (write (self.old ++ texts elements.items)) }
+        ensures unchanged { OnErr result (self.new ≡ self.old) }
+    {
+        let mut elements = elements;
+        let weight = self.weight + weigh_from(self.elements.is_empty(), &elements);
+        if weight > MOST_WEIGHT {
+            return Err(ValueError::TooLong);
+        }
+        let depth = self.depth.max(deepest(&elements));
+        self.elements.append(&mut elements)?;
+        self.weight = weight;
+        self.depth = depth;
+        Ok(())
+    }
+
     /// Puts an element in the place of another.
     ///
     /// # Errors
@@ -228,6 +306,35 @@ fn weigh(elements: &[Element]) -> u128
         weight += element.written_len(index == 0) as u128 + 1;
     }
     weight
+}
+
+/// What these elements add to the weight of a list, where the first of them is the list's first or not.
+fn weigh_from(first: bool, elements: &[Element]) -> u128
+    requires { AreElements elements.now }
+    ensures weight { result ≡ weight_from first (texts elements.now) }
+    ensures few { result < 2 ^ 90 }
+{
+    let mut weight = 0;
+    'elements: for (index, element) in elements.iter().enumerate() {
+        weight += element.written_len(leads(first, index)) as u128 + 1;
+    }
+    weight
+}
+
+/// Whether the element at a place of some elements is the first of the list that they end, which they begin or not.
+fn leads(first: bool, index: usize) -> bool
+    ensures { result ≡ (first && (index == 0)) }
+{
+    first && index == 0
+}
+
+/// How deep lists and dicts stand in these elements, at most.
+fn deepest(elements: &[Element]) -> u32 {
+    elements
+        .iter()
+        .map(|element| element.depth())
+        .max()
+        .unwrap_or(0)
 }
 
 impl Clone for Items {

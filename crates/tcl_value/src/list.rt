@@ -153,6 +153,17 @@ impl List {
         Rc::make_mut(&mut self.items)?.push(element)
     }
 
+    /// Adds elements at the end, all of them or none: in place where the list isn't shared.
+    pub(crate) fn extend_elements(&mut self, elements: Vec<Element>) -> Result<(), ValueError>
+        requires { AreElements elements.items }
+        ensures extended { OnOk result (self.new ≡ self.old ++ texts_of elements.items) }
+        ensures within { OnOk result (IsWithin (write self.new)) }
+        ensures refused { IsErrOf result ValueError.TooLong → IsPast (write (self.old ++ texts_of elements.items)) }
+        ensures unchanged { OnErr result (self.new ≡ self.old) }
+    {
+        Rc::make_mut(&mut self.items)?.extend(elements)
+    }
+
     /// Adds an element at the end: in place where the list isn't shared.
     ///
     /// # Errors

@@ -6,12 +6,17 @@ use std::test::Fail;
 use tcl_text::integer::Integers;
 use tcl_text::text::Text;
 
-fn value(alloc: Global, text: &str) -> Result<Value, ValueError> {
+pub(crate) fn value(alloc: Global, text: &str) -> Result<Value, ValueError> {
     Value::from_text(Text::new(alloc, text)?)
 }
 
 /// The text of a list of three values.
-fn row_of_three(alloc: Global, a: Value, b: Value, c: Value) -> Result<Text, ValueError> {
+pub(crate) fn row_of_three(
+    alloc: Global,
+    a: Value,
+    b: Value,
+    c: Value,
+) -> Result<Text, ValueError> {
     let mut row = List::new(alloc)?;
     row.push(alloc, a)?;
     row.push(alloc, b)?;
@@ -83,7 +88,7 @@ fn script_is_read_anew_after_append(rt: HostRuntime) -> Result<(), Fail> {
 }
 
 /// The list of three numbers, built.
-fn three(alloc: Global) -> Result<Value, ValueError> {
+pub(crate) fn three(alloc: Global) -> Result<Value, ValueError> {
     let mut list = List::new(alloc)?;
     list.push(alloc, Value::from_int(0))?;
     list.push(alloc, Value::from_int(1))?;

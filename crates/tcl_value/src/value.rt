@@ -1,10 +1,10 @@
 //! Values, each of which is seen as its text.
-ghost use Rattle.std.specs.Prelude.{◌≡◌, ◌≤◌, ◌<◌, ◌++◌, ◌∷◌, ◌↔◌, [], length, Ok, IfOk, OnOk, OnErr, IsErrOf, IfErr, MatchResult, IfSome, slice_set};
+ghost use Rattle.std.specs.Prelude.{◌≡◌, ◌≤◌, ◌<◌, ◌++◌, ◌∷◌, ◌↔◌, [], length, Ok, IfOk, OnOk, OnErr, IsErrOf, IfErr, MatchResult, IfSome, IsTrue, slice_set};
 ghost use Rattle.std.specs.Fmt.{signed_decimal};
 ghost use Rattle.std.specs.String.{string_bytes};
 ghost use Rattle.tcl_value.specs.Limits.{Bytes, IsWithin, IsPast};
 ghost use Rattle.tcl_value.specs.Writing.{write};
-ghost use Rattle.tcl_value.specs.Texts.{element_text, flat, IsElement};
+ghost use Rattle.tcl_value.specs.Texts.{element_text, texts, flat, IsElement, AreElements};
 ghost use Rattle.tcl_value.specs.Reading.{int_of, list_of};
 ghost use Rattle.tcl_text.specs.Reading.{Gives};
 ghost use Rattle.tcl_parser.specs.Reading.{read_script};
@@ -18,6 +18,7 @@ use crate::element::Element;
 use crate::entries::Entries;
 use crate::items::Items;
 use crate::list::List;
+use itoa::Buffer;
 use std::alloc::{AllocError, AllocFailed, Global};
 use std::marker::Model;
 use std::rc::Rc;
@@ -25,6 +26,7 @@ use tcl_parser::reader::parse;
 use tcl_parser::script::Script;
 use tcl_text::integer::{IntegerFault, Integers, int_len, push_int, read_int, write_int};
 use tcl_text::list::{ListError, ListFault};
+use tcl_text::list_comparing::is_int;
 use tcl_text::text::Text;
 
 /// The most bytes of UTF-8 that a value may have.
@@ -268,6 +270,47 @@ impl Value {
         }
     }
 
+    /// Whether its text is this one. This takes no memory.
+    pub fn is_text(&self, text: &[u8]) -> bool
+        ensures { IsTrue result ↔ (self.now ≡ text.now) }
+    {
+        match &self.form {
+            Form::Empty => text.is_empty(),
+            Form::Text(own) => own.as_str().as_bytes() == text,
+            Form::Number(n) => is_int(text, *n),
+            Form::List(items) => items.is_text(text),
+            Form::Dict(entries) => entries.is_text(text),
+        }
+    }
+
+    /// Whether its text is that of another, however each is kept. This takes no memory.
+    pub fn same(&self, other: &Value) -> bool
+        ensures { IsTrue result ↔ (self.now ≡ other.now) }
+    {
+        if self.text_len() != other.text_len() {
+            return false;
+        }
+        match (&self.form, &other.form) {
+            (Form::Empty, _) => other.is_text(b""),
+            (_, Form::Empty) => self.is_text(b""),
+            (Form::Text(text), _) => other.is_text(text.as_str().as_bytes()),
+            (_, Form::Text(text)) => self.is_text(text.as_str().as_bytes()),
+            (Form::Number(n), _) => other.is_number(*n),
+            (_, Form::Number(n)) => self.is_number(*n),
+            (Form::List(own), Form::List(items)) => own.same(items),
+            (Form::List(own), Form::Dict(entries)) => own.same_entries(entries),
+            (Form::Dict(own), Form::List(items)) => items.same_entries(own),
+            (Form::Dict(own), Form::Dict(entries)) => own.same(entries),
+        }
+    }
+
+    /// Whether its text is that of a number. This takes no memory.
+    fn is_number(&self, n: i64) -> bool
+        ensures { IsTrue result ↔ (self.now ≡ signed_decimal n) }
+    {
+        self.is_text(Buffer::new().format(n).as_bytes())
+    }
+
     /// The integer that its text reads as, in a style. This takes no memory.
     ///
     /// # Errors
@@ -419,6 +462,29 @@ impl Value {
         let mut list = self.as_list(alloc)?;
         self.kept = Kept::Nothing;
         list.push_element(element)?;
+        *self = Value::from_list(alloc, list)?;
+        Ok(())
+    }
+
+    /// Adds elements to the list that it reads as, all of them or none: in place where it is kept as a list that isn't
+    /// shared.
+    ///
+    /// # Errors
+    /// [`ChangeError::List`] exactly where the text spells no list, [`ChangeError::TooLong`] exactly where the list's text
+    /// would be longer than [`MOST_BYTES`]; want of memory. Any leaves the value as it was.
+    pub fn extend(&mut self, alloc: Global, values: &[Value]) -> Result<(), ChangeError>
+        ensures extended { OnOk result (AtList (list_of self.old) (λ list. (self.new ≡ write (list ++ values.now)) × IsWithin (write (list ++ values.now)))) }
+        ensures refused { IfErr result (λ e. Refuses e (list_of self.old) (λ list. IsPast (write (list ++ values.now))) (λ _. ⊥)) }
+        ensures unchanged { OnErr result (self.new ≡ self.old) }
+    {
+        let elements = elements_of(alloc, values)?;
+        if let Form::List(items) = &mut self.form {
+            self.kept = Kept::Nothing;
+            return extend_shared(items, elements);
+        }
+        let mut list = self.as_list(alloc)?;
+        self.kept = Kept::Nothing;
+        list.extend_elements(elements)?;
         *self = Value::from_list(alloc, list)?;
         Ok(())
     }
@@ -628,6 +694,32 @@ fn push_shared(items: &mut Rc<Items>, element: Element) -> Result<(), ChangeErro
         Ok(own) => own.push(element).map_err(ChangeError::from),
         Err(_) => Err(ChangeError::Memory),
     }
+}
+
+/// Adds elements to a list, all of them or none: in place where it isn't shared.
+fn extend_shared(items: &mut Rc<Items>, elements: Vec<Element>) -> Result<(), ChangeError>
+    requires { AreElements elements.items }
+    ensures extended { OnOk result (items.new.value ≡ items.old.value ++ texts elements.items) }
+    ensures within { OnOk result (IsWithin (write items.new.value)) }
+    ensures refused { IfErr result (λ e. Refuses e (Ok items.old.value) (λ list. IsPast (write (list ++ texts elements.items))) (λ _. ⊥)) }
+    ensures unchanged { OnErr result (items.new.value ≡ items.old.value) }
+{
+    match Rc::make_mut(items) {
+        Ok(own) => own.extend(elements).map_err(ChangeError::from),
+        Err(_) => Err(ChangeError::Memory),
+    }
+}
+
+/// Values as the elements of a list.
+fn elements_of(alloc: Global, values: &[Value]) -> Result<Vec<Element>, AllocError>
+    ensures texts { IfOk result (λ made. texts made.items ≡ values.now) }
+    ensures elements { IfOk result (λ made. AreElements made.items) }
+{
+    let mut elements = Vec::with_capacity(alloc, values.len())?;
+    'values: for value in values {
+        elements.push(value.clone()?.into_element(alloc)?)?;
+    }
+    Ok(elements)
 }
 
 /// Gives a key of a dict a value: in place where the dict isn't shared.

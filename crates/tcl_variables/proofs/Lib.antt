@@ -2,3 +2,4 @@ pub mod EntryLemmas
 pub mod NameLemmas
 pub mod FrameLemmas
 pub mod LendLemmas
+pub mod SameLemmas

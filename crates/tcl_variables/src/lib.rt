@@ -2,6 +2,7 @@
 #![tactic(auto)]
 
 pub mod access;
+pub mod comparing;
 pub mod fault;
 pub mod frame;
 pub mod name;

@@ -10,7 +10,7 @@ use crate::name::is_name;
 use crate::node::{Node, State};
 use crate::refusal::Refusal;
 use crate::steps::{attach, detach, make_room};
-use crate::tree::Tree;
+use crate::tree::{Place, Tree};
 use indexmap::IndexMap;
 use std::alloc::{AllocError, Global};
 use tcl_text::text::Text;
@@ -36,9 +36,8 @@ fn interp_name(alloc: Global, number: u64) -> Result<Text, AllocError>
 }
 
 // The first such name that is no command.
-fn first_free(alloc: Global, commands: &Commands) -> Result<Text, Refusal>
+fn first_free(alloc: Global, commands: &Commands) -> Result<Text, AllocError>
     ensures free { IfOk result (λ name. IsFirstFree commands.now.entries name) }
-    ensures refused { IfErr result (λ e. e ≡ Memory) }
 {
     'numbers: for number in 0..u64::MAX {
         let name = interp_name(alloc, number)?;
@@ -47,14 +46,14 @@ fn first_free(alloc: Global, commands: &Commands) -> Result<Text, Refusal>
         }
     }
     // So many commands fit no memory.
-    Err(Refusal::Memory)
+    Err(AllocError)
 }
 
 impl Tree {
     ghost use Rattle.tcl_tree.specs.Paths.{is_above};
     ghost use Rattle.tcl_tree.specs.Nodes.{NodeView, IsLeaf, pruned};
     ghost use Rattle.tcl_tree.specs.Changes.{MayMake, Makes, RefusesMake, Drops, RefusesDrop};
-    ghost use Rattle.tcl_tree.specs.TreeOf.{tree_of, key_of, marks_of};
+    ghost use Rattle.tcl_tree.specs.TreeOf.{tree_of, key_of, marks_of, Names};
 
     /// The name that a child of the interpreter at the path gets where none is given: `interp` and the least number with which it is no
     /// command there.
@@ -67,8 +66,22 @@ impl Tree {
         ensures refused { IfErr result (λ e. RefusesName e (tree_of self.now) path.now) }
     {
         match self.commands(path) {
-            Some(commands) => first_free(alloc, commands),
+            Some(commands) => Ok(first_free(alloc, commands)?),
             None => Err(Refusal::NoInterpreter),
+        }
+    }
+
+    /// The name that a child of the interpreter that the place names gets where none is given.
+    ///
+    /// # Errors
+    /// Want of memory.
+    pub fn free_name_at(&self, alloc: Global, place: Place) -> Result<Text, AllocError>
+        requires { (p : List (List ℕ)) × Names self.now place p }
+        ensures free { IfOk result (λ name. (p : List (List ℕ)) (v : NodeView) → Names self.now place p → tree_of self.now p ≡ Some v → IsFirstFree v.own.commands name) }
+    {
+        match self.nodes.get(place.key) {
+            Some(node) => first_free(alloc, &node.state.commands),
+            None => unreachable!(),
         }
     }
 
@@ -90,11 +103,34 @@ impl Tree {
         ensures keys { (q : List (List ℕ)) (k : ℕ) → key_of self.old q ≡ Some k → key_of self.new q ≡ Some k }
         ensures marks { marks_of self.new ≡ marks_of self.old }
     {
-        let Some(parent) = self.find(path) else {
+        let Some(place) = self.place(path) else {
             return Err(Refusal::NoInterpreter);
         };
+        self.create_at(alloc, place, name, safe)
+    }
+
+    /// Makes a child of this name in the interpreter that the place names: safe where that is asked for or the parent is safe.
+    ///
+    /// # Errors
+    /// Refusals, in this order: 238 of the name; 302 where it is a command; 307. Want of memory.
+    pub fn create_at(
+        &mut self,
+        alloc: Global,
+        place: Place,
+        name: &Text,
+        safe: bool,
+    ) -> Result<(), Refusal>
+        requires { (p : List (List ℕ)) × Names self.old place p }
+        ensures may { OnOk result ((p : List (List ℕ)) → Names self.old place p → MayMake (tree_of self.old) p name.now) }
+        ensures made { OnOk result ((p : List (List ℕ)) → Names self.old place p → Makes (tree_of self.old) (tree_of self.new) p name.now safe) }
+        ensures refused { IfErr result (λ e. (p : List (List ℕ)) → Names self.old place p → RefusesMake e (tree_of self.old) p name.now) }
+        ensures unchanged { OnErr result (tree_of self.new ≡ tree_of self.old) }
+        ensures keys { (q : List (List ℕ)) (k : ℕ) → key_of self.old q ≡ Some k → key_of self.new q ≡ Some k }
+        ensures marks { marks_of self.new ≡ marks_of self.old }
+    {
+        let parent = place.key;
         let Some(up) = self.nodes.get(parent) else {
-            return Err(Refusal::NoInterpreter);
+            unreachable!();
         };
         if !is_name(name) {
             return Err(Refusal::BadName);
@@ -195,14 +231,33 @@ impl Tree {
         ensures dropped { OnOk result (Drops (tree_of self.old) (tree_of self.new) path.now name.now) }
         ensures refused { IfErr result (λ e. RefusesDrop e (tree_of self.old) path.now name.now) }
         ensures unchanged { OnErr result (tree_of self.new ≡ tree_of self.old) }
+        ensures kept { OnErr result ((q : List (List ℕ)) → key_of self.new q ≡ key_of self.old q) }
         ensures keys { (q : List (List ℕ)) (k : ℕ) → is_above (path.now ++ name.now ∷ []) q ≡ false → key_of self.old q ≡ Some k → key_of self.new q ≡ Some k }
         ensures marks { marks_of self.new ≡ marks_of self.old }
     {
-        let Some(parent) = self.find(path) else {
+        let Some(key) = self.find(path) else {
             return Err(Refusal::NoInterpreter);
         };
-        let Some(up) = self.nodes.get(parent) else {
-            return Err(Refusal::NoInterpreter);
+        self.delete_at(Place { key }, name)
+    }
+
+    /// Deletes the child of this name of the interpreter that the place names, with all below it. This takes no memory.
+    ///
+    /// # Errors
+    /// Refusal 301 where there is none, and 303 where an evaluation is in progress in it.
+    pub fn delete_at(&mut self, place: Place, name: &Text) -> Result<(), Refusal>
+        requires { (p : List (List ℕ)) × Names self.old place p }
+        ensures there { OnOk result ((p : List (List ℕ)) → Names self.old place p → IsSome (tree_of self.old (p ++ name.now ∷ []))) }
+        ensures idle { OnOk result ((p : List (List ℕ)) → Names self.old place p → (v : NodeView) → tree_of self.old (p ++ name.now ∷ []) ≡ Some v → v.depth ≡ 0) }
+        ensures dropped { OnOk result ((p : List (List ℕ)) → Names self.old place p → Drops (tree_of self.old) (tree_of self.new) p name.now) }
+        ensures refused { IfErr result (λ e. (p : List (List ℕ)) → Names self.old place p → RefusesDrop e (tree_of self.old) p name.now) }
+        ensures unchanged { OnErr result (tree_of self.new ≡ tree_of self.old) }
+        ensures kept { OnErr result ((q : List (List ℕ)) → key_of self.new q ≡ key_of self.old q) }
+        ensures keys { (p : List (List ℕ)) → Names self.old place p → (q : List (List ℕ)) (k : ℕ) → is_above (p ++ name.now ∷ []) q ≡ false → key_of self.old q ≡ Some k → key_of self.new q ≡ Some k }
+        ensures marks { marks_of self.new ≡ marks_of self.old }
+    {
+        let Some(up) = self.nodes.get(place.key) else {
+            unreachable!();
         };
         let Some(child) = up.children.get(name) else {
             return Err(Refusal::NoInterpreter);

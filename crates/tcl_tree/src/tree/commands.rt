@@ -1,46 +1,18 @@
 //! The commands of one interpreter.
-ghost use Rattle.std.specs.Prelude.{◌≡◌, List, ℕ, true, IfOk, IfErr, IfSome, OnOk, OnErr, Some, None, option_map};
+ghost use Rattle.std.specs.Prelude.{◌≡◌, ◌++◌, ◌∷◌, [], List, ℕ, false, IfErr, OnOk, OnErr, IsSome, Some};
 ghost use Rattle.std.specs.Option.{option_copied, option_and_then};
-ghost use Rattle.tcl_tree.specs.Changes.{is_child, is_alias};
-ghost use Rattle.tcl_tree.specs.Nodes.{NodeView};
 
 use crate::alias::Alias;
-use crate::command::Command;
-use crate::name::is_command_name;
+use crate::command::{Command, is_child};
 use crate::procedure::Procedure;
 use crate::refusal::Refusal;
 use crate::tree::{Place, Tree};
 use tcl_text::text::Text;
 
-// Whether the command is a child interpreter.
-pub(crate) fn is_child(command: Option<&Command>) -> bool
-    ensures { result ≡ is_child (option_copied command.entry) }
-{
-    match command {
-        Some(Command::Child) => true,
-        Some(Command::Builtin(_)) => false,
-        Some(Command::Procedure(_)) => false,
-        Some(Command::Alias(_)) => false,
-        None => false,
-    }
-}
-
-// Whether the command is an alias.
-fn is_alias(command: Option<&Command>) -> bool
-    ensures { result ≡ is_alias (option_copied command.entry) }
-{
-    match command {
-        Some(Command::Alias(_)) => true,
-        Some(Command::Builtin(_)) => false,
-        Some(Command::Procedure(_)) => false,
-        Some(Command::Child) => false,
-        None => false,
-    }
-}
-
 impl Tree {
     ghost use Rattle.tcl_tree.specs.Own.{command_in, hidden_in};
-    ghost use Rattle.tcl_tree.specs.Changes.{Rewrites, with_command, without_command, MaySet, RefusesSet, RefusesClear};
+    ghost use Rattle.tcl_tree.specs.Paths.{is_above};
+    ghost use Rattle.tcl_tree.specs.Naming.{Becomes, RefusesThere, RefusesAt, Renames, RefusesRename, named, cleared};
     ghost use Rattle.tcl_tree.specs.TreeOf.{tree_of, key_of, marks_of, Names};
     ghost use Rattle.tcl_tree.specs.declared.command.Command.TheVariants as command;
 
@@ -68,49 +40,22 @@ impl Tree {
         node.state.hidden.get(name)
     }
 
-    // Gives a name to a command, where it isn't a child's.
-    fn set_command(&mut self, path: &[Text], name: Text, command: Command) -> Result<(), Refusal>
-        ensures may { OnOk result (MaySet (tree_of self.old) path.now name) }
-        ensures set { OnOk result (Rewrites (tree_of self.old) (tree_of self.new) path.now (with_command name command)) }
-        ensures refused { IfErr result (λ e. RefusesSet e (tree_of self.old) path.now name) }
-        ensures unchanged { OnErr result (tree_of self.new ≡ tree_of self.old) }
-        ensures keys { (q : List (List ℕ)) → key_of self.new q ≡ key_of self.old q }
-        ensures marks { marks_of self.new ≡ marks_of self.old }
-    {
-        let Some(key) = self.find(path) else {
-            return Err(Refusal::NoInterpreter);
-        };
-        let Some(node) = self.nodes.get(key) else {
-            return Err(Refusal::NoInterpreter);
-        };
-        if !is_command_name(&name) {
-            return Err(Refusal::BadName);
-        }
-        if is_child(node.state.commands.get(&name)) {
-            return Err(Refusal::Exists);
-        }
-        match self.nodes.get_mut(key) {
-            Some(node) => {
-                node.state.commands.insert(name, command)?;
-                Ok(())
-            }
-            None => Err(Refusal::NoInterpreter),
-        }
-    }
-
     /// Makes a name of the interpreter at the path an alias, which is looked up at each call and not now.
     ///
     /// # Errors
     /// Refusals, in this order: 301; 238 of the name; 302 where it is a child. Want of memory.
     pub fn set_alias(&mut self, path: &[Text], name: Text, alias: Alias) -> Result<(), Refusal>
-        ensures may { OnOk result (MaySet (tree_of self.old) path.now name) }
-        ensures set { OnOk result (Rewrites (tree_of self.old) (tree_of self.new) path.now (with_command name (command.Alias alias))) }
-        ensures refused { IfErr result (λ e. RefusesSet e (tree_of self.old) path.now name) }
+        ensures there { OnOk result (IsSome (tree_of self.old path.now)) }
+        ensures set { OnOk result (Becomes (tree_of self.old) (tree_of self.new) path.now (λ own. named own name (command.Alias alias))) }
+        ensures refused { IfErr result (λ e. RefusesAt e (tree_of self.old) path.now (λ own. named own name (command.Alias alias))) }
         ensures unchanged { OnErr result (tree_of self.new ≡ tree_of self.old) }
         ensures keys { (q : List (List ℕ)) → key_of self.new q ≡ key_of self.old q }
         ensures marks { marks_of self.new ≡ marks_of self.old }
     {
-        self.set_command(path, name, Command::Alias(alias))
+        let Some(place) = self.place(path) else {
+            return Err(Refusal::NoInterpreter);
+        };
+        self.set_alias_at(place, name, alias)
     }
 
     /// Makes a name of the interpreter at the path a procedure.
@@ -123,14 +68,17 @@ impl Tree {
         name: Text,
         procedure: Procedure,
     ) -> Result<(), Refusal>
-        ensures may { OnOk result (MaySet (tree_of self.old) path.now name) }
-        ensures set { OnOk result (Rewrites (tree_of self.old) (tree_of self.new) path.now (with_command name (command.Procedure procedure))) }
-        ensures refused { IfErr result (λ e. RefusesSet e (tree_of self.old) path.now name) }
+        ensures there { OnOk result (IsSome (tree_of self.old path.now)) }
+        ensures set { OnOk result (Becomes (tree_of self.old) (tree_of self.new) path.now (λ own. named own name (command.Procedure procedure))) }
+        ensures refused { IfErr result (λ e. RefusesAt e (tree_of self.old) path.now (λ own. named own name (command.Procedure procedure))) }
         ensures unchanged { OnErr result (tree_of self.new ≡ tree_of self.old) }
         ensures keys { (q : List (List ℕ)) → key_of self.new q ≡ key_of self.old q }
         ensures marks { marks_of self.new ≡ marks_of self.old }
     {
-        self.set_command(path, name, Command::Procedure(procedure))
+        let Some(place) = self.place(path) else {
+            return Err(Refusal::NoInterpreter);
+        };
+        self.set_proc_at(place, name, procedure)
     }
 
     /// Takes an alias of the interpreter at the path away. This takes no memory.
@@ -138,28 +86,43 @@ impl Tree {
     /// # Errors
     /// Refusal 301; 305 where the name is no alias.
     pub fn clear_alias(&mut self, path: &[Text], name: &Text) -> Result<(), Refusal>
-        ensures cleared { OnOk result (Rewrites (tree_of self.old) (tree_of self.new) path.now (without_command name.now)) }
-        ensures was { OnOk result ((v : NodeView) → tree_of self.old path.now ≡ Some v → is_alias (command_in v.own name.now) ≡ true) }
-        ensures refused { IfErr result (λ e. RefusesClear e (tree_of self.old) path.now name.now) }
+        ensures there { OnOk result (IsSome (tree_of self.old path.now)) }
+        ensures cleared { OnOk result (Becomes (tree_of self.old) (tree_of self.new) path.now (λ own. cleared own name.now)) }
+        ensures refused { IfErr result (λ e. RefusesThere e (tree_of self.old) path.now (λ own. cleared own name.now)) }
         ensures unchanged { OnErr result (tree_of self.new ≡ tree_of self.old) }
         ensures keys { (q : List (List ℕ)) → key_of self.new q ≡ key_of self.old q }
         ensures marks { marks_of self.new ≡ marks_of self.old }
     {
-        let Some(key) = self.find(path) else {
+        let Some(place) = self.place(path) else {
             return Err(Refusal::NoInterpreter);
         };
-        let Some(node) = self.nodes.get(key) else {
+        self.clear_alias_at(place, name)
+    }
+
+    /// Gives a command of the interpreter at the path another name, and puts it last; where the new name is empty the command is taken away,
+    /// and of a child's command the child is deleted with all below it.
+    ///
+    /// # Errors
+    /// Refusals, in this order: 301; 305 of the name; 302 where it is a child; 238 of the new name; 302 where that is a command. Where the new
+    /// name is empty: 301; 303 of a child in which an evaluation is in progress; 305. Want of memory, where it isn't.
+    pub fn rename(&mut self, path: &[Text], name: &Text, new_name: Text) -> Result<(), Refusal>
+        ensures there { OnOk result (IsSome (tree_of self.old path.now)) }
+        ensures renamed { OnOk result (Renames (tree_of self.old) (tree_of self.new) path.now name.now new_name) }
+        ensures refused { IfErr result (λ e. RefusesRename e (tree_of self.old) path.now name.now new_name) }
+        ensures unchanged { OnErr result (tree_of self.new ≡ tree_of self.old) }
+        ensures kept { OnErr result ((q : List (List ℕ)) → key_of self.new q ≡ key_of self.old q) }
+        ensures keys { (q : List (List ℕ)) (k : ℕ) → is_above (path.now ++ name.now ∷ []) q ≡ false → key_of self.old q ≡ Some k → key_of self.new q ≡ Some k }
+        ensures marks { marks_of self.new ≡ marks_of self.old }
+    {
+        let Some(place) = self.place(path) else {
             return Err(Refusal::NoInterpreter);
         };
-        if !is_alias(node.state.commands.get(name)) {
-            return Err(Refusal::NoCommand);
+        if !new_name.as_str().is_empty() {
+            return self.rename_at(place, name, new_name);
         }
-        match self.nodes.get_mut(key) {
-            Some(node) => {
-                node.state.commands.shift_remove(name);
-                Ok(())
-            }
-            None => Err(Refusal::NoInterpreter),
+        if is_child(self.command_at(place, name)) {
+            return self.delete(path, name);
         }
+        self.remove_at(place, name)
     }
 }

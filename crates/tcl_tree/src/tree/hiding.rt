@@ -1,49 +1,41 @@
 //! Commands that are hidden and exposed.
-ghost use Rattle.std.specs.Prelude.{◌≡◌, ◌++◌, ◌∷◌, [], List, ℕ, true, IfOk, IfErr, OnOk, OnErr, Some, None, IsSome};
-ghost use Rattle.std.specs.Str.{bytes_eq};
-ghost use Rattle.std.specs.Map.{lookup, remove_entry};
-ghost use Rattle.tcl_tree.specs.declared.command.Command.{Command};
-ghost use Rattle.tcl_tree.specs.Nodes.{NodeView};
+ghost use Rattle.std.specs.Prelude.{◌≡◌, ◌++◌, List, ℕ, IfOk, IfErr, OnOk, OnErr, IsSome};
 
-use crate::command::Commands;
 use crate::refusal::Refusal;
-use crate::tree::Tree;
-use crate::tree::commands::is_child;
-use std::alloc::AllocError;
+use crate::tree::{Place, Tree};
 use tcl_text::text::Text;
 
-// Moves a command from one map to the end of another, under a name that is free there.
-fn move_command(
-    from: &mut Commands,
-    to: &mut Commands,
-    name: &Text,
-    new_name: Text,
-) -> Result<(), AllocError>
-    requires { lookup (bytes_eq new_name) to.old.entries ≡ None }
-    ensures taken { OnOk result ((c : Command) → lookup (bytes_eq name.now) from.old.entries ≡ Some c → from.new.entries ≡ remove_entry (bytes_eq name.now) from.old.entries) }
-    ensures put { OnOk result ((c : Command) → lookup (bytes_eq name.now) from.old.entries ≡ Some c → to.new.entries ≡ to.old.entries ++ (new_name, c) ∷ []) }
-    ensures from_kept { OnErr result (from.new.entries ≡ from.old.entries) }
-    ensures to_kept { OnErr result (to.new.entries ≡ to.old.entries) }
-{
-    to.reserve(1)?;
-    match from.shift_remove(name) {
-        Some(command) => {
-            let _ = to.insert(new_name, command);
-            Ok(())
-        }
-        None => Ok(()),
-    }
-}
-
 impl Tree {
-    ghost use Rattle.tcl_tree.specs.Changes.{Rewrites, with_hidden, with_exposed, MayHide, RefusesHide, MayExpose, RefusesExpose};
-    ghost use Rattle.tcl_tree.specs.TreeOf.{tree_of, key_of, marks_of};
+    ghost use Rattle.tcl_tree.specs.Naming.{Becomes, IsTrusted, RefusesToAsk, RefusesAsked, hidden_under, exposed_under};
+    ghost use Rattle.tcl_tree.specs.TreeOf.{tree_of, key_of, marks_of, Names};
+
+    // The place that names lead to from the interpreter at a path, where that is trusted.
+    fn asked(&self, path: &[Text], down: &[Text]) -> Result<Place, Refusal>
+        ensures trusted { OnOk result (IsTrusted (tree_of self.now) path.now) }
+        ensures place { IfOk result (λ place. Names self.now place (path.now ++ down.now)) }
+        ensures refused { IfErr result (λ e. RefusesToAsk e (tree_of self.now) path.now down.now) }
+    {
+        let Some(asking) = self.find(path) else {
+            return Err(Refusal::NoInterpreter);
+        };
+        let Some(asker) = self.nodes.get(asking) else {
+            return Err(Refusal::NoInterpreter);
+        };
+        if asker.state.safe {
+            return Err(Refusal::Denied);
+        }
+        match self.descend(asking, down) {
+            Some(key) => Ok(Place { key }),
+            None => Err(Refusal::NoInterpreter),
+        }
+    }
 
     /// Hides, for the interpreter at a path, a command of the one that names lead to from there, under a name of its own.
     ///
     /// # Errors
     /// Refusals, in this order: 301 of the path; 304 where the one that asks is safe; 301 of the names; 305 where there is no such command;
-    /// 302 where it is a child, or a command is hidden under that name. Want of memory.
+    /// 302 where it is a child; 238 of the name under which it is to be hidden; 302 where a command is
+    /// hidden under that. Want of memory.
     pub fn hide(
         &mut self,
         path: &[Text],
@@ -51,52 +43,23 @@ impl Tree {
         name: &Text,
         hidden: Text,
     ) -> Result<(), Refusal>
-        ensures may { OnOk result (MayHide (tree_of self.old) path.now down.now name.now hidden) }
-        ensures moved { OnOk result (Rewrites (tree_of self.old) (tree_of self.new) (path.now ++ down.now) (with_hidden name.now hidden)) }
-        ensures refused { IfErr result (λ e. RefusesHide e (tree_of self.old) path.now down.now name.now hidden) }
+        ensures trusted { OnOk result (IsTrusted (tree_of self.old) path.now) }
+        ensures there { OnOk result (IsSome (tree_of self.old (path.now ++ down.now))) }
+        ensures moved { OnOk result (Becomes (tree_of self.old) (tree_of self.new) (path.now ++ down.now) (λ own. hidden_under own name.now hidden)) }
+        ensures refused { IfErr result (λ e. RefusesAsked e (tree_of self.old) path.now down.now (λ own. hidden_under own name.now hidden)) }
         ensures unchanged { OnErr result (tree_of self.new ≡ tree_of self.old) }
         ensures keys { (q : List (List ℕ)) → key_of self.new q ≡ key_of self.old q }
         ensures marks { marks_of self.new ≡ marks_of self.old }
     {
-        let Some(asking) = self.find(path) else {
-            return Err(Refusal::NoInterpreter);
-        };
-        let Some(asker) = self.nodes.get(asking) else {
-            return Err(Refusal::NoInterpreter);
-        };
-        if asker.state.safe {
-            return Err(Refusal::Denied);
-        }
-        let Some(key) = self.descend(asking, down) else {
-            return Err(Refusal::NoInterpreter);
-        };
-        let Some(owner) = self.nodes.get(key) else {
-            return Err(Refusal::NoInterpreter);
-        };
-        if !owner.state.commands.contains_key(name) {
-            return Err(Refusal::NoCommand);
-        }
-        if is_child(owner.state.commands.get(name)) {
-            return Err(Refusal::Exists);
-        }
-        if owner.state.hidden.contains_key(&hidden) {
-            return Err(Refusal::Exists);
-        }
-        match self.nodes.get_mut(key) {
-            Some(node) => {
-                let state = &mut node.state;
-                move_command(&mut state.commands, &mut state.hidden, name, hidden)?;
-                Ok(())
-            }
-            None => Err(Refusal::NoInterpreter),
-        }
+        let place = self.asked(path, down)?;
+        self.hide_at(place, name, hidden)
     }
 
     /// Makes, for the interpreter at a path, a hidden command of the one that names lead to from there a command again.
     ///
     /// # Errors
     /// Refusals, in this order: 301 of the path; 304 where the one that asks is safe; 301 of the names; 306 where no command is hidden so;
-    /// 302 where the name is a command. Want of memory.
+    /// 238 of the name that it is to have; 302 where that is a command. Want of memory.
     pub fn expose(
         &mut self,
         path: &[Text],
@@ -104,41 +67,15 @@ impl Tree {
         hidden: &Text,
         name: Text,
     ) -> Result<(), Refusal>
-        ensures may { OnOk result (MayExpose (tree_of self.old) path.now down.now hidden.now name) }
-        ensures moved { OnOk result (Rewrites (tree_of self.old) (tree_of self.new) (path.now ++ down.now) (with_exposed hidden.now name)) }
-        ensures refused { IfErr result (λ e. RefusesExpose e (tree_of self.old) path.now down.now hidden.now name) }
+        ensures trusted { OnOk result (IsTrusted (tree_of self.old) path.now) }
+        ensures there { OnOk result (IsSome (tree_of self.old (path.now ++ down.now))) }
+        ensures moved { OnOk result (Becomes (tree_of self.old) (tree_of self.new) (path.now ++ down.now) (λ own. exposed_under own hidden.now name)) }
+        ensures refused { IfErr result (λ e. RefusesAsked e (tree_of self.old) path.now down.now (λ own. exposed_under own hidden.now name)) }
         ensures unchanged { OnErr result (tree_of self.new ≡ tree_of self.old) }
         ensures keys { (q : List (List ℕ)) → key_of self.new q ≡ key_of self.old q }
         ensures marks { marks_of self.new ≡ marks_of self.old }
     {
-        let Some(asking) = self.find(path) else {
-            return Err(Refusal::NoInterpreter);
-        };
-        let Some(asker) = self.nodes.get(asking) else {
-            return Err(Refusal::NoInterpreter);
-        };
-        if asker.state.safe {
-            return Err(Refusal::Denied);
-        }
-        let Some(key) = self.descend(asking, down) else {
-            return Err(Refusal::NoInterpreter);
-        };
-        let Some(owner) = self.nodes.get(key) else {
-            return Err(Refusal::NoInterpreter);
-        };
-        if !owner.state.hidden.contains_key(hidden) {
-            return Err(Refusal::NoHidden);
-        }
-        if owner.state.commands.contains_key(&name) {
-            return Err(Refusal::Exists);
-        }
-        match self.nodes.get_mut(key) {
-            Some(node) => {
-                let state = &mut node.state;
-                move_command(&mut state.hidden, &mut state.commands, hidden, name)?;
-                Ok(())
-            }
-            None => Err(Refusal::NoInterpreter),
-        }
+        let place = self.asked(path, down)?;
+        self.expose_at(place, hidden, name)
     }
 }

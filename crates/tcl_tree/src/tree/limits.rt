@@ -11,7 +11,7 @@ pub const MOST_DEPTH: u64 = 1000;
 
 impl Tree {
     ghost use Rattle.tcl_core.specs.Trees.{effect};
-    ghost use Rattle.tcl_core.specs.Trees.What.{Charged, Nested, Unnested, Limited};
+    ghost use Rattle.tcl_core.specs.Trees.What.{Charged, Nested, Unnested, Limited, DepthLimited};
     ghost use Rattle.tcl_core.specs.Programs.{blocked, is_spent, is_deep};
     ghost use Rattle.tcl_tree.specs.Changes.{RefusesStep, RefusesLevel};
     ghost use Rattle.tcl_tree.specs.Nodes.{NoneFull, IsNearestFull, charged, full_of, moved};
@@ -125,8 +125,32 @@ impl Tree {
         ensures marks { marks_of self.new ≡ marks_of self.old }
         ensures limited { tree_of self.new ≡ effect [] (Limited limit) (tree_of self.old) }
     {
-        match self.nodes.get_mut(self.root) {
+        let root = self.root();
+        self.set_limit_at(root, limit);
+    }
+
+    /// Sets or clears the limit of steps of the interpreter that the place names, whoever asks. This takes no memory.
+    pub fn set_limit_at(&mut self, place: Place, limit: Option<u64>)
+        requires { (p : List (List ℕ)) × Names self.old place p }
+        ensures keys { (q : List (List ℕ)) → key_of self.new q ≡ key_of self.old q }
+        ensures marks { marks_of self.new ≡ marks_of self.old }
+        ensures limited { (p : List (List ℕ)) → Names self.old place p → tree_of self.new ≡ effect p (Limited limit) (tree_of self.old) }
+    {
+        match self.nodes.get_mut(place.key) {
             Some(node) => node.state.limit = limit,
+            None => unreachable!(),
+        }
+    }
+
+    /// Sets the limit of depth of the interpreter that the place names, whoever asks. This takes no memory.
+    pub fn set_depth_limit_at(&mut self, place: Place, limit: u64)
+        requires { (p : List (List ℕ)) × Names self.old place p }
+        ensures keys { (q : List (List ℕ)) → key_of self.new q ≡ key_of self.old q }
+        ensures marks { marks_of self.new ≡ marks_of self.old }
+        ensures limited { (p : List (List ℕ)) → Names self.old place p → tree_of self.new ≡ effect p (DepthLimited limit) (tree_of self.old) }
+    {
+        match self.nodes.get_mut(place.key) {
+            Some(node) => node.state.depth_limit = limit,
             None => unreachable!(),
         }
     }

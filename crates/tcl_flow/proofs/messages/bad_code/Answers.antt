@@ -1,4 +1,4 @@
-use Rattle.std.proofs.Common.{◌≡◌, ◌∙◌, ap, ℕ, ◌≤◌, length, arith, to_z, of_z, w64, ◌++◌, List}
+use Rattle.std.proofs.Common.{◌∙◌, ap, ◌≤◌, length, arith, w64, ◌++◌}
 use Rattle.std.specs.String.{string_bytes}
 use Rattle.std.specs.Fmt.{signed_decimal}
 use Rattle.std.proofs.lemmas.Int.{to_z-of_z}

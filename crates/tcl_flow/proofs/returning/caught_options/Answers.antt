@@ -1,4 +1,3 @@
-use Rattle.std.proofs.Common.{◌≡◌}
 use Rattle.tcl_flow.proofs.Lengths.{made_text, past_text}
 use Rattle.tcl_flow.proofs.returning.caught_options.Goals as goal
 

@@ -1,20 +1,8 @@
-use Rattle.std.proofs.Common.{sym, refl, []}
-use Rattle.tcl_tree.proofs.HeapLemmas.{follow-nil}
-use Rattle.tcl_tree.proofs.StepLemmas.{sound_write, guarded_write, follow_write, leads_somewhere}
-use Rattle.tcl_tree.proofs.OwnLemmas.{limit_write}
+use Rattle.std.proofs.Common.{[]}
 use Rattle.tcl_tree.proofs.tree.Tree.set_run_limit.Goals as goal
 
-pub invariant_of-self : goal.invariant_of-self
-invariant_of-self c = record {
-  sound = sound_write c.args.self.now.nodes _ c.args.self.now.sound [] _ (follow-nil _ _) _ _ (sym c.in-Some.ensures.value) (record { parent = refl; name = refl; level = refl; children = refl; safe = refl });
-  guarded = guarded_write c.args.self.now.nodes _ c.args.self.now.sound [] _ (follow-nil _ _) _ _ (sym c.in-Some.ensures.value) (record { parent = refl; name = refl; level = refl; children = refl; safe = refl }) c.args.self.now.guarded;
-}
-
-pub unreachable-requires : goal.unreachable-requires
-unreachable-requires c = leads_somewhere _ _ c.args.self.now.sound [] _ (follow-nil _ _) (sym c.in-None.ensures.value)
-
-pub returns-clause-keys : goal.returns-clause-keys
-returns-clause-keys c = follow_write c.args.self.now.nodes _ c.args.self.now.sound [] _ (follow-nil _ _) _ _ (sym c.in-Some.ensures.value) (record { parent = refl; name = refl; level = refl; children = refl; safe = refl })
+pub set_limit_at-requires : goal.set_limit_at-requires
+set_limit_at-requires c = ([], c.root-root.ensures)
 
 pub returns-clause-limited : goal.returns-clause-limited
-returns-clause-limited c = limit_write c.args.self.now.nodes _ c.args.self.now.sound [] _ (follow-nil _ _) _ _ (sym c.in-Some.ensures.value) (record { parent = refl; name = refl; level = refl; children = refl; safe = refl }) c.args.limit refl
+returns-clause-limited c = c.set_limit_at.ensures.limited [] c.root-root.ensures

@@ -1,0 +1,168 @@
+//! Times of values that are changed in loops. The times go to standard error, so that standard output stays the same.
+#![tactic(auto)]
+
+use std::alloc::Global;
+use std::io;
+use std::time::Instant;
+use tcl_text::integer::Integers;
+use tcl_text::text::Text;
+use tcl_value::value::{Value, ValueError};
+
+/// How often a number is counted up.
+const INCREMENTS: u32 = 10_000_000;
+
+/// How often a text, list or dict is changed.
+const CHANGES: u32 = 1_000_000;
+
+/// How many elements or keys stand in a list or dict whose parts are changed.
+const PARTS: usize = 1000;
+
+/// What a number is after it was counted up so often.
+fn increments(times: u32) -> i64 {
+    let mut value = Value::from_int(0);
+    for _ in 0..times {
+        if let Ok(n) = value.as_int(Integers::Tcl8) {
+            value.set_int(n.wrapping_add(1));
+        }
+    }
+    value.as_int(Integers::Tcl8).unwrap_or(0)
+}
+
+/// How long a text is to which four bytes were added so often.
+fn appends(alloc: Global, times: u32) -> usize {
+    let mut value = Value::empty();
+    for _ in 0..times {
+        let _ = value.append(alloc, "abcd");
+    }
+    value.text_len()
+}
+
+/// How long the text of a list is to which so many numbers were added.
+fn pushes(alloc: Global, times: u32) -> usize {
+    let mut value = Value::empty();
+    for i in 0..times {
+        let _ = value.push(alloc, Value::from_int(i64::from(i)));
+    }
+    value.text_len()
+}
+
+/// How long the text of a list is whose elements were changed in turn, so often.
+fn sets(alloc: Global, times: u32) -> usize {
+    let mut value = Value::empty();
+    for _ in 0..PARTS {
+        let _ = value.push(alloc, Value::empty());
+    }
+    for i in 0..times {
+        let _ = value.set_at(alloc, i as usize % PARTS, Value::from_int(i64::from(i)));
+    }
+    value.text_len()
+}
+
+/// How long the text of a dict is whose values were changed in turn, so often.
+fn entries(alloc: Global, keys: &[Value], times: u32) -> usize {
+    let mut value = Value::empty();
+    for i in 0..times {
+        if let Some(key) = keys.get(i as usize % PARTS) {
+            let _ = value.set_key(alloc, key, Value::from_int(i64::from(i)));
+        }
+    }
+    value.text_len()
+}
+
+/// How long the text of a dict is to which so many keys were added.
+fn keys_added(alloc: Global, times: u32) -> usize {
+    let mut value = Value::empty();
+    for i in 0..times {
+        let key = Value::from_int(i64::from(i));
+        let _ = value.set_key(alloc, &key, Value::empty());
+    }
+    value.text_len()
+}
+
+/// How many elements were counted in a literal whose list was read so often.
+fn reads(alloc: Global, literal: &mut Value, times: u32) -> usize {
+    let mut count = 0usize;
+    for _ in 0..times {
+        if let Ok(list) = literal.as_list(alloc) {
+            count = count.wrapping_add(list.len());
+        }
+    }
+    count
+}
+
+/// The keys of a dict: so many numbers.
+fn keys(alloc: Global) -> Result<Vec<Value>, ValueError> {
+    let mut keys = Vec::new(alloc);
+    for i in 0..PARTS {
+        let mut text = String::new(alloc);
+        write!(text, "key{i}")?;
+        keys.push(Value::from_text(Text::from_string(alloc, text)?)?)?;
+    }
+    Ok(keys)
+}
+
+/// A literal of that many words.
+fn literal(alloc: Global) -> Result<Value, ValueError> {
+    let mut text = String::new(alloc);
+    for i in 0..PARTS {
+        write!(text, "{{word {i}}} ")?;
+    }
+    Value::from_text(Text::from_string(alloc, text)?)
+}
+
+/// Says on standard output what came of it, and on standard error how long it took.
+macro_rules! timed {
+    ($rt:expr, $name:expr, $work:expr) => {
+        let start = Instant::now($rt)?;
+        let came = $work;
+        let time = start.elapsed($rt)?;
+        let name = $name;
+        println!($rt; "{name}: {came}")?;
+        eprintln!($rt; "{name}: {time:?}")?;
+    };
+}
+
+fn main(rt: HostRuntime) -> io::Result<()> {
+    let alloc = rt.alloc();
+    timed!(&rt, "10,000,000 increments", increments(INCREMENTS));
+    timed!(
+        &rt,
+        "100,000 appends to a text",
+        appends(alloc, CHANGES / 10)
+    );
+    timed!(&rt, "1,000,000 appends to a text", appends(alloc, CHANGES));
+    timed!(
+        &rt,
+        "100,000 appends to a list",
+        pushes(alloc, CHANGES / 10)
+    );
+    timed!(&rt, "1,000,000 appends to a list", pushes(alloc, CHANGES));
+    timed!(
+        &rt,
+        "100,000 changes of an element",
+        sets(alloc, CHANGES / 10)
+    );
+    timed!(&rt, "1,000,000 changes of an element", sets(alloc, CHANGES));
+    timed!(&rt, "100,000 new keys", keys_added(alloc, CHANGES / 10));
+    timed!(&rt, "1,000,000 new keys", keys_added(alloc, CHANGES));
+    if let Ok(keys) = keys(alloc) {
+        timed!(
+            &rt,
+            "100,000 changes of an entry",
+            entries(alloc, keys.as_slice(), CHANGES / 10)
+        );
+        timed!(
+            &rt,
+            "1,000,000 changes of an entry",
+            entries(alloc, keys.as_slice(), CHANGES)
+        );
+    }
+    if let Ok(mut literal) = literal(alloc) {
+        timed!(
+            &rt,
+            "1,000,000 readings of a literal's list",
+            reads(alloc, &mut literal, CHANGES)
+        );
+    }
+    Ok(())
+}

@@ -1,0 +1,3 @@
+pub mod Dicts
+pub mod Refusing
+pub mod Changing

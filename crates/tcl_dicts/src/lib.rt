@@ -1,0 +1,9 @@
+//! The subcommands of `dict` as functions of their words.
+#![tactic(auto)]
+
+pub mod building;
+pub mod changing;
+pub mod finding;
+pub mod reading;
+#[cfg(test)]
+mod tests;

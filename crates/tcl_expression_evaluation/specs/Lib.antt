@@ -1,0 +1,3 @@
+pub mod Computations
+pub mod Steps
+pub mod Laws

@@ -1,0 +1,8 @@
+//! Expressions that are kept, evaluated step by step.
+#![tactic(auto)]
+
+pub mod evaluation;
+pub mod laws;
+pub mod result;
+#[cfg(test)]
+mod tests;

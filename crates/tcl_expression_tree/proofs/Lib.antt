@@ -1,0 +1,4 @@
+pub mod Parsings
+pub mod Parsteps
+pub mod Readings
+pub mod Rests

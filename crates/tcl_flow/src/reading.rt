@@ -1,0 +1,361 @@
+//! The options that the words of `return` give.
+ghost use Rattle.std.specs.Prelude.{◌≡◌, ◌++◌, ◌<◌, ◌≤◌, ◌^◌, ◌*◌, Ok, Err, Some, None, IfOk, OnOk, IfErr, reverse, length, drop};
+ghost use Rattle.tcl_flow.specs.View.{options_of, completion_of};
+ghost use Rattle.tcl_flow.specs.Returning.{code_of, level_of, plain};
+ghost use Rattle.tcl_flow.specs.OptionReading.{in_place, options_in, result_in, option_name, meaning, Reads, Makes, IsRefused, Gave, OneReading, SomeReading};
+ghost use Rattle.tcl_flow.specs.declared.returning.OptionsFault.TheVariants.{BadOption, BadCode};
+ghost use Rattle.tcl_flow.specs.declared.reading.OptionsError.TheVariants.{Memory};
+ghost use Rattle.tcl_value.specs.Dicts.{dict_of};
+
+use crate::completion::{Completion, Options};
+use crate::returning::{OptionsFault, code_of, level_of, make_return};
+use std::alloc::{AllocError, AllocFailed, Global};
+use tcl_text::integer::Integers;
+use tcl_text::text::Text;
+use tcl_value::dict::Dict;
+use tcl_value::dict_fault::DictError;
+use tcl_value::value::Value;
+
+/// Why no options are read.
+#[derive(Debug, Drop)]
+pub enum OptionsError {
+    /// Want of memory.
+    Memory,
+    /// A refusal (221).
+    Fault(OptionsFault),
+}
+
+impl From<AllocError> for OptionsError {
+    ghost from_gives = { λ _ e. e ≡ Memory };
+
+    fn from(_error: AllocError) -> OptionsError {
+        OptionsError::Memory
+    }
+}
+
+impl<T: Drop> From<AllocFailed<T>> for OptionsError {
+    ghost from_gives = { λ _ e. e ≡ Memory };
+
+    fn from(_error: AllocFailed<T>) -> OptionsError {
+        OptionsError::Memory
+    }
+}
+
+/// Which option a name means.
+#[derive(Clone, Copy)]
+enum OptionName {
+    Code,
+    Level,
+    Errorcode,
+    Nested,
+    Other,
+}
+
+/// The option that a name means.
+fn option_name(name: &str) -> OptionName
+    ensures { result ≡ option_name name.now }
+{
+    if name == "-code" {
+        OptionName::Code
+    } else if name == "-level" {
+        OptionName::Level
+    } else if name == "-errorcode" {
+        OptionName::Errorcode
+    } else if name == "-options" {
+        OptionName::Nested
+    } else {
+        OptionName::Other
+    }
+}
+
+/// The code that an option gives.
+fn code_given(alloc: Global, style: Integers, value: Value) -> Result<i64, OptionsError>
+    ensures given { IfOk result (λ code. code_of style value ≡ Some code) }
+    ensures refused { IfErr result (λ e. IsRefused e (λ f. (code_of style value ≡ None) × (f ≡ BadCode value))) }
+{
+    let mut value = value;
+    match code_of(alloc, style, &mut value)? {
+        Some(code) => Ok(code),
+        None => Err(OptionsError::Fault(OptionsFault::BadCode(value.text(alloc)?))),
+    }
+}
+
+/// The level that an option gives.
+fn level_given(alloc: Global, style: Integers, value: Value) -> Result<u64, OptionsError>
+    ensures given { IfOk result (λ level. level_of style value ≡ Some level) }
+    ensures small { IfOk result (λ level. level < 2 ^ 63) }
+    ensures refused { IfErr result (λ e. IsRefused e (λ f. (level_of style value ≡ None) × (f ≡ BadOption value))) }
+{
+    let mut value = value;
+    match level_of(style, &mut value) {
+        Some(level) => Ok(level),
+        None => Err(OptionsError::Fault(OptionsFault::BadOption(value.text(alloc)?))),
+    }
+}
+
+/// The dict of options that an option gives.
+fn options_given(alloc: Global, value: Value) -> Result<Dict, OptionsError>
+    ensures given { IfOk result (λ dict. dict_of value ≡ Ok dict) }
+    ensures refused { IfErr result (λ e. IsRefused e (λ f. (in_place (dict_of value) value ≡ Err f))) }
+{
+    let mut value = value;
+    match value.as_dict(alloc) {
+        Ok(dict) => Ok(dict),
+        Err(DictError::Memory) => Err(OptionsError::Memory),
+        Err(DictError::Fault(_)) => Err(OptionsError::Fault(OptionsFault::BadOption(value.text(
+            alloc,
+        )?))),
+    }
+}
+
+impl Options {
+    /// Sets what an option gives, or answers the dict whose entries stand in its place.
+    fn give(
+        &mut self,
+        alloc: Global,
+        style: Integers,
+        name: &Text,
+        value: Value,
+    ) -> Result<Option<Dict>, OptionsError>
+        ensures given { IfOk result (λ found. Gave found (options_of self.new) (options_of self.old) (meaning (option_name name.now) style value (options_of self.old))) }
+        ensures refused { IfErr result (λ e. IsRefused e (λ f. meaning (option_name name.now) style value (options_of self.old) ≡ Err f)) }
+        ensures small { self.old.level < 2 ^ 63 → OnOk result (self.new.level < 2 ^ 63) }
+    {
+        match option_name(name.as_str()) {
+            OptionName::Code => {
+                self.code = code_given(alloc, style, value)?;
+                Ok(None)
+            }
+            OptionName::Level => {
+                self.level = level_given(alloc, style, value)?;
+                Ok(None)
+            }
+            OptionName::Errorcode => {
+                self.errorcode = value;
+                Ok(None)
+            }
+            OptionName::Nested => Ok(Some(options_given(alloc, value)?)),
+            OptionName::Other => Ok(None),
+        }
+    }
+}
+
+/// Adds the entries of a dict, the first of them last.
+fn push_entries(pending: &mut Vec<(Text, Value)>, dict: &Dict) -> Result<(), AllocError>
+    ensures { OnOk result (pending.new.items ≡ pending.old.items ++ reverse dict.now) }
+{
+    let mut left = dict.len();
+    'entries: while left > 0 {
+        left -= 1;
+        pending.push((dict.key(left)?, dict.value(left)?))?;
+    }
+    Ok(())
+}
+
+/// The options among the words of a return, the first of them last.
+fn pending_words(alloc: Global, words: &[Value]) -> Result<Vec<(Text, Value)>, AllocError>
+    ensures { IfOk result (λ pending. pending.items ≡ reverse (options_in words.now)) }
+{
+    let mut pending = Vec::new(alloc);
+    let mut left = words.len() / 2;
+    'options: while left > 0 {
+        left -= 1;
+        let name = words[2 * left].text(alloc)?;
+        pending.push((name, words[2 * left + 1].clone()?))?;
+    }
+    Ok(pending)
+}
+
+/// Reads the options that are pending, the last of them first.
+fn read_pending(
+    alloc: Global,
+    style: Integers,
+    options: Options,
+    pending: Vec<(Text, Value)>,
+) -> Result<Options, OptionsError>
+    requires { options.level < 2 ^ 63 }
+    ensures given { IfOk result (λ o. Reads style (reverse pending.items) (options_of options) (Ok (options_of o))) }
+    ensures refused { IfErr result (λ e. IsRefused e (λ f. Reads style (reverse pending.items) (options_of options) (Err f))) }
+    ensures small { IfOk result (λ o. o.level < 2 ^ 63) }
+{
+    let mut options = options;
+    let mut pending = pending;
+    'options: while let Some((name, value)) = pending.pop() {
+        if let Some(dict) = options.give(alloc, style, &name, value)? {
+            push_entries(&mut pending, &dict)?;
+        }
+    }
+    Ok(options)
+}
+
+/// The text of the result among the words of a return.
+fn result_word(words: &[Value]) -> Result<Value, AllocError>
+    ensures { IfOk result (λ text. text ≡ result_in words.now) }
+{
+    if words.len() % 2 == 0 {
+        return Ok(Value::empty());
+    }
+    words[words.len() - 1].clone()
+}
+
+impl Options {
+    /// The options that the words of a return give, which are names and values in turn: `-code c`, `-level n`, `-errorcode e`, and
+    /// `-options d`, a dict that is read as if its entries stood there. They are read from the left, so that later ones win; other
+    /// names are dropped with their values, and so is a word that is left over. (return(n))
+    ///
+    /// # Errors
+    /// Refusal 221: `bad completion code "x"`, of a code that is neither a word nor an integer; `bad option "x"`, of a level that is no
+    /// integer from 0 up and of options that are no dict. The first that is refused is told. Want of memory.
+    pub fn read(alloc: Global, style: Integers, words: &[Value]) -> Result<Options, OptionsError>
+        ensures given { IfOk result (λ o. Reads style (options_in words.now) plain (Ok (options_of o))) }
+        ensures refused { IfErr result (λ e. IsRefused e (λ f. Reads style (options_in words.now) plain (Err f))) }
+        ensures small { IfOk result (λ o. o.level < 2 ^ 63) }
+    {
+        read_pending(
+            alloc,
+            style,
+            Options::new(alloc)?,
+            pending_words(alloc, words)?,
+        )
+    }
+}
+
+/// The completion that `return` makes with these words: names of options and values in turn, and perhaps a result behind them.
+///
+/// # Errors
+/// As of [`Options::read`].
+pub fn return_words(
+    alloc: Global,
+    style: Integers,
+    words: &[Value],
+) -> Result<Completion, OptionsError>
+    ensures made { IfOk result (λ c. Makes style words.now (completion_of c)) }
+    ensures refused { IfErr result (λ e. IsRefused e (λ f. Reads style (options_in words.now) plain (Err f))) }
+{
+    let options = Options::read(alloc, style, words)?;
+    Ok(make_return(options, result_word(words)?))
+}
+
+/// Words are read one way at most.
+pub fn options_are_read_one_way()
+    ensures { OneReading }
+{}
+
+/// Words are read, whatever they are.
+pub fn options_are_read()
+    ensures { SomeReading }
+{}
+
+#[cfg(test)]
+mod tests {
+    use super::*;
+    use crate::completion::{BREAK, ERROR, OK, RETURN};
+    use std::test::Fail;
+
+    /// The words of a list.
+    fn words(alloc: Global, list: &str) -> Result<Vec<Value>, Fail> {
+        let mut words = Vec::new(alloc);
+        for word in tcl_text::list::read_list(alloc, list)? {
+            words.push(Value::from_text(word)?)?;
+        }
+        Ok(words)
+    }
+
+    /// The options of a return: names are dropped that mean none, later ones win, and a dict of options stands for its entries.
+    #[test]
+    fn options_are_read(rt: HostRuntime) -> Result<(), Fail> {
+        let alloc = rt.alloc();
+        for (list, code, level, errorcode) in [
+            ("", OK, 1, "NONE"),
+            ("-code 7 -level 2", 7, 2, "NONE"),
+            ("-code error -errorcode {A 1}", ERROR, 1, "A 1"),
+            ("-code 7 -code break", BREAK, 1, "NONE"),
+            ("-code 0x10 -shape round -level 0", 16, 0, "NONE"),
+            ("-options {-code 1 -errorcode E} -level 0", ERROR, 0, "E"),
+            (
+                "-code 5 -options {-level 3 -options {-code 6 -level 4}}",
+                6,
+                4,
+                "NONE",
+            ),
+            ("-options {-code 5} -code 6", 6, 1, "NONE"),
+            ("-options {}", OK, 1, "NONE"),
+            ("-options {-code bogus -code 2}", RETURN, 1, "NONE"),
+        ] {
+            let words = words(alloc, list)?;
+            let options = Options::read(alloc, Integers::Tcl8, words.as_slice())?;
+            assert_eq!(rt; options.code, code, "{list}");
+            assert_eq!(rt; options.level, level, "{list}");
+            assert_eq!(rt;
+                options.errorcode.text(alloc)?.as_str(),
+                errorcode,
+                "{list}"
+            );
+        }
+        Ok(())
+    }
+
+    /// The first option that is refused is told.
+    #[test]
+    fn options_are_refused(rt: HostRuntime) -> Result<(), Fail> {
+        let alloc = rt.alloc();
+        for (list, message) in [
+            ("-code broke -level x", "bad completion code \"broke\""),
+            (
+                "-code 9223372036854775808",
+                "bad completion code \"9223372036854775808\"",
+            ),
+            ("-level -1 -code broke", "bad option \"-1\""),
+            ("-level 08", "bad option \"08\""),
+            ("-options {-code}", "bad option \"-code\""),
+            ("-options \\{", "bad option \"{\""),
+            ("-code 1 -options {-level {}}", "bad option \"\""),
+        ] {
+            let words = words(alloc, list)?;
+            match Options::read(alloc, Integers::Tcl8, words.as_slice()) {
+                Err(OptionsError::Fault(fault)) => {
+                    assert_eq!(rt; fault.message(alloc)?.as_str(), message, "{list}");
+                }
+                Err(OptionsError::Memory) => return Err(Fail::new("memory")),
+                Ok(_) => return Err(Fail::new("read")),
+            }
+        }
+        Ok(())
+    }
+
+    /// `return -code 7 -level 2 x`, `return x`, `return -code break` and `return -code return`.
+    #[test]
+    fn words_make_a_completion(rt: HostRuntime) -> Result<(), Fail> {
+        let alloc = rt.alloc();
+        for (list, code, text, last, level) in [
+            ("-code 7 -level 2 x", RETURN, "x", 7, 2),
+            ("x", RETURN, "x", OK, 1),
+            ("", RETURN, "", OK, 1),
+            ("-code break", RETURN, "", BREAK, 1),
+            ("-code return", RETURN, "", OK, 2),
+            ("-level 0 -code 5 y", 5, "y", 5, 0),
+        ] {
+            let words = words(alloc, list)?;
+            let made = return_words(alloc, Integers::Tcl9, words.as_slice())?;
+            assert_eq!(rt; made.code, code, "{list}");
+            assert_eq!(rt; made.text.text(alloc)?.as_str(), text, "{list}");
+            assert_eq!(rt; made.options.code, last, "{list}");
+            assert_eq!(rt; made.options.level, level, "{list}");
+        }
+        Ok(())
+    }
+
+    /// Dicts of options as deep as a text can hold them are read without recursion.
+    #[test]
+    fn deep_options_are_read(rt: HostRuntime) -> Result<(), Fail> {
+        let alloc = rt.alloc();
+        let mut inner = String::from_str(alloc, "-code 7")?;
+        for _ in 0..1000 {
+            inner = format!(in alloc; "-options {{{inner}}}")?;
+        }
+        let words = words(alloc, inner.as_str())?;
+        let options = Options::read(alloc, Integers::Tcl8, words.as_slice())?;
+        assert_eq!(rt; options.code, 7);
+        Ok(())
+    }
+}

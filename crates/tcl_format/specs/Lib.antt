@@ -1,0 +1,3 @@
+pub mod Specifiers
+pub mod Pieces
+pub mod Filling

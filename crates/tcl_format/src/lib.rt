@@ -1,0 +1,9 @@
+//! The command `format`.
+#![tactic(auto)]
+
+pub mod command;
+pub mod pieces;
+pub mod refusal;
+pub mod specifier;
+#[cfg(test)]
+mod tests;

@@ -1,0 +1,60 @@
+//! The elements of the array that a name is, each by its key.
+ghost use Rattle.std.specs.Prelude.{◌≡◌, ◌<◌, Ok, length, IfOk, OnOk, IfErr, OnErr};
+ghost use Rattle.tcl_variables.specs.Faults.{Refuses};
+ghost use Rattle.tcl_frames.specs.Keys.{element_name, change_key};
+ghost use Rattle.tcl_frames.specs.Sound.{AreFit};
+
+use crate::steps::{change_at, change_from, level_meant};
+use std::alloc::{AllocError, Global};
+use tcl_text::text::Text;
+use tcl_variables::access::Part;
+use tcl_variables::fault::{FrameError, Refusal, refused};
+use tcl_variables::frame::{Change, Frame};
+use tcl_variables::name::read_name;
+
+/// How an element is told: `a(k)`.
+fn element_text(alloc: Global, name: &Text, key: &Text) -> Result<Text, AllocError>
+    ensures { IfOk result (λ text. text ≡ element_name name.now key.now) }
+{
+    let mut text = String::from_str(alloc, name.as_str())?;
+    text.push_str("(")?;
+    text.push_str(key.as_str())?;
+    text.push_str(")")?;
+    Text::from_string(alloc, text)
+}
+
+/// Changes the element with a key, of what a name is.
+pub(crate) fn change_key_in(
+    frames: &mut [Frame],
+    alloc: Global,
+    name: &Text,
+    key: &Text,
+    change: Change,
+) -> Result<(), FrameError>
+    requires fit { AreFit 0 frames.old }
+    requires some { 0 < length frames.old }
+    ensures ok { OnOk result (change_key change frames.old name.now key.now ≡ Ok frames.new) }
+    ensures err { IfErr result (λ e. Refuses e (change_key change frames.old name.now key.now)) }
+    ensures unchanged { OnErr result (frames.new ≡ frames.old) }
+{
+    match read_name(name.as_str()) {
+        None => Err(refused(Refusal::BadName, name)),
+        Some(written) => {
+            let level = level_meant(frames, written.is_global);
+            let told = element_text(alloc, name, key)?;
+            let base = written.base;
+            match written.key {
+                None => change_from(
+                    frames,
+                    alloc,
+                    level,
+                    base,
+                    Some(key.as_str()),
+                    change,
+                    &told,
+                ),
+                Some(_) => change_at(frames, alloc, level, base, Part::Nested, change, &told),
+            }
+        }
+    }
+}

@@ -1,0 +1,4 @@
+pub mod Added
+pub mod Between
+pub mod Undone
+pub mod Trims

@@ -1,0 +1,8 @@
+//! The commands between texts and lists: `concat`, `join`, `split`.
+#![tactic(auto)]
+
+pub mod joining;
+pub mod laws;
+pub mod splitting;
+#[cfg(test)]
+mod tests;

@@ -1,0 +1,12 @@
+//! The list commands as functions of their words.
+#![tactic(auto)]
+
+pub mod building;
+pub mod commands;
+pub mod indexes;
+pub mod lengthening;
+pub mod places;
+pub mod reading;
+pub mod refusing;
+#[cfg(test)]
+mod tests;

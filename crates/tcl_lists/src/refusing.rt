@@ -1,0 +1,54 @@
+//! How values are refused.
+ghost use Rattle.std.specs.Prelude.{◌≡◌, ℕ, List, Err};
+ghost use Rattle.tcl_words.specs.Outcomes.{Outcome, Refuses};
+ghost use Rattle.tcl_words.specs.Faults.{too_long};
+ghost use Rattle.tcl_text.specs.Writing.{fault_message};
+ghost use Rattle.tcl_lists.specs.Refusing.{out_of_range, RefusesChange};
+
+use std::alloc::{AllocError, Global};
+use tcl_text::list::ListFault;
+use tcl_text::text::Text;
+use tcl_value::value::{ChangeError, ValueError};
+use tcl_words::refusal::{Refusal, too_long};
+
+/// What is told of a value that isn't made.
+pub fn not_made(alloc: Global, why: ValueError) -> Refusal
+    ensures { (outcome : Outcome) → (why ≡ ValueError.TooLong → outcome ≡ Err too_long) → Refuses result outcome }
+{
+    match why {
+        ValueError::Memory => Refusal::Memory,
+        ValueError::TooLong => too_long(alloc),
+    }
+}
+
+/// What is told of a text that spells no list.
+pub fn no_list(alloc: Global, fault: &ListFault) -> Refusal
+    ensures { Refuses {X = List ℕ} result (Err (fault_message fault.now)) }
+{
+    match fault.message(alloc) {
+        Ok(text) => Refusal::Fault(text),
+        Err(_) => Refusal::Memory,
+    }
+}
+
+/// What is told of a place that a list hasn't (243).
+pub fn out_of_range(alloc: Global) -> Refusal
+    ensures { Refuses {X = List ℕ} result (Err out_of_range) }
+{
+    match Text::new(alloc, "list index out of range") {
+        Ok(text) => Refusal::Fault(text),
+        Err(_) => Refusal::Memory,
+    }
+}
+
+/// What is told of a list in a value that isn't changed.
+pub fn not_changed(alloc: Global, why: ChangeError) -> Refusal
+    ensures { RefusesChange result why }
+{
+    match why {
+        ChangeError::Memory => Refusal::Memory,
+        ChangeError::TooLong => too_long(alloc),
+        ChangeError::List(fault) => no_list(alloc, &fault),
+        ChangeError::NoElement => out_of_range(alloc),
+    }
+}

@@ -1,0 +1,5 @@
+//! Lists in order.
+#![tactic(auto)]
+
+pub mod ordering;
+pub mod rows;

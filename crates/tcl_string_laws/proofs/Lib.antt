@@ -1,0 +1,4 @@
+pub mod First
+pub mod Last
+pub mod Maps
+pub mod Specifiers

@@ -1,0 +1,4 @@
+//! What the definitions of strings come to, as laws.
+#![tactic(auto)]
+
+pub mod laws;

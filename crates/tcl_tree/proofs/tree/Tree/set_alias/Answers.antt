@@ -1,0 +1,9 @@
+use Rattle.tcl_tree.proofs.CoreLemmas.{tree_there}
+use Rattle.tcl_tree.proofs.NamingLemmas.{refuses_at, always_ok, err_map}
+use Rattle.tcl_tree.proofs.tree.Tree.set_alias.Goals as goal
+
+pub returns-clause-there : goal.returns-clause-there
+returns-clause-there c = always_ok c.set_alias_at.result (tree_there c.args.self.now c.args.path.now _ c.in-Some.ensures.there)
+
+pub returns-clause-refused : goal.returns-clause-refused
+returns-clause-refused c = err_map c.set_alias_at.result c.set_alias_at.ensures.refused (λ e h. refuses_at c.args.self.now c.args.path.now _ c.in-Some.ensures.there _ e (h c.args.path.now c.in-Some.ensures.there))

@@ -1,0 +1,88 @@
+//! Interpreters by their places: how one is reached from another.
+ghost use Rattle.std.specs.Prelude.{◌≡◌, ◌++◌, ◌∷◌, [], List, ℕ, Some, None, IfSome, IfNone};
+ghost use Rattle.std.specs.Option.{option_copied, option_map};
+
+use crate::node::Node;
+use crate::tree::{Place, Tree};
+use tcl_text::text::Text;
+
+/// What a way of levels up and names down leads to.
+#[derive(Clone, Copy, Debug, Drop)]
+pub enum Reach {
+    /// An interpreter.
+    There(Place),
+    /// A place in the tree where no interpreter is.
+    Missing,
+    /// Past the root.
+    Outside,
+}
+
+impl Tree {
+    ghost use Rattle.tcl_core.specs.Paths.{rise};
+    ghost use Rattle.tcl_tree.specs.Nodes.{view_of};
+    ghost use Rattle.tcl_tree.specs.TreeOf.{tree_of, key_of, Names};
+    ghost use Rattle.tcl_tree.specs.Reaching.{Leads};
+
+    /// The place of the root. This takes no memory.
+    pub fn root(&self) -> Place
+        ensures { Names self.now result [] }
+    {
+        Place { key: self.root }
+    }
+
+    /// The place of the interpreter at the path, if there is one. This takes no memory.
+    pub fn place(&self, path: &[Text]) -> Option<Place>
+        ensures there { IfSome result (λ place. Names self.now place path.now) }
+        ensures missing { IfNone result (tree_of self.now path.now ≡ None) }
+    {
+        let key = self.find(path)?;
+        Some(Place { key })
+    }
+
+    /// The interpreter that the place names. This takes no memory.
+    pub fn node_at(&self, place: Place) -> Option<&Node>
+        ensures { (p : List (List ℕ)) → Names self.now place p → option_map view_of (option_copied result) ≡ tree_of self.now p }
+    {
+        self.nodes.get(place.key)
+    }
+
+    /// The place of a child, by its name, if there is one. This takes no memory.
+    pub fn child_at(&self, place: Place, name: &Text) -> Option<Place>
+        ensures there { IfSome result (λ child. (p : List (List ℕ)) → Names self.now place p → Names self.now child (p ++ name.now ∷ [])) }
+        ensures missing { IfNone result ((p : List (List ℕ)) → Names self.now place p → tree_of self.now (p ++ name.now ∷ []) ≡ None) }
+    {
+        let node = self.nodes.get(place.key)?;
+        let key = *node.children.get(name)?;
+        Some(Place { key })
+    }
+
+    // The key of the interpreter so many levels up, where that doesn't pass the root.
+    fn rise(&self, key: usize, up: usize) -> Option<usize>
+        requires { (p : List (List ℕ)) × (key_of self.now p ≡ Some key) }
+        ensures there { IfSome result (λ top. (p : List (List ℕ)) → key_of self.now p ≡ Some key → (a : List (List ℕ)) × (rise up p ≡ Some a) × (key_of self.now a ≡ Some top)) }
+        ensures outside { IfNone result ((p : List (List ℕ)) → key_of self.now p ≡ Some key → rise up p ≡ None) }
+    {
+        let mut at = key;
+        let mut level = 0;
+        'climb: while level < up {
+            let node = self.nodes.get(at)?;
+            at = node.parent?;
+            level += 1;
+        }
+        Some(at)
+    }
+
+    /// Where the way of so many levels up and then these names down leads, as that of an alias to its target does. This takes no memory.
+    pub fn reach(&self, place: Place, up: usize, down: &[Text]) -> Reach
+        requires { (p : List (List ℕ)) × Names self.now place p }
+        ensures { (p : List (List ℕ)) → Names self.now place p → Leads self.now p up down.now result }
+    {
+        let Some(top) = self.rise(place.key, up) else {
+            return Reach::Outside;
+        };
+        match self.descend(top, down) {
+            Some(key) => Reach::There(Place { key }),
+            None => Reach::Missing,
+        }
+    }
+}
