@@ -1,10 +1,10 @@
-//! The time of evaluating a kept expression with its two values handed in. It goes to standard error, so that standard output stays the same.
+//! The time of evaluating a kept expression with its two values handed in, and of long sums. It goes to standard error, so that standard output stays the
+//! same.
 #![tactic(auto)]
 
-use std::alloc::Global;
+use std::alloc::{AllocError, Global};
 use std::io;
 use std::time::Instant;
-use tcl_expr::fault::ExprError;
 use tcl_expression_evaluation::evaluation::{Evaluation, Progress};
 use tcl_expression_tree::parser::parse_expr;
 use tcl_expression_tree::tree::ExprTree;
@@ -14,6 +14,9 @@ use tcl_value::value::Value;
 
 /// How often the expression is evaluated.
 const TIMES: i64 = 1_000_000;
+
+/// How many ones are added up. The last is of the longest text that a value may have.
+const COUNTS: [usize; 3] = [1_048_576, 4_194_304, 8_388_608];
 
 /// What is evaluated: `$s` is the last value, and `$i` counts.
 const EXPRESSION: &str = "($s + $i * 7) % 1000003";
@@ -53,35 +56,13 @@ fn evaluate_often(alloc: Global, tree: &ExprTree) -> Result<i64, ApplyError> {
     Ok(s)
 }
 
-/// Why an expression wasn't read and evaluated.
-#[derive(Debug, Drop)]
-enum Failure {
-    /// It couldn't be read.
-    Read(ExprError),
-    /// It has no value.
-    Evaluated(ApplyError),
-}
-
-/// Reads, evaluates and drops `1+1+..` of so many terms behind the first.
-fn add_ones(alloc: Global, terms: usize) -> Result<i64, Failure> {
-    let mut text = String::new(alloc);
-    if text.push_str("1").is_err() {
-        return Err(Failure::Read(ExprError::Memory));
+/// `1+1+..` of so many ones.
+fn ones(alloc: Global, count: usize) -> Result<String, AllocError> {
+    let mut text = String::from_str(alloc, "1")?;
+    'ones: for _ in 1..count {
+        text.push_str("+1")?;
     }
-    'terms: for _ in 0..terms {
-        if text.push_str("+1").is_err() {
-            return Err(Failure::Read(ExprError::Memory));
-        }
-    }
-    if text.len() > 16_777_216 {
-        return Ok(0);
-    }
-    let tree = match parse_expr(alloc, text.as_str(), Integers::Tcl8) {
-        Ok(tree) => tree,
-        Err(fault) => return Err(Failure::Read(fault)),
-    };
-    let mut evaluation = Evaluation::new(alloc);
-    evaluate(alloc, &mut evaluation, &tree, 0, 0).map_err(Failure::Evaluated)
+    Ok(text)
 }
 
 fn main(rt: HostRuntime) -> io::Result<()> {
@@ -98,12 +79,30 @@ fn main(rt: HostRuntime) -> io::Result<()> {
         }
         Err(fault) => println!(rt; "{fault:?}")?,
     }
-    let start = Instant::now(&rt)?;
-    let sum = add_ones(rt.alloc(), 1_000_000);
-    let time = start.elapsed(&rt)?;
-    match sum {
-        Ok(sum) => println!(rt; "{sum} ones")?,
-        Err(failure) => println!(rt; "{failure:?}")?,
+    'counts: for count in COUNTS {
+        let text = ones(rt.alloc(), count)?;
+        let start = Instant::now(&rt)?;
+        let read = parse_expr(rt.alloc(), text.as_str(), Integers::Tcl8);
+        let reading = start.elapsed(&rt)?;
+        match read {
+            Ok(tree) => {
+                let mut evaluation = Evaluation::new(rt.alloc());
+                let start = Instant::now(&rt)?;
+                let sum = evaluate(rt.alloc(), &mut evaluation, &tree, 0, 0);
+                let adding = start.elapsed(&rt)?;
+                let start = Instant::now(&rt)?;
+                drop(tree);
+                let dropping = start.elapsed(&rt)?;
+                match sum {
+                    Ok(sum) => println!(rt; "{sum} ones")?,
+                    Err(fault) => println!(rt; "{fault:?}")?,
+                }
+                eprintln!(rt;
+                    "{count} ones: read in {reading:?}, added up in {adding:?}, dropped in {dropping:?}"
+                )?;
+            }
+            Err(fault) => println!(rt; "{fault:?}")?,
+        }
     }
-    eprintln!(rt; "1,000,001 ones read, added and dropped: {time:?}")
+    Ok(())
 }

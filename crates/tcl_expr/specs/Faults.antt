@@ -5,7 +5,7 @@ use Rattle.tcl_parser.specs.declared.reader.Stop.{Stop}
 use Rattle.tcl_parser.specs.declared.reader.Stop.TheVariants as stop
 use Rattle.tcl_parser.specs.Faults as parser
 use Rattle.tcl_expr.specs.declared.fault.ExprFault.{ExprFault}
-use Rattle.tcl_expr.specs.declared.fault.ExprFault.TheVariants.{Syntax, TooDeep, TooLarge, Operand}
+use Rattle.tcl_expr.specs.declared.fault.ExprFault.TheVariants.{Syntax, TooDeep, TooLarge, Operand, TooLong}
 use Rattle.tcl_expr.specs.declared.fault.ExprError.{ExprError}
 use Rattle.tcl_expr.specs.declared.fault.ExprError.TheVariants as error
 
@@ -14,6 +14,7 @@ message_of text Syntax = codes "syntax error in expression \"" ++ text ++ codes 
 message_of text TooDeep = codes "expression nested too deeply"
 message_of text TooLarge = codes "integer value too large to represent"
 message_of text (Operand f) = parser.message_of f
+message_of text TooLong = codes "value longer than 16777216 bytes"
 
 abbrev pub error_of_fault : Fault → ExprError
 error_of_fault f = error.Fault (Operand f)

@@ -20,6 +20,8 @@ pub enum ExprFault {
     TooLarge,
     /// 201 to 206: an operand ends too early, or a script in it is at fault.
     Operand(Fault),
+    /// 122: the text is longer than a value may be.
+    TooLong,
 }
 
 impl ExprFault {
@@ -35,6 +37,7 @@ impl ExprFault {
             ExprFault::TooDeep => Text::new(alloc, "expression nested too deeply"),
             ExprFault::TooLarge => too_large_message(alloc),
             ExprFault::Operand(fault) => Text::new(alloc, fault.message()),
+            ExprFault::TooLong => Text::new(alloc, "value longer than 16777216 bytes"),
         }
     }
 }

@@ -6,3 +6,5 @@ pub mod laws;
 pub mod lexer;
 mod operand;
 mod symbol;
+#[cfg(test)]
+mod tests;

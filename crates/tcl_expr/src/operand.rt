@@ -21,6 +21,7 @@ use tcl_parser::skip::{Piece, next_part};
 use tcl_text::boolean::read_bool;
 use tcl_text::integer::{IntegerFault, Integers, read_int};
 use tcl_text::list::split_braced;
+use tcl_text::list_comparing::is_int;
 use tcl_text::text::Text;
 use tcl_value::value::Value;
 
@@ -84,6 +85,19 @@ fn fits_behind_minus(alloc: Global, number: &str, style: Integers) -> Result<boo
     Ok(read_int(negative.as_str(), style).is_ok())
 }
 
+/// The value of an integer literal: the number alone, where the text is as that is written, and otherwise the text with what it reads as.
+fn literal(alloc: Global, text: &str, number: i64, style: Integers) -> Result<Value, AllocError>
+    requires { IsWithin text.now }
+    ensures { IfOk result (λ value. value ≡ text.now) }
+{
+    if is_int(text.as_bytes(), number) {
+        return Ok(Value::from_int(number));
+    }
+    let mut value = Value::from_short_text(Text::new(alloc, text)?);
+    let _ = value.as_int(style);
+    Ok(value)
+}
+
 /// The token of a number. The flag says that a minus stands before it that nothing separates from it.
 pub(crate) fn number(
     alloc: Global,
@@ -94,13 +108,15 @@ pub(crate) fn number(
     requires { IsWithin text.now }
     ensures { Yields (λ token. token) result (number style close text.now) }
 {
-    let mut value = Value::from_short_text(Text::new(alloc, text)?);
-    match value.as_int(style) {
-        Ok(_) => Ok(Token::Operand(Leaf::Literal(value))),
+    match read_int(text, style) {
+        Ok(number) => {
+            let value = literal(alloc, text, number, style)?;
+            Ok(Token::Operand(Leaf::Literal(value)))
+        }
         Err(IntegerFault::NotInteger) => Err(ExprError::Fault(ExprFault::Syntax)),
         Err(IntegerFault::TooLarge) => {
             if close && fits_behind_minus(alloc, text, style)? {
-                return Ok(Token::Lowest(value));
+                return Ok(Token::Lowest(Value::from_short_text(Text::new(alloc, text)?)));
             }
             Err(ExprError::Fault(ExprFault::TooLarge))
         }

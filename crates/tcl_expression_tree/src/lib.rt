@@ -2,4 +2,6 @@
 #![tactic(auto)]
 
 pub mod parser;
+#[cfg(test)]
+mod tests;
 pub mod tree;

@@ -1,10 +1,10 @@
 //! Reading an expression.
-ghost use Rattle.std.specs.Prelude.{◌≡◌, ◌≤◌, ◌<◌, ◌-◌, ◌∷◌, ◌++◌, List, [], length, Ok, IfOk, OnOk};
+ghost use Rattle.std.specs.Prelude.{◌≡◌, ◌≤◌, ◌<◌, ◌-◌, ◌∷◌, ◌++◌, List, [], length, Ok, Err, IfOk, OnOk};
 ghost use Rattle.std.specs.Bool.{OnTrue};
 ghost use Rattle.tcl_expr_grammar.specs.declared.operator.Function.{Function};
 ghost use Rattle.tcl_expr_grammar.specs.Trees.{Tree};
 ghost use Rattle.tcl_expr_grammar.specs.Grammar.{level, takes_one, prefix_of, infix_of};
-ghost use Rattle.tcl_value.specs.Limits.{IsWithin};
+ghost use Rattle.tcl_value.specs.Limits.{IsWithin, IsPast};
 ghost use Rattle.tcl_expr.specs.Expressions.{is_minus, told, expression_of};
 ghost use Rattle.tcl_expr_grammar.specs.Reading.{finish, Open, calling, State, takes, settle, having, deeper, between, question, colon_at, close_at, comma_at, name, named, lowest, want, have, step};
 ghost use Rattle.tcl_expression_tree.specs.Code.{mark, code_of};
@@ -18,7 +18,7 @@ use tcl_expr_grammar::operator::{BinaryOperator, Function, UnaryOperator};
 use tcl_expr_grammar::token::{Leaf, Token};
 use tcl_text::integer::Integers;
 use tcl_text::text::Text;
-use tcl_value::value::Value;
+use tcl_value::value::{MOST_BYTES, Value};
 
 /// How deep parentheses, functions, operators before an operand and choices may stand in one another.
 const DEEPEST: usize = 200;
@@ -373,9 +373,21 @@ impl Parser {
 /// Reads an expression whole, as `expr(n)` has it.
 ///
 /// # Errors
-/// [`ExprFault`], of the first token with which the text begins no expression: its own fault where it can't be read (112, 201 to 206), 217 where only a
-/// deeper nesting than 200 begins so, and 211 otherwise, also where the text ends too early; want of memory.
+/// 122 exactly where the text has more than [`MOST_BYTES`], and is read no further. Otherwise [`ExprFault`], of the first token with which the text begins no
+/// expression: its own fault where it can't be read (112, 201 to 206), 217 where only a deeper nesting than 200 begins so, and 211 otherwise, also where the
+/// text ends too early; want of memory.
 pub fn parse_expr(alloc: Global, text: &str, style: Integers) -> Result<ExprTree, ExprError>
+    ensures read { IsWithin text.now → Keeps result (expression_of style text.now) }
+    ensures too_long { IsPast text.now → result ≡ Err (ExprError.Fault ExprFault.TooLong) }
+{
+    if text.len() > MOST_BYTES {
+        return Err(ExprError::Fault(ExprFault::TooLong));
+    }
+    read_expression(alloc, text, style)
+}
+
+/// Reads an expression whole that is no longer than a value may be.
+fn read_expression(alloc: Global, text: &str, style: Integers) -> Result<ExprTree, ExprError>
     requires { IsWithin text.now }
     ensures { Keeps result (expression_of style text.now) }
 {

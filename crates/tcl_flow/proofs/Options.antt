@@ -1,18 +1,18 @@
 -- Reading options, a step at a time.
-use Rattle.std.proofs.Common.{◌≡◌, ℕ, zero, suc, ℤ, ◌+◌, ◌≤◌, ◌<◌, [], ◌∷◌, ◌++◌, length, reverse, Option, Some, None, Result, Ok, Err, refl, sym, ◌∙◌, ap, subst, arith}
+use Rattle.std.proofs.Common.{◌≡◌, ℕ, zero, suc, ℤ, ◌+◌, ◌≤◌, ◌<◌, List, [], ◌∷◌, ◌++◌, length, reverse, Option, Some, None, Result, Ok, Err, refl, sym, ◌∙◌, ap, subst, arith}
 use Rattle.std.proofs.lemmas.List.{reverse-append, reverse-reverse}
 use Rattle.tcl_text.specs.declared.integer.Integers.{Integers}
 use Rattle.tcl_value.specs.Dicts.{Pairs, dict_of}
 use Rattle.tcl_value.specs.declared.dict_fault.DictFault.{DictFault}
-use Rattle.tcl_core.specs.Endings.{Options}
-use Rattle.tcl_flow.specs.Returning.{Text, code_of, level_of}
+use Rattle.tcl_core.specs.Endings.{Options, Completion}
+use Rattle.tcl_flow.specs.Returning.{Text, code_of, level_of, plain, raised, returned}
 use Rattle.tcl_flow.specs.declared.returning.OptionsFault.{OptionsFault}
 use Rattle.tcl_flow.specs.declared.reading.OptionName.{OptionName}
 use Rattle.tcl_flow.specs.declared.reading.OptionName.TheVariants.{Code, Level, Errorcode, Nested, Other}
-use Rattle.tcl_flow.specs.OptionReading.{option_name, Meaning, sets, stands_for, with_code, with_level, in_place, meaning, Reads, ended, set, opened, refused, Gave, IsRefused, OneReading, SomeReading}
+use Rattle.tcl_flow.specs.OptionReading.{option_name, options_in, result_in, Meaning, sets, stands_for, with_code, with_level, in_place, meaning, Reads, ended, set, opened, refused, weight, and_on, read_within, read_over, made_with, return_of, Makes, Gave, IsRefused, OneReading, SomeReading, ReadsSo, MakesSo}
 use Rattle.tcl_flow.specs.declared.reading.OptionsError.{OptionsError}
 use Rattle.tcl_flow.specs.declared.reading.OptionsError.TheVariants.{Memory, Fault}
-use Rattle.tcl_flow.proofs.Shorter.{weight, weight-append, weight-reverse, dict_weight}
+use Rattle.tcl_flow.proofs.Shorter.{weight-append, weight-reverse, dict_weight}
 
 -- what is left to read after an option of this meaning
 abbrev After : Integers → Result Meaning OptionsFault → Pairs → Options → Result Options OptionsFault → Type 0
@@ -67,24 +67,39 @@ entries_are Other style v o es h = absurd (cc)
 pub opened_weight : (style : Integers) (k v : Text) (o : Options) (es : Pairs) → meaning (option_name k) style v o ≡ Ok (stands_for es) → weight es ≤ length v
 opened_weight style k v o es h = dict_weight v es (entries_are (option_name k) style v o es h)
 
-abbrev Some_reading : Integers → Pairs → Options → Type 0
-Some_reading style ps o = (r : Result Options OptionsFault) × Reads style ps o r
+-- an option is read, where what is left is
+one_by_one : (style : Integers) (k v : Text) (rest : Pairs) (o : Options) (go : Pairs → Options → Result Options OptionsFault) (m : Result Meaning OptionsFault) → meaning (option_name k) style v o ≡ m
+    → ((qs : Pairs) (p : Options) → weight qs ≤ length v + weight rest → Reads style qs p (go qs p)) → Reads style ((k, v) ∷ rest) o (and_on m rest o go)
+one_by_one style k v rest o go (Ok (sets p)) e h = set k v rest o p (go rest p) e (h rest p (omega arith))
+one_by_one style k v rest o go (Ok (stands_for es)) e h =
+    opened k v rest es o (go (es ++ rest) o) e (h (es ++ rest) o (omega (arith, weight-append es rest, opened_weight style k v o es e)))
+one_by_one style k v rest o go (Err f) e h = refused k v rest o f e
 
-some_by : (style : Integers) (k v : Text) (rest : Pairs) (o : Options) (m : Result Meaning OptionsFault) → meaning (option_name k) style v o ≡ m
-    → ((qs : Pairs) (p : Options) → weight qs ≤ length v + weight rest → Some_reading style qs p) → Some_reading style ((k, v) ∷ rest) o
-some_by style k v rest o (Ok (sets p)) e go = let h = go rest p (omega arith) in (h.0, set k v rest o p h.0 e h.1)
-some_by style k v rest o (Ok (stands_for es)) e go =
-    let h = go (es ++ rest) o (omega (arith, weight-append es rest, opened_weight style k v o es e)) in (h.0, opened k v rest es o h.0 e h.1)
-some_by style k v rest o (Err f) e go = (Err f, refused k v rest o f e)
+within : (n : ℕ) (style : Integers) (ps : Pairs) (o : Options) → weight ps ≤ n → Reads style ps o (read_within n style ps o)
+within zero style [] o h = ended o
+within zero style (p ∷ rest) o h = absurd (omega arith)
+within (suc n) style [] o h = ended o
+within (suc n) style (p ∷ rest) o h =
+    one_by_one style p.0 p.1 rest o (read_within n style) (meaning (option_name p.0) style p.1 o) refl (λ qs q l. within n style qs q (omega arith))
 
-some_within : (n : ℕ) (style : Integers) (ps : Pairs) (o : Options) → weight ps ≤ n → Some_reading style ps o
-some_within n style [] o h = (Ok o, ended o)
-some_within zero style (p ∷ rest) o h = absurd (omega arith)
-some_within (suc n) style (p ∷ rest) o h =
-    some_by style p.0 p.1 rest o (meaning (option_name p.0) style p.1 o) refl (λ qs q l. some_within n style qs q (omega arith))
+over : (style : Integers) (ps : Pairs) (o : Options) → Reads style ps o (read_over style ps o)
+over style ps o = within (weight ps) style ps o (omega arith)
 
 pub some_reading : SomeReading
-some_reading style ps o = some_within (weight ps) style ps o (omega arith)
+some_reading style ps o = (read_over style ps o, over style ps o)
+
+pub reads_so : ReadsSo
+reads_so style ps o r = (λ e. subst (Reads style ps o) e (over style ps o), λ h. one_reading style ps o (read_over style ps o) r (over style ps o) h)
+
+made_by : (style : Integers) (l : List Text) (c : Completion) (r : Result Options OptionsFault) → Reads style (options_in l) plain r → made_with (result_in l) r ≡ Ok c → Makes style l c
+made_by style l c (Ok o) h e = let is : c ≡ returned (raised o) (result_in l) = cc in (o, h, is)
+made_by style l c (Err f) h e = absurd (cc)
+
+made_of : (style : Integers) (l : List Text) (c : Completion) → Makes style l c → return_of style l ≡ Ok c
+made_of style l c m = ap (made_with (result_in l)) (one_reading style (options_in l) plain (read_over style (options_in l) plain) (Ok m.0) (over style (options_in l) plain) m.1) ∙ sym (ap Ok m.2)
+
+pub makes_so : MakesSo
+makes_so style l c = (λ e. made_by style l c (read_over style (options_in l) plain) (over style (options_in l) plain) e, made_of style l c)
 
 -- The options that are pending stand with the next last.
 pub next_last : (rest : Pairs) (k v : Text) → reverse (rest ++ (k, v) ∷ []) ≡ (k, v) ∷ reverse rest

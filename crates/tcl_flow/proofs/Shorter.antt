@@ -14,6 +14,7 @@ use Rattle.tcl_text.specs.Lists.{Units, none, byte, sequence, Elem, braced, quot
 use Rattle.tcl_text.specs.declared.list.ListFault.{ListFault}
 use Rattle.tcl_text.proofs.Spellings.{gives_list}
 use Rattle.std.specs.Str.{bytes_eq}
+use Rattle.tcl_flow.specs.OptionReading.{weight}
 use Rattle.tcl_value.specs.Dicts.{Pairs, put, put_all, dict_of_read, dict_of}
 use Rattle.tcl_value.specs.declared.dict_fault.DictFault.TheVariants.{MissingValue}
 use Rattle.tcl_text.proofs.Fronts.{Number, number_parts}
@@ -139,11 +140,6 @@ list_fits (x ∷ l) s h =
     let e = elem_fits x h.elem h.rest h.is_elem in
     let m = list_fits l h.rest h.goes in
     omega (arith, ap length h.whole, length-append h.white (h.elem ++ h.rest), length-append h.elem h.rest)
-
--- what is left to read: a byte more than the value of each option has
-abbrev pub weight : Pairs → ℕ
-weight [] = 0
-weight (p ∷ ps) = suc (length p.1) + weight ps
 
 insert_by : (t : Bool) (e : List ℕ × List ℕ) (es more : Pairs) (k v : List ℕ) → weight more ≤ weight es + suc (length v) → weight (cond t ((e.0, v) ∷ es) (e ∷ more)) ≤ weight (e ∷ es) + suc (length v)
 insert_by true e es more k v h = omega arith

@@ -1,5 +1,5 @@
 -- The options that the words of a return give.
-use Rattle.std.specs.Prelude.{◌≡◌, ℕ, ℤ, cond, List, [], ◌∷◌, ◌++◌, Option, Some, None, Result, Ok, Err, codes}
+use Rattle.std.specs.Prelude.{◌≡◌, ◌↔◌, ℕ, zero, suc, ◌+◌, length, ℤ, cond, List, [], ◌∷◌, ◌++◌, Option, Some, None, Result, Ok, Err, codes}
 use Rattle.std.specs.Str.{bytes_eq}
 use Rattle.tcl_text.specs.declared.integer.Integers.{Integers}
 use Rattle.tcl_value.specs.Dicts.{Pairs, dict_of}
@@ -72,6 +72,37 @@ pub data Reads (style : Integers) : Pairs → Options → Result Options Options
 abbrev pub Makes : Integers → List Text → Completion → Type 0
 Makes style l c = (o : Options) × Reads style (options_in l) plain (Ok o) × (c ≡ returned (raised o) (result_in l))
 
+-- ## Reading from the left
+
+-- how much there is to read: the values, and one more for each
+abbrev pub weight : Pairs → ℕ
+weight [] = 0
+weight (p ∷ ps) = suc (length p.1) + weight ps
+
+-- on behind an option of this meaning
+abbrev pub and_on : Result Meaning OptionsFault → Pairs → Options → (Pairs → Options → Result Options OptionsFault) → Result Options OptionsFault
+and_on (Ok (sets p)) rest o go = go rest p
+and_on (Ok (stands_for es)) rest o go = go (es ++ rest) o
+and_on (Err f) rest o go = Err f
+
+-- option after option; the number is at least as much as there is to read
+abbrev pub read_within : ℕ → Integers → Pairs → Options → Result Options OptionsFault
+read_within zero style ps o = Ok o
+read_within (suc n) style [] o = Ok o
+read_within (suc n) style (p ∷ rest) o = and_on (meaning (option_name p.0) style p.1 o) rest o (read_within n style)
+
+-- what the options come to, over those that were read before them
+abbrev pub read_over : Integers → Pairs → Options → Result Options OptionsFault
+read_over style ps o = read_within (weight ps) style ps o
+
+abbrev pub made_with : Text → Result Options OptionsFault → Result Completion OptionsFault
+made_with text (Ok o) = Ok (returned (raised o) text)
+made_with text (Err f) = Err f
+
+-- the completion that the words of a return make, or the first refusal
+abbrev pub return_of : Integers → List Text → Result Completion OptionsFault
+return_of style l = made_with (result_in l) (read_over style (options_in l) plain)
+
 -- ## Answers
 
 -- what is told is a refusal of which this holds, or memory ran out
@@ -93,3 +124,10 @@ OneReading = (style : Integers) (ps : Pairs) (o : Options) (r q : Result Options
 -- and there is a way to read them
 abbrev pub SomeReading : Type 0
 SomeReading = (style : Integers) (ps : Pairs) (o : Options) → (r : Result Options OptionsFault) × Reads style ps o r
+
+-- The functions say what the relations say.
+abbrev pub ReadsSo : Type 0
+ReadsSo = (style : Integers) (ps : Pairs) (o : Options) (r : Result Options OptionsFault) → (read_over style ps o ≡ r) ↔ Reads style ps o r
+
+abbrev pub MakesSo : Type 0
+MakesSo = (style : Integers) (l : List Text) (c : Completion) → (return_of style l ≡ Ok c) ↔ Makes style l c

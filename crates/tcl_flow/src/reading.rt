@@ -2,7 +2,7 @@
 ghost use Rattle.std.specs.Prelude.{◌≡◌, ◌++◌, ◌<◌, ◌≤◌, ◌^◌, ◌*◌, Ok, Err, Some, None, IfOk, OnOk, IfErr, reverse, length, drop};
 ghost use Rattle.tcl_flow.specs.View.{options_of, completion_of};
 ghost use Rattle.tcl_flow.specs.Returning.{code_of, level_of, plain};
-ghost use Rattle.tcl_flow.specs.OptionReading.{in_place, options_in, result_in, option_name, meaning, Reads, Makes, IsRefused, Gave, OneReading, SomeReading};
+ghost use Rattle.tcl_flow.specs.OptionReading.{in_place, options_in, result_in, option_name, meaning, Reads, Makes, IsRefused, Gave, OneReading, SomeReading, ReadsSo, MakesSo};
 ghost use Rattle.tcl_flow.specs.declared.returning.OptionsFault.TheVariants.{BadOption, BadCode};
 ghost use Rattle.tcl_flow.specs.declared.reading.OptionsError.TheVariants.{Memory};
 ghost use Rattle.tcl_value.specs.Dicts.{dict_of};
@@ -244,6 +244,12 @@ pub fn options_are_read_one_way()
 /// Words are read, whatever they are.
 pub fn options_are_read()
     ensures { SomeReading }
+{}
+
+/// What words are read as, and the completion that they make, are given by functions.
+pub fn options_are_given()
+    ensures reads { ReadsSo }
+    ensures makes { MakesSo }
 {}
 
 #[cfg(test)]

@@ -26,7 +26,15 @@ use Rattle.tcl_parser.specs.declared.fault.Fault.{Fault}
 use Rattle.tcl_parser.specs.declared.script.Part.{Part}
 use Rattle.tcl_parser.specs.declared.script.Part.TheVariants as part
 use Rattle.tcl_parser.specs.Words.{WordRead}
+use Rattle.tcl_flow.specs.Returning.{options_message}
+use Rattle.tcl_flow.specs.OptionReading.{return_of}
 use Rattle.tcl_text.specs.declared.integer.Integers.{Integers}
+use Rattle.tcl_expr.specs.Expressions.{expression_of}
+use Rattle.tcl_expr.specs.Faults as expr_faults
+use Rattle.tcl_operators.specs.Apply.{truth}
+use Rattle.tcl_operators.specs.Messages as operators
+use Rattle.tcl_expression_evaluation.specs.Computations as computations
+use Rattle.tcl_expression_evaluation.specs.Computations.{Computation, computation_of, final}
 use Rattle.tcl_text.specs.Numbers.{integer_of, in_64_bits, fits_64}
 use Rattle.tcl_text.specs.Lists.{list_of}
 use Rattle.tcl_text.specs.Writing.{written_list, fault_message}
@@ -39,7 +47,7 @@ use Rattle.tcl_tree.specs.declared.builtin.Builtin.TheVariants as name
 use Rattle.tcl_tree.specs.declared.command.Command.{Command}
 use Rattle.tcl_tree.specs.declared.command.Command.TheVariants as command
 use Rattle.tcl_language.specs.Instructions.{Open, Walk, Instr, Program, either, fits, fails, grown, on_code, on_ok, or_fails, at_node, look, change, with_chain, too_long}
-use Rattle.tcl_language.specs.Instructions.Instr.{Script, Commands, Words, Parts, Call, Target, Invoke, Hidden, Foreach, Serve}
+use Rattle.tcl_language.specs.Instructions.Instr.{Script, Commands, Words, Parts, Call, Target, Invoke, Hidden, Foreach, Expression, While, For, Serve}
 use Rattle.tcl_language.specs.Faults.{frame_message, integer_message, invalid_command, invalid_hidden, bad_name, wrong_args}
 use Rattle.tcl_language.specs.Names.{is_name}
 use Rattle.tcl_language.specs.Safety.{is_host}
@@ -47,7 +55,16 @@ use Rattle.tcl_language.specs.Words.{concat, is_level}
 use Rattle.tcl_language.specs.Scripts as scripts
 use Rattle.tcl_language.specs.Variables as variables
 use Rattle.tcl_language.specs.Control as control
+use Rattle.tcl_words.specs.Outcomes.{Outcome}
+use Rattle.tcl_lists.specs.Lists.{lappend_of, lassign_rest, lindex_of, linsert_of, llength_of, lrange_of, lrepeat_of, lreplace_of, lreverse_of}
+use Rattle.tcl_list_texts.specs.Joining.{concat_of, join_of}
+use Rattle.tcl_list_texts.specs.Splitting.{split_of}
+use Rattle.tcl_string_ensemble.specs.Subcommands.{string_of}
+use Rattle.tcl_format.specs.Filling.{format_of}
+use Rattle.tcl_language.specs.Data as collections
 use Rattle.tcl_language.specs.Definitions as definitions
+use Rattle.tcl_language.specs.Expressions as expressions
+use Rattle.tcl_language.specs.Expressions.{Branches}
 use Rattle.tcl_language.specs.Hosting as hosting
 use Rattle.tcl_language.specs.Inspection as inspection
 use Rattle.tcl_language.specs.Interpreters as interpreters
@@ -67,6 +84,9 @@ pub record Facts (R : Discipline Own Instr) : Type 0 where
   pub call : (ws : List Text) → R.fine (Call ws) ≡ true
   pub target : (ws : List Text) → R.fine (Target ws) ≡ true
   pub foreach : (ws : List Walk) (t : Text) → R.fine (Foreach ws t) ≡ true
+  pub expression : (t : Text) → R.fine (Expression t) ≡ true
+  pub while_turns : (test body : Text) → R.fine (While test body) ≡ true
+  pub for_turns : (test next body : Text) → R.fine (For test next body) ≡ true
   pub serve : (e : Entry) → R.tame e ≡ true → R.fine (Serve e) ≡ true
   pub served : (e : Entry) → R.fine (Serve e) ≡ true → R.tame e ≡ true
   pub invoke : (b : Bool) (ws : List Text) → R.tame (InvokeHidden b ws) ≡ true → (vs : List Text) → R.fine (Invoke vs) ≡ true
@@ -325,6 +345,9 @@ module _ (R : Discipline Own Instr) (F : Facts R) (l : Bool) where
   error_ends (a ∷ b ∷ c ∷ []) = tt
   error_ends (a ∷ b ∷ c ∷ d ∷ rest) = tt
 
+  returns : (style : Integers) (words : List Text) → Keeps (control.returns style words)
+  returns style words = by_result options_message (return_of style words) _ (λ c. tt)
+
   by_body : (n : ℤ) (c : Completion) (more : Program) → Keeps more → Keeps (control.after_body n c more)
   by_body (pos zero) c more f = f
   by_body (pos (suc zero)) c more f = tt
@@ -365,7 +388,7 @@ module _ (R : Discipline Own Instr) (F : Facts R) (l : Bool) where
   foreach : (args : List Text) → Keeps (control.foreach args)
   foreach [] = tt
   foreach (a ∷ []) = tt
-  foreach (a ∷ b ∷ rest) = by_either (control.is_odd_many rest) (control.walks_of (a ∷ b ∷ rest) [] (λ walks body. go (Foreach walks body) done)) (fails (wrong_args control.foreach_form))
+  foreach (a ∷ b ∷ rest) = by_either (variables.is_odd rest) (control.walks_of (a ∷ b ∷ rest) [] (λ walks body. go (Foreach walks body) done)) (fails (wrong_args control.foreach_form))
       (by_lists (a ∷ b ∷ rest) [] (λ walks body. go (Foreach walks body) done) (λ walks body. by_go (Foreach walks body) (F.foreach walks body))) tt
 
   runs_body : (p : ProcedureView) (ws : List Text) (bs : List (Text × Text)) → Keeps (control.runs_body p ws bs)
@@ -378,6 +401,90 @@ module _ (R : Discipline Own Instr) (F : Facts R) (l : Bool) where
 
   procedure : (p : ProcedureView) (word : Text) (args : List Text) → Keeps (control.procedure p word args)
   procedure p word args = by_bindings p word (word ∷ args) (control.bindings p.parameters args)
+
+  -- ## Expressions
+
+  by_computation : (c : Computation) (k : Text → Program) → ((t : Text) → Keeps (k t)) → Keeps (expressions.computed c k)
+  by_computation (computations.value v) k f = f v
+  by_computation (computations.refused e) k f = tt
+  by_computation (computations.substitute part next) k f = (F.parts part.parts [] [], by_ok (λ v. expressions.computed (next v) k) (λ v. by_computation (next v) k f))
+
+  expression : (style : Integers) (text : Text) → Keeps (expressions.expression style text)
+  expression style text = by_result (expr_faults.message_of text) (expression_of style text) _
+      (λ tree. by_computation (computation_of style tree) _ (λ v. by_result operators.message_of (final style v) _ (λ result. tt)))
+
+  expr : (args : List Text) → Keeps (expressions.expr args)
+  expr [] = tt
+  expr (arg ∷ args) = by_grown (concat (arg ∷ args)) (λ text. go (Expression text) done) (λ text. by_go (Expression text) (F.expression text))
+
+  by_condition : (style : Integers) (test : Text) (k : Bool → Program) → ((b : Bool) → Keeps (k b)) → Keeps (expressions.condition style test k)
+  by_condition style test k f = (F.expression test, by_ok (λ v. or_fails operators.message_of (truth style v) k) (λ v. by_result operators.message_of (truth style v) k f))
+
+  by_last : (last : Option Text) → Keeps (expressions.runs_last last)
+  by_last None = tt
+  by_last (Some body) = by_go (Script body) (F.script body)
+
+  first_true : (style : Integers) (tests : List (Text × Text)) (last : Option Text) → Keeps (expressions.first_true style tests last)
+  first_true style [] last = by_last last
+  first_true style (branch ∷ rest) last = by_condition style branch.0 _ (λ holds. by_either holds _ _ (F.script branch.1, λ c. tt) (first_true style rest last))
+
+  runs_branches : (style : Integers) (o : Option Branches) → Keeps (expressions.runs_branches style o)
+  runs_branches style None = tt
+  runs_branches style (Some b) = first_true style b.tests b.last
+
+  by_turn : (style : Integers) (test body : Text) (k : Completion → Program) → ((c : Completion) → Keeps (k c)) → Keeps (expressions.turn style test body k)
+  by_turn style test body k f = by_condition style test _ (λ holds. by_either holds _ _ (tt, λ T g. (F.script body, f)) tt)
+
+  while_turns : (style : Integers) (test body : Text) → Keeps (expressions.while_turns style test body)
+  while_turns style test body = by_turn style test body _ (λ c. by_body c.code c _ (by_go (While test body) (F.while_turns test body)))
+
+  while_loop : (args : List Text) → Keeps (expressions.while_loop args)
+  while_loop [] = tt
+  while_loop (a ∷ []) = tt
+  while_loop (test ∷ body ∷ []) = by_go (While test body) (F.while_turns test body)
+  while_loop (a ∷ b ∷ c ∷ rest) = tt
+
+  by_next : (n : ℤ) (c : Completion) (more : Program) → Keeps more → Keeps (expressions.after_next n c more)
+  by_next (pos zero) c more f = f
+  by_next (pos (suc zero)) c more f = tt
+  by_next (pos (suc (suc zero))) c more f = tt
+  by_next (pos (suc (suc (suc zero)))) c more f = tt
+  by_next (pos (suc (suc (suc (suc n))))) c more f = tt
+  by_next (negsuc n) c more f = tt
+
+  for_turns : (style : Integers) (test next body : Text) → Keeps (expressions.for_turns style test next body)
+  for_turns style test next body = by_turn style test body _
+      (λ c. by_body c.code c _ (F.script next, λ d. by_next d.code d _ (by_go (For test next body) (F.for_turns test next body))))
+
+  for_loop : (args : List Text) → Keeps (expressions.for_loop args)
+  for_loop [] = tt
+  for_loop (a ∷ []) = tt
+  for_loop (a ∷ b ∷ []) = tt
+  for_loop (a ∷ b ∷ c ∷ []) = tt
+  for_loop (start ∷ test ∷ next ∷ body ∷ []) = (F.script start, by_ok (λ text. go (For test next body) done) (λ text. by_go (For test next body) (F.for_turns test next body)))
+  for_loop (a ∷ b ∷ c ∷ d ∷ e ∷ rest) = tt
+
+  -- ## Lists, dicts and texts
+
+  by_given : (r : Outcome) (k : Text → Program) → ((t : Text) → Keeps (k t)) → Keeps (collections.given r k)
+  by_given r k f = by_result (λ message. message) r k f
+
+  by_answer : (r : Outcome) → Keeps (collections.answered r)
+  by_answer r = by_given r (λ text. done (ok text)) (λ text. tt)
+
+  lappend : (args : List Text) → Keeps (collections.lappend args)
+  lappend [] = tt
+  lappend (name ∷ values) = by_reads_or name [] (λ old. collections.given (lappend_of old values) (λ new. variables.sets name new (done (ok new))))
+      (λ old. by_given (lappend_of old values) (λ new. variables.sets name new (done (ok new))) (λ new. by_sets name new (done (ok new)) tt))
+
+  lassign : (args : List Text) → Keeps (collections.lassign args)
+  lassign [] = tt
+  lassign (list ∷ names) = by_result fault_message (list_of list) (λ elements. control.sets_names names elements (λ left. collections.answered (lassign_rest (length names) elements)))
+      (λ elements. by_names names elements (λ left. collections.answered (lassign_rest (length names) elements)) (λ left. by_answer (lassign_rest (length names) elements)))
+
+  dict : (args : List Text) → Keeps (collections.dict args)
+  dict [] = tt
+  dict (word ∷ args) = by_answer (collections.subcommand_in collections.dict_subcommands word args)
 
   -- ## Inspection
 
@@ -764,10 +871,30 @@ module _ (R : Discipline Own Instr) (F : Facts R) (l : Bool) where
   builtin style name.Eval word args h = eval args
   builtin style name.Catch word args h = catch args
   builtin style name.Error word args h = error_ends args
+  builtin style name.Return word args h = returns style args
   builtin style name.Break word args h = breaks args
   builtin style name.Continue word args h = continues args
   builtin style name.Foreach word args h = foreach args
+  builtin style name.Expr word args h = expr args
+  builtin style name.If word args h = runs_branches style (expressions.branches_of args)
+  builtin style name.While word args h = while_loop args
+  builtin style name.For word args h = for_loop args
   builtin style name.List word args h = tt
+  builtin style name.Llength word args h = by_answer (llength_of args)
+  builtin style name.Lindex word args h = by_answer (lindex_of style args)
+  builtin style name.Lrange word args h = by_answer (lrange_of style args)
+  builtin style name.Linsert word args h = by_answer (linsert_of style args)
+  builtin style name.Lreplace word args h = by_answer (lreplace_of style args)
+  builtin style name.Lrepeat word args h = by_answer (lrepeat_of style args)
+  builtin style name.Lreverse word args h = by_answer (lreverse_of args)
+  builtin style name.Concat word args h = by_answer (concat_of args)
+  builtin style name.Join word args h = by_answer (join_of args)
+  builtin style name.Split word args h = by_answer (split_of args)
+  builtin style name.String word args h = by_answer (string_of style args)
+  builtin style name.Format word args h = by_answer (format_of style args)
+  builtin style name.Lappend word args h = lappend args
+  builtin style name.Lassign word args h = lassign args
+  builtin style name.Dict word args h = dict args
   builtin style name.Info word args h = info style args
   builtin style name.Proc word args h = proc args
   builtin style name.Rename word args h = rename args
@@ -832,4 +959,7 @@ module _ (R : Discipline Own Instr) (F : Facts R) (l : Bool) where
   program style (Invoke ws) e m = (F.hidden ws e, tt, λ c. tt)
   program style (Hidden ws) e m = invoked style ws (F.asks ws e)
   program style (Foreach walks body) e m = foreach_turns walks body
+  program style (Expression text) e m = expression style text
+  program style (While test body) e m = while_turns style test body
+  program style (For test next body) e m = for_turns style test next body
   program style (Serve entry) e m = serve style entry (F.served entry e) m

@@ -1,3 +1,4 @@
+mod Branching
 mod Keeping
 mod Plainness
 mod Played

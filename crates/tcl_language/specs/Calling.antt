@@ -25,7 +25,16 @@ use Rattle.tcl_parser.specs.declared.fault.Fault.{Fault}
 use Rattle.tcl_parser.specs.declared.script.Part.{Part}
 use Rattle.tcl_parser.specs.declared.script.Part.TheVariants as part
 use Rattle.tcl_parser.specs.Words.{WordRead}
+use Rattle.tcl_flow.specs.Returning.{options_message}
+use Rattle.tcl_flow.specs.OptionReading.{return_of}
 use Rattle.tcl_text.specs.declared.integer.Integers.{Integers}
+use Rattle.tcl_expr.specs.Expressions.{expression_of}
+use Rattle.tcl_expr.specs.Faults as expr_faults
+use Rattle.tcl_operators.specs.Apply.{truth}
+use Rattle.tcl_operators.specs.Messages as operators
+use Rattle.tcl_expression_evaluation.specs.Computations as computations
+use Rattle.tcl_expression_evaluation.specs.Computations.{Computation, computation_of, final}
+use Rattle.tcl_language.specs.Expressions.{Branches}
 use Rattle.tcl_text.specs.Numbers.{integer_of, in_64_bits, fits_64}
 use Rattle.tcl_text.specs.Lists.{list_of}
 use Rattle.tcl_text.specs.Writing.{written_list, fault_message}
@@ -36,7 +45,7 @@ use Rattle.tcl_tree.specs.declared.builtin.Builtin.TheVariants as name
 use Rattle.tcl_tree.specs.declared.command.Command.{Command}
 use Rattle.tcl_tree.specs.declared.command.Command.TheVariants as command
 use Rattle.tcl_language.specs.Instructions.{Open, Walk, Instr, Program, either, fits, fails, grown, on_code, on_ok, or_fails, at_node, look, change}
-use Rattle.tcl_language.specs.Instructions.Instr.{Script, Commands, Words, Parts, Call, Target, Invoke, Hidden, Foreach, Serve}
+use Rattle.tcl_language.specs.Instructions.Instr.{Script, Commands, Words, Parts, Call, Target, Invoke, Hidden, Foreach, Expression, While, For, Serve}
 use Rattle.tcl_language.specs.Faults.{frame_message, integer_message, invalid_command, invalid_hidden, bad_name}
 use Rattle.tcl_language.specs.Names.{is_name}
 use Rattle.tcl_language.specs.Naming.{Named, command_name, removed, renamed}
@@ -45,7 +54,15 @@ use Rattle.tcl_language.specs.Words.{concat, is_level}
 use Rattle.tcl_language.specs.Scripts as scripts
 use Rattle.tcl_language.specs.Variables as variables
 use Rattle.tcl_language.specs.Control as control
+use Rattle.tcl_words.specs.Outcomes.{Outcome}
+use Rattle.tcl_lists.specs.Lists.{lappend_of, lassign_rest, lindex_of, linsert_of, llength_of, lrange_of, lrepeat_of, lreplace_of, lreverse_of}
+use Rattle.tcl_list_texts.specs.Joining.{concat_of, join_of}
+use Rattle.tcl_list_texts.specs.Splitting.{split_of}
+use Rattle.tcl_string_ensemble.specs.Subcommands.{string_of}
+use Rattle.tcl_format.specs.Filling.{format_of}
+use Rattle.tcl_language.specs.Data as collections
 use Rattle.tcl_language.specs.Definitions as definitions
+use Rattle.tcl_language.specs.Expressions as expressions
 use Rattle.tcl_language.specs.Hosting as hosting
 use Rattle.tcl_language.specs.Inspection as inspection
 use Rattle.tcl_language.specs.Interpreters as interpreters
@@ -253,6 +270,9 @@ error_ends (a ∷ b ∷ []) = tt
 error_ends (a ∷ b ∷ c ∷ []) = tt
 error_ends (a ∷ b ∷ c ∷ d ∷ rest) = tt
 
+returns : (style : Integers) (words : List Text) → Calling (control.returns style words)
+returns style words = by_result options_message (return_of style words) _ (λ c. tt)
+
 by_body : (n : ℤ) (c : Completion) (more : Program) → Calling more → Calling (control.after_body n c more)
 by_body (pos zero) c more f = f
 by_body (pos (suc zero)) c more f = tt
@@ -287,7 +307,7 @@ by_lists (names ∷ elements ∷ rest) walks k f =
 foreach : (args : List Text) → Calling (control.foreach args)
 foreach [] = tt
 foreach (a ∷ []) = tt
-foreach (a ∷ b ∷ rest) = by_either (control.is_odd_many rest) _ _ (by_lists (a ∷ b ∷ rest) [] _ (λ walks body c. tt)) tt
+foreach (a ∷ b ∷ rest) = by_either (variables.is_odd rest) _ _ (by_lists (a ∷ b ∷ rest) [] _ (λ walks body c. tt)) tt
 
 by_bindings : (p : ProcedureView) (word : Text) (ws : List Text) (o : Option (List (Text × Text))) → Calling (control.call_bound p word ws o)
 by_bindings p word ws None = tt
@@ -295,6 +315,87 @@ by_bindings p word ws (Some bs) = by_either (control.fit_all bs) _ _ (by_look _ 
 
 procedure : (p : ProcedureView) (word : Text) (args : List Text) → Calling (control.procedure p word args)
 procedure p word args = by_bindings p word (word ∷ args) (control.bindings p.parameters args)
+
+-- ## Expressions
+
+by_computation : (c : Computation) (k : Text → Program) → ((t : Text) → Calling (k t)) → Calling (expressions.computed c k)
+by_computation (computations.value v) k f = f v
+by_computation (computations.refused e) k f = tt
+by_computation (computations.substitute part next) k f = by_ok (λ v. expressions.computed (next v) k) (λ v. by_computation (next v) k f)
+
+expression : (style : Integers) (text : Text) → Calling (expressions.expression style text)
+expression style text = by_result (expr_faults.message_of text) (expression_of style text) _
+    (λ tree. by_computation (computation_of style tree) _ (λ v. by_result operators.message_of (final style v) _ (λ result. tt)))
+
+expr : (args : List Text) → Calling (expressions.expr args)
+expr [] = tt
+expr (arg ∷ args) = by_grown (concat (arg ∷ args)) (λ text. go (Expression text) done) (λ text c. tt)
+
+by_condition : (style : Integers) (test : Text) (k : Bool → Program) → ((b : Bool) → Calling (k b)) → Calling (expressions.condition style test k)
+by_condition style test k f = by_ok (λ v. or_fails operators.message_of (truth style v) k) (λ v. by_result operators.message_of (truth style v) k f)
+
+by_last : (last : Option Text) → Calling (expressions.runs_last last)
+by_last None = tt
+by_last (Some body) = λ c. tt
+
+first_true : (style : Integers) (tests : List (Text × Text)) (last : Option Text) → Calling (expressions.first_true style tests last)
+first_true style [] last = by_last last
+first_true style (branch ∷ rest) last = by_condition style branch.0 _ (λ holds. by_either holds _ _ (λ c. tt) (first_true style rest last))
+
+runs_branches : (style : Integers) (o : Option Branches) → Calling (expressions.runs_branches style o)
+runs_branches style None = tt
+runs_branches style (Some b) = first_true style b.tests b.last
+
+by_turn : (style : Integers) (test body : Text) (k : Completion → Program) → ((c : Completion) → Calling (k c)) → Calling (expressions.turn style test body k)
+by_turn style test body k f = by_condition style test _ (λ holds. by_either holds _ _ (λ T. f) tt)
+
+while_turns : (style : Integers) (test body : Text) → Calling (expressions.while_turns style test body)
+while_turns style test body = by_turn style test body _ (λ c. by_body c.code c _ (λ d. tt))
+
+while_loop : (args : List Text) → Calling (expressions.while_loop args)
+while_loop [] = tt
+while_loop (a ∷ []) = tt
+while_loop (test ∷ body ∷ []) = λ c. tt
+while_loop (a ∷ b ∷ c ∷ rest) = tt
+
+by_next : (n : ℤ) (c : Completion) (more : Program) → Calling more → Calling (expressions.after_next n c more)
+by_next (pos zero) c more f = f
+by_next (pos (suc zero)) c more f = tt
+by_next (pos (suc (suc zero))) c more f = tt
+by_next (pos (suc (suc (suc zero)))) c more f = tt
+by_next (pos (suc (suc (suc (suc n))))) c more f = tt
+by_next (negsuc n) c more f = tt
+
+for_turns : (style : Integers) (test next body : Text) → Calling (expressions.for_turns style test next body)
+for_turns style test next body = by_turn style test body _ (λ c. by_body c.code c _ (λ d. by_next d.code d _ (λ e. tt)))
+
+for_loop : (args : List Text) → Calling (expressions.for_loop args)
+for_loop [] = tt
+for_loop (a ∷ []) = tt
+for_loop (a ∷ b ∷ []) = tt
+for_loop (a ∷ b ∷ c ∷ []) = tt
+for_loop (start ∷ test ∷ next ∷ body ∷ []) = by_ok (λ text. go (For test next body) done) (λ text c. tt)
+for_loop (a ∷ b ∷ c ∷ d ∷ e ∷ rest) = tt
+
+-- ## Lists, dicts and texts
+
+by_given : (r : Outcome) (k : Text → Program) → ((t : Text) → Calling (k t)) → Calling (collections.given r k)
+by_given r k f = by_result (λ message. message) r k f
+
+by_answer : (r : Outcome) → Calling (collections.answered r)
+by_answer r = by_given r (λ text. done (ok text)) (λ text. tt)
+
+lappend : (args : List Text) → Calling (collections.lappend args)
+lappend [] = tt
+lappend (name ∷ values) = by_reads_or name [] _ (λ old. by_given (lappend_of old values) _ (λ new. by_sets name new (done (ok new)) tt))
+
+lassign : (args : List Text) → Calling (collections.lassign args)
+lassign [] = tt
+lassign (list ∷ names) = by_result fault_message (list_of list) _ (λ elements. by_names names elements _ (λ left. by_answer (lassign_rest (length names) elements)))
+
+dict : (args : List Text) → Calling (collections.dict args)
+dict [] = tt
+dict (word ∷ args) = by_answer (collections.subcommand_in collections.dict_subcommands word args)
 
 -- ## Inspection
 
@@ -698,10 +799,30 @@ builtin style name.Uplevel word args = uplevel style args
 builtin style name.Eval word args = eval args
 builtin style name.Catch word args = catch args
 builtin style name.Error word args = error_ends args
+builtin style name.Return word args = returns style args
 builtin style name.Break word args = breaks args
 builtin style name.Continue word args = continues args
 builtin style name.Foreach word args = foreach args
+builtin style name.Expr word args = expr args
+builtin style name.If word args = runs_branches style (expressions.branches_of args)
+builtin style name.While word args = while_loop args
+builtin style name.For word args = for_loop args
 builtin style name.List word args = tt
+builtin style name.Llength word args = by_answer (llength_of args)
+builtin style name.Lindex word args = by_answer (lindex_of style args)
+builtin style name.Lrange word args = by_answer (lrange_of style args)
+builtin style name.Linsert word args = by_answer (linsert_of style args)
+builtin style name.Lreplace word args = by_answer (lreplace_of style args)
+builtin style name.Lrepeat word args = by_answer (lrepeat_of style args)
+builtin style name.Lreverse word args = by_answer (lreverse_of args)
+builtin style name.Concat word args = by_answer (concat_of args)
+builtin style name.Join word args = by_answer (join_of args)
+builtin style name.Split word args = by_answer (split_of args)
+builtin style name.String word args = by_answer (string_of style args)
+builtin style name.Format word args = by_answer (format_of style args)
+builtin style name.Lappend word args = lappend args
+builtin style name.Lassign word args = lassign args
+builtin style name.Dict word args = dict args
 builtin style name.Info word args = info style args
 builtin style name.Proc word args = proc args
 builtin style name.Rename word args = rename args
@@ -759,4 +880,7 @@ program style (Target ws) = λ c. tt
 program style (Invoke ws) = λ c. tt
 program style (Hidden ws) = invoked style ws
 program style (Foreach walks body) = foreach_turns walks body
+program style (Expression text) = expression style text
+program style (While test body) = while_turns style test body
+program style (For test next body) = for_turns style test next body
 program style (Serve e) = serve style e

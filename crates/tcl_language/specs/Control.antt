@@ -1,6 +1,6 @@
 -- The commands that evaluate scripts in their own interpreter, and those that only end one.
 use Rattle.std.specs.Prelude.{ℕ, zero, suc, ℤ, pos, negsuc, Bool, true, false, List, [], ◌∷◌, ◌++◌, Option, Some, None, Result, Ok, Err, codes, ◌&&◌}
-use Rattle.std.specs.Fmt.{decimal, signed_decimal}
+use Rattle.std.specs.Fmt.{signed_decimal}
 use Rattle.std.specs.Str.{bytes_eq}
 use Rattle.tcl_core.specs.Paths.{Text}
 use Rattle.tcl_core.specs.Endings.{Completion, ok, completion, leave_proc}
@@ -9,6 +9,8 @@ use Rattle.tcl_core.specs.Programs.Wrap.{Framed}
 use Rattle.tcl_core.specs.Programs.Prog.{done, act, go, inside}
 use Rattle.tcl_frames.specs.Chain.{Chain, after_set, set_aside, brought_back, pushed, popped}
 use Rattle.tcl_variables.specs.declared.fault.FrameFault.{FrameFault}
+use Rattle.tcl_flow.specs.Returning.{caught, shown, options_message}
+use Rattle.tcl_flow.specs.OptionReading.{return_of}
 use Rattle.tcl_text.specs.declared.integer.Integers.{Integers}
 use Rattle.tcl_text.specs.Lists.{list_of}
 use Rattle.tcl_text.specs.Writing.{written_list, fault_message}
@@ -19,7 +21,7 @@ use Rattle.tcl_language.specs.Instructions.{Walk, Program, either, fits, fails, 
 use Rattle.tcl_language.specs.Instructions.Instr.{Script, Foreach}
 use Rattle.tcl_language.specs.Faults.{wrong_args}
 use Rattle.tcl_language.specs.Words.{concat, is_level}
-use Rattle.tcl_language.specs.Variables.{sets, level}
+use Rattle.tcl_language.specs.Variables.{sets, level, is_odd}
 
 -- `eval arg ?arg ...?`
 abbrev pub eval : List Text → Program
@@ -58,21 +60,9 @@ uplevel style (word ∷ arg ∷ args) = uplevel_words style word (arg ∷ args) 
 
 -- ## Catching
 
--- the code and the level of a caught completion: those of a return that is pending, or its own code and 0
-abbrev pub caught_code : ℤ → Completion → ℤ × ℕ
-caught_code (pos (suc (suc zero))) c = (c.options.code, c.options.level)
-caught_code n c = (n, 0)
-
-abbrev pub errorcode_words : ℤ → Text → List Text
-errorcode_words (pos (suc zero)) errorcode = codes "-errorcode" ∷ errorcode ∷ []
-errorcode_words n errorcode = []
-
-abbrev pub options_words : ℤ × ℕ → Text → List Text
-options_words p errorcode = codes "-code" ∷ signed_decimal p.0 ∷ codes "-level" ∷ decimal p.1 ∷ errorcode_words p.0 errorcode
-
 -- the dictionary of a caught completion's options
 abbrev pub options_text : Completion → Text
-options_text c = written_list (options_words (caught_code c.code c) c.options.errorcode)
+options_text c = written_list (shown (caught c))
 
 abbrev pub code_text : Completion → Text
 code_text c = signed_decimal c.code
@@ -108,6 +98,10 @@ error (message ∷ []) = error_with message (codes "NONE")
 error (message ∷ info ∷ []) = error_with message (codes "NONE")
 error (message ∷ info ∷ errorcode ∷ []) = error_with message errorcode
 error _ = fails (wrong_args (codes "error message ?errorInfo? ?errorCode?"))
+
+-- `return ?option value ...? ?result?`
+abbrev pub returns : Integers → List Text → Program
+returns style words = or_fails options_message (return_of style words) done
 
 -- ## Loops
 
@@ -159,14 +153,9 @@ walks_of (names ∷ elements ∷ rest) walks k =
 walks_of (body ∷ []) walks k = k walks body
 walks_of [] walks k = fails (wrong_args foreach_form)
 
-abbrev pub is_odd_many : {A : Type 0} → List A → Bool
-is_odd_many [] = false
-is_odd_many (x ∷ []) = true
-is_odd_many (x ∷ y ∷ xs) = is_odd_many xs
-
 -- `foreach varList list ?varList list ...? command`
 abbrev pub foreach : List Text → Program
-foreach (names ∷ elements ∷ rest) = either (is_odd_many rest) (walks_of (names ∷ elements ∷ rest) [] (λ walks body. go (Foreach walks body) done)) (fails (wrong_args foreach_form))
+foreach (names ∷ elements ∷ rest) = either (is_odd rest) (walks_of (names ∷ elements ∷ rest) [] (λ walks body. go (Foreach walks body) done)) (fails (wrong_args foreach_form))
 foreach _ = fails (wrong_args foreach_form)
 
 -- ## Procedures

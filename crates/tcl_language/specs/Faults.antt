@@ -1,35 +1,31 @@
 -- The texts of errors.
-use Rattle.std.specs.Prelude.{[], ◌++◌, codes}
+use Rattle.std.specs.Prelude.{[], codes}
 use Rattle.tcl_core.specs.Paths.{Text}
-use Rattle.tcl_variables.specs.Messages.{message}
+use Rattle.tcl_variables.specs.Messages.{message, quoted}
 use Rattle.tcl_variables.specs.declared.fault.FrameFault.{FrameFault}
 use Rattle.tcl_text.specs.declared.integer.IntegerFault.{IntegerFault}
 use Rattle.tcl_text.specs.declared.integer.IntegerFault.TheVariants.{NotInteger, TooLarge}
 
--- front "x" end
-abbrev pub quoted : Text → Text → Text → Text
-quoted front x end = front ++ codes " \"" ++ x ++ codes "\"" ++ end
-
 abbrev pub bad_level : Text → Text
-bad_level x = quoted (codes "bad level") x []
+bad_level x = quoted (codes "bad level ") x []
 
 abbrev pub bad_name : Text → Text
-bad_name x = quoted (codes "bad name") x []
+bad_name x = quoted (codes "bad name ") x []
 
 abbrev pub invalid_command : Text → Text
-invalid_command x = quoted (codes "invalid command name") x []
+invalid_command x = quoted (codes "invalid command name ") x []
 
 abbrev pub invalid_hidden : Text → Text
-invalid_hidden x = quoted (codes "invalid hidden command name") x []
+invalid_hidden x = quoted (codes "invalid hidden command name ") x []
 
 abbrev pub lost_alias : Text → Text
-lost_alias x = quoted (codes "could not find the target of alias") x []
+lost_alias x = quoted (codes "could not find the target of alias ") x []
 
 abbrev pub wrong_args : Text → Text
-wrong_args form = quoted (codes "wrong # args: should be") form []
+wrong_args form = quoted (codes "wrong # args: should be ") form []
 
 abbrev pub unknown_subcommand : Text → Text
-unknown_subcommand x = quoted (codes "unknown subcommand") x []
+unknown_subcommand x = quoted (codes "unknown subcommand ") x []
 
 -- why a call on the variables is refused
 abbrev pub frame_message : FrameFault → Text
@@ -37,5 +33,5 @@ frame_message f = message f
 
 -- why a text is no integer that can be used
 abbrev pub integer_message : Text → IntegerFault → Text
-integer_message x NotInteger = quoted (codes "expected integer but got") x []
+integer_message x NotInteger = quoted (codes "expected integer but got ") x []
 integer_message x TooLarge = codes "integer value too large to represent"

@@ -11,13 +11,14 @@ use Rattle.tcl_core.specs.Entries.Said.{Finished, Told}
 use Rattle.tcl_core.specs.Programs.Prog.{done, exit, call}
 use Rattle.tcl_text.specs.declared.integer.Integers.{Integers}
 use Rattle.tcl_language.specs.Instructions.{Program, either, fails, grown}
-use Rattle.tcl_language.specs.Faults.{quoted, wrong_args}
+use Rattle.tcl_variables.specs.Messages.{quoted}
+use Rattle.tcl_language.specs.Faults.{wrong_args}
 use Rattle.tcl_language.specs.Variables.{integer}
 
 -- what a refusal of the host says of a channel
 abbrev pub channel_message : ℕ → Text → Text
 channel_message number channel =
-    either (number == 262) (quoted (codes "device fault on") channel []) (quoted (codes "can not find channel named") channel [])
+    either (number == 262) (quoted (codes "device fault on ") channel []) (quoted (codes "can not find channel named ") channel [])
 
 -- on with the host's reply to a request; nothing else answers one
 abbrev pub heard : (HostReply → Program) → Said → Program

@@ -41,6 +41,11 @@ pub data Instr : Type 0 where
   Hidden : (words : List Text) → Instr
   -- the turns that are left of a loop over lists
   Foreach : (walks : List Walk) (body : Text) → Instr
+  -- an expression, whose value is wanted
+  Expression : (text : Text) → Instr
+  -- the turns that are left of a loop with a condition, and of one that has a script between two turns
+  While : (test body : Text) → Instr
+  For : (test next body : Text) → Instr
   -- what another interpreter could ask for, asked by the interpreter itself
   Serve : (entry : Entry) → Instr
 

@@ -24,25 +24,26 @@ use Rattle.tcl_tree.specs.declared.command.Command.{Command}
 use Rattle.tcl_tree.specs.declared.command.Command.TheVariants as command
 use Rattle.tcl_language.specs.Instructions.{Program, either, fails, gives, grown, or_fails, look, change}
 use Rattle.tcl_language.specs.Instructions.Instr.{Serve}
-use Rattle.tcl_language.specs.Faults.{quoted, wrong_args, lost_alias, bad_name, invalid_command, invalid_hidden, unknown_subcommand}
+use Rattle.tcl_variables.specs.Messages.{quoted}
+use Rattle.tcl_language.specs.Faults.{wrong_args, lost_alias, bad_name, invalid_command, invalid_hidden, unknown_subcommand}
 use Rattle.tcl_language.specs.Names.{is_name}
 use Rattle.tcl_language.specs.Variables.{integer}
 use Rattle.tcl_language.specs.Words.{concat}
 
 abbrev pub no_interpreter : Text → Text
-no_interpreter x = quoted (codes "could not find interpreter") x []
+no_interpreter x = quoted (codes "could not find interpreter ") x []
 
 abbrev pub in_use : Text → Text
-in_use x = quoted (codes "interpreter") x (codes " is in use")
+in_use x = quoted (codes "interpreter ") x (codes " is in use")
 
 abbrev pub already_exists : Text → Text
 already_exists x = 34 ∷ (x ++ codes "\" already exists")
 
 abbrev pub bad_option : Text → Text
-bad_option x = quoted (codes "bad option") x []
+bad_option x = quoted (codes "bad option ") x []
 
 abbrev pub bad_count : Text → Text
-bad_count x = quoted (codes "bad count") x []
+bad_count x = quoted (codes "bad count ") x []
 
 abbrev pub denied : Text
 denied = codes "permission denied"

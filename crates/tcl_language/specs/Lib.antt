@@ -1,6 +1,9 @@
+pub mod Branching
 pub mod Calling
 pub mod Control
+pub mod Data
 pub mod Definitions
+pub mod Expressions
 pub mod Faults
 pub mod Hosting
 pub mod Inspection

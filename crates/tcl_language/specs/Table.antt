@@ -16,12 +16,19 @@ use Rattle.tcl_tree.specs.declared.builtin.Builtin.TheVariants as name
 use Rattle.tcl_tree.specs.declared.command.Command.{Command}
 use Rattle.tcl_tree.specs.declared.command.Command.TheVariants as command
 use Rattle.tcl_language.specs.Instructions.{Instr, Program, fails, gives, look}
-use Rattle.tcl_language.specs.Instructions.Instr.{Script, Commands, Words, Parts, Call, Target, Invoke, Hidden, Foreach, Serve}
+use Rattle.tcl_language.specs.Instructions.Instr.{Script, Commands, Words, Parts, Call, Target, Invoke, Hidden, Foreach, Expression, While, For, Serve}
 use Rattle.tcl_language.specs.Faults.{invalid_command, invalid_hidden, bad_name}
+use Rattle.tcl_lists.specs.Lists.{lindex_of, linsert_of, llength_of, lrange_of, lrepeat_of, lreplace_of, lreverse_of}
+use Rattle.tcl_list_texts.specs.Joining.{concat_of, join_of}
+use Rattle.tcl_list_texts.specs.Splitting.{split_of}
+use Rattle.tcl_string_ensemble.specs.Subcommands.{string_of}
+use Rattle.tcl_format.specs.Filling.{format_of}
 use Rattle.tcl_language.specs.Scripts as scripts
+use Rattle.tcl_language.specs.Data as collections
 use Rattle.tcl_language.specs.Variables as variables
 use Rattle.tcl_language.specs.Control as control
 use Rattle.tcl_language.specs.Definitions as definitions
+use Rattle.tcl_language.specs.Expressions as expressions
 use Rattle.tcl_language.specs.Hosting as hosting
 use Rattle.tcl_language.specs.Inspection as inspection
 use Rattle.tcl_language.specs.Interpreters as interpreters
@@ -40,10 +47,30 @@ builtin style name.Uplevel word args = control.uplevel style args
 builtin style name.Eval word args = control.eval args
 builtin style name.Catch word args = control.catch args
 builtin style name.Error word args = control.error args
+builtin style name.Return word args = control.returns style args
 builtin style name.Break word args = control.breaks args
 builtin style name.Continue word args = control.continues args
 builtin style name.Foreach word args = control.foreach args
+builtin style name.Expr word args = expressions.expr args
+builtin style name.If word args = expressions.if_first style args
+builtin style name.While word args = expressions.while_loop args
+builtin style name.For word args = expressions.for_loop args
 builtin style name.List word args = gives (written_list args)
+builtin style name.Llength word args = collections.answered (llength_of args)
+builtin style name.Lindex word args = collections.answered (lindex_of style args)
+builtin style name.Lrange word args = collections.answered (lrange_of style args)
+builtin style name.Linsert word args = collections.answered (linsert_of style args)
+builtin style name.Lreplace word args = collections.answered (lreplace_of style args)
+builtin style name.Lrepeat word args = collections.answered (lrepeat_of style args)
+builtin style name.Lreverse word args = collections.answered (lreverse_of args)
+builtin style name.Concat word args = collections.answered (concat_of args)
+builtin style name.Join word args = collections.answered (join_of args)
+builtin style name.Split word args = collections.answered (split_of args)
+builtin style name.String word args = collections.answered (string_of style args)
+builtin style name.Format word args = collections.answered (format_of style args)
+builtin style name.Lappend word args = collections.lappend args
+builtin style name.Lassign word args = collections.lassign args
+builtin style name.Dict word args = collections.dict args
 builtin style name.Info word args = inspection.info style args
 builtin style name.Proc word args = definitions.proc args
 builtin style name.Rename word args = definitions.rename args
@@ -119,4 +146,7 @@ program style (Target words) = inside Deeper (Call words) done
 program style (Invoke words) = inside Deeper (Hidden words) done
 program style (Hidden words) = invoked style words
 program style (Foreach walks body) = control.foreach_turns walks body
+program style (Expression text) = expressions.expression style text
+program style (While test body) = expressions.while_turns style test body
+program style (For test next body) = expressions.for_turns style test next body
 program style (Serve entry) = serve style entry

@@ -2,6 +2,7 @@
 //! here is a law.
 #![tactic(auto)]
 
+ghost use Rattle.tcl_language.specs.Branching.{IfIsRead};
 ghost use Rattle.tcl_language.specs.Playing.{PlayIsRun};
 ghost use Rattle.tcl_language.specs.Rows.{AreRows};
 ghost use Rattle.tcl_language.specs.Safety.{KeepsLimits, KeepsQuiet};
@@ -14,6 +15,11 @@ pub fn rows()
 /// What is played is a run.
 pub fn play_is_run<O, I>()
     ensures { PlayIsRun O I }
+{}
+
+/// The words of an `if` are read as the branches that they are.
+pub fn if_words_are_read()
+    ensures { IfIsRead }
 {}
 
 /// Scripts in a safe interpreter whose commands don't reach the host ask the host for nothing.

@@ -15,27 +15,6 @@ use Rattle.tcl_list_texts.specs.Splitting.{Parts, before_parts, parts, part_text
 abbrev pub behind : Texts → List ℕ → Parts → Texts
 behind made part p = made ++ ((part ++ text_of p.0) ∷ map text_of p.1)
 
-pub at_separator : (set cs ds part empty : List ℕ) (made now whole : Texts) (c : ℕ) (t : Bool) → behind made part (parts set cs) ≡ whole → cs ≡ c ∷ ds → t ≡ is_among set c → t ≡ true → now ≡ made ++ part ∷ [] → empty ≡ [] → behind now empty (parts set ds) ≡ whole
-at_separator set cs ds part empty made now whole c t w e i h n m =
-    let test : is_among set c ≡ true = sym i ∙ h in
-    let here : parts set cs ≡ ([], (parts set ds).0 ∷ (parts set ds).1) = ap (parts set) e ∙ ap (λ b. before_parts b c (parts set ds)) test in
-    ap (λ l. behind l empty (parts set ds)) n ∙ (ap (λ l. behind (made ++ part ∷ []) l (parts set ds)) m ∙ (append_assoc made (part ∷ []) (part_texts (parts set ds)) ∙ (ap (λ l. made ++ (l ∷ part_texts (parts set ds))) (sym (append-nil part)) ∙ (ap (behind made part) (sym here) ∙ w))))
-
--- what is told of the parts up to a separator is told of all
-pub told_at_separator : (set cs ds part : List ℕ) (made whole : Texts) (c : ℕ) (t : Bool) → behind made part (parts set cs) ≡ whole → cs ≡ c ∷ ds → t ≡ is_among set c → t ≡ true → made ++ (part ∷ part_texts (parts set ds)) ≡ whole
-told_at_separator set cs ds part made whole c t w e i h =
-    sym (append_assoc made (part ∷ []) (part_texts (parts set ds))) ∙ at_separator set cs ds part [] made (made ++ part ∷ []) whole c t w e i h refl refl
-
-pub at_letter : (set cs ds part now : List ℕ) (made whole : Texts) (c : ℕ) (t : Bool) → behind made part (parts set cs) ≡ whole → cs ≡ c ∷ ds → t ≡ is_among set c → t ≡ false → now ≡ part ++ encode_utf8 c → behind made now (parts set ds) ≡ whole
-at_letter set cs ds part now made whole c t w e i h n =
-    let test : is_among set c ≡ false = sym i ∙ h in
-    let here : parts set cs ≡ (c ∷ (parts set ds).0, (parts set ds).1) = ap (parts set) e ∙ ap (λ b. before_parts b c (parts set ds)) test in
-    ap (λ l. behind made l (parts set ds)) n ∙ (ap (λ l. made ++ (l ∷ map text_of (parts set ds).1)) (append_assoc part (encode_utf8 c) (text_of (parts set ds).0)) ∙ (ap (behind made part) (sym here) ∙ w))
-
-pub at_end : (set cs part : List ℕ) (made whole : Texts) → behind made part (parts set cs) ≡ whole → cs ≡ [] → made ++ part ∷ [] ≡ whole
-at_end set cs part made whole w e =
-    ap (λ l. made ++ l ∷ []) (sym (append-nil part)) ∙ (ap (λ l. behind made part (parts set l)) (sym e) ∙ w)
-
 pub split_nothing : (set cs : List ℕ) → cs ≡ [] → list_value (split_at set cs) ≡ Ok []
 split_nothing set cs e = ap (λ l. list_value (split_at set l)) e
 

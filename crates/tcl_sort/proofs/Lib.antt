@@ -1,2 +1,3 @@
 pub mod Reversed
 pub mod Given
+pub mod Words

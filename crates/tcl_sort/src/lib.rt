@@ -1,5 +1,10 @@
 //! Lists in order.
 #![tactic(auto)]
 
+pub mod command;
+pub mod numbers;
+pub mod options;
 pub mod ordering;
 pub mod rows;
+#[cfg(test)]
+mod tests;

@@ -56,17 +56,17 @@ pub fn rows_value(alloc: Global, rows: &[TextRow], unique: bool) -> Result<Value
         if is_left_out(rows, index, unique) {
             continue;
         }
-        push_row(alloc, &mut made, &rows[index])?;
+        push_value(alloc, &mut made, rows[index].value())?;
     }
     list_value(alloc, made)
 }
 
-/// Adds the element of a row.
-fn push_row(alloc: Global, made: &mut List, row: &TextRow) -> Result<(), Refusal>
-    ensures pushed { OnOk result (made.new ≡ made.old ++ row.now ∷ []) }
-    ensures refused { (rest : Texts) → IfErr result (λ e. Refuses e (list_value (made.old ++ (row.now ∷ rest)))) }
+/// Adds a value to a list.
+pub(crate) fn push_value(alloc: Global, made: &mut List, value: &Value) -> Result<(), Refusal>
+    ensures pushed { OnOk result (made.new ≡ made.old ++ value.now ∷ []) }
+    ensures refused { (rest : Texts) → IfErr result (λ e. Refuses e (list_value (made.old ++ (value.now ∷ rest)))) }
 {
-    let own = row.value().clone()?;
+    let own = value.clone()?;
     if let Err(why) = made.push(alloc, own) {
         return Err(not_made(alloc, why));
     }

@@ -91,3 +91,86 @@ impl Ord for TextRow {
         self.text.as_str().cmp(other.text.as_str())
     }
 }
+
+/// An element with its integer, which contracts see as its text and the integer. Rows compare by their integers.
+#[derive(Drop)]
+pub struct NumberRow {
+    number: i64,
+    value: Value,
+}
+
+impl Model for NumberRow {
+    ghost use Rattle.tcl_sort.specs.Sorting.{Numbered};
+
+    ghost Value = { Numbered };
+
+    ghost view = { λ a. (a.value, a.number) };
+}
+
+impl NumberRow {
+    /// An element with its integer.
+    pub fn new(number: i64, value: Value) -> NumberRow
+        ensures { result ≡ (value, number) }
+    {
+        NumberRow { number, value }
+    }
+
+    /// The element.
+    pub fn value(&self) -> &Value
+        ensures { result.now ≡ self.now.0 }
+    {
+        &self.value
+    }
+}
+
+impl PartialEq for NumberRow {
+    ghost use Rattle.std.specs.Cmp.{partial_equiv_from_equiv, on_equiv, int_eq_equiv};
+    ghost use Rattle.tcl_sort.specs.Sorting.{Numbered, same_number};
+
+    ghost eq = { same_number };
+
+    ghost laws = { partial_equiv_from_equiv (on_equiv (λ (r : Numbered). r.1) int_eq_equiv) };
+
+    fn eq(&self, other: &NumberRow) -> bool {
+        self.number == other.number
+    }
+}
+
+impl Eq for NumberRow {
+    ghost use Rattle.std.specs.Cmp.{on_equiv, int_eq_equiv};
+    ghost use Rattle.tcl_sort.specs.Sorting.{Numbered};
+
+    ghost laws = { on_equiv (λ (r : Numbered). r.1) int_eq_equiv };
+}
+
+impl PartialOrd for NumberRow {
+    ghost use Rattle.std.specs.Prelude.{Some};
+    ghost use Rattle.std.specs.Cmp.{on_po, signed_po};
+    ghost use Rattle.tcl_sort.specs.Sorting.{Numbered, number_order};
+
+    ghost partial_cmp = { λ x y. Some (number_order x y) };
+
+    ghost laws = { on_po (λ (r : Numbered). r.1) signed_po };
+
+    fn partial_cmp(&self, other: &NumberRow) -> Option<Ordering> {
+        Some(self.cmp(other))
+    }
+}
+
+impl Ord for NumberRow {
+    ghost use Rattle.std.proofs.Common.{rules, refl};
+    ghost use Rattle.std.specs.Cmp.{on_total, int_cmp_total};
+    ghost use Rattle.tcl_sort.specs.Sorting.{Numbered, number_order};
+
+    ghost cmp = { number_order };
+
+    ghost total = { on_total (λ (r : Numbered). r.1) int_cmp_total };
+
+    ghost matches_partial_cmp = { Prim.search rules };
+
+    ghost matches_eq = { λ x y. refl };
+
+    fn cmp(&self, other: &NumberRow) -> Ordering {
+        self.number.cmp(&other.number)
+    }
+}

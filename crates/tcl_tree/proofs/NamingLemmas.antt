@@ -1,6 +1,6 @@
 -- What is done to the commands of one interpreter, in the words of the core.
 use Rattle.std.proofs.Common.{◌≡◌, ℕ, ◌∙◌, refl, sym, ap, inl, inr, Bool, true, false, List, Option, Some, None}
-use Rattle.std.specs.Prelude.{is_none, is_some, Result, Ok, Err, OnOk, OnErr, IfOk, IfErr, IfNone}
+use Rattle.std.specs.Prelude.{is_some, Result, Ok, Err, OnOk, OnErr, IfOk, IfErr, IfNone}
 use Rattle.std.proofs.lemmas.Option.{same_Some}
 use Rattle.slab.specs.Slab as slab
 use Rattle.slab.specs.Slab.{Slab}
@@ -37,12 +37,12 @@ module _ (s : Slab Node) (root : ℕ) (sound : IsSound (slab.get s) root) (p : P
         own,
         ap (λ (u : NodeView). f u.own) v_is ∙ h.own (keys node.children),
         node_done (λ (u : NodeView). record u { own = own }) _ _ p
-            (tree_write s root sound p k at node (with_state node new) is (state_place node new safe) _ (sym (h.rest (is_none node.parent) (keys node.children)))),
+            (tree_write s root sound p k at node (with_state node new) is (state_place node new safe) _ (sym (h.rest (keys node.children)))),
       )
 
-  pub unnamed_write : ((top : Bool) (names : List Text) → state_view new top names ≡ state_view node.state top names)
+  pub unnamed_write : ((names : List Text) → state_view new names ≡ state_view node.state names)
       → tree_in (slab.get (slab.with_value s k (with_state node new))) root ≡ tree_in (slab.get s) root
-  unnamed_write same = view_write s root sound p k at node (with_state node new) is (state_place node new safe) (sym (same (is_none node.parent) (keys node.children)))
+  unnamed_write same = view_write s root sound p k at node (with_state node new) is (state_place node new safe) (sym (same (keys node.children)))
 
 pub refused_naming : (h : Heap) (root : ℕ) (p : Path) (k : ℕ) → follow h root p ≡ Some k → (node : Node) (new : State) → h k ≡ Some node → (naming : Naming) (e : Refusal)
     → StaysSo naming e node.state new → RefusesSo naming e (tree_in h root) p

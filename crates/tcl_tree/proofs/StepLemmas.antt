@@ -363,10 +363,10 @@ pub at_end : (o : Option ℕ) (P : Type 0) (Q : ℕ → Type 0) → o ≡ None �
 at_end o P Q e h = MatchOption-at_none P Q e h
 
 -- whether a meter is full does not depend on the children
-pub full_any : (m : Meter) (s : State) (a b : Bool) (cs ds : List Text) → full_of m (state_view s a cs) ≡ full_of m (state_view s b ds)
-full_any Steps s a b cs ds = refl
-full_any Levels s a b cs ds = refl
-full_any Back s a b cs ds = refl
+pub full_any : (m : Meter) (s : State) (cs ds : List Text) → full_of m (state_view s cs) ≡ full_of m (state_view s ds)
+full_any Steps s cs ds = refl
+full_any Levels s cs ds = refl
+full_any Back s cs ds = refl
 
 pub follow_append : (h : Heap) (p r : Path) (k : ℕ) → follow h k (p ++ r) ≡ option_and_then (λ c. follow h c r) (follow h k p)
 unfolding follow

@@ -107,20 +107,38 @@ RefusesLimit _ f p down limit = Prim.⊥
 abbrev pub most_depth : ℕ
 most_depth = 1000
 
+-- The limit of depth of an interpreter that isn't the root can be this.
+pub record MayDeepen (f : Path → Option NodeView) (p : Path) (limit : ℕ) : Type 0 where
+  pub target : NodeView
+  pub there : f p ≡ Some target
+  pub below_root : target.root ≡ false
+  pub least : 1 ≤ limit
+  pub most : limit ≤ most_depth
+
+-- the interpreter at p is the root of its tree
+abbrev pub IsRoot : (Path → Option NodeView) → Path → Type 0
+IsRoot f p = (v : NodeView) × (f p ≡ Some v) × (v.root ≡ true)
+
+-- there is an interpreter at p, and no limit of depth may be this
+abbrev pub NoDepth : (Path → Option NodeView) → Path → ℕ → Type 0
+NoDepth f p limit = IsSome (f p) × ((limit ≡ 0) ⊎ (most_depth < limit))
+
+abbrev pub RefusesToDeepen : Refusal → (Path → Option NodeView) → Path → ℕ → Type 0
+RefusesToDeepen Denied f p limit = IsRoot f p
+RefusesToDeepen BadDepthLimit f p limit = NoDepth f p limit
+RefusesToDeepen _ f p limit = Prim.⊥
+
 -- A safe interpreter sets no limit, and none sets the root's limit of depth.
 pub record MayLimitDepth (f : Path → Option NodeView) (p down : Path) (limit : ℕ) : Type 0 where
   pub asker : NodeView
   pub here : f p ≡ Some asker
   pub trusted : asker.safe ≡ false
-  pub below_root : p ++ down ≢ []
-  pub there : IsSome (f (p ++ down))
-  pub least : 1 ≤ limit
-  pub most : limit ≤ most_depth
+  pub target : MayDeepen f (p ++ down) limit
 
 abbrev pub RefusesDepthLimit : Refusal → (Path → Option NodeView) → Path → Path → ℕ → Type 0
 RefusesDepthLimit NoInterpreter f p down limit = (f p ≡ None) ⊎ (f (p ++ down) ≡ None)
-RefusesDepthLimit Denied f p down limit = (v : NodeView) × (f p ≡ Some v) × ((v.safe ≡ true) ⊎ (p ++ down ≡ []))
-RefusesDepthLimit BadDepthLimit f p down limit = IsSome (f (p ++ down)) × ((limit ≡ 0) ⊎ (most_depth < limit))
+RefusesDepthLimit Denied f p down limit = ((v : NodeView) × (f p ≡ Some v) × (v.safe ≡ true)) ⊎ IsRoot f (p ++ down)
+RefusesDepthLimit BadDepthLimit f p down limit = NoDepth f (p ++ down) limit
 RefusesDepthLimit _ f p down limit = Prim.⊥
 
 -- ## Commands

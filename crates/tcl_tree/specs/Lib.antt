@@ -10,3 +10,4 @@ pub mod LendingTree
 pub mod Refusals
 pub mod Naming
 pub mod Reaching
+pub mod Forms

@@ -88,17 +88,17 @@ named_so (Expose h n) own = exposed_under own h.now n
 -- its own part becomes what is made of it, and nothing else of it changes
 pub record Follows (f : Own → Named) (old new : State) : Type 0 where
   pub own : (names : List Text) → f (own_view old names) ≡ Ok (own_view new names)
-  pub rest : (top : Bool) (names : List Text) → state_view new top names ≡ record (state_view old top names) { own = own_view new names }
+  pub rest : (names : List Text) → state_view new names ≡ record (state_view old names) { own = own_view new names }
 
 -- it stays as it is, for want of memory or since that is refused
 pub record Stays (f : Own → Named) (e : Refusal) (old new : State) : Type 0 where
   pub why : (e ≡ Memory) ⊎ ((names : List Text) → f (own_view old names) ≡ Err e)
-  pub same : (top : Bool) (names : List Text) → state_view new top names ≡ state_view old top names
+  pub same : (names : List Text) → state_view new names ≡ state_view old names
 
 -- it stays as it is since that is refused
 pub record StaysRefused (f : Own → Named) (e : Refusal) (old new : State) : Type 0 where
   pub why : (names : List Text) → f (own_view old names) ≡ Err e
-  pub same : (top : Bool) (names : List Text) → state_view new top names ≡ state_view old top names
+  pub same : (names : List Text) → state_view new names ≡ state_view old names
 
 -- what is done to a name where that may grow a map: only then is there want of memory
 abbrev pub Grows : Naming → Refusal → Type 0
@@ -108,7 +108,7 @@ Grows _ e = e ≡ Memory
 
 pub record StaysSo (naming : Naming) (e : Refusal) (old new : State) : Type 0 where
   pub why : Grows naming e ⊎ ((names : List Text) → named_so naming (own_view old names) ≡ Err e)
-  pub same : (top : Bool) (names : List Text) → state_view new top names ≡ state_view old top names
+  pub same : (names : List Text) → state_view new names ≡ state_view old names
 
 -- ## A tree
 

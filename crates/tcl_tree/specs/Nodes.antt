@@ -1,5 +1,5 @@
 -- What a contract sees of a table of interpreters.
-use Rattle.std.specs.Prelude.{◌≡◌, ◌≢◌, ℕ, suc, pred, ◌+◌, ◌^◌, ◌<◌, ◌≤◌, ◌&&◌, Bool, true, false, cond, not, nat_lt, List, [], ◌∷◌, ◌++◌, length, Option, Some, None, IsSome, is_none, IfSome}
+use Rattle.std.specs.Prelude.{◌≡◌, ◌≢◌, ℕ, suc, pred, ◌+◌, ◌^◌, ◌<◌, ◌≤◌, ◌&&◌, Bool, true, false, cond, not, nat_lt, List, [], ◌∷◌, ◌++◌, length, Option, Some, None, IsSome, IfSome}
 use Rattle.std.specs.Option.{option_and_then, option_map, option_map_or}
 use Rattle.std.specs.Str.{bytes_eq}
 use Rattle.indexmap.specs.IndexMap.{get, keys}
@@ -26,11 +26,11 @@ NodeView = core.Node Own
 abbrev pub own_view : State → List Text → Own
 own_view s names = record { chain = s.frames; commands = s.commands.entries; hidden = s.hidden.entries; children = names }
 
-abbrev pub state_view : State → Bool → List Text → NodeView
-state_view s top names = record {
+abbrev pub state_view : State → List Text → NodeView
+state_view s names = record {
   own = own_view s names;
   safe = s.safe;
-  root = top;
+  root = s.root;
   count = s.count;
   limit = s.limit;
   depth = s.depth;
@@ -38,11 +38,11 @@ state_view s top names = record {
 }
 
 abbrev pub view_of : Node → NodeView
-view_of node = state_view node.state (is_none node.parent) (keys node.children)
+view_of node = state_view node.state (keys node.children)
 
--- a new interpreter, with this limit of depth and these children
-abbrev pub new_view : Bool → ℕ → Bool → List Text → NodeView
-new_view safe depth_limit top names = record {
+-- a new interpreter, the root of its tree or not, with this limit of depth and these children
+abbrev pub new_view : Bool → Bool → ℕ → List Text → NodeView
+new_view safe top depth_limit names = record {
   own = record (new_own safe) { children = names };
   safe = safe;
   root = top;
@@ -134,10 +134,10 @@ abbrev pub Shape : Type 0
 Shape = Option ℕ × Text × ℕ × List (Text × ℕ) × NodeView
 
 abbrev pub shape_of : Node → Shape
-shape_of node = (node.parent, node.name, node.level, node.children.entries, state_view node.state false [])
+shape_of node = (node.parent, node.name, node.level, node.children.entries, state_view node.state [])
 
 abbrev pub view_shape : Shape → NodeView
-view_shape shape = record shape.4 { own = record shape.4.own { children = keys_of shape.3 }; root = is_none shape.0 }
+view_shape shape = record shape.4 { own = record shape.4.own { children = keys_of shape.3 } }
 
 abbrev pub shape_at : Slab Node → ℕ → Option Shape
 shape_at s k = option_map shape_of (slab.get s k)

@@ -1,5 +1,5 @@
 //! An interpreter in the table.
-ghost use Rattle.std.specs.Prelude.{◌≡◌, IfOk};
+ghost use Rattle.std.specs.Prelude.{◌≡◌, ◌≤◌, IfOk};
 
 use crate::builtin::{HOST, LANGUAGE, add_builtins};
 use crate::command::Commands;
@@ -27,6 +27,8 @@ pub(crate) enum Meter {
 pub struct State {
     /// Whether it is safe.
     pub safe: bool,
+    /// Whether it is the root of the tree in which it was made.
+    pub root: bool,
     /// The steps that were made in it and below it.
     pub count: u64,
     /// The most steps that may be made in it and below it, where that is limited.
@@ -41,16 +43,25 @@ pub struct State {
     pub commands: Commands,
     /// Its hidden commands, by the names under which they are hidden.
     pub hidden: Commands,
+    pub ghost least: { 1 ≤ depth_limit },
+    pub ghost most: { depth_limit ≤ 1000 },
 }
 
 impl State {
-    ghost use Rattle.std.specs.Prelude.{List, ℕ, Bool, false};
+    ghost use Rattle.std.specs.Prelude.{List, ℕ, false};
     ghost use Rattle.tcl_core.specs.Programs.{limit_or};
     ghost use Rattle.tcl_tree.specs.Nodes.{full_of, state_view, moved, new_view};
 
-    /// What a new interpreter has, with this limit of depth.
-    pub(crate) fn new(alloc: Global, safe: bool, depth_limit: u64) -> Result<State, AllocError>
-        ensures view { IfOk result (λ state. (top : Bool) (names : List (List ℕ)) → state_view state top names ≡ new_view safe depth_limit top names) }
+    /// What a new interpreter has, the root of its tree or not, with this limit of depth.
+    pub(crate) fn new(
+        alloc: Global,
+        safe: bool,
+        root: bool,
+        depth_limit: u64,
+    ) -> Result<State, AllocError>
+        requires least { 1 ≤ depth_limit }
+        requires most { depth_limit ≤ 1000 }
+        ensures view { IfOk result (λ state. (names : List (List ℕ)) → state_view state names ≡ new_view safe root depth_limit names) }
         ensures safe { IfOk result (λ state. state.safe ≡ safe) }
     {
         let mut commands = IndexMap::new(alloc);
@@ -63,6 +74,7 @@ impl State {
         }
         Ok(State {
             safe,
+            root,
             count: 0,
             limit: None,
             depth: 0,
@@ -82,7 +94,7 @@ impl State {
 
     /// Whether the meter may not be moved.
     pub(crate) fn is_full(&self, meter: Meter) -> bool
-        ensures { (top : Bool) (names : List (List ℕ)) → result ≡ full_of meter (state_view self.now top names) }
+        ensures { (names : List (List ℕ)) → result ≡ full_of meter (state_view self.now names) }
     {
         match meter {
             Meter::Steps => self.count >= self.most_steps(),
@@ -93,8 +105,8 @@ impl State {
 
     /// Moves the meter.
     pub(crate) fn advance(&mut self, meter: Meter)
-        requires { (top : Bool) (names : List (List ℕ)) → full_of meter (state_view self.old top names) ≡ false }
-        ensures moved { (top : Bool) (names : List (List ℕ)) → state_view self.new top names ≡ moved meter (state_view self.old top names) }
+        requires { (names : List (List ℕ)) → full_of meter (state_view self.old names) ≡ false }
+        ensures moved { (names : List (List ℕ)) → state_view self.new names ≡ moved meter (state_view self.old names) }
         ensures safe { self.new.safe ≡ self.old.safe }
     {
         match meter {
@@ -116,7 +128,7 @@ pub struct Node {
     pub parent: Option<usize>,
     /// Its name among its parent's children.
     pub name: Text,
-    /// How many levels below the root it is.
+    /// How many levels it is below the root of the tree in which it was made.
     pub level: u64,
     /// The keys of its children, by their names.
     pub children: IndexMap<Text, usize>,

@@ -5,6 +5,7 @@ ghost use Rattle.slab.specs.Slab.{get};
 ghost use Rattle.tcl_tree.specs.Nodes.{IsSound, IsGuarded};
 
 use crate::node::{Meter, Node, State};
+use crate::tree::limits::MOST_DEPTH;
 use indexmap::IndexMap;
 use slab::Slab;
 use std::alloc::{AllocError, Global};
@@ -65,7 +66,7 @@ impl Tree {
         ensures tree { IfOk result (λ made. tree_of made ≡ alone new_root) }
         ensures marks { IfOk result (λ made. marks_of made ≡ record { integers = integers; broken = Bool.false }) }
     {
-        let state = State::new(alloc, false, 1000)?;
+        let state = State::new(alloc, false, true, MOST_DEPTH)?;
         let name = Text::new(alloc, "")?;
         let mut nodes = Slab::new(alloc);
         nodes.reserve(1)?;

@@ -173,6 +173,31 @@ impl Dict {
         self.set_element(key, element)
     }
 
+    /// Gives a key a value, however long the dict's text then is: where the key stands, or at the end; in place where the
+    /// dict isn't shared.
+    ///
+    /// # Errors
+    /// Want of memory, which leaves the dict as it was.
+    pub fn put(&mut self, alloc: Global, key: &Value, value: Value) -> Result<(), AllocError>
+        ensures put { OnOk result (self.new ≡ put self.old key.now value) }
+        ensures unchanged { OnErr result (self.new ≡ self.old) }
+    {
+        let key = key.key_text(alloc)?;
+        let element = value.into_element(alloc)?;
+        Rc::make_mut(&mut self.entries)?.put_any(key, element)
+    }
+
+    /// Removes a key, if it is there, however long the text of what is left is: in place where the dict isn't shared.
+    ///
+    /// # Errors
+    /// Want of memory, which leaves the dict as it was.
+    pub fn drop_key(&mut self, key: &Text) -> Result<(), AllocError>
+        ensures removed { OnOk result (self.new ≡ without self.old key.now) }
+        ensures unchanged { OnErr result (self.new ≡ self.old) }
+    {
+        Rc::make_mut(&mut self.entries)?.remove_any(key)
+    }
+
     /// Removes a key, if it is there: in place where the dict isn't shared.
     ///
     /// # Errors

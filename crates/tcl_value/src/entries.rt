@@ -177,10 +177,11 @@ impl Entries {
     }
 
     /// Gives a key a value, whatever it then weighs.
-    fn put_any(&mut self, key: Text, value: Element) -> Result<(), AllocError>
+    pub(crate) fn put_any(&mut self, key: Text, value: Element) -> Result<(), AllocError>
         requires key { IsWithin key }
         requires element { IsElement value }
-        ensures { OnOk result (self.new ≡ put self.old key (element_text value)) }
+        ensures put { OnOk result (self.new ≡ put self.old key (element_text value)) }
+        ensures unchanged { OnErr result (self.new ≡ self.old) }
     {
         match self.put(key, value, u128::MAX) {
             Ok(()) => Ok(()),
@@ -221,6 +222,20 @@ impl Entries {
         let _ = self.values.remove(index);
         self.weight = weight;
         Ok(())
+    }
+
+    /// Removes a key, if it is there, whatever is left weighs.
+    pub(crate) fn remove_any(&mut self, key: &Text) -> Result<(), AllocError>
+        ensures removed { OnOk result (self.new ≡ without self.old key.now) }
+        ensures unchanged { OnErr result (self.new ≡ self.old) }
+    {
+        let Some(index) = self.find(key) else {
+            return Ok(());
+        };
+        match self.remove_at(index, u128::MAX) {
+            Ok(()) => Ok(()),
+            Err(_) => Err(AllocError),
+        }
     }
 
     /// The dict of keys and values in turn, where a repeated key keeps its first place and its last value.

@@ -196,6 +196,22 @@ impl List {
     /// Puts an element in the place of another: in place where the list isn't shared.
     ///
     /// # Errors
+    /// [`ValueError::TooLong`] only where the list's text would be too long for a value; want of memory. Either leaves the
+    /// list as it was.
+    pub fn set(&mut self, alloc: Global, index: usize, value: Value) -> Result<(), ValueError>
+        requires { index < length self.old }
+        ensures set { OnOk result (self.new ≡ slice_set self.old index value) }
+        ensures within { OnOk result (IsWithin (write self.new)) }
+        ensures refused { IsErrOf result ValueError.TooLong → IsPast (write (slice_set self.old index value)) }
+        ensures unchanged { OnErr result (self.new ≡ self.old) }
+    {
+        let element = value.into_element(alloc)?;
+        Rc::make_mut(&mut self.items)?.set(index, element)
+    }
+
+    /// Puts an element in the place of another: in place where the list isn't shared.
+    ///
+    /// # Errors
     /// [`ChangeError::NoElement`] exactly where there is no element at the place, [`ChangeError::TooLong`] where the list's
     /// text would be too long for a value; want of memory.
     pub(crate) fn set_element(&mut self, index: usize, element: Element) -> Result<(), ChangeError>

@@ -149,7 +149,7 @@ impl Tree {
             return Err(Refusal::Memory);
         };
         let safe = is_child_safe(safe, up.state.safe);
-        let state = State::new(alloc, safe, CHILD_DEPTH)?;
+        let state = State::new(alloc, safe, false, CHILD_DEPTH)?;
         let own_name = name.clone()?;
         let label = name.clone()?;
         let twin = name.clone()?;

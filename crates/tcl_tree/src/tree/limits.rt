@@ -13,7 +13,7 @@ impl Tree {
     ghost use Rattle.tcl_core.specs.Trees.{effect};
     ghost use Rattle.tcl_core.specs.Trees.What.{Charged, Nested, Unnested, Limited, DepthLimited};
     ghost use Rattle.tcl_core.specs.Programs.{blocked, is_spent, is_deep};
-    ghost use Rattle.tcl_tree.specs.Changes.{RefusesStep, RefusesLevel};
+    ghost use Rattle.tcl_tree.specs.Changes.{RefusesStep, RefusesLevel, MayDeepen, RefusesToDeepen};
     ghost use Rattle.tcl_tree.specs.Nodes.{NoneFull, IsNearestFull, charged, full_of, moved};
     ghost use Rattle.tcl_tree.specs.TreeOf.{tree_of, key_of, marks_of, Names};
 
@@ -143,14 +143,35 @@ impl Tree {
     }
 
     /// Sets the limit of depth of the interpreter that the place names, whoever asks. This takes no memory.
-    pub fn set_depth_limit_at(&mut self, place: Place, limit: u64)
+    ///
+    /// # Errors
+    /// Refusals, in this order: 304 where it is the root; 309 where the limit isn't from 1 to [`MOST_DEPTH`].
+    pub fn set_depth_limit_at(&mut self, place: Place, limit: u64) -> Result<(), Refusal>
         requires { (p : List (List ℕ)) × Names self.old place p }
         ensures keys { (q : List (List ℕ)) → key_of self.new q ≡ key_of self.old q }
         ensures marks { marks_of self.new ≡ marks_of self.old }
-        ensures limited { (p : List (List ℕ)) → Names self.old place p → tree_of self.new ≡ effect p (DepthLimited limit) (tree_of self.old) }
+        ensures may { OnOk result ((p : List (List ℕ)) → Names self.old place p → MayDeepen (tree_of self.old) p limit) }
+        ensures limited { OnOk result ((p : List (List ℕ)) → Names self.old place p → tree_of self.new ≡ effect p (DepthLimited limit) (tree_of self.old)) }
+        ensures refused { IfErr result (λ e. (p : List (List ℕ)) → Names self.old place p → RefusesToDeepen e (tree_of self.old) p limit) }
+        ensures unchanged { OnErr result (tree_of self.new ≡ tree_of self.old) }
     {
+        let Some(node) = self.nodes.get(place.key) else {
+            unreachable!();
+        };
+        if node.state.root {
+            return Err(Refusal::Denied);
+        }
+        if limit == 0 {
+            return Err(Refusal::BadDepthLimit);
+        }
+        if limit > MOST_DEPTH {
+            return Err(Refusal::BadDepthLimit);
+        }
         match self.nodes.get_mut(place.key) {
-            Some(node) => node.state.depth_limit = limit,
+            Some(node) => {
+                node.state.depth_limit = limit;
+                Ok(())
+            }
             None => unreachable!(),
         }
     }
@@ -222,8 +243,8 @@ impl Tree {
     /// Sets, for the interpreter at a path, the limit of depth of the one that names lead to from there. This takes no memory.
     ///
     /// # Errors
-    /// Refusals, in this order: 301 of the path; 304 where the one that asks is safe, or the limit would be the root's; 301 of the
-    /// names; 309 where the limit isn't from 1 to [`MOST_DEPTH`].
+    /// Refusals, in this order: 301 of the path; 304 where the one that asks is safe; 301 of the names; 304 where the limit would be
+    /// the root's; 309 where the limit isn't from 1 to [`MOST_DEPTH`].
     pub fn set_depth_limit(
         &mut self,
         path: &[Text],
@@ -249,21 +270,6 @@ impl Tree {
         let Some(key) = self.descend(asking, down) else {
             return Err(Refusal::NoInterpreter);
         };
-        if key == self.root {
-            return Err(Refusal::Denied);
-        }
-        if limit == 0 {
-            return Err(Refusal::BadDepthLimit);
-        }
-        if limit > MOST_DEPTH {
-            return Err(Refusal::BadDepthLimit);
-        }
-        match self.nodes.get_mut(key) {
-            Some(node) => {
-                node.state.depth_limit = limit;
-                Ok(())
-            }
-            None => Err(Refusal::NoInterpreter),
-        }
+        self.set_depth_limit_at(Place { key }, limit)
     }
 }

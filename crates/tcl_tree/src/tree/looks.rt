@@ -11,6 +11,12 @@ use tcl_text::text::Text;
 
 impl Tree {
     ghost use Rattle.tcl_tree.specs.TreeOf.{tree_of, table_of};
+    ghost use Rattle.tcl_tree.specs.Forms.{IsFormed};
+
+    /// What holds of every tree, for whoever proves something of one. This does nothing.
+    pub fn keeps_form(&self)
+        ensures { IsFormed (tree_of self.now) }
+    {}
 
     /// Whether there is an interpreter at the path. This takes no memory.
     pub fn exists(&self, path: &[Text]) -> bool

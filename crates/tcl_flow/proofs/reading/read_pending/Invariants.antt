@@ -1,9 +1,8 @@
 use Rattle.std.proofs.Common.{Result, reverse, ◌^◌, ◌<◌}
 use Rattle.tcl_core.specs.Endings.{Options}
 use Rattle.tcl_flow.specs.View.{options_of}
-use Rattle.tcl_flow.specs.OptionReading.{Reads}
+use Rattle.tcl_flow.specs.OptionReading.{Reads, weight}
 use Rattle.tcl_flow.specs.declared.returning.OptionsFault.{OptionsFault}
-use Rattle.tcl_flow.proofs.Shorter.{weight}
 use Rattle.tcl_flow.proofs.reading.read_pending.Given as goal
 
 abbrev pub decreases-options : goal.decreases-options

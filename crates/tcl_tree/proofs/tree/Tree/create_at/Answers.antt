@@ -103,8 +103,8 @@ returns-clause-made c = λ p at v here.
     let fits : c.in-Some-checked_add.level < 2 ^ 64 = search rules in
     let up_is = same_Some _ _ (sym here ∙ tree_some _ _ _ _ _ at (sym c.in-Some.ensures)) in
     made_is _ _ p c.args.name.now _ (new_own (either c.args.safe v.safe)) (either c.args.safe v.safe)
-    (c.in_ok-state.ensures.view false (keys_of c.new-2.result.entries)
-    ∙ ap (new_view c.is_child_safe-safe.result 200 false) (ap keys_of c.new-2.ensures.empty)
+    (c.in_ok-state.ensures.view (keys_of c.new-2.result.entries)
+    ∙ ap (new_view c.is_child_safe-safe.result false 200) (ap keys_of c.new-2.ensures.empty)
     ∙ ap (λ (b : Bool). core.fresh (new_own b) b) (c.is_child_safe-safe.ensures ∙ ap (λ (u : NodeView). either c.args.safe u.safe) (sym up_is)))
     (tree_created c.args.self.now.nodes c.make_room.new.nodes c.attach.new.nodes _ _ c.args.name.now _ _ c.in-Some.up.now c.in_ok-make_room.ensures.same c.attach.ensures c.in-Some.ensures c.in_ok-label.ensures.cases refl c.in_ok-own_name.ensures.cases c.new-2.ensures.empty level (none_of _ (sym c.contains_key-2.ensures ∙ c.if-contains_key-2.false)) fits c.args.self.now.sound p at _ refl) v here
 

@@ -1,5 +1,4 @@
 use Rattle.std.proofs.Common.{arith, sym, ◌∙◌, ap, ◌≡◌, ℕ, false, ◌+◌, ◌<◌, below_more}
-use Rattle.std.specs.Prelude.{is_none}
 use Rattle.slab.specs.Slab.{get}
 use Rattle.indexmap.specs.IndexMap.{keys}
 use Rattle.tcl_tree.specs.Nodes.{full_up, full_of, follow}
@@ -24,7 +23,7 @@ returns-then-is_full-clause-some c = λ p lead.
     let i = c.climb.invariant p lead in
     record {
       within = i.within;
-      here = full_at_is (full_of c.args.meter) _ _ _ _ _ _ i.leads (sym c.in-Some.ensures) ∙ sym (c.is_full.ensures (is_none c.in-Some.node.now.parent) (keys c.in-Some.node.now.children)) ∙ c.if-is_full.true;
+      here = full_at_is (full_of c.args.meter) _ _ _ _ _ _ i.leads (sym c.in-Some.ensures) ∙ sym (c.is_full.ensures (keys c.in-Some.node.now.children)) ∙ c.if-is_full.true;
       below = i.below;
     }
 
@@ -32,7 +31,7 @@ pub returns-in_default-parent-clause-none : goal.returns-in_default-parent-claus
 returns-in_default-parent-clause-none c = λ p lead.
     let i = c.climb.invariant p lead in
     let end = climb_end _ _ c.args.self.now.sound p _ _ _ i.within i.leads (sym c.in-Some.ensures) c.in_default-parent.is in
-    let here = full_at_is (full_of c.args.meter) _ _ _ _ _ _ i.leads (sym c.in-Some.ensures) ∙ sym (c.is_full.ensures (is_none c.in-Some.node.now.parent) (keys c.in-Some.node.now.children)) ∙ c.if-is_full.false in
+    let here = full_at_is (full_of c.args.meter) _ _ _ _ _ _ i.leads (sym c.in-Some.ensures) ∙ sym (c.is_full.ensures (keys c.in-Some.node.now.children)) ∙ c.if-is_full.false in
     let all : (m : ℕ) → m < c.climb.level + 1 → full_up (full_of c.args.meter) (tree_of c.args.self.now) p m ≡ false = below_more _ _ i.below here in
     λ m h. all m (omega arith)
 
@@ -58,7 +57,7 @@ climb-preserved c = λ p lead.
     let up = climb_up _ _ c.args.self.now.sound p _ _ _ _ i.within i.leads (sym c.in-Some.ensures) c.in-Some-parent.is in
     let l = up.lower in
     let w = up.within in
-    let here = full_at_is (full_of c.args.meter) _ _ _ _ _ _ i.leads (sym c.in-Some.ensures) ∙ sym (c.is_full.ensures (is_none c.in-Some.node.now.parent) (keys c.in-Some.node.now.children)) ∙ c.if-is_full.false in
+    let here = full_at_is (full_of c.args.meter) _ _ _ _ _ _ i.leads (sym c.in-Some.ensures) ∙ sym (c.is_full.ensures (keys c.in-Some.node.now.children)) ∙ c.if-is_full.false in
     record {
       within = omega arith;
       leads = up.leads;

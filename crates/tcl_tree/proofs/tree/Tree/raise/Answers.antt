@@ -1,5 +1,4 @@
 use Rattle.std.proofs.Common.{arith, sym, ◌∙◌, refl, ap, ◌+◌, ◌<◌, ◌^◌}
-use Rattle.std.specs.Prelude.{is_none}
 use Rattle.std.specs.Option.{option_map_or}
 use Rattle.slab.specs.Slab.{get}
 use Rattle.indexmap.specs.IndexMap.{keys}
@@ -51,7 +50,7 @@ climb-preserved-in-Some-get_mut c = record {
       record {
         keys = λ q. follow_write c.climb.self.nodes _ c.climb.self.sound (ancestor p i.count) _ at.1 _ _ (sym c.in-Some-get_mut.ensures.value) (record { parent = refl; name = refl; level = refl; children = refl; safe = c.advance.ensures.safe }) q ∙ i.keys q;
         count = i.count + 1;
-        tree = charge_tree c.climb.self.nodes _ c.climb.self.sound p i.count _ at.0 at.1 _ _ (sym c.in-Some-get_mut.ensures.value) (record { parent = refl; name = refl; level = refl; children = refl; safe = c.advance.ensures.safe }) (moved c.args.meter) _ i.tree (sym (c.advance.ensures.moved (is_none c.in-Some-get_mut.node.now.parent) (keys c.in-Some-get_mut.node.now.children)));
+        tree = charge_tree c.climb.self.nodes _ c.climb.self.sound p i.count _ at.0 at.1 _ _ (sym c.in-Some-get_mut.ensures.value) (record { parent = refl; name = refl; level = refl; children = refl; safe = c.advance.ensures.safe }) (moved c.args.meter) _ i.tree (sym (c.advance.ensures.moved (keys c.in-Some-get_mut.node.now.children)));
         leads = charge_leads c.climb.self.nodes _ c.climb.self.sound p i.count _ at.0 at.1 _ _ (sym c.in-Some-get_mut.ensures.value) (record { parent = refl; name = refl; level = refl; children = refl; safe = c.advance.ensures.safe }) (moved c.args.meter) _ i.tree;
       };
 }
@@ -73,9 +72,9 @@ returns-clause-charged c = λ p lead q.
     i.tree q ∙ ap (λ n. charged_below (moved c.args.meter) (tree_of c.args.self.now) p n q) end ∙ charge_all (moved c.args.meter) (tree_of c.args.self.now) p q
 
 pub advance-requires : goal.advance-requires
-advance-requires c = λ top names.
+advance-requires c = λ names.
     let p = c.requires.0 in
     let i = c.climb.invariant.at p c.requires.1 in
     let at = at_next _ _ _ _ c.in-Some.is i.leads in
-    full_any c.args.meter c.in-Some-get_mut.node.now.state top (is_none c.in-Some-get_mut.node.now.parent) names (keys c.in-Some-get_mut.node.now.children)
+    full_any c.args.meter c.in-Some-get_mut.node.now.state names (keys c.in-Some-get_mut.node.now.children)
     ∙ charge_fits c.climb.self.nodes _ c.climb.self.sound p i.count _ at.0 at.1 _ c.in-Some-get_mut.node.now (sym c.in-Some-get_mut.ensures.value) (record { parent = refl; name = refl; level = refl; children = refl; safe = refl }) (moved c.args.meter) _ i.tree (full_of c.args.meter) c.requires.2

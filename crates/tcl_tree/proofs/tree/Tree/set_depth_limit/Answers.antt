@@ -1,15 +1,9 @@
-use Rattle.std.proofs.Common.{◌≡◌, ◌<◌, ◌≤◌, ℕ, refl, sym, ◌∙◌, ap, subst, inl, inr, ◌++◌, [], Some, arith}
-use Rattle.std.specs.Prelude.{is_some}
-use Rattle.std.proofs.lemmas.Option.{same_Some}
-use Rattle.slab.specs.Slab.{get, with_value}
-use Rattle.tcl_core.specs.Programs.{most_steps}
-use Rattle.tcl_tree.specs.Own.{command_in}
-use Rattle.tcl_tree.specs.Nodes.{NodeView, view_of, tree_in, follow}
-use Rattle.tcl_tree.specs.Changes.{without_command, is_alias}
-use Rattle.tcl_tree.proofs.HeapLemmas.{tree-none, one_path, follow-nil}
-use Rattle.tcl_tree.proofs.StepLemmas.{tree_some, tree_vacant, sound_write, guarded_write, follow_write, leads_somewhere}
-use Rattle.tcl_tree.proofs.CoreLemmas.{tree_there}
-use Rattle.tcl_tree.proofs.OwnLemmas.{own_write, limit_write, depth_write, empty_path, no_empty_path}
+use Rattle.std.proofs.Common.{sym, inl, inr, ◌++◌}
+use Rattle.tcl_tree.specs.Nodes.{view_of}
+use Rattle.tcl_tree.proofs.HeapLemmas.{tree-none}
+use Rattle.tcl_tree.proofs.StepLemmas.{tree_some, tree_vacant}
+use Rattle.tcl_tree.proofs.NamingLemmas.{ok_map, err_map}
+use Rattle.tcl_tree.proofs.FormLemmas.{deepen_refused}
 use Rattle.tcl_tree.proofs.tree.Tree.set_depth_limit.Goals as goal
 
 pub returns-in_default-clause-refused : goal.returns-in_default-clause-refused
@@ -19,46 +13,25 @@ pub returns-in_default-get-clause-refused : goal.returns-in_default-get-clause-r
 returns-in_default-get-clause-refused c = inl (tree_vacant _ _ _ _ (sym c.in-Some.ensures) (sym c.in_default-get.ensures))
 
 pub returns-then-asker-clause-refused : goal.returns-then-asker-clause-refused
-returns-then-asker-clause-refused c = (view_of c.in-Some-get.asker.now, tree_some _ _ _ _ _ (sym c.in-Some.ensures) (sym c.in-Some-get.ensures), inl c.if-asker.true)
+returns-then-asker-clause-refused c = inl (view_of c.in-Some-get.asker.now, tree_some _ _ _ _ _ (sym c.in-Some.ensures) (sym c.in-Some-get.ensures), c.if-asker.true)
 
 pub returns-in_default-descend-clause-refused : goal.returns-in_default-descend-clause-refused
 returns-in_default-descend-clause-refused c = inr (tree-none _ _ _ (sym (c.in_default-descend.ensures c.args.path.now (sym c.in-Some.ensures))))
 
-pub invariant_of-self : goal.invariant_of-self
-invariant_of-self c = record {
-  sound = sound_write c.args.self.now.nodes _ c.args.self.now.sound (c.args.path.now ++ c.args.down.now) _ (sym (c.in-Some-descend.ensures c.args.path.now (sym c.in-Some.ensures))) c.in-Some-get_mut.node.now (record c.in-Some-get_mut.node.now { state = record c.in-Some-get_mut.node.now.state { depth_limit = c.args.limit } }) (sym c.in-Some-get_mut.ensures.value) (record { parent = refl; name = refl; level = refl; children = refl; safe = refl });
-  guarded = guarded_write c.args.self.now.nodes _ c.args.self.now.sound (c.args.path.now ++ c.args.down.now) _ (sym (c.in-Some-descend.ensures c.args.path.now (sym c.in-Some.ensures))) c.in-Some-get_mut.node.now (record c.in-Some-get_mut.node.now { state = record c.in-Some-get_mut.node.now.state { depth_limit = c.args.limit } }) (sym c.in-Some-get_mut.ensures.value) (record { parent = refl; name = refl; level = refl; children = refl; safe = refl }) c.args.self.now.guarded;
-}
+pub set_depth_limit_at-requires : goal.set_depth_limit_at-requires
+set_depth_limit_at-requires c = (c.args.path.now ++ c.args.down.now, sym (c.in-Some-descend.ensures c.args.path.now (sym c.in-Some.ensures)))
 
-pub returns-in-Some-get_mut-clause-keys : goal.returns-in-Some-get_mut-clause-keys
-returns-in-Some-get_mut-clause-keys c = follow_write c.args.self.now.nodes _ c.args.self.now.sound (c.args.path.now ++ c.args.down.now) _ (sym (c.in-Some-descend.ensures c.args.path.now (sym c.in-Some.ensures))) c.in-Some-get_mut.node.now (record c.in-Some-get_mut.node.now { state = record c.in-Some-get_mut.node.now.state { depth_limit = c.args.limit } }) (sym c.in-Some-get_mut.ensures.value) (record { parent = refl; name = refl; level = refl; children = refl; safe = refl })
-
-pub returns-in-None-clause-refused : goal.returns-in-None-clause-refused
-returns-in-None-clause-refused c = inr (tree_vacant _ _ (c.args.path.now ++ c.args.down.now) _ (sym (c.in-Some-descend.ensures c.args.path.now (sym c.in-Some.ensures))) (sym c.in-None.ensures.value))
-
-pub returns-then-key-self-clause-refused : goal.returns-then-key-self-clause-refused
-returns-then-key-self-clause-refused c = (
-  view_of c.in-Some-get.asker.now,
-  tree_some _ _ _ _ _ (sym c.in-Some.ensures) (sym c.in-Some-get.ensures),
-  inr (one_path _ _ c.args.self.now.sound (c.args.path.now ++ c.args.down.now) [] _ (sym (c.in-Some-descend.ensures c.args.path.now (sym c.in-Some.ensures))) (follow-nil _ _ ∙ ap Some (sym c.if-key-self.true))),
-)
-
-pub returns-then-limit-eq0-clause-refused : goal.returns-then-limit-eq0-clause-refused
-returns-then-limit-eq0-clause-refused c = (tree_there c.args.self.now (c.args.path.now ++ c.args.down.now) _ (sym (c.in-Some-descend.ensures c.args.path.now (sym c.in-Some.ensures))), inl c.if-limit-eq0.true)
-
-pub returns-then-limit-gt-MOST_DEPTH-clause-refused : goal.returns-then-limit-gt-MOST_DEPTH-clause-refused
-returns-then-limit-gt-MOST_DEPTH-clause-refused c = (tree_there c.args.self.now (c.args.path.now ++ c.args.down.now) _ (sym (c.in-Some-descend.ensures c.args.path.now (sym c.in-Some.ensures))), inr c.if-limit-gt-MOST_DEPTH.true)
-
-pub returns-in-Some-get_mut-clause-may : goal.returns-in-Some-get_mut-clause-may
-returns-in-Some-get_mut-clause-may c = record {
+pub returns-clause-may : goal.returns-clause-may
+returns-clause-may c = ok_map c.set_depth_limit_at.result c.set_depth_limit_at.ensures.may (λ h. record {
   asker = view_of c.in-Some-get.asker.now;
   here = tree_some _ _ _ _ _ (sym c.in-Some.ensures) (sym c.in-Some-get.ensures);
   trusted = c.if-asker.false;
-  below_root = λ e. c.if-key-self.false (same_Some _ _ (sym (sym (c.in-Some-descend.ensures c.args.path.now (sym c.in-Some.ensures))) ∙ ap (follow (get c.args.self.now.nodes) c.args.self.now.root) e ∙ follow-nil _ _));
-  there = tree_there c.args.self.now (c.args.path.now ++ c.args.down.now) _ (sym (c.in-Some-descend.ensures c.args.path.now (sym c.in-Some.ensures)));
-  least = let z = c.if-limit-eq0.false in omega arith;
-  most = c.if-limit-gt-MOST_DEPTH.false;
-}
+  target = h (c.args.path.now ++ c.args.down.now) (sym (c.in-Some-descend.ensures c.args.path.now (sym c.in-Some.ensures)));
+})
 
-pub returns-in-Some-get_mut-clause-limited : goal.returns-in-Some-get_mut-clause-limited
-returns-in-Some-get_mut-clause-limited c = depth_write c.args.self.now.nodes _ c.args.self.now.sound (c.args.path.now ++ c.args.down.now) _ (sym (c.in-Some-descend.ensures c.args.path.now (sym c.in-Some.ensures))) c.in-Some-get_mut.node.now (record c.in-Some-get_mut.node.now { state = record c.in-Some-get_mut.node.now.state { depth_limit = c.args.limit } }) (sym c.in-Some-get_mut.ensures.value) (record { parent = refl; name = refl; level = refl; children = refl; safe = refl }) c.args.limit refl
+pub returns-clause-limited : goal.returns-clause-limited
+returns-clause-limited c = ok_map c.set_depth_limit_at.result c.set_depth_limit_at.ensures.limited (λ h. h (c.args.path.now ++ c.args.down.now) (sym (c.in-Some-descend.ensures c.args.path.now (sym c.in-Some.ensures))))
+
+pub returns-clause-refused : goal.returns-clause-refused
+returns-clause-refused c = err_map c.set_depth_limit_at.result c.set_depth_limit_at.ensures.refused (λ e h.
+    deepen_refused e _ c.args.path.now c.args.down.now c.args.limit (h (c.args.path.now ++ c.args.down.now) (sym (c.in-Some-descend.ensures c.args.path.now (sym c.in-Some.ensures)))))

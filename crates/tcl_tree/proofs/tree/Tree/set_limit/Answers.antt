@@ -26,12 +26,12 @@ returns-in_default-descend-clause-refused c = inr (tree-none _ _ _ (sym (c.in_de
 
 pub invariant_of-self : goal.invariant_of-self
 invariant_of-self c = record {
-  sound = sound_write c.args.self.now.nodes _ c.args.self.now.sound (c.args.path.now ++ c.args.down.now) _ (sym (c.in-Some-descend.ensures c.args.path.now (sym c.in-Some.ensures))) c.in-Some-get_mut.node.now (record c.in-Some-get_mut.node.now { state = record c.in-Some-get_mut.node.now.state { limit = c.args.limit } }) (sym c.in-Some-get_mut.ensures.value) (record { parent = refl; name = refl; level = refl; children = refl; safe = refl });
-  guarded = guarded_write c.args.self.now.nodes _ c.args.self.now.sound (c.args.path.now ++ c.args.down.now) _ (sym (c.in-Some-descend.ensures c.args.path.now (sym c.in-Some.ensures))) c.in-Some-get_mut.node.now (record c.in-Some-get_mut.node.now { state = record c.in-Some-get_mut.node.now.state { limit = c.args.limit } }) (sym c.in-Some-get_mut.ensures.value) (record { parent = refl; name = refl; level = refl; children = refl; safe = refl }) c.args.self.now.guarded;
+  sound = sound_write c.args.self.now.nodes _ c.args.self.now.sound (c.args.path.now ++ c.args.down.now) _ (sym (c.in-Some-descend.ensures c.args.path.now (sym c.in-Some.ensures))) _ _ (sym c.in-Some-get_mut.ensures.value) (record { parent = refl; name = refl; level = refl; children = refl; safe = refl });
+  guarded = guarded_write c.args.self.now.nodes _ c.args.self.now.sound (c.args.path.now ++ c.args.down.now) _ (sym (c.in-Some-descend.ensures c.args.path.now (sym c.in-Some.ensures))) _ _ (sym c.in-Some-get_mut.ensures.value) (record { parent = refl; name = refl; level = refl; children = refl; safe = refl }) c.args.self.now.guarded;
 }
 
 pub returns-in-Some-get_mut-clause-keys : goal.returns-in-Some-get_mut-clause-keys
-returns-in-Some-get_mut-clause-keys c = follow_write c.args.self.now.nodes _ c.args.self.now.sound (c.args.path.now ++ c.args.down.now) _ (sym (c.in-Some-descend.ensures c.args.path.now (sym c.in-Some.ensures))) c.in-Some-get_mut.node.now (record c.in-Some-get_mut.node.now { state = record c.in-Some-get_mut.node.now.state { limit = c.args.limit } }) (sym c.in-Some-get_mut.ensures.value) (record { parent = refl; name = refl; level = refl; children = refl; safe = refl })
+returns-in-Some-get_mut-clause-keys c = follow_write c.args.self.now.nodes _ c.args.self.now.sound (c.args.path.now ++ c.args.down.now) _ (sym (c.in-Some-descend.ensures c.args.path.now (sym c.in-Some.ensures))) _ _ (sym c.in-Some-get_mut.ensures.value) (record { parent = refl; name = refl; level = refl; children = refl; safe = refl })
 
 pub returns-in-None-clause-refused : goal.returns-in-None-clause-refused
 returns-in-None-clause-refused c = inr (tree_vacant _ _ (c.args.path.now ++ c.args.down.now) _ (sym (c.in-Some-descend.ensures c.args.path.now (sym c.in-Some.ensures))) (sym c.in-None.ensures.value))
@@ -56,4 +56,4 @@ returns-in-Some-get_mut-clause-may c = record {
 }
 
 pub returns-in-Some-get_mut-clause-limited : goal.returns-in-Some-get_mut-clause-limited
-returns-in-Some-get_mut-clause-limited c = limit_write c.args.self.now.nodes _ c.args.self.now.sound (c.args.path.now ++ c.args.down.now) _ (sym (c.in-Some-descend.ensures c.args.path.now (sym c.in-Some.ensures))) c.in-Some-get_mut.node.now (record c.in-Some-get_mut.node.now { state = record c.in-Some-get_mut.node.now.state { limit = c.args.limit } }) (sym c.in-Some-get_mut.ensures.value) (record { parent = refl; name = refl; level = refl; children = refl; safe = refl }) c.args.limit refl
+returns-in-Some-get_mut-clause-limited c = limit_write c.args.self.now.nodes _ c.args.self.now.sound (c.args.path.now ++ c.args.down.now) _ (sym (c.in-Some-descend.ensures c.args.path.now (sym c.in-Some.ensures))) _ _ (sym c.in-Some-get_mut.ensures.value) (record { parent = refl; name = refl; level = refl; children = refl; safe = refl }) c.args.limit refl

@@ -18,4 +18,4 @@ invariant_of-result c =
 pub returns-clause-tree : goal.returns-clause-tree
 returns-clause-tree c = λ i (q : Path).
     (tree-single _ _ _ c.insert_reserved-root.ensures.updates.changed refl refl c.new-3.ensures.empty (λ k other. c.insert_reserved-root.ensures.updates.others k other ∙ vacant_slots c.reserve.new.self (ap (λ s. s.slots) c.in_ok-reserve.ensures.rest_kept ∙ c.new-nodes.ensures.empty) k) q
-    ∙ ap (λ v. alone v q) (c.in_ok-state.ensures.view true (keys c.new-3.result) ∙ ap (new_view false 1000 true) (ap keys_of c.new-3.ensures.empty))) i
+    ∙ ap (λ v. alone v q) (c.in_ok-state.ensures.view (keys c.new-3.result) ∙ ap (new_view false true 1000) (ap keys_of c.new-3.ensures.empty))) i

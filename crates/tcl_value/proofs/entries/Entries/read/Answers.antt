@@ -12,7 +12,7 @@ pairs-preserved c =
     (key ∙ c.get.ensures.text ∙ ap (λ z. get_or c.args.items.now (2 * c.pairs.pair) z) (sym key))
     (value ∙ c.get-in-pairs.ensures.text ∙ ap (λ z. get_or c.args.items.now (2 * c.pairs.pair + 1) z) (sym value))
     c.pairs.invariant
-    c.in_ok-put_any.ensures
+    c.in_ok-put_any.ensures.put
 
 pub returns : goal.returns
 returns c = put_whole c.pairs.entries c.args.items.now c.pairs.pair (omega (arith, c.len-pair-end.ensures)) (omega (arith, c.len-pair-end.ensures)) c.pairs.invariant

@@ -3,7 +3,7 @@ use denote.Shadow.{shadow}
 use Rattle.std.proofs.Common.{◌≤◌, length}
 use Rattle.tcl_expr.specs.Expressions.{expression_of}
 use Rattle.tcl_expression_tree.proofs.Readings.{ReadsOn}
-use Rattle.tcl_expression_tree.proofs.parser.parse_expr.Given as goal
+use Rattle.tcl_expression_tree.proofs.parser.read_expression.Given as goal
 
 abbrev pub invariant-tokens : goal.invariant-tokens
 invariant-tokens l = record {

@@ -4,7 +4,7 @@ use Rattle.tcl_expr.specs.Views.{lexed_of}
 use Rattle.tcl_expression_tree.specs.Parsing.{Keeps}
 use Rattle.tcl_expression_tree.proofs.Readings.{starts, spent, at_end, at_error, at_misfit, at_token, none_left, counted, marked}
 use Rattle.tcl_expression_tree.proofs.Rests.{rest_is_shorter}
-use Rattle.tcl_expression_tree.proofs.parser.parse_expr.Goals as goal
+use Rattle.tcl_expression_tree.proofs.parser.read_expression.Goals as goal
 
 pub tokens-init : goal.tokens-init
 tokens-init c = record {

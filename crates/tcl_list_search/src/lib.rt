@@ -1,0 +1,7 @@
+//! Searching lists.
+#![tactic(auto)]
+
+pub mod options;
+pub mod searching;
+#[cfg(test)]
+mod tests;

@@ -1,0 +1,4 @@
+pub mod Lengths
+pub mod Levels
+pub mod Placed
+pub mod Named

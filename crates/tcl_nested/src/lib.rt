@@ -1,0 +1,8 @@
+//! Changes inside nested lists and dicts.
+#![tactic(auto)]
+
+pub mod changing;
+pub mod fault;
+mod step;
+#[cfg(test)]
+mod tests;
