@@ -49,7 +49,13 @@ fn finds_a_place(rt: HostRuntime) -> Result<(), Fail> {
 
 #[test]
 fn finds_all_places(rt: HostRuntime) -> Result<(), Fail> {
-    assert!(rt; gives(rt.alloc(), &["-all", "a \u{20ac} \u{1f600} bc", "?"], "0 1 2")?);
+    assert!(rt;
+        gives(
+            rt.alloc(),
+            &["-all", "a \u{20ac} \u{1f600} bc", "?"],
+            "0 1 2"
+        )?
+    );
     Ok(())
 }
 
