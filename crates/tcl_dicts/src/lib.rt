@@ -5,5 +5,3 @@ pub mod building;
 pub mod changing;
 pub mod finding;
 pub mod reading;
-#[cfg(test)]
-mod tests;

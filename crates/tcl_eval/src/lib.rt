@@ -15,6 +15,3 @@ mod reading;
 pub use ending::{Completion, End, Refused, StopKind};
 pub use evaluation::eval;
 pub use interpreter::Interpreter;
-
-#[cfg(test)]
-mod tests;

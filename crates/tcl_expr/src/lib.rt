@@ -6,5 +6,3 @@ pub mod laws;
 pub mod lexer;
 mod operand;
 mod symbol;
-#[cfg(test)]
-mod tests;

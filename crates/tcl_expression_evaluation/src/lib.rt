@@ -4,5 +4,3 @@
 pub mod evaluation;
 pub mod laws;
 pub mod result;
-#[cfg(test)]
-mod tests;

@@ -2,6 +2,4 @@
 #![tactic(auto)]
 
 pub mod parser;
-#[cfg(test)]
-mod tests;
 pub mod tree;

@@ -5,5 +5,3 @@ pub mod command;
 pub mod pieces;
 pub mod refusal;
 pub mod specifier;
-#[cfg(test)]
-mod tests;

@@ -7,5 +7,3 @@ mod links;
 mod names;
 pub mod scope;
 mod steps;
-#[cfg(test)]
-mod tests;

@@ -8,5 +8,3 @@ pub mod memory;
 pub mod open_mode;
 pub mod reply;
 pub mod request;
-#[cfg(test)]
-mod tests;

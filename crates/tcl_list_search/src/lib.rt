@@ -3,5 +3,3 @@
 
 pub mod options;
 pub mod searching;
-#[cfg(test)]
-mod tests;

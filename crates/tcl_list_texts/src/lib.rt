@@ -4,5 +4,3 @@
 pub mod joining;
 pub mod laws;
 pub mod splitting;
-#[cfg(test)]
-mod tests;

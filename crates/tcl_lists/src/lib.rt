@@ -8,5 +8,3 @@ pub mod lengthening;
 pub mod places;
 pub mod reading;
 pub mod refusing;
-#[cfg(test)]
-mod tests;

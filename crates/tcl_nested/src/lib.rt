@@ -4,5 +4,3 @@
 pub mod changing;
 pub mod fault;
 mod step;
-#[cfg(test)]
-mod tests;

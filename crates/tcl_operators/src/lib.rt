@@ -5,5 +5,3 @@ pub mod apply;
 pub mod fault;
 pub mod kind;
 pub mod laws;
-#[cfg(test)]
-mod tests;

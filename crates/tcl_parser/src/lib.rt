@@ -7,5 +7,3 @@ pub mod reader;
 pub mod scan;
 pub mod script;
 pub mod skip;
-#[cfg(test)]
-mod tests;

@@ -4,4 +4,8 @@
 #![tactic(auto)]
 
 #[cfg(test)]
+mod evaluator;
+#[cfg(test)]
 mod first_path;
+#[cfg(test)]
+mod scripts;

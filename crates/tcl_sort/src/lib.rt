@@ -6,5 +6,3 @@ pub mod numbers;
 pub mod options;
 pub mod ordering;
 pub mod rows;
-#[cfg(test)]
-mod tests;

@@ -7,5 +7,3 @@ pub mod options;
 pub mod parts;
 pub mod searching;
 pub mod spans;
-#[cfg(test)]
-mod tests;

@@ -4,5 +4,3 @@
 pub mod ensemble;
 pub mod kinds;
 pub mod subcommand;
-#[cfg(test)]
-mod tests;

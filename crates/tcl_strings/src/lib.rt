@@ -9,6 +9,4 @@ pub mod mapping;
 pub mod order;
 pub mod parts;
 pub mod places;
-#[cfg(test)]
-mod tests;
 pub mod trimming;

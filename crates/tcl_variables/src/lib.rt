@@ -7,6 +7,4 @@ pub mod fault;
 pub mod frame;
 pub mod name;
 pub mod name_map;
-#[cfg(test)]
-mod tests;
 pub mod variable;

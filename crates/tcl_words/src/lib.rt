@@ -6,5 +6,3 @@ pub mod arguments;
 pub mod limits;
 pub mod reading;
 pub mod refusal;
-#[cfg(test)]
-mod tests;

@@ -1,0 +1,13 @@
+//! Worked examples of variables and of how scripts end.
+#![tactic(auto)]
+
+#[cfg(test)]
+mod completions;
+#[cfg(test)]
+mod frames;
+#[cfg(test)]
+mod option_words;
+#[cfg(test)]
+mod returns;
+#[cfg(test)]
+mod variables;

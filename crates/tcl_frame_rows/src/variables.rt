@@ -1,0 +1,138 @@
+//! What the contracts don't say: that calls succeed where there is memory.
+use std::alloc::{AllocError, Global};
+use std::test::Fail;
+use tcl_text::text::Text;
+use tcl_value::value::Value;
+use tcl_variables::access::{Part, elements_in, holds_in, value_in};
+use tcl_variables::comparing::Same;
+use tcl_variables::fault::FrameError;
+use tcl_variables::frame::{Change, Frame};
+use tcl_variables::name_map::NameMap;
+use tcl_variables::variable::Place;
+
+fn text(alloc: Global, text: &str) -> Result<Text, AllocError> {
+    Text::new(alloc, text)
+}
+
+fn value(alloc: Global, text: &str) -> Result<Value, Fail> {
+    Ok(Value::from_text(Text::new(alloc, text)?)?)
+}
+
+/// What a script is told of a refusal; `-` where there is none.
+fn told(alloc: Global, refusal: Option<FrameError>) -> Result<Text, Fail> {
+    match refusal {
+        None => Ok(text(alloc, "-")?),
+        Some(FrameError::Fault(fault)) => Ok(fault.message(alloc)?),
+        Some(FrameError::Memory) => Err(Fail::new("memory")),
+    }
+}
+
+/// The names of a map, each followed by its number.
+fn entries(alloc: Global, map: &NameMap<u32>) -> Result<String, Fail> {
+    let mut all = String::new(alloc);
+    for index in 0..map.len() {
+        if let Some((name, number)) = map.entry(index) {
+            write!(all, "{name}{number} ")?;
+        }
+    }
+    Ok(all)
+}
+
+/// A name keeps its place, and goes last where it was taken out.
+#[test]
+fn maps_keep_the_order_of_insertion(rt: HostRuntime) -> Result<(), Fail> {
+    let alloc = rt.alloc();
+    let mut map = NameMap::new(alloc);
+    for (name, number) in [("b", 1), ("a", 2), ("c", 3), ("b", 4)] {
+        map.insert(alloc, name, number)?;
+    }
+    assert_eq!(rt; entries(alloc, &map)?.as_str(), "b4 a2 c3 ");
+    map.remove("b");
+    map.remove("none");
+    map.insert(alloc, "b", 5)?;
+    assert_eq!(rt; entries(alloc, &map)?.as_str(), "a2 c3 b5 ");
+    if let Some(number) = map.get_mut("c") {
+        *number = 6;
+    }
+    assert_eq!(rt; map.get("c").copied(), Some(6));
+    assert_eq!(rt; map.get("d").copied(), None);
+    assert!(rt; map.entry(3).is_none());
+    Ok(())
+}
+
+/// A frame of a value `s`, an array `a` of `x` and a link `l`.
+fn frame(alloc: Global) -> Result<Frame, Fail> {
+    let mut words = Vec::new(alloc);
+    words.push(value(alloc, "f")?)?;
+    let mut frame = Frame::new(alloc, words);
+    let name = text(alloc, "given")?;
+    let change = Change::Assign(value(alloc, "1")?);
+    frame.change(alloc, "s", Part::Whole, change, &name)?;
+    frame.change(alloc, "a", Part::Whole, Change::MakeArray, &name)?;
+    let change = Change::Assign(value(alloc, "2")?);
+    frame.change(alloc, "a", Part::Element("x"), change, &name)?;
+    let place = Place {
+        level: 0,
+        name: text(alloc, "far")?,
+        key: Some(text(alloc, "k")?),
+    };
+    frame.link(alloc, "l", place)?;
+    Ok(frame)
+}
+
+/// What a frame has, read part by part.
+#[test]
+fn parts_are_read(rt: HostRuntime) -> Result<(), Fail> {
+    let alloc = rt.alloc();
+    let frame = frame(alloc)?;
+    let name = text(alloc, "n")?;
+    assert_eq!(rt; frame.words().len(), 1);
+    assert_eq!(rt; frame.variables().len(), 3);
+    let array = frame.variable("a");
+    let held = value_in(array, Part::Element("x"), &name)?;
+    assert_eq!(rt; held.text(alloc)?.as_str(), "2");
+    assert!(rt; holds_in(array, Part::Whole));
+    assert!(rt; holds_in(array, Part::Element("x")));
+    assert!(rt; !holds_in(array, Part::Element("y")));
+    assert!(rt; elements_in(array, Part::Whole).is_some());
+    let refusal = value_in(array, Part::Whole, &name).err();
+    assert_eq!(rt;
+        told(alloc, refusal)?.as_str(),
+        "can't read \"n\": variable is array"
+    );
+    Ok(())
+}
+
+/// `set a 5` over an array is refused, and leaves the frame as it was.
+#[test]
+fn change_is_refused(rt: HostRuntime) -> Result<(), Fail> {
+    let alloc = rt.alloc();
+    let mut changed = frame(alloc)?;
+    let before = changed.clone()?;
+    let name = text(alloc, "a")?;
+    let change = Change::Assign(value(alloc, "5")?);
+    let refusal = changed.change(alloc, "a", Part::Whole, change, &name).err();
+    assert_eq!(rt;
+        told(alloc, refusal)?.as_str(),
+        "can't set \"a\": variable is array"
+    );
+    assert!(rt; changed.same(&before));
+    changed.change(alloc, "a", Part::Element("x"), Change::Unset, &name)?;
+    assert!(rt; !changed.same(&before));
+    Ok(())
+}
+
+/// Maps of the same names and texts are equal, in the same order alone.
+#[test]
+fn equal_maps_are_told(rt: HostRuntime) -> Result<(), Fail> {
+    let alloc = rt.alloc();
+    let mut map = NameMap::new(alloc);
+    map.insert(alloc, "a", text(alloc, "1")?)?;
+    map.insert(alloc, "b", text(alloc, "2")?)?;
+    let mut copy = map.clone()?;
+    assert!(rt; copy.same(&map));
+    copy.remove("a");
+    copy.insert(alloc, "a", text(alloc, "1")?)?;
+    assert!(rt; !copy.same(&map));
+    Ok(())
+}

@@ -1,0 +1,13 @@
+//! Worked examples of the commands of lists and dictionaries.
+#![tactic(auto)]
+
+#[cfg(test)]
+mod dicts;
+#[cfg(test)]
+mod list_search;
+#[cfg(test)]
+mod list_texts;
+#[cfg(test)]
+mod lists;
+#[cfg(test)]
+mod sort;

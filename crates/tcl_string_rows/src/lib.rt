@@ -1,0 +1,13 @@
+//! Worked examples of the commands of strings.
+#![tactic(auto)]
+
+#[cfg(test)]
+mod ensemble;
+#[cfg(test)]
+mod format;
+#[cfg(test)]
+mod string_commands;
+#[cfg(test)]
+mod strings;
+#[cfg(test)]
+mod words;

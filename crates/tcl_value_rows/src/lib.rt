@@ -1,0 +1,11 @@
+//! Worked examples of values, and of changes inside them.
+#![tactic(auto)]
+
+#[cfg(test)]
+mod dict_values;
+#[cfg(test)]
+mod nested;
+#[cfg(test)]
+mod value_calls;
+#[cfg(test)]
+mod values;
