@@ -202,3 +202,6 @@ all_new (k ∷ ks) = (omega arith, all_new ks)
 
 pub put_back : (ks : List (List ℕ)) (xs : List Element) (es : Pairs) → length ks ≡ length xs → AreDistinct ks → pairs ks (texts xs) ≡ es → put_all [] (flat es) ≡ es
 put_back ks xs es h d e = subst (λ (z : Pairs). put_all [] (flat z) ≡ z) e (put_apart [] ks (texts xs) (text_many ks xs h) d (all_new ks))
+
+pub distinct_back : (ks vs : List (List ℕ)) → length ks ≡ length vs → AreDistinct ks → put_all [] (flat (pairs ks vs)) ≡ pairs ks vs
+distinct_back ks vs h d = put_apart [] ks vs h d (all_new ks)

@@ -8,3 +8,4 @@ pub mod Changes
 pub mod Dicts
 pub mod DictMessages
 pub mod DictChanges
+pub mod Laws

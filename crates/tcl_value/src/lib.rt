@@ -8,3 +8,4 @@ mod entries;
 mod items;
 pub mod list;
 pub mod value;
+pub mod value_laws;
