@@ -98,138 +98,147 @@ fn told(alloc: Global, text: &str, style: Integers) -> Result<Text, Fail> {
 
 #[test]
 fn divides_and_groups(rt: HostRuntime) -> Result<(), Fail> {
-    assert_eq!(rt; told(rt.alloc(), "-7 / 2", Tcl8)?.as_str(), "-4");
-    assert_eq!(rt; told(rt.alloc(), "-7 % 2", Tcl8)?.as_str(), "1");
-    assert_eq!(rt; told(rt.alloc(), "-2 ** 2", Tcl8)?.as_str(), "4");
-    assert_eq!(rt; told(rt.alloc(), "2 ** 3 ** 2", Tcl8)?.as_str(), "512");
-    assert_eq!(rt; told(rt.alloc(), "10 - 4 - 3", Tcl8)?.as_str(), "3");
-    assert_eq!(rt; told(rt.alloc(), "2 + 3 * 4", Tcl8)?.as_str(), "14");
-    assert_eq!(rt; told(rt.alloc(), "(2 + 3) * 4", Tcl8)?.as_str(), "20");
+    for (text, result) in [
+        ("-7 / 2", "-4"),
+        ("-7 % 2", "1"),
+        ("-2 ** 2", "4"),
+        ("2 ** 3 ** 2", "512"),
+        ("2 ** -1 + 1", "negative exponent"),
+        ("10 - 4 - 3", "3"),
+        ("2 + 3 * 4", "14"),
+        ("(2 + 3) * 4", "20"),
+        ("1 + 2 << 3", "24"),
+        ("1 << 2 < 5", "1"),
+        ("3 > 2 == 1", "1"),
+        ("2 == 2 eq 1", "1"),
+        ("{a} eq {a} in {1 2}", "1"),
+        ("6 & 3 ^ 1 | 8", "11"),
+        ("1 || 0 && 0", "1"),
+        ("0 ? 1 : 0 ? 2 : 3", "3"),
+        ("1 ? 0 ? 1 : 2 : 3", "2"),
+    ] {
+        assert_eq!(rt; told(rt.alloc(), text, Tcl8)?.as_str(), result, "{text}");
+    }
     Ok(())
 }
 
 #[test]
 fn keeps_within_range(rt: HostRuntime) -> Result<(), Fail> {
-    assert_eq!(rt;
-        told(rt.alloc(), "9223372036854775807 + 1", Tcl8)?.as_str(),
-        "integer overflow"
-    );
-    assert_eq!(rt;
-        told(rt.alloc(), "-9223372036854775808", Tcl8)?.as_str(),
-        "-9223372036854775808"
-    );
-    assert_eq!(rt;
-        told(rt.alloc(), "- 9223372036854775808", Tcl8)?.as_str(),
-        "integer value too large to represent"
-    );
-    assert_eq!(rt;
-        told(rt.alloc(), "1 << 62", Tcl8)?.as_str(),
-        "4611686018427387904"
-    );
-    assert_eq!(rt;
-        told(rt.alloc(), "1 << 63", Tcl8)?.as_str(),
-        "integer overflow"
-    );
-    assert_eq!(rt; told(rt.alloc(), "-1 >> 70", Tcl8)?.as_str(), "-1");
-    assert_eq!(rt; told(rt.alloc(), "~5 & 0xff", Tcl8)?.as_str(), "250");
+    for (text, result) in [
+        ("9223372036854775807 + 1", "integer overflow"),
+        ("-9223372036854775808", "-9223372036854775808"),
+        ("-9223372036854775808 - 1", "integer overflow"),
+        (
+            "- 9223372036854775808",
+            "integer value too large to represent",
+        ),
+        (
+            "0 -9223372036854775808",
+            "integer value too large to represent",
+        ),
+        ("-0x8000000000000000", "-9223372036854775808"),
+        ("1 << 62", "4611686018427387904"),
+        ("1 << 63", "integer overflow"),
+        ("-1 >> 70", "-1"),
+        ("~5 & 0xff", "250"),
+    ] {
+        assert_eq!(rt; told(rt.alloc(), text, Tcl8)?.as_str(), result, "{text}");
+        assert_eq!(rt; told(rt.alloc(), text, Tcl9)?.as_str(), result, "{text}");
+    }
     Ok(())
 }
 
 #[test]
 fn reads_by_style(rt: HostRuntime) -> Result<(), Fail> {
-    assert_eq!(rt; told(rt.alloc(), "010 + 1", Tcl8)?.as_str(), "9");
-    assert_eq!(rt;
-        told(rt.alloc(), "08 + 1", Tcl8)?.as_str(),
-        "syntax error in expression \"08 + 1\""
-    );
-    assert_eq!(rt; told(rt.alloc(), "010 + 1", Tcl9)?.as_str(), "11");
-    assert_eq!(rt; told(rt.alloc(), "08 + 1", Tcl9)?.as_str(), "9");
-    assert_eq!(rt; told(rt.alloc(), "010 == 10", Tcl9)?.as_str(), "1");
-    assert_eq!(rt; told(rt.alloc(), "010 == 10", Tcl8)?.as_str(), "0");
-    assert_eq!(rt; told(rt.alloc(), "-010", Tcl8)?.as_str(), "-8");
-    assert_eq!(rt; told(rt.alloc(), "-010", Tcl9)?.as_str(), "-10");
-    assert_eq!(rt; told(rt.alloc(), "0o10 + 1", Tcl9)?.as_str(), "9");
-    assert_eq!(rt; told(rt.alloc(), "10 == 0xa", Tcl8)?.as_str(), "1");
-    assert_eq!(rt; told(rt.alloc(), "10 eq 0xa", Tcl8)?.as_str(), "0");
+    for (text, old, new) in [
+        ("010 + 1", "9", "11"),
+        ("08 + 1", "syntax error in expression \"08 + 1\"", "9"),
+        ("0o10 + 1", "9", "9"),
+        ("010 == 10", "0", "1"),
+        ("-010", "-8", "-10"),
+        ("010", "8", "10"),
+        (
+            "{08} + 1",
+            "can't use non-numeric string as operand of \"+\"",
+            "9",
+        ),
+        ("10 == 0xa", "1", "1"),
+        ("10 eq 0xa", "0", "0"),
+    ] {
+        assert_eq!(rt; told(rt.alloc(), text, Tcl8)?.as_str(), old, "{text}");
+        assert_eq!(rt; told(rt.alloc(), text, Tcl9)?.as_str(), new, "{text}");
+    }
     Ok(())
 }
 
 #[test]
 fn computes_what_is_needed(rt: HostRuntime) -> Result<(), Fail> {
-    assert_eq!(rt; told(rt.alloc(), "0 && [set z 1]", Tcl8)?.as_str(), "0");
-    assert_eq!(rt; told(rt.alloc(), "1 || [set z 1]", Tcl8)?.as_str(), "1");
-    assert_eq!(rt; told(rt.alloc(), "$s && $i", Tcl8)?.as_str(), "1|s;i;");
-    assert_eq!(rt; told(rt.alloc(), "$z || $i", Tcl8)?.as_str(), "1|z;i;");
-    assert_eq!(rt; told(rt.alloc(), "$z ? $s : $i", Tcl8)?.as_str(), "3|z;i;");
-    assert_eq!(rt; told(rt.alloc(), "$s ? $s : $i", Tcl8)?.as_str(), "7|s;s;");
-    assert_eq!(rt;
-        told(rt.alloc(), "$z && ($s || $i) || $s ? $z ? 1 : 2 : $q", Tcl8)?.as_str(),
-        "2|z;s;z;"
-    );
-    assert_eq!(rt;
-        told(rt.alloc(), "$s + $i * $s", Tcl8)?.as_str(),
-        "28|s;i;s;"
-    );
-    assert_eq!(rt;
-        told(rt.alloc(), "$q + $i", Tcl8)?.as_str(),
-        "can't use non-numeric string as operand of \"+\"|q;i;"
-    );
+    for (text, result) in [
+        ("0 && [set z 1]", "0"),
+        ("1 || [set z 1]", "1"),
+        ("$s && $i", "1|s;i;"),
+        ("$z || $i", "1|z;i;"),
+        ("$z ? $s : $i", "3|z;i;"),
+        ("$s ? $s : $i", "7|s;s;"),
+        ("$z && ($s || $i) || $s ? $z ? 1 : 2 : $q", "2|z;s;z;"),
+        ("$s + $i * $s", "28|s;i;s;"),
+        ("$i < 5", "1|i;"),
+        ("$i == 3", "1|i;"),
+        ("$i < 3", "0|i;"),
+        (
+            "$q + $i",
+            "can't use non-numeric string as operand of \"+\"|q;i;",
+        ),
+        ("$q && $i", "expected boolean value but got \"text\"|q;"),
+        ("$q ? $i : $s", "expected boolean value but got \"text\"|q;"),
+    ] {
+        assert_eq!(rt; told(rt.alloc(), text, Tcl8)?.as_str(), result, "{text}");
+    }
     Ok(())
 }
 
 #[test]
 fn calls_functions(rt: HostRuntime) -> Result<(), Fail> {
-    assert_eq!(rt; told(rt.alloc(), "abs(-3)", Tcl8)?.as_str(), "3");
-    assert_eq!(rt;
-        told(rt.alloc(), "min(3, max($i, $s), 5)", Tcl8)?.as_str(),
-        "3|i;s;"
-    );
-    assert_eq!(rt;
-        told(rt.alloc(), "max($z, 1, min(9, 8))", Tcl8)?.as_str(),
-        "8|z;"
-    );
-    assert_eq!(rt;
-        told(rt.alloc(), "min($q, $i)", Tcl8)?.as_str(),
-        "can't use non-numeric string as operand of \"min\"|q;i;"
-    );
-    assert_eq!(rt;
-        told(rt.alloc(), "abs(1, 2)", Tcl8)?.as_str(),
-        "syntax error in expression \"abs(1, 2)\""
-    );
-    assert_eq!(rt;
-        told(rt.alloc(), "min()", Tcl8)?.as_str(),
-        "syntax error in expression \"min()\""
-    );
+    for (text, result) in [
+        ("abs(-3)", "3"),
+        ("min(3, max($i, $s), 5)", "3|i;s;"),
+        ("max($z, 1, min(9, 8))", "8|z;"),
+        (
+            "min($q, $i)",
+            "can't use non-numeric string as operand of \"min\"|q;i;",
+        ),
+        ("abs(1, 2)", "syntax error in expression \"abs(1, 2)\""),
+        ("min()", "syntax error in expression \"min()\""),
+        ("abs 1", "syntax error in expression \"abs 1\""),
+    ] {
+        assert_eq!(rt; told(rt.alloc(), text, Tcl8)?.as_str(), result, "{text}");
+    }
     Ok(())
 }
 
 #[test]
 fn tells_the_first_fault(rt: HostRuntime) -> Result<(), Fail> {
-    assert_eq!(rt;
-        told(rt.alloc(), "1 + * {a", Tcl8)?.as_str(),
-        "syntax error in expression \"1 + * {a\""
-    );
-    assert_eq!(rt;
-        told(rt.alloc(), "1 + {a", Tcl8)?.as_str(),
-        "missing close-brace"
-    );
-    assert_eq!(rt;
-        told(rt.alloc(), "1 +", Tcl8)?.as_str(),
-        "syntax error in expression \"1 +\""
-    );
-    assert_eq!(rt;
-        told(rt.alloc(), "", Tcl8)?.as_str(),
-        "syntax error in expression \"\""
-    );
-    assert_eq!(rt;
-        told(rt.alloc(), "(1", Tcl8)?.as_str(),
-        "syntax error in expression \"(1\""
-    );
-    assert_eq!(rt;
-        told(rt.alloc(), "1 2", Tcl8)?.as_str(),
-        "syntax error in expression \"1 2\""
-    );
-    assert_eq!(rt; told(rt.alloc(), "1 / 0", Tcl8)?.as_str(), "divide by zero");
+    for (text, fault) in [
+        ("1 + * {a", "syntax error in expression \"1 + * {a\""),
+        ("1 + {a", "missing close-brace"),
+        ("{a * 08", "missing close-brace"),
+        ("1 {a", "missing close-brace"),
+        ("1 2 {a", "syntax error in expression \"1 2 {a\""),
+        (
+            "1 9223372036854775808",
+            "integer value too large to represent",
+        ),
+        ("1 +", "syntax error in expression \"1 +\""),
+        ("", "syntax error in expression \"\""),
+        ("(1", "syntax error in expression \"(1\""),
+        ("1)", "syntax error in expression \"1)\""),
+        ("1 2", "syntax error in expression \"1 2\""),
+        ("1 ? 2", "syntax error in expression \"1 ? 2\""),
+        ("1 / 0 +", "syntax error in expression \"1 / 0 +\""),
+        ("1 / 0", "divide by zero"),
+    ] {
+        assert_eq!(rt; told(rt.alloc(), text, Tcl8)?.as_str(), fault, "{text}");
+    }
     Ok(())
 }
 
@@ -309,23 +318,20 @@ fn nests_200_deep(rt: HostRuntime) -> Result<(), Fail> {
 }
 
 #[test]
-fn tells_the_end_of_a_loop(rt: HostRuntime) -> Result<(), Fail> {
-    assert_eq!(rt; told(rt.alloc(), "$i < 5", Tcl8)?.as_str(), "1|i;");
-    assert_eq!(rt; told(rt.alloc(), "$i == 3", Tcl8)?.as_str(), "1|i;");
-    assert_eq!(rt; told(rt.alloc(), "$i < 3", Tcl8)?.as_str(), "0|i;");
-    Ok(())
-}
-
-#[test]
 fn settles_values(rt: HostRuntime) -> Result<(), Fail> {
-    assert_eq!(rt; told(rt.alloc(), "0x10", Tcl8)?.as_str(), "16");
-    assert_eq!(rt; told(rt.alloc(), "{ 7 }", Tcl8)?.as_str(), "7");
-    assert_eq!(rt; told(rt.alloc(), "{a b}", Tcl8)?.as_str(), "a b");
-    assert_eq!(rt; told(rt.alloc(), "true", Tcl8)?.as_str(), "true");
-    assert_eq!(rt;
-        told(rt.alloc(), "{9223372036854775808}", Tcl8)?.as_str(),
-        "integer value too large to represent"
-    );
+    for (text, result) in [
+        ("0x10", "16"),
+        ("{ 7 }", "7"),
+        ("{a b}", "a b"),
+        ("true", "true"),
+        ("{+7}", "7"),
+        (
+            "{9223372036854775808}",
+            "integer value too large to represent",
+        ),
+    ] {
+        assert_eq!(rt; told(rt.alloc(), text, Tcl8)?.as_str(), result, "{text}");
+    }
     Ok(())
 }
 

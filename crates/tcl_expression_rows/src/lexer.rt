@@ -96,24 +96,22 @@ fn first(alloc: Global, text: &str, style: Integers) -> Result<Text, Fail> {
 
 #[test]
 fn reads_numbers(rt: HostRuntime) -> Result<(), Fail> {
-    assert_eq!(rt;
-        first(rt.alloc(), " \n\t010+1", Tcl8)?.as_str(),
-        "010 then +1"
-    );
-    assert_eq!(rt; first(rt.alloc(), "0x1F)", Tcl8)?.as_str(), "0x1F then )");
-    assert_eq!(rt;
-        first(rt.alloc(), "08 + 1", Tcl8)?.as_str(),
-        "syntax error in expression \"08 + 1\""
-    );
-    assert_eq!(rt; first(rt.alloc(), "08 + 1", Tcl9)?.as_str(), "08 then  + 1");
-    assert_eq!(rt;
-        first(rt.alloc(), "1eq1", Tcl8)?.as_str(),
-        "syntax error in expression \"1eq1\""
-    );
-    assert_eq!(rt;
-        first(rt.alloc(), "9223372036854775808", Tcl8)?.as_str(),
-        "integer value too large to represent"
-    );
+    for (text, style, token) in [
+        (" \n\t010+1", Tcl8, "010 then +1"),
+        ("0x1F)", Tcl8, "0x1F then )"),
+        ("08 + 1", Tcl8, "syntax error in expression \"08 + 1\""),
+        ("08 + 1", Tcl9, "08 then  + 1"),
+        ("1eq1", Tcl8, "syntax error in expression \"1eq1\""),
+        ("1.5", Tcl8, "1 then .5"),
+        ("1_0", Tcl8, "syntax error in expression \"1_0\""),
+        (
+            "9223372036854775808",
+            Tcl8,
+            "integer value too large to represent",
+        ),
+    ] {
+        assert_eq!(rt; first(rt.alloc(), text, style)?.as_str(), token);
+    }
     Ok(())
 }
 
@@ -129,82 +127,53 @@ fn reads_the_least_number(rt: HostRuntime) {
 
 #[test]
 fn reads_words(rt: HostRuntime) -> Result<(), Fail> {
-    assert_eq!(rt; first(rt.alloc(), "eq $x", Tcl8)?.as_str(), "eq then  $x");
-    assert_eq!(rt; first(rt.alloc(), "abs(1)", Tcl8)?.as_str(), "abs then (1)");
-    assert_eq!(rt;
-        first(rt.alloc(), "tru&&no", Tcl8)?.as_str(),
-        "tru then &&no"
-    );
-    assert_eq!(rt;
-        first(rt.alloc(), "o", Tcl8)?.as_str(),
-        "syntax error in expression \"o\""
-    );
-    assert_eq!(rt;
-        first(rt.alloc(), "sqrt(1)", Tcl8)?.as_str(),
-        "syntax error in expression \"sqrt(1)\""
-    );
-    assert_eq!(rt; first(rt.alloc(), "", Tcl8)?.as_str(), "end");
-    assert_eq!(rt; first(rt.alloc(), " \n", Tcl8)?.as_str(), "end");
+    for (text, token) in [
+        ("eq $x", "eq then  $x"),
+        ("abs(1)", "abs then (1)"),
+        ("tru&&no", "tru then &&no"),
+        ("o", "syntax error in expression \"o\""),
+        ("sqrt(1)", "syntax error in expression \"sqrt(1)\""),
+        ("", "end"),
+        (" \n", "end"),
+    ] {
+        assert_eq!(rt; first(rt.alloc(), text, Tcl8)?.as_str(), token);
+    }
     Ok(())
 }
 
 #[test]
 fn reads_operands(rt: HostRuntime) -> Result<(), Fail> {
-    assert_eq!(rt;
-        first(rt.alloc(), "$a(b $i)+1", Tcl8)?.as_str(),
-        "<$a(b $i)> then +1"
-    );
-    assert_eq!(rt;
-        first(rt.alloc(), "${a b}c", Tcl8)?.as_str(),
-        "<$a b> then c"
-    );
-    assert_eq!(rt;
-        first(rt.alloc(), "[f {]} x] 1", Tcl8)?.as_str(),
-        "<[f {]} x]> then  1"
-    );
-    assert_eq!(rt;
-        first(rt.alloc(), "\"a $b\\n\"c", Tcl8)?.as_str(),
-        "<a $b\n> then c"
-    );
-    assert_eq!(rt;
-        first(rt.alloc(), "{a {b} \\} $c}d", Tcl8)?.as_str(),
-        "a {b} \\} $c then d"
-    );
-    assert_eq!(rt;
-        first(rt.alloc(), "$", Tcl8)?.as_str(),
-        "syntax error in expression \"$\""
-    );
-    assert_eq!(rt;
-        first(rt.alloc(), "{a", Tcl8)?.as_str(),
-        "missing close-brace"
-    );
-    assert_eq!(rt; first(rt.alloc(), "\"a", Tcl8)?.as_str(), "missing \"");
-    assert_eq!(rt;
-        first(rt.alloc(), "[a", Tcl8)?.as_str(),
-        "missing close-bracket"
-    );
-    assert_eq!(rt; first(rt.alloc(), "$a(", Tcl8)?.as_str(), "missing )");
+    for (text, token) in [
+        ("$a(b $i)+1", "<$a(b $i)> then +1"),
+        ("${a b}c", "<$a b> then c"),
+        ("[f {]} x] 1", "<[f {]} x]> then  1"),
+        ("\"a $b\\n\"c", "<a $b\n> then c"),
+        ("{a {b} \\} $c}d", "a {b} \\} $c then d"),
+        ("{a\\\nb}", "a\\\nb then "),
+        ("$", "syntax error in expression \"$\""),
+        ("{a", "missing close-brace"),
+        ("\"a", "missing \""),
+        ("[a", "missing close-bracket"),
+        ("$a(", "missing )"),
+    ] {
+        assert_eq!(rt; first(rt.alloc(), text, Tcl8)?.as_str(), token);
+    }
     Ok(())
 }
 
 #[test]
 fn reads_signs(rt: HostRuntime) -> Result<(), Fail> {
-    assert_eq!(rt; first(rt.alloc(), "**-1", Tcl8)?.as_str(), "power then -1");
-    assert_eq!(rt; first(rt.alloc(), "<=1", Tcl8)?.as_str(), "at-most then 1");
-    assert_eq!(rt; first(rt.alloc(), "&&", Tcl8)?.as_str(), "and then ");
-    assert_eq!(rt; first(rt.alloc(), "!!1", Tcl8)?.as_str(), "not then !1");
-    assert_eq!(rt;
-        first(rt.alloc(), "=1", Tcl8)?.as_str(),
-        "syntax error in expression \"=1\""
-    );
-    assert_eq!(rt;
-        first(rt.alloc(), "\\\n1", Tcl8)?.as_str(),
-        "syntax error in expression \"\\\n1\""
-    );
-    assert_eq!(rt;
-        first(rt.alloc(), "\u{e9}", Tcl8)?.as_str(),
-        "syntax error in expression \"\u{e9}\""
-    );
+    for (text, token) in [
+        ("**-1", "power then -1"),
+        ("<=1", "at-most then 1"),
+        ("&&", "and then "),
+        ("!!1", "not then !1"),
+        ("=1", "syntax error in expression \"=1\""),
+        ("\\\n1", "syntax error in expression \"\\\n1\""),
+        ("\u{e9}", "syntax error in expression \"\u{e9}\""),
+    ] {
+        assert_eq!(rt; first(rt.alloc(), text, Tcl8)?.as_str(), token);
+    }
     Ok(())
 }
 

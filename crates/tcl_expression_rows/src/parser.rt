@@ -59,22 +59,26 @@ fn kept(alloc: Global, text: &str, style: Integers) -> Result<Text, Fail> {
 
 #[test]
 fn keeps_operands_before_their_operator(rt: HostRuntime) -> Result<(), Fail> {
-    for (text, steps) in [
-        ("1 + $x * 0x3", "1;$x;0x3;*;+;"),
-        ("(1 + $x) * 3", "1;$x;+;3;*;"),
-        ("-$x + 1", "$x;unary;1;+;"),
-        ("-9223372036854775808", "-9223372036854775808;"),
-        ("$x && 1", "$x;needed;1;binary;"),
-        ("$x ? 1 : [f]", "$x;?;1;:;[];choice;"),
-        ("abs(1) + max(1, 2, 3)", "1;call of 1;1;2;3;call of more;+;"),
+    for (text, style, steps) in [
+        ("1 + $x * 0x3", Tcl8, "1;$x;0x3;*;+;"),
+        ("(1 + $x) * 3", Tcl8, "1;$x;+;3;*;"),
+        ("1 + $x + 3", Tcl8, "1;$x;+;3;+;"),
+        ("-$x + 1", Tcl8, "$x;unary;1;+;"),
+        ("-$x ** 2", Tcl8, "$x;unary;2;binary;"),
+        ("1 ** $x ** 2", Tcl8, "1;$x;2;binary;binary;"),
+        ("-9223372036854775808", Tcl8, "-9223372036854775808;"),
+        ("$x && 1", Tcl8, "$x;needed;1;binary;"),
+        ("$x ? 1 : [f]", Tcl8, "$x;?;1;:;[];choice;"),
+        (
+            "abs(1) + max(1, 2, 3)",
+            Tcl8,
+            "1;call of 1;1;2;3;call of more;+;",
+        ),
+        ("08", Tcl8, "syntax error in expression \"08\""),
+        ("08", Tcl9, "08;"),
     ] {
-        assert_eq!(rt; kept(rt.alloc(), text, Tcl8)?.as_str(), steps);
+        assert_eq!(rt; kept(rt.alloc(), text, style)?.as_str(), steps);
     }
-    assert_eq!(rt; kept(rt.alloc(), "08", Tcl9)?.as_str(), "08;");
-    assert_eq!(rt;
-        kept(rt.alloc(), "08", Tcl8)?.as_str(),
-        "syntax error in expression \"08\""
-    );
     Ok(())
 }
 

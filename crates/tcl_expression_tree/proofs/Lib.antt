@@ -2,3 +2,4 @@ pub mod Parsings
 pub mod Parsteps
 pub mod Readings
 pub mod Rests
+pub mod Spellings

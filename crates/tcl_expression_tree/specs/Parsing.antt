@@ -19,7 +19,8 @@ use Rattle.tcl_expression_tree.specs.declared.parser.End.TheVariants as end
 use Rattle.tcl_expression_tree.specs.declared.parser.Mode.{Mode}
 use Rattle.tcl_expression_tree.specs.declared.parser.Mode.TheVariants as mode
 use Rattle.tcl_expression_tree.specs.Code.{mark, function_of, count_of, before, code_of}
-use Rattle.tcl_expr.specs.Expressions.{fault_of}
+use Rattle.tcl_text.specs.declared.integer.Integers.{Integers}
+use Rattle.tcl_expr.specs.Expressions.{fault_of, IsExpr, HasFault}
 
 abbrev pub pending_of : Open → Pending
 pending_of (prefixed o) = pending.Prefixed o
@@ -123,3 +124,9 @@ Keeps (Ok kept) (Ok t) = kept.nodes.items ≡ code_of t
 Keeps (Ok kept) (Err f) = Prim.⊥
 Keeps (Err error.Memory) read = Unit {0}
 Keeps (Err (error.Fault f)) read = read ≡ Err f
+
+-- What is kept of a text is the tree that the text is, and what is refused is the fault that the text has.
+abbrev pub IsRead : Integers → List ℕ → Result ExprTree ExprError → Type 0
+IsRead style s (Ok kept) = (t : Tree) × IsExpr style s t × (kept.nodes.items ≡ code_of t)
+IsRead style s (Err error.Memory) = Unit {0}
+IsRead style s (Err (error.Fault f)) = HasFault style s f

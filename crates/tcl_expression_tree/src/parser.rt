@@ -8,7 +8,7 @@ ghost use Rattle.tcl_value.specs.Limits.{IsWithin, IsPast};
 ghost use Rattle.tcl_expr.specs.Expressions.{is_minus, told, expression_of};
 ghost use Rattle.tcl_expr_grammar.specs.Reading.{finish, Open, calling, State, takes, settle, having, deeper, between, question, colon_at, close_at, comma_at, name, named, lowest, want, have, step};
 ghost use Rattle.tcl_expression_tree.specs.Code.{mark, code_of};
-ghost use Rattle.tcl_expression_tree.specs.Parsing.{closing, weight_of, leaf_tree, is_deciding, is_negation, end_of, argument_end, Keeps, Holds, Stands, Comes, Opens, Settles};
+ghost use Rattle.tcl_expression_tree.specs.Parsing.{closing, weight_of, leaf_tree, is_deciding, is_negation, end_of, argument_end, Keeps, IsRead, Holds, Stands, Comes, Opens, Settles};
 
 use crate::tree::{ExprTree, Node};
 use std::alloc::{AllocError, Global};
@@ -378,6 +378,7 @@ impl Parser {
 /// text ends too early; want of memory.
 pub fn parse_expr(alloc: Global, text: &str, style: Integers) -> Result<ExprTree, ExprError>
     ensures read { IsWithin text.now → Keeps result (expression_of style text.now) }
+    ensures spelled { IsWithin text.now → IsRead style text.now result }
     ensures too_long { IsPast text.now → result ≡ Err (ExprError.Fault ExprFault.TooLong) }
 {
     if text.len() > MOST_BYTES {

@@ -1,10 +1,9 @@
 -- Bit operators digit by digit.
-use Rattle.std.proofs.Common.{◌≡◌, ◌∙◌, sym, ap, refl, ℕ, zero, suc, ◌+◌, ◌-◌, ◌%◌, ◌<◌, min, max, ℤ, pos, negsuc, bit_and, bit_or, arith}
+use Rattle.std.proofs.Common.{◌≡◌, ◌∙◌, ap, refl, ℕ, zero, suc, ◌+◌, ◌-◌, ◌%◌, ◌<◌, min, max, ℤ, pos, negsuc, bit_and, arith}
 use Rattle.std.specs.Int.{bit_at}
-use Rattle.std.specs.Int.RustNames.{bit_xor}
 use Rattle.std.proofs.lemmas.Nat.Bits.{bit_at_and, bit_at_or, bit_at_xor, bit_at-lt}
 use Rattle.tcl_arithmetic.specs.Digits.{digit}
-use Rattle.tcl_operators.specs.WholeNumbers.{complement_of, without, and_of, or_of, xor_of, AreDigitwise, Digitwise}
+use Rattle.tcl_operators.specs.WholeNumbers.{complement_of, without, and_of, or_of, xor_of, Digitwise}
 
 -- what holds of 0 and 1 holds of two digits
 two : (P : ℕ → ℕ → Type 0) → P 0 0 → P 0 1 → P 1 0 → P 1 1 → (x y : ℕ) → x < 2 → y < 2 → P x y

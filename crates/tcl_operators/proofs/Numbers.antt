@@ -1,5 +1,5 @@
 -- From what the operators on 64 bits ensure to the functions on unbounded numbers.
-use Rattle.std.proofs.Common.{◌≡◌, ◌∙◌, sym, ap, subst, refl, ℕ, zero, suc, ◌+◌, ◌-◌, ◌^◌, ◌<◌, ◌≤◌, nat_lt, Bool, true, false, cond, ℤ, pos, negsuc, ◌+ℤ◌, ◌-ℤ◌, ◌*ℤ◌, ◌<ℤ◌, ◌≤ℤ◌, FitsSigned, w64, arith, Result, Ok, Err, IfOk, IfErr}
+use Rattle.std.proofs.Common.{◌≡◌, ◌∙◌, sym, ap, subst, refl, ℕ, zero, suc, ◌^◌, ◌<◌, Bool, true, false, cond, ℤ, pos, negsuc, ◌+ℤ◌, ◌-ℤ◌, ◌*ℤ◌, ◌<ℤ◌, FitsSigned, w64, arith, Result, Ok, Err, IfOk, IfErr}
 use Rattle.std.proofs.lemmas.Bool.Decides.{nat_tests}
 use Rattle.std.proofs.lemmas.Int.{ints}
 use Rattle.std.proofs.Math.IntN.{neg_ℤ, *ℤ-negsuc, neg_ℤ-neg_ℤ, neg_ℤ-+ℤ}
@@ -8,7 +8,7 @@ use Rattle.std.specs.Int.Signed.{shr_z}
 use Rattle.tcl_text.specs.Numbers.{fits_64}
 use Rattle.tcl_arithmetic.specs.declared.ArithmeticFault.{ArithmeticFault}
 use Rattle.tcl_arithmetic.specs.declared.ArithmeticFault.TheVariants.{Overflow, DivideByZero, NegativeShift}
-use Rattle.tcl_arithmetic.specs.Division.{IsDivision, OneDivision}
+use Rattle.tcl_arithmetic.specs.Division.{IsDivision}
 use Rattle.tcl_arithmetic.specs.Digits.{digit}
 use Rattle.tcl_arithmetic.specs.Results.{IsChecked}
 use Rattle.tcl_arithmetic.proofs.Shifts.{shifted}

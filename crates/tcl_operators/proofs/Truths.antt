@@ -1,14 +1,12 @@
 -- An integer text abbreviates no boolean word: it doesn't begin with a letter.
-use Rattle.std.proofs.Common.{◌≡◌, ◌∙◌, sym, ap, subst, refl, ℕ, zero, suc, ◌+◌, ◌<◌, ◌≤◌, ◌^◌, nat_lt, ◌==◌, nat_eq, Bool, true, false, not, cond, List, [], ◌∷◌, ℤ, pos, negsuc, FitsSigned, of_z, w64, arith, Result, Ok, Err, Option, Some, None, inl, inr, ◌⊎◌, codes}
+use Rattle.std.proofs.Common.{◌≡◌, ◌∙◌, sym, ap, subst, refl, ℕ, ◌+◌, ◌<◌, ◌≤◌, ◌==◌, nat_eq, Bool, true, false, not, cond, List, [], ◌∷◌, ℤ, pos, negsuc, FitsSigned, of_z, w64, arith, Ok, Option, Some, None, inl, inr, ◌⊎◌}
 use Rattle.std.proofs.lemmas.Bool.Decides.{nat_tests}
-use Rattle.std.specs.Char.{digit_value, to_ascii_lowercase}
+use Rattle.std.specs.Char.{to_ascii_lowercase}
 use Rattle.tcl_text.specs.declared.integer.Integers.{Integers}
-use Rattle.tcl_text.specs.declared.integer.IntegerFault.{IntegerFault}
 use Rattle.tcl_text.specs.Lists.{is_white}
 use Rattle.tcl_text.specs.Numbers.{trim_start, trim_end, before_trimmed, signed, integer_of, in_64_bits}
-use Rattle.tcl_text.specs.Booleans.{abbreviates, fitting, word_truth, is_not_zero, number_truth, word_or_number, true_words, false_words, boolean_of}
+use Rattle.tcl_text.specs.Booleans.{word_truth, is_not_zero, number_truth, word_or_number}
 use Rattle.tcl_value.specs.Reading.{int_of}
-use Rattle.tcl_operators.specs.declared.fault.OperatorFault.{OperatorFault}
 use Rattle.tcl_operators.specs.Apply.{truth, truth_read}
 
 -- a text that begins with this is no integer text

@@ -1,6 +1,6 @@
 -- What operators and functions make of values, which are texts: numbers are read from them, and results written in decimal. Operands are looked at from the
 -- left, and only where they are needed.
-use Rattle.std.specs.Prelude.{◌≡◌, ◌≤◌, ℕ, zero, suc, ◌==◌, Bool, true, false, not, cond, List, [], ◌∷◌, length, ℤ, pos, neg_ℤ, unsigned_abs, int_lt, Option, Some, None, Result, Ok, Err, codes}
+use Rattle.std.specs.Prelude.{◌≡◌, ◌≤◌, Bool, true, false, not, cond, List, [], ◌∷◌, length, ℤ, pos, neg_ℤ, unsigned_abs, int_lt, Option, Some, None, Result, Ok, Err}
 use Rattle.std.specs.List.{list_any}
 use Rattle.std.specs.Fmt.{signed_decimal}
 use Rattle.std.specs.Cmp.Lexicographic.{slice_cmp}

@@ -1,5 +1,5 @@
 -- What operators make of whole numbers of any size.
-use Rattle.std.specs.Prelude.{◌≡◌, ℕ, zero, suc, ◌+◌, ◌-◌, ◌/◌, ◌%◌, ◌^◌, min, max, ℤ, pos, negsuc, neg_ℤ, ◌+ℤ◌, ◌-ℤ◌, ◌*ℤ◌, ◌≤ℤ◌, cond, Result, Ok, Err, unsigned_abs, bit_and, bit_or, bit_xor, Bool, int_lt}
+use Rattle.std.specs.Prelude.{◌≡◌, ℕ, zero, suc, ◌+◌, ◌-◌, ◌/◌, ◌%◌, ◌^◌, min, max, ℤ, pos, negsuc, neg_ℤ, ◌+ℤ◌, ◌-ℤ◌, ◌*ℤ◌, cond, Result, Ok, Err, bit_and, bit_or, bit_xor}
 use Rattle.tcl_arithmetic.specs.declared.ArithmeticFault.{ArithmeticFault}
 use Rattle.tcl_arithmetic.specs.declared.ArithmeticFault.TheVariants.{Overflow, DivideByZero, NegativeShift, NegativeExponent}
 use Rattle.tcl_arithmetic.specs.Division.{IsDivision}

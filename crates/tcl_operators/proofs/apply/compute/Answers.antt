@@ -1,8 +1,7 @@
-use Rattle.std.proofs.Common.{rules, ◌≡◌, ◌∙◌, sym, ap, ℤ, pos, ◌<ℤ◌, ◌^◌, ℕ, Ok, Err, FitsSigned, to_z, of_z, w64}
+use Rattle.std.proofs.Common.{rules, ◌∙◌, sym, FitsSigned, w64}
 use Rattle.tcl_arithmetic.proofs.Divisions.{plain}
-use Rattle.tcl_arithmetic.specs.declared.ArithmeticFault.TheVariants.{DivideByZero, NegativeShift}
-use Rattle.tcl_operators.specs.WholeNumbers.{in_range, divided, quotient_of, remainder_of, shifted_right, and_of, xor_of, or_of}
-use Rattle.tcl_operators.proofs.Numbers.{AllFit, IsQuotient, IsNoQuotient, IsRest, IsNoRest, IsHalved, IsNoShift, quotient_is, rest_is, shifted_is, same_digits}
+use Rattle.tcl_operators.specs.WholeNumbers.{and_of, xor_of, or_of}
+use Rattle.tcl_operators.proofs.Numbers.{AllFit, quotient_is, rest_is, shifted_is, same_digits}
 use Rattle.tcl_operators.proofs.Digitwise.{digitwise}
 use Rattle.tcl_operators.proofs.apply.compute.Goals as goal
 

@@ -1,5 +1,4 @@
-use Rattle.std.proofs.Common.{rules, ◌≡◌, ◌∙◌, sym, Ok, FitsSigned, w64}
-use Rattle.tcl_value.specs.Reading.{int_of}
+use Rattle.std.proofs.Common.{rules, ◌∙◌, sym, FitsSigned, w64}
 use Rattle.tcl_operators.proofs.Truths.{truth_of_number}
 use Rattle.tcl_operators.proofs.apply.truth_of.Goals as goal
 
