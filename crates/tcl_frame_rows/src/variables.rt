@@ -68,7 +68,13 @@ fn frame(alloc: Global) -> Result<Frame, Fail> {
     let name = text(alloc, "given")?;
     let change = Change::Assign(value(alloc, "1")?);
     frame.change(alloc, "s", Part::Whole, change, &name)?;
-    frame.change(alloc, "a", Part::Whole, Change::MakeArray, &name)?;
+    frame.change(
+        alloc,
+        "a",
+        Part::Whole,
+        Change::SetElements(Vec::new(alloc)),
+        &name,
+    )?;
     let change = Change::Assign(value(alloc, "2")?);
     frame.change(alloc, "a", Part::Element("x"), change, &name)?;
     let place = Place {
