@@ -1,5 +1,5 @@
 -- Changes of an element by its key.
-use Rattle.std.proofs.Common.{◌≡◌, ℕ, Option, Some, None, Result, Ok, refl, sym, ◌∙◌, ap, subst}
+use Rattle.std.proofs.Common.{◌≡◌, ℕ, Some, None, Ok, refl, sym, ◌∙◌, ap, subst}
 use Rattle.tcl_variables.specs.Names.{Text, Name, name_of}
 use Rattle.tcl_variables.specs.Variables.{Part, merge, part_of}
 use Rattle.tcl_variables.specs.Variables.Part.{whole, element, nested}

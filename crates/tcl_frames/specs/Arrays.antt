@@ -1,5 +1,5 @@
 -- What calls on whole arrays do to a chain, and what they answer.
-use Rattle.std.specs.Prelude.{Bool, true, false, List, [], ◌∷◌, Option, Some, None, is_some, Result, Ok, Err}
+use Rattle.std.specs.Prelude.{Bool, true, false, [], ◌∷◌, Option, Some, None, is_some, Result, Ok, Err}
 use Rattle.tcl_variables.specs.Names.{Text}
 use Rattle.tcl_variables.specs.Access.{elements_of}
 use Rattle.tcl_variables.specs.Arrays.{Elements, extended, unmatched}

@@ -1,7 +1,7 @@
 -- The chain of frames of an interpreter, and what each call on its variables does.
-use Rattle.std.specs.Prelude.{ℕ, zero, suc, pred, ◌==◌, nat_le, nat_lt, Bool, true, false, List, [], ◌∷◌, ◌++◌, length, take, drop, slice_get, Option, Some, None, is_some, if◌then◌else◌, Result, Ok, Err}
+use Rattle.std.specs.Prelude.{ℕ, zero, suc, pred, ◌==◌, nat_le, nat_lt, Bool, true, false, List, [], ◌∷◌, ◌++◌, length, take, drop, slice_get, Option, Some, None, if◌then◌else◌, Result, Ok, Err}
 use Rattle.std.specs.Str.{bytes_eq}
-use Rattle.std.specs.Map.{lookup, remove_entry}
+use Rattle.std.specs.Map.{remove_entry}
 use Rattle.indexmap.specs.IndexMap.{insert_entry}
 use Rattle.tcl_variables.specs.Names.{Text, Name, name_of, is_plain}
 use Rattle.tcl_variables.specs.Variables.{Frame, Part, Variables}

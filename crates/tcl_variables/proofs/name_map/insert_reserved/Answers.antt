@@ -1,4 +1,4 @@
-use Rattle.std.proofs.Common.{◌≡◌, ◌∙◌, ◌++◌, ap, arith, reverse, option_to_list}
+use Rattle.std.proofs.Common.{◌∙◌, ◌++◌, ap, arith, reverse, option_to_list}
 use Rattle.std.specs.Str.{bytes_eq}
 use Rattle.indexmap.specs.IndexMap.{insert_all}
 use Rattle.tcl_variables.specs.Entries.{named}
