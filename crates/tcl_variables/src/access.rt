@@ -110,7 +110,7 @@ fn one_element(alloc: Global, key: &str, value: Value) -> Result<NameMap<Value>,
     ensures { IfOk result (λ elements. elements ≡ (key.now, value) ∷ []) }
 {
     let mut elements = NameMap::new(alloc);
-    elements.insert(alloc, key, value)?;
+    elements.insert_new(alloc, key, value)?;
     Ok(elements)
 }
 

@@ -112,7 +112,7 @@ impl Frame {
             return variable.assign(alloc, part, value, name);
         }
         let variable = new_variable(alloc, part, value, name)?;
-        self.variables.insert(alloc, base, variable)?;
+        self.variables.insert_new(alloc, base, variable)?;
         Ok(())
     }
 
@@ -173,7 +173,7 @@ impl Frame {
             return variable.extend(alloc, elements, name);
         }
         let array = new_array(alloc, elements)?;
-        self.variables.insert(alloc, base, array)?;
+        self.variables.insert_new(alloc, base, array)?;
         Ok(())
     }
 

@@ -16,6 +16,9 @@ use std::marker::Model;
 use tcl_glob::matches;
 use tcl_text::text::Text;
 
+/// How many names a map has room for once it has one.
+const FEW_NAMES: usize = 4;
+
 /// A map from names, which contracts see as its entries in the order of insertion.
 #[derive(Drop)]
 pub struct NameMap<V> {
@@ -99,6 +102,16 @@ fn insert_reserved<V: Drop>(entries: &mut IndexMap<String, V>, keyed: Vec<(Strin
     }
 }
 
+/// Makes room for a few entries where there is none, so that a map of few names takes memory once.
+fn make_room<V: Drop>(entries: &mut IndexMap<String, V>) -> Result<(), AllocError>
+    ensures { entries.new.entries ≡ entries.old.entries }
+{
+    if entries.is_empty() {
+        entries.reserve(FEW_NAMES)?;
+    }
+    Ok(())
+}
+
 impl<V: Drop> NameMap<V> {
     /// Gives a name this value: where it stands, or at the end.
     ///
@@ -112,7 +125,19 @@ impl<V: Drop> NameMap<V> {
             *place = value;
             return Ok(());
         }
+        self.insert_new(alloc, name, value)
+    }
+
+    /// The same, in less time where the name isn't there yet.
+    ///
+    /// # Errors
+    /// Want of memory, which leaves the map as it was.
+    pub fn insert_new(&mut self, alloc: Global, name: &str, value: V) -> Result<(), AllocError>
+        ensures inserted { OnOk result (self.new ≡ insert_entry bytes_eq self.old name.now value) }
+        ensures unchanged { OnErr result (self.new ≡ self.old) }
+    {
         let name = String::from_str(alloc, name)?;
+        make_room(&mut self.entries)?;
         self.entries.insert(name, value)?;
         Ok(())
     }
