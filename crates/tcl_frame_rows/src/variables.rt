@@ -7,6 +7,7 @@ use tcl_variables::access::{Part, elements_in, holds_in, value_in};
 use tcl_variables::comparing::Same;
 use tcl_variables::fault::FrameError;
 use tcl_variables::frame::{Change, Frame};
+use tcl_variables::name::{element_text, is_plain_name, read_name};
 use tcl_variables::name_map::NameMap;
 use tcl_variables::variable::Place;
 
@@ -60,6 +61,45 @@ fn maps_keep_the_order_of_insertion(rt: HostRuntime) -> Result<(), Fail> {
     Ok(())
 }
 
+/// Many names are given values at once, and those that a pattern matches are taken out.
+#[test]
+fn maps_change_many_names(rt: HostRuntime) -> Result<(), Fail> {
+    let alloc = rt.alloc();
+    let mut map = NameMap::new(alloc);
+    let mut new = Vec::new(alloc);
+    for (name, number) in [("ab", 1), ("b", 2), ("ab", 3), ("ac", 4)] {
+        new.push((text(alloc, name)?, number))?;
+    }
+    map.insert_all(alloc, new)?;
+    assert_eq!(rt; entries(alloc, &map)?.as_str(), "ab3 b2 ac4 ");
+    map.remove_matching("a?");
+    assert_eq!(rt; entries(alloc, &map)?.as_str(), "b2 ");
+    Ok(())
+}
+
+/// Names as they are read: of an element, of level 0, and none.
+#[test]
+fn names_are_read(rt: HostRuntime) -> Result<(), Fail> {
+    let element = read_name("::a(x::y)").map(|name| (name.is_global, name.base, name.key));
+    assert_eq!(rt; element, Some((true, "a", Some("x::y"))));
+    let third_colon = read_name(":::a").map(|name| (name.is_global, name.base, name.key));
+    assert_eq!(rt; third_colon, Some((true, ":a", None)));
+    assert!(rt; read_name("a::b").is_none());
+    Ok(())
+}
+
+/// Names that a link or a parameter may have.
+#[test]
+fn plain_names_are_told(rt: HostRuntime) -> Result<(), Fail> {
+    assert!(rt; is_plain_name("a(b"));
+    assert!(rt; !is_plain_name("a(b)"));
+    assert!(rt; !is_plain_name("::a"));
+    let name = text(rt.alloc(), "a")?;
+    let key = text(rt.alloc(), "b c")?;
+    assert_eq!(rt; element_text(rt.alloc(), &name, &key)?.as_str(), "a(b c)");
+    Ok(())
+}
+
 /// A frame of a value `s`, an array `a` of `x` and a link `l`.
 fn frame(alloc: Global) -> Result<Frame, Fail> {
     let mut words = Vec::new(alloc);
@@ -68,7 +108,13 @@ fn frame(alloc: Global) -> Result<Frame, Fail> {
     let name = text(alloc, "given")?;
     let change = Change::Assign(value(alloc, "1")?);
     frame.change(alloc, "s", Part::Whole, change, &name)?;
-    frame.change(alloc, "a", Part::Whole, Change::MakeArray, &name)?;
+    frame.change(
+        alloc,
+        "a",
+        Part::Whole,
+        Change::SetElements(Vec::new(alloc)),
+        &name,
+    )?;
     let change = Change::Assign(value(alloc, "2")?);
     frame.change(alloc, "a", Part::Element("x"), change, &name)?;
     let place = Place {

@@ -1,32 +1,37 @@
 -- Changes of an element by its key.
-use Rattle.std.proofs.Common.{◌≡◌, ℕ, Option, Some, None, Result, Ok, refl, sym, ◌∙◌, ap, subst}
+use Rattle.std.proofs.Common.{◌≡◌, ℕ, Some, None, Ok, refl, sym, ◌∙◌, ap, subst}
 use Rattle.tcl_variables.specs.Names.{Text, Name, name_of}
 use Rattle.tcl_variables.specs.Variables.{Part, merge, part_of}
 use Rattle.tcl_variables.specs.Variables.Part.{whole, element, nested}
 use Rattle.tcl_variables.specs.Faults.{Refuses, IsRefusal}
 use Rattle.tcl_variables.specs.declared.frame.Change.{Change}
-use Rattle.tcl_variables.specs.declared.frame.Change.TheVariants.{Assign, MakeArray, Unset}
+use Rattle.tcl_variables.specs.declared.frame.Change.TheVariants.{Assign, SetElements, Unset, UnsetElements}
 use Rattle.tcl_variables.specs.declared.fault.FrameError.{FrameError}
 use Rattle.tcl_variables.specs.declared.fault.FrameFault.TheVariants.{BadName}
 use Rattle.tcl_frames.specs.Places.{Levels, Spot, current, level_of, bound, end_of}
 use Rattle.tcl_frames.specs.Chain.{place_named, by_place}
 use Rattle.tcl_frames.specs.Changes.{change_levels}
-use Rattle.tcl_frames.specs.Keys.{element_name, change_key}
+use Rattle.tcl_variables.specs.Access.{elements_of}
+use Rattle.tcl_variables.specs.Arrays.{element_name}
+use Rattle.tcl_frames.specs.Keys.{change_key}
 use Rattle.tcl_frames.specs.Reached.{start, over}
 use Rattle.tcl_frames.specs.Sound.{AreFit}
 use Rattle.tcl_frames.proofs.SoundLemmas.{end_no_link}
-use Rattle.tcl_frames.proofs.StepLemmas.{place_good, end_over, assigned_plain, arrayed_plain, left_plain, fit_bound, fit_left, at_name_fit}
+use Rattle.tcl_frames.proofs.StepLemmas.{place_good, end_over, assigned_plain, extended_plain, left_plain, fit_bound, fit_left, fit_emptied, at_name_fit}
 
 levels_fit : (c : Change) (fs gs : Levels) → AreFit 0 fs → (p : Spot) (r : Part) (x : Text) → change_levels c fs (over (end_of fs p) r) x ≡ Ok gs → AreFit 0 gs
 levels_fit (Assign t) fs gs fit p r x e =
     let q = end_of fs p in
     fit_bound fs gs fit (over q r) (end_no_link fs fit p) _ (λ v. assigned_plain (merge q.part r) (bound fs q.level q.name) t x v) e
-levels_fit MakeArray fs gs fit p r x e =
+levels_fit (SetElements ps) fs gs fit p r x e =
     let q = end_of fs p in
-    fit_bound fs gs fit (over q r) (end_no_link fs fit p) _ (λ v. arrayed_plain (merge q.part r) (bound fs q.level q.name) x v) e
+    fit_bound fs gs fit (over q r) (end_no_link fs fit p) _ (λ v. extended_plain (merge q.part r) (bound fs q.level q.name) ps.items x v) e
 levels_fit Unset fs gs fit p r x e =
     let q = end_of fs p in
     fit_left fs gs fit (over q r) (end_no_link fs fit p) _ (λ v. left_plain (merge q.part r) (bound fs q.level q.name) x v) e
+levels_fit (UnsetElements g) fs gs fit p r x e =
+    let q = end_of fs p in
+    fit_emptied fs gs fit (over q r) (end_no_link fs fit p) (elements_of (merge q.part r) (bound fs q.level q.name)) g e
 
 pub change_key_fit : (c : Change) (fs gs : Levels) (x k : Text) → AreFit 0 fs → change_key c fs x k ≡ Ok gs → AreFit 0 gs
 change_key_fit c fs gs x k fit e = at_name_fit fs gs x _ (λ p h. levels_fit c fs gs fit p (element k) (element_name x k) h) e
@@ -58,8 +63,9 @@ key_of_whole c fs x k w n e is no_key =
 
 nested_by : (c : Change) (fs : Levels) (n m : ℕ) (a b : Text) (x : Text) → change_levels c fs (record { level = n; name = a; part = nested }) x ≡ change_levels c fs (record { level = m; name = b; part = nested }) x
 nested_by (Assign t) fs n m a b x = refl
-nested_by MakeArray fs n m a b x = refl
+nested_by (SetElements ps) fs n m a b x = refl
 nested_by Unset fs n m a b x = refl
+nested_by (UnsetElements g) fs n m a b x = refl
 
 -- the name is an element's, which has no elements
 pub key_of_element : (c : Change) (fs : Levels) (x k : Text) (w : Name) (n : ℕ) (j : Text) → name_of x ≡ Some w → n ≡ level_of w.is_global (current fs) → w.key ≡ Some j → change_key c fs x k ≡ change_levels c fs (over (start n w.base) nested) (element_name x k)

@@ -1,5 +1,5 @@
 -- What is lent out of a chain.
-use Rattle.std.proofs.Common.{◌≡◌, ℕ, List, length, slice_get, slice_set, Some, Result, Ok, Err, refl, sym, ◌∙◌, ap, subst}
+use Rattle.std.proofs.Common.{◌≡◌, ℕ, List, slice_get, slice_set, Some, Result, Ok, Err, refl, sym, ◌∙◌, ap, subst}
 use Rattle.std.specs.Prelude.{OnErr}
 use Rattle.std.proofs.Math.ListN.{length-set}
 use Rattle.std.specs.Map.{lookup}

@@ -9,3 +9,4 @@ pub mod NamesLemmas
 pub mod LendLemmas
 pub mod KeyLemmas
 pub mod SameChains
+pub mod ArrayLemmas

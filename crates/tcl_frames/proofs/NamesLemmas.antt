@@ -9,12 +9,12 @@ use Rattle.tcl_frames.specs.Reached.{start}
 use Rattle.tcl_variables.specs.declared.variable.Variable.{Variable}
 use Rattle.tcl_frames.specs.declared.scope.Scope.TheVariants.{Visible, Global, Local}
 
-drop_at : {A : Type 0} (xs : List A) (i : ℕ) (x : A) → slice_get xs i ≡ Some x → drop i xs ≡ x ∷ drop (suc i) xs
+pub drop_at : {A : Type 0} (xs : List A) (i : ℕ) (x : A) → slice_get xs i ≡ Some x → drop i xs ≡ x ∷ drop (suc i) xs
 drop_at [] i x e = absurd (cc)
 drop_at (y ∷ ys) zero x e = let same : y ≡ x = cc in ap (λ z. z ∷ ys) same
 drop_at (y ∷ ys) (suc i) x e = drop_at ys i x e
 
-kept_append : (b : Bool) (x : Text) (xs : List Text) → kept_if b x xs ≡ kept_if b x [] ++ xs
+pub kept_append : (b : Bool) (x : Text) (xs : List Text) → kept_if b x xs ≡ kept_if b x [] ++ xs
 kept_append true x xs = refl
 kept_append false x xs = refl
 
@@ -56,7 +56,7 @@ own_step es i e b old new at is made =
     ∙ ap (λ c. old ++ kept_if c e.0 (names_own (drop (suc i) es))) is
     ∙ ap (λ r. old ++ r) (sym (ap names_own (drop_at es i e at) ∙ own_cons e (drop (suc i) es)))
 
-drop_over : {A : Type 0} (xs : List A) (i : ℕ) → length xs ≤ i → drop i xs ≡ []
+pub drop_over : {A : Type 0} (xs : List A) (i : ℕ) → length xs ≤ i → drop i xs ≡ []
 drop_over [] zero l = refl
 drop_over [] (suc i) l = refl
 drop_over (x ∷ xs) zero l = absurd (omega arith)

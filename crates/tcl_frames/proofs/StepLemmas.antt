@@ -1,23 +1,27 @@
 -- What the calls on names come to.
 use Rattle.std.proofs.Common.{◌≡◌, ℕ, zero, suc, ◌+◌, ◌<◌, ◌≤◌, inl, inr, Bool, true, false, List, [], ◌∷◌, length, slice_get, slice_set, Option, Some, None, Result, Ok, Err, refl, sym, ◌∙◌, ap, subst, arith}
 use Rattle.std.specs.Borrow.{Bor}
+use Rattle.std.specs.declared.vec.Vec.{Vec}
+use Rattle.std.specs.declared.alloc.Global.{Global}
 use Rattle.std.specs.Option.{option_map, option_copied}
 use Rattle.std.specs.Map.{lookup, remove_entry}
 use Rattle.std.specs.Str.{bytes_eq}
-use Rattle.indexmap.specs.IndexMap.{insert_entry}
+use Rattle.indexmap.specs.IndexMap.{insert_entry, insert_all}
 use Rattle.tcl_variables.specs.Names.{Text, Name, name_of}
 use Rattle.tcl_variables.specs.Variables.{Frame, Variables, Part, merge, part_of}
 use Rattle.tcl_frames.specs.Places.{Levels, Spot, current, level_of, spot_of, bound, through, under, next, walk, links, end_of}
 use Rattle.tcl_variables.specs.Variables.Part.{whole, element, nested}
-use Rattle.tcl_variables.specs.Access.{value_of, is_held, elements_of, assigned, arrayed, left_of, without_element}
+use Rattle.tcl_variables.specs.Access.{value_of, is_held, elements_of, assigned, left_of, without_element}
+use Rattle.tcl_variables.specs.Arrays.{Elements, extended, unmatched}
+use Rattle.tcl_frames.specs.Arrays.{elements_set, emptied_at, elements_unset}
 use Rattle.tcl_frames.specs.Chain.{holds, read, exists_at, array_at, end_named, place_named, by_place, at_name, on_level, bind, unbind, bound_to, left_at, written, made_array, removed}
 use Rattle.tcl_variables.specs.Faults.{Refuses, IsRefusal}
 use Rattle.tcl_frames.specs.Reached.{start, over, bound_where, link_of, Stands}
 use Rattle.tcl_variables.specs.Written.{seen}
 use Rattle.tcl_variables.specs.declared.name.Written.{Written}
 use Rattle.tcl_variables.specs.declared.frame.Change.{Change}
-use Rattle.tcl_variables.specs.declared.frame.Change.TheVariants.{Assign, MakeArray, Unset}
-use Rattle.tcl_variables.specs.Rebinding.{rebound, unbound, with_variable, without_variable, change_frame}
+use Rattle.tcl_variables.specs.declared.frame.Change.TheVariants.{Assign, SetElements, Unset, UnsetElements}
+use Rattle.tcl_variables.specs.Rebinding.{rebound, unbound, with_variable, without_variable, emptied, change_frame}
 use Rattle.tcl_frames.specs.Changes.{change_levels, change_named}
 use Rattle.tcl_frames.specs.Sound.{IsFit, AreFit}
 use Rattle.tcl_variables.specs.declared.variable.Place.{Place}
@@ -229,13 +233,13 @@ assigned_plain (element k) (Some (Array es)) t x v e = no_link_of (Array (insert
 assigned_plain (element k) (Some (Link q)) t x v e = absurd (cc)
 assigned_plain nested o t x v e = absurd (cc)
 
-pub arrayed_plain : (r : Part) (o : Option Variable) (x : Text) (v : Variable) → arrayed r o x ≡ Ok v → IsNoLink (Some v)
-arrayed_plain whole None x v e = no_link_of (Array []) v tt e
-arrayed_plain whole (Some (Scalar s)) x v e = absurd (cc)
-arrayed_plain whole (Some (Array es)) x v e = no_link_of (Array es) v tt e
-arrayed_plain whole (Some (Link q)) x v e = absurd (cc)
-arrayed_plain (element k) o x v e = absurd (cc)
-arrayed_plain nested o x v e = absurd (cc)
+pub extended_plain : (r : Part) (o : Option Variable) (ps : Elements) (x : Text) (v : Variable) → extended r o ps x ≡ Ok v → IsNoLink (Some v)
+extended_plain whole None ps x v e = no_link_of (Array (insert_all bytes_eq [] ps)) v tt e
+extended_plain whole (Some (Scalar s)) ps x v e = absurd (cc)
+extended_plain whole (Some (Array es)) ps x v e = no_link_of (Array (insert_all bytes_eq es ps)) v tt e
+extended_plain whole (Some (Link q)) ps x v e = absurd (cc)
+extended_plain (element k) o ps x v e = absurd (cc)
+extended_plain nested o ps x v e = absurd (cc)
 
 fit_bind : (fs : Levels) → AreFit 0 fs → (n : ℕ) (x : Text) (v : Variable) → IsNoLink (bound fs n x) → IsNoLink (Some v) → AreFit 0 (bind fs n x v)
 unfolding bind
@@ -277,6 +281,11 @@ fit_left fs gs fit p old (Ok None) new e = same_levels (unbind fs p.level p.name
 fit_left fs gs fit p old (Ok (Some v)) new e = same_levels (bind fs p.level p.name v) gs (fit_bind fs fit p.level p.name v old (new v refl)) e
 fit_left fs gs fit p old (Err f) new e = absurd (cc)
 
+pub fit_emptied : (fs gs : Levels) → AreFit 0 fs → (p : Spot) → IsNoLink (bound fs p.level p.name) → (o : Option Elements) (g : Option Text) → ◌≡◌ {A = Result Levels FrameFault} (Ok (emptied_at fs p o g)) (Ok gs) → AreFit 0 gs
+fit_emptied fs gs fit p old None g e = same_levels fs gs fit e
+fit_emptied fs gs fit p old (Some es) None e = same_levels (unbind fs p.level p.name) gs (fit_unbind fs fit p.level p.name old) e
+fit_emptied fs gs fit p old (Some es) (Some g) e = same_levels (bind fs p.level p.name (Array (unmatched g es))) gs (fit_bind fs fit p.level p.name (Array (unmatched g es)) old tt) e
+
 at_end : (fs gs : Levels) (n : ℕ) (x : Text) (w : Option Name) (f : Spot → Result Levels FrameFault) → ((p : Spot) → f (end_of fs p) ≡ Ok gs → AreFit 0 gs) → by_place (end_named fs n w) x f ≡ Ok gs → AreFit 0 gs
 at_end fs gs n x None f h e = absurd (cc)
 at_end fs gs n x (Some w) f h e = h (spot_of n w) e
@@ -291,11 +300,17 @@ written_fit fs gs x t fit e =
     at_name_fit fs gs x _
     (λ p h. fit_bound fs gs fit (end_of fs p) (end_no_link fs fit p) _ (λ v. assigned_plain (end_of fs p).part (bound fs (end_of fs p).level (end_of fs p).name) t x v) h) e
 
-pub made_array_fit : (fs gs : Levels) (x : Text) → AreFit 0 fs → made_array fs x ≡ Ok gs → AreFit 0 gs
-unfolding made_array
-made_array_fit fs gs x fit e =
+pub elements_set_fit : (fs gs : Levels) (x : Text) (ps : Elements) → AreFit 0 fs → elements_set fs x ps ≡ Ok gs → AreFit 0 gs
+unfolding elements_set
+elements_set_fit fs gs x ps fit e =
     at_name_fit fs gs x _
-    (λ p h. fit_bound fs gs fit (end_of fs p) (end_no_link fs fit p) _ (λ v. arrayed_plain (end_of fs p).part (bound fs (end_of fs p).level (end_of fs p).name) x v) h) e
+    (λ p h. fit_bound fs gs fit (end_of fs p) (end_no_link fs fit p) _ (λ v. extended_plain (end_of fs p).part (bound fs (end_of fs p).level (end_of fs p).name) ps x v) h) e
+
+pub elements_unset_fit : (fs gs : Levels) (x : Text) (g : Option Text) → AreFit 0 fs → elements_unset fs x g ≡ Ok gs → AreFit 0 gs
+unfolding elements_unset
+elements_unset_fit fs gs x g fit e =
+    at_name_fit fs gs x _
+    (λ p h. fit_emptied fs gs fit (end_of fs p) (end_no_link fs fit p) (elements_of (end_of fs p).part (bound fs (end_of fs p).level (end_of fs p).name)) g h) e
 
 pub removed_fit : (fs gs : Levels) (x : Text) → AreFit 0 fs → removed fs x ≡ Ok gs → AreFit 0 gs
 unfolding removed
@@ -374,11 +389,29 @@ no_key a k e = ap (λ j. merge a (part_of (option_copied j))) e ∙ merge_whole 
 pub some_key : (a : Part) (k : Option (Bor Text)) (j : Bor Text) → k ≡ Some j → merge a (part_of (option_copied k)) ≡ merge a (element j.now)
 some_key a k j e = ap (λ i. merge a (part_of (option_copied i))) e
 
+-- a frame that is put where it stands
+pub set_here : {A : Type 0} (fs : List A) (i : ℕ) (f : A) → slice_get fs i ≡ Some f → slice_set fs i f ≡ fs
+set_here [] i f e = refl
+set_here (g ∷ gs) zero f e = let same : g ≡ f = cc in ap (λ h. h ∷ gs) (sym same)
+set_here (g ∷ gs) (suc i) f e = ap (λ hs. g ∷ hs) (set_here gs i f e)
+
+ok_same : (a b : Frame) → ◌≡◌ {A = Result Frame FrameFault} (Ok a) (Ok b) → a ≡ b
+ok_same a b e = cc
+
+empty_level : (fs : Levels) (p : Spot) (f k : Frame) (o : Option Elements) (g : Option Text) → slice_get fs p.level ≡ Some f → ◌≡◌ {A = Result Frame FrameFault} (Ok (emptied f p.name o g)) (Ok k)
+    → ◌≡◌ {A = Result Levels FrameFault} (Ok (emptied_at fs p o g)) (Ok (slice_set fs p.level k))
+empty_level fs p f k None g at e = ap (λ (gs : Levels). Ok gs) (sym (set_here fs p.level f at) ∙ ap (slice_set fs p.level) (ok_same f k e))
+empty_level fs p f k (Some es) None at e = ap (λ (gs : Levels). Ok gs) (unbind_is fs p.level f p.name at ∙ ap (slice_set fs p.level) (ok_same (without_variable f p.name) k e))
+empty_level fs p f k (Some es) (Some g) at e = ap (λ (gs : Levels). Ok gs) (bind_is fs p.level f p.name (Array (unmatched g es)) at ∙ ap (slice_set fs p.level) (ok_same (with_variable f p.name (Array (unmatched g es))) k e))
+
 -- a change of a frame is one of the frames
 pub change_level : (c : Change) (fs : Levels) (p : Spot) (f k : Frame) (x : Text) → slice_get fs p.level ≡ Some f → change_frame c f p.name p.part x ≡ Ok k → change_levels c fs p x ≡ Ok (slice_set fs p.level k)
 change_level (Assign t) fs p f k x at e = assign_level fs p f k _ at (ap (λ o. rebound f p.name (assigned p.part o t x)) (bound_at fs p.level p.name f at) ∙ e)
-change_level MakeArray fs p f k x at e = assign_level fs p f k _ at (ap (λ o. rebound f p.name (arrayed p.part o x)) (bound_at fs p.level p.name f at) ∙ e)
+change_level (SetElements ps) fs p f k x at e = assign_level fs p f k _ at (ap (λ o. rebound f p.name (extended p.part o ps.items x)) (bound_at fs p.level p.name f at) ∙ e)
 change_level Unset fs p f k x at e = remove_level fs p f k _ at (ap (λ o. unbound f p.name (left_of p.part o x)) (bound_at fs p.level p.name f at) ∙ e)
+change_level (UnsetElements g) fs p f k x at e =
+    ap (λ o. Ok (emptied_at fs p (elements_of p.part o) g)) (bound_at fs p.level p.name f at)
+    ∙ empty_level fs p f k (elements_of p.part (lookup (bytes_eq p.name) f.variables)) g at e
 
 refuses_rebound : (e : FrameError) (f : Frame) (b : Text) (o : Result Variable FrameFault) → Refuses e (rebound f b o) → Refuses e o
 refuses_rebound e f b (Ok v) h = h
@@ -391,8 +424,9 @@ refuses_unbound e f b (Err g) h = h
 
 pub refuses_level : (e : FrameError) (c : Change) (fs : Levels) (p : Spot) (f : Frame) (x : Text) → slice_get fs p.level ≡ Some f → Refuses e (change_frame c f p.name p.part x) → Refuses e (change_levels c fs p x)
 refuses_level e (Assign t) fs p f x at h = refuses_bound e fs p _ (refuses_rebound e f p.name _ (subst (λ o. Refuses e (rebound f p.name (assigned p.part o t x))) (sym (bound_at fs p.level p.name f at)) h))
-refuses_level e MakeArray fs p f x at h = refuses_bound e fs p _ (refuses_rebound e f p.name _ (subst (λ o. Refuses e (rebound f p.name (arrayed p.part o x))) (sym (bound_at fs p.level p.name f at)) h))
+refuses_level e (SetElements ps) fs p f x at h = refuses_bound e fs p _ (refuses_rebound e f p.name _ (subst (λ o. Refuses e (rebound f p.name (extended p.part o ps.items x))) (sym (bound_at fs p.level p.name f at)) h))
 refuses_level e Unset fs p f x at h = refuses_left e fs p _ (refuses_unbound e f p.name _ (subst (λ o. Refuses e (unbound f p.name (left_of p.part o x))) (sym (bound_at fs p.level p.name f at)) h))
+refuses_level e (UnsetElements g) fs p f x at h = h
 
 pub change_bad_name : (e : FrameError) (c : Change) (fs : Levels) (x : Text) → place_named fs x ≡ None → IsRefusal e (BadName x) → Refuses e (change_named c fs x)
 change_bad_name e c fs x none h = subst (λ o. Refuses e (by_place o x (λ p. change_levels c fs p x))) (sym none) h
@@ -427,14 +461,22 @@ target_within fs fit n x r p l e =
 pub change_is : (c : Change) (fs : Levels) (x : Text) (w : Name) (n : ℕ) → name_of x ≡ Some w → n ≡ level_of w.is_global (current fs) → change_named c fs x ≡ change_levels c fs (end_of fs (over (start n w.base) (part_of w.key))) x
 change_is c fs x w n e is = change_at_place c fs x _ (place_good fs x w n e is) ∙ ap (λ (p : Spot). change_levels c fs p x) (sym (end_over fs (start n w.base) (part_of w.key)))
 
--- the three changes
+-- the changes
 pub written_is : (fs : Levels) (x t : Text) → written fs x t ≡ change_named (Assign t) fs x
 unfolding written
 written_is fs x t = refl
 
-pub made_array_is : (fs : Levels) (x : Text) → made_array fs x ≡ change_named MakeArray fs x
-unfolding made_array
-made_array_is fs x = refl
+pub elements_set_is : (fs : Levels) (x : Text) (ps : Vec (Text × Text) Global) → elements_set fs x ps.items ≡ change_named (SetElements ps) fs x
+unfolding elements_set
+elements_set_is fs x ps = refl
+
+pub made_array_is : (fs : Levels) (x : Text) (ps : Vec (Text × Text) Global) → ps.items ≡ [] → made_array fs x ≡ change_named (SetElements ps) fs x
+unfolding made_array elements_set
+made_array_is fs x ps e = ap (λ (es : Elements). elements_set fs x es) (sym e)
+
+pub elements_unset_is : (fs : Levels) (x : Text) (g : Option Text) → elements_unset fs x g ≡ change_named (UnsetElements g) fs x
+unfolding elements_unset
+elements_unset_is fs x g = refl
 
 pub removed_is : (fs : Levels) (x : Text) → removed fs x ≡ change_named Unset fs x
 unfolding removed
@@ -442,8 +484,9 @@ removed_is fs x = refl
 
 pub change_fit : (c : Change) (fs gs : Levels) (x : Text) → AreFit 0 fs → change_named c fs x ≡ Ok gs → AreFit 0 gs
 change_fit (Assign t) fs gs x fit e = written_fit fs gs x t fit (written_is fs x t ∙ e)
-change_fit MakeArray fs gs x fit e = made_array_fit fs gs x fit (made_array_is fs x ∙ e)
+change_fit (SetElements ps) fs gs x fit e = elements_set_fit fs gs x ps.items fit (elements_set_is fs x ps ∙ e)
 change_fit Unset fs gs x fit e = removed_fit fs gs x fit (removed_is fs x ∙ e)
+change_fit (UnsetElements g) fs gs x fit e = elements_unset_fit fs gs x g fit (elements_unset_is fs x g ∙ e)
 
 -- ## What is lent
 
@@ -480,9 +523,3 @@ pub below_current : (g : Bool) (fs : Levels) (n : ℕ) → n ≡ level_of g (cur
 below_current g [] n e h = absurd (omega arith)
 below_current true (f ∷ fs) n e h = omega arith
 below_current false (f ∷ fs) n e h = omega arith
-
--- a frame that is put where it stands
-pub set_here : {A : Type 0} (fs : List A) (i : ℕ) (f : A) → slice_get fs i ≡ Some f → slice_set fs i f ≡ fs
-set_here [] i f e = refl
-set_here (g ∷ gs) zero f e = let same : g ≡ f = cc in ap (λ h. h ∷ gs) (sym same)
-set_here (g ∷ gs) (suc i) f e = ap (λ hs. g ∷ hs) (set_here gs i f e)

@@ -1,11 +1,12 @@
 -- The chain of frames of an interpreter, and what each call on its variables does.
-use Rattle.std.specs.Prelude.{ℕ, zero, suc, pred, ◌==◌, nat_le, nat_lt, Bool, true, false, List, [], ◌∷◌, ◌++◌, length, take, drop, slice_get, Option, Some, None, is_some, if◌then◌else◌, Result, Ok, Err}
+use Rattle.std.specs.Prelude.{ℕ, zero, suc, pred, ◌==◌, nat_le, nat_lt, Bool, true, false, List, [], ◌∷◌, ◌++◌, length, take, drop, slice_get, Option, Some, None, if◌then◌else◌, Result, Ok, Err}
 use Rattle.std.specs.Str.{bytes_eq}
-use Rattle.std.specs.Map.{lookup, remove_entry}
+use Rattle.std.specs.Map.{remove_entry}
 use Rattle.indexmap.specs.IndexMap.{insert_entry}
 use Rattle.tcl_variables.specs.Names.{Text, Name, name_of, is_plain}
 use Rattle.tcl_variables.specs.Variables.{Frame, Part, Variables}
-use Rattle.tcl_variables.specs.Access.{value_of, is_held, elements_of, assigned, arrayed, left_of}
+use Rattle.tcl_variables.specs.Access.{value_of, is_held, elements_of, assigned, left_of}
+use Rattle.tcl_variables.specs.Arrays.{extended}
 use Rattle.tcl_frames.specs.Places.{Spot, Levels, current, bound, spot_of, next, passes, links, end_of, is_at}
 use Rattle.tcl_variables.specs.Variables.Part.{whole, element, nested}
 use Rattle.tcl_variables.specs.declared.variable.Place.{Place}
@@ -88,7 +89,7 @@ written fs x t = at_name fs x (λ p. bound_to fs p (assigned p.part (bound fs p.
 
 -- the frames after the name is made an array, where it isn't one yet
 unfoldable pub made_array : Levels → Text → Result Levels FrameFault
-made_array fs x = at_name fs x (λ p. bound_to fs p (arrayed p.part (bound fs p.level p.name) x))
+made_array fs x = at_name fs x (λ p. bound_to fs p (extended p.part (bound fs p.level p.name) [] x))
 
 abbrev pub left_at : Levels → Spot → Result (Option Variable) FrameFault → Result Levels FrameFault
 left_at fs p (Ok None) = Ok (unbind fs p.level p.name)

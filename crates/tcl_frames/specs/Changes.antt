@@ -1,18 +1,21 @@
 -- What a change of one name does to the frames.
-use Rattle.std.specs.Prelude.{Result}
+use Rattle.std.specs.Prelude.{Result, Ok}
 use Rattle.tcl_variables.specs.Names.{Text}
 use Rattle.tcl_frames.specs.Places.{Levels, Spot, bound}
 use Rattle.tcl_frames.specs.Chain.{at_name, bound_to, left_at}
-use Rattle.tcl_variables.specs.Access.{assigned, arrayed, left_of}
+use Rattle.tcl_frames.specs.Arrays.{emptied_at}
+use Rattle.tcl_variables.specs.Access.{assigned, left_of, elements_of}
+use Rattle.tcl_variables.specs.Arrays.{extended}
 use Rattle.tcl_variables.specs.declared.frame.Change.{Change}
-use Rattle.tcl_variables.specs.declared.frame.Change.TheVariants.{Assign, MakeArray, Unset}
+use Rattle.tcl_variables.specs.declared.frame.Change.TheVariants.{Assign, SetElements, Unset, UnsetElements}
 use Rattle.tcl_variables.specs.declared.fault.FrameFault.{FrameFault}
 
 -- the frames after what a name stands for at a spot is changed
 abbrev pub change_levels : Change → Levels → Spot → Text → Result Levels FrameFault
 change_levels (Assign t) fs p x = bound_to fs p (assigned p.part (bound fs p.level p.name) t x)
-change_levels MakeArray fs p x = bound_to fs p (arrayed p.part (bound fs p.level p.name) x)
+change_levels (SetElements ps) fs p x = bound_to fs p (extended p.part (bound fs p.level p.name) ps.items x)
 change_levels Unset fs p x = left_at fs p (left_of p.part (bound fs p.level p.name) x)
+change_levels (UnsetElements g) fs p x = Ok (emptied_at fs p (elements_of p.part (bound fs p.level p.name)) g)
 
 -- the frames after a written name is changed
 abbrev pub change_named : Change → Levels → Text → Result Levels FrameFault

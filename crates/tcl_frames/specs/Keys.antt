@@ -1,6 +1,7 @@
 -- The elements of the array that a name is, each by its key.
-use Rattle.std.specs.Prelude.{◌++◌, Result, codes}
+use Rattle.std.specs.Prelude.{Result}
 use Rattle.tcl_variables.specs.Names.{Text}
+use Rattle.tcl_variables.specs.Arrays.{element_name}
 use Rattle.tcl_variables.specs.Variables.Part.{element}
 use Rattle.tcl_variables.specs.declared.frame.Change.{Change}
 use Rattle.tcl_variables.specs.declared.frame.Change.TheVariants.{Assign, Unset}
@@ -9,10 +10,6 @@ use Rattle.tcl_frames.specs.Places.{Levels}
 use Rattle.tcl_frames.specs.Chain.{Chain, at_name, with_frames}
 use Rattle.tcl_frames.specs.Changes.{change_levels}
 use Rattle.tcl_frames.specs.Reached.{over}
-
--- how an element is told: `a(k)`
-abbrev pub element_name : Text → Text → Text
-element_name x k = x ++ codes "(" ++ k ++ codes ")"
 
 -- the frames after the element with this key, of what the name is, is changed
 abbrev pub change_key : Change → Levels → Text → Text → Result Levels FrameFault

@@ -1,5 +1,6 @@
 pub mod Places
 pub mod Chain
+pub mod Arrays
 pub mod Reached
 pub mod Changes
 pub mod Sound

@@ -5,6 +5,7 @@ ghost use Rattle.std.specs.Vec.{vec_capacity};
 ghost use Rattle.std.specs.Prelude.{reverse, nat_lt, ◌↔◌, IsTrue};
 ghost use Rattle.tcl_frames.specs.Chain.{least};
 
+use crate::arrays::{elements_taken, keys_taken, owned_pattern};
 use crate::keys::change_key_in;
 use crate::links::link_frames;
 use crate::names::{names_at, own_names};
@@ -113,6 +114,9 @@ impl Frames {
     ghost use Rattle.tcl_frames.specs.Places.{current};
     ghost use Rattle.tcl_frames.specs.Changes.{change_named};
     ghost use Rattle.tcl_frames.specs.Keys.{change_key, after_set_key, after_unset_key};
+    ghost use Rattle.tcl_frames.specs.Arrays.{after_set_elements, after_unset_elements, of_elements, is_found};
+    ghost use Rattle.tcl_variables.specs.Arrays.{taken};
+    ghost use Rattle.std.specs.Map.{keys_of};
 
     /// A chain of the global frame alone, which has no words and no variables.
     ///
@@ -202,6 +206,71 @@ impl Frames {
         array_in(self.frames.as_slice(), name)
     }
 
+    /// Whether a name is an array. This takes no memory.
+    ///
+    /// # Errors
+    /// Refusal 238.
+    pub fn is_array(&self, name: &Text) -> Result<bool, FrameError>
+        ensures ok { IfOk result (λ is. is_found (array_at self.now.frames name.now) ≡ Ok is) }
+        ensures err { IfErr result (λ e. Refuses e (is_found (array_at self.now.frames name.now))) }
+    {
+        Ok(self.array(name)?.is_some())
+    }
+
+    /// How many elements the array has that a name is; 0 where it isn't one. This takes no memory.
+    ///
+    /// # Errors
+    /// Refusal 238.
+    pub fn element_count(&self, name: &Text) -> Result<usize, FrameError>
+        ensures ok { IfOk result (λ count. of_elements length (array_at self.now.frames name.now) ≡ Ok count) }
+        ensures err { IfErr result (λ e. Refuses e (of_elements length (array_at self.now.frames name.now))) }
+    {
+        match self.array(name)? {
+            Some(elements) => Ok(elements.len()),
+            None => Ok(0),
+        }
+    }
+
+    /// The keys of the array that a name is, in the order of insertion: those that a pattern matches, or all where there is none. What
+    /// is no array has none.
+    ///
+    /// # Errors
+    /// Want of memory; refusal 238.
+    pub fn element_names(
+        &self,
+        alloc: Global,
+        name: &Text,
+        pattern: Option<&Text>,
+    ) -> Result<Vec<Text>, FrameError>
+        ensures ok { IfOk result (λ keys. of_elements (λ es. keys_of (taken (option_copied pattern.entry) es)) (array_at self.now.frames name.now) ≡ Ok keys.items) }
+        ensures err { IfErr result (λ e. Refuses e (of_elements (λ es. keys_of (taken (option_copied pattern.entry) es)) (array_at self.now.frames name.now))) }
+    {
+        match self.array(name)? {
+            Some(elements) => Ok(keys_taken(alloc, elements, pattern)?),
+            None => Ok(Vec::new(alloc)),
+        }
+    }
+
+    /// The keys and values of the array that a name is, in the order of insertion: those whose keys a pattern matches, or all where
+    /// there is none. What is no array has none. The values are shared.
+    ///
+    /// # Errors
+    /// Want of memory; refusal 238.
+    pub fn elements(
+        &self,
+        alloc: Global,
+        name: &Text,
+        pattern: Option<&Text>,
+    ) -> Result<Vec<(Text, Value)>, FrameError>
+        ensures ok { IfOk result (λ pairs. of_elements (taken (option_copied pattern.entry)) (array_at self.now.frames name.now) ≡ Ok pairs.items) }
+        ensures err { IfErr result (λ e. Refuses e (of_elements (taken (option_copied pattern.entry)) (array_at self.now.frames name.now))) }
+    {
+        match self.array(name)? {
+            Some(elements) => Ok(elements_taken(alloc, elements, pattern)?),
+            None => Ok(Vec::new(alloc)),
+        }
+    }
+
     /// The names of which the scope speaks, in the order of insertion.
     ///
     /// # Errors
@@ -247,7 +316,44 @@ impl Frames {
         ensures err { IfErr result (λ e. Refuses e (after_array self.old name.now)) }
         ensures unchanged { OnErr result (self.new ≡ self.old) }
     {
-        self.change(alloc, name, Change::MakeArray)
+        self.change(alloc, name, Change::SetElements(Vec::new(alloc)))
+    }
+
+    /// Sets elements of the array that a name is, from the first on, all of them or none; where there is no variable, the array is
+    /// made. A refusal names the first element, as `a(k)`, or the name where there is none.
+    ///
+    /// # Errors
+    /// Want of memory; refusals 233 (of setting) and 238.
+    pub fn set_elements(
+        &mut self,
+        alloc: Global,
+        name: &Text,
+        elements: Vec<(Text, Value)>,
+    ) -> Result<(), FrameError>
+        ensures ok { OnOk result (after_set_elements self.old name.now elements.items ≡ Ok self.new) }
+        ensures err { IfErr result (λ e. Refuses e (after_set_elements self.old name.now elements.items)) }
+        ensures unchanged { OnErr result (self.new ≡ self.old) }
+    {
+        self.change(alloc, name, Change::SetElements(elements))
+    }
+
+    /// Unsets the elements of the array that a name is whose keys a pattern matches, in time linear in their number, or the array
+    /// itself where there is no pattern. What is no array stays as it is.
+    ///
+    /// # Errors
+    /// Want of memory; refusal 238.
+    pub fn unset_elements(
+        &mut self,
+        alloc: Global,
+        name: &Text,
+        pattern: Option<&Text>,
+    ) -> Result<(), FrameError>
+        ensures ok { OnOk result (after_unset_elements self.old name.now (option_copied pattern.entry) ≡ Ok self.new) }
+        ensures err { IfErr result (λ e. Refuses e (after_unset_elements self.old name.now (option_copied pattern.entry))) }
+        ensures unchanged { OnErr result (self.new ≡ self.old) }
+    {
+        let pattern = owned_pattern(pattern)?;
+        self.change(alloc, name, Change::UnsetElements(pattern))
     }
 
     /// Unsets a name's place.

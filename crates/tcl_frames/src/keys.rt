@@ -1,7 +1,7 @@
 //! The elements of the array that a name is, each by its key.
 ghost use Rattle.std.specs.Prelude.{◌≡◌, ◌<◌, Ok, length, IfOk, OnOk, IfErr, OnErr};
 ghost use Rattle.tcl_variables.specs.Faults.{Refuses};
-ghost use Rattle.tcl_frames.specs.Keys.{element_name, change_key};
+ghost use Rattle.tcl_frames.specs.Keys.{change_key};
 ghost use Rattle.tcl_frames.specs.Sound.{AreFit};
 
 use crate::steps::{change_at, change_from, level_meant};
@@ -10,18 +10,7 @@ use tcl_text::text::Text;
 use tcl_variables::access::Part;
 use tcl_variables::fault::{FrameError, Refusal, refused};
 use tcl_variables::frame::{Change, Frame};
-use tcl_variables::name::read_name;
-
-/// How an element is told: `a(k)`.
-fn element_text(alloc: Global, name: &Text, key: &Text) -> Result<Text, AllocError>
-    ensures { IfOk result (λ text. text ≡ element_name name.now key.now) }
-{
-    let mut text = String::from_str(alloc, name.as_str())?;
-    text.push_str("(")?;
-    text.push_str(key.as_str())?;
-    text.push_str(")")?;
-    Text::from_string(alloc, text)
-}
+use tcl_variables::name::{element_text, read_name};
 
 /// Changes the element with a key, of what a name is.
 pub(crate) fn change_key_in(

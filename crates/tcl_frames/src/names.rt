@@ -15,7 +15,7 @@ use tcl_variables::name_map::NameMap;
 use tcl_variables::variable::Variable;
 
 /// Adds a name to its end, if it is wanted.
-fn push_if(
+pub(crate) fn push_if(
     names: &mut Vec<Text>,
     alloc: Global,
     is_wanted: bool,

@@ -1,6 +1,6 @@
 -- Entries seen by the bytes of their keys.
-use Rattle.std.proofs.Common.{◌≡◌, ℕ, zero, suc, Bool, true, false, cond, List, [], ◌∷◌, length, slice_get, Option, Some, None, IsSome, is_some, refl, sym, ◌∙◌, ap, arith}
-use Rattle.std.specs.Prelude.{OnSome}
+use Rattle.std.proofs.Common.{◌≡◌, ℕ, zero, suc, Bool, true, false, cond, List, [], ◌∷◌, ◌++◌, length, reverse, append_assoc, filter, slice_get, Option, Some, None, IsSome, is_some, refl, sym, ◌∙◌, ap, arith}
+use Rattle.std.specs.Prelude.{OnSome, OnOk, IsOk, Result, Ok, Err}
 use Rattle.std.specs.Borrow.{MutBor}
 use Rattle.std.specs.Option.{option_map, option_copied_mut}
 use Rattle.std.specs.Str.{bytes_eq}
@@ -9,7 +9,8 @@ use Rattle.std.specs.List.{AllZip}
 use Rattle.std.specs.Map.{lookup, set_value, remove_entry}
 use Rattle.std.specs.declared.string.String.{String}
 use Rattle.std.specs.declared.alloc.Global.{Global}
-use Rattle.indexmap.specs.IndexMap.{insert_entry}
+use Rattle.std.proofs.lemmas.List.{reverse-append}
+use Rattle.indexmap.specs.IndexMap.{insert_entry, insert_all}
 use Rattle.tcl_variables.specs.Entries.{named, named_entry}
 use Rattle.tcl_variables.specs.Names.{Text}
 
@@ -78,3 +79,42 @@ same-entries [] [] h = refl
 same-entries [] (f ∷ fs) h = absurd h
 same-entries (e ∷ es) [] h = absurd h
 same-entries (e ∷ es) (f ∷ fs) h = ap (λ k. (k, f.1) ∷ fs) h.0.0 ∙ ap (λ v. (e.0, v) ∷ fs) h.0.1 ∙ ap (λ r. e ∷ r) (same-entries es fs h.1)
+
+-- ## Many entries
+
+pub named-append : {V : Type 0} (es fs : List (String Global × V)) → named (es ++ fs) ≡ named es ++ named fs
+named-append [] fs = refl
+named-append (e ∷ es) fs = ap (λ r. (string_bytes e.0, e.1) ∷ r) (named-append es fs)
+
+-- the last entry is the first of those that are turned round
+pub reverse-named : {V : Type 0} (es : List (String Global × V)) (k : String Global) (v : V) → reverse (named (es ++ (k, v) ∷ [])) ≡ (string_bytes k, v) ∷ reverse (named es)
+reverse-named es k v = ap reverse (named-append es ((k, v) ∷ [])) ∙ reverse-append (named es) ((string_bytes k, v) ∷ [])
+
+-- an entry goes over to those with names of their own
+pub keyed_more : {V : Type 0} (left rest all : List (Text × V)) (es : List (String Global × V)) (x : Text) (k : String Global) (v : V) → left ≡ rest ++ (x, v) ∷ [] → string_bytes k ≡ x → left ++ reverse (named es) ≡ all
+    → rest ++ reverse (named (es ++ (k, v) ∷ [])) ≡ all
+keyed_more left rest all es x k v last is h =
+    ap (λ r. rest ++ r) (reverse-named es k v)
+    ∙ ap (λ y. rest ++ (y, v) ∷ reverse (named es)) is
+    ∙ sym (append_assoc rest ((x, v) ∷ []) (reverse (named es)))
+    ∙ ap (λ m. m ++ reverse (named es)) (sym last)
+    ∙ h
+
+-- the last entry is inserted, and then those before it
+pub inserted_more : {V : Type 0} (es fs : List (String Global × V)) (left rest : List (String Global × V)) (k : String Global) (v : V) (all : List (Text × V)) → left ≡ rest ++ (k, v) ∷ [] → fs ≡ insert_entry string_eq es k v
+    → insert_all bytes_eq (named es) (reverse (named left)) ≡ all → insert_all bytes_eq (named fs) (reverse (named rest)) ≡ all
+inserted_more es fs left rest k v all last is h =
+    ap (λ m. insert_all bytes_eq m (reverse (named rest))) (ap named is ∙ insert-named es k v)
+    ∙ sym (ap (insert_all bytes_eq (named es)) (ap (λ l. reverse (named l)) last ∙ reverse-named rest k v))
+    ∙ h
+
+-- the names that a test keeps
+pub filter-named : {V : Type 0} (t : Text → Bool) (es : List (String Global × V)) → named (filter (λ e. t (string_bytes e.0)) es) ≡ filter (λ e. t e.0) (named es)
+filter-named t [] = refl
+filter-named t (e ∷ es) =
+    named_cond (t (string_bytes e.0)) (e ∷ filter (λ e. t (string_bytes e.0)) es) (filter (λ e. t (string_bytes e.0)) es)
+    ∙ ap (λ r. cond (t (string_bytes e.0)) ((string_bytes e.0, e.1) ∷ r) r) (filter-named t es)
+
+pub ok_then : {A E P : Type 0} (r : Result A E) → IsOk r → OnOk r P → P
+ok_then (Ok x) i p = p
+ok_then (Err e) i p = absurd (cc)

@@ -1,8 +1,8 @@
 -- What a write through a lent variable does to its frame.
-use Rattle.std.proofs.Common.{◌≡◌, Bool, true, false, cond, List, [], ◌∷◌, Option, Some, is_some, Result, Ok, sym, ◌∙◌, ap, subst}
-use Rattle.std.specs.Prelude.{OnSome, OnOk, OnErr}
+use Rattle.std.proofs.Common.{◌≡◌, Bool, true, false, cond, List, [], ◌∷◌, Option, Some, None, is_some, Result, Ok, refl, sym, ◌∙◌, ap, subst}
+use Rattle.std.specs.Prelude.{OnSome, OnOk, OnErr, IsSome, MatchOption}
 use Rattle.std.proofs.lemmas.Result.{on_ok_weaker, on_err_weaker}
-use Rattle.tcl_variables.specs.Access.{assigned, left_of}
+use Rattle.tcl_variables.specs.Access.{assigned, left_of, elements_of}
 use Rattle.std.specs.Borrow.{MutBor}
 use Rattle.std.specs.Option.{option_copied_mut}
 use Rattle.std.specs.Map.{lookup, set_value}
@@ -10,9 +10,11 @@ use Rattle.std.specs.Str.{bytes_eq}
 use Rattle.indexmap.specs.IndexMap.{insert_entry}
 use Rattle.tcl_variables.specs.Names.{Text}
 use Rattle.tcl_variables.specs.Variables.{Frame, Variables, Part}
-use Rattle.tcl_variables.specs.Variables.Part.{element}
-use Rattle.tcl_variables.specs.Rebinding.{rebound, unbound}
+use Rattle.tcl_variables.specs.Arrays.{Elements, extended, thinned}
+use Rattle.tcl_variables.specs.Variables.Part.{whole, element, nested}
+use Rattle.tcl_variables.specs.Rebinding.{rebound, unbound, with_variable, without_variable, emptied}
 use Rattle.tcl_variables.specs.declared.variable.Variable.{Variable}
+use Rattle.tcl_variables.specs.declared.variable.Variable.TheVariants.{Scalar, Array, Link}
 use Rattle.tcl_variables.specs.declared.fault.FrameFault.{FrameFault}
 use Rattle.tcl_variables.proofs.EntryLemmas.{set_is_insert}
 
@@ -53,6 +55,12 @@ module _ {A E : Type 0} (F self : Frame) (same : F ≡ self) (x : Text) (v w : V
       subst (λ (s : Frame). OnOk r (rebound s x (assigned part (lookup (bytes_eq x) s.variables) t name) ≡ Ok (record { words = F.words; variables = es }))) same
       (on_ok_weaker r (λ p. rebound_is F x v w _ es (ap (λ o. assigned part o t name) found ∙ p) set found) h)
 
+  pub extend_lent : (ps : Elements) (name : Text) → OnOk r (extended whole (Some v) ps name ≡ Ok w)
+      → OnOk r (rebound self x (extended whole (lookup (bytes_eq x) self.variables) ps name) ≡ Ok (record { words = F.words; variables = es }))
+  extend_lent ps name h =
+      subst (λ (s : Frame). OnOk r (rebound s x (extended whole (lookup (bytes_eq x) s.variables) ps name) ≡ Ok (record { words = F.words; variables = es }))) same
+      (on_ok_weaker r (λ p. rebound_is F x v w _ es (ap (λ o. extended whole o ps name) found ∙ p) set found) h)
+
   pub remove_lent : (k name : Text) → OnOk r (left_of (element k) (Some v) name ≡ Ok (Some w))
       → OnOk r (unbound self x (left_of (element k) (lookup (bytes_eq x) self.variables) name) ≡ Ok (record { words = F.words; variables = es }))
   remove_lent k name h =
@@ -61,3 +69,41 @@ module _ {A E : Type 0} (F self : Frame) (same : F ≡ self) (x : Text) (v w : V
 
   pub lent_same : OnErr r (w ≡ v) → OnErr r (record { words = F.words; variables = es } ≡ self)
   lent_same h = on_err_weaker r (λ p. ap (λ (gs : Variables). record { words = F.words; variables = gs }) (set ∙ ap (set_value (bytes_eq x) F.variables) p ∙ set_same x F.variables v found) ∙ same) h
+
+-- ## Elements that a pattern takes
+
+module _ (F self : Frame) (b g : Text) where
+  abbrev Thinned : Variables → Frame → Option Variable → Type 0
+  Thinned es s o = MatchOption o (record { words = F.words; variables = es } ≡ s) (λ v. record { words = F.words; variables = es } ≡ with_variable s b (thinned g v))
+
+  pub thin_lent : (v : Variable) (es : Variables) → F ≡ self → lookup (bytes_eq b) F.variables ≡ Some v → es ≡ set_value (bytes_eq b) F.variables (thinned g v)
+      → MatchOption (lookup (bytes_eq b) self.variables) (record { words = F.words; variables = es } ≡ self) (λ u. record { words = F.words; variables = es } ≡ with_variable self b (thinned g u))
+  thin_lent v es same found set =
+      subst (λ (s : Frame). Thinned es s (lookup (bytes_eq b) s.variables)) same
+      (subst (Thinned es F) (sym found)
+      (ap (λ (gs : Variables). record { words = F.words; variables = gs }) (set ∙ set_is_insert b F.variables (thinned g v) (ap is_some found))))
+
+  pub thin_none : (es : Variables) → F ≡ self → lookup (bytes_eq b) F.variables ≡ None → es ≡ F.variables
+      → MatchOption (lookup (bytes_eq b) self.variables) (record { words = F.words; variables = es } ≡ self) (λ u. record { words = F.words; variables = es } ≡ with_variable self b (thinned g u))
+  thin_none es same none set =
+      subst (λ (s : Frame). Thinned es s (lookup (bytes_eq b) s.variables)) same
+      (subst (Thinned es F) (sym none)
+      (ap (λ (gs : Variables). record { words = F.words; variables = gs }) set))
+
+-- what is no array stays
+pub emptied_none : (f : Frame) (b : Text) (g : Option Text) (o : Option Elements) → o ≡ None → f ≡ emptied f b o g
+emptied_none f b g o h = sym (ap (λ e. emptied f b e g) h)
+
+-- without a pattern the array goes
+pub emptied_whole : (f : Frame) (b : Text) (o : Option Elements) → IsSome o → without_variable f b ≡ emptied f b o None
+emptied_whole f b None h = absurd (cc)
+emptied_whole f b (Some es) h = refl
+
+-- with one its elements
+pub emptied_some : (n f : Frame) (b g : Text) (r : Part) (o : Option Variable) → IsSome (elements_of r o) → MatchOption o (n ≡ f) (λ v. n ≡ with_variable f b (thinned g v)) → n ≡ emptied f b (elements_of r o) (Some g)
+emptied_some n f b g whole None i h = absurd (cc)
+emptied_some n f b g whole (Some (Scalar t)) i h = absurd (cc)
+emptied_some n f b g whole (Some (Array es)) i h = h
+emptied_some n f b g whole (Some (Link q)) i h = absurd (cc)
+emptied_some n f b g (element k) o i h = absurd (cc)
+emptied_some n f b g nested o i h = absurd (cc)

@@ -57,14 +57,6 @@ assigned (element k) (Some (Array es)) t x = Ok (Array (insert_entry bytes_eq es
 assigned (element k) (Some (Link q)) t x = Err (NotArray Set x)
 assigned nested v t x = Err (NotArray Set x)
 
-abbrev pub arrayed : Part → Option Variable → Text → Result Variable FrameFault
-arrayed whole None x = Ok (Array [])
-arrayed whole (Some (Scalar s)) x = Err (NotArray Set x)
-arrayed whole (Some (Array es)) x = Ok (Array es)
-arrayed whole (Some (Link q)) x = Err (NotArray Set x)
-arrayed (element k) v x = Err (NotArray Set x)
-arrayed nested v x = Err (NotArray Set x)
-
 abbrev pub without_element : Option Text → List (Text × Text) → Text → Text → Result (Option Variable) FrameFault
 without_element None es k x = Err (NoElement Unset x)
 without_element (Some t) es k x = Ok (Some (Array (remove_entry (bytes_eq k) es)))

@@ -1,5 +1,5 @@
 -- What is lent out of a variable and of a frame.
-use Rattle.std.specs.Prelude.{◌≡◌, List, Option, Some, Result, Ok}
+use Rattle.std.specs.Prelude.{◌≡◌, List, Some, Result, Ok}
 use Rattle.std.specs.Borrow.{LendsSoOk, MutBor, Fml}
 use Rattle.std.specs.Map.{lookup}
 use Rattle.std.specs.Str.{bytes_eq}

@@ -5,6 +5,7 @@ pub mod Parts
 pub mod Names
 pub mod Variables
 pub mod Access
+pub mod Arrays
 pub mod Rebinding
 pub mod Written
 pub mod Messages

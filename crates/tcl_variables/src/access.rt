@@ -1,14 +1,17 @@
 //! What is done to one variable.
-ghost use Rattle.std.specs.Prelude.{◌≡◌, [], ◌∷◌, Ok, Err, Some, None, IfOk, IfErr, OnOk, OnErr};
+ghost use Rattle.std.specs.Prelude.{◌≡◌, ℕ, List, [], ◌∷◌, Ok, Err, Some, None, IfOk, IfErr, OnOk, OnErr};
 ghost use Rattle.std.specs.Option.{option_copied};
 ghost use Rattle.std.specs.Map.{lookup};
 ghost use Rattle.std.specs.Str.{bytes_eq};
 ghost use Rattle.tcl_variables.specs.Variables.Part.{whole, element, nested};
-ghost use Rattle.tcl_variables.specs.Access.{read_element, value_of, is_held, elements_of, assigned, arrayed, left_of};
+ghost use Rattle.tcl_variables.specs.Access.{read_element, value_of, is_held, elements_of, assigned, left_of};
+ghost use Rattle.indexmap.specs.IndexMap.{insert_all};
+ghost use Rattle.tcl_variables.specs.Arrays.{extended, thinned};
+ghost use Rattle.tcl_variables.specs.declared.variable.Variable.TheVariants.{Array};
 ghost use Rattle.tcl_variables.specs.Faults.{Refuses};
 ghost use Rattle.tcl_variables.specs.Parts.{seen_part};
 
-use crate::fault::{FrameError, Refusal, Verb, refused};
+use crate::fault::{FrameError, Refusal, Verb, refused, refused_elements};
 use crate::name_map::NameMap;
 use crate::variable::Variable;
 use std::alloc::{AllocError, Global};
@@ -107,7 +110,7 @@ fn one_element(alloc: Global, key: &str, value: Value) -> Result<NameMap<Value>,
     ensures { IfOk result (λ elements. elements ≡ (key.now, value) ∷ []) }
 {
     let mut elements = NameMap::new(alloc);
-    elements.insert(alloc, key, value)?;
+    elements.insert_new(alloc, key, value)?;
     Ok(elements)
 }
 
@@ -126,6 +129,15 @@ pub fn new_variable(
         Part::Element(key) => Ok(Variable::Array(one_element(alloc, key, value)?)),
         Part::Nested => Err(refused(Refusal::NotArray(Verb::Set), name)),
     }
+}
+
+/// The array that elements make where there is no variable.
+pub fn new_array(alloc: Global, elements: Vec<(Text, Value)>) -> Result<Variable, AllocError>
+    ensures { IfOk result (λ v. v ≡ Array (insert_all bytes_eq [] elements.items)) }
+{
+    let mut array = NameMap::new(alloc);
+    array.insert_all(alloc, elements)?;
+    Ok(Variable::Array(array))
 }
 
 impl Variable {
@@ -184,6 +196,38 @@ impl Variable {
         }
     }
 
+    /// Sets elements of the array that the variable is, from the first on.
+    pub fn extend(
+        &mut self,
+        alloc: Global,
+        elements: Vec<(Text, Value)>,
+        name: &Text,
+    ) -> Result<(), FrameError>
+        ensures ok { OnOk result (extended whole (Some self.old) elements.items name.now ≡ Ok self.new) }
+        ensures err { IfErr result (λ e. Refuses e (extended whole (Some self.old) elements.items name.now)) }
+        ensures unchanged { OnErr result (self.new ≡ self.old) }
+    {
+        match self {
+            Variable::Array(held) => {
+                held.insert_all(alloc, elements)?;
+                Ok(())
+            }
+            Variable::Scalar(_) => Err(refused_elements(alloc, name, elements.as_slice())),
+            Variable::Link(_) => Err(refused_elements(alloc, name, elements.as_slice())),
+        }
+    }
+
+    /// Takes the elements out whose keys a pattern matches, where the variable is an array. This takes no memory.
+    pub fn remove_matching(&mut self, pattern: &str)
+        ensures { self.new ≡ thinned pattern.now self.old }
+    {
+        match self {
+            Variable::Array(elements) => elements.remove_matching(pattern),
+            Variable::Scalar(_) => {}
+            Variable::Link(_) => {}
+        }
+    }
+
     /// Takes an element out.
     pub fn remove_element(&mut self, key: &str, name: &Text) -> Result<(), FrameError>
         ensures ok { OnOk result (left_of (element key.now) (Some self.old) name.now ≡ Ok (Some self.new)) }
@@ -206,9 +250,7 @@ impl Variable {
 
 impl Variable {
     ghost use Rattle.std.specs.Borrow.{sem};
-    ghost use Rattle.std.specs.Prelude.{ℕ, List};
     ghost use Rattle.tcl_variables.specs.LendingParts.{LendsPart, LendsElements};
-    ghost use Rattle.tcl_variables.specs.declared.variable.Variable.TheVariants.{Array};
 
     fn scalar_mut(&mut self, name: &Text) -> Result<&mut Value, FrameError>
         ensures* writes_back { sem 𝓛 (LendsPart self.entry whole name.now result) }

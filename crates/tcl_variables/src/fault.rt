@@ -1,13 +1,17 @@
 //! Why a call on the variables is refused.
 ghost use Rattle.std.specs.Prelude.{◌≡◌};
 ghost use Rattle.tcl_variables.specs.declared.fault.FrameError.TheVariants.{Memory};
-ghost use Rattle.tcl_variables.specs.declared.fault.FrameFault.TheVariants.{BadLevel};
+ghost use Rattle.tcl_variables.specs.declared.fault.FrameFault.TheVariants.{BadLevel, NotArray};
+ghost use Rattle.tcl_variables.specs.declared.fault.Verb.TheVariants.{Set};
+ghost use Rattle.tcl_variables.specs.Arrays.{element_name, told_first};
 ghost use Rattle.tcl_variables.specs.Faults.{fault_of, IsRefusal};
 ghost use Rattle.tcl_variables.specs.Messages.{verb_word, cannot, quoted, message};
 ghost use Rattle.std.specs.Prelude.{IfOk};
 
+use crate::name::element_text;
 use std::alloc::{AllocError, AllocFailed, Global};
 use tcl_text::text::Text;
+use tcl_value::value::Value;
 
 /// What a call was about to do.
 #[derive(Clone, Copy, Debug, Drop)]
@@ -169,5 +173,25 @@ pub fn refused(refusal: Refusal, name: &Text) -> FrameError
     match name.clone() {
         Ok(name) => FrameError::Fault(fault(refusal, name)),
         Err(_) => FrameError::Memory,
+    }
+}
+
+/// The refusal of setting an element of what is no array.
+fn refused_element(alloc: Global, name: &Text, key: &Text) -> FrameError
+    ensures { IsRefusal result (NotArray Set (element_name name.now key.now)) }
+{
+    match element_text(alloc, name, key) {
+        Ok(told) => FrameError::Fault(FrameFault::NotArray(Verb::Set, told)),
+        Err(_) => FrameError::Memory,
+    }
+}
+
+/// The refusal of setting elements of what is no array: it names the first of them, or the name where there is none.
+pub fn refused_elements(alloc: Global, name: &Text, elements: &[(Text, Value)]) -> FrameError
+    ensures { IsRefusal result (NotArray Set (told_first name.now elements.now)) }
+{
+    match elements.first() {
+        Some(first) => refused_element(alloc, name, &first.0),
+        None => refused(Refusal::NotArray(Verb::Set), name),
     }
 }

@@ -1,5 +1,5 @@
 //! A frame of a chain.
-ghost use Rattle.std.specs.Prelude.{◌≡◌, Ok, Some, None, OnOk, IfErr, OnErr};
+ghost use Rattle.std.specs.Prelude.{◌≡◌, Ok, Some, None, MatchOption, OnOk, IfErr, OnErr};
 ghost use Rattle.std.specs.Map.{lookup};
 ghost use Rattle.std.specs.Option.{option_copied};
 ghost use Rattle.std.specs.Str.{bytes_eq};
@@ -7,8 +7,8 @@ ghost use Rattle.tcl_variables.specs.Access.{value_of};
 ghost use Rattle.tcl_variables.specs.Faults.{Refuses};
 ghost use Rattle.tcl_variables.specs.Parts.{seen_part};
 
-use crate::access::{Part, new_variable};
-use crate::fault::{FrameError, Refusal, Verb, refused};
+use crate::access::{Part, elements_in, new_array, new_variable};
+use crate::fault::{FrameError, Refusal, Verb, refused, refused_elements};
 use crate::name_map::NameMap;
 use crate::variable::{Place, Variable};
 use std::alloc::{AllocError, Global};
@@ -45,16 +45,22 @@ fn unread(part: Part<'_>, name: &Text) -> FrameError
 /// A change of what a name stands for.
 #[derive(Drop)]
 pub enum Change {
+    /// It gets this value.
     Assign(Value),
-    MakeArray,
+    /// It is made an array where there is no variable, and gets these elements, from the first on.
+    SetElements(Vec<(Text, Value)>),
+    /// It is unset.
     Unset,
+    /// The elements whose keys the pattern matches are unset, or the whole array where there is no pattern. What is no array stays.
+    UnsetElements(Option<Text>),
 }
 
 impl Frame {
     ghost use Rattle.std.specs.Prelude.{[]};
     ghost use Rattle.tcl_variables.specs.Variables.Part.{whole, element};
-    ghost use Rattle.tcl_variables.specs.Access.{assigned, arrayed, left_of};
-    ghost use Rattle.tcl_variables.specs.Rebinding.{rebound, unbound, with_variable, change_frame};
+    ghost use Rattle.tcl_variables.specs.Access.{assigned, left_of, elements_of};
+    ghost use Rattle.tcl_variables.specs.Arrays.{extended, thinned};
+    ghost use Rattle.tcl_variables.specs.Rebinding.{rebound, unbound, with_variable, emptied, change_frame};
     ghost use Rattle.tcl_variables.specs.declared.variable.Variable.TheVariants.{Link};
 
     /// A frame with these words and no variables, which takes no memory.
@@ -106,7 +112,7 @@ impl Frame {
             return variable.assign(alloc, part, value, name);
         }
         let variable = new_variable(alloc, part, value, name)?;
-        self.variables.insert(alloc, base, variable)?;
+        self.variables.insert_new(alloc, base, variable)?;
         Ok(())
     }
 
@@ -151,39 +157,65 @@ impl Frame {
         }
     }
 
-    /// Makes a name an array, where it isn't one.
-    fn make_whole_array(&mut self, alloc: Global, base: &str, name: &Text) -> Result<(), FrameError>
-        ensures ok { OnOk result (rebound self.old base.now (arrayed whole (lookup (bytes_eq base.now) self.old.variables) name.now) ≡ Ok self.new) }
-        ensures err { IfErr result (λ e. Refuses e (rebound self.old base.now (arrayed whole (lookup (bytes_eq base.now) self.old.variables) name.now))) }
+    /// Sets elements of the array that a name is.
+    fn extend(
+        &mut self,
+        alloc: Global,
+        base: &str,
+        elements: Vec<(Text, Value)>,
+        name: &Text,
+    ) -> Result<(), FrameError>
+        ensures ok { OnOk result (rebound self.old base.now (extended whole (lookup (bytes_eq base.now) self.old.variables) elements.items name.now) ≡ Ok self.new) }
+        ensures err { IfErr result (λ e. Refuses e (rebound self.old base.now (extended whole (lookup (bytes_eq base.now) self.old.variables) elements.items name.now))) }
         ensures unchanged { OnErr result (self.new ≡ self.old) }
     {
-        match self.variables.get(base) {
-            None => {}
-            Some(Variable::Array(_)) => return Ok(()),
-            Some(Variable::Scalar(_)) => return Err(refused(Refusal::NotArray(Verb::Set), name)),
-            Some(Variable::Link(_)) => return Err(refused(Refusal::NotArray(Verb::Set), name)),
+        if let Some(variable) = self.variables.get_mut(base) {
+            return variable.extend(alloc, elements, name);
         }
-        self.variables
-            .insert(alloc, base, Variable::Array(NameMap::new(alloc)))?;
+        let array = new_array(alloc, elements)?;
+        self.variables.insert_new(alloc, base, array)?;
         Ok(())
     }
 
-    /// Makes what a name stands for an array, where it isn't one.
-    fn make_array(
+    /// Sets elements of what a name stands for.
+    fn set_elements(
         &mut self,
         alloc: Global,
         base: &str,
         part: Part<'_>,
+        elements: Vec<(Text, Value)>,
         name: &Text,
     ) -> Result<(), FrameError>
-        ensures ok { OnOk result (rebound self.old base.now (arrayed (seen_part part.entry) (lookup (bytes_eq base.now) self.old.variables) name.now) ≡ Ok self.new) }
-        ensures err { IfErr result (λ e. Refuses e (rebound self.old base.now (arrayed (seen_part part.entry) (lookup (bytes_eq base.now) self.old.variables) name.now))) }
+        ensures ok { OnOk result (rebound self.old base.now (extended (seen_part part.entry) (lookup (bytes_eq base.now) self.old.variables) elements.items name.now) ≡ Ok self.new) }
+        ensures err { IfErr result (λ e. Refuses e (rebound self.old base.now (extended (seen_part part.entry) (lookup (bytes_eq base.now) self.old.variables) elements.items name.now))) }
         ensures unchanged { OnErr result (self.new ≡ self.old) }
     {
         match part {
-            Part::Whole => self.make_whole_array(alloc, base, name),
-            Part::Element(_) => Err(refused(Refusal::NotArray(Verb::Set), name)),
-            Part::Nested => Err(refused(Refusal::NotArray(Verb::Set), name)),
+            Part::Whole => self.extend(alloc, base, elements, name),
+            Part::Element(_) => Err(refused_elements(alloc, name, elements.as_slice())),
+            Part::Nested => Err(refused_elements(alloc, name, elements.as_slice())),
+        }
+    }
+
+    /// Takes the elements out of an array whose keys a pattern matches.
+    fn thin(&mut self, base: &str, pattern: &str)
+        ensures { MatchOption (lookup (bytes_eq base.now) self.old.variables) (self.new ≡ self.old) (λ v. self.new ≡ with_variable self.old base.now (thinned pattern.now v)) }
+    {
+        if let Some(variable) = self.variables.get_mut(base) {
+            variable.remove_matching(pattern);
+        }
+    }
+
+    /// Unsets elements of what a name stands for, or all of it, where it is an array.
+    fn unset_elements(&mut self, base: &str, part: Part<'_>, pattern: Option<Text>)
+        ensures { self.new ≡ emptied self.old base.now (elements_of (seen_part part.entry) (lookup (bytes_eq base.now) self.old.variables)) pattern }
+    {
+        if elements_in(self.variables.get(base), part).is_none() {
+            return;
+        }
+        match pattern {
+            None => self.variables.remove(base),
+            Some(pattern) => self.thin(base, pattern.as_str()),
         }
     }
 
@@ -202,8 +234,12 @@ impl Frame {
     {
         match change {
             Change::Assign(value) => self.assign(alloc, base, part, value, name),
-            Change::MakeArray => self.make_array(alloc, base, part, name),
+            Change::SetElements(elements) => self.set_elements(alloc, base, part, elements, name),
             Change::Unset => self.unset(base, part, name),
+            Change::UnsetElements(pattern) => {
+                self.unset_elements(base, part, pattern);
+                Ok(())
+            }
         }
     }
 

@@ -1,8 +1,12 @@
 //! The names that scripts write for variables.
-ghost use Rattle.std.specs.Prelude.{◌≡◌};
+ghost use Rattle.std.specs.Prelude.{◌≡◌, IfOk};
 ghost use Rattle.std.specs.Option.{option_map, option_copied};
+ghost use Rattle.tcl_variables.specs.Arrays.{element_name};
 ghost use Rattle.tcl_variables.specs.Names.{element_of, has_colons, after_colons, without_colons, of_level, is_plain, name_of};
 ghost use Rattle.tcl_variables.specs.Written.{seen, seen_pair};
+
+use std::alloc::{AllocError, Global};
+use tcl_text::text::Text;
 
 /// A name that was read: of level 0 or of the level where it is written, and perhaps of an element.
 #[derive(Clone, Copy)]
@@ -80,4 +84,18 @@ pub fn is_plain_name(name: &str) -> bool
     ensures { result ≡ is_plain name.now }
 {
     element_parts(name).is_none() && !with_colons(name)
+}
+
+/// The name of an element, `a(k)`.
+///
+/// # Errors
+/// Want of memory.
+pub fn element_text(alloc: Global, name: &Text, key: &Text) -> Result<Text, AllocError>
+    ensures { IfOk result (λ text. text ≡ element_name name.now key.now) }
+{
+    let mut text = String::from_str(alloc, name.as_str())?;
+    text.push_str("(")?;
+    text.push_str(key.as_str())?;
+    text.push_str(")")?;
+    Text::from_string(alloc, text)
 }

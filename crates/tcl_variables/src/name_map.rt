@@ -1,15 +1,23 @@
 //! Maps from names, in the order of insertion.
-ghost use Rattle.std.specs.Prelude.{◌≡◌, [], None, length, slice_get, OnOk, OnErr};
+ghost use Rattle.std.specs.Prelude.{◌≡◌, ◌≤◌, [], None, false, not, length, reverse, slice_get, vec_len, IfOk, OnOk, OnErr};
 ghost use Rattle.std.specs.Borrow.{sem};
 ghost use Rattle.std.specs.Map.{lookup, remove_entry};
 ghost use Rattle.std.specs.Option.{option_map, option_copied, option_copied_mut};
 ghost use Rattle.std.specs.Str.{bytes_eq};
-ghost use Rattle.indexmap.specs.IndexMap.{insert_entry};
-ghost use Rattle.tcl_variables.specs.Entries.{lent_entry};
+ghost use Rattle.std.specs.String.{string_bytes};
+ghost use Rattle.indexmap.specs.IndexMap.{insert_entry, insert_all, spare};
+ghost use Rattle.tcl_glob.specs.Patterns.{is_match};
+ghost use Rattle.tcl_variables.specs.Arrays.{unmatched};
+ghost use Rattle.tcl_variables.specs.Entries.{lent_entry, named};
 
 use indexmap::IndexMap;
 use std::alloc::{AllocError, Global};
 use std::marker::Model;
+use tcl_glob::matches;
+use tcl_text::text::Text;
+
+/// How many names a map has room for once it has one.
+const FEW_NAMES: usize = 4;
 
 /// A map from names, which contracts see as its entries in the order of insertion.
 #[derive(Drop)]
@@ -71,6 +79,39 @@ impl<V> NameMap<V> {
     }
 }
 
+/// Entries with names of their own, the first of them last.
+fn keyed<V: Drop>(alloc: Global, entries: Vec<(Text, V)>) -> Result<Vec<(String, V)>, AllocError>
+    ensures { IfOk result (λ keyed. reverse (named keyed.items) ≡ entries.items) }
+{
+    let mut left = entries;
+    let mut keyed = Vec::new(alloc);
+    'entries: while let Some((name, value)) = left.pop() {
+        keyed.push((String::from_str(alloc, name.as_str())?, value))?;
+    }
+    Ok(keyed)
+}
+
+/// Inserts entries, the last of them first, where there is room for them.
+fn insert_reserved<V: Drop>(entries: &mut IndexMap<String, V>, keyed: Vec<(String, V)>)
+    requires { vec_len keyed ≤ spare entries.old }
+    ensures { named entries.new.entries ≡ insert_all bytes_eq (named entries.old.entries) (reverse (named keyed.items)) }
+{
+    let mut left = keyed;
+    'entries: while let Some((name, value)) = left.pop() {
+        let _ = entries.insert(name, value).unwrap();
+    }
+}
+
+/// Makes room for a few entries where there is none, so that a map of few names takes memory once.
+fn make_room<V: Drop>(entries: &mut IndexMap<String, V>) -> Result<(), AllocError>
+    ensures { entries.new.entries ≡ entries.old.entries }
+{
+    if entries.is_empty() {
+        entries.reserve(FEW_NAMES)?;
+    }
+    Ok(())
+}
+
 impl<V: Drop> NameMap<V> {
     /// Gives a name this value: where it stands, or at the end.
     ///
@@ -84,9 +125,46 @@ impl<V: Drop> NameMap<V> {
             *place = value;
             return Ok(());
         }
+        self.insert_new(alloc, name, value)
+    }
+
+    /// The same, in less time where the name isn't there yet.
+    ///
+    /// # Errors
+    /// Want of memory, which leaves the map as it was.
+    pub fn insert_new(&mut self, alloc: Global, name: &str, value: V) -> Result<(), AllocError>
+        ensures inserted { OnOk result (self.new ≡ insert_entry bytes_eq self.old name.now value) }
+        ensures unchanged { OnErr result (self.new ≡ self.old) }
+    {
         let name = String::from_str(alloc, name)?;
+        make_room(&mut self.entries)?;
         self.entries.insert(name, value)?;
         Ok(())
+    }
+
+    /// Gives each of these names its value, from the first on.
+    ///
+    /// # Errors
+    /// Want of memory, which leaves the map as it was.
+    pub fn insert_all(&mut self, alloc: Global, entries: Vec<(Text, V)>) -> Result<(), AllocError>
+        ensures inserted { OnOk result (self.new ≡ insert_all bytes_eq self.old entries.items) }
+        ensures unchanged { OnErr result (self.new ≡ self.old) }
+    {
+        let keyed = keyed(alloc, entries)?;
+        self.entries.reserve(keyed.len())?;
+        insert_reserved(&mut self.entries, keyed);
+        Ok(())
+    }
+
+    /// Takes the names out that a pattern matches, in time linear in their number. This takes no memory.
+    pub fn remove_matching(&mut self, pattern: &str)
+        ensures { self.new ≡ unmatched pattern.now self.old }
+    {
+        self.entries.retain(
+            |name: &String, value: &mut V| -> bool
+                ensures { (result ≡ not (is_match false pattern.entry.now (string_bytes name.now))) × (value.new ≡ value.old) }
+            { !matches(pattern, name.as_str(), false) },
+        );
     }
 
     /// Takes a name out, if it is there. This takes no memory.

@@ -32,3 +32,10 @@ returns-clause-err c =
     (read_some c.read_name.result c.as_str.result.now c.args.name.now c.in-Some.written c.read_name.ensures c.as_str.ensures c.in-Some.is) c.level_meant-level.ensures
     (ap option_copied c.in-Some-key.is) c.in_ok-told-in-Some.ensures in
     subst (λ z. IfErr c.change_at.result (λ e. Refuses e z)) (sym e) c.change_at.ensures.err
+
+pub returns-clause-ok : goal.returns-clause-ok
+returns-clause-ok c =
+    let e = nested_coded c.args.change c.args.frames.now c.args.name.now c.args.key.now (seen c.in-Some.written) c.level_meant-level.result c.in-Some-key.field-0.now c.in_ok-told-in-Some.told
+    (read_some c.read_name.result c.as_str.result.now c.args.name.now c.in-Some.written c.read_name.ensures c.as_str.ensures c.in-Some.is) c.level_meant-level.ensures
+    (ap option_copied c.in-Some-key.is) c.in_ok-told-in-Some.ensures in
+    subst (λ z. OnOk c.change_at.result (z ≡ Ok c.change_at.new.frames)) (sym e) c.change_at.ensures.ok

@@ -9,8 +9,10 @@ use Rattle.tcl_frames.proofs.frames.Frames.make_array.Goals as goal
 
 pub returns-clause-ok : goal.returns-clause-ok
 returns-clause-ok c =
-    subst (λ o. OnOk c.change.result (with_frames c.args.self.now o ≡ Ok c.change.new.self)) (sym (made_array_is c.args.self.now.frames c.args.name.now)) c.change.ensures.ok
+    let is = sym (made_array_is c.args.self.now.frames c.args.name.now c.new.result c.new.ensures.items) in
+    subst (λ o. OnOk c.change.result (with_frames c.args.self.now o ≡ Ok c.change.new.self)) is c.change.ensures.ok
 
 pub returns-clause-err : goal.returns-clause-err
 returns-clause-err c =
-    IfErr-weaker c.change.result _ _ (λ e p. with_refused e c.args.self.now _ (subst (Refuses e) (sym (made_array_is c.args.self.now.frames c.args.name.now)) p)) c.change.ensures.err
+    let is = sym (made_array_is c.args.self.now.frames c.args.name.now c.new.result c.new.ensures.items) in
+    IfErr-weaker c.change.result _ _ (λ e p. with_refused e c.args.self.now _ (subst (Refuses e) is p)) c.change.ensures.err

@@ -1,9 +1,9 @@
-use Rattle.std.proofs.Common.{◌∙◌, sym, ap, subst, IsSome}
+use Rattle.std.proofs.Common.{◌≡◌, ◌∙◌, sym, ap, subst, IsSome}
+use Rattle.std.specs.Prelude.{OnOk, OnErr}
 use Rattle.std.specs.Str.{bytes_eq}
-use Rattle.std.specs.String.{string_bytes}
 use Rattle.indexmap.specs.IndexMap.{insert_entry}
 use Rattle.tcl_variables.specs.Entries.{named}
-use Rattle.tcl_variables.proofs.EntryLemmas.{set-named, insert-named, set_is_insert, lookup-named, is_found}
+use Rattle.tcl_variables.proofs.EntryLemmas.{set-named, set_is_insert, lookup-named, is_found}
 use Rattle.tcl_variables.proofs.name_map.NameMap.insert.Goals as goal
 
 pub returns-in-Some-clause-inserted : goal.returns-in-Some-clause-inserted
@@ -16,10 +16,10 @@ returns-in-Some-clause-inserted g c =
 
 pub returns-clause-inserted : goal.returns-clause-inserted
 returns-clause-inserted g c =
-    let q = c.args.name.now in
-    let v = c.args.value in
     let before = ap (λ m. named m.entries) c.get_mut.follows.holds-at-none ∙ c.self.view_is in
-    ap named c.in_ok-insert.ensures.entries
-    ∙ insert-named c.get_mut.follows.lender-at-none.entries c.in_ok-name.name v
-    ∙ ap (λ fs. insert_entry bytes_eq fs (string_bytes c.in_ok-name.name) v) before
-    ∙ ap (λ x. insert_entry bytes_eq c.args.self.now x v) c.in_ok-name.ensures.ok
+    subst (λ s. OnOk c.insert_new.result (c.insert_new.new.self ≡ insert_entry bytes_eq s c.args.name.now c.args.value)) before c.insert_new.ensures.inserted
+
+pub returns-clause-unchanged : goal.returns-clause-unchanged
+returns-clause-unchanged g c =
+    let before = ap (λ m. named m.entries) c.get_mut.follows.holds-at-none ∙ c.self.view_is in
+    subst (λ s. OnErr c.insert_new.result (c.insert_new.new.self ≡ s)) before c.insert_new.ensures.unchanged

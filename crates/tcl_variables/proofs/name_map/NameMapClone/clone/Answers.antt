@@ -1,4 +1,4 @@
-use Rattle.std.proofs.Common.{◌≡◌, List, ℕ, sym, subst}
+use Rattle.std.proofs.Common.{◌≡◌, List, ℕ, subst}
 use Rattle.std.specs.List.{AllZip}
 use Rattle.tcl_variables.specs.Entries.{named}
 use Rattle.tcl_variables.proofs.EntryLemmas.{clones-named}
