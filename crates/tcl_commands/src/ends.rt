@@ -1,0 +1,160 @@
+//! The commands that end scripts.
+ghost use Rattle.std.specs.Prelude.{◌≡◌, [], IfOk, pos};
+ghost use Rattle.tcl_core.specs.Endings as core;
+ghost use Rattle.tcl_flow.specs.View.{completion_of};
+ghost use Rattle.tcl_language.specs.Control as control;
+ghost use Rattle.tcl_run.specs.Plain.{Acts};
+ghost use Rattle.tcl_run.specs.Runs.{IsLevel};
+ghost use Rattle.tcl_commands.specs.Endings.{error_of, TellsOptions};
+
+use std::alloc::{AllocError, Global};
+use tcl_flow::completion::{self, BREAK, CONTINUE, Completion, ERROR, Options};
+use tcl_flow::messages::no_errorcode;
+use tcl_flow::reading::{OptionsError, return_words};
+use tcl_run::failure::{failure, wrong_args};
+use tcl_run::interruption::Interruption;
+use tcl_tree::tree::{Place, Tree};
+use tcl_value::value::Value;
+
+/// The error of this message, of no kind.
+fn plain_error(alloc: Global, message: &Value) -> Result<Completion, AllocError>
+    ensures { IfOk result (λ c. completion_of c ≡ core.error message.now) }
+{
+    completion::error(alloc, message.clone()?)
+}
+
+/// The error of this message, of this kind.
+fn error_of(message: &Value, errorcode: &Value) -> Result<Completion, AllocError>
+    ensures { IfOk result (λ c. completion_of c ≡ error_of message.now errorcode.now) }
+{
+    Ok(Completion {
+        code: ERROR,
+        text: message.clone()?,
+        options: Options {
+            code: ERROR,
+            level: 0,
+            errorcode: errorcode.clone()?,
+        },
+    })
+}
+
+/// `error message ?errorInfo? ?errorCode?`: an error of this message; what it would add to a trace is dropped.
+///
+/// # Errors
+/// The error; 241; want of memory.
+pub fn error(
+    tree: &mut Tree,
+    alloc: Global,
+    place: Place,
+    args: &[Value],
+) -> Result<Value, Interruption>
+    ensures acts { Acts tree.old place (λ _. control.error args.now) tree.new result }
+    ensures level { IsLevel tree.old tree.new }
+{
+    match args {
+        [message] => Err(Interruption::Completed(plain_error(alloc, message)?)),
+        [message, _] => Err(Interruption::Completed(plain_error(alloc, message)?)),
+        [message, _, errorcode] => Err(Interruption::Completed(error_of(message, errorcode)?)),
+        _ => Err(wrong_args(alloc, "error message ?errorInfo? ?errorCode?")),
+    }
+}
+
+/// A break, which ends the loop whose body it is in.
+fn break_of(alloc: Global) -> Result<Completion, AllocError>
+    ensures { IfOk result (λ c. completion_of c ≡ core.completion (pos 3) []) }
+{
+    Ok(Completion {
+        code: BREAK,
+        text: Value::empty(),
+        options: Options {
+            code: BREAK,
+            level: 0,
+            errorcode: no_errorcode(alloc)?,
+        },
+    })
+}
+
+/// A continue, which ends a turn of the loop whose body it is in.
+fn continue_of(alloc: Global) -> Result<Completion, AllocError>
+    ensures { IfOk result (λ c. completion_of c ≡ core.completion (pos 4) []) }
+{
+    Ok(Completion {
+        code: CONTINUE,
+        text: Value::empty(),
+        options: Options {
+            code: CONTINUE,
+            level: 0,
+            errorcode: no_errorcode(alloc)?,
+        },
+    })
+}
+
+/// `break`
+///
+/// # Errors
+/// The break; 241; want of memory.
+pub fn breaks(
+    tree: &mut Tree,
+    alloc: Global,
+    place: Place,
+    args: &[Value],
+) -> Result<Value, Interruption>
+    ensures acts { Acts tree.old place (λ _. control.breaks args.now) tree.new result }
+    ensures level { IsLevel tree.old tree.new }
+{
+    match args {
+        [] => Err(Interruption::Completed(break_of(alloc)?)),
+        _ => Err(wrong_args(alloc, "break")),
+    }
+}
+
+/// `continue`
+///
+/// # Errors
+/// The continue; 241; want of memory.
+pub fn continues(
+    tree: &mut Tree,
+    alloc: Global,
+    place: Place,
+    args: &[Value],
+) -> Result<Value, Interruption>
+    ensures acts { Acts tree.old place (λ _. control.continues args.now) tree.new result }
+    ensures level { IsLevel tree.old tree.new }
+{
+    match args {
+        [] => Err(Interruption::Completed(continue_of(alloc)?)),
+        _ => Err(wrong_args(alloc, "continue")),
+    }
+}
+
+/// What a script is told of options that are refused.
+fn options_failure(alloc: Global, error: OptionsError) -> Interruption
+    ensures { TellsOptions error result }
+{
+    match error {
+        OptionsError::Memory => Interruption::Memory,
+        OptionsError::Fault(fault) => match fault.message(alloc) {
+            Ok(message) => failure(alloc, message),
+            Err(_) => Interruption::Memory,
+        },
+    }
+}
+
+/// `return ?option value ...? ?result?`: the completion that the options make of the result.
+///
+/// # Errors
+/// That completion, also where it is an ordinary one; 221; want of memory.
+pub fn returns(
+    tree: &mut Tree,
+    alloc: Global,
+    place: Place,
+    args: &[Value],
+) -> Result<Value, Interruption>
+    ensures acts { Acts tree.old place (λ style. control.returns style args.now) tree.new result }
+    ensures level { IsLevel tree.old tree.new }
+{
+    match return_words(alloc, tree.integers(), args) {
+        Ok(completion) => Err(Interruption::Completed(completion)),
+        Err(error) => Err(options_failure(alloc, error)),
+    }
+}

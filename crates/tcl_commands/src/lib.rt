@@ -1,0 +1,7 @@
+//! The commands that run nothing inside, call nobody and count no step: each is a function of its words and of the interpreter where it is called.
+#![tactic(auto)]
+
+mod answers;
+pub mod ends;
+pub mod lists;
+pub mod texts;

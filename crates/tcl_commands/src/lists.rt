@@ -1,0 +1,161 @@
+//! The commands that read and make lists.
+ghost use Rattle.std.specs.Prelude.{◌≡◌};
+ghost use Rattle.tcl_language.specs.Data.{answered};
+ghost use Rattle.tcl_language.specs.Instructions.{gives};
+ghost use Rattle.tcl_list_texts.specs.Joining.{concat_of, join_of};
+ghost use Rattle.tcl_list_texts.specs.Splitting.{split_of};
+ghost use Rattle.tcl_lists.specs.Lists.{lindex_of, linsert_of, llength_of, lrange_of, lrepeat_of, lreplace_of, lreverse_of};
+ghost use Rattle.tcl_run.specs.Plain.{Acts};
+ghost use Rattle.tcl_run.specs.Runs.{IsLevel};
+ghost use Rattle.tcl_text.specs.Writing.{written_list};
+
+use crate::answers::answered;
+use std::alloc::Global;
+use tcl_list_texts::{joining, splitting};
+use tcl_lists::{commands, indexes, lengthening};
+use tcl_run::interruption::Interruption;
+use tcl_tree::tree::{Place, Tree};
+use tcl_value::value::Value;
+
+/// `list ?arg ...?`: the list of the words.
+pub fn list(
+    tree: &mut Tree,
+    alloc: Global,
+    place: Place,
+    args: &[Value],
+) -> Result<Value, Interruption>
+    ensures acts { Acts tree.old place (λ _. gives (written_list args.now)) tree.new result }
+    ensures level { IsLevel tree.old tree.new }
+{
+    answered(alloc, commands::list(alloc, args))
+}
+
+/// `llength list`: how many elements a list has.
+pub fn llength(
+    tree: &mut Tree,
+    alloc: Global,
+    place: Place,
+    args: &[Value],
+) -> Result<Value, Interruption>
+    ensures acts { Acts tree.old place (λ _. answered (llength_of args.now)) tree.new result }
+    ensures level { IsLevel tree.old tree.new }
+{
+    answered(alloc, commands::llength(alloc, args))
+}
+
+/// `lindex list ?index ...?`: what stands at an index, at the next index of that, and so on.
+pub fn lindex(
+    tree: &mut Tree,
+    alloc: Global,
+    place: Place,
+    args: &[Value],
+) -> Result<Value, Interruption>
+    ensures acts { Acts tree.old place (λ style. answered (lindex_of style args.now)) tree.new result }
+    ensures level { IsLevel tree.old tree.new }
+{
+    answered(alloc, indexes::lindex(alloc, tree.integers(), args))
+}
+
+/// `lrange list first last`: the elements from one index to another.
+pub fn lrange(
+    tree: &mut Tree,
+    alloc: Global,
+    place: Place,
+    args: &[Value],
+) -> Result<Value, Interruption>
+    ensures acts { Acts tree.old place (λ style. answered (lrange_of style args.now)) tree.new result }
+    ensures level { IsLevel tree.old tree.new }
+{
+    answered(alloc, commands::lrange(alloc, tree.integers(), args))
+}
+
+/// `linsert list index ?element ...?`: the list with elements before an index.
+pub fn linsert(
+    tree: &mut Tree,
+    alloc: Global,
+    place: Place,
+    args: &[Value],
+) -> Result<Value, Interruption>
+    ensures acts { Acts tree.old place (λ style. answered (linsert_of style args.now)) tree.new result }
+    ensures level { IsLevel tree.old tree.new }
+{
+    answered(alloc, commands::linsert(alloc, tree.integers(), args))
+}
+
+/// `lreplace list first last ?element ...?`: the list with elements in the place of those between two indexes.
+pub fn lreplace(
+    tree: &mut Tree,
+    alloc: Global,
+    place: Place,
+    args: &[Value],
+) -> Result<Value, Interruption>
+    ensures acts { Acts tree.old place (λ style. answered (lreplace_of style args.now)) tree.new result }
+    ensures level { IsLevel tree.old tree.new }
+{
+    answered(alloc, commands::lreplace(alloc, tree.integers(), args))
+}
+
+/// `lrepeat count ?value ...?`: the list of the words, as often as a count says.
+pub fn lrepeat(
+    tree: &mut Tree,
+    alloc: Global,
+    place: Place,
+    args: &[Value],
+) -> Result<Value, Interruption>
+    ensures acts { Acts tree.old place (λ style. answered (lrepeat_of style args.now)) tree.new result }
+    ensures level { IsLevel tree.old tree.new }
+{
+    answered(alloc, lengthening::lrepeat(alloc, tree.integers(), args))
+}
+
+/// `lreverse list`: the elements from the last to the first.
+pub fn lreverse(
+    tree: &mut Tree,
+    alloc: Global,
+    place: Place,
+    args: &[Value],
+) -> Result<Value, Interruption>
+    ensures acts { Acts tree.old place (λ _. answered (lreverse_of args.now)) tree.new result }
+    ensures level { IsLevel tree.old tree.new }
+{
+    answered(alloc, commands::lreverse(alloc, args))
+}
+
+/// `concat ?arg ...?`: the words without white space at their ends, with a space between any two.
+pub fn concat(
+    tree: &mut Tree,
+    alloc: Global,
+    place: Place,
+    args: &[Value],
+) -> Result<Value, Interruption>
+    ensures acts { Acts tree.old place (λ _. answered (concat_of args.now)) tree.new result }
+    ensures level { IsLevel tree.old tree.new }
+{
+    answered(alloc, joining::concat(alloc, args))
+}
+
+/// `join list ?joinString?`: the elements of a list with a text between any two.
+pub fn join(
+    tree: &mut Tree,
+    alloc: Global,
+    place: Place,
+    args: &[Value],
+) -> Result<Value, Interruption>
+    ensures acts { Acts tree.old place (λ _. answered (join_of args.now)) tree.new result }
+    ensures level { IsLevel tree.old tree.new }
+{
+    answered(alloc, joining::join(alloc, args))
+}
+
+/// `split string ?splitChars?`: the list of the parts of a text between characters.
+pub fn split(
+    tree: &mut Tree,
+    alloc: Global,
+    place: Place,
+    args: &[Value],
+) -> Result<Value, Interruption>
+    ensures acts { Acts tree.old place (λ _. answered (split_of args.now)) tree.new result }
+    ensures level { IsLevel tree.old tree.new }
+{
+    answered(alloc, splitting::split(alloc, args))
+}

@@ -1,0 +1,62 @@
+//! The commands on texts.
+ghost use Rattle.std.specs.Prelude.{◌≡◌};
+ghost use Rattle.tcl_format.specs.Filling.{format_of};
+ghost use Rattle.tcl_language.specs.Data.{answered};
+ghost use Rattle.tcl_run.specs.Plain.{Acts};
+ghost use Rattle.tcl_run.specs.Runs.{IsLevel};
+ghost use Rattle.tcl_string_ensemble.specs.Subcommands.{string_of};
+ghost use Rattle.tcl_words.specs.Outcomes.{Gives};
+
+use crate::answers::{answer_value, answered, texts_of};
+use std::alloc::Global;
+use tcl_format::command;
+use tcl_run::interruption::Interruption;
+use tcl_string_ensemble::ensemble;
+use tcl_text::integer::Integers;
+use tcl_tree::tree::{Place, Tree};
+use tcl_value::value::Value;
+use tcl_words::refusal::Refusal;
+
+/// What `string` gives.
+fn string_value(alloc: Global, style: Integers, args: &[Value]) -> Result<Value, Refusal>
+    ensures { Gives (λ value. value) result (string_of style args.now) }
+{
+    let texts = texts_of(alloc, args)?;
+    let answer = ensemble::string(alloc, style, texts.as_slice())?;
+    Ok(answer_value(answer))
+}
+
+/// What `format` gives.
+fn format_value(alloc: Global, style: Integers, args: &[Value]) -> Result<Value, Refusal>
+    ensures { Gives (λ value. value) result (format_of style args.now) }
+{
+    let texts = texts_of(alloc, args)?;
+    let answer = command::format(alloc, style, texts.as_slice())?;
+    Ok(answer_value(answer))
+}
+
+/// `string subcommand ?arg ...?`: what a subcommand makes of texts.
+pub fn string(
+    tree: &mut Tree,
+    alloc: Global,
+    place: Place,
+    args: &[Value],
+) -> Result<Value, Interruption>
+    ensures acts { Acts tree.old place (λ style. answered (string_of style args.now)) tree.new result }
+    ensures level { IsLevel tree.old tree.new }
+{
+    answered(alloc, string_value(alloc, tree.integers(), args))
+}
+
+/// `format formatString ?arg ...?`: a text with values in the place of its specifiers.
+pub fn format(
+    tree: &mut Tree,
+    alloc: Global,
+    place: Place,
+    args: &[Value],
+) -> Result<Value, Interruption>
+    ensures acts { Acts tree.old place (λ style. answered (format_of style args.now)) tree.new result }
+    ensures level { IsLevel tree.old tree.new }
+{
+    answered(alloc, format_value(alloc, tree.integers(), args))
+}
