@@ -12,7 +12,7 @@ use Rattle.tcl_tree.specs.Own.{Own}
 use Rattle.tcl_tree.specs.TreeOf.{tree_of, key_of, marks_of}
 use Rattle.tcl_tree.specs.declared.tree.Tree.{Tree as Table}
 use Rattle.tcl_tree.specs.declared.tree.Place.{Place as TablePlace}
-use Rattle.tcl_run.specs.Runs.{meters_of, meters_at, depth_in, limit_in, depth_at, InUse, IsBounded, IsSteady, IsLevel, IsAt, room}
+use Rattle.tcl_run.specs.Runs.{meters_of, meters_at, depth_in, limit_in, depth_at, InUse, IsSteady, IsLevel, IsAt, room}
 use Rattle.tcl_text.specs.declared.integer.Integers.{Integers}
 
 pub meters_changed : (T U : Tree Own) (p q : Path) (own : Own) → U ≡ effect p (Changed own) T → meters_at U q ≡ meters_at T q
@@ -71,20 +71,6 @@ top_deeper T U p n e there = ap (λ (X : Tree Own). depth_at X []) e ∙ by (T [
     by None h = let x : None ≡ Some n = h in cc
     by (Some m) h = refl
 
-pub limit_kept : (T U : Tree Own) (p : Path) → U ≡ effect p Nested T → limit_in (meters_at U []) ≡ limit_in (meters_at T [])
-limit_kept T U p e = ap (λ (X : Tree Own). limit_in (meters_at X [])) e ∙ by (T [])
-  where
-    by : (o : Option (Node Own)) → limit_in (option_map meters_of (deeper o)) ≡ limit_in (option_map meters_of o)
-    by None = refl
-    by (Some n) = refl
-
-pub limit_back : (T U : Tree Own) (p : Path) → U ≡ effect p Unnested T → limit_in (meters_at U []) ≡ limit_in (meters_at T [])
-limit_back T U p e = ap (λ (X : Tree Own). limit_in (meters_at X [])) e ∙ by (T [])
-  where
-    by : (o : Option (Node Own)) → limit_in (option_map meters_of (shallower o)) ≡ limit_in (option_map meters_of o)
-    by None = refl
-    by (Some n) = refl
-
 top_free : (full : Node Own → Bool) (T : Tree Own) (p : Path) → blocked full T p ≡ None → full_at full (T []) ≡ false
 top_free full T [] e = by None (full_at full (T [])) 0 e
   where
@@ -100,40 +86,38 @@ top_free full T (x ∷ xs) e = by (blocked full (λ p. T (x ∷ p)) xs) (full_at
     by None false m e = refl
 
 -- one level down there is less room
-pub less_room : (T U : Tree Own) (p : Path) (n : Node Own) → T [] ≡ Some n → IsBounded T → blocked is_deep T p ≡ None → U ≡ effect p Nested T → room U < room T
+pub less_room : (T U : Tree Own) (p : Path) (n : Node Own) → T [] ≡ Some n → n.depth_limit ≤ 1000 → blocked is_deep T p ≡ None → U ≡ effect p Nested T → room U < room T
 less_room T U p n there bound free e =
     let d = top_deeper T U p n e there in
-    let m = by (T []) there bound (top_free is_deep T p free) in
+    let m = by (T []) there (top_free is_deep T p free) in
     omega arith
   where
-    by : (o : Option (Node Own)) → o ≡ Some n → limit_in (option_map meters_of o) ≤ 1000 → full_at is_deep o ≡ false → depth_in (option_map meters_of o) < 1000
-    by None t b f = let x : None ≡ Some n = t in cc
-    by (Some m) t b f = let free : Rattle.std.specs.Prelude.nat_le m.depth_limit m.depth ≡ false = f in let c : m.depth_limit ≤ 1000 = b in grind (arith, nat_tests)
+    by : (o : Option (Node Own)) → o ≡ Some n → full_at is_deep o ≡ false → depth_in (option_map meters_of o) < 1000
+    by None t f = let x : None ≡ Some n = t in cc
+    by (Some m) t f = let same : m ≡ n = cc in let free : Rattle.std.specs.Prelude.nat_le m.depth_limit m.depth ≡ false = f in let c : m.depth_limit ≤ 1000 = subst (λ (x : Node Own). x.depth_limit ≤ 1000) (sym same) bound in grind (arith, nat_tests)
 
 -- ## Tables
 
 pub steady-refl : (t : Table) → IsSteady t t
-steady-refl t = record { marks = refl; keys = λ q k at used. at; depths = λ q used. refl; top = refl; bounded = λ b. b }
+steady-refl t = record { marks = refl; keys = λ q k at used. at; depths = λ q. refl; top = refl }
 
 pub level_steady : (s t : Table) → IsLevel s t → IsSteady s t
 level_steady s t l = record {
   marks = l.marks;
   keys = λ q k at used. l.keys q ∙ at;
-  depths = λ q used. ap depth_in (l.meters q);
+  depths = λ q. ap depth_in (l.meters q);
   top = ap depth_in (l.meters []);
-  bounded = λ b. subst (λ (n : ℕ). n ≤ 1000) (sym (ap limit_in (l.meters []))) b;
 }
 
 pub still_in_use : (s t : Table) (q : Path) → IsSteady s t → InUse (tree_of s) q → InUse (tree_of t) q
-still_in_use s t q h used = subst (λ (n : ℕ). 0 < n) (sym (h.depths q used)) used
+still_in_use s t q h used = subst (λ (n : ℕ). 0 < n) (sym (h.depths q)) used
 
 pub steady-trans : (s t u : Table) → IsSteady s t → IsSteady t u → IsSteady s u
 steady-trans s t u g h = record {
   marks = h.marks ∙ g.marks;
   keys = λ q k at used. h.keys q k (g.keys q k at used) (still_in_use s t q g used);
-  depths = λ q used. h.depths q (still_in_use s t q g used) ∙ g.depths q used;
+  depths = λ q. h.depths q ∙ g.depths q;
   top = h.top ∙ g.top;
-  bounded = λ b. h.bounded (g.bounded b);
 }
 
 pub still_at : (s t : Table) (place : TablePlace) (p : Path) (style : Integers) → IsSteady s t → IsAt s place p style → IsAt t place p style
@@ -150,18 +134,15 @@ pub changed_level : (s t : Table) (p : Path) (own : Own) → marks_of t ≡ mark
 changed_level s t p own m k e = record { marks = m; keys = k; meters = λ q. meters_changed (tree_of s) (tree_of t) p q own e }
 
 -- an evaluation one level deeper, and back
-pub nested_steady : (s t u v : Table) (p : Path) (n : Node Own) → tree_of s [] ≡ Some n →
+pub nested_steady : (s t u v : Table) (p : Path) →
     marks_of t ≡ marks_of s → ((q : Path) → key_of t q ≡ key_of s q) → tree_of t ≡ effect p Nested (tree_of s) → IsSteady t u →
     marks_of v ≡ marks_of u → ((q : Path) → key_of v q ≡ key_of u q) → tree_of v ≡ effect p Unnested (tree_of u) → IsSteady s v
-nested_steady s t u v p n top m1 k1 e1 h m2 k2 e2 =
-    let deep = top_deeper (tree_of s) (tree_of t) p n e1 top in
-    record {
-      marks = m2 ∙ h.marks ∙ m1;
-      keys = λ q k at used. k2 q ∙ h.keys q k (k1 q ∙ at) (deeper_in_use (tree_of s) (tree_of t) p q e1 used);
-      depths = λ q used. back_again (tree_of s) (tree_of t) (tree_of u) (tree_of v) p q e1 e2 (h.depths q (deeper_in_use (tree_of s) (tree_of t) p q e1 used));
-      top = back_again (tree_of s) (tree_of t) (tree_of u) (tree_of v) p [] e1 e2 h.top;
-      bounded = λ b. subst (λ (x : ℕ). x ≤ 1000) (sym (limit_back (tree_of u) (tree_of v) p e2)) (h.bounded (subst (λ (x : ℕ). x ≤ 1000) (sym (limit_kept (tree_of s) (tree_of t) p e1)) b));
-    }
+nested_steady s t u v p m1 k1 e1 h m2 k2 e2 = record {
+  marks = m2 ∙ h.marks ∙ m1;
+  keys = λ q k at used. k2 q ∙ h.keys q k (k1 q ∙ at) (deeper_in_use (tree_of s) (tree_of t) p q e1 used);
+  depths = λ q. back_again (tree_of s) (tree_of t) (tree_of u) (tree_of v) p q e1 e2 (h.depths q);
+  top = back_again (tree_of s) (tree_of t) (tree_of u) (tree_of v) p [] e1 e2 h.top;
+}
 
 -- an own part that becomes what it was leaves the tree as it was
 pub changed_same : (T : Tree Own) (p : Path) (n : Node Own) → T p ≡ Some n → effect p (Changed n.own) T ≡ T

@@ -13,6 +13,8 @@ use Rattle.tcl_variables.specs.declared.fault.FrameError.TheVariants as frame_er
 use Rattle.tcl_text.specs.Writing.{fault_message}
 use Rattle.tcl_text.specs.declared.list.ListError.{ListError}
 use Rattle.tcl_text.specs.declared.list.ListError.TheVariants as list_error
+use Rattle.tcl_words.specs.declared.refusal.Refusal.{Refusal}
+use Rattle.tcl_words.specs.declared.refusal.Refusal.TheVariants as refusal
 use Rattle.tcl_run.specs.declared.interruption.Cause.{Cause}
 use Rattle.tcl_run.specs.declared.interruption.Cause.TheVariants as cause
 use Rattle.tcl_run.specs.declared.interruption.Interruption.{Interruption}
@@ -56,6 +58,15 @@ Tells (frame_error.Fault f) i = Interrupts i (λ e. e ≡ Completed (failing (fr
 abbrev pub ListTells : ListError → Interruption → Type 0
 ListTells list_error.Memory i = i ≡ interruption.Memory
 ListTells (list_error.Fault f) i = Interrupts i (λ e. e ≡ Completed (failing (fault_message f)))
+
+-- how a command's refusal of its words ends what called it
+abbrev pub WordsTell : Refusal → Interruption → Type 0
+WordsTell refusal.Memory i = i ≡ interruption.Memory
+WordsTell (refusal.Fault text) i = Interrupts i (λ e. e ≡ Completed (failing text))
+
+-- a message is told as it is
+abbrev pub itself : List ℕ → List ℕ
+itself message = message
 
 -- what went on with an ordinary text goes no further
 abbrev pub Stays : Reply → Type 0

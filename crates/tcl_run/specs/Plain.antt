@@ -1,5 +1,5 @@
 -- What a program does that runs nothing inside, calls nobody and counts no step: it looks, changes, and is over.
-use Rattle.std.specs.Prelude.{◌≡◌, ℕ, List, [], ◌∷◌, ◌++◌, Some, Result}
+use Rattle.std.specs.Prelude.{◌≡◌, ℕ, List, [], ◌∷◌, ◌++◌, Option, Some, Result, MatchResult}
 use Rattle.tcl_core.specs.Paths.{Place, Path}
 use Rattle.tcl_core.specs.Endings.{Reply}
 use Rattle.tcl_core.specs.Endings.Reply.{Completed, Exit}
@@ -9,12 +9,12 @@ use Rattle.tcl_core.specs.Programs.Prog.{done, exit, act, go, inside, call, wait
 use Rattle.tcl_core.specs.Trees.{Tree, Node, effect, at}
 use Rattle.tcl_core.specs.Trees.What.{Changed, Limited, DepthLimited}
 use Rattle.tcl_language.specs.Instructions.{Program}
-use Rattle.tcl_run.specs.Ends.{IfEnded}
+use Rattle.tcl_run.specs.Ends.{IfEnded, Interrupts}
 use Rattle.tcl_run.specs.Runs.{IsThere}
 use Rattle.tcl_run.specs.declared.interruption.Interruption.{Interruption}
 use Rattle.tcl_text.specs.declared.integer.Integers.{Integers}
 use Rattle.tcl_tree.specs.Own.{Own}
-use Rattle.tcl_tree.specs.TreeOf.{tree_of}
+use Rattle.tcl_tree.specs.TreeOf.{tree_of, Names}
 use Rattle.tcl_tree.specs.declared.tree.Tree as table
 use Rattle.tcl_tree.specs.declared.tree.Place as table_place
 
@@ -37,3 +37,9 @@ Does (wait s k) T p V r = Prim.⊥
 -- What came of such a program in the interpreter that the place names.
 abbrev pub Acts : table.Tree → table_place.Place → (Integers → Program) → table.Tree → Result (List ℕ) Interruption → Type 0
 Acts old place program new result = IfEnded result (λ r. (p : Path) (style : Integers) → IsThere old place p style → Does (program style) (tree_of old) p (tree_of new) r)
+
+-- What came of a step in the interpreter that the place names: the program goes on from the new table, whatever follows; or it ends there.
+abbrev pub Steps : {A : Type 0} → table.Tree → table_place.Place → (Program → Program) → table.Tree → Result A Interruption → Type 0
+Steps old place step new result = MatchResult result
+    (λ a. (p : Path) → Names old place p → (k : Program) (V : Tree Own) (r : Reply) → Does k (tree_of new) p V r → Does (step k) (tree_of old) p V r)
+    (λ i. Interrupts i (λ e. (p : Path) → Names old place p → (k : Program) → Does (step k) (tree_of old) p (tree_of new) e))

@@ -49,21 +49,17 @@ depth_at T p = depth_in (meters_at T p)
 abbrev pub InUse : Tree Own → Place → Type 0
 InUse T p = 0 < depth_at T p
 
--- the limit of depth of the top is none past the greatest
-abbrev pub IsBounded : Tree Own → Type 0
-IsBounded T = limit_in (meters_at T []) ≤ 1000
-
 -- how much deeper an evaluation in the tree can go
 abbrev pub room : Tree Own → ℕ
 room T = 1000 - depth_at T []
 
--- What an evaluation leaves as it is: what is in use keeps its key and its depth, and the top its depth.
+-- What an evaluation leaves as it is: what is in use keeps its key, and each interpreter its depth.
 pub record IsSteady (old new : table.Tree) : Type 0 where
   pub marks : marks_of new ≡ marks_of old
   pub keys : (q : Path) (k : ℕ) → key_of old q ≡ Some k → InUse (tree_of old) q → key_of new q ≡ Some k
-  pub depths : (q : Path) → InUse (tree_of old) q → depth_at (tree_of new) q ≡ depth_at (tree_of old) q
+  pub depths : (q : Path) → depth_at (tree_of new) q ≡ depth_at (tree_of old) q
+  -- (the same of the top, for measures of how much deeper an evaluation can go)
   pub top : depth_at (tree_of new) [] ≡ depth_at (tree_of old) []
-  pub bounded : IsBounded (tree_of old) → IsBounded (tree_of new)
 
 -- What a change of own parts, or of counts, leaves as it is: all keys, and all depths with their limits.
 pub record IsLevel (old new : table.Tree) : Type 0 where

@@ -5,7 +5,7 @@ ghost use Rattle.tcl_variables.specs.Messages.{quoted};
 ghost use Rattle.tcl_core.specs.Endings as core;
 ghost use Rattle.tcl_core.specs.Endings.Reply.{Completed};
 ghost use Rattle.tcl_language.specs.Instructions as language;
-ghost use Rattle.tcl_run.specs.Ends.{Interrupts, failing, too_deep_at};
+ghost use Rattle.tcl_run.specs.Ends.{Interrupts, WordsTell, failing, too_deep_at};
 
 use crate::interruption::Interruption;
 use std::alloc::{AllocError, Global};
@@ -13,6 +13,7 @@ use tcl_flow::completion;
 use tcl_flow::stop::{Stop, StopKind};
 use tcl_text::text::Text;
 use tcl_value::value::Value;
+use tcl_words::refusal::Refusal;
 
 /// The error of a message within the limit of a value.
 fn error(alloc: Global, message: Value) -> Interruption
@@ -41,6 +42,16 @@ pub fn failure(alloc: Global, message: Text) -> Interruption
     match Value::from_text(message) {
         Ok(message) => error(alloc, message),
         Err(_) => too_long(alloc),
+    }
+}
+
+/// The error that a command's refusal of its words is.
+pub fn refused(alloc: Global, refusal: Refusal) -> Interruption
+    ensures { WordsTell refusal result }
+{
+    match refusal {
+        Refusal::Memory => Interruption::Memory,
+        Refusal::Fault(message) => failure(alloc, message),
     }
 }
 
@@ -94,6 +105,13 @@ pub fn invalid_command(alloc: Global, name: &str) -> Interruption
     ensures { Interrupts result (λ e. e ≡ Completed (failing (faults.invalid_command name.now))) }
 {
     failure_about(alloc, "invalid command name ", name)
+}
+
+/// There is no such hidden command.
+pub fn invalid_hidden(alloc: Global, name: &str) -> Interruption
+    ensures { Interrupts result (λ e. e ≡ Completed (failing (faults.invalid_hidden name.now))) }
+{
+    failure_about(alloc, "invalid hidden command name ", name)
 }
 
 /// Nothing may have this name.
