@@ -1,0 +1,178 @@
+//! The loops of `bench_values` in plain Rust: values behind `Rc`, changed in place by `Rc::make_mut`. Nothing is measured of how long
+//! a text would be, and nothing is refused.
+//!
+//! `rustc -O -o /tmp/values values.rs && /tmp/values`
+use std::collections::HashMap;
+use std::hint::black_box;
+use std::rc::Rc;
+use std::time::Instant;
+
+const INCREMENTS: u32 = 10_000_000;
+const CHANGES: u32 = 1_000_000;
+const PARTS: usize = 1000;
+
+#[derive(Clone)]
+enum Value {
+    Number(i64),
+    Text(Rc<String>),
+    List(Rc<Vec<Value>>),
+    Dict(Rc<Dict>),
+}
+
+#[derive(Clone, Default)]
+struct Dict {
+    places: HashMap<Rc<String>, usize>,
+    keys: Vec<Rc<String>>,
+    values: Vec<Value>,
+}
+
+impl Value {
+    fn text(text: &str) -> Value {
+        Value::Text(Rc::new(text.to_string()))
+    }
+
+    fn key(&self) -> Rc<String> {
+        match self {
+            Value::Number(n) => Rc::new(n.to_string()),
+            Value::Text(text) => Rc::clone(text),
+            Value::List(_) | Value::Dict(_) => Rc::new(String::new()),
+        }
+    }
+
+    fn append(&mut self, more: &str) {
+        if let Value::Text(text) = self {
+            Rc::make_mut(text).push_str(more);
+        }
+    }
+
+    fn push(&mut self, value: Value) {
+        if let Value::List(list) = self {
+            Rc::make_mut(list).push(value);
+        }
+    }
+
+    fn set_at(&mut self, index: usize, value: Value) {
+        if let Value::List(list) = self {
+            if let Some(place) = Rc::make_mut(list).get_mut(index) {
+                *place = value;
+            }
+        }
+    }
+
+    fn set_key(&mut self, key: &Value, value: Value) {
+        let key = key.key();
+        if let Value::Dict(dict) = self {
+            let dict = Rc::make_mut(dict);
+            match dict.places.get(&key) {
+                Some(place) => dict.values[*place] = value,
+                None => {
+                    dict.places.insert(Rc::clone(&key), dict.keys.len());
+                    dict.keys.push(key);
+                    dict.values.push(value);
+                }
+            }
+        }
+    }
+
+    fn len(&self) -> usize {
+        match self {
+            Value::Number(_) => 1,
+            Value::Text(text) => text.len(),
+            Value::List(list) => list.len(),
+            Value::Dict(dict) => dict.keys.len(),
+        }
+    }
+}
+
+fn increments(times: u32) -> i64 {
+    let mut value = Value::Number(0);
+    for _ in 0..times {
+        if let Value::Number(n) = black_box(&value) {
+            value = Value::Number(n.wrapping_add(1));
+        }
+    }
+    match value {
+        Value::Number(n) => n,
+        _ => 0,
+    }
+}
+
+fn appends(times: u32) -> usize {
+    let mut value = Value::text("");
+    for _ in 0..times {
+        black_box(&mut value).append("abcd");
+    }
+    value.len()
+}
+
+fn pushes(times: u32) -> usize {
+    let mut value = Value::List(Rc::new(Vec::new()));
+    for i in 0..times {
+        black_box(&mut value).push(Value::Number(i64::from(i)));
+    }
+    value.len()
+}
+
+fn sets(times: u32) -> usize {
+    let mut value = Value::List(Rc::new(Vec::new()));
+    for _ in 0..PARTS {
+        value.push(Value::text(""));
+    }
+    for i in 0..times {
+        black_box(&mut value).set_at(i as usize % PARTS, Value::Number(i64::from(i)));
+    }
+    value.len()
+}
+
+fn entries(keys: &[Value], times: u32) -> usize {
+    let mut value = Value::Dict(Rc::new(Dict::default()));
+    for i in 0..times {
+        black_box(&mut value).set_key(&keys[i as usize % PARTS], Value::Number(i64::from(i)));
+    }
+    value.len()
+}
+
+fn keys_added(times: u32) -> usize {
+    let mut value = Value::Dict(Rc::new(Dict::default()));
+    for i in 0..times {
+        black_box(&mut value).set_key(&Value::Number(i64::from(i)), Value::text(""));
+    }
+    value.len()
+}
+
+fn reads(literal: &Value, times: u32) -> usize {
+    let mut count = 0usize;
+    for _ in 0..times {
+        if let Value::List(list) = black_box(literal) {
+            let list = Rc::clone(list);
+            count = count.wrapping_add(list.len());
+        }
+    }
+    count
+}
+
+fn timed<T: std::fmt::Display>(name: &str, work: impl FnOnce() -> T) {
+    let start = Instant::now();
+    let came = work();
+    let time = start.elapsed();
+    println!("{name}: {came}");
+    eprintln!("{name}: {time:?}");
+}
+
+fn main() {
+    timed("10,000,000 increments", || increments(INCREMENTS));
+    timed("100,000 appends to a text", || appends(CHANGES / 10));
+    timed("1,000,000 appends to a text", || appends(CHANGES));
+    timed("100,000 appends to a list", || pushes(CHANGES / 10));
+    timed("1,000,000 appends to a list", || pushes(CHANGES));
+    timed("100,000 changes of an element", || sets(CHANGES / 10));
+    timed("1,000,000 changes of an element", || sets(CHANGES));
+    timed("100,000 new keys", || keys_added(CHANGES / 10));
+    timed("1,000,000 new keys", || keys_added(CHANGES));
+    let keys: Vec<Value> = (0..PARTS).map(|i| Value::text(&format!("key{i}"))).collect();
+    timed("100,000 changes of an entry", || entries(&keys, CHANGES / 10));
+    timed("1,000,000 changes of an entry", || entries(&keys, CHANGES));
+    let words = (0..PARTS).map(|i| Value::text(&format!("word {i}"))).collect();
+    let literal = Value::List(Rc::new(words));
+    timed("1,000,000 readings of a literal's list", || reads(&literal, CHANGES));
+}
