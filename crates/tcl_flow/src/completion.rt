@@ -1,6 +1,6 @@
 //! Completions: a code, a text and options.
 ghost use Rattle.std.specs.Prelude.{◌≡◌, ◌≢◌, IfOk, pos};
-ghost use Rattle.tcl_core.specs.Endings.{settle, leave_proc, lowered, error, settled};
+ghost use Rattle.tcl_core.specs.Endings.{settle, leave_proc, lowered, unreturned, error, settled};
 ghost use Rattle.tcl_core.specs.Endings as core;
 ghost use Rattle.tcl_flow.specs.View.{completion_of};
 
@@ -111,6 +111,17 @@ pub fn leave_proc(alloc: Global, completion: Completion) -> Result<Completion, A
     }
 }
 
+/// The completion of a script that was read from a file, whose own ended so: a return comes one level nearer, and everything else
+/// passes.
+pub fn unreturned(completion: Completion) -> Completion
+    ensures { completion_of result ≡ unreturned completion.code (completion_of completion) }
+{
+    match completion.code {
+        RETURN => lowered(completion),
+        _ => completion,
+    }
+}
+
 /// What is left of a completion where only ok and error may pass: a return is lowered by one level first; then a break, a continue
 /// and every other code are errors.
 ///
@@ -119,12 +130,7 @@ pub fn leave_proc(alloc: Global, completion: Completion) -> Result<Completion, A
 pub fn settle(alloc: Global, completion: Completion) -> Result<Completion, AllocError>
     ensures { IfOk result (λ c. completion_of c ≡ settle (completion_of completion)) }
 {
-    let completion = if completion.code == RETURN {
-        lowered(completion)
-    } else {
-        completion
-    };
-    settled(alloc, completion)
+    settled(alloc, unreturned(completion))
 }
 
 /// The same, of one that is no return with its last level.

@@ -1,7 +1,9 @@
 //! How completions settle.
 use std::alloc::{AllocError, Global};
 use std::test::Fail;
-use tcl_flow::completion::{BREAK, Completion, ERROR, OK, Options, RETURN, leave_proc, settle};
+use tcl_flow::completion::{
+    BREAK, Completion, ERROR, OK, Options, RETURN, leave_proc, settle, unreturned,
+};
 use tcl_flow::messages::{continue_outside, no_errorcode};
 use tcl_text::text::Text;
 use tcl_value::value::Value;
@@ -56,5 +58,17 @@ fn leaves_procedures(rt: HostRuntime) -> Result<(), Fail> {
         message.text(rt.alloc())?.as_str(),
         "invoked \"continue\" outside of a loop"
     );
+    Ok(())
+}
+
+/// A return that leaves a file comes one level nearer, and nothing else changes there.
+#[test]
+fn leaves_files(rt: HostRuntime) -> Result<(), Fail> {
+    let broken = unreturned(returned(rt.alloc(), BREAK, 1)?);
+    assert_eq!(rt; broken.code, BREAK);
+    assert_eq!(rt; unreturned(broken).code, BREAK);
+    let further = unreturned(returned(rt.alloc(), OK, 3)?);
+    assert_eq!(rt; further.code, RETURN);
+    assert_eq!(rt; further.options.level, 2);
     Ok(())
 }
