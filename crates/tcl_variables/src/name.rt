@@ -23,15 +23,15 @@ fn element_parts(name: &str) -> Option<(&str, &str)>
     name.strip_suffix(')')?.split_once('(')
 }
 
-/// What follows two leading colons.
-fn after_leading(name: &str) -> Option<&str>
+/// What follows two leading colons, where they stand. This takes no memory.
+pub fn after_leading(name: &str) -> Option<&str>
     ensures { option_copied result ≡ after_colons name.now }
 {
     name.strip_prefix(':')?.strip_prefix(':')
 }
 
-/// Whether two colons stand side by side.
-fn with_colons(name: &str) -> bool
+/// Whether two colons stand side by side. This takes no memory.
+pub fn with_colons(name: &str) -> bool
     ensures { result ≡ has_colons name.now }
 {
     let mut after_colon = false;
