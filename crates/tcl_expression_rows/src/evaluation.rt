@@ -91,7 +91,7 @@ fn told(alloc: Global, text: &str, style: Integers) -> Result<Text, Fail> {
             let mut evaluation = Evaluation::new(alloc);
             Ok(computed(alloc, &mut evaluation, &tree, style)?)
         }
-        Err(ExprError::Memory) => Ok(Text::new(alloc, "memory")?),
+        Err(ExprError::Memory) => Err(Fail::from(AllocError)),
         Err(ExprError::Fault(fault)) => Ok(fault.message(alloc, text)?),
     }
 }
