@@ -86,7 +86,7 @@ fn first(alloc: Global, text: &str, style: Integers) -> Result<Text, Fail> {
             told.push_str(" then ")?;
             told.push_str(rest)?;
         }
-        Err(ExprError::Memory) => told.push_str("memory")?,
+        Err(ExprError::Memory) => return Err(Fail::from(AllocError)),
         Err(ExprError::Fault(fault)) => {
             told.push_str(fault.message(alloc, text)?.as_str())?;
         }

@@ -51,7 +51,7 @@ fn kept(alloc: Global, text: &str, style: Integers) -> Result<Text, Fail> {
                 told.push_str(";")?;
             }
         }
-        Err(ExprError::Memory) => told.push_str("memory")?,
+        Err(ExprError::Memory) => return Err(Fail::from(AllocError)),
         Err(ExprError::Fault(fault)) => told.push_str(fault.message(alloc, text)?.as_str())?,
     }
     Ok(Text::from_string(alloc, told)?)
