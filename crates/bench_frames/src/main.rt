@@ -89,6 +89,20 @@ fn unset_last(frames: &mut Frames, alloc: Global) -> Result<(), FrameError> {
     Ok(())
 }
 
+/// Sets the elements of an array of many keys at once, unsets those whose keys end in 7, and gives how many are left.
+fn whole_array(alloc: Global) -> Result<usize, FrameError> {
+    let name = Text::new(alloc, "a")?;
+    let pattern = Text::new(alloc, "*7")?;
+    let mut elements = Vec::new(alloc);
+    for number in 0..MANY {
+        elements.push((numbered(alloc, number)?, Value::from_int(i64::from(number))))?;
+    }
+    let mut frames = Frames::new(alloc)?;
+    frames.set_elements(alloc, &name, elements)?;
+    frames.unset_elements(alloc, &name, Some(&pattern))?;
+    frames.element_count(&name)
+}
+
 fn told<T: Drop>(outcome: Result<T, FrameError>) -> &'static str {
     match outcome {
         Ok(_) => "done",
@@ -117,5 +131,12 @@ fn main(rt: HostRuntime) -> io::Result<()> {
             eprintln!(rt; "{UNSETS} times the last of {MANY} names unset: {time:?}")?;
         }
     }
+    let start = Instant::now(&rt)?;
+    let left = whole_array(rt.alloc()).unwrap_or(0);
+    let time = start.elapsed(&rt)?;
+    println!(rt; "{left} elements left")?;
+    eprintln!(rt;
+        "an array of {MANY} elements made at once, and a tenth of them unset by a pattern: {time:?}"
+    )?;
     Ok(())
 }
