@@ -1,6 +1,6 @@
 -- What commands come to that are functions of their words.
 use Rattle.std.proofs.Common.{◌≡◌, ℕ, Bool, true, false, List, refl, sym, ap, subst, ◌∙◌}
-use Rattle.std.specs.Prelude.{Result, Ok, Err, nat_le, length, cond}
+use Rattle.std.specs.Prelude.{Result, Ok, Err, cond}
 use Rattle.tcl_core.specs.Endings.{Completion, Reply, ok}
 use Rattle.tcl_core.specs.Endings.Reply.{Completed}
 use Rattle.tcl_core.specs.Paths.{Path}
@@ -14,7 +14,7 @@ use Rattle.tcl_flow.specs.declared.returning.OptionsFault.{OptionsFault}
 use Rattle.tcl_flow.proofs.Options.{makes_so, reads_so}
 use Rattle.tcl_language.specs.Control.{returns}
 use Rattle.tcl_language.specs.Data.{answered}
-use Rattle.tcl_language.specs.Instructions.{Program, gives, either, fits, too_long}
+use Rattle.tcl_language.specs.Instructions.{gives, either, fits, too_long}
 use Rattle.tcl_lists.specs.Lists.{list_of}
 use Rattle.tcl_run.specs.Ends.{Interrupts, IsFailure, failing}
 use Rattle.tcl_run.specs.Plain.{Does, Acts}

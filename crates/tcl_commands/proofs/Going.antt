@@ -1,6 +1,6 @@
 -- How steps are put together.
-use Rattle.std.proofs.Common.{◌≡◌, ℕ, Bool, true, false, List, [], ◌∷◌, Option, Some, None, refl, sym, ap, subst, ◌∙◌, length, get_or, ◌<◌, ◌≤◌, arith}
-use Rattle.std.specs.Prelude.{Result, Ok, Err, MatchResult, IfErr, IfOk, OnOk, OnErr, is_some}
+use Rattle.std.proofs.Common.{◌≡◌, ℕ, List, [], ◌∷◌, Some, refl, sym, ap, subst, ◌∙◌, length, get_or, ◌<◌, ◌≤◌, arith}
+use Rattle.std.specs.Prelude.{Result, Ok, Err, IfErr, OnOk, OnErr}
 use Rattle.tcl_core.specs.Endings.{Completion, Reply, ok}
 use Rattle.tcl_core.specs.Endings.Reply.{Completed}
 use Rattle.tcl_core.specs.Paths.{Path}
@@ -8,9 +8,9 @@ use Rattle.tcl_core.specs.Programs.Prog.{done}
 use Rattle.tcl_core.specs.Trees.{Tree, Node}
 use Rattle.tcl_frames.specs.Chain.{Chain, after_set}
 use Rattle.tcl_language.specs.Faults.{frame_message}
-use Rattle.tcl_language.specs.Instructions.{Program, fails, or_fails, look, change, fits, too_long, with_chain}
+use Rattle.tcl_language.specs.Instructions.{Program, or_fails, look, change, with_chain}
 use Rattle.tcl_language.specs.Variables.{sets, chain_becomes}
-use Rattle.tcl_run.specs.Ends.{Interrupts, IfEnded, IsFailure, Gave, failing}
+use Rattle.tcl_run.specs.Ends.{Interrupts, IfEnded, IsFailure, Gave}
 use Rattle.tcl_run.specs.Plain.{Does, Acts}
 use Rattle.tcl_run.specs.Runs.{IsThere, IsLevel, Rechained}
 use Rattle.tcl_run.specs.declared.interruption.Interruption.{Interruption}
@@ -44,10 +44,10 @@ goes_acts old new last place whole rest result leads acts = acts_more old last p
 pub leads-trans : (a b c : Table) (place : TablePlace) (x y z : Styled) → Leads a place x b y → Leads b place y c z → Leads a place x c z
 leads-trans a b c place x y z f g = λ V r e. f V r (g V r e)
 
--- an error that is passed on by `?`
-pub passes : {A B : Type 0} (given : Result A Interruption) (i y : Interruption) (R : B → Type 0) (P Q : Reply → Type 0) (result : Result B Interruption) →
-    result ≡ Err y → y ≡ i → Interrupts i P → ((e : Reply) → P e → Q e) → MatchResult result R (λ j. Interrupts j Q)
-passes given i y R P Q result e same h k = subst (λ (x : Result _ Interruption). MatchResult x R (λ j. Interrupts j Q)) (sym (e ∙ ap Err same)) (Interrupts-more i P Q k h)
+-- an end that is passed on by `?`
+pub passed_acts : (t u : Table) (place : TablePlace) (program : Styled) (i y : Interruption) (result : Result (List ℕ) Interruption) → result ≡ Err y → y ≡ i →
+    Interrupts i (EndsAt t place program (tree_of u)) → Acts t place program u result
+passed_acts t u place program i y result e same h = subst (λ (x : Result (List ℕ) Interruption). Acts t place program u x) (sym (e ∙ ap Err same)) h
 
 -- where the place is
 pub there_after : (old new : Table) (place : TablePlace) (p : Path) (style : Integers) → IsLevel old new → IsThere old place p style → IsThere new place p style
@@ -61,7 +61,7 @@ pub leads_by : (old new : Table) (place : TablePlace) (whole rest : Styled) → 
     ((p : Path) (style : Integers) (V : Tree Own) (r : Reply) → IsThere old place p style → Does (rest style) (tree_of new) p V r → Does (whole style) (tree_of old) p V r) → Leads old place whole new rest
 leads_by old new place whole rest level f = λ V r e p style at. f p style V r at (e p style (there_after old new place p style level at))
 
-ends_as : (x : Program) (T U V : Tree Own) (p : Path) (r : Reply) → U ≡ V → Does x T p V r → Does x T p U r
+pub ends_as : (x : Program) (T U V : Tree Own) (p : Path) (r : Reply) → U ≡ V → Does x T p V r → Does x T p U r
 ends_as x T U V p r e d = subst (λ (z : Tree Own). Does x T p z r) (sym e) d
 
 -- a chain becomes what a change makes of it
@@ -127,3 +127,17 @@ set_steps t u place name value (Err i) level written refused same = λ rest. Int
     ends_as (sets name value (rest style)) (tree_of t) (tree_of u) (tree_of t) p r same
     (does_look (tree_of t) (tree_of t) p r n.0 (λ m. chain_becomes m.own (after_set m.own.chain name value) (rest style)) n.1
     (does_fail (tree_of t) p frame_message (after_set n.0.own.chain name value) (λ chain. change (with_chain n.0.own chain) (rest style)) r (f p n.0 at.names n.1)))) refused
+
+-- ## Words by their number
+
+module _ {A : Type 0} where
+  pub one_item : (xs : List A) (x : A) → 1 ≤ length xs → length xs < 2 → x ≡ get_or xs 0 x → xs ≡ x ∷ []
+  one_item [] x h k e = absurd (omega arith)
+  one_item (y ∷ []) x h k e = ap (λ z. z ∷ []) (sym e)
+  one_item (y ∷ z ∷ zs) x h k e = absurd (omega arith)
+
+  pub two_items : (xs : List A) (x y : A) → 2 ≤ length xs → length xs < 3 → x ≡ get_or xs 0 x → y ≡ get_or xs 1 y → xs ≡ x ∷ y ∷ []
+  two_items [] x y h k e d = absurd (omega arith)
+  two_items (a ∷ []) x y h k e d = absurd (omega arith)
+  two_items (a ∷ b ∷ []) x y h k e d = ap (λ z. z ∷ b ∷ []) (sym e) ∙ ap (λ z. x ∷ z ∷ []) (sym d)
+  two_items (a ∷ b ∷ c ∷ cs) x y h k e d = absurd (omega arith)

@@ -1,12 +1,12 @@
 -- How commands go step by step.
-use Rattle.std.specs.Prelude.{◌≡◌, ℕ, List, Result, MatchResult}
+use Rattle.std.specs.Prelude.{Result, MatchResult}
 use Rattle.tcl_core.specs.Endings.{Reply}
 use Rattle.tcl_core.specs.Paths.{Path}
 use Rattle.tcl_core.specs.Trees.{Tree}
 use Rattle.tcl_language.specs.Instructions.{Program}
 use Rattle.tcl_run.specs.Ends.{Interrupts}
 use Rattle.tcl_run.specs.Plain.{Does}
-use Rattle.tcl_run.specs.Runs.{IsThere}
+use Rattle.tcl_run.specs.Runs.{IsLevel, IsThere}
 use Rattle.tcl_run.specs.declared.interruption.Interruption.{Interruption}
 use Rattle.tcl_text.specs.declared.integer.Integers.{Integers}
 use Rattle.tcl_tree.specs.Own.{Own}
@@ -33,3 +33,8 @@ Steps old place step new result = (rest : Styled) → MatchResult result (λ don
 -- The same of a step that finds something, of which the rest is told.
 abbrev pub Finds : {A : Type 0} → table.Tree → table_place.Place → ((A → Styled) → Styled) → table.Tree → Result A Interruption → Type 0
 Finds {A} old place step new result = (rest : A → Styled) → MatchResult result (λ a. Leads old place (step rest) new (rest a)) (λ i. Interrupts i (EndsAt old place (step rest) (tree_of new)))
+
+-- A command that is on its way: what is left of it at the later table, and nothing but own parts changed.
+pub record IsOnWay (old : table.Tree) (place : table_place.Place) (whole : Styled) (now : table.Tree) (rest : Styled) : Type 0 where
+  pub leads : Leads old place whole now rest
+  pub level : IsLevel old now

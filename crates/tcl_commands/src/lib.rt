@@ -4,4 +4,7 @@
 mod answers;
 pub mod ends;
 pub mod lists;
+mod steps;
 pub mod texts;
+pub mod unsetting;
+pub mod variables;

@@ -1,0 +1,7 @@
+use Rattle.tcl_commands.proofs.Going.{set_steps}
+use Rattle.tcl_commands.proofs.steps.set_variable.Goals as goal
+
+pub returns-clause-set : goal.returns-clause-set
+returns-clause-set c =
+    let done = c.write_variable.ensures in
+    set_steps c.args.tree.now c.write_variable.new.tree c.args.place c.args.name.now c.args.value c.write_variable.result done.level done.written done.refused done.unchanged
