@@ -2,7 +2,11 @@
 #![tactic(auto)]
 
 #[cfg(test)]
+mod changes;
+#[cfg(test)]
 mod dict_values;
+#[cfg(test)]
+mod limits;
 #[cfg(test)]
 mod nested;
 #[cfg(test)]
