@@ -1,28 +1,11 @@
 -- Words put together into a script.
-use Rattle.std.specs.Prelude.{Bool, true, false, List, [], ◌∷◌, ◌++◌, ◌==◌, cond, ◌&&◌, nat_le}
+use Rattle.std.specs.Prelude.{Bool, true, false, List, [], ◌∷◌, ◌==◌, cond, ◌&&◌, nat_le, codes}
 use Rattle.tcl_core.specs.Paths.{Text}
-use Rattle.tcl_text.specs.Numbers.{trim_start, trim_end}
-
--- the texts that aren't empty
-abbrev pub kept : Text → List Text → List Text
-kept [] xs = xs
-kept (c ∷ cs) xs = (c ∷ cs) ∷ xs
-
-abbrev pub trimmed : List Text → List Text
-trimmed [] = []
-trimmed (x ∷ xs) = kept (trim_end (trim_start x)) (trimmed xs)
-
-abbrev pub behind : List Text → Text
-behind [] = []
-behind (x ∷ xs) = 32 ∷ (x ++ behind xs)
-
-abbrev pub spaced : List Text → Text
-spaced [] = []
-spaced (x ∷ xs) = x ++ behind xs
+use Rattle.tcl_list_texts.specs.Joining.{joined, filled}
 
 -- White space is trimmed off both ends of each word, what is then empty left out, and the rest joined by one space.
 abbrev pub concat : List Text → Text
-concat xs = spaced (trimmed xs)
+concat xs = joined (codes " ") (filled xs)
 
 -- whether a word can be a level that `uplevel` takes: digits, or `#` and digits
 abbrev pub are_digits : Text → Bool

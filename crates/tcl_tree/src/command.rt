@@ -7,6 +7,7 @@ use crate::alias::Alias;
 use crate::builtin::Builtin;
 use crate::procedure::Procedure;
 use indexmap::IndexMap;
+use std::alloc::AllocError;
 use tcl_text::text::Text;
 
 /// What the name of a command stands for.
@@ -18,6 +19,19 @@ pub enum Command {
     Alias(Alias),
     /// The child interpreter of that name.
     Child,
+}
+
+impl Clone for Command {
+    ghost is_clone = { λ x y. y ≡ x };
+
+    fn clone(&self) -> Result<Command, AllocError> {
+        Ok(match self {
+            Command::Builtin(builtin) => Command::Builtin(*builtin),
+            Command::Procedure(procedure) => Command::Procedure(procedure.clone()?),
+            Command::Alias(alias) => Command::Alias(alias.clone()?),
+            Command::Child => Command::Child,
+        })
+    }
 }
 
 /// Commands by their names, in the order in which they were made.

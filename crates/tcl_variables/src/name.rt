@@ -20,14 +20,14 @@ fn element_parts(name: &str) -> Option<(&str, &str)>
 }
 
 /// What follows two leading colons.
-fn after_leading(name: &str) -> Option<&str>
+pub fn after_leading(name: &str) -> Option<&str>
     ensures { option_copied result ≡ after_colons name.now }
 {
     name.strip_prefix(':')?.strip_prefix(':')
 }
 
 /// Whether two colons stand side by side.
-fn with_colons(name: &str) -> bool
+pub fn with_colons(name: &str) -> bool
     ensures { result ≡ has_colons name.now }
 {
     let mut after_colon = false;

@@ -24,6 +24,14 @@ impl Tree {
         node.state.commands.get(name)
     }
 
+    /// What a name stands for among the hidden commands of the interpreter that the place names. This takes no memory.
+    pub fn hidden_at(&self, place: Place, name: &Text) -> Option<&Command>
+        ensures { (p : List (List ℕ)) → Names self.now place p → option_copied result ≡ option_and_then (λ n. hidden_in n.own name.now) (tree_of self.now p) }
+    {
+        let node = self.nodes.get(place.key)?;
+        node.state.hidden.get(name)
+    }
+
     /// What a name stands for among the commands of the interpreter at the path. This takes no memory.
     pub fn command(&self, path: &[Text], name: &Text) -> Option<&Command>
         ensures { option_copied result ≡ option_and_then (λ n. command_in n.own name.now) (tree_of self.now path.now) }

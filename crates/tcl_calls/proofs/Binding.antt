@@ -1,0 +1,53 @@
+-- What the parameters of a call are bound to, from the left.
+use Rattle.std.proofs.Common.{◌≡◌, ℕ, ◌+◌, ◌-◌, ◌<◌, ◌≤◌, Bool, true, false, List, [], ◌∷◌, ◌++◌, map, take, drop, get_or, length, Option, Some, None, refl, sym, ◌∙◌, ap, subst, arith}
+use Rattle.std.specs.Prelude.{◌&&◌}
+use Rattle.std.proofs.lemmas.List.{map-append}
+use Rattle.std.proofs.lemmas.Option.{same_Some}
+use Rattle.tcl_language.specs.Control.{bindings, also, by_default, fit_all, last_bound, is_rest}
+use Rattle.tcl_language.specs.Instructions.{fits}
+use Rattle.tcl_tree.specs.declared.parameter.Parameter.{Parameter}
+use Rattle.tcl_calls.specs.Procedures.{pair_of, pairs_of, joined, next_bound}
+use Rattle.tcl_calls.specs.declared.procedures.Binding.{Binding}
+
+by_default_also : (name d : List ℕ) (o : Option (List (List ℕ × List ℕ))) → by_default name (Some d) o ≡ also (name, d) o
+by_default_also name d None = refl
+by_default_also name d (Some rest) = refl
+
+pub bind_next : (ps : List Parameter) (p : Parameter) (args : List (List ℕ)) (value : List ℕ) (others : List (List ℕ)) → 2 ≤ length ps → p ≡ get_or ps 0 p → next_bound p.default args ≡ Some (value, others) →
+    bindings ps args ≡ also (p.name, value) (bindings (drop 1 ps) others)
+bind_next [] p args value others h e n = absurd (omega arith)
+bind_next (x ∷ []) p args value others h e n = absurd (omega arith)
+bind_next (x ∷ y ∷ zs) p (w ∷ ws) value others h e n =
+    let same = same_Some _ _ n in
+    (λ i. also ((sym e i).name, (same i).0) (bindings (y ∷ zs) (same i).1))
+bind_next (x ∷ y ∷ zs) p [] value others h e n = by p.default refl n
+  where
+    by : (d : Option (List ℕ)) → p.default ≡ d → next_bound d [] ≡ Some (value, others) → by_default x.name x.default (bindings (y ∷ zs) []) ≡ also (p.name, value) (bindings (y ∷ zs) others)
+    by None g m = let clash : None ≡ Some (value, others) = m in cc
+    by (Some d) g m =
+        let same = same_Some _ _ m in
+        ap (λ (q : Parameter). by_default q.name q.default (bindings (y ∷ zs) [])) (sym e) ∙ ap (λ (o : Option (List ℕ)). by_default p.name o (bindings (y ∷ zs) [])) g
+        ∙ by_default_also p.name d (bindings (y ∷ zs) []) ∙ (λ i. also (p.name, (same i).0) (bindings (y ∷ zs) (same i).1))
+
+append_one : (xs : List (List ℕ × List ℕ)) (b : List ℕ × List ℕ) (ys : List (List ℕ × List ℕ)) → xs ++ b ∷ ys ≡ (xs ++ b ∷ []) ++ ys
+append_one [] b ys = refl
+append_one (x ∷ xs) b ys = ap (λ zs. x ∷ zs) (append_one xs b ys)
+
+pub joined_also : (before : List (List ℕ × List ℕ)) (b : List ℕ × List ℕ) (o : Option (List (List ℕ × List ℕ))) → joined before (also b o) ≡ joined (before ++ b ∷ []) o
+joined_also before b None = refl
+joined_also before b (Some rest) = ap Some (append_one before b rest)
+
+pub pairs_more : (bs : List Binding) (b : Binding) → pairs_of (bs ++ b ∷ []) ≡ pairs_of bs ++ pair_of b ∷ []
+pairs_more bs b = map-append pair_of bs (b ∷ [])
+
+pub fit_more : (bs : List (List ℕ × List ℕ)) (b : List ℕ × List ℕ) → fit_all bs ≡ true → fits b.1 ≡ true → fit_all (bs ++ b ∷ []) ≡ true
+fit_more [] b h f = ap (λ x. x && true) f
+fit_more (x ∷ bs) b h f = by (fits x.1) (fit_all bs) (fit_all (bs ++ b ∷ [])) h (λ g. fit_more bs b g f)
+  where
+    by : (a c d : Bool) → (a && c) ≡ true → (c ≡ true → d ≡ true) → (a && d) ≡ true
+    by true c d g k = k g
+    by false c d g k = g
+
+pub first_of_two : {A : Type 0} (xs : List A) (x : A) → x ≡ get_or xs 0 x → 1 ≤ length xs → take (length xs - 1) (drop 1 xs) ≡ drop 1 xs
+first_of_two [] x e h = refl
+first_of_two (y ∷ ys) x e h = let n : length (y ∷ ys) - 1 ≡ length ys = omega arith in ap (λ m. take m ys) n ∙ Rattle.std.proofs.Math.Seq.take-length ys

@@ -1,0 +1,2 @@
+mod Binding
+mod Closing

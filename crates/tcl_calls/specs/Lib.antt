@@ -1,0 +1,4 @@
+pub mod Catching
+pub mod Found
+pub mod Procedures
+pub mod Words

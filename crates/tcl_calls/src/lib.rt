@@ -1,0 +1,10 @@
+//! What calls of commands are put together from: the words of a command, the command that its first word names, and the frame of a
+//! procedure.
+#![tactic(auto)]
+
+pub mod catching;
+pub mod lookup;
+pub mod procedures;
+pub mod scripts;
+pub mod setting;
+pub mod words;

@@ -1,0 +1,73 @@
+//! The commands that words name.
+ghost use Rattle.std.specs.Prelude.{◌≡◌, IfOk, Some, None};
+ghost use Rattle.tcl_core.specs.Paths.{Path};
+ghost use Rattle.tcl_core.specs.Trees as core;
+ghost use Rattle.tcl_language.specs.Naming.{command_name, without_colons};
+ghost use Rattle.tcl_run.specs.Ends.{Gave, itself};
+ghost use Rattle.tcl_tree.specs.Own.{Own};
+ghost use Rattle.tcl_tree.specs.TreeOf.{tree_of, Names};
+ghost use Rattle.tcl_calls.specs.Found.{found, hidden_found};
+
+use std::alloc::{AllocError, Global};
+use tcl_run::failure::{bad_name, invalid_command, invalid_hidden};
+use tcl_run::interruption::Interruption;
+use tcl_text::text::Text;
+use tcl_tree::command::Command;
+use tcl_tree::tree::{Place, Tree};
+use tcl_value::value::Value;
+use tcl_variables::name::{after_leading, with_colons};
+
+/// The name, where no two colons stand side by side in it.
+fn plain(name: Text) -> Option<Text>
+    ensures { result ≡ without_colons name }
+{
+    if with_colons(name.as_str()) {
+        return None;
+    }
+    Some(name)
+}
+
+/// The name by which a command is kept that is called so: two leading colons name the global level, which is the only one.
+fn kept_name(alloc: Global, word: &Value) -> Result<Option<Text>, AllocError>
+    ensures { IfOk result (λ name. name ≡ command_name word.now) }
+{
+    let name = word.text(alloc)?;
+    if let Some(rest) = after_leading(name.as_str()) {
+        return Ok(plain(Text::new(alloc, rest)?));
+    }
+    Ok(plain(name))
+}
+
+/// The command that a word names in the interpreter.
+pub fn find_command(
+    tree: &Tree,
+    alloc: Global,
+    place: Place,
+    word: &Value,
+) -> Result<Command, Interruption>
+    ensures { (p : Path) (n : core.Node Own) → Names tree.now place p → tree_of tree.now p ≡ Some n → Gave itself (found n word.now) result }
+{
+    let Some(name) = kept_name(alloc, word)? else {
+        return Err(bad_name(alloc, word.text(alloc)?.as_str()));
+    };
+    match tree.command_at(place, &name) {
+        Some(command) => Ok(command.clone()?),
+        None => Err(invalid_command(alloc, word.text(alloc)?.as_str())),
+    }
+}
+
+/// The hidden command of this name in the interpreter.
+pub fn find_hidden(
+    tree: &Tree,
+    alloc: Global,
+    place: Place,
+    word: &Value,
+) -> Result<Command, Interruption>
+    ensures { (p : Path) (n : core.Node Own) → Names tree.now place p → tree_of tree.now p ≡ Some n → Gave itself (hidden_found n word.now) result }
+{
+    let name = word.text(alloc)?;
+    match tree.hidden_at(place, &name) {
+        Some(command) => Ok(command.clone()?),
+        None => Err(invalid_hidden(alloc, name.as_str())),
+    }
+}

@@ -1,0 +1,238 @@
+//! Calls of procedures.
+ghost use Rattle.std.specs.Prelude.{◌≡◌, ◌++◌, ◌∷◌, [], true, false, IfOk, IfErr, OnOk, Some, None, option_map};
+ghost use Rattle.std.specs.String.{string_bytes};
+ghost use Rattle.tcl_core.specs.Endings.Reply.{Completed};
+ghost use Rattle.tcl_core.specs.Paths.{Path};
+ghost use Rattle.tcl_core.specs.Trees as core;
+ghost use Rattle.tcl_core.specs.Trees.{effect};
+ghost use Rattle.tcl_core.specs.Trees.What.{Changed};
+ghost use Rattle.tcl_language.specs.Control.{last_bound, bindings, bound, in_frame, out_of_frame, fit_all, parameter_form, last_form, parameters_form, proc_form, is_rest};
+ghost use Rattle.tcl_language.specs.Instructions.{too_long as too_long_error, fits};
+ghost use Rattle.tcl_language.specs.Faults as faults;
+ghost use Rattle.tcl_run.specs.Ends.{Interrupts, failing};
+ghost use Rattle.tcl_run.specs.Runs.{IsLevel};
+ghost use Rattle.tcl_tree.specs.Own.{Own};
+ghost use Rattle.tcl_tree.specs.TreeOf.{tree_of, Names};
+ghost use Rattle.tcl_run.specs.declared.interruption.Interruption.TheVariants.{Memory};
+ghost use Rattle.tcl_text.specs.Writing.{written_list};
+ghost use Rattle.tcl_calls.specs.Procedures.{form_of, pairs_of, joined, next_bound, Bound, IsBoundTo, TooLongBound};
+
+use std::alloc::{AllocError, Global};
+use tcl_frames::frames::Frames;
+use tcl_lists::commands::list;
+use tcl_run::failure::{refused, wrong_args};
+use tcl_run::interruption::Interruption;
+use tcl_run::steps::known_short;
+use tcl_text::text::Text;
+use tcl_tree::parameter::Parameter;
+use tcl_tree::tree::{Place, Tree};
+use tcl_value::list::List;
+use tcl_value::value::Value;
+use tcl_variables::fault::FrameError;
+
+/// What a parameter is bound to in a call.
+#[derive(Drop)]
+pub struct Binding {
+    pub name: Text,
+    pub value: Value,
+}
+
+/// Sets the variables of these names in the frame on top. A name that can't be set is left out.
+fn bind_all(
+    frames: &mut Frames,
+    alloc: Global,
+    bindings: &[Binding],
+) -> Result<(), Interruption>
+    ensures bound { OnOk result (frames.new ≡ bound (pairs_of bindings.now) frames.old) }
+    ensures memory { IfErr result (λ i. i ≡ Memory) }
+{
+    'bindings: for binding in bindings {
+        match frames.set(alloc, &binding.name, binding.value.clone()?) {
+            Ok(()) => {}
+            Err(FrameError::Fault(_)) => {}
+            Err(FrameError::Memory) => return Err(Interruption::Memory),
+        }
+    }
+    Ok(())
+}
+
+/// Puts a frame with these words and variables on top.
+pub fn enter_frame(
+    tree: &mut Tree,
+    alloc: Global,
+    place: Place,
+    words: Vec<Value>,
+    bindings: &[Binding],
+) -> Result<(), Interruption>
+    requires { (p : Path) × Names tree.old place p }
+    ensures entered { OnOk result ((p : Path) (n : core.Node Own) → Names tree.old place p → tree_of tree.old p ≡ Some n → tree_of tree.new ≡ effect p (Changed (in_frame words.items (pairs_of bindings.now) n.own)) (tree_of tree.old)) }
+    ensures memory { IfErr result (λ i. i ≡ Memory) }
+    ensures level { IsLevel tree.old tree.new }
+{
+    let Some(frames) = tree.frames_of(place) else {
+        return Err(Interruption::Memory);
+    };
+    frames.push(alloc, words)?;
+    bind_all(frames, alloc, bindings)
+}
+
+/// Takes the frame on top off.
+pub fn leave_frame(tree: &mut Tree, place: Place)
+    requires { (p : Path) × Names tree.old place p }
+    ensures left { (p : Path) (n : core.Node Own) → Names tree.old place p → tree_of tree.old p ≡ Some n → tree_of tree.new ≡ effect p (Changed (out_of_frame n.own)) (tree_of tree.old) }
+    ensures level { IsLevel tree.old tree.new }
+{
+    match tree.frames_of(place) {
+        Some(frames) => frames.pop(),
+        None => unreachable!(),
+    }
+}
+
+/// What the parameters of a call are bound to, from the left: a word, or the default where none is left. A last `args` takes the list of
+/// what is left. None where words are too few or too many. (proc(n))
+pub fn bind(
+    alloc: Global,
+    parameters: &[Parameter],
+    args: &[Value],
+) -> Result<Option<Vec<Binding>>, Interruption>
+    ensures bound { IfOk result (λ found. Bound (option_map (λ v. pairs_of v.items) found) (bindings parameters.now args.now)) }
+    ensures refused { IfErr result (λ i. Interrupts i (λ e. TooLongBound (bindings parameters.now args.now) e)) }
+{
+    let mut made = Vec::new(alloc);
+    let mut rest = parameters;
+    let mut left = args;
+    'parameters: loop {
+        match rest {
+            [] => return Ok(if left.is_empty() { Some(made) } else { None }),
+            [last] => return bind_last(alloc, made, last, left),
+            [parameter, _, ..] => {
+                let Some((value, others)) = next_value(parameter, left)? else {
+                    return Ok(None);
+                };
+                made.push(Binding {
+                    name: parameter.name.clone()?,
+                    value: known_short(value),
+                })?;
+                rest = &rest[1..];
+                left = others;
+            }
+        }
+    }
+}
+
+/// The next word, or the parameter's default where none is left, with the words behind it.
+fn next_value<'a>(
+    parameter: &Parameter,
+    left: &'a [Value],
+) -> Result<Option<(Value, &'a [Value])>, AllocError>
+    ensures { IfOk result (λ found. option_map (λ x. (x.0, x.1.now)) found ≡ next_bound parameter.now.default left.now) }
+{
+    match left {
+        [word, others @ ..] => Ok(Some((word.clone()?, others))),
+        [] => match &parameter.default {
+            Some(default) => Ok(Some((default.clone()?, left))),
+            None => Ok(None),
+        },
+    }
+}
+
+/// The bindings with that of the last parameter.
+fn bind_last(
+    alloc: Global,
+    made: Vec<Binding>,
+    parameter: &Parameter,
+    left: &[Value],
+) -> Result<Option<Vec<Binding>>, Interruption>
+    requires { fit_all (pairs_of made.items) ≡ true }
+    ensures bound { IfOk result (λ found. Bound (option_map (λ v. pairs_of v.items) found) (joined (pairs_of made.items) (last_bound (is_rest parameter.now.name) parameter.now left.now))) }
+    ensures refused { IfErr result (λ i. Interrupts i (λ e. TooLongBound (joined (pairs_of made.items) (last_bound (is_rest parameter.now.name) parameter.now left.now)) e)) }
+{
+    let Some(value) = last_value(alloc, parameter, left)? else {
+        return Ok(None);
+    };
+    let mut made = made;
+    made.push(Binding {
+        name: parameter.name.clone()?,
+        value: known_short(value),
+    })?;
+    Ok(Some(made))
+}
+
+/// What the last parameter is bound to, where these words are left.
+fn last_value(
+    alloc: Global,
+    parameter: &Parameter,
+    left: &[Value],
+) -> Result<Option<Value>, Interruption>
+    ensures bound { IfOk result (λ found. IsBoundTo parameter.now found (last_bound (is_rest parameter.now.name) parameter.now left.now)) }
+    ensures refused { IfErr result (λ i. Interrupts i (λ e. TooLongBound (last_bound (is_rest parameter.now.name) parameter.now left.now) e)) }
+{
+    if parameter.name.as_str() == "args" {
+        return Ok(Some(list_value(alloc, left)?));
+    }
+    match left {
+        [word] => Ok(Some(word.clone()?)),
+        [_, _, ..] => Ok(None),
+        [] => match &parameter.default {
+            Some(default) => Ok(Some(default.clone()?)),
+            None => Ok(None),
+        },
+    }
+}
+
+/// The list of these words.
+fn list_value(alloc: Global, words: &[Value]) -> Result<Value, Interruption>
+    ensures made { IfOk result (λ value. value ≡ written_list words.now) }
+    ensures refused { IfErr result (λ i. Interrupts i (λ e. (fits (written_list words.now) ≡ false) × (e ≡ Completed too_long_error))) }
+{
+    match list(alloc, words) {
+        Ok(value) => Ok(value),
+        Err(refusal) => Err(refused(alloc, refusal)),
+    }
+}
+
+/// The error of a call with too few or too many words.
+pub fn wrong_form(alloc: Global, word: &Value, parameters: &[Parameter]) -> Interruption
+    ensures { Interrupts result (λ e. e ≡ Completed (failing (faults.wrong_args (proc_form word.now parameters.now)))) }
+{
+    match form(alloc, word, parameters) {
+        Ok(form) => wrong_args(alloc, form.as_str()),
+        Err(_) => Interruption::Memory,
+    }
+}
+
+/// The form of a call: the name and the parameters.
+fn form(alloc: Global, word: &Value, parameters: &[Parameter]) -> Result<String, AllocError>
+    ensures { IfOk result (λ form. string_bytes form ≡ proc_form word.now parameters.now) }
+{
+    let mut form = String::new(alloc);
+    word.write_to(alloc, &mut form)?;
+    'parameters: for index in 0..parameters.len() {
+        let is_last = parameters.len() - index == 1;
+        add_form(alloc, &mut form, &parameters[index], is_last)?;
+    }
+    Ok(form)
+}
+
+/// Adds a parameter to a form.
+fn add_form(
+    alloc: Global,
+    form: &mut String,
+    parameter: &Parameter,
+    is_last: bool,
+) -> Result<(), AllocError>
+    ensures { OnOk result (string_bytes form.new ≡ string_bytes form.old ++ 32 ∷ form_of is_last parameter.now) }
+{
+    form.push_str(" ")?;
+    if is_last && parameter.name.as_str() == "args" {
+        return form.push_str("?arg ...?");
+    }
+    match &parameter.default {
+        None => form.push_str(parameter.name.as_str()),
+        Some(_) => {
+            form.push_str("?")?;
+            form.push_str(parameter.name.as_str())?;
+            form.push_str("?")
+        }
+    }
+}

@@ -1,0 +1,121 @@
+-- What is known of an end.
+use Rattle.std.proofs.Common.{◌≡◌, ℕ, pos, List, [], sym, ap, subst, refl, ◌∙◌}
+use Rattle.std.specs.Prelude.{Result, Ok, Err, MatchResult, IfErr, Some}
+use Rattle.tcl_core.specs.Paths.{Path}
+use Rattle.tcl_core.specs.Trees.{Node}
+use Rattle.tcl_tree.specs.Own.{Own}
+use Rattle.tcl_tree.specs.TreeOf.{tree_of, Names}
+use Rattle.tcl_tree.specs.declared.tree.Tree.{Tree as Table}
+use Rattle.tcl_tree.specs.declared.tree.Place.{Place as TablePlace}
+use Rattle.tcl_core.specs.Endings.{Completion, Reply, ok}
+use Rattle.tcl_core.specs.Endings.Reply.{Completed}
+use Rattle.tcl_flow.specs.View.{completion_of}
+use Rattle.tcl_language.specs.Faults.{frame_message}
+use Rattle.tcl_variables.specs.Faults.{Refuses}
+use Rattle.tcl_variables.specs.declared.fault.FrameFault.{FrameFault}
+use Rattle.tcl_variables.specs.declared.fault.FrameError.{FrameError}
+use Rattle.tcl_variables.specs.declared.fault.FrameError.TheVariants as frame_error
+use Rattle.tcl_run.specs.declared.interruption.Interruption.{Interruption}
+use Rattle.tcl_run.specs.declared.interruption.Interruption.TheVariants as interruption
+use Rattle.tcl_text.specs.Reading.{Fails}
+use Rattle.tcl_text.specs.Writing.{fault_message}
+use Rattle.tcl_text.specs.declared.list.ListFault.{ListFault}
+use Rattle.tcl_text.specs.declared.list.ListError.{ListError}
+use Rattle.tcl_text.specs.declared.list.ListError.TheVariants as list_error
+use Rattle.std.proofs.Common.{Bool, true, false}
+use Rattle.std.specs.Prelude.{nat_le, if◌then◌else◌, length}
+use Rattle.tcl_language.specs.Instructions.{fits, too_long}
+use Rattle.tcl_words.specs.Faults.{too_long as too_long_text}
+use Rattle.tcl_words.specs.Limits.{limited}
+use Rattle.tcl_words.specs.Outcomes.{Refuses}
+use Rattle.tcl_words.specs.declared.refusal.Refusal.{Refusal}
+use Rattle.tcl_words.specs.declared.refusal.Refusal.TheVariants as refusal
+use Rattle.tcl_run.specs.Ends.{Interrupts, IfEnded, IsFailure, IsText, Tells, ListTells, WordsTell, failing, itself}
+
+pub Interrupts-more : (i : Interruption) (P Q : Reply → Type 0) → ((r : Reply) → P r → Q r) → Interrupts i P → Interrupts i Q
+Interrupts-more interruption.Memory P Q f p = tt
+Interrupts-more (interruption.Completed c) P Q f p = f _ p
+Interrupts-more (interruption.Stopped s) P Q f p = f _ p
+Interrupts-more (interruption.Exited n) P Q f p = f _ p
+Interrupts-more (interruption.Cut c) P Q f p = f _ p
+
+pub IfEnded-more : (r : Result (List ℕ) Interruption) (P Q : Reply → Type 0) → ((e : Reply) → P e → Q e) → IfEnded r P → IfEnded r Q
+IfEnded-more (Ok text) P Q f p = f _ p
+IfEnded-more (Err i) P Q f p = Interrupts-more i P Q f p
+
+-- a refusal of the variables is a failure of what was read
+pub tells : {A : Type 0} (error : FrameError) (read : Result A FrameFault) (i : Interruption) → Refuses error read → Tells error i → Interrupts i (IsFailure frame_message read)
+tells frame_error.Memory read i w t = subst (λ (j : Interruption). Interrupts j (IsFailure frame_message read)) (sym t) tt
+tells (frame_error.Fault g) (Ok x) i w t = elim w [ ]
+tells (frame_error.Fault g) (Err f) i w t = Interrupts-more i _ _ (λ r e. e ∙ ap (λ (h : FrameFault). Completed (Rattle.tcl_run.specs.Ends.failing (frame_message h))) w) t
+
+pub list_tells : {A : Type 0} (error : ListError) (read : Result A ListFault) (i : Interruption) → Fails error read → ListTells error i → Interrupts i (IsFailure fault_message read)
+list_tells list_error.Memory read i w t = subst (λ (j : Interruption). Interrupts j (IsFailure fault_message read)) (sym t) tt
+list_tells (list_error.Fault g) (Ok x) i w t = let clash : Ok x ≡ Err g = w in cc
+list_tells (list_error.Fault g) (Err f) i w t = Interrupts-more i _ _ (λ r e. e ∙ ap (λ (h : Result _ ListFault). Completed (Rattle.tcl_run.specs.Ends.failing (of_err h g))) (sym w)) t
+  where
+    of_err : {A : Type 0} → Result A ListFault → ListFault → List ℕ
+    of_err (Ok x) g = []
+    of_err (Err f) g = fault_message f
+
+-- an end with an ordinary text
+pub of_text : (r : Result (List ℕ) Interruption) (text : List ℕ) (P : Reply → Type 0) → IsText r text → IfEnded r P → (c : Completion) × P (Completed c) × (c.code ≡ pos 0) × (c.text ≡ text)
+of_text (Ok t) text P e p = (ok t, p, refl, e)
+of_text (Err interruption.Memory) text P e p = elim e [ ]
+of_text (Err (interruption.Completed c)) text P e p = (completion_of c, p, e.0, e.1)
+of_text (Err (interruption.Stopped s)) text P e p = elim e [ ]
+of_text (Err (interruption.Exited n)) text P e p = elim e [ ]
+of_text (Err (interruption.Cut c)) text P e p = elim e [ ]
+
+pub Interrupts-both : (i : Interruption) (P Q R : Reply → Type 0) → ((e : Reply) → P e → Q e → R e) → Interrupts i P → Interrupts i Q → Interrupts i R
+Interrupts-both interruption.Memory P Q R f p q = tt
+Interrupts-both (interruption.Completed c) P Q R f p q = f _ p q
+Interrupts-both (interruption.Stopped s) P Q R f p q = f _ p q
+Interrupts-both (interruption.Exited n) P Q R f p q = f _ p q
+Interrupts-both (interruption.Cut c) P Q R f p q = f _ p q
+
+-- what holds of an interruption wherever the place is
+pub Interrupts-at : (i : Interruption) (t : Table) (place : TablePlace) (P : Node Own → Reply → Type 0) →
+    ((p : Path) (n : Node Own) → Names t place p → tree_of t p ≡ Some n → Interrupts i (P n)) →
+    Interrupts i (λ e. (p : Path) (n : Node Own) → Names t place p → tree_of t p ≡ Some n → P n e)
+Interrupts-at interruption.Memory t place P f = tt
+Interrupts-at (interruption.Completed c) t place P f = f
+Interrupts-at (interruption.Stopped s) t place P f = f
+Interrupts-at (interruption.Exited n) t place P f = f
+Interrupts-at (interruption.Cut c) t place P f = f
+
+pub IfEnded-at : (r : Result (List ℕ) Interruption) (t : Table) (place : TablePlace) (P : Node Own → Reply → Type 0) →
+    ((p : Path) (n : Node Own) → Names t place p → tree_of t p ≡ Some n → IfEnded r (P n)) →
+    IfEnded r (λ e. (p : Path) (n : Node Own) → Names t place p → tree_of t p ≡ Some n → P n e)
+IfEnded-at (Ok text) t place P f = f
+IfEnded-at (Err i) t place P f = Interrupts-at i t place P f
+
+-- what is said of an interruption that is passed on
+pub at_err : {A : Type 0} (r : Result A Interruption) (i y : Interruption) (P Q : Reply → Type 0) → r ≡ Err y → y ≡ i → Interrupts i P → ((e : Reply) → P e → Q e) → IfErr r (λ j. Interrupts j Q)
+at_err r i y P Q e same h k = subst (λ (x : Result _ Interruption). IfErr x (λ j. Interrupts j Q)) (sym (e ∙ ap Err same)) (Interrupts-more i P Q k h)
+
+pub ended_err : {A : Type 0} (r : Result A Interruption) (i y : Interruption) (R : A → Type 0) (P Q : Reply → Type 0) → r ≡ Err y → y ≡ i → Interrupts i P → ((e : Reply) → P e → Q e) → MatchResult r R (λ j. Interrupts j Q)
+ended_err r i y R P Q e same h k = subst (λ (x : Result _ Interruption). MatchResult x R (λ j. Interrupts j Q)) (sym (e ∙ ap Err same)) (Interrupts-more i P Q k h)
+
+-- a refusal of words is a failure of what they come to
+pub words_tell : {A : Type 0} (e : Refusal) (outcome : Result A (List ℕ)) (i : Interruption) → Refuses e outcome → WordsTell e i → Interrupts i (IsFailure itself outcome)
+words_tell refusal.Memory outcome i w t = subst (λ (j : Interruption). Interrupts j (IsFailure itself outcome)) (sym t) tt
+words_tell (refusal.Fault text) (Ok x) i w t = let clash : Ok x ≡ Err text = w in cc
+words_tell (refusal.Fault text) (Err f) i w t =
+    let same : f ≡ text = cc in
+    Interrupts-more i _ _ (λ r e. e ∙ ap (λ (x : List ℕ). Completed (failing x)) (sym same)) t
+
+-- a text that may be too long
+pub limited_fails : (text : List ℕ) (e : Reply) → IsFailure itself (limited text) e → (fits text ≡ false) × (e ≡ Completed too_long)
+limited_fails text e h = by (fits text) refl h
+  where
+    by : (b : Bool) → fits text ≡ b → IsFailure itself (if b then Ok text else Err too_long_text) e → (fits text ≡ false) × (e ≡ Completed too_long)
+    by true f g = elim g [ ]
+    by false f g = (f, g)
+
+pub limited_gives : (text value : List ℕ) → limited text ≡ Ok value → (fits text ≡ true) × (value ≡ text)
+limited_gives text value h = by (fits text) refl h
+  where
+    by : (b : Bool) → fits text ≡ b → (if b then Ok text else Err too_long_text) ≡ Ok value → (fits text ≡ true) × (value ≡ text)
+    by true f g = let same : text ≡ value = cc in (f, sym same)
+    by false f g = let clash : Err too_long_text ≡ Ok value = g in cc

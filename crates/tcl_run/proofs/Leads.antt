@@ -1,0 +1,173 @@
+-- One law for each thing that code does on its way: what may come from there may come from here.
+use Rattle.std.proofs.Common.{◌≡◌, ℕ, zero, suc, ◌+◌, ◌-◌, ◌<◌, ◌≤◌, ℤ, Bool, true, false, List, [], ◌∷◌, ◌++◌, Option, Some, None, refl, sym, ◌∙◌, ap, subst, arith, append-nil, length}
+use Rattle.std.specs.Prelude.{is_some, Result, Ok, Err}
+use Rattle.tcl_core.specs.Paths.{Path, Place, Height, rise_to}
+use Rattle.tcl_core.specs.Endings.{Completion, Reply, Meter, IsQuit, refusal, ok}
+use Rattle.tcl_core.specs.Endings.Meter.{Count, Depth}
+use Rattle.tcl_core.specs.Endings.Reply.{Completed, Stop, Exit, Cut}
+use Rattle.tcl_core.specs.Entries.{Entry, Said}
+use Rattle.tcl_core.specs.Entries.Answer.{Replied}
+use Rattle.tcl_core.specs.Entries.Said.{Finished}
+use Rattle.tcl_core.specs.Trees.{Tree, Node, What, Event, Grant, Grants, effect, at, allowing, granted}
+use Rattle.tcl_core.specs.Trees.Grants.{Listed}
+use Rattle.tcl_core.specs.Trees.What.{Seen, Charged, Nested, Unnested, Changed, Refused, Out, In, Done, Back}
+use Rattle.tcl_core.specs.Programs.{Deed, Act, Wrap, Prog, Table, metered, blocked, is_spent, is_deep, changing, brought_back, opens, by_limit}
+use Rattle.tcl_core.specs.Programs.Act.{Look, Change, Charge}
+use Rattle.tcl_core.specs.Programs.Wrap.{Deeper, Framed}
+use Rattle.tcl_core.specs.Programs.Next.{On, Off, TooDeep}
+use Rattle.tcl_core.specs.Programs.Prog.{done, exit, act, go, inside, call, wait}
+use Rattle.tcl_core.specs.Runs.{carried, reached, entering, where_stands}
+use Rattle.tcl_core.specs.Threads.{Threads, Crossings, passing, event, completed, exited, acted, refused, went, passed, wrapped, wrapped_passed, too_deep, shut, called, called_passed, unreached, called_out}
+use Rattle.tcl_core.proofs.PathLaws.{rise_back}
+use Rattle.tcl_tree.specs.Own.{Own}
+use Rattle.tcl_language.specs.Instructions.{Instr, Program, look, change, at_node, or_fails, grown, fails, either, fits, on_ok, on_code, too_long as too_long_error}
+use Rattle.tcl_language.specs.Interpreters.{finished}
+use Rattle.tcl_run.specs.Ends.{failing, IsFailure, too_deep_at}
+use Rattle.tcl_run.specs.Runs.{Comes}
+
+module _ {S : Type 0} {goes : S → Event Own → S → Type 0} {language : Table Own Instr} where
+  -- ## Along equations
+
+  pub at_prog : {T V : Tree Own} {o z : S} {p : Place} {x y : Program} {r : Reply} → x ≡ y → Comes goes language T o p y V z r → Comes goes language T o p x V z r
+  at_prog {T} {V} {o} {z} {p} {x} {y} {r} same t = subst (λ (a : Program). Comes goes language T o p a V z r) (sym same) t
+
+  pub at_reply : {T V : Tree Own} {o z : S} {p : Place} {x : Program} {r s : Reply} → r ≡ s → Comes goes language T o p x V z s → Comes goes language T o p x V z r
+  at_reply {T} {V} {o} {z} {p} {x} {r} {s} same t = subst (λ (a : Reply). Comes goes language T o p x V z a) (sym same) t
+
+  pub at_start : {T U V : Tree Own} {o z : S} {p : Place} {x : Program} {r : Reply} → U ≡ T → Comes goes language U o p x V z r → Comes goes language T o p x V z r
+  at_start {T} {U} {V} {o} {z} {p} {x} {r} same t = subst (λ (a : Tree Own). Comes goes language a o p x V z r) same t
+
+  pub at_finish : {T U V : Tree Own} {o z : S} {p : Place} {x : Program} {r : Reply} → U ≡ V → Comes goes language T o p x V z r → Comes goes language T o p x U z r
+  at_finish {T} {U} {V} {o} {z} {p} {x} {r} same t = subst (λ (a : Tree Own). Comes goes language T o p x a z r) (sym same) t
+
+  -- ## Acts
+
+  pub looks : {T V : Tree Own} {o z : S} {p : Place} {n : Node Own} {k : Node Own → Program} {r : Reply} → T p ≡ Some n →
+      Comes goes language T o p (k n) V z r → Comes goes language T o p (look k) V z r
+  looks {T} {p = p} {n = n} {k = k} there t =
+      acted (None, Seen, On) (λ gs. refl) tt refl (at_prog (ap (λ (q : Place). at_node k (T q)) (append-nil p) ∙ ap (at_node k) there) t)
+
+  pub sees_below : {T V : Tree Own} {o z : S} {p : Place} {k : Tree Own → Program} {r : Reply} →
+      Comes goes language T o p (k (at T p)) V z r → Comes goes language T o p (act Look k) V z r
+  sees_below t = acted (None, Seen, On) (λ gs. refl) tt refl t
+
+  pub changes : {T U V : Tree Own} {o z : S} {p : Place} {n : Node Own} {own : Own} {k : Program} {r : Reply} → T p ≡ Some n → U ≡ effect p (Changed own) T →
+      Comes goes language U o p k V z r → Comes goes language T o p (change own k) V z r
+  changes {own = own} there u t = acted (None, Changed own, On) (λ gs. ap (λ m. Some (changing own m)) there) tt refl (at_start u t)
+
+  pub charges : {T U V : Tree Own} {o z : S} {p : Place} {k : Tree Own → Program} {r : Reply} → blocked is_spent T p ≡ None → U ≡ effect p Charged T →
+      Comes goes language U o p (k (at T p)) V z r → Comes goes language T o p (act Charge k) V z r
+  charges e u t = acted (None, Charged, On) (λ gs. ap (λ b. metered Count Charged b (allowing Count (Listed gs))) e) tt refl (at_start u t)
+
+  pub charge_stops : {T : Tree Own} {o : S} {p : Place} {k : Tree Own → Program} (n : ℕ) → blocked is_spent T p ≡ Some n →
+      Comes goes language T o p (act Charge k) T o (Stop n Count)
+  charge_stops {p = p} n e = refused (None, Refused Count (Some n), Off (Stop n Count)) (λ gs. ap (λ b. metered Count Charged b (granted {O = Own} p (Refused Count (Some n)) (Listed gs))) e) refl refl
+
+  -- ## Inner evaluations
+
+  pub goes_on : {T U V : Tree Own} {o u z : S} {p : Place} {i : Instr} {k : Completion → Program} {c : Completion} {r : Reply} →
+      Comes goes language T o p (language.program i) U u (Completed c) → Comes goes language U u p (k c) V z r → Comes goes language T o p (go i k) V z r
+  goes_on m n = went m n
+
+  pub goes_done : {T V : Tree Own} {o z : S} {p : Place} {i : Instr} {r : Reply} →
+      Comes goes language T o p (language.program i) V z r → Comes goes language T o p (go i done) V z r
+  goes_done {r = Completed c} t = went t completed
+  goes_done {r = Stop n m} t = passed tt t
+  goes_done {r = Exit n} t = passed tt t
+  goes_done {r = Cut c} t = passed tt t
+
+  pub nests_done : {T U V W : Tree Own} {o z : S} {p : Place} {i : Instr} {r : Reply} → blocked is_deep T p ≡ None → U ≡ effect p Nested T → W ≡ effect p Unnested V →
+      Comes goes language U o p (language.program i) V z r → Comes goes language T o p (inside Deeper i done) W z r
+  nests_done {r = Completed c} e u v t = at_finish v (wrapped (None, Nested, On) (λ gs. ap (λ b. metered Depth Nested b (allowing Depth (Listed gs))) e) refl refl (at_start u t) refl completed)
+  nests_done {r = Stop n m} e u v t = at_finish v (wrapped_passed (None, Nested, On) tt (λ gs. ap (λ b. metered Depth Nested b (allowing Depth (Listed gs))) e) refl refl (at_start u t) refl)
+  nests_done {r = Exit n} e u v t = at_finish v (wrapped_passed (None, Nested, On) tt (λ gs. ap (λ b. metered Depth Nested b (allowing Depth (Listed gs))) e) refl refl (at_start u t) refl)
+  nests_done {r = Cut c} e u v t = at_finish v (wrapped_passed (None, Nested, On) tt (λ gs. ap (λ b. metered Depth Nested b (allowing Depth (Listed gs))) e) refl refl (at_start u t) refl)
+
+  -- the limit of the interpreter so many levels up refuses: its own is an error, and another one's a stop
+  pub nest_refused : {T : Tree Own} {o : S} {p : Place} {i : Instr} (n : ℕ) → blocked is_deep T p ≡ Some n → Comes goes language T o p (inside Deeper i done) T o (too_deep_at n)
+  nest_refused {p = p} zero e = too_deep (None, Refused Depth (Some 0), TooDeep) (λ gs. ap (λ b. metered Depth Nested b (granted {O = Own} p (Refused Depth (Some 0)) (Listed gs))) e) refl refl completed
+  nest_refused {p = p} (suc n) e = shut (None, Refused Depth (Some (suc n)), Off (Stop (suc n) Depth)) (λ gs. ap (λ b. metered Depth Nested b (granted {O = Own} p (Refused Depth (Some (suc n))) (Listed gs))) e) refl refl
+
+  -- with other frames, which are put back however it ends
+  pub framed : {T U V W X : Tree Own} {o u z : S} {p : Place} {n m : Node Own} {own : Own} {back : Own → Own} {i : Instr} {k : Completion → Program} {c : Completion} {r : Reply} →
+      T p ≡ Some n → U ≡ effect p (Changed own) T → V p ≡ Some m → W ≡ effect p (Changed (back m.own)) V →
+      Comes goes language U o p (language.program i) V u (Completed c) → Comes goes language W u p (k c) X z r → Comes goes language T o p (inside (Framed own back) i k) X z r
+  framed {T} {U} {V} {W} {X} {o} {u} {z} {p} {n} {m} {own} {back} {i} {k} {c} {r} there a stands b t s =
+      wrapped (None, Changed own, On) (λ gs. ap (λ x. Some (changing own x)) there) refl refl (at_start a t) (closing there_is)
+      (at_start (b ∙ ap (λ (x : Option (Node Own)). effect p (brought_back back x) V) (sym stands)) s)
+    where
+      there_is : brought_back back (V p) ≡ Changed (back m.own)
+      there_is = ap (brought_back back) stands
+
+      closing : brought_back back (V p) ≡ Changed (back m.own) → Crossings goes u (event p (brought_back back (V p))) u
+      closing e = subst (λ (x : What Own). Crossings goes u (event p x) u) (sym e) refl
+
+  pub framed_passed : {T U V W : Tree Own} {o u : S} {p : Place} {n m : Node Own} {own : Own} {back : Own → Own} {i : Instr} {k : Completion → Program} {r : Reply} → IsQuit r →
+      T p ≡ Some n → U ≡ effect p (Changed own) T → V p ≡ Some m → W ≡ effect p (Changed (back m.own)) V →
+      Comes goes language U o p (language.program i) V u r → Comes goes language T o p (inside (Framed own back) i k) W u r
+  framed_passed {T} {U} {V} {W} {o} {u} {p} {n} {m} {own} {back} {i} {k} {r} quit there a stands b t =
+      at_finish (b ∙ ap (λ (x : Option (Node Own)). effect p (brought_back back x) V) (sym stands))
+      (wrapped_passed (None, Changed own, On) quit (λ gs. ap (λ x. Some (changing own x)) there) refl refl (at_start a t) closing)
+    where
+      closing : Crossings goes u (event p (brought_back back (V p))) u
+      closing = subst (λ (x : What Own). Crossings goes u (event p x) u) (sym (ap (brought_back back) stands)) refl
+
+  -- ## What was read, and what has grown
+
+  pub reads_on : {A F : Type 0} {T V : Tree Own} {o z : S} {p : Place} {read : Result A F} {a : A} {r : Reply} (message : F → List ℕ) (k : A → Program) → read ≡ Ok a →
+      Comes goes language T o p (k a) V z r → Comes goes language T o p (or_fails message read k) V z r
+  reads_on message k e t = at_prog (ap (λ x. or_fails message x k) e) t
+
+  pub read_fails : {A F : Type 0} {T : Tree Own} {o : S} {p : Place} (message : F → List ℕ) (read : Result A F) (k : A → Program) (e : Reply) → IsFailure message read e →
+      Comes goes language T o p (or_fails message read k) T o e
+  read_fails message (Ok a) k e d = elim d [ ]
+  read_fails message (Err f) k e d = at_reply d completed
+
+  pub grows : {T V : Tree Own} {o z : S} {p : Place} {r : Reply} (text : List ℕ) (k : List ℕ → Program) → fits text ≡ true →
+      Comes goes language T o p (k text) V z r → Comes goes language T o p (grown text k) V z r
+  grows text k e t = at_prog (ap (λ b. either b (k text) (done too_long_error)) e) t
+
+  pub outgrows : {T : Tree Own} {o : S} {p : Place} {r : Reply} (text : List ℕ) (k : List ℕ → Program) → fits text ≡ false → r ≡ Completed too_long_error →
+      Comes goes language T o p (grown text k) T o r
+  outgrows text k e d = at_prog (ap (λ b. either b (k text) (done too_long_error)) e) (at_reply d completed)
+
+  -- ## Calls of other interpreters of the tree
+
+  calls_as : {T U : Tree Own} {o u : S} {p : Place} {n : ℕ} {down : Path} {i : Entry} {lost : Completion} {m : Node Own} {s : Reply} (a : Place) (r : Reply) → rise_to (Some n) p ≡ Some a → T (a ++ down) ≡ Some m →
+      Comes goes language T o (a ++ down) (language.entry i) U u s → carried (Some n) p down s ≡ r → Comes goes language T o p (call (Some n) down i lost (finished done)) U u r
+  calls_as {T} {U} {o} {u} {p} {n} {down} {i} {lost} {m} {s} a r e there t f = by r f
+    where
+      within : (y : S) (w : Event Own) {h : Option Place} {b : Place} → h ≡ Some b → passing h goes y w y
+      within y w {h} {b} g = subst (λ (x : Option Place). passing x goes y w y) (sym g) refl
+
+      at_target : reached T a down ≡ Some (a ++ down)
+      at_target = ap (λ x. where_stands x (a ++ down)) there
+
+      inner : Comes goes language T o (a ++ down) (entering language (T (a ++ down)) i) U u s
+      inner = at_prog (ap (λ x. entering language x i) there) t
+
+      by : (r : Reply) → carried (Some n) p down s ≡ r → Comes goes language T o p (call (Some n) down i lost (finished done)) U u r
+      by (Completed c) f = called {o1 = o} {o2 = o} {o3 = u} {o4 = u} {o5 = u} a (a ++ down) e at_target
+          (within o (event p (Out (Some n) down i)) e) (within o (event (a ++ down) (In (Some (length down)) i)) (rise_back a down)) inner
+          (within u (event (a ++ down) (Done (Some (length down)) s)) (rise_back a down)) f (within u (event p (Back (Some n) (Replied (carried (Some n) p down s)))) e) completed
+      by (Stop l k) f = called_passed {o1 = o} {o2 = o} {o3 = u} {o4 = u} {o5 = u} a (a ++ down) e at_target
+          (within o (event p (Out (Some n) down i)) e) (within o (event (a ++ down) (In (Some (length down)) i)) (rise_back a down)) inner
+          (within u (event (a ++ down) (Done (Some (length down)) s)) (rise_back a down)) f tt (within u (event p (Back (Some n) (Replied (Stop l k)))) e)
+      by (Exit x) f = called_passed {o1 = o} {o2 = o} {o3 = u} {o4 = u} {o5 = u} a (a ++ down) e at_target
+          (within o (event p (Out (Some n) down i)) e) (within o (event (a ++ down) (In (Some (length down)) i)) (rise_back a down)) inner
+          (within u (event (a ++ down) (Done (Some (length down)) s)) (rise_back a down)) f tt (within u (event p (Back (Some n) (Replied (Exit x)))) e)
+      by (Cut x) f = called_passed {o1 = o} {o2 = o} {o3 = u} {o4 = u} {o5 = u} a (a ++ down) e at_target
+          (within o (event p (Out (Some n) down i)) e) (within o (event (a ++ down) (In (Some (length down)) i)) (rise_back a down)) inner
+          (within u (event (a ++ down) (Done (Some (length down)) s)) (rise_back a down)) f tt (within u (event p (Back (Some n) (Replied (Cut x)))) e)
+
+  pub calls_in : {T U : Tree Own} {o u : S} {p : Place} {n : ℕ} {down : Path} {i : Entry} {lost : Completion} {m : Node Own} {s r : Reply} (a : Place) → rise_to (Some n) p ≡ Some a → T (a ++ down) ≡ Some m →
+      Comes goes language T o (a ++ down) (language.entry i) U u s → r ≡ carried (Some n) p down s → Comes goes language T o p (call (Some n) down i lost (finished done)) U u r
+  calls_in {r = r} a e there t f = calls_as a r e there t (sym f)
+
+  pub finds_none : {T : Tree Own} {o : S} {p : Place} {n : ℕ} {down : Path} {i : Entry} {lost : Completion} {r : Reply} (a : Place) → rise_to (Some n) p ≡ Some a → T (a ++ down) ≡ None → r ≡ Completed lost →
+      Comes goes language T o p (call (Some n) down i lost (finished done)) T o r
+  finds_none {T} {o} {p} {n} {down} {i} {lost} a e gone f = at_reply f (unreached {o1 = o} {o2 = o} a e (ap (λ x. where_stands x (a ++ down)) gone)
+      (within (event p (Out (Some n) down i)) e) (within (event p (Back (Some n) (Replied (Completed lost)))) e) completed)
+    where
+      within : (w : Event Own) {h : Option Place} {b : Place} → h ≡ Some b → passing h goes o w o
+      within w {h} {b} g = subst (λ (x : Option Place). passing x goes o w o) (sym g) refl

@@ -1,0 +1,4 @@
+pub mod Leads
+pub mod Endings
+pub mod Steady
+pub mod Plain

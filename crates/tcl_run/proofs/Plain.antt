@@ -1,0 +1,83 @@
+-- What a program does by itself is what comes of it.
+use Rattle.std.proofs.Common.{◌≡◌, ℕ, zero, suc, Bool, true, false, List, [], ◌∷◌, ◌++◌, Option, Some, None, refl, sym, ap, subst, ◌∙◌, append-nil}
+use Rattle.std.specs.Prelude.{Result, Ok, Err}
+use Rattle.tcl_core.specs.Paths.{Place}
+use Rattle.tcl_core.specs.Endings.{Completion, Reply}
+use Rattle.tcl_core.specs.Endings.Reply.{Completed, Exit}
+use Rattle.tcl_core.specs.Programs.{Table, Deed, changing, making, dropping, dropping_at, spot, either}
+use Rattle.tcl_core.specs.Programs.Act.{Look, Change, Charge, Limit, LimitDepth, Make, Drop}
+use Rattle.tcl_core.specs.Programs.Next.{On}
+use Rattle.tcl_core.specs.Programs.Prog.{done, exit, act, go, inside, call, wait}
+use Rattle.tcl_core.specs.Rules.{IsOn}
+use Rattle.tcl_core.specs.Threads.{completed, exited, acted, Crossings, event}
+use Rattle.tcl_core.specs.Trees.{Tree, Node, Event, effect, at}
+use Rattle.tcl_core.specs.Trees.What.{Seen, Changed, Limited, DepthLimited, Made, Dropped}
+use Rattle.tcl_language.specs.Instructions.{Instr, Program, look, change, at_node, or_fails, fails, grown, fits, too_long}
+use Rattle.tcl_tree.specs.Own.{Own}
+use Rattle.tcl_run.specs.Ends.{IsFailure}
+use Rattle.tcl_run.specs.Plain.{Does}
+use Rattle.tcl_run.specs.Runs.{Comes}
+use Rattle.tcl_run.proofs.Leads.{at_finish, at_reply}
+
+-- making and dropping go on, whatever they come to
+makes_on : (name : List ℕ) (o : Own) (s : Bool) (a b : Option (Node Own)) → (making name o s a b).2 ≡ On
+makes_on name o s None b = refl
+makes_on name o s (Some p) None = refl
+makes_on name o s (Some p) (Some n) = refl
+
+drops_at_on : (name : List ℕ) (d : ℕ) → (dropping_at {O = Own} name d).2 ≡ On
+drops_at_on name zero = refl
+drops_at_on name (suc d) = refl
+
+drops_on : (name : List ℕ) (a : Option (Node Own)) → (dropping name a).2 ≡ On
+drops_on name None = refl
+drops_on name (Some n) = drops_at_on name n.depth
+
+made_unseen : (S : Type 0) (goes : S → Event Own → S → Type 0) (q : Place) (name : List ℕ) (own : Own) (s : Bool) (a b : Option (Node Own)) (o : S) → Crossings goes o (event q (making name own s a b).1) o
+made_unseen S goes q name own s None b o = refl
+made_unseen S goes q name own s (Some p) None o = refl
+made_unseen S goes q name own s (Some p) (Some n) o = refl
+
+dropped_at_unseen : (S : Type 0) (goes : S → Event Own → S → Type 0) (q : Place) (name : List ℕ) (d : ℕ) (o : S) → Crossings goes o (event q (dropping_at {O = Own} name d).1) o
+dropped_at_unseen S goes q name zero o = refl
+dropped_at_unseen S goes q name (suc d) o = refl
+
+dropped_unseen : (S : Type 0) (goes : S → Event Own → S → Type 0) (q : Place) (name : List ℕ) (a : Option (Node Own)) (o : S) → Crossings goes o (event q (dropping name a).1) o
+dropped_unseen S goes q name None o = refl
+dropped_unseen S goes q name (Some n) o = dropped_at_unseen S goes q name n.depth o
+
+module _ {S : Type 0} {goes : S → Event Own → S → Type 0} {language : Table Own Instr} where
+  -- what is done so comes, and the outside isn't told
+  pub does_comes : (x : Program) {T V : Tree Own} {p : Place} {r : Reply} (o : S) → Does x T p V r → Comes goes language T o p x V o r
+  does_comes (done c) o e = at_finish e.0 (at_reply e.1 completed)
+  does_comes (exit n) o e = at_finish e.0 (at_reply e.1 exited)
+  does_comes (act Look k) {T} {p = p} o e = acted (None, Seen, On) (λ gs. refl) tt refl (does_comes (k (at T p)) o e)
+  does_comes (act (Change own) k) {T} {p = p} o e = acted (None, Changed own, On) (λ gs. ap (λ m. Some (changing own m)) e.1) tt refl (does_comes (k (at T p)) o e.2)
+  does_comes (act Charge k) o e = elim e [ ]
+  does_comes (act (Limit l) k) {T} {p = p} o e = acted (None, Limited l, On) (λ gs. refl) tt refl (does_comes (k (at T p)) o e)
+  does_comes (act (LimitDepth l) k) {T} {p = p} o e = acted (None, DepthLimited l, On) (λ gs. refl) tt refl (does_comes (k (at T p)) o e)
+  does_comes (act (Make name own safe) k) {T} {p = p} o e =
+      acted (making name own safe (T p) (T (p ++ name ∷ []))) (λ gs. refl) (subst IsOn (sym (makes_on name own safe (T p) (T (p ++ name ∷ [])))) tt)
+      (made_unseen S goes _ name own safe (T p) (T (p ++ name ∷ [])) o) (does_comes (k (at T p)) o e)
+  does_comes (act (Drop name) k) {T} {p = p} o e =
+      acted (dropping name (T (p ++ name ∷ []))) (λ gs. refl) (subst IsOn (sym (drops_on name (T (p ++ name ∷ [])))) tt)
+      (dropped_unseen S goes _ name (T (p ++ name ∷ [])) o) (does_comes (k (at T p)) o e)
+  does_comes (go i k) o e = elim e [ ]
+  does_comes (inside b i k) o e = elim e [ ]
+  does_comes (call h down i lost k) o e = elim e [ ]
+  does_comes (wait s k) o e = elim e [ ]
+
+-- ## How plain programs are put together
+
+pub does_look : (T V : Tree Own) (p : Place) (r : Reply) (n : Node Own) (k : Node Own → Program) → T p ≡ Some n → Does (k n) T p V r → Does (look k) T p V r
+does_look T V p r n k there d = subst (λ (o : Option (Node Own)). Does (at_node k o) T p V r) (sym (ap T (append-nil p) ∙ there)) d
+
+pub does_change : (T U V : Tree Own) (p : Place) (r : Reply) (n : Node Own) (own : Own) (k : Program) → T p ≡ Some n → U ≡ effect p (Changed own) T → Does k U p V r → Does (change own k) T p V r
+does_change T U V p r n own k there u d = (n, there, subst (λ (X : Tree Own). Does k X p V r) u d)
+
+pub does_read : {A F : Type 0} (T V : Tree Own) (p : Place) (r : Reply) (message : F → List ℕ) (read : Result A F) (a : A) (k : A → Program) → read ≡ Ok a → Does (k a) T p V r → Does (or_fails message read k) T p V r
+does_read {A} {F} T V p r message read a k e d = subst (λ (x : Result A F). Does (or_fails message x k) T p V r) (sym e) d
+
+pub does_fail : {A F : Type 0} (T : Tree Own) (p : Place) (message : F → List ℕ) (read : Result A F) (k : A → Program) (e : Reply) → IsFailure message read e → Does (or_fails message read k) T p T e
+does_fail T p message (Ok a) k e f = elim f [ ]
+does_fail T p message (Err x) k e f = (refl, f)

@@ -1,0 +1,162 @@
+-- What stays as it is while an evaluation goes on.
+use Rattle.std.proofs.Common.{◌≡◌, ℕ, suc, pred, ◌+◌, ◌-◌, ◌<◌, ◌≤◌, Bool, true, false, List, [], ◌∷◌, Option, Some, None, refl, sym, ap, subst, ◌∙◌, arith, append-nil}
+use Rattle.std.specs.Prelude.{is_some}
+use Rattle.std.specs.Option.{option_map}
+use Rattle.std.proofs.lemmas.Bool.Decides.{nat_tests}
+use Rattle.tcl_core.specs.Paths.{Path, Place, strip}
+use Rattle.tcl_core.specs.Trees.{Tree, Node, effect, at_end, where_some, with_own, counted, deeper, shallower}
+use Rattle.tcl_core.specs.Trees.What.{Changed, Charged, Nested, Unnested}
+use Rattle.tcl_core.proofs.PathLaws.{strip_own, strip-sound, not_both}
+use Rattle.tcl_core.specs.Programs.{blocked, is_deep, nearer, full_at}
+use Rattle.tcl_tree.specs.Own.{Own}
+use Rattle.tcl_tree.specs.TreeOf.{tree_of, key_of, marks_of, Names}
+use Rattle.tcl_tree.specs.declared.tree.Tree.{Tree as Table}
+use Rattle.tcl_tree.specs.declared.tree.Place.{Place as TablePlace}
+use Rattle.tcl_run.specs.Runs.{meters_of, meters_at, depth_in, limit_in, depth_at, InUse, IsSteady, IsLevel, IsAt, room}
+use Rattle.tcl_text.specs.declared.integer.Integers.{Integers}
+
+pub meters_changed : (T U : Tree Own) (p q : Path) (own : Own) → U ≡ effect p (Changed own) T → meters_at U q ≡ meters_at T q
+meters_changed T U p q own e = ap (λ (V : Tree Own). meters_at V q) e ∙ by (strip p q) (T q)
+  where
+    by : (s : Option Path) (o : Option (Node Own)) → option_map meters_of (at_end s (with_own own) o) ≡ option_map meters_of o
+    by None o = refl
+    by (Some []) None = refl
+    by (Some []) (Some n) = refl
+    by (Some (x ∷ xs)) o = refl
+
+pub meters_charged : (T U : Tree Own) (p q : Path) → U ≡ effect p Charged T → meters_at U q ≡ meters_at T q
+meters_charged T U p q e = ap (λ (V : Tree Own). meters_at V q) e ∙ by (strip q p) (T q)
+  where
+    by : (s : Option Path) (o : Option (Node Own)) → option_map meters_of (where_some s counted o) ≡ option_map meters_of o
+    by None o = refl
+    by (Some a) None = refl
+    by (Some a) (Some n) = refl
+
+-- what is in used is so one level deeper
+pub deeper_in_use : (T U : Tree Own) (p q : Path) → U ≡ effect p Nested T → InUse T q → InUse U q
+deeper_in_use T U p q e used = subst (λ (V : Tree Own). 0 < depth_at V q) (sym e) (by (strip q p) (T q) used)
+  where
+    by : (s : Option Path) (o : Option (Node Own)) → 0 < depth_in (option_map meters_of o) → 0 < depth_in (option_map meters_of (where_some s deeper o))
+    by None o h = h
+    by (Some a) None h = h
+    by (Some a) (Some n) h = omega arith
+
+-- and after it it is as deep as before
+pub back_again : (T U V W : Tree Own) (p q : Path) → U ≡ effect p Nested T → W ≡ effect p Unnested V → depth_at V q ≡ depth_at U q → depth_at W q ≡ depth_at T q
+back_again T U V W p q e f same =
+    ap (λ (X : Tree Own). depth_at X q) f ∙ by (strip q p) (T q) (V q) (same ∙ ap (λ (X : Tree Own). depth_at X q) e)
+  where
+    by : (s : Option Path) (o v : Option (Node Own)) → depth_in (option_map meters_of v) ≡ depth_in (option_map meters_of (where_some s deeper o)) →
+        depth_in (option_map meters_of (where_some s shallower v)) ≡ depth_in (option_map meters_of o)
+    by None o v h = h
+    by (Some a) None None h = refl
+    by (Some a) None (Some m) h = ap pred h
+    by (Some a) (Some n) None h = ap pred h
+    by (Some a) (Some n) (Some m) h = ap pred h
+
+-- where an evaluation is begun it is in used
+pub begun : (T U : Tree Own) (p : Path) (n : Node Own) → U ≡ effect p Nested T → T p ≡ Some n → InUse U p
+begun T U p n e there = subst (λ (V : Tree Own). 0 < depth_at V p) (sym e) (by (strip p p) (T p) (ap (strip p) (sym (append-nil p)) ∙ strip_own p []) there)
+  where
+    by : (s : Option Path) (o : Option (Node Own)) → s ≡ Some [] → o ≡ Some n → 0 < depth_in (option_map meters_of (where_some s deeper o))
+    by None o g h = elim (not_both refl g) [ ]
+    by (Some a) None g h = let x : None ≡ Some n = h in cc
+    by (Some a) (Some m) g h = omega arith
+
+-- the top is deeper
+pub top_deeper : (T U : Tree Own) (p : Path) (n : Node Own) → U ≡ effect p Nested T → T [] ≡ Some n → depth_at U [] ≡ suc (depth_at T [])
+top_deeper T U p n e there = ap (λ (X : Tree Own). depth_at X []) e ∙ by (T []) there
+  where
+    by : (o : Option (Node Own)) → o ≡ Some n → depth_in (option_map meters_of (deeper o)) ≡ suc (depth_in (option_map meters_of o))
+    by None h = let x : None ≡ Some n = h in cc
+    by (Some m) h = refl
+
+top_free : (full : Node Own → Bool) (T : Tree Own) (p : Path) → blocked full T p ≡ None → full_at full (T []) ≡ false
+top_free full T [] e = by None (full_at full (T [])) 0 e
+  where
+    by : (o : Option ℕ) (b : Bool) (m : ℕ) → nearer o b m ≡ None → b ≡ false
+    by (Some n) b m e = let x : Some n ≡ None = e in cc
+    by None true m e = let x : Some m ≡ None = e in cc
+    by None false m e = refl
+top_free full T (x ∷ xs) e = by (blocked full (λ p. T (x ∷ p)) xs) (full_at full (T [])) (suc (Rattle.std.specs.Prelude.length xs)) e
+  where
+    by : (o : Option ℕ) (b : Bool) (m : ℕ) → nearer o b m ≡ None → b ≡ false
+    by (Some n) b m e = let x : Some n ≡ None = e in cc
+    by None true m e = let x : Some m ≡ None = e in cc
+    by None false m e = refl
+
+-- one level down there is less room
+pub less_room : (T U : Tree Own) (p : Path) (n : Node Own) → T [] ≡ Some n → n.depth_limit ≤ 1000 → blocked is_deep T p ≡ None → U ≡ effect p Nested T → room U < room T
+less_room T U p n there bound free e =
+    let d = top_deeper T U p n e there in
+    let m = by (T []) there (top_free is_deep T p free) in
+    omega arith
+  where
+    by : (o : Option (Node Own)) → o ≡ Some n → full_at is_deep o ≡ false → depth_in (option_map meters_of o) < 1000
+    by None t f = let x : None ≡ Some n = t in cc
+    by (Some m) t f = let same : m ≡ n = cc in let free : Rattle.std.specs.Prelude.nat_le m.depth_limit m.depth ≡ false = f in let c : m.depth_limit ≤ 1000 = subst (λ (x : Node Own). x.depth_limit ≤ 1000) (sym same) bound in grind (arith, nat_tests)
+
+-- ## Tables
+
+pub steady-refl : (t : Table) → IsSteady t t
+steady-refl t = record { marks = refl; keys = λ q k at used. at; depths = λ q. refl; top = refl }
+
+pub level_steady : (s t : Table) → IsLevel s t → IsSteady s t
+level_steady s t l = record {
+  marks = l.marks;
+  keys = λ q k at used. l.keys q ∙ at;
+  depths = λ q. ap depth_in (l.meters q);
+  top = ap depth_in (l.meters []);
+}
+
+pub still_in_use : (s t : Table) (q : Path) → IsSteady s t → InUse (tree_of s) q → InUse (tree_of t) q
+still_in_use s t q h used = subst (λ (n : ℕ). 0 < n) (sym (h.depths q)) used
+
+pub steady-trans : (s t u : Table) → IsSteady s t → IsSteady t u → IsSteady s u
+steady-trans s t u g h = record {
+  marks = h.marks ∙ g.marks;
+  keys = λ q k at used. h.keys q k (g.keys q k at used) (still_in_use s t q g used);
+  depths = λ q. h.depths q ∙ g.depths q;
+  top = h.top ∙ g.top;
+}
+
+pub still_at : (s t : Table) (place : TablePlace) (p : Path) (style : Integers) → IsSteady s t → IsAt s place p style → IsAt t place p style
+still_at s t place p style h at = record {
+  names = h.keys p place.key at.names at.running;
+  style_is = ap (λ m. m.integers) h.marks ∙ at.style_is;
+  running = still_in_use s t p h at.running;
+}
+
+pub charged_level : (s t : Table) (p : Path) → marks_of t ≡ marks_of s → ((q : Path) → key_of t q ≡ key_of s q) → tree_of t ≡ effect p Charged (tree_of s) → IsLevel s t
+charged_level s t p m k e = record { marks = m; keys = k; meters = λ q. meters_charged (tree_of s) (tree_of t) p q e }
+
+pub changed_level : (s t : Table) (p : Path) (own : Own) → marks_of t ≡ marks_of s → ((q : Path) → key_of t q ≡ key_of s q) → tree_of t ≡ effect p (Changed own) (tree_of s) → IsLevel s t
+changed_level s t p own m k e = record { marks = m; keys = k; meters = λ q. meters_changed (tree_of s) (tree_of t) p q own e }
+
+-- an evaluation one level deeper, and back
+pub nested_steady : (s t u v : Table) (p : Path) →
+    marks_of t ≡ marks_of s → ((q : Path) → key_of t q ≡ key_of s q) → tree_of t ≡ effect p Nested (tree_of s) → IsSteady t u →
+    marks_of v ≡ marks_of u → ((q : Path) → key_of v q ≡ key_of u q) → tree_of v ≡ effect p Unnested (tree_of u) → IsSteady s v
+nested_steady s t u v p m1 k1 e1 h m2 k2 e2 = record {
+  marks = m2 ∙ h.marks ∙ m1;
+  keys = λ q k at used. k2 q ∙ h.keys q k (k1 q ∙ at) (deeper_in_use (tree_of s) (tree_of t) p q e1 used);
+  depths = λ q. back_again (tree_of s) (tree_of t) (tree_of u) (tree_of v) p q e1 e2 (h.depths q);
+  top = back_again (tree_of s) (tree_of t) (tree_of u) (tree_of v) p [] e1 e2 h.top;
+}
+
+-- an own part that becomes what it was leaves the tree as it was
+pub changed_same : (T : Tree Own) (p : Path) (n : Node Own) → T p ≡ Some n → effect p (Changed n.own) T ≡ T
+changed_same T p n there = λ i q. at_place q i
+  where
+    by : (q : Path) (s : Option Path) → strip p q ≡ s → at_end s (with_own n.own) (T q) ≡ T q
+    by q None e = refl
+    by q (Some []) e = ap (with_own n.own) (ap T (strip-sound p q [] e ∙ append-nil p) ∙ there) ∙ sym (ap T (strip-sound p q [] e ∙ append-nil p) ∙ there)
+    by q (Some (x ∷ xs)) e = refl
+
+    at_place : (q : Path) → effect p (Changed n.own) T q ≡ T q
+    at_place q = by q (strip p q) refl
+
+-- an interpreter whose key a place has
+pub stands : {A : Type 0} (o : Option A) → is_some o ≡ true → (a : A) × (o ≡ Some a)
+stands None e = let x : false ≡ true = e in cc
+stands (Some a) e = (a, refl)

@@ -1,0 +1,103 @@
+-- How a run goes through the table of interpreters.
+use Rattle.std.specs.Prelude.{◌≡◌, ℕ, ◌<◌, ◌≤◌, ◌-◌, List, [], Option, Some, None, Result, Ok, Err}
+use Rattle.std.specs.Option.{option_map}
+use Rattle.tcl_core.specs.Paths.{Place, Path}
+use Rattle.tcl_core.specs.Endings.{Reply}
+use Rattle.tcl_core.specs.Endings.Reply.{Stop}
+use Rattle.tcl_core.specs.Endings.Meter.{Count}
+use Rattle.tcl_core.specs.Programs.{blocked, is_spent}
+use Rattle.tcl_core.specs.Programs as programs
+use Rattle.tcl_core.specs.Threads.{Threads, Crossings}
+use Rattle.tcl_core.specs.Trees.{Tree, Node, Event, effect}
+use Rattle.tcl_core.specs.Trees.What.{Changed}
+use Rattle.tcl_frames.specs.Chain.{Chain}
+use Rattle.tcl_variables.specs.declared.fault.FrameFault.{FrameFault}
+use Rattle.tcl_tree.specs.Own.{Own}
+use Rattle.tcl_tree.specs.TreeOf.{tree_of, key_of, marks_of, Names}
+use Rattle.tcl_tree.specs.declared.tree.Tree as table
+use Rattle.tcl_tree.specs.declared.tree.Place as table_place
+use Rattle.tcl_text.specs.declared.integer.Integers.{Integers}
+use Rattle.tcl_language.specs.Instructions.{Instr, Program, with_chain}
+use Rattle.tcl_language.specs.Language.{language}
+use Rattle.tcl_run.specs.Ends.{IfEnded}
+use Rattle.tcl_run.specs.declared.interruption.Interruption.{Interruption}
+
+-- From a tree and a state of the outside the program at the place may end so, with these left.
+abbrev pub Comes : {S : Type 0} → (S → Event Own → S → Type 0) → programs.Table Own Instr → Tree Own → S → Place → Program → Tree Own → S → Reply → Type 0
+Comes goes language T o p x V z r = Threads (Crossings goes) language T o p x V z r
+
+-- how many evaluations are in progress in an interpreter, and how many there may be
+abbrev pub meters_of : Node Own → ℕ × ℕ
+meters_of n = (n.depth, n.depth_limit)
+
+abbrev pub meters_at : Tree Own → Place → Option (ℕ × ℕ)
+meters_at T p = option_map meters_of (T p)
+
+abbrev pub depth_in : Option (ℕ × ℕ) → ℕ
+depth_in None = 0
+depth_in (Some m) = m.0
+
+abbrev pub limit_in : Option (ℕ × ℕ) → ℕ
+limit_in None = 0
+limit_in (Some m) = m.1
+
+-- how many evaluations are in progress at a place
+abbrev pub depth_at : Tree Own → Place → ℕ
+depth_at T p = depth_in (meters_at T p)
+
+-- an evaluation is in progress there
+abbrev pub InUse : Tree Own → Place → Type 0
+InUse T p = 0 < depth_at T p
+
+-- how much deeper an evaluation in the tree can go
+abbrev pub room : Tree Own → ℕ
+room T = 1000 - depth_at T []
+
+-- What an evaluation leaves as it is: what is in use keeps its key, and each interpreter its depth.
+pub record IsSteady (old new : table.Tree) : Type 0 where
+  pub marks : marks_of new ≡ marks_of old
+  pub keys : (q : Path) (k : ℕ) → key_of old q ≡ Some k → InUse (tree_of old) q → key_of new q ≡ Some k
+  pub depths : (q : Path) → depth_at (tree_of new) q ≡ depth_at (tree_of old) q
+  -- (the same of the top, for measures of how much deeper an evaluation can go)
+  pub top : depth_at (tree_of new) [] ≡ depth_at (tree_of old) []
+
+-- What a change of own parts, or of counts, leaves as it is: all keys, and all depths with their limits.
+pub record IsLevel (old new : table.Tree) : Type 0 where
+  pub marks : marks_of new ≡ marks_of old
+  pub keys : (q : Path) → key_of new q ≡ key_of old q
+  pub meters : (q : Path) → meters_at (tree_of new) q ≡ meters_at (tree_of old) q
+
+-- an evaluation is in progress in the interpreter that the place names
+abbrev pub IsRunning : table.Tree → table_place.Place → Type 0
+IsRunning t place = (p : Path) × Names t place p × InUse (tree_of t) p
+
+-- a step at p is refused by the limit of an interpreter, and nothing changes
+pub record StopsCounting (T : Tree Own) (p : Place) (U : Tree Own) (e : Reply) : Type 0 where
+  pub levels : ℕ
+  pub full : blocked is_spent T p ≡ Some levels
+  pub same : U ≡ T
+  pub stop : e ≡ Stop levels Count
+
+-- the place names the interpreter at p, in a tree of that style of integers
+pub record IsThere (t : table.Tree) (place : table_place.Place) (p : Path) (style : Integers) : Type 0 where
+  pub names : Names t place p
+  pub style_is : (marks_of t).integers ≡ style
+
+-- and an evaluation is in progress there
+pub record IsAt (t : table.Tree) (place : table_place.Place) (p : Path) (style : Integers) : Type 0 where
+  pub names : Names t place p
+  pub style_is : (marks_of t).integers ≡ style
+  pub running : InUse (tree_of t) p
+
+-- What came of a program in the interpreter that the place names, where an evaluation is in progress.
+abbrev pub Evaluates : {S : Type 0} → (S → Event Own → S → Type 0) → table.Tree → S → table_place.Place → (Integers → Program) → table.Tree → S → Result (List ℕ) Interruption → Type 0
+Evaluates goes old o place program new z result = IfEnded result (λ r. (p : Path) (style : Integers) → IsAt old place p style → Comes goes (language style) (tree_of old) o p (program style) (tree_of new) z r)
+
+-- the same, wherever the place is
+abbrev pub EvaluatesAt : {S : Type 0} → (S → Event Own → S → Type 0) → table.Tree → S → table_place.Place → (Integers → Program) → table.Tree → S → Result (List ℕ) Interruption → Type 0
+EvaluatesAt goes old o place program new z result = IfEnded result (λ r. (p : Path) (style : Integers) → IsThere old place p style → Comes goes (language style) (tree_of old) o p (program style) (tree_of new) z r)
+
+-- the own part at p has another chain, where there is one
+abbrev pub Rechained : Tree Own → Place → Own → Result Chain FrameFault → Tree Own → Type 0
+Rechained T p own (Ok chain) U = U ≡ effect p (Changed (with_chain own chain)) T
+Rechained T p own (Err f) U = ⊥

@@ -1,0 +1,122 @@
+//! The errors of scripts.
+ghost use Rattle.std.specs.Prelude.{◌≡◌, ◌++◌, [], codes, IfOk};
+ghost use Rattle.tcl_language.specs.Faults as faults;
+ghost use Rattle.tcl_variables.specs.Messages.{quoted as quoted_text};
+ghost use Rattle.tcl_core.specs.Endings as core;
+ghost use Rattle.tcl_core.specs.Endings.Reply.{Completed};
+ghost use Rattle.tcl_language.specs.Instructions as language;
+ghost use Rattle.tcl_run.specs.Ends.{Interrupts, WordsTell, failing, too_deep_at};
+
+use crate::interruption::Interruption;
+use std::alloc::{AllocError, Global};
+use tcl_flow::completion;
+use tcl_flow::stop::{Stop, StopKind};
+use tcl_text::text::Text;
+use tcl_value::value::Value;
+use tcl_words::refusal::Refusal;
+
+/// The error of a message within the limit of a value.
+fn error(alloc: Global, message: Value) -> Interruption
+    ensures { Interrupts result (λ e. e ≡ Completed (core.error message)) }
+{
+    match completion::error(alloc, message) {
+        Ok(completion) => Interruption::Completed(completion),
+        Err(_) => Interruption::Memory,
+    }
+}
+
+/// The error that a value would be longer than its limit.
+pub fn too_long(alloc: Global) -> Interruption
+    ensures { Interrupts result (λ e. e ≡ Completed language.too_long) }
+{
+    match Text::new(alloc, "value longer than 16777216 bytes") {
+        Ok(message) => error(alloc, Value::from_short_text(message)),
+        Err(_) => Interruption::Memory,
+    }
+}
+
+/// The error of this message, or that the message is too long.
+pub fn failure(alloc: Global, message: Text) -> Interruption
+    ensures { Interrupts result (λ e. e ≡ Completed (failing message)) }
+{
+    match Value::from_text(message) {
+        Ok(message) => error(alloc, message),
+        Err(_) => too_long(alloc),
+    }
+}
+
+/// The error that a command's refusal of its words is.
+pub fn refused(alloc: Global, refusal: Refusal) -> Interruption
+    ensures { WordsTell refusal result }
+{
+    match refusal {
+        Refusal::Memory => Interruption::Memory,
+        Refusal::Fault(message) => failure(alloc, message),
+    }
+}
+
+/// What becomes of an evaluation that would be too deep for the interpreter so many levels up: where that is its own, an error; else a stop.
+pub fn too_deep(alloc: Global, levels: usize) -> Interruption
+    ensures { Interrupts result (λ e. e ≡ too_deep_at levels) }
+{
+    if levels > 0 {
+        return Interruption::Stopped(Stop {
+            levels_up: levels,
+            kind: StopKind::Depth,
+        });
+    }
+    match StopKind::Depth.error(alloc) {
+        Ok(completion) => Interruption::Completed(completion),
+        Err(_) => Interruption::Memory,
+    }
+}
+
+// A front, a text in quotes and an end.
+fn quoted(alloc: Global, front: &str, text: &str, end: &str) -> Result<Text, AllocError>
+    ensures { IfOk result (λ made. made ≡ quoted_text front.now text.now end.now) }
+{
+    let mut made = String::from_str(alloc, front)?;
+    made.push_str("\"")?;
+    made.push_str(text)?;
+    made.push_str("\"")?;
+    made.push_str(end)?;
+    Text::from_string(alloc, made)
+}
+
+/// The error of a message that quotes a text.
+fn failure_about(alloc: Global, front: &str, text: &str) -> Interruption
+    ensures { Interrupts result (λ e. e ≡ Completed (failing (quoted_text front.now text.now []))) }
+{
+    match quoted(alloc, front, text, "") {
+        Ok(message) => failure(alloc, message),
+        Err(_) => Interruption::Memory,
+    }
+}
+
+/// The words of a command don't have its form.
+pub fn wrong_args(alloc: Global, form: &str) -> Interruption
+    ensures { Interrupts result (λ e. e ≡ Completed (failing (faults.wrong_args form.now))) }
+{
+    failure_about(alloc, "wrong # args: should be ", form)
+}
+
+/// There is no such command.
+pub fn invalid_command(alloc: Global, name: &str) -> Interruption
+    ensures { Interrupts result (λ e. e ≡ Completed (failing (faults.invalid_command name.now))) }
+{
+    failure_about(alloc, "invalid command name ", name)
+}
+
+/// There is no such hidden command.
+pub fn invalid_hidden(alloc: Global, name: &str) -> Interruption
+    ensures { Interrupts result (λ e. e ≡ Completed (failing (faults.invalid_hidden name.now))) }
+{
+    failure_about(alloc, "invalid hidden command name ", name)
+}
+
+/// Nothing may have this name.
+pub fn bad_name(alloc: Global, name: &str) -> Interruption
+    ensures { Interrupts result (λ e. e ≡ Completed (failing (faults.bad_name name.now))) }
+{
+    failure_about(alloc, "bad name ", name)
+}

@@ -1,0 +1,47 @@
+//! What ends an evaluation other than an ordinary result.
+ghost use Rattle.std.specs.Prelude.{◌≡◌};
+ghost use Rattle.tcl_run.specs.declared.interruption.Interruption.TheVariants.{Memory};
+
+use std::alloc::{AllocError, AllocFailed};
+use tcl_flow::completion::Completion;
+use tcl_flow::stop::Stop;
+
+/// What cuts an evaluation off from outside its tree.
+#[derive(Clone, Copy, Debug, Drop)]
+pub enum Cause {
+    /// A stop that names an interpreter above the tree.
+    Above,
+    /// The run is over: its budget is spent, or a move didn't fit.
+    Over,
+}
+
+/// Why an evaluation has no ordinary result.
+#[derive(Drop)]
+pub enum Interruption {
+    /// Memory was wanted. No script is told of it.
+    Memory,
+    /// It completed otherwise, as by an error or a return.
+    Completed(Completion),
+    /// A step or a level would have passed a limit. No script of the interpreters that it ends is told of it.
+    Stopped(Stop),
+    /// The whole run ends with this status.
+    Exited(i64),
+    /// It was ended from outside its tree.
+    Cut(Cause),
+}
+
+impl From<AllocError> for Interruption {
+    ghost from_gives = { λ _ interruption. interruption ≡ Memory };
+
+    fn from(_e: AllocError) -> Interruption {
+        Interruption::Memory
+    }
+}
+
+impl<T: Drop> From<AllocFailed<T>> for Interruption {
+    ghost from_gives = { λ _ interruption. interruption ≡ Memory };
+
+    fn from(_e: AllocFailed<T>) -> Interruption {
+        Interruption::Memory
+    }
+}

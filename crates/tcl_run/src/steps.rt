@@ -1,0 +1,153 @@
+//! The steps that evaluations are put together from.
+ghost use Rattle.std.specs.Prelude.{◌≡◌, true, Some, None, Err, IfOk, IfErr, OnOk, OnErr};
+ghost use Rattle.tcl_core.specs.Paths.{Path};
+ghost use Rattle.tcl_core.specs.Trees as core;
+ghost use Rattle.tcl_frames.specs.Chain.{read, after_set};
+ghost use Rattle.tcl_language.specs.Faults.{frame_message};
+ghost use Rattle.tcl_language.specs.Instructions.{fits};
+ghost use Rattle.tcl_core.specs.Programs.{blocked, is_spent};
+ghost use Rattle.tcl_core.specs.Trees.{effect};
+ghost use Rattle.tcl_core.specs.Trees.What.{Charged};
+ghost use Rattle.tcl_run.specs.Runs.{IsLevel, StopsCounting, Rechained};
+ghost use Rattle.tcl_tree.specs.Own.{Own};
+ghost use Rattle.tcl_tree.specs.TreeOf.{tree_of, Names};
+ghost use Rattle.tcl_run.specs.Ends.{Interrupts, Gave, Stays, IsText, Tells, ListTells, IsFailure};
+ghost use Rattle.tcl_text.specs.Lists.{list_of};
+ghost use Rattle.tcl_text.specs.Writing.{fault_message};
+
+use crate::failure::failure;
+use crate::interruption::Interruption;
+use std::alloc::Global;
+use tcl_flow::completion::OK;
+use tcl_flow::stop::{Stop, StopKind};
+use tcl_text::list::ListError;
+use tcl_text::text::Text;
+use tcl_tree::tree::{Place, Tree};
+use tcl_value::list::List;
+use tcl_value::value::Value;
+use tcl_variables::fault::FrameError;
+
+/// The error that a refusal of the variables is.
+pub fn frame_failure(alloc: Global, error: FrameError) -> Interruption
+    ensures { Tells error result }
+{
+    match error {
+        FrameError::Memory => Interruption::Memory,
+        FrameError::Fault(fault) => match fault.message(alloc) {
+            Ok(message) => failure(alloc, message),
+            Err(_) => Interruption::Memory,
+        },
+    }
+}
+
+/// The error that a text is no list.
+pub fn list_failure(alloc: Global, error: ListError) -> Interruption
+    ensures { ListTells error result }
+{
+    match error {
+        ListError::Memory => Interruption::Memory,
+        ListError::Fault(fault) => match fault.message(alloc) {
+            Ok(message) => failure(alloc, message),
+            Err(_) => Interruption::Memory,
+        },
+    }
+}
+
+/// The list that a value is.
+pub fn read_list(alloc: Global, value: &mut Value) -> Result<List, Interruption>
+    ensures read { Gave fault_message (list_of value.old) result }
+    ensures text { value.new ≡ value.old }
+{
+    match value.as_list(alloc) {
+        Ok(list) => Ok(list),
+        Err(error) => Err(list_failure(alloc, error)),
+    }
+}
+
+/// A value, of which it is told that its text is within the limit.
+pub fn known_short(value: Value) -> Value
+    ensures same { result ≡ value }
+    ensures short { fits value ≡ true }
+{
+    if value.text_len() > 16777216 {
+        return Value::empty();
+    }
+    value
+}
+
+/// The value of the variable of this name.
+pub fn read_variable(
+    tree: &Tree,
+    alloc: Global,
+    place: Place,
+    name: &Text,
+) -> Result<Value, Interruption>
+    ensures read { (p : Path) (n : core.Node Own) → Names tree.now place p → tree_of tree.now p ≡ Some n → Gave frame_message (read n.own.chain.frames name.now) result }
+    ensures short { IfOk result (λ value. fits value ≡ true) }
+{
+    let Some(frames) = tree.frames_seen(place) else {
+        return Err(Interruption::Memory);
+    };
+    match frames.get(name) {
+        Ok(value) => Ok(known_short(value.clone()?)),
+        Err(error) => Err(frame_failure(alloc, error)),
+    }
+}
+
+/// The text of an ordinary completion, on which its caller goes on; anything else is the caller's own end.
+pub fn on_ok(ended: Result<Value, Interruption>) -> Result<Value, Interruption>
+    ensures text { IfOk result (IsText ended) }
+    ensures same { IfErr result (λ i. ended ≡ Err i) }
+    ensures stays { IfErr result (λ i. Interrupts i Stays) }
+{
+    match ended {
+        Ok(text) => Ok(text),
+        Err(Interruption::Completed(completion)) => {
+            if completion.code == OK {
+                Ok(completion.text)
+            } else {
+                Err(Interruption::Completed(completion))
+            }
+        }
+        Err(interruption) => Err(interruption),
+    }
+}
+
+/// Counts a step in the interpreter and in all above it.
+pub fn charge(tree: &mut Tree, place: Place) -> Result<(), Interruption>
+    requires { (p : Path) × Names tree.old place p }
+    ensures charged { OnOk result ((p : Path) → Names tree.old place p → (blocked is_spent (tree_of tree.old) p ≡ None) × (tree_of tree.new ≡ effect p Charged (tree_of tree.old))) }
+    ensures stopped { IfErr result (λ i. Interrupts i (λ e. (p : Path) → Names tree.old place p → StopsCounting (tree_of tree.old) p (tree_of tree.new) e)) }
+    ensures level { IsLevel tree.old tree.new }
+{
+    match tree.charge_at(place) {
+        Ok(()) => Ok(()),
+        Err(levels) => Err(Interruption::Stopped(Stop {
+            levels_up: levels,
+            kind: StopKind::Count,
+        })),
+    }
+}
+
+/// Sets the variable of this name.
+pub fn write_variable(
+    tree: &mut Tree,
+    alloc: Global,
+    place: Place,
+    name: &Text,
+    value: Value,
+) -> Result<(), Interruption>
+    requires { (p : Path) × Names tree.old place p }
+    ensures written { OnOk result ((p : Path) (n : core.Node Own) → Names tree.old place p → tree_of tree.old p ≡ Some n → Rechained (tree_of tree.old) p n.own (after_set n.own.chain name.now value) (tree_of tree.new)) }
+    ensures refused { IfErr result (λ i. Interrupts i (λ e. (p : Path) (n : core.Node Own) → Names tree.old place p → tree_of tree.old p ≡ Some n → IsFailure frame_message (after_set n.own.chain name.now value) e)) }
+    ensures unchanged { OnErr result (tree_of tree.new ≡ tree_of tree.old) }
+    ensures level { IsLevel tree.old tree.new }
+{
+    let Some(frames) = tree.frames_of(place) else {
+        return Err(Interruption::Memory);
+    };
+    match frames.set(alloc, name, value) {
+        Ok(()) => Ok(()),
+        Err(error) => Err(frame_failure(alloc, error)),
+    }
+}
