@@ -1,4 +1,6 @@
+pub mod Carrying
 pub mod Catching
+pub mod Expressions
 pub mod Found
 pub mod Procedures
 pub mod Words

@@ -2,7 +2,9 @@
 //! procedure.
 #![tactic(auto)]
 
+pub mod carrying;
 pub mod catching;
+pub mod expressions;
 pub mod lookup;
 pub mod procedures;
 pub mod scripts;

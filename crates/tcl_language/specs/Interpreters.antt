@@ -22,7 +22,7 @@ use Rattle.tcl_tree.specs.declared.refusal.Refusal.{Refusal}
 use Rattle.tcl_tree.specs.declared.refusal.Refusal.TheVariants as refusal
 use Rattle.tcl_tree.specs.declared.command.Command.{Command}
 use Rattle.tcl_tree.specs.declared.command.Command.TheVariants as command
-use Rattle.tcl_language.specs.Instructions.{Program, either, fails, gives, grown, or_fails, look, change}
+use Rattle.tcl_language.specs.Instructions.{Program, either, fails, fits, gives, grown, or_fails, look, change, too_long}
 use Rattle.tcl_language.specs.Instructions.Instr.{Serve}
 use Rattle.tcl_variables.specs.Messages.{quoted}
 use Rattle.tcl_language.specs.Faults.{wrong_args, lost_alias, bad_name, invalid_command, invalid_hidden, unknown_subcommand}
@@ -72,7 +72,7 @@ asks text entry = at_path text (λ path n. asks_at path entry done)
 
 -- An alias calls its target with its own words and then those of the call. Its code passes unchanged.
 abbrev pub call_alias : AliasView → Text → List Text → Program
-call_alias a word args = call (Some a.up) a.down (CallWords (a.words ++ args)) (error (lost_alias word)) (finished done)
+call_alias a word args = call (Some a.up) a.down (CallWords (a.words ++ args)) (either (fits (lost_alias word)) (error (lost_alias word)) too_long) (finished done)
 
 -- on, unless the interpreter that asks is safe
 abbrev pub permitted : Program → Program

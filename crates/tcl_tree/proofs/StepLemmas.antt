@@ -257,6 +257,25 @@ climb_up h root sound p level at node k within leads is parent =
           }
     ]
 
+-- and the path's last name is the node's
+pub climb_name : (h : Heap) (root : ℕ) → IsSound h root → (p : Path) (level at : ℕ) (node : Node) (k : ℕ) → level ≤ length p → follow h root (ancestor p level) ≡ Some at → h at ≡ Some node → node.parent ≡ Some k → ancestor p level ≡ ancestor p (level + 1) ++ node.name ∷ []
+climb_name h root sound p level at node k within leads is parent =
+    let link : link_in h at ≡ Some (Some (k, node.name)) = link-at h at node is ∙ ap (λ o. Some (option_map (λ j. (j, node.name)) o)) parent in
+    elim (ends_cases (ancestor p level)) [
+      | inl none ↦
+          let x : Some root ≡ Some at = sym (follow-nil h root) ∙ ap (follow h root) (sym none) ∙ leads in
+          let t = ap (link_in h) (sym (same_Some _ _ x)) ∙ sound.top in
+          let y : ◌≡◌ {A = Option (Option (ℕ × Text))} (Some (Some (k, node.name))) (Some None) = sym link ∙ t in
+          cc
+      | inr w ↦
+          let l = last_step h root w.front w.last at (ap (follow h root) (sym w.is) ∙ leads) in
+          let same = same_link l.parent k w.last node.name (sym (sound.down l.parent w.last at l.child) ∙ link) in
+          let length_is = ancestor_length p level within in
+          let length_w = ap length w.is ∙ length-append w.front (w.last ∷ []) in
+          let short : level < length p = omega arith in
+          w.is ∙ ap (λ f. f ++ w.last ∷ []) (sym (ancestor_front p level w.front w.last short w.is)) ∙ ap (λ x. ancestor p (level + 1) ++ x ∷ []) same.1
+    ]
+
 pub climb_end : (h : Heap) (root : ℕ) → IsSound h root → (p : Path) (level at : ℕ) (node : Node) → level ≤ length p → follow h root (ancestor p level) ≡ Some at → h at ≡ Some node → node.parent ≡ None → level ≡ length p
 climb_end h root sound p level at node within leads is parent =
     let link : link_in h at ≡ Some None = link-at h at node is ∙ ap (λ o. Some (option_map (λ j. (j, node.name)) o)) parent in

@@ -30,8 +30,8 @@ impl Model for Alias {
     ghost view = { λ a. record { up = a.shared.value.up; down = a.shared.value.down.items; words = a.shared.value.words.items } };
 }
 
-// How many leading names two paths have in common.
-fn in_common(these: &[Text], those: &[Text]) -> usize
+/// How many leading names two paths have in common. This takes no memory.
+pub fn in_common(these: &[Text], those: &[Text]) -> usize
     ensures names { result ≡ together these.now those.now }
     ensures these { result ≤ length these.now }
     ensures those { result ≤ length those.now }

@@ -1,9 +1,10 @@
 //! Interpreters by their places: how one is reached from another.
-ghost use Rattle.std.specs.Prelude.{◌≡◌, ◌++◌, ◌∷◌, [], List, ℕ, Some, None, IfSome, IfNone};
+ghost use Rattle.std.specs.Prelude.{◌≡◌, ◌++◌, ◌∷◌, [], List, ℕ, Some, None, IfSome, IfNone, IfOk};
 ghost use Rattle.std.specs.Option.{option_copied, option_map};
 
 use crate::node::Node;
 use crate::tree::{Place, Tree};
+use std::alloc::{AllocError, Global};
 use tcl_text::text::Text;
 
 /// What a way of levels up and names down leads to.
@@ -18,7 +19,7 @@ pub enum Reach {
 }
 
 impl Tree {
-    ghost use Rattle.tcl_core.specs.Paths.{rise};
+    ghost use Rattle.tcl_core.specs.Paths.{rise, falls};
     ghost use Rattle.tcl_tree.specs.Nodes.{view_of};
     ghost use Rattle.tcl_tree.specs.TreeOf.{tree_of, key_of, Names};
     ghost use Rattle.tcl_tree.specs.Reaching.{Leads};
@@ -70,6 +71,35 @@ impl Tree {
             level += 1;
         }
         Some(at)
+    }
+
+    /// The last names of the interpreter's path, so many at most, in order.
+    ///
+    /// # Errors
+    /// Want of memory.
+    pub fn last_names(
+        &self,
+        alloc: Global,
+        place: Place,
+        most: usize,
+    ) -> Result<Vec<Text>, AllocError>
+        requires { (p : List (List ℕ)) × Names self.now place p }
+        ensures { IfOk result (λ names. (p : List (List ℕ)) → Names self.now place p → names.items ≡ falls most p) }
+    {
+        let mut names = Vec::new(alloc);
+        let mut at = place.key;
+        'climb: for _ in 0..most {
+            let Some(node) = self.nodes.get(at) else {
+                break;
+            };
+            let Some(parent) = node.parent else {
+                break;
+            };
+            names.push(node.name.clone()?)?;
+            at = parent;
+        }
+        names.reverse();
+        Ok(names)
     }
 
     /// Where the way of so many levels up and then these names down leads, as that of an alias to its target does. This takes no memory.

@@ -1,0 +1,32 @@
+-- What contracts see of expressions that commands read.
+use Rattle.std.specs.Prelude.{◌≡◌, ℕ, List, [], Result, Ok, Err}
+use Rattle.tcl_core.specs.Endings.{ok}
+use Rattle.tcl_core.specs.Endings.Reply.{Completed}
+use Rattle.tcl_core.specs.Paths.{Text}
+use Rattle.tcl_core.specs.Programs.Prog.{done}
+use Rattle.tcl_expr.specs.Expressions.{expression_of}
+use Rattle.tcl_expr_grammar.specs.Trees.{Tree}
+use Rattle.tcl_expression_evaluation.specs.Computations.{computation_of, final}
+use Rattle.tcl_expression_evaluation.specs.Steps.{from}
+use Rattle.tcl_expression_tree.specs.declared.tree.ExprTree.{ExprTree}
+use Rattle.tcl_language.specs.Instructions.{Program, or_fails}
+use Rattle.tcl_operators.specs.Messages.{message_of}
+use Rattle.tcl_operators.specs.declared.fault.ApplyError.{ApplyError}
+use Rattle.tcl_operators.specs.declared.fault.ApplyError.TheVariants as error
+use Rattle.tcl_run.specs.Ends.{Interrupts, failing}
+use Rattle.tcl_run.specs.declared.interruption.Interruption.{Interruption}
+use Rattle.tcl_run.specs.declared.interruption.Interruption.TheVariants as interruption
+use Rattle.tcl_text.specs.declared.integer.Integers.{Integers}
+
+-- the steps are those of the text's expression
+abbrev pub IsKept : Integers → Text → ExprTree → Type 0
+IsKept style text kept = (t : Tree) × (expression_of style text ≡ Ok t) × (from style kept.nodes.items 0 [] ≡ computation_of style t)
+
+-- how a refusal of an operator ends what wanted its value
+abbrev pub OperatorTells : ApplyError → Interruption → Type 0
+OperatorTells error.Memory i = i ≡ interruption.Memory
+OperatorTells (error.Fault f) i = Interrupts i (λ e. e ≡ Completed (failing (message_of f)))
+
+-- an expression whose value is this is over
+abbrev pub settles : Integers → Text → Program
+settles style v = or_fails message_of (final style v) (λ result. done (ok result))

@@ -1,0 +1,86 @@
+//! Calls that cross to another interpreter: their words, and how their ends are told to the caller.
+ghost use Rattle.std.specs.Prelude.{◌≡◌, ◌++◌, Some, IfOk};
+ghost use Rattle.tcl_core.specs.Endings.Reply.{Completed};
+ghost use Rattle.tcl_core.specs.Paths.{Path};
+ghost use Rattle.tcl_core.specs.Runs.{carried};
+ghost use Rattle.tcl_flow.specs.Stopping.{reply_of};
+ghost use Rattle.tcl_language.specs.Faults as faults;
+ghost use Rattle.tcl_run.specs.Ends.{Interrupts, failing};
+ghost use Rattle.tcl_tree.specs.TreeOf.{Names};
+ghost use Rattle.tcl_calls.specs.Carrying.{Carries};
+
+use std::alloc::{AllocError, Global};
+use tcl_flow::stop::Stop;
+use tcl_run::interruption::Interruption;
+use tcl_text::text::Text;
+use tcl_tree::alias::in_common;
+use tcl_tree::tree::{Place, Tree};
+use tcl_value::value::Value;
+
+/// The words with which an alias calls its target: its own, and then those of the call.
+pub fn target_words(
+    alloc: Global,
+    own: &[Value],
+    args: &[Value],
+) -> Result<Vec<Value>, AllocError>
+    ensures { IfOk result (λ words. words.items ≡ own.now ++ args.now) }
+{
+    let mut words = Vec::with_capacity(alloc, own.len().saturating_add(args.len()))?;
+    'own: for word in own {
+        words.push(word.clone()?)?;
+    }
+    'args: for word in args {
+        words.push(word.clone()?)?;
+    }
+    Ok(words)
+}
+
+/// How a caller is told the end of its call, which went so many levels up and then these names down.
+pub fn carry(
+    tree: &Tree,
+    alloc: Global,
+    place: Place,
+    up: usize,
+    down: &[Text],
+    ended: Result<Value, Interruption>,
+) -> Result<Value, Interruption>
+    requires { (p : Path) × Names tree.now place p }
+    ensures { (p : Path) → Names tree.now place p → Carries p up down.now ended result }
+{
+    match ended {
+        Err(Interruption::Stopped(stop)) => Err(told_stop(tree, alloc, place, up, down, stop)),
+        other => other,
+    }
+}
+
+/// A stop as the caller sees it: where it doesn't stand below the interpreter that is full, an error.
+fn told_stop(
+    tree: &Tree,
+    alloc: Global,
+    place: Place,
+    up: usize,
+    down: &[Text],
+    stop: Stop,
+) -> Interruption
+    requires { (p : Path) × Names tree.now place p }
+    ensures { Interrupts result (λ e. (p : Path) → Names tree.now place p → e ≡ carried (Some up) p down.now (reply_of stop)) }
+{
+    let Ok(names) = tree.last_names(alloc, place, up) else {
+        return Interruption::Memory;
+    };
+    let common = in_common(names.as_slice(), down);
+    let apart = down.len() - common;
+    if stop.levels_up < apart {
+        return match stop.kind.error(alloc) {
+            Ok(completion) => Interruption::Completed(completion),
+            Err(_) => Interruption::Memory,
+        };
+    }
+    match (stop.levels_up - apart).checked_add(up - common) {
+        Some(levels_up) => Interruption::Stopped(Stop {
+            levels_up,
+            kind: stop.kind,
+        }),
+        None => Interruption::Memory,
+    }
+}

@@ -1,0 +1,101 @@
+//! Expressions that commands read, and what their values come to.
+ghost use Rattle.std.specs.Prelude.{◌≡◌, IfOk, IfErr};
+ghost use Rattle.tcl_expr.specs.Expressions.{expression_of};
+ghost use Rattle.tcl_expr.specs.Faults.{message_of};
+ghost use Rattle.tcl_operators.specs.Apply.{truth};
+ghost use Rattle.tcl_operators.specs.Messages.{message_of as operator_message};
+ghost use Rattle.tcl_run.specs.Ends.{Gave, IfEnded, Interrupts, IsFailure};
+ghost use Rattle.tcl_calls.specs.Expressions.{IsKept, OperatorTells, settles};
+ghost use Rattle.tcl_calls.specs.Words.{EndsBy};
+
+use std::alloc::Global;
+use tcl_expr::fault::ExprError;
+use tcl_expression_evaluation::result::final_value;
+use tcl_expression_tree::parser::parse_expr;
+use tcl_expression_tree::tree::ExprTree;
+use tcl_operators::apply::truth_of;
+use tcl_operators::fault::ApplyError;
+use tcl_run::failure::failure;
+use tcl_run::interruption::Interruption;
+use tcl_run::steps::known_short;
+use tcl_text::integer::Integers;
+use tcl_value::value::Value;
+
+/// An expression that was read, and is evaluated as often as it is wanted.
+#[derive(Drop)]
+pub struct Expression {
+    text: Value,
+    style: Integers,
+    tree: ExprTree,
+    ghost kept: { IsKept style text tree },
+}
+
+impl Expression {
+    /// Reads a value as an expression, in a style of integers. (expr(n))
+    ///
+    /// # Errors
+    /// Why its text is no expression; want of memory.
+    pub fn read(alloc: Global, style: Integers, value: &Value) -> Result<Expression, Interruption>
+        ensures text { IfOk result (λ read. read.text ≡ value.now) }
+        ensures style { IfOk result (λ read. read.style ≡ style) }
+        ensures refused { IfErr result (λ i. Interrupts i (IsFailure (message_of value.now) (expression_of style value.now))) }
+    {
+        let text = known_short(value.clone()?);
+        let written = text.text(alloc)?;
+        match parse_expr(alloc, written.as_str(), style) {
+            Ok(tree) => Ok(Expression { text, style, tree }),
+            Err(ExprError::Fault(fault)) => {
+                Err(failure(alloc, fault.message(alloc, written.as_str())?))
+            }
+            Err(ExprError::Memory) => Err(Interruption::Memory),
+        }
+    }
+
+    /// The style in which its integers are read.
+    pub fn style(&self) -> Integers
+        ensures { result ≡ self.now.style }
+    {
+        self.style
+    }
+
+    /// Its steps.
+    pub fn tree(&self) -> &ExprTree
+        ensures { result.now ≡ self.now.tree }
+    {
+        &self.tree
+    }
+}
+
+/// The error that a refusal of an operator is.
+pub fn operator_failure(alloc: Global, error: ApplyError) -> Interruption
+    ensures { OperatorTells error result }
+{
+    match error {
+        ApplyError::Memory => Interruption::Memory,
+        ApplyError::Fault(fault) => match fault.message(alloc) {
+            Ok(message) => failure(alloc, message),
+            Err(_) => Interruption::Memory,
+        },
+    }
+}
+
+/// What an expression of this value comes to.
+pub fn settle(alloc: Global, style: Integers, value: Value) -> Result<Value, Interruption>
+    ensures { IfEnded result (EndsBy (settles style value)) }
+{
+    match final_value(value, style) {
+        Ok(settled) => Ok(settled),
+        Err(fault) => Err(operator_failure(alloc, ApplyError::Fault(fault))),
+    }
+}
+
+/// Whether a condition of this value holds.
+pub fn holds(alloc: Global, style: Integers, value: Value) -> Result<bool, Interruption>
+    ensures { Gave operator_message (truth style value) result }
+{
+    let mut value = value;
+    match truth_of(alloc, &mut value, style) {
+        Ok(truth) => Ok(truth),
+        Err(error) => Err(operator_failure(alloc, error)),
+    }
+}

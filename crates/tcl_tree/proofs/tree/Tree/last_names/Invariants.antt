@@ -1,0 +1,11 @@
+use Rattle.std.proofs.Common.{◌≡◌, ◌++◌, ℕ, Some, ◌≤◌, length, reverse}
+use Rattle.tcl_tree.specs.Paths.{Path, ancestor}
+use Rattle.tcl_tree.specs.TreeOf.{key_of}
+use Rattle.tcl_tree.proofs.tree.Tree.last_names.Given as goal
+
+-- so far the way has been up from each path that leads to the first key, and the names are those of its steps
+abbrev pub invariant-climb : goal.invariant-climb
+invariant-climb l = record {
+  count : length l.names.items ≡ l.index;
+  leads : (p : Path) → key_of l.self p ≡ Some l.fn.place.key → record { short : l.index ≤ length p; at : key_of l.self (ancestor p l.index) ≡ Some l.at; names : ancestor p l.index ++ reverse l.names.items ≡ p };
+}
