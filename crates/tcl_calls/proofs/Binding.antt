@@ -6,7 +6,8 @@ use Rattle.std.proofs.lemmas.Option.{same_Some}
 use Rattle.tcl_language.specs.Control.{bindings, also, by_default, fit_all, last_bound, is_rest}
 use Rattle.tcl_language.specs.Instructions.{fits}
 use Rattle.tcl_tree.specs.declared.parameter.Parameter.{Parameter}
-use Rattle.tcl_calls.specs.Procedures.{pair_of, pairs_of, joined, next_bound}
+use Rattle.tcl_core.specs.Endings.{Reply}
+use Rattle.tcl_calls.specs.Procedures.{pair_of, pairs_of, joined, next_bound, TooLongBound}
 use Rattle.tcl_calls.specs.declared.procedures.Binding.{Binding}
 
 by_default_also : (name d : List ℕ) (o : Option (List (List ℕ × List ℕ))) → by_default name (Some d) o ≡ also (name, d) o
@@ -51,3 +52,16 @@ fit_more (x ∷ bs) b h f = by (fits x.1) (fit_all bs) (fit_all (bs ++ b ∷ [])
 pub first_of_two : {A : Type 0} (xs : List A) (x : A) → x ≡ get_or xs 0 x → 1 ≤ length xs → take (length xs - 1) (drop 1 xs) ≡ drop 1 xs
 first_of_two [] x e h = refl
 first_of_two (y ∷ ys) x e h = let n : length (y ∷ ys) - 1 ≡ length ys = omega arith in ap (λ m. take m ys) n ∙ Rattle.std.proofs.Math.Seq.take-length ys
+
+fit_both : (bs cs : List (List ℕ × List ℕ)) → fit_all bs ≡ true → fit_all (bs ++ cs) ≡ fit_all cs
+fit_both [] cs h = refl
+fit_both (b ∷ bs) cs h = by (fits b.1) (fit_all bs) (fit_all (bs ++ cs)) h (fit_both bs cs)
+  where
+    by : (a c d : Bool) → (a && c) ≡ true → (c ≡ true → d ≡ fit_all cs) → (a && d) ≡ fit_all cs
+    by true c d g k = k g
+    by false c d g k = let clash : false ≡ true = g in cc
+
+-- a list that is too long is so behind others
+pub too_long_joined : (bs : List (List ℕ × List ℕ)) (o : Option (List (List ℕ × List ℕ))) (e : Reply) → fit_all bs ≡ true → TooLongBound o e → TooLongBound (joined bs o) e
+too_long_joined bs None e fit h = h
+too_long_joined bs (Some cs) e fit h = (fit_both bs cs fit ∙ h.0, h.1)

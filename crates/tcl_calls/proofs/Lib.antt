@@ -1,2 +1,5 @@
 mod Binding
 mod Closing
+mod Keeping
+mod Kept
+mod Stops

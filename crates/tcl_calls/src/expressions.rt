@@ -21,48 +21,24 @@ use tcl_run::steps::known_short;
 use tcl_text::integer::Integers;
 use tcl_value::value::Value;
 
-/// An expression that was read, and is evaluated as often as it is wanted.
-#[derive(Drop)]
-pub struct Expression {
-    text: Value,
+/// Reads a value as an expression, in a style of integers. (expr(n))
+///
+/// # Errors
+/// Why its text is no expression; want of memory.
+pub fn read_expression(
+    alloc: Global,
     style: Integers,
-    tree: ExprTree,
-    ghost kept: { IsKept style text tree },
-}
-
-impl Expression {
-    /// Reads a value as an expression, in a style of integers. (expr(n))
-    ///
-    /// # Errors
-    /// Why its text is no expression; want of memory.
-    pub fn read(alloc: Global, style: Integers, value: &Value) -> Result<Expression, Interruption>
-        ensures text { IfOk result (λ read. read.text ≡ value.now) }
-        ensures style { IfOk result (λ read. read.style ≡ style) }
-        ensures refused { IfErr result (λ i. Interrupts i (IsFailure (message_of value.now) (expression_of style value.now))) }
-    {
-        let text = known_short(value.clone()?);
-        let written = text.text(alloc)?;
-        match parse_expr(alloc, written.as_str(), style) {
-            Ok(tree) => Ok(Expression { text, style, tree }),
-            Err(ExprError::Fault(fault)) => {
-                Err(failure(alloc, fault.message(alloc, written.as_str())?))
-            }
-            Err(ExprError::Memory) => Err(Interruption::Memory),
-        }
-    }
-
-    /// The style in which its integers are read.
-    pub fn style(&self) -> Integers
-        ensures { result ≡ self.now.style }
-    {
-        self.style
-    }
-
-    /// Its steps.
-    pub fn tree(&self) -> &ExprTree
-        ensures { result.now ≡ self.now.tree }
-    {
-        &self.tree
+    value: &Value,
+) -> Result<ExprTree, Interruption>
+    ensures read { IfOk result (λ kept. IsKept style value.now kept) }
+    ensures refused { IfErr result (λ i. Interrupts i (IsFailure (message_of value.now) (expression_of style value.now))) }
+{
+    let value = known_short(value.clone()?);
+    let text = value.text(alloc)?;
+    match parse_expr(alloc, text.as_str(), style) {
+        Ok(tree) => Ok(tree),
+        Err(ExprError::Fault(fault)) => Err(failure(alloc, fault.message(alloc, text.as_str())?)),
+        Err(ExprError::Memory) => Err(Interruption::Memory),
     }
 }
 

@@ -27,7 +27,7 @@ use Rattle.std.specs.Prelude.{nat_le, if◌then◌else◌, length}
 use Rattle.tcl_language.specs.Instructions.{fits, too_long}
 use Rattle.tcl_words.specs.Faults.{too_long as too_long_text}
 use Rattle.tcl_words.specs.Limits.{limited}
-use Rattle.tcl_words.specs.Outcomes.{Refuses}
+use Rattle.tcl_words.specs.Outcomes.{Refuses as WordsRefuse}
 use Rattle.tcl_words.specs.declared.refusal.Refusal.{Refusal}
 use Rattle.tcl_words.specs.declared.refusal.Refusal.TheVariants as refusal
 use Rattle.tcl_run.specs.Ends.{Interrupts, IfEnded, IsFailure, IsText, Tells, ListTells, WordsTell, failing, itself}
@@ -98,7 +98,7 @@ pub ended_err : {A : Type 0} (r : Result A Interruption) (i y : Interruption) (R
 ended_err r i y R P Q e same h k = subst (λ (x : Result _ Interruption). MatchResult x R (λ j. Interrupts j Q)) (sym (e ∙ ap Err same)) (Interrupts-more i P Q k h)
 
 -- a refusal of words is a failure of what they come to
-pub words_tell : {A : Type 0} (e : Refusal) (outcome : Result A (List ℕ)) (i : Interruption) → Refuses e outcome → WordsTell e i → Interrupts i (IsFailure itself outcome)
+pub words_tell : {A : Type 0} (e : Refusal) (outcome : Result A (List ℕ)) (i : Interruption) → WordsRefuse e outcome → WordsTell e i → Interrupts i (IsFailure itself outcome)
 words_tell refusal.Memory outcome i w t = subst (λ (j : Interruption). Interrupts j (IsFailure itself outcome)) (sym t) tt
 words_tell (refusal.Fault text) (Ok x) i w t = let clash : Ok x ≡ Err text = w in cc
 words_tell (refusal.Fault text) (Err f) i w t =

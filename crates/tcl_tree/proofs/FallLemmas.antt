@@ -44,3 +44,20 @@ append_one (y ∷ a) x b = ap (λ zs. y ∷ zs) (append_one a x b)
 pub one_more : (p above here : Path) (name : Text) (names : Path) → here ++ reverse names ≡ p → here ≡ above ++ name ∷ [] → above ++ reverse (names ++ name ∷ []) ≡ p
 one_more p above here name names e h =
     ap (λ zs. above ++ zs) (reverse-append names (name ∷ [])) ∙ sym (append_one above name (reverse names)) ∙ ap (λ zs. zs ++ reverse names) (sym h) ∙ e
+
+-- nothing is above the top
+pub nothing_above : (p : Path) (n : ℕ) → n ≡ length p → ancestor p n ≡ []
+unfolding ancestor
+nothing_above p n e = ap (λ m. Rattle.std.proofs.Common.take m p) (by (length p) n e)
+  where
+    by : (m n : ℕ) → n ≡ m → m - n ≡ 0
+    by m n e = omega arith
+
+-- there are no more last names than were wanted
+pub falls_length : (n : ℕ) (p : Path) → length (falls n p) ≤ n
+falls_length n [] = omega arith
+falls_length n (x ∷ xs) = by (nat_le n (length xs)) refl (falls_length n xs)
+  where
+    by : (b : Bool) → nat_le n (length xs) ≡ b → length (falls n xs) ≤ n → length (shorter b (falls n xs) (x ∷ xs)) ≤ n
+    by true e h = h
+    by false e h = grind (arith, nat_tests)

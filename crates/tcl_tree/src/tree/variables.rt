@@ -56,6 +56,14 @@ impl Tree {
         frames_at(&mut self.nodes, key)
     }
 
+    /// The frames of the interpreter that the place names. This takes no memory.
+    pub fn frames_seen(&self, place: Place) -> Option<&Frames>
+        ensures { (p : List (List ℕ)) → Names self.now place p → option_copied result ≡ option_map (λ n. n.own.chain) (tree_of self.now p) }
+    {
+        let node = self.nodes.get(place.key)?;
+        Some(&node.state.frames)
+    }
+
     /// The frames of the interpreter that the place names, to write. This takes no memory.
     pub fn frames_of(&mut self, place: Place) -> Option<&mut Frames>
         requires { (p : List (List ℕ)) × Names self.old place p }

@@ -6,6 +6,6 @@ use Rattle.tcl_tree.proofs.tree.Tree.last_names.Given as goal
 -- so far the way has been up from each path that leads to the first key, and the names are those of its steps
 abbrev pub invariant-climb : goal.invariant-climb
 invariant-climb l = record {
-  count : length l.names.items ≡ l.index;
-  leads : (p : Path) → key_of l.self p ≡ Some l.fn.place.key → record { short : l.index ≤ length p; at : key_of l.self (ancestor p l.index) ≡ Some l.at; names : ancestor p l.index ++ reverse l.names.items ≡ p };
+  count : length l.names.items ≡ l.counter;
+  leads : (p : Path) → key_of l.self p ≡ Some l.fn.place.key → record { short : l.counter ≤ length p; at : key_of l.self (ancestor p l.counter) ≡ Some l.at; names : ancestor p l.counter ++ reverse l.names.items ≡ p };
 }

@@ -1,0 +1,12 @@
+use Rattle.std.proofs.Common.{sym, ◌∙◌, ap}
+use Rattle.std.specs.Option.{option_copied, option_map}
+use Rattle.tcl_tree.specs.Nodes.{NodeView}
+use Rattle.tcl_tree.proofs.StepLemmas.{tree_some, tree_vacant}
+use Rattle.tcl_tree.proofs.tree.Tree.frames_seen.Goals as goal
+
+pub returns-in_err-node : goal.returns-in_err-node
+returns-in_err-node c = λ p at.
+    ap option_copied c.from_residual.ensures ∙ sym (ap (option_map (λ (n : NodeView). n.own.chain)) (tree_vacant _ _ p _ at (sym c.in_err-node.ensures)))
+
+pub returns : goal.returns
+returns c = λ p at. sym (ap (option_map (λ (n : NodeView). n.own.chain)) (tree_some _ _ p _ _ at (sym c.in_ok-node.ensures)))
