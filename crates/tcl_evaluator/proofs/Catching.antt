@@ -48,6 +48,10 @@ caught_err (Err (interruption.Stopped s)) r i P e h p = let same : Err (interrup
 caught_err (Err (interruption.Exited n)) r i P e h p = let same : Err (interruption.Exited n) ≡ Err i = sym h ∙ e in let is : interruption.Exited n ≡ i = cc in subst (λ (x : Interruption). Interrupts x (λ e. P e × IsQuit e)) is (p, tt)
 caught_err (Err (interruption.Cut c)) r i P e h p = let same : Err (interruption.Cut c) ≡ Err i = sym h ∙ e in let is : interruption.Cut c ≡ i = cc in subst (λ (x : Interruption). Interrupts x (λ e. P e × IsQuit e)) is (p, tt)
 
+-- what catch does with what was caught
+abbrev pub told : List Text → core_completion → Program
+told names c = kept_in names c (done (ok (code_text c)))
+
 module _ {S : Type 0} {goes : S → Event Own → S → Type 0} (style : Integers) where
   -- ## eval
 
@@ -65,9 +69,6 @@ module _ {S : Type 0} {goes : S → Event Own → S → Type 0} (style : Integer
   eval_none (a ∷ args) h e = absurd (omega arith)
 
   -- ## catch
-
-  abbrev pub told : List Text → core_completion → Program
-  told names c = kept_in names c (done (ok (code_text c)))
 
   pub catch_goes : {T U V : Tree Own} {o u z : S} {p : Path} {r : Reply} (text : Text) (names : List Text) (c : core_completion) → length names ≤ 2 →
       Comes goes (language style) T o p (script text) U u (Completed c) → Comes goes (language style) U u p (told names c) V z r → Comes goes (language style) T o p (catch (text ∷ names)) V z r

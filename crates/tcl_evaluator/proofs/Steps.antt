@@ -34,7 +34,7 @@ use Rattle.tcl_run.specs.Runs.{Comes, IsAt, IsThere, StopsCounting}
 use Rattle.tcl_text.specs.Lists.{list_of}
 use Rattle.tcl_text.specs.Writing.{fault_message}
 use Rattle.tcl_text.specs.declared.list.ListFault.{ListFault}
-use Rattle.tcl_run.proofs.Endings.{Interrupts-more, IfEnded-more, of_text}
+use Rattle.tcl_run.proofs.Endings.{Interrupts-more, Interrupts-both, IfEnded-more, of_text}
 use Rattle.tcl_run.proofs.Leads.{at_prog, at_reply, at_finish, looks, goes_on, goes_done, reads_on, read_fails, grows, outgrows, charges, charge_stops, nests_done, nest_refused}
 use Rattle.tcl_text.specs.declared.integer.Integers.{Integers}
 use Rattle.tcl_tree.specs.Own.{Own}
