@@ -83,3 +83,13 @@ module _ {S : Type 0} {goes : S → Event Own → S → Type 0} (style : Integer
   catch_passes text (a ∷ []) h q t = passed q t
   catch_passes text (a ∷ b ∷ []) h q t = passed q t
   catch_passes text (a ∷ b ∷ d ∷ rest) h q t = absurd (omega arith)
+
+  pub catch_none : {T : Tree Own} {o : S} {p : Path} {r : Reply} (args : List Text) → length args < 1 → r ≡ Completed (failing (wrong_args (codes "catch script ?resultVarName? ?optionVarName?"))) → Comes goes (language style) T o p (catch args) T o r
+  catch_none [] h e = at_reply e completed
+  catch_none (a ∷ args) h e = absurd (omega arith)
+
+  pub catch_many : {T : Tree Own} {o : S} {p : Path} {r : Reply} (text : Text) (names : List Text) → 2 < length names → r ≡ Completed (failing (wrong_args (codes "catch script ?resultVarName? ?optionVarName?"))) → Comes goes (language style) T o p (catch (text ∷ names)) T o r
+  catch_many text [] h e = absurd (omega arith)
+  catch_many text (a ∷ []) h e = absurd (omega arith)
+  catch_many text (a ∷ b ∷ []) h e = absurd (omega arith)
+  catch_many text (a ∷ b ∷ d ∷ rest) h e = at_reply e completed

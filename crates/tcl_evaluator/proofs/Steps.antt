@@ -75,6 +75,13 @@ module _ {A : Type 0} where
   pub item_on : (xs : List A) (i : ℕ) (x : A) → i < length xs → x ≡ get_or xs i x → drop i xs ≡ x ∷ drop (i + 1) xs
   item_on xs i x h e = drop-cons xs i x h ∙ ap (λ z. z ∷ drop (suc i) xs) (sym e) ∙ ap (λ j. x ∷ drop j xs) (sym (add-one i))
 
+  -- a first item, and those behind it
+  pub split_first : (xs : List A) (x : A) → 1 ≤ length xs → x ≡ get_or xs 0 x → xs ≡ x ∷ take (length xs - 1) (drop 1 xs)
+  split_first [] x h e = absurd (omega arith)
+  split_first (y ∷ ys) x h e =
+      let n : length (y ∷ ys) - 1 ≡ length ys = omega arith in
+      ap (λ z. z ∷ ys) (sym e) ∙ ap (λ zs. x ∷ zs) (sym (ap (λ m. take m ys) n ∙ take-length ys))
+
   pub none_on : (xs : List A) (i : ℕ) → length xs ≤ i → drop i xs ≡ []
   none_on xs i h = drop_of_length-le xs h
 

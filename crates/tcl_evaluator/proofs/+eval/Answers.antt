@@ -35,6 +35,17 @@ use Rattle.tcl_tree.specs.declared.parameter.Parameter.{Parameter}
 use Rattle.tcl_calls.specs.Procedures.{pairs_of, TooLongBound}
 use Rattle.tcl_evaluator.proofs.Calling.{left_more, call_too_long, call_unbound, call_runs}
 use Rattle.tcl_evaluator.specs.View.{read_so}
+use Rattle.std.proofs.Common.{take, ◌-◌}
+use Rattle.tcl_language.specs.Faults.{invalid_command}
+use Rattle.tcl_language.specs.Table.{dispatch}
+use Rattle.tcl_run.specs.Ends.{itself}
+use Rattle.tcl_run.proofs.Plain.{does_comes}
+use Rattle.tcl_flow.specs.View.{completion_of}
+use Rattle.tcl_language.specs.Control.{eval as control_eval, catch as control_catch}
+use Rattle.tcl_calls.specs.Found.{found}
+use Rattle.tcl_evaluator.proofs.Steps.{split_first}
+use Rattle.tcl_evaluator.proofs.Found.{call_found, call_missing}
+use Rattle.tcl_evaluator.proofs.Catching.{caught_ok, caught_err, eval_runs, eval_long, eval_none, catch_goes, catch_passes, catch_none, catch_many}
 use Rattle.tcl_evaluator.proofs.+eval.Goals as goal
 
 -- the words of a command
@@ -207,11 +218,9 @@ evaluation::eval_text-returns-clause-runs g t c =
 pub evaluation::eval_value-returns-clause-runs : goal.evaluation::eval_value-returns-clause-runs
 evaluation::eval_value-returns-clause-runs g t c =
     IfEnded-more c.eval_script.result
-    (EndsAt g.O.Outside.goes c.args.tree.now c.args.outside.now c.args.place (λ style. read_so c.in_ok-script.script.value) c.eval_script.new.tree c.eval_script.new.outside)
+    (EndsAt g.O.Outside.goes c.args.tree.now c.args.outside.now c.args.place (λ style. read_so c.deref.result.now) c.eval_script.new.tree c.eval_script.new.outside)
     (EndsAt g.O.Outside.goes c.args.tree.now c.args.outside.now c.args.place (λ style. script c.args.value.now) c.eval_script.new.tree c.eval_script.new.outside)
-    (λ e h q style at. at_prog (ap read_so (sym c.in_ok-script.ensures.read)) (h q style at)) c.eval_script.ensures.runs
-
--- the parts of a word
+    (λ e h q style at. at_prog (ap read_so (sym (c.deref.ensures ∙ c.in_ok-script.ensures.read))) (h q style at)) c.eval_script.ensures.runs
 
 pub evaluation::eval_part-returns-in_err-value-in-Variable-clause-runs : goal.evaluation::eval_part-returns-in_err-value-in-Variable-clause-runs
 evaluation::eval_part-returns-in_err-value-in-Variable-clause-runs g t c =
@@ -360,3 +369,97 @@ commands::call_procedure-returns-clause-runs g t c =
         (ap (λ (ps : List Parameter). bindings ps c.args.args.now) (sym c.parameters.ensures) ∙ found.0) found.1 n.1
         (entered ∙ (λ i. effect q (Changed (in_frame (ws i) (pairs_of (bs i)) n.0.own)) (tree_of c.args.tree.now))) m.1 (c.leave_frame.ensures.left q m.0 after.names m.1)
         (at_prog (ap script (sym (c.in_ok-body.ensures.cases ∙ c.body.ensures))) (h q style (record { names = here.names; style_is = here.style_is }))) l)
+
+pub commands::call-returns-in_default-clause-runs : goal.commands::call-returns-in_default-clause-runs
+commands::call-returns-in_default-clause-runs g t c = λ q style at.
+    at_prog (ap (called style) (no_item c.args.words.now c.in_default.len_below)) (at_reply (ap (λ (x : List ℕ). Completed (ok x)) c.empty.ensures) completed)
+
+pub commands::call-returns-in_err-command-clause-runs : goal.commands::call-returns-in_err-command-clause-runs
+commands::call-returns-in_err-command-clause-runs g t c =
+    let p = err_from_is_err_and c.from_residual.result c.from_residual.ensures.1 in
+    ended_err c.from_residual.result c.in_err-command.field-0.0 p.0 _ _ _ p.1 p.2
+    (Interrupts-at c.in_err-command.field-0.0 c.args.tree.now c.args.place (λ n e. IsFailure itself (found n c.word-item.result) e) c.in_err-command.ensures)
+    (λ e h q style at. let n = stands (tree_of c.args.tree.now q) (tree_there c.args.tree.now q _ at.names) in
+    at_prog (ap (called style) (split_first c.args.words.now c.word-item.result c.in-len1-up.len_at_least c.word-item.is))
+    (call_missing style c.word-item.result _ e n.1 (h q n.0 at.names n.1)))
+
+pub commands::call-returns-clause-runs : goal.commands::call-returns-clause-runs
+commands::call-returns-clause-runs g t c =
+    IfEnded-more c.call_command.result
+    (EndsFrom g.O.Outside.goes c.args.tree.now c.args.outside.now c.args.place (λ style. dispatch style c.word-item.result (take (length c.args.words.now - 1) (drop 1 c.args.words.now)) invalid_command (Some c.in_ok-command.command)) c.call_command.new.tree c.call_command.new.outside)
+    (EndsFrom g.O.Outside.goes c.args.tree.now c.args.outside.now c.args.place (λ style. called style c.args.words.now) c.call_command.new.tree c.call_command.new.outside)
+    (λ e h q style at. let n = stands (tree_of c.args.tree.now q) (tree_there c.args.tree.now q _ at.names) in
+    at_prog (ap (called style) (split_first c.args.words.now c.word-item.result c.in-len1-up.len_at_least c.word-item.is))
+    (call_found style c.word-item.result _ c.in_ok-command.command n.1 (c.in_ok-command.ensures q n.0 at.names n.1) (h q style at))) c.call_command.ensures.runs
+
+pub control::catch-returns-in_default-clause-runs : goal.control::catch-returns-in_default-clause-runs
+control::catch-returns-in_default-clause-runs g t c =
+    Interrupts-more c.wrong_args.result _ _ (λ e h q style at. catch_none style c.args.args.now c.in_default.len_below h) c.wrong_args.ensures
+
+pub control::catch-returns-then-names-gt2-clause-runs : goal.control::catch-returns-then-names-gt2-clause-runs
+control::catch-returns-then-names-gt2-clause-runs g t c =
+    let many = c.if-names-gt2.true in
+    Interrupts-more c.wrong_args-then-names-gt2.result _ _ (λ e h q style at.
+    at_prog (ap control_catch (split_first c.args.args.now c.script-item.result c.in-len1-up.len_at_least c.script-item.is))
+    (catch_many style c.script-item.result _ many h)) c.wrong_args-then-names-gt2.ensures
+
+pub control::catch-returns-in_err-completion-clause-runs : goal.control::catch-returns-in_err-completion-clause-runs
+control::catch-returns-in_err-completion-clause-runs g t c =
+    let few = c.if-names-gt2.false in
+    let p = err_from_is_err_and c.from_residual-in_err-completion.result c.from_residual-in_err-completion.ensures.1 in
+    ended_err c.from_residual-in_err-completion.result c.in_err-completion.field-0.0 p.0 _ _ _ p.1 p.2
+    (caught_err c.eval_value.result c.caught.result c.in_err-completion.field-0.0 (EndsAt g.O.Outside.goes c.args.tree.now c.args.outside.now c.args.place (λ style. script c.in_ok-script.script) c.eval_value.new.tree c.eval_value.new.outside)
+    c.in_err-completion.was c.caught.ensures c.eval_value.ensures.runs)
+    (λ e h q style at.
+    at_prog (ap control_catch (split_first c.args.args.now c.script-item.result c.in-len1-up.len_at_least c.script-item.is))
+    (catch_passes style c.script-item.result _ (omega (arith, few)) h.1
+    (at_prog (ap script (sym c.in_ok-script.ensures.cases)) (h.0 q style (record { names = at.names; style_is = at.style_is })))))
+
+pub control::catch-returns-in_err-keep_caught-clause-runs : goal.control::catch-returns-in_err-keep_caught-clause-runs
+control::catch-returns-in_err-keep_caught-clause-runs g t c =
+    let few = c.if-names-gt2.false in
+    let p = err_from_is_err_and c.from_residual-in_err-keep_caught.result c.from_residual-in_err-keep_caught.ensures.1 in
+    let caught = caught_ok c.eval_value.result c.caught.result c.in_ok-completion.completion (EndsAt g.O.Outside.goes c.args.tree.now c.args.outside.now c.args.place (λ style. script c.in_ok-script.script) c.eval_value.new.tree c.eval_value.new.outside)
+        c.in_ok-completion.was c.caught.ensures c.eval_value.ensures.runs in
+    ended_err c.from_residual-in_err-keep_caught.result c.in_err-keep_caught.field-0.0 p.0 _ _ _ p.1 p.2 c.in_err-keep_caught.ensures.kept
+    (λ e h q style at.
+    let after = still_at _ _ c.args.place q style c.eval_value.ensures.steady at in
+    at_prog (ap control_catch (split_first c.args.args.now c.script-item.result c.in-len1-up.len_at_least c.script-item.is))
+    (catch_goes style c.script-item.result _ (completion_of c.in_ok-completion.completion) (omega (arith, few))
+    (at_prog (ap script (sym c.in_ok-script.ensures.cases)) (caught q style (record { names = at.names; style_is = at.style_is })))
+    (does_comes _ c.eval_value.new.outside (h q after.names _))))
+
+pub control::catch-returns-clause-runs : goal.control::catch-returns-clause-runs
+control::catch-returns-clause-runs g t c = λ q style at.
+    let few = c.if-names-gt2.false in
+    let caught = caught_ok c.eval_value.result c.caught.result c.in_ok-completion.completion (EndsAt g.O.Outside.goes c.args.tree.now c.args.outside.now c.args.place (λ style. script c.in_ok-script.script) c.eval_value.new.tree c.eval_value.new.outside)
+        c.in_ok-completion.was c.caught.ensures c.eval_value.ensures.runs in
+    let after = still_at _ _ c.args.place q style c.eval_value.ensures.steady at in
+    at_prog (ap control_catch (split_first c.args.args.now c.script-item.result c.in-len1-up.len_at_least c.script-item.is))
+    (catch_goes style c.script-item.result _ (completion_of c.in_ok-completion.completion) (omega (arith, few))
+    (at_prog (ap script (sym c.in_ok-script.ensures.cases)) (caught q style (record { names = at.names; style_is = at.style_is })))
+    (does_comes _ c.eval_value.new.outside (c.in_ok-keep_caught.ensures.kept q after.names _ (tree_of c.keep_caught.new.tree) _ (refl, ap (λ (x : List ℕ). Completed (ok x)) c.from_int.ensures))))
+
+pub control::catch-returns-clause-steady : goal.control::catch-returns-clause-steady
+control::catch-returns-clause-steady g t c = steady-trans _ _ _ c.eval_value.ensures.steady (level_steady _ _ c.keep_caught.ensures.level)
+
+pub control::eval-returns-then-is_empty-clause-runs : goal.control::eval-returns-then-is_empty-clause-runs
+control::eval-returns-then-is_empty-clause-runs g t c =
+    let none = Steps.zero_is (length c.args.args.now) c.is_empty.result c.is_empty.ensures c.if-is_empty.true in
+    Interrupts-more c.wrong_args.result _ _ (λ e h q style at. eval_none style c.args.args.now (omega (arith, none)) h) c.wrong_args.ensures
+
+pub control::eval-returns-in_err-script-clause-runs : goal.control::eval-returns-in_err-script-clause-runs
+control::eval-returns-in_err-script-clause-runs g t c =
+    let some = Steps.some_is (length c.args.args.now) c.is_empty.result c.is_empty.ensures c.if-is_empty.false in
+    let p = err_from_is_err_and c.from_residual.result c.from_residual.ensures.1 in
+    ended_err c.from_residual.result c.in_err-script.field-0.0 p.0 _ _ _ p.1 p.2 c.in_err-script.ensures.refused
+    (λ e h q style at. eval_long style c.args.args.now some h.0 h.1)
+
+pub control::eval-returns-clause-runs : goal.control::eval-returns-clause-runs
+control::eval-returns-clause-runs g t c =
+    let some = Steps.some_is (length c.args.args.now) c.is_empty.result c.is_empty.ensures c.if-is_empty.false in
+    IfEnded-more c.eval_value.result
+    (EndsAt g.O.Outside.goes c.args.tree.now c.args.outside.now c.args.place (λ style. script c.in_ok-script.script) c.eval_value.new.tree c.eval_value.new.outside)
+    (EndsFrom g.O.Outside.goes c.args.tree.now c.args.outside.now c.args.place (λ style. control_eval c.args.args.now) c.eval_value.new.tree c.eval_value.new.outside)
+    (λ e h q style at. eval_runs style c.args.args.now some c.in_ok-script.ensures.whole.1
+    (at_prog (ap script (sym c.in_ok-script.ensures.whole.0)) (h q style (record { names = at.names; style_is = at.style_is })))) c.eval_value.ensures.runs
