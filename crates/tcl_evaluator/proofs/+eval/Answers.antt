@@ -41,7 +41,7 @@ use Rattle.tcl_language.specs.Table.{dispatch}
 use Rattle.tcl_run.specs.Ends.{itself}
 use Rattle.tcl_run.proofs.Plain.{does_comes}
 use Rattle.tcl_flow.specs.View.{completion_of}
-use Rattle.tcl_language.specs.Control.{eval as control_eval, catch as control_catch}
+use Rattle.tcl_language.specs.Control.{code_text, eval as control_eval, catch as control_catch}
 use Rattle.tcl_calls.specs.Found.{found}
 use Rattle.tcl_evaluator.proofs.Steps.{split_first}
 use Rattle.tcl_evaluator.proofs.Found.{call_found, call_missing}
@@ -435,10 +435,11 @@ control::catch-returns-clause-runs g t c = λ q style at.
     let caught = caught_ok c.eval_value.result c.caught.result c.in_ok-completion.completion (EndsAt g.O.Outside.goes c.args.tree.now c.args.outside.now c.args.place (λ style. script c.in_ok-script.script) c.eval_value.new.tree c.eval_value.new.outside)
         c.in_ok-completion.was c.caught.ensures c.eval_value.ensures.runs in
     let after = still_at _ _ c.args.place q style c.eval_value.ensures.steady at in
+    let code : c.from_int.result ≡ code_text (completion_of c.in_ok-completion.completion) = search rules in
     at_prog (ap control_catch (split_first c.args.args.now c.script-item.result c.in-len1-up.len_at_least c.script-item.is))
     (catch_goes style c.script-item.result _ (completion_of c.in_ok-completion.completion) (omega (arith, few))
     (at_prog (ap script (sym c.in_ok-script.ensures.cases)) (caught q style (record { names = at.names; style_is = at.style_is })))
-    (does_comes _ c.eval_value.new.outside (c.in_ok-keep_caught.ensures.kept q after.names _ (tree_of c.keep_caught.new.tree) _ (refl, ap (λ (x : List ℕ). Completed (ok x)) c.from_int.ensures))))
+    (does_comes _ c.eval_value.new.outside (c.in_ok-keep_caught.ensures.kept q after.names _ (tree_of c.keep_caught.new.tree) _ (refl, ap (λ (x : List ℕ). Completed (ok x)) code))))
 
 pub control::catch-returns-clause-steady : goal.control::catch-returns-clause-steady
 control::catch-returns-clause-steady g t c = steady-trans _ _ _ c.eval_value.ensures.steady (level_steady _ _ c.keep_caught.ensures.level)
