@@ -4,3 +4,6 @@ pub mod Short
 pub mod Chains
 pub mod Setting
 pub mod Ways
+pub mod Growths
+pub mod Same
+pub mod Linking
