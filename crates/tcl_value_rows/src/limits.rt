@@ -95,6 +95,41 @@ fn text_of_a_full_list_takes_no_byte_more(rt: HostRuntime) -> Result<(), Fail> {
     Ok(())
 }
 
+#[test]
+fn full_list_takes_no_element_more(rt: HostRuntime) -> Result<(), Fail> {
+    let alloc = rt.alloc();
+    let mut list = full(alloc)?.as_list(alloc)?;
+    let refused = list.push(alloc, Value::empty());
+    assert!(rt;
+        matches!(refused, Err(ValueError::TooLong)),
+        "an element too many"
+    );
+    let other = list.clone()?;
+    assert_eq!(rt; other.len(), 3);
+    let refused = list.push_from(&other, 2);
+    assert!(rt;
+        matches!(refused, Err(ValueError::TooLong)),
+        "an element too many"
+    );
+    assert_eq!(rt; list.len(), 3);
+    Ok(())
+}
+
+#[test]
+fn element_of_a_full_list_grows_by_no_byte(rt: HostRuntime) -> Result<(), Fail> {
+    let alloc = rt.alloc();
+    let mut list = full(alloc)?.as_list(alloc)?;
+    assert_eq!(rt; list.len(), 3);
+    let refused = list.set(alloc, 2, Value::from_int(12345));
+    assert!(rt;
+        matches!(refused, Err(ValueError::TooLong)),
+        "a byte too many"
+    );
+    assert_eq!(rt; list.len(), 3);
+    assert_eq!(rt; list.get(2)?.text(alloc)?.as_str(), "1234");
+    Ok(())
+}
+
 /// A dict whose text has 16,777,215 bytes.
 fn halves(alloc: Global) -> Result<Value, EntryError> {
     let half = doubled(alloc, 13)?;
@@ -115,6 +150,22 @@ fn dict_grows_to_the_limit(rt: HostRuntime) -> Result<(), Fail> {
         "an entry too many"
     );
     assert_eq!(rt; dict.text_len(), 16_777_215);
+    Ok(())
+}
+
+#[test]
+fn value_of_a_key_grows_to_the_limit(rt: HostRuntime) -> Result<(), Fail> {
+    let alloc = rt.alloc();
+    let mut dict = halves(alloc)?;
+    let mut longer = doubled(alloc, 13)?;
+    longer.push(alloc, Value::from_int(0))?;
+    let refused = dict.set_key(alloc, &value(alloc, "b")?, longer);
+    assert!(rt;
+        matches!(refused, Err(EntryError::TooLong)),
+        "two bytes more"
+    );
+    dict.set_key(alloc, &value(alloc, "b")?, Value::from_int(0))?;
+    assert_eq!(rt; dict.text_len(), 8_388_611);
     Ok(())
 }
 
