@@ -256,7 +256,7 @@ fn call(frames: &mut Frames, alloc: Global, words: &[Text]) -> Result<Text, Fail
 }
 
 /// Makes calls one after the other on a new chain: the answers that aren't empty, each on a line.
-pub fn answers(alloc: Global, calls: &[&str]) -> Result<String, Fail> {
+pub(crate) fn answers(alloc: Global, calls: &[&str]) -> Result<String, Fail> {
     let mut frames = Frames::new(alloc)?;
     let mut all = String::new(alloc);
     for line in calls {
@@ -271,7 +271,7 @@ pub fn answers(alloc: Global, calls: &[&str]) -> Result<String, Fail> {
 }
 
 /// The chain that calls leave.
-pub fn chain(alloc: Global, calls: &[&str]) -> Result<Frames, Fail> {
+pub(crate) fn chain(alloc: Global, calls: &[&str]) -> Result<Frames, Fail> {
     let mut frames = Frames::new(alloc)?;
     for line in calls {
         let words = read_list(alloc, line)?;
