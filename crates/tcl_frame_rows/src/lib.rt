@@ -2,13 +2,7 @@
 #![tactic(auto)]
 
 #[cfg(test)]
-mod arrays;
-#[cfg(test)]
-mod calls;
-#[cfg(test)]
 mod completions;
-#[cfg(test)]
-mod frames;
 #[cfg(test)]
 mod option_words;
 #[cfg(test)]
