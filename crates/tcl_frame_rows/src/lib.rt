@@ -4,6 +4,8 @@
 #[cfg(test)]
 mod completions;
 #[cfg(test)]
+mod frames;
+#[cfg(test)]
 mod option_words;
 #[cfg(test)]
 mod returns;
