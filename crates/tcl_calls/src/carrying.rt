@@ -50,6 +50,7 @@ pub fn carry(
 }
 
 /// A stop as the caller sees it: where it doesn't stand below the interpreter that is full, an error.
+/// More levels than a number of the machine holds, which no tree has, are answered as want of memory.
 fn told_stop(
     tree: &Tree,
     alloc: Global,
