@@ -1,7 +1,8 @@
 //! The elements of lists and the values of dicts.
-ghost use Rattle.std.specs.Prelude.{◌≡◌, ◌≢◌, ◌≤◌, ◌++◌, ◌∷◌, ◌↔◌, [], length, OnOk, IfOk, IsTrue, MatchOption};
+ghost use Rattle.std.specs.Prelude.{◌≡◌, ◌≢◌, ◌≤◌, ◌++◌, ◌∷◌, ◌↔◌, [], length, OnOk, OnErr, IfOk, IsTrue, MatchOption};
 ghost use Rattle.std.specs.String.{string_bytes};
 ghost use Rattle.std.specs.Fmt.{signed_decimal};
+ghost use Rattle.tcl_text.specs.Writing.{Extends};
 ghost use Rattle.tcl_value.specs.Limits.{Bytes, IsWithin};
 ghost use Rattle.tcl_value.specs.Writing.{write_element, placed, space};
 ghost use Rattle.tcl_value.specs.Texts.{element_text, ends_in_backslash, IsElement};
@@ -75,11 +76,12 @@ impl Element {
     /// Writes it as an element of a list, the first or another, to the end of a string.
     ///
     /// # Errors
-    /// Want of memory.
+    /// Want of memory, where a part of it may have been written.
     #[cycle(write)]
     pub(crate) fn write_to(&self, first: bool, out: &mut String) -> Result<(), AllocError>
         requires { IsElement self.now }
-        ensures { OnOk result (string_bytes out.new ≡ string_bytes out.old ++ write_element first (element_text self.now)) }
+        ensures written { OnOk result (string_bytes out.new ≡ string_bytes out.old ++ write_element first (element_text self.now)) }
+        ensures kept { Extends (string_bytes out.old) (string_bytes out.new) }
     {
         match self {
             Element::Text(text) => write_element(out, text.as_str(), first),
@@ -266,9 +268,10 @@ pub(crate) fn behind_key<'a>(text: &'a [u8], key: &Text, first: bool) -> Option<
     }
 }
 
-/// Writes a number as an element of a list to the end of a string.
+/// Writes a number as an element of a list to the end of a string, or nothing.
 fn write_number_to(n: i64, first: bool, out: &mut String) -> Result<(), AllocError>
-    ensures { OnOk result (string_bytes out.new ≡ string_bytes out.old ++ write_element first (signed_decimal n)) }
+    ensures written { OnOk result (string_bytes out.new ≡ string_bytes out.old ++ write_element first (signed_decimal n)) }
+    ensures unchanged { OnErr result (string_bytes out.new ≡ string_bytes out.old) }
 {
     let _first = first;
     push_int(out, n)

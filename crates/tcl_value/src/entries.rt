@@ -1,6 +1,7 @@
 //! Dicts that carry no text.
 ghost use Rattle.std.specs.Prelude.{◌≡◌, ◌≤◌, ◌<◌, ◌+◌, ◌++◌, ◌∷◌, ◌↔◌, [], length, IfOk, OnOk, OnErr, IfErr, IsErrOf, IsTrue, IfSome, MatchOption, option_map, slice_index_or};
 ghost use Rattle.std.specs.String.{string_bytes};
+ghost use Rattle.tcl_text.specs.Writing.{Extends};
 ghost use Rattle.tcl_value.specs.Limits.{IsWithin, IsPast};
 ghost use Rattle.tcl_value.specs.Writing.{write, write_element};
 ghost use Rattle.tcl_value.specs.Texts.{texts, flat, element_text, IsElement, IsInner, AreElements, weight, element_shown};
@@ -339,10 +340,11 @@ impl Entries {
     /// Writes its text to the end of a string.
     ///
     /// # Errors
-    /// Want of memory.
+    /// Want of memory, where a part of it may have been written.
     #[cycle(write)]
     pub(crate) fn write_to(&self, out: &mut String) -> Result<(), AllocError>
-        ensures { OnOk result (string_bytes out.new ≡ string_bytes out.old ++ write (flat self.now)) }
+        ensures written { OnOk result (string_bytes out.new ≡ string_bytes out.old ++ write (flat self.now)) }
+        ensures kept { Extends (string_bytes out.old) (string_bytes out.new) }
     {
         'entries: for (index, value) in self.values.iter().enumerate() {
             if index > 0 {

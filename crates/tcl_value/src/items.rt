@@ -1,6 +1,7 @@
 //! Lists that carry no text.
 ghost use Rattle.std.specs.Prelude.{◌≡◌, ◌<◌, ◌≤◌, ◌++◌, ◌∷◌, ◌^◌, ◌==◌, ◌&&◌, ◌↔◌, [], length, IfOk, OnOk, OnErr, IfErr, IsErr, IsErrOf, IsTrue, slice_index_or, slice_set};
 ghost use Rattle.std.specs.String.{string_bytes};
+ghost use Rattle.tcl_text.specs.Writing.{Extends};
 ghost use Rattle.tcl_value.specs.Limits.{IsWithin, IsPast};
 ghost use Rattle.tcl_value.specs.Writing.{write};
 ghost use Rattle.tcl_value.specs.Texts.{element_text, texts, flat, IsElement, IsInner, AreElements, weight, weight_from};
@@ -124,10 +125,11 @@ impl Items {
     /// Writes its text to the end of a string.
     ///
     /// # Errors
-    /// Want of memory.
+    /// Want of memory, where a part of it may have been written.
     #[cycle(write)]
     pub(crate) fn write_to(&self, out: &mut String) -> Result<(), AllocError>
-        ensures { OnOk result (string_bytes out.new ≡ string_bytes out.old ++ write self.now) }
+        ensures written { OnOk result (string_bytes out.new ≡ string_bytes out.old ++ write self.now) }
+        ensures kept { Extends (string_bytes out.old) (string_bytes out.new) }
     {
         'elements: for (index, element) in self.elements.iter().enumerate() {
             if index > 0 {

@@ -7,6 +7,7 @@ ghost use Rattle.tcl_value.specs.Writing.{write};
 ghost use Rattle.tcl_value.specs.Texts.{element_text, texts, flat, IsElement, AreElements};
 ghost use Rattle.tcl_value.specs.Reading.{int_of, list_of};
 ghost use Rattle.tcl_text.specs.Reading.{Gives};
+ghost use Rattle.tcl_text.specs.Writing.{Extends};
 ghost use Rattle.tcl_parser.specs.Reading.{read_script};
 ghost use Rattle.tcl_value.specs.Changes.{AtList, Refuses};
 ghost use Rattle.tcl_value.specs.Dicts.{put, without, dict_of, GivesDict};
@@ -254,12 +255,10 @@ impl Value {
         }
     }
 
-    /// Writes its text to the end of a string.
-    ///
-    /// # Errors
-    /// Want of memory.
-    pub fn write_to(&self, _alloc: Global, out: &mut String) -> Result<(), AllocError>
-        ensures { OnOk result (string_bytes out.new ≡ string_bytes out.old ++ self.now) }
+    /// Adds its text to the end of a string, or a part of it where memory is wanting.
+    fn push_to(&self, out: &mut String) -> Result<(), AllocError>
+        ensures written { OnOk result (string_bytes out.new ≡ string_bytes out.old ++ self.now) }
+        ensures kept { Extends (string_bytes out.old) (string_bytes out.new) }
     {
         match &self.form {
             Form::Empty => Ok(()),
@@ -268,6 +267,22 @@ impl Value {
             Form::List(items) => items.write_to(out),
             Form::Dict(entries) => entries.write_to(out),
         }
+    }
+
+    /// Writes its text to the end of a string.
+    ///
+    /// # Errors
+    /// Want of memory, which leaves the string as it was.
+    pub fn write_to(&self, _alloc: Global, out: &mut String) -> Result<(), AllocError>
+        ensures written { OnOk result (string_bytes out.new ≡ string_bytes out.old ++ self.now) }
+        ensures unchanged { OnErr result (string_bytes out.new ≡ string_bytes out.old) }
+    {
+        let len = out.as_str().len();
+        let written = self.push_to(out);
+        if written.is_err() {
+            out.truncate(len);
+        }
+        written
     }
 
     /// Whether its text is this one. This takes no memory.

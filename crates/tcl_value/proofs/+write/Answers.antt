@@ -38,11 +38,11 @@ entries::Entries::write_to-entries-preserved t c =
       | entries::Entries::write_to-then-index-gt0+in_ok-push w ↦ inl (omega arith, ap string_bytes w.out-is ∙ w.in_ok-push.ensures.bytes)
       | entries::Entries::write_to-else-index-gt0 w ↦ inr (omega arith, ap string_bytes w.out-is)
     ])
-    (c.in_ok-write_to.ensures
+    (c.in_ok-write_to.ensures.written
     ∙ ap (λ l. l ++ write_element false (element_text c.value-item.result)) (c.in_ok-push-2.ensures.bytes ∙ ap (λ l. l ++ 32 ∷ []) (c.in_ok-write_element.ensures.added ∙ ap (λ k. string_bytes c.if-index-gt0.out ++ write_element (c.entries.index == 0) k) c.as_str.ensures)))
 
-pub entries::Entries::write_to-returns : goal.entries::Entries::write_to-returns
-entries::Entries::write_to-returns t c =
+pub entries::Entries::write_to-returns-clause-written : goal.entries::Entries::write_to-returns-clause-written
+entries::Entries::write_to-returns-clause-written t c =
     let same = c.deref-value-items.ensures.value in
     let all = length-pairs c.self.inside.keys.keys (texts c.deref-value-items.result.now) (omega (arith, c.self.invariant.same, length-texts c.deref-value-items.result.now, ap length same)) in
     let taken : take c.entries.index (pairs c.self.inside.keys.keys (texts c.deref-value-items.result.now)) ≡ pairs c.self.inside.keys.keys (texts c.deref-value-items.result.now) = take_all c.entries.index _ (omega (arith, length-texts c.deref-value-items.result.now)) in
@@ -70,4 +70,4 @@ items::Items::write_to-elements-preserved t c =
       | items::Items::write_to-then-index-gt0+in_ok-push w ↦ inl (omega arith, ap string_bytes w.out-is ∙ w.in_ok-push.ensures.bytes)
       | items::Items::write_to-else-index-gt0 w ↦ inr (omega arith, ap string_bytes w.out-is)
     ])
-    c.in_ok-write_to.ensures
+    c.in_ok-write_to.ensures.written
