@@ -1,4 +1,5 @@
 //! Growth up to the most bytes that a value may have, and past it.
+use crate::changes::put;
 use crate::values::value;
 use std::alloc::Global;
 use std::test::Fail;
@@ -95,6 +96,50 @@ fn text_of_a_full_list_takes_no_byte_more(rt: HostRuntime) -> Result<(), Fail> {
     Ok(())
 }
 
+/// Adds an element of another list, if there is one.
+fn take(list: &mut List, other: &List, index: usize) -> Result<(), ValueError> {
+    if index < other.len() {
+        list.push_from(other, index)
+    } else {
+        Ok(())
+    }
+}
+
+#[test]
+fn full_list_takes_no_element_more(rt: HostRuntime) -> Result<(), Fail> {
+    let alloc = rt.alloc();
+    let mut list = full(alloc)?.as_list(alloc)?;
+    let refused = list.push(alloc, Value::empty());
+    assert!(rt;
+        matches!(refused, Err(ValueError::TooLong)),
+        "an element too many"
+    );
+    let other = list.clone()?;
+    let refused = take(&mut list, &other, 2);
+    assert!(rt;
+        matches!(refused, Err(ValueError::TooLong)),
+        "an element too many"
+    );
+    assert_eq!(rt; list.len(), 3);
+    Ok(())
+}
+
+/// A number in the place of the last element of a full list: one of four digits stands there.
+#[test]
+fn element_of_a_full_list_grows_by_no_byte(rt: HostRuntime) -> Result<(), Fail> {
+    let alloc = rt.alloc();
+    let mut list = full(alloc)?.as_list(alloc)?;
+    let refused = put(&mut list, alloc, 2, Value::from_int(12345));
+    assert!(rt;
+        matches!(refused, Err(ValueError::TooLong)),
+        "a byte too many"
+    );
+    put(&mut list, alloc, 2, Value::from_int(-234))?;
+    let own = Value::from_list(alloc, list)?;
+    assert_eq!(rt; own.text_len(), 16_777_216);
+    Ok(())
+}
+
 /// A dict whose text has 16,777,215 bytes.
 fn halves(alloc: Global) -> Result<Value, EntryError> {
     let half = doubled(alloc, 13)?;
@@ -115,6 +160,22 @@ fn dict_grows_to_the_limit(rt: HostRuntime) -> Result<(), Fail> {
         "an entry too many"
     );
     assert_eq!(rt; dict.text_len(), 16_777_215);
+    Ok(())
+}
+
+#[test]
+fn value_of_a_key_grows_to_the_limit(rt: HostRuntime) -> Result<(), Fail> {
+    let alloc = rt.alloc();
+    let mut dict = halves(alloc)?;
+    let mut longer = doubled(alloc, 13)?;
+    longer.push(alloc, Value::from_int(0))?;
+    let refused = dict.set_key(alloc, &value(alloc, "b")?, longer);
+    assert!(rt;
+        matches!(refused, Err(EntryError::TooLong)),
+        "two bytes more"
+    );
+    dict.set_key(alloc, &value(alloc, "b")?, Value::from_int(0))?;
+    assert_eq!(rt; dict.text_len(), 8_388_611);
     Ok(())
 }
 
