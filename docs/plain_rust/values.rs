@@ -124,6 +124,17 @@ fn sets(times: u32) -> usize {
     value.len()
 }
 
+fn inner_sets(parts: usize, times: u32) -> usize {
+    let inner = Value::List(Rc::new((0..parts).map(|_| Value::Number(0)).collect()));
+    let mut value = Value::List(Rc::new(vec![inner, Value::text("")]));
+    for i in 0..times {
+        if let Value::List(list) = black_box(&mut value) {
+            Rc::make_mut(list)[0].set_at(i as usize % 1000, Value::Number(i64::from(i)));
+        }
+    }
+    value.len()
+}
+
 fn entries(keys: &[Value], times: u32) -> usize {
     let mut value = Value::Dict(Rc::new(Dict::default()));
     for i in 0..times {
@@ -167,6 +178,8 @@ fn main() {
     timed("1,000,000 appends to a list", || pushes(CHANGES));
     timed("100,000 changes of an element", || sets(CHANGES / 10));
     timed("1,000,000 changes of an element", || sets(CHANGES));
+    timed("10,000 changes in an inner list of 1,000", || inner_sets(PARTS, CHANGES / 100));
+    timed("10,000 changes in an inner list of 10,000", || inner_sets(10 * PARTS, CHANGES / 100));
     timed("100,000 new keys", || keys_added(CHANGES / 10));
     timed("1,000,000 new keys", || keys_added(CHANGES));
     let keys: Vec<Value> = (0..PARTS).map(|i| Value::text(&format!("key{i}"))).collect();

@@ -1,9 +1,10 @@
 //! Times of values that are changed in loops. The times go to standard error, so that standard output stays the same.
 #![tactic(auto)]
 
-use std::alloc::Global;
+use std::alloc::{AllocError, Global};
 use std::io;
 use std::time::Instant;
+use tcl_nested::changing::set_element;
 use tcl_text::integer::Integers;
 use tcl_text::text::Text;
 use tcl_value::value::{Value, ValueError};
@@ -54,6 +55,38 @@ fn sets(alloc: Global, times: u32) -> usize {
     }
     for i in 0..times {
         let _ = value.set_at(alloc, i as usize % PARTS, Value::from_int(i64::from(i)));
+    }
+    value.text_len()
+}
+
+/// A list of so many numbers and another element.
+fn inner_list(alloc: Global, parts: usize) -> Value {
+    let mut inner = Value::empty();
+    for _ in 0..parts {
+        let _ = inner.push(alloc, Value::from_int(0));
+    }
+    let mut value = Value::empty();
+    let _ = value.push(alloc, inner);
+    let _ = value.push(alloc, Value::empty());
+    value
+}
+
+/// The places 0 and this one, as indexes.
+fn place_inside(alloc: Global, place: u32) -> Result<Vec<Value>, AllocError> {
+    let mut path = Vec::new(alloc);
+    path.push(Value::from_int(0))?;
+    path.push(Value::from_int(i64::from(place)))?;
+    Ok(path)
+}
+
+/// How long the text of a list is in which one stands whose elements were changed in turn, so often.
+fn inner_sets(alloc: Global, parts: usize, times: u32) -> usize {
+    let mut value = inner_list(alloc, parts);
+    for i in 0..times {
+        if let Ok(path) = place_inside(alloc, i % 1000) {
+            let new = Value::from_int(i64::from(i));
+            let _ = set_element(alloc, Integers::Tcl8, &mut value, &path, new);
+        }
     }
     value.text_len()
 }
@@ -143,6 +176,16 @@ fn main(rt: HostRuntime) -> io::Result<()> {
         sets(alloc, CHANGES / 10)
     );
     timed!(&rt, "1,000,000 changes of an element", sets(alloc, CHANGES));
+    timed!(
+        &rt,
+        "10,000 changes in an inner list of 1,000",
+        inner_sets(alloc, PARTS, CHANGES / 100)
+    );
+    timed!(
+        &rt,
+        "10,000 changes in an inner list of 10,000",
+        inner_sets(alloc, 10 * PARTS, CHANGES / 100)
+    );
     timed!(&rt, "100,000 new keys", keys_added(alloc, CHANGES / 10));
     timed!(&rt, "1,000,000 new keys", keys_added(alloc, CHANGES));
     if let Ok(keys) = keys(alloc) {
