@@ -2,6 +2,8 @@
 #![tactic(auto)]
 
 #[cfg(test)]
+mod command_rows;
+#[cfg(test)]
 mod dicts;
 #[cfg(test)]
 mod list_search;

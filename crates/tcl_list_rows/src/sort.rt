@@ -1,10 +1,10 @@
 //! What the contracts don't say: that calls succeed, and the worked rows.
 use std::alloc::{AllocError, Global};
 use std::test::Fail;
-use tcl_lists::reading::list_word;
+use tcl_lists::reading::{all_and_last, list_word};
 use tcl_sort::command::lsort;
 use tcl_sort::numbers::sorted_numbers;
-use tcl_sort::options::{Sorting, all_and_last};
+use tcl_sort::options::Sorting;
 use tcl_sort::ordering::{put_in_order, rows_value, sorted_texts};
 use tcl_sort::rows::{NumberRow, TextRow};
 use tcl_text::integer::Integers;
