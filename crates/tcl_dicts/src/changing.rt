@@ -159,12 +159,7 @@ pub fn append_words(alloc: Global, words: &[Value]) -> Result<(&Value, &Value, &
 ///
 /// # Errors
 /// 101 to 104, 121, 122; want of memory.
-pub fn append(
-    alloc: Global,
-    old: &mut Value,
-    key: &Value,
-    words: &[Value],
-) -> Result<(), Refusal>
+pub fn append(alloc: Global, old: &mut Value, key: &Value, words: &[Value]) -> Result<(), Refusal>
     ensures { Changes result old.old old.new (append_of old.old key.now words.now) }
 {
     let found = found_in(alloc, old, key)?;
@@ -188,12 +183,7 @@ pub fn lappend_words(alloc: Global, words: &[Value]) -> Result<(&Value, &Value, 
 ///
 /// # Errors
 /// 101 to 104 and 121 of the dict, 101 to 104 of the key's value, 122; want of memory.
-pub fn lappend(
-    alloc: Global,
-    old: &mut Value,
-    key: &Value,
-    words: &[Value],
-) -> Result<(), Refusal>
+pub fn lappend(alloc: Global, old: &mut Value, key: &Value, words: &[Value]) -> Result<(), Refusal>
     ensures { Changes result old.old old.new (lappend_of old.old key.now words.now) }
 {
     let found = found_in(alloc, old, key)?;

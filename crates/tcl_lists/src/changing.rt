@@ -19,10 +19,7 @@ use tcl_words::refusal::Refusal;
 ///
 /// # Errors
 /// 241 where there are fewer than two; want of memory.
-pub fn lset_words(
-    alloc: Global,
-    words: &[Value],
-) -> Result<(&Value, &[Value], &Value), Refusal>
+pub fn lset_words(alloc: Global, words: &[Value]) -> Result<(&Value, &[Value], &Value), Refusal>
     ensures { Gives (λ p. (p.0.now, p.1.now, p.2.now)) result (first_middle_last LSET_FORM.now words.now) }
 {
     first_middle_last(alloc, words, LSET_FORM)

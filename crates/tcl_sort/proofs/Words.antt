@@ -1,9 +1,6 @@
 -- Options, one by one.
-use Rattle.std.proofs.Common.{◌≡◌, ℕ, zero, suc, ◌+◌, ◌-◌, ◌<◌, ◌≤◌, List, [], ◌∷◌, length, take, drop, get_or, Ok, Err, refl, sym, ◌∙◌, ap, arith}
-use Rattle.tcl_words.specs.declared.refusal.Refusal.{Refusal}
-use Rattle.tcl_words.specs.declared.refusal.Refusal.TheVariants.{Memory, Fault}
-use Rattle.tcl_words.specs.Outcomes.{Refuses, next}
-use Rattle.tcl_words.specs.Faults.{wrong_arguments}
+use Rattle.std.proofs.Common.{◌≡◌, ℕ, ◌+◌, ◌<◌, List, ◌∷◌, length, drop, get_or, Ok, sym, ◌∙◌, ap}
+use Rattle.tcl_words.specs.Outcomes.{next}
 use Rattle.tcl_lists.specs.Lists.{Texts}
 use Rattle.std.specs.declared.result.Result.{Result}
 use Rattle.std.proofs.lemmas.List.{drop_more}
