@@ -60,10 +60,10 @@ pub fn not_changed(alloc: Global, why: ChangeError) -> Refusal
 }
 
 /// What is told of a fault inside nested lists or dicts.
-fn nested_fault(alloc: Global, fault: &NestedFault) -> Refusal
-    ensures { Refuses {X = List ℕ} result (Err (nested_message fault.now)) }
+fn nested_fault(alloc: Global, nested: &NestedFault) -> Refusal
+    ensures { Refuses {X = List ℕ} result (Err (nested_message nested.now)) }
 {
-    match fault.message(alloc) {
+    match nested.message(alloc) {
         Ok(text) => Refusal::Fault(text),
         Err(_) => Refusal::Memory,
     }
