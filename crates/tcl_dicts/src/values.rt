@@ -1,11 +1,10 @@
 //! What becomes of a key's value.
-ghost use Rattle.std.specs.Prelude.{◌≡◌, ◌++◌, ℕ, List, Err, pos};
+ghost use Rattle.std.specs.Prelude.{◌≡◌, ◌++◌, ◌+ℤ◌, ℕ, List, Err, pos};
 ghost use Rattle.std.specs.Option.{option_copied};
 ghost use Rattle.tcl_words.specs.Outcomes.{Gives, Refuses};
 ghost use Rattle.tcl_words.specs.Limits.{limited};
 ghost use Rattle.tcl_nested.specs.Nested.{value_or_empty};
 ghost use Rattle.tcl_dicts.specs.Changing.{integer_or, overflow, number_value, incremented, joined, appended, lengthened};
-ghost use Rattle.std.specs.Prelude.{◌+ℤ◌};
 
 use std::alloc::Global;
 use tcl_arithmetic::sum;

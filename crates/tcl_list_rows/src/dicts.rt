@@ -38,7 +38,12 @@ fn creates_and_changes(rt: HostRuntime) -> Result<(), Fail> {
     let alloc = rt.alloc();
     let mut dict = create(alloc, &words(alloc, &["a", "1", "b", "2", "a", "3"])?)?;
     assert!(rt; is_text(alloc, &dict, "a 3 b 2")?);
-    set(alloc, &mut dict, &words(alloc, &["c"])?, &value(alloc, "4")?)?;
+    set(
+        alloc,
+        &mut dict,
+        &words(alloc, &["c"])?,
+        &value(alloc, "4")?,
+    )?;
     unset(alloc, &mut dict, &[], &value(alloc, "a")?)?;
     assert!(rt; is_text(alloc, &dict, "b 2 c 4")?);
     let refused = create(alloc, &words(alloc, &["a"])?);

@@ -1,6 +1,5 @@
 //! The change that `lset` makes.
-ghost use Rattle.std.specs.Prelude.{◌≡◌, List, ℕ};
-ghost use Rattle.std.specs.Prelude.{Result};
+ghost use Rattle.std.specs.Prelude.{◌≡◌, List, ℕ, Result, codes};
 ghost use Rattle.tcl_words.specs.Outcomes.{Gives, Refuses};
 ghost use Rattle.tcl_nested.specs.Nested.{element_changed};
 ghost use Rattle.tcl_lists.specs.Lists.{Texts, Changes, first_middle_last};
@@ -20,13 +19,10 @@ use tcl_words::refusal::Refusal;
 /// # Errors
 /// 241 where there are fewer than two; want of memory.
 pub fn lset_words(alloc: Global, words: &[Value]) -> Result<(&Value, &[Value], &Value), Refusal>
-    ensures { Gives (λ p. (p.0.now, p.1.now, p.2.now)) result (first_middle_last LSET_FORM.now words.now) }
+    ensures { Gives (λ p. (p.0.now, p.1.now, p.2.now)) result (first_middle_last (codes "lset varName ?index ...? newValue") words.now) }
 {
-    first_middle_last(alloc, words, LSET_FORM)
+    first_middle_last(alloc, words, "lset varName ?index ...? newValue")
 }
-
-/// The form of `lset`.
-pub const LSET_FORM: &str = "lset varName ?index ...? newValue";
 
 /// What is told of index words that spell no lists: a fault of the list that is to be changed comes first.
 fn list_first(alloc: Global, old: &mut Value, why: Refusal) -> Refusal

@@ -1,6 +1,5 @@
 //! How values are refused.
-ghost use Rattle.std.specs.Prelude.{◌≡◌, ℕ, List, Err};
-ghost use Rattle.std.specs.Prelude.{Result};
+ghost use Rattle.std.specs.Prelude.{◌≡◌, ℕ, List, Result, Err};
 ghost use Rattle.tcl_words.specs.Outcomes.{Outcome, Refuses};
 ghost use Rattle.tcl_words.specs.Faults.{too_long};
 ghost use Rattle.tcl_text.specs.Writing.{fault_message};
