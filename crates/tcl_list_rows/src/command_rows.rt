@@ -12,17 +12,17 @@ use tcl_lists::indexes::{elements_of, lindex};
 use tcl_lists::lengthening::{lappend, lrepeat};
 use tcl_lists::reading::{first_and_rest, list_word};
 use tcl_sort::command::lsort;
-use tcl_text::integer::Integers::Tcl8;
+use tcl_text::integer::Integers::{self, Tcl8, Tcl9};
 use tcl_text::text::Text;
 use tcl_value::value::{Value, ValueError};
 use tcl_words::refusal::Refusal;
 
 /// What a command makes of the value that its first word is.
-fn changed(alloc: Global, name: &str, words: &[Value]) -> Result<Value, Refusal> {
+fn changed(alloc: Global, style: Integers, name: &str, words: &[Value]) -> Result<Value, Refusal> {
     if name == "lset" {
         let (old, indexes, new) = lset_words(alloc, words)?;
         let mut own = old.clone()?;
-        lset(alloc, Tcl8, &mut own, indexes, new)?;
+        lset(alloc, style, &mut own, indexes, new)?;
         return Ok(own);
     }
     let (old, rest) = first_and_rest(alloc, words, "lappend varName ?value ...?")?;
@@ -32,29 +32,29 @@ fn changed(alloc: Global, name: &str, words: &[Value]) -> Result<Value, Refusal>
 }
 
 /// What a command on lists gives.
-fn of_lists(alloc: Global, name: &str, words: &[Value]) -> Result<Value, Refusal> {
+fn of_lists(alloc: Global, style: Integers, name: &str, words: &[Value]) -> Result<Value, Refusal> {
     match name {
         "list" => list(alloc, words),
         "llength" => llength(alloc, words),
-        "lindex" => lindex(alloc, Tcl8, words),
-        "lrange" => lrange(alloc, Tcl8, words),
-        "linsert" => linsert(alloc, Tcl8, words),
-        "lreplace" => lreplace(alloc, Tcl8, words),
+        "lindex" => lindex(alloc, style, words),
+        "lrange" => lrange(alloc, style, words),
+        "linsert" => linsert(alloc, style, words),
+        "lreplace" => lreplace(alloc, style, words),
         "lreverse" => lreverse(alloc, words),
-        "lrepeat" => lrepeat(alloc, Tcl8, words),
-        _ => changed(alloc, name, words),
+        "lrepeat" => lrepeat(alloc, style, words),
+        _ => changed(alloc, style, name, words),
     }
 }
 
 /// What a command on lists and texts gives.
-fn of_texts(alloc: Global, name: &str, words: &[Value]) -> Result<Value, Refusal> {
+fn of_texts(alloc: Global, style: Integers, name: &str, words: &[Value]) -> Result<Value, Refusal> {
     match name {
         "join" => join(alloc, words),
         "concat" => concat(alloc, words),
         "split" => split(alloc, words),
         "lsearch" => lsearch(alloc, words),
-        "lsort" => lsort(alloc, Tcl8, words),
-        _ => of_lists(alloc, name, words),
+        "lsort" => lsort(alloc, style, words),
+        _ => of_lists(alloc, style, name, words),
     }
 }
 
@@ -73,10 +73,10 @@ fn by_path(alloc: Global, name: &str, words: &[Value]) -> Result<Value, Refusal>
 }
 
 /// What `dict incr` makes of the value that its first word is.
-fn by_number(alloc: Global, words: &[Value]) -> Result<Value, Refusal> {
+fn by_number(alloc: Global, style: Integers, words: &[Value]) -> Result<Value, Refusal> {
     let (old, key, by) = changing::incr_words(alloc, words)?;
     let mut own = old.clone()?;
-    changing::incr(alloc, Tcl8, &mut own, key, by)?;
+    changing::incr(alloc, style, &mut own, key, by)?;
     Ok(own)
 }
 
@@ -95,16 +95,21 @@ fn by_words(alloc: Global, name: &str, words: &[Value]) -> Result<Value, Refusal
 }
 
 /// What a subcommand of `dict` makes of the value that its first word is.
-fn of_variables(alloc: Global, name: &str, words: &[Value]) -> Result<Value, Refusal> {
+fn of_variables(
+    alloc: Global,
+    style: Integers,
+    name: &str,
+    words: &[Value],
+) -> Result<Value, Refusal> {
     match name {
         "set" | "unset" => by_path(alloc, name, words),
-        "incr" => by_number(alloc, words),
+        "incr" => by_number(alloc, style, words),
         _ => by_words(alloc, name, words),
     }
 }
 
 /// What a subcommand of `dict` gives.
-fn of_dicts(alloc: Global, name: &str, words: &[Value]) -> Result<Value, Refusal> {
+fn of_dicts(alloc: Global, style: Integers, name: &str, words: &[Value]) -> Result<Value, Refusal> {
     match name {
         "create" => building::create(alloc, words),
         "replace" => building::replace(alloc, words),
@@ -115,25 +120,25 @@ fn of_dicts(alloc: Global, name: &str, words: &[Value]) -> Result<Value, Refusal
         "size" => finding::size(alloc, words),
         "keys" => listing::keys(alloc, words),
         "values" => listing::values(alloc, words),
-        _ => of_variables(alloc, name, words),
+        _ => of_variables(alloc, style, name, words),
     }
 }
 
 /// What a subcommand of `dict` gives, by its words.
-fn of_subcommand(alloc: Global, words: &[Value]) -> Result<Value, Refusal> {
+fn of_subcommand(alloc: Global, style: Integers, words: &[Value]) -> Result<Value, Refusal> {
     let (name, rest) = first_and_rest(alloc, words, "dict subcommand ?arg ...?")?;
     let name = name.text(alloc)?;
-    of_dicts(alloc, name.as_str(), rest)
+    of_dicts(alloc, style, name.as_str(), rest)
 }
 
 /// What a command gives.
-fn given(alloc: Global, words: &[Value]) -> Result<Value, Refusal> {
+fn given(alloc: Global, style: Integers, words: &[Value]) -> Result<Value, Refusal> {
     let (name, rest) = first_and_rest(alloc, words, "no command")?;
     if name.is_text(b"dict") {
-        return of_subcommand(alloc, rest);
+        return of_subcommand(alloc, style, rest);
     }
     let name = name.text(alloc)?;
-    of_texts(alloc, name.as_str(), rest)
+    of_texts(alloc, style, name.as_str(), rest)
 }
 
 /// The text of what was given, or of the error.
@@ -150,19 +155,19 @@ fn value(alloc: Global, text: &str) -> Result<Value, ValueError> {
 }
 
 /// What the command of a row tells.
-fn told_by(alloc: Global, row: &str) -> Result<Text, Fail> {
+fn told_by(alloc: Global, style: Integers, row: &str) -> Result<Text, Fail> {
     let list = list_word(alloc, &value(alloc, row)?)?;
     let words = elements_of(alloc, &list)?;
-    Ok(told(alloc, given(alloc, &words))?)
+    Ok(told(alloc, given(alloc, style, &words))?)
 }
 
 /// The first row whose command doesn't tell what stands behind the arrow.
-fn first_wrong<'a>(alloc: Global, rows: &'a str) -> Result<&'a str, Fail> {
+fn first_wrong<'a>(alloc: Global, style: Integers, rows: &'a str) -> Result<&'a str, Fail> {
     'rows: for row in rows.lines() {
         let Some((command, wanted)) = row.split_once(" => ") else {
             return Ok(row);
         };
-        if told_by(alloc, command)?.as_str() != wanted {
+        if told_by(alloc, style, command)?.as_str() != wanted {
             return Ok(row);
         }
     }
@@ -201,7 +206,7 @@ lset {a b} \"{c}d\" x => list element in braces followed by \"d\" instead of spa
 lset {\"{a}b\" c} {0 0} x => list element in braces followed by \"b\" instead of space
 lset {a b} 9223372036854775808 x => bad index \"9223372036854775808\"
 lset {a b c} 08 x => bad index \"08\"";
-    assert_eq!(rt; first_wrong(rt.alloc(), rows)?, "");
+    assert_eq!(rt; first_wrong(rt.alloc(), Tcl8, rows)?, "");
     Ok(())
 }
 
@@ -232,7 +237,7 @@ dict keys {a 1} a b => wrong # args: should be \"dict keys dictionary ?pattern?\
 dict values => wrong # args: should be \"dict values dictionary ?pattern?\"
 dict merge {a 1 a 2} => a 2
 dict merge {a  1} => a 1";
-    assert_eq!(rt; first_wrong(rt.alloc(), rows)?, "");
+    assert_eq!(rt; first_wrong(rt.alloc(), Tcl8, rows)?, "");
     Ok(())
 }
 
@@ -257,7 +262,7 @@ dict set {a 1} b => wrong # args: should be \"dict set varName key ?key ...? val
 dict set => wrong # args: should be \"dict set varName key ?key ...? value\"
 dict unset {a 1} => wrong # args: should be \"dict unset varName key ?key ...?\"
 dict unset {b  2} a => b 2";
-    assert_eq!(rt; first_wrong(rt.alloc(), rows)?, "");
+    assert_eq!(rt; first_wrong(rt.alloc(), Tcl8, rows)?, "");
     Ok(())
 }
 
@@ -299,7 +304,7 @@ dict append {a 1} => wrong # args: should be \"dict append varName key ?string .
 dict lappend {a 1} => wrong # args: should be \"dict lappend varName key ?value ...?\"
 dict lappend {a  {b  c}} a => a {b c}
 dict lappend {a \"b \\{\"} a c => unmatched open brace in list";
-    assert_eq!(rt; first_wrong(rt.alloc(), rows)?, "");
+    assert_eq!(rt; first_wrong(rt.alloc(), Tcl8, rows)?, "");
     Ok(())
 }
 
@@ -313,8 +318,13 @@ dict exists {a {b c}} a b => 1
 dict exists {a {b c}} a c => 0
 dict size {k 1 k 2} => 1
 dict replace {a 1 b 2} a {x y} c 3 => a {x y} b 2 c 3
-dict remove {a 1 b 2 c 3} b z => a 1 c 3";
-    assert_eq!(rt; first_wrong(rt.alloc(), rows)?, "");
+dict remove {a 1 b 2 c 3} b z => a 1 c 3
+dict get {k 1 k  2} => k 2
+dict get {a 1 b} b => missing value to go with key
+dict exists {a {b c}} b => 0
+dict exists \"a \\{b\" b => 0
+dict create a => wrong # args: should be \"dict create ?key value ...?\"";
+    assert_eq!(rt; first_wrong(rt.alloc(), Tcl8, rows)?, "");
     Ok(())
 }
 
@@ -344,7 +354,27 @@ lrepeat 0 a =>
 lappend {a b} {c d} => a b {c d}
 lappend {a b} {} x => a b {} x
 lappend {a  b} => a b
-join {a {b c} d} => a b c d
+lindex \"a \\{b\" => a {b
+llength \"a \\{b\" => unmatched open brace in list
+llength => wrong # args: should be \"llength list\"
+lindex {a b} x => bad index \"x\"
+lindex {a b {c d} {}} end => 
+lindex {a {b {c d}}} 1 1 0 => c
+lindex {a  b} => a  b
+lrepeat -1 a => bad count \"-1\"
+list # a => {#} a
+list a\\{ b\\\\ {c  d} => a\\{ b\\\\ {c  d}
+lreplace {a b c} 2 0 x => a b x c
+lreplace {a b} 9 12 x => a b x
+lreverse {a {b c} #} => {#} {b c} a
+lappend \"a \\{b\" c => unmatched open brace in list";
+    assert_eq!(rt; first_wrong(rt.alloc(), Tcl8, rows)?, "");
+    Ok(())
+}
+
+#[test]
+fn joins_and_splits(rt: HostRuntime) -> Result<(), Fail> {
+    let rows = "join {a {b c} d} => a b c d
 join {a b c} {, } => a, b, c
 join {a b c} {} => abc
 concat { a b } {} {{c  d}} => a b {c  d}
@@ -352,23 +382,71 @@ split a,b,,c , => a b {} c
 split abc {} => a b c
 split {a b-c} { -} => a b c
 split {} , => 
-lsearch {ab b ac} b => 1
+split hé€😀 {} => h é € 😀
+split { a\tb} => {} a b
+split => wrong # args: should be \"split string ?splitChars?\"
+join {a {} é} {, } => a, , é
+join {} , => 
+join \"a \\{b\" => unmatched open brace in list
+concat { a b } { } {} {{c  d} } => a b {c  d}
+concat => ";
+    assert_eq!(rt; first_wrong(rt.alloc(), Tcl8, rows)?, "");
+    Ok(())
+}
+
+#[test]
+fn searches(rt: HostRuntime) -> Result<(), Fail> {
+    let rows = "lsearch {ab b ac} b => 1
 lsearch -all -inline {ab b ac} a* => ab ac
 lsearch -exact {a* b} a* => 0
 lsearch -all -not {a b a c} a => 1 3
 lsearch -inline {a b} c => 
-lsort {b a C c} => C a b c
+lsearch {x {a b} a* é} a?b => 1
+lsearch -exact {x {a b} a* é} a* => 2
+lsearch -all {a € 😀 bc} ? => 0 1 2
+lsearch -not {a b} a => 1
+lsearch -exact -glob {a b} ? => 0
+lsearch {a b} c => -1
+lsearch -all {a b} c => 
+lsearch {a b} => wrong # args: should be \"lsearch ?option ...? list pattern\"
+lsearch -nocase \"a \\{b\" a => bad option \"-nocase\"
+lsearch \"a \\{b\" a => unmatched open brace in list";
+    assert_eq!(rt; first_wrong(rt.alloc(), Tcl8, rows)?, "");
+    Ok(())
+}
+
+#[test]
+fn puts_in_order(rt: HostRuntime) -> Result<(), Fail> {
+    let rows = "lsort {b a C c} => C a b c
 lsort -decreasing {b a c a} => c b a a
 lsort -unique {b a b c a} => a b c
 lsort -integer {10 9 0x1 -3} => -3 0x1 9 10
 lsort -integer -unique {3 0x3 1 3} => 1 3
 lsort -integer -decreasing {2 0x2 1 +2} => 2 0x2 +2 1
 lsort -integer {1 x} => expected integer but got \"x\"
-lindex \"a \\{b\" => a {b
-llength \"a \\{b\" => unmatched open brace in list
-lsearch -nocase a b => bad option \"-nocase\"
-lsort -real a => bad option \"-real\"
-lrepeat -1 a => bad count \"-1\"";
-    assert_eq!(rt; first_wrong(rt.alloc(), rows)?, "");
+lsort {b {a b} é a 😀 c € a B} => B a a {a b} b c é € 😀
+lsort -decreasing -unique {b a c a B} => c b a B
+lsort -integer -ascii {10 9 1} => 1 10 9
+lsort -decreasing -increasing {b a} => a b
+lsort -integer -unique {3 0x3 1 03 2} => 1 2 03
+lsort -integer {010 9 0o11} => 010 9 0o11
+lsort -decreasing -integer {2 -10 10 0x2 9} => 10 9 2 0x2 -10
+lsort => wrong # args: should be \"lsort ?option ...? list\"
+lsort -real \"a \\{b\" => bad option \"-real\"
+lsort -integer \"a \\{b\" => unmatched open brace in list
+lsort -integer {1 08 x} => expected integer but got \"08\"
+lsort -integer 9223372036854775808 => integer value too large to represent";
+    assert_eq!(rt; first_wrong(rt.alloc(), Tcl8, rows)?, "");
+    Ok(())
+}
+
+#[test]
+fn reads_integers_of_the_other_style(rt: HostRuntime) -> Result<(), Fail> {
+    let rows = "lindex {a b c} 01 => b
+lsort -integer {010 9 0o11} => 9 0o11 010
+lset {a b c} 01 x => a x c
+lrepeat 010 a => a a a a a a a a a a
+dict incr {a 08} a 01 => a 9";
+    assert_eq!(rt; first_wrong(rt.alloc(), Tcl9, rows)?, "");
     Ok(())
 }

@@ -4,11 +4,7 @@
 #[cfg(test)]
 mod command_rows;
 #[cfg(test)]
-mod dicts;
-#[cfg(test)]
 mod list_search;
-#[cfg(test)]
-mod list_texts;
 #[cfg(test)]
 mod lists;
 #[cfg(test)]
