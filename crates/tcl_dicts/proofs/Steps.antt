@@ -1,5 +1,5 @@
 -- One step of a change of a dict.
-use Rattle.std.proofs.Common.{◌≡◌, ℕ, ◌-◌, ◌<◌, ◌≤◌, List, [], ◌∷◌, ◌++◌, length, take, drop, get_or, Ok, Err, refl, sym, ◌∙◌, ap, arith, length-drop}
+use Rattle.std.proofs.Common.{◌≡◌, ℕ, ◌-◌, ◌≤◌, List, [], ◌∷◌, length, take, drop, get_or, Ok, Err, refl, sym, ◌∙◌, ap, arith, length-drop}
 use Rattle.std.proofs.Math.Seq.{take-length}
 use Rattle.std.specs.declared.result.Result.{Result}
 use Rattle.tcl_words.specs.declared.refusal.Refusal.{Refusal}
@@ -14,7 +14,7 @@ use Rattle.tcl_value.specs.Texts.{flat}
 use Rattle.tcl_value.specs.Dicts.{Pairs, put, without}
 use Rattle.tcl_lists.specs.Lists.{Texts}
 use Rattle.tcl_lists.proofs.Lengths.{limited_past}
-use Rattle.tcl_dicts.specs.Dicts.{dict_value, put_within, put_words, without_within}
+use Rattle.tcl_dicts.specs.Dicts.{put_within, put_words, without_within}
 
 pub put_past : (es : Pairs) (k v : List ℕ) → IsPast (write (flat (put es k v))) → put_within es k v ≡ Err too_long
 put_past es k v h = ap (λ (r : Outcome). next {X = List ℕ} r (λ _. Ok (put es k v))) (limited_past (write (flat (put es k v))) h)

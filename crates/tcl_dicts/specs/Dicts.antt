@@ -1,5 +1,5 @@
 -- The subcommands of dict as functions of texts. A value that is read as a dict is the list of its keys with their values.
-use Rattle.std.specs.Prelude.{ℕ, ◌%◌, ◌==◌, pos, Bool, true, false, if◌then◌else◌, List, [], ◌∷◌, ◌++◌, length, map, filter, Ok, Err, codes}
+use Rattle.std.specs.Prelude.{ℕ, ◌%◌, ◌==◌, pos, Bool, true, false, if◌then◌else◌, List, [], ◌∷◌, ◌++◌, length, filter, Ok, Err, codes}
 use Rattle.std.specs.declared.result.Result.{Result}
 use Rattle.std.specs.declared.option.Option.{Option}
 use Rattle.std.specs.declared.option.Option.TheVariants.{None, Some}
@@ -66,17 +66,12 @@ replace_of words =
     next (dict_word p.0) (λ es.
     next (put_words es pairs) dict_value)))
 
--- the dict after each of these pairs is put, from the left
-abbrev pub put_pairs : Pairs → Pairs → Result Pairs (List ℕ)
-put_pairs es [] = Ok es
-put_pairs es (d ∷ ds) = next (put_within es d.0 d.1) (λ fs. put_pairs fs ds)
-
 -- the dicts of words, one put into the other from the left
 abbrev pub merged : Pairs → Texts → Result Pairs (List ℕ)
 merged es [] = Ok es
 merged es (w ∷ words) =
     next (dict_word w) (λ ds.
-    next (put_pairs es ds) (λ fs. merged fs words))
+    next (put_words es (flat ds)) (λ fs. merged fs words))
 
 abbrev pub merge_of : Texts → Outcome
 merge_of words = next (merged [] words) dict_value
@@ -105,15 +100,24 @@ abbrev pub fits : Option (List ℕ) → List ℕ → Bool
 fits None text = true
 fits (Some pattern) text = is_match false pattern text
 
+-- the keys of a dict, and its values, in order
+abbrev pub keys_in : Pairs → Texts
+keys_in [] = []
+keys_in (e ∷ es) = e.0 ∷ keys_in es
+
+abbrev pub values_in : Pairs → Texts
+values_in [] = []
+values_in (e ∷ es) = e.1 ∷ values_in es
+
 abbrev pub keys_of : Texts → Outcome
 keys_of words =
     next (one_or_two_words (codes "dict keys dictionary ?pattern?") words) (λ p.
-    next (dict_word p.0) (λ es. list_value (filter (fits p.1) (map (λ e. e.0) es))))
+    next (dict_word p.0) (λ es. list_value (filter (fits p.1) (keys_in es))))
 
 abbrev pub values_of : Texts → Outcome
 values_of words =
     next (one_or_two_words (codes "dict values dictionary ?pattern?") words) (λ p.
-    next (dict_word p.0) (λ es. list_value (filter (fits p.1) (map (λ e. e.1) es))))
+    next (dict_word p.0) (λ es. list_value (filter (fits p.1) (values_in es))))
 
 -- the value of a key in a text, of the next key in that, and so on
 abbrev pub at_key : List ℕ → List ℕ → Outcome

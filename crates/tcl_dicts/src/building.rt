@@ -1,10 +1,12 @@
 //! The subcommands that make dicts: `create`, `replace`, `merge`, `remove`.
 ghost use Rattle.std.specs.Prelude.{◌≡◌};
 ghost use Rattle.tcl_words.specs.Outcomes.{Gives};
-ghost use Rattle.tcl_dicts.specs.Dicts.{put_within, put_words, in_pairs, create_of, replace_of, without_within, without_words, remove_of};
+ghost use Rattle.tcl_value.specs.Texts.{flat};
+ghost use Rattle.tcl_dicts.specs.Dicts.{put_within, put_words, in_pairs, create_of, replace_of, merged, merge_of, without_within, without_words, remove_of};
 
 use crate::reading::{dict_value, dict_word};
 use std::alloc::Global;
+use tcl_lists::indexes::elements_of;
 use tcl_lists::reading::first_and_rest;
 use tcl_lists::refusing::not_made;
 use tcl_value::dict::Dict;
@@ -70,6 +72,39 @@ pub fn replace(alloc: Global, words: &[Value]) -> Result<Value, Refusal>
     let pairs = in_pairs(alloc, pairs, form)?;
     let dict = dict_word(alloc, word)?;
     let made = put_words(alloc, dict, pairs)?;
+    dict_value(alloc, made)
+}
+
+/// A dict after each key of another one gets its value there.
+fn put_dict(alloc: Global, dict: Dict, other: &Dict) -> Result<Dict, Refusal>
+    ensures { Gives (λ dict. dict) result (put_words dict (flat other.now)) }
+{
+    let list = other.to_list(alloc)?;
+    let words = elements_of(alloc, &list)?;
+    put_words(alloc, dict, &words)
+}
+
+/// A dict after the dicts of words are put into it.
+fn merged(alloc: Global, dict: Dict, words: &[Value]) -> Result<Dict, Refusal>
+    ensures { Gives (λ dict. dict) result (merged dict words.now) }
+{
+    let mut made = dict;
+    'words: for word in words {
+        let other = dict_word(alloc, word)?;
+        made = put_dict(alloc, made, &other)?;
+    }
+    Ok(made)
+}
+
+/// `dict merge ?dictionary ...?`: the dict of all keys of these dicts, where the value of a key that several have is that of
+/// the last of them, and its place that in the first.
+///
+/// # Errors
+/// 101 to 104, 121, 122; want of memory.
+pub fn merge(alloc: Global, words: &[Value]) -> Result<Value, Refusal>
+    ensures { Gives (λ value. value) result (merge_of words.now) }
+{
+    let made = merged(alloc, Dict::new(alloc)?, words)?;
     dict_value(alloc, made)
 }
 

@@ -1,39 +1,192 @@
-//! The changes that subcommands of `dict` make to a variable's value, by one key.
-ghost use Rattle.std.specs.Prelude.{◌≡◌};
-ghost use Rattle.tcl_lists.specs.Lists.{Changes};
-ghost use Rattle.tcl_dicts.specs.Changing.{set_of, unset_of};
+//! The changes that subcommands of `dict` make to a variable's value.
+ghost use Rattle.std.specs.Prelude.{◌≡◌, codes};
+ghost use Rattle.std.specs.Option.{option_copied};
+ghost use Rattle.tcl_words.specs.Outcomes.{Gives};
+ghost use Rattle.tcl_words.specs.Arguments.{two_or_three_words};
+ghost use Rattle.tcl_lists.specs.Lists.{Changes, two_and_rest, first_middle_last};
+ghost use Rattle.tcl_dicts.specs.Changing.{with_keys, set_words_of, set_of, unset_of, found_of, put_of, incr_of, append_of, lappend_of};
 
-use crate::reading::not_changed;
+use crate::reading::{not_changed, own_dict};
+use crate::values::{appended, incremented, lengthened};
 use std::alloc::Global;
+use tcl_lists::reading::{first_middle_last, two_and_rest, two_or_three_words};
+use tcl_lists::refusing::nested_refusal;
+use tcl_nested::changing::{remove_key, set_value};
+use tcl_text::integer::Integers;
 use tcl_value::value::Value;
-use tcl_words::refusal::Refusal;
+use tcl_words::refusal::{Refusal, wrong_arguments};
 
-/// What `dict set varName key value` makes of the variable's value: in place where it is kept as a dict that isn't shared. A
-/// refusal leaves the value as it was.
+/// A name, keys and a value, where there is a key.
+fn with_keys<'a>(
+    alloc: Global,
+    name: &'a Value,
+    keys: &'a [Value],
+    value: &'a Value,
+    form: &str,
+) -> Result<(&'a Value, &'a [Value], &'a Value), Refusal>
+    ensures { Gives (λ p. (p.0.now, p.1.now, p.2.now)) result (with_keys form.now (name.now, keys.now, value.now)) }
+{
+    match keys {
+        [] => Err(wrong_arguments(alloc, form)),
+        [_, ..] => Ok((name, keys, value)),
+    }
+}
+
+/// The words of `dict set varName key ?key ...? value`: the name, the keys, the value.
 ///
 /// # Errors
-/// 101 to 104, 121, 122; want of memory.
-pub fn set(alloc: Global, old: &mut Value, key: &Value, value: &Value) -> Result<(), Refusal>
-    ensures { Changes result old.old old.new (set_of old.old key.now value.now) }
+/// 241 where there are fewer than three; want of memory.
+pub fn set_words(alloc: Global, words: &[Value]) -> Result<(&Value, &[Value], &Value), Refusal>
+    ensures { Gives (λ p. (p.0.now, p.1.now, p.2.now)) result (set_words_of words.now) }
+{
+    let form = "dict set varName key ?key ...? value";
+    let (name, keys, value) = first_middle_last(alloc, words, form)?;
+    with_keys(alloc, name, keys, value, form)
+}
+
+/// What `dict set varName key ?key ...? value` makes of the variable's value: the first key is one of its dict, the next one
+/// of the dict that is its value, and so on; a key that is missing is new. Where nobody shares the outermost dict it is
+/// changed in place. A refusal leaves the value as it was.
+///
+/// # Errors
+/// 101 to 104 and 121 where a value on the way is no dict; 122; want of memory.
+pub fn set(alloc: Global, old: &mut Value, keys: &[Value], value: &Value) -> Result<(), Refusal>
+    ensures { Changes result old.old old.new (set_of old.old keys.now value.now) }
 {
     let own = value.clone()?;
-    match old.set_key(alloc, key, own) {
+    match set_value(alloc, old, keys, own) {
+        Ok(()) => {
+            let _within = old.text_len();
+            Ok(())
+        }
+        Err(why) => Err(nested_refusal(alloc, why)),
+    }
+}
+
+/// The words of `dict unset varName key ?key ...?`: the name, the keys that lead to a dict, the key that goes from it.
+///
+/// # Errors
+/// 241 where there are fewer than two; want of memory.
+pub fn unset_words(alloc: Global, words: &[Value]) -> Result<(&Value, &[Value], &Value), Refusal>
+    ensures { Gives (λ p. (p.0.now, p.1.now, p.2.now)) result (first_middle_last (codes "dict unset varName key ?key ...?") words.now) }
+{
+    first_middle_last(alloc, words, "dict unset varName key ?key ...?")
+}
+
+/// What `dict unset varName key ?key ...?` makes of the variable's value: the dict to which the keys before the last one lead is
+/// without the last. Where nobody shares the outermost dict it is changed in place. A refusal leaves the value as it was.
+///
+/// # Errors
+/// 101 to 104 and 121 where a value on the way is no dict, 242 where a key on the way is missing; 122; want of memory.
+pub fn unset(alloc: Global, old: &mut Value, path: &[Value], key: &Value) -> Result<(), Refusal>
+    ensures { Changes result old.old old.new (unset_of old.old path.now key.now) }
+{
+    match remove_key(alloc, old, path, key) {
+        Ok(()) => {
+            let _within = old.text_len();
+            Ok(())
+        }
+        Err(why) => Err(nested_refusal(alloc, why)),
+    }
+}
+
+/// What the dict that a value reads as has for a key.
+fn found_in(alloc: Global, own: &mut Value, key: &Value) -> Result<Option<Value>, Refusal>
+    ensures found { Gives (λ found. found) result (found_of own.old key.now) }
+    ensures text { own.new ≡ own.old }
+{
+    let dict = own_dict(alloc, own)?;
+    let key = key.text(alloc)?;
+    Ok(dict.get(&key)?)
+}
+
+/// Gives a key a value in the dict that a value reads as.
+fn put(alloc: Global, old: &mut Value, key: &Value, value: Value) -> Result<(), Refusal>
+    ensures { Changes result old.old old.new (put_of old.old key.now value) }
+{
+    match old.set_key(alloc, key, value) {
         Ok(()) => Ok(()),
         Err(why) => Err(not_changed(alloc, why)),
     }
 }
 
-/// What `dict unset varName key` makes of the variable's value: in place where it is kept as a dict that isn't shared. A
+/// The words of `dict incr varName key ?increment?`.
+///
+/// # Errors
+/// 241 where there are fewer than two or more than three; want of memory.
+pub fn incr_words(
+    alloc: Global,
+    words: &[Value],
+) -> Result<(&Value, &Value, Option<&Value>), Refusal>
+    ensures { Gives (λ p. (p.0.now, p.1.now, option_copied p.2)) result (two_or_three_words (codes "dict incr varName key ?increment?") words.now) }
+{
+    two_or_three_words(alloc, words, "dict incr varName key ?increment?")
+}
+
+/// What `dict incr varName key ?increment?` makes of the variable's value: the value of the key, which counts as 0 where it is
+/// missing, has the increment added, which is 1 where none is given. Where nobody shares the dict it is changed in place. A
+/// refusal leaves the value as it was.
+///
+/// # Errors
+/// 101 to 104, 121, 111 or 112 of the key's value and then of the increment, 212, 122; want of memory.
+pub fn incr(
+    alloc: Global,
+    style: Integers,
+    old: &mut Value,
+    key: &Value,
+    by: Option<&Value>,
+) -> Result<(), Refusal>
+    ensures { Changes result old.old old.new (incr_of style old.old key.now (option_copied by.entry)) }
+{
+    let found = found_in(alloc, old, key)?;
+    let made = incremented(alloc, style, by, found)?;
+    put(alloc, old, key, made)
+}
+
+/// The words of `dict append varName key ?string ...?`.
+///
+/// # Errors
+/// 241 where there are fewer than two; want of memory.
+pub fn append_words(alloc: Global, words: &[Value]) -> Result<(&Value, &Value, &[Value]), Refusal>
+    ensures { Gives (λ p. (p.0.now, p.1.now, p.2.now)) result (two_and_rest (codes "dict append varName key ?string ...?") words.now) }
+{
+    two_and_rest(alloc, words, "dict append varName key ?string ...?")
+}
+
+/// What `dict append varName key ?string ...?` makes of the variable's value: the value of the key, which is empty where it is
+/// missing, has the strings behind it. Where nobody shares the dict it is changed in place, but the key's value is copied. A
 /// refusal leaves the value as it was.
 ///
 /// # Errors
 /// 101 to 104, 121, 122; want of memory.
-pub fn unset(alloc: Global, old: &mut Value, key: &Value) -> Result<(), Refusal>
-    ensures { Changes result old.old old.new (unset_of old.old key.now) }
+pub fn append(alloc: Global, old: &mut Value, key: &Value, words: &[Value]) -> Result<(), Refusal>
+    ensures { Changes result old.old old.new (append_of old.old key.now words.now) }
 {
-    let text = key.text(alloc)?;
-    match old.remove_key(alloc, &text) {
-        Ok(()) => Ok(()),
-        Err(why) => Err(not_changed(alloc, why)),
-    }
+    let found = found_in(alloc, old, key)?;
+    let made = appended(alloc, words, found)?;
+    put(alloc, old, key, made)
+}
+
+/// The words of `dict lappend varName key ?value ...?`.
+///
+/// # Errors
+/// 241 where there are fewer than two; want of memory.
+pub fn lappend_words(alloc: Global, words: &[Value]) -> Result<(&Value, &Value, &[Value]), Refusal>
+    ensures { Gives (λ p. (p.0.now, p.1.now, p.2.now)) result (two_and_rest (codes "dict lappend varName key ?value ...?") words.now) }
+{
+    two_and_rest(alloc, words, "dict lappend varName key ?value ...?")
+}
+
+/// What `dict lappend varName key ?value ...?` makes of the variable's value: the list of the key's value, which is empty where it
+/// is missing, has the values behind its elements. Where nobody shares the dict it is changed in place, but the key's list is
+/// copied. A refusal leaves the value as it was.
+///
+/// # Errors
+/// 101 to 104 and 121 of the dict, 101 to 104 of the key's value, 122; want of memory.
+pub fn lappend(alloc: Global, old: &mut Value, key: &Value, words: &[Value]) -> Result<(), Refusal>
+    ensures { Changes result old.old old.new (lappend_of old.old key.now words.now) }
+{
+    let found = found_in(alloc, old, key)?;
+    let made = lengthened(alloc, words, found)?;
+    put(alloc, old, key, made)
 }

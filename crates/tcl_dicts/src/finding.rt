@@ -1,4 +1,4 @@
-//! The subcommands that read dicts: `get`, `exists`, `size`, `keys`, `values`.
+//! The subcommands that read dicts: `get`, `exists`, `size`.
 ghost use Rattle.std.specs.Prelude.{◌≡◌, ◌∷◌, Ok, Bool};
 ghost use Rattle.tcl_words.specs.Outcomes.{Outcome, Gives};
 ghost use Rattle.tcl_words.specs.Limits.{counted};

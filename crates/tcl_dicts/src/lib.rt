@@ -4,4 +4,6 @@
 pub mod building;
 pub mod changing;
 pub mod finding;
+pub mod listing;
 pub mod reading;
+mod values;

@@ -2,11 +2,9 @@
 #![tactic(auto)]
 
 #[cfg(test)]
-mod dicts;
+mod command_rows;
 #[cfg(test)]
 mod list_search;
-#[cfg(test)]
-mod list_texts;
 #[cfg(test)]
 mod lists;
 #[cfg(test)]

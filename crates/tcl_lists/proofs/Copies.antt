@@ -1,12 +1,12 @@
 -- Words, so many times.
-use Rattle.std.proofs.Common.{◌≡◌, ℕ, zero, suc, ◌+◌, ◌-◌, ◌<◌, ◌≤◌, Bool, true, false, List, [], ◌∷◌, ◌++◌, length, Ok, Err, refl, sym, ◌∙◌, ap, arith, length-append, append_assoc}
+use Rattle.std.proofs.Common.{◌≡◌, ℕ, zero, suc, ◌+◌, ◌-◌, ◌<◌, ◌≤◌, Bool, true, false, [], ◌∷◌, ◌++◌, length, Ok, Err, refl, sym, ◌∙◌, ap, arith, length-append}
 use Rattle.std.specs.Prelude.{◌==◌}
 use Rattle.std.proofs.lemmas.Bool.{false≢true}
 use Rattle.std.proofs.lemmas.Bool.Decides.{Decides-eqb}
 use Rattle.std.proofs.lemmas.List.{append-nil}
 use Rattle.tcl_words.specs.Faults.{too_long}
 use Rattle.tcl_value.specs.Writing.{write}
-use Rattle.tcl_value.specs.Texts.{weight_from, weight}
+use Rattle.tcl_value.specs.Texts.{weight_from}
 use Rattle.tcl_value.proofs.Weights.{length-write}
 use Rattle.tcl_lists.specs.Lists.{Texts, list_value, copies}
 use Rattle.tcl_lists.proofs.Lengths.{limited_past}

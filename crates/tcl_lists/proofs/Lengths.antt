@@ -1,12 +1,12 @@
 -- How long the texts of lists are.
-use Rattle.std.proofs.Common.{◌≡◌, ℕ, ◌+◌, ◌-◌, ◌<◌, ◌≤◌, Bool, true, false, cond, List, [], ◌∷◌, ◌++◌, length, Ok, Err, refl, sym, ◌∙◌, ap, subst, arith, length-append, append_assoc}
+use Rattle.std.proofs.Common.{◌≡◌, ℕ, ◌<◌, ◌≤◌, Bool, true, false, cond, List, [], ◌∷◌, ◌++◌, length, Ok, Err, ◌∙◌, ap, arith}
 use Rattle.std.specs.Prelude.{nat_le}
 use Rattle.std.proofs.lemmas.Bool.Decides.{nat_tests}
 use Rattle.tcl_words.specs.Limits.{limited}
 use Rattle.tcl_words.specs.Faults.{too_long}
 use Rattle.tcl_value.specs.Limits.{IsPast}
 use Rattle.tcl_value.specs.Writing.{write}
-use Rattle.tcl_value.specs.Texts.{weight_from, weight}
+use Rattle.tcl_value.specs.Texts.{weight_from}
 use Rattle.tcl_value.proofs.Weights.{length-write}
 use Rattle.tcl_lists.specs.Lists.{Texts, list_value}
 

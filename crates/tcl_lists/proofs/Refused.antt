@@ -1,9 +1,9 @@
 -- Changes that are refused.
-use Rattle.std.proofs.Common.{◌≡◌, ℕ, List, [], ◌∷◌, ◌++◌, length, Ok, Err, refl, sym, ◌∙◌, ap, subst}
+use Rattle.std.proofs.Common.{ℕ, List, [], ◌∷◌, ◌++◌, Ok, Err, sym, subst}
 use Rattle.std.specs.declared.result.Result.{Result}
 use Rattle.tcl_text.specs.declared.list.ListFault.{ListFault}
 use Rattle.tcl_words.specs.declared.refusal.Refusal.{Refusal}
-use Rattle.tcl_words.specs.Outcomes.{Outcome, Refuses, next}
+use Rattle.tcl_words.specs.Outcomes.{Refuses, next}
 use Rattle.tcl_words.specs.Words.{list_or}
 use Rattle.tcl_value.specs.Limits.{IsPast}
 use Rattle.tcl_value.specs.Writing.{write}

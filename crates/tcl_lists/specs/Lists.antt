@@ -1,5 +1,5 @@
 -- The list commands as functions of texts. A value that is read as a list is the list of its elements' texts.
-use Rattle.std.specs.Prelude.{◌≡◌, ℕ, zero, suc, ◌+◌, ℤ, pos, negsuc, ◌==◌, nat_le, nat_lt, if◌then◌else◌, List, [], ◌∷◌, ◌++◌, length, reverse, take, drop, slice_index_or, Ok, Err, codes}
+use Rattle.std.specs.Prelude.{◌≡◌, ℕ, zero, suc, ◌+◌, ℤ, pos, negsuc, List, [], ◌∷◌, ◌++◌, length, reverse, drop, slice_index_or, Ok, Err, codes}
 use Rattle.std.specs.declared.result.Result.{Result}
 use Rattle.tcl_text.specs.declared.integer.Integers.{Integers}
 use Rattle.tcl_text.specs.declared.index.Index.{Index}
@@ -35,6 +35,18 @@ two_and_rest form words = Err (wrong_arguments form)
 abbrev pub three_and_rest : List ℕ → Texts → Result (List ℕ × List ℕ × List ℕ × Texts) (List ℕ)
 three_and_rest form (a ∷ b ∷ c ∷ rest) = Ok (a, b, c, rest)
 three_and_rest form words = Err (wrong_arguments form)
+
+-- the last word and those before it, or 241
+abbrev pub all_and_last : List ℕ → Texts → Result (Texts × List ℕ) (List ℕ)
+all_and_last form [] = Err (wrong_arguments form)
+all_and_last form (w ∷ []) = Ok ([], w)
+all_and_last form (w ∷ v ∷ words) = next (all_and_last form (v ∷ words)) (λ p. Ok (w ∷ p.0, p.1))
+
+-- the first word, those between, and the last word, or 241
+abbrev pub first_middle_last : List ℕ → Texts → Result (List ℕ × Texts × List ℕ) (List ℕ)
+first_middle_last form words =
+    next (first_and_rest form words) (λ p.
+    next (all_and_last form p.1) (λ q. Ok (p.0, q.0, q.1)))
 
 -- the list of the words
 abbrev pub list_of : Texts → Outcome

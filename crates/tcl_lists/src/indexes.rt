@@ -72,7 +72,10 @@ pub fn elements_of(alloc: Global, list: &List) -> Result<Vec<Value>, AllocError>
 }
 
 /// The indexes of words each of which is a list of them.
-fn indexes_of(alloc: Global, words: &[Value]) -> Result<Vec<Value>, Refusal>
+///
+/// # Errors
+/// 101 to 104 where a word spells no list; want of memory.
+pub fn indexes_of(alloc: Global, words: &[Value]) -> Result<Vec<Value>, Refusal>
     ensures { Gives (λ made. made.items) result (indexes_of words.now) }
 {
     let mut made = Vec::new(alloc);

@@ -2,6 +2,7 @@
 #![tactic(auto)]
 
 pub mod building;
+pub mod changing;
 pub mod commands;
 pub mod indexes;
 pub mod lengthening;

@@ -1,10 +1,10 @@
 //! How the words of list commands are read.
 ghost use Rattle.std.specs.Prelude.{◌≡◌};
 ghost use Rattle.tcl_words.specs.Outcomes.{Gives};
-ghost use Rattle.tcl_words.specs.Arguments.{one_word, three_words, one_or_two_words};
+ghost use Rattle.tcl_words.specs.Arguments.{one_word, three_words, one_or_two_words, two_or_three_words};
 ghost use Rattle.tcl_words.specs.Words.{integer_word, index_word, list_word};
 ghost use Rattle.std.specs.Option.{option_copied};
-ghost use Rattle.tcl_lists.specs.Lists.{first_and_rest, two_and_rest, three_and_rest};
+ghost use Rattle.tcl_lists.specs.Lists.{first_and_rest, two_and_rest, three_and_rest, all_and_last, first_middle_last};
 
 use crate::refusing::no_list;
 use std::alloc::Global;
@@ -115,6 +115,57 @@ pub fn three_and_rest<'a>(
     }
 }
 
+/// The last word, behind those before it.
+///
+/// # Errors
+/// 241 with the form where there is none; want of memory.
+pub fn all_and_last<'a>(
+    alloc: Global,
+    words: &'a [Value],
+    form: &str,
+) -> Result<(&'a [Value], &'a Value), Refusal>
+    ensures { Gives (λ p. (p.0.now, p.1.now)) result (all_and_last form.now words.now) }
+{
+    match words {
+        [rest @ .., last] => Ok((rest, last)),
+        _ => Err(wrong_arguments(alloc, form)),
+    }
+}
+
+/// The first word and the last one, and those between them.
+///
+/// # Errors
+/// 241 with the form where there are fewer than two; want of memory.
+pub fn first_middle_last<'a>(
+    alloc: Global,
+    words: &'a [Value],
+    form: &str,
+) -> Result<(&'a Value, &'a [Value], &'a Value), Refusal>
+    ensures { Gives (λ p. (p.0.now, p.1.now, p.2.now)) result (first_middle_last form.now words.now) }
+{
+    let (first, rest) = first_and_rest(alloc, words, form)?;
+    let (middle, last) = all_and_last(alloc, rest, form)?;
+    Ok((first, middle, last))
+}
+
+/// Two words, and one that may be left out.
+///
+/// # Errors
+/// 241 with the form where there is another number of words; want of memory.
+pub fn two_or_three_words<'a>(
+    alloc: Global,
+    words: &'a [Value],
+    form: &str,
+) -> Result<(&'a Value, &'a Value, Option<&'a Value>), Refusal>
+    ensures { Gives (λ p. (p.0.now, p.1.now, option_copied p.2)) result (two_or_three_words form.now words.now) }
+{
+    match words {
+        [a, b] => Ok((a, b, None)),
+        [a, b, c] => Ok((a, b, Some(c))),
+        _ => Err(wrong_arguments(alloc, form)),
+    }
+}
+
 /// The list of a word, which is shared where the word is kept as one.
 ///
 /// # Errors
@@ -150,6 +201,20 @@ pub fn integer_word(alloc: Global, style: Integers, word: &Value) -> Result<i64,
 {
     let text = word.text(alloc)?;
     reading::integer_word(alloc, style, text.as_str())
+}
+
+/// The integer of a value, which keeps it. This makes no text of a number.
+///
+/// # Errors
+/// 111 where it is no integer text, 112 where the number takes more than 64 bits; want of memory.
+pub fn own_integer(alloc: Global, style: Integers, own: &mut Value) -> Result<i64, Refusal>
+    ensures read { Gives (λ n. n) result (integer_word style own.old) }
+    ensures text { own.new ≡ own.old }
+{
+    match own.as_int(style) {
+        Ok(n) => Ok(n),
+        Err(_) => integer_word(alloc, style, own),
+    }
 }
 
 /// The place to which an index word points in a list of so many elements, of which `end` is the last.

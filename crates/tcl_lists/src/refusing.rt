@@ -1,11 +1,16 @@
 //! How values are refused.
-ghost use Rattle.std.specs.Prelude.{◌≡◌, ℕ, List, Err};
+ghost use Rattle.std.specs.Prelude.{◌≡◌, ℕ, List, Result, Err};
 ghost use Rattle.tcl_words.specs.Outcomes.{Outcome, Refuses};
 ghost use Rattle.tcl_words.specs.Faults.{too_long};
 ghost use Rattle.tcl_text.specs.Writing.{fault_message};
+ghost use Rattle.tcl_nested.specs.declared.fault.NestedFault.{NestedFault};
+ghost use Rattle.tcl_nested.specs.Nested.{RefusesText};
+ghost use Rattle.tcl_nested.specs.Errors.{nested_message};
+ghost use Rattle.tcl_lists.specs.Changing.{nested_outcome};
 ghost use Rattle.tcl_lists.specs.Refusing.{out_of_range, RefusesChange};
 
 use std::alloc::{AllocError, Global};
+use tcl_nested::fault::{NestedError, NestedFault};
 use tcl_text::list::ListFault;
 use tcl_text::text::Text;
 use tcl_value::value::{ChangeError, ValueError};
@@ -50,5 +55,26 @@ pub fn not_changed(alloc: Global, why: ChangeError) -> Refusal
         ChangeError::TooLong => too_long(alloc),
         ChangeError::List(fault) => no_list(alloc, &fault),
         ChangeError::NoElement => out_of_range(alloc),
+    }
+}
+
+/// What is told of a fault inside nested lists or dicts.
+fn nested_fault(alloc: Global, nested: &NestedFault) -> Refusal
+    ensures { Refuses {X = List ℕ} result (Err (nested_message nested.now)) }
+{
+    match nested.message(alloc) {
+        Ok(text) => Refusal::Fault(text),
+        Err(_) => Refusal::Memory,
+    }
+}
+
+/// What is told of nested lists or dicts in a value that isn't changed.
+pub fn nested_refusal(alloc: Global, why: NestedError) -> Refusal
+    ensures { (outcome : Result (List ℕ) NestedFault) → RefusesText why outcome → Refuses result (nested_outcome outcome) }
+{
+    match why {
+        NestedError::Memory => Refusal::Memory,
+        NestedError::TooLong => too_long(alloc),
+        NestedError::Fault(fault) => nested_fault(alloc, &fault),
     }
 }

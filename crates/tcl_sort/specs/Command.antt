@@ -5,8 +5,8 @@ use Rattle.std.specs.Str.{bytes_eq}
 use Rattle.tcl_text.specs.declared.integer.Integers.{Integers}
 use Rattle.tcl_words.specs.Outcomes.{Outcome, next}
 use Rattle.tcl_words.specs.Words.{list_word}
-use Rattle.tcl_words.specs.Faults.{wrong_arguments, bad_option}
-use Rattle.tcl_lists.specs.Lists.{Texts}
+use Rattle.tcl_words.specs.Faults.{bad_option}
+use Rattle.tcl_lists.specs.Lists.{Texts, all_and_last}
 use Rattle.tcl_sort.specs.Sorting.{After, IsSortedList, IsSortedNumbers}
 use Rattle.tcl_sort.specs.declared.options.Sorting.{Sorting}
 
@@ -28,12 +28,6 @@ with_option s word =
 abbrev pub with_options : Sorting → Texts → Result Sorting (List ℕ)
 with_options s [] = Ok s
 with_options s (w ∷ words) = next (with_option s w) (λ t. with_options t words)
-
--- the last word and those before it, or 241
-abbrev pub all_and_last : List ℕ → Texts → Result (Texts × List ℕ) (List ℕ)
-all_and_last form [] = Err (wrong_arguments form)
-all_and_last form (w ∷ []) = Ok ([], w)
-all_and_last form (w ∷ v ∷ words) = next (all_and_last form (v ∷ words)) (λ p. Ok (w ∷ p.0, p.1))
 
 -- a list in order, by its texts or by its integers
 abbrev pub IsSortedAs : Integers → Sorting → Bool → Texts → Outcome → Type 0

@@ -4,10 +4,10 @@ ghost use Rattle.tcl_sort.specs.Sorting.{After, GivesSome};
 ghost use Rattle.tcl_sort.specs.Command.{plain, with_options, IsSortedAs, IsSortedWord, IsLsort};
 
 use crate::numbers::sorted_numbers;
-use crate::options::{Sorting, all_and_last};
+use crate::options::Sorting;
 use crate::ordering::sorted_texts;
 use std::alloc::Global;
-use tcl_lists::reading::list_word;
+use tcl_lists::reading::{all_and_last, list_word};
 use tcl_text::integer::Integers;
 use tcl_value::list::List;
 use tcl_value::value::Value;

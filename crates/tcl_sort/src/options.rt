@@ -1,11 +1,11 @@
 //! The words of `lsort`.
 ghost use Rattle.std.specs.Prelude.{◌≡◌};
 ghost use Rattle.tcl_words.specs.Outcomes.{Gives};
-ghost use Rattle.tcl_sort.specs.Command.{plain, with_option, with_options, all_and_last};
+ghost use Rattle.tcl_sort.specs.Command.{plain, with_option, with_options};
 
 use std::alloc::Global;
 use tcl_value::value::Value;
-use tcl_words::refusal::{Refusal, bad_option, wrong_arguments};
+use tcl_words::refusal::{Refusal, bad_option};
 
 /// How a list is put in order.
 #[derive(Clone, Copy, Debug, Drop)]
@@ -80,22 +80,5 @@ impl Sorting {
         ensures { Gives (λ sorting. sorting) result (with_options plain words.now) }
     {
         Sorting::plain().with_options(alloc, words)
-    }
-}
-
-/// The last word, behind those before it.
-///
-/// # Errors
-/// 241 with the form where there is none; want of memory.
-pub fn all_and_last<'a>(
-    alloc: Global,
-    words: &'a [Value],
-    form: &str,
-) -> Result<(&'a [Value], &'a Value), Refusal>
-    ensures { Gives (λ p. (p.0.now, p.1.now)) result (all_and_last form.now words.now) }
-{
-    match words {
-        [rest @ .., last] => Ok((rest, last)),
-        _ => Err(wrong_arguments(alloc, form)),
     }
 }

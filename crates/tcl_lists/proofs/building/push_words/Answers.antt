@@ -1,4 +1,4 @@
-use Rattle.std.proofs.Common.{◌≡◌, List, ℕ, Err, [], ◌∷◌, ◌+◌, ◌++◌, drop, get_or, sym, ◌∙◌, ap}
+use Rattle.std.proofs.Common.{◌≡◌, Err, [], ◌+◌, ◌++◌, drop, get_or, sym, ◌∙◌, ap}
 use Rattle.std.proofs.lemmas.List.{append-nil}
 use Rattle.tcl_lists.proofs.Lengths.{past_at}
 use Rattle.tcl_lists.proofs.Parts.{words_split}

@@ -1,4 +1,4 @@
-use Rattle.std.proofs.Common.{Err, [], ◌+◌, drop, reverse, sym, ◌∙◌, ap}
+use Rattle.std.proofs.Common.{Err, ◌+◌, drop, reverse, ◌∙◌, ap}
 use Rattle.tcl_lists.proofs.Lengths.{past_at}
 use Rattle.tcl_lists.proofs.Parts.{reverse_more, take_and_drop}
 use Rattle.tcl_lists.proofs.commands.reversed.Goals as goal

@@ -1,7 +1,5 @@
-use Rattle.std.proofs.Common.{◌≡◌, ℕ, List, [], ◌++◌, ◌+◌, ◌-◌, Ok, sym, ◌∙◌, ap, subst, arith, rules, append_assoc}
-use Rattle.std.specs.declared.result.Result.{Result}
+use Rattle.std.proofs.Common.{◌≡◌, ℕ, List, ◌++◌, ◌+◌, ◌-◌, Ok, sym, ◌∙◌, ap, subst, arith, rules, append_assoc}
 use Rattle.tcl_words.specs.Outcomes.{Outcome, Gives, Refuses}
-use Rattle.tcl_value.specs.declared.value.Value.{Value}
 use Rattle.tcl_lists.specs.Lists.{list_value, copies}
 use Rattle.tcl_lists.proofs.Copies.{copies_nothing, is_some, too_many, copies_first, copies_next, copies_end}
 use Rattle.tcl_lists.proofs.lengthening.copies_value.Goals as goal

@@ -1,7 +1,8 @@
 use Rattle.std.proofs.Common.{Err, rules}
 use Rattle.std.specs.Prelude.{codes}
 use Rattle.tcl_sort.specs.Sorting.{After, GivesSome}
-use Rattle.tcl_sort.specs.Command.{all_and_last, IsSortedBehind}
+use Rattle.tcl_lists.specs.Lists.{all_and_last}
+use Rattle.tcl_sort.specs.Command.{IsSortedBehind}
 use Rattle.tcl_sort.proofs.Given.{refused_first, given_first}
 use Rattle.tcl_sort.proofs.command.lsort.Goals as goal
 

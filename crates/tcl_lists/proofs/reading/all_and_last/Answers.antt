@@ -1,5 +1,5 @@
-use Rattle.tcl_sort.proofs.Words.{too_few, one_behind}
-use Rattle.tcl_sort.proofs.options.all_and_last.Goals as goal
+use Rattle.tcl_lists.proofs.LastWords.{too_few, one_behind}
+use Rattle.tcl_lists.proofs.reading.all_and_last.Goals as goal
 
 pub returns-in_default : goal.returns-in_default
 returns-in_default c = too_few c.wrong_arguments.result c.args.form.now c.args.words.now c.in_default.len_below c.wrong_arguments.ensures

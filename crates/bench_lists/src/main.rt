@@ -1,0 +1,199 @@
+//! Times of the list commands on long lists, and of many changes of lists and dicts. They go to standard error, so that standard
+//! output stays the same.
+#![tactic(auto)]
+
+use std::alloc::Global;
+use std::io;
+use std::time::Instant;
+use tcl_dicts::changing::{append, incr, set};
+use tcl_list_texts::joining::join;
+use tcl_list_texts::splitting::split;
+use tcl_lists::changing::lset;
+use tcl_lists::lengthening::lappend;
+use tcl_sort::command::lsort;
+use tcl_text::integer::Integers::Tcl8;
+use tcl_text::text::Text;
+use tcl_value::list::List;
+use tcl_value::value::{Value, ValueError};
+use tcl_words::refusal::Refusal;
+
+/// How many elements a list has that is put in order, and how often a list or dict is changed.
+const MANY: u32 = 200_000;
+
+/// How many elements or keys stand in a list or dict whose parts are changed.
+const PARTS: u32 = 1000;
+
+/// How often the eight bytes of the long text are repeated: it has 1,048,576 bytes.
+const REPEATS: u32 = 131_072;
+
+/// The number behind another one, of those that look drawn by lot.
+fn drawn(seed: u32) -> u32 {
+    seed.wrapping_mul(1_103_515_245).wrapping_add(12_345) % 2_147_483_648
+}
+
+/// A list of numbers that look drawn by lot.
+fn numbers(alloc: Global) -> Result<Value, ValueError> {
+    let mut list = List::new(alloc)?;
+    let mut seed = 1;
+    for _ in 0..MANY {
+        seed = drawn(seed);
+        list.push(alloc, Value::from_int(i64::from(seed)))?;
+    }
+    Value::from_list(alloc, list)
+}
+
+/// The text of a key.
+fn key(alloc: Global, number: u32) -> Result<Value, ValueError> {
+    let mut text = String::new(alloc);
+    write!(text, "key{number}")?;
+    Value::from_text(Text::from_string(alloc, text)?)
+}
+
+/// A list of texts that look drawn by lot.
+fn texts(alloc: Global) -> Result<Value, ValueError> {
+    let mut list = List::new(alloc)?;
+    let mut seed = 1;
+    for _ in 0..MANY {
+        seed = drawn(seed);
+        list.push(alloc, key(alloc, seed)?)?;
+    }
+    Value::from_list(alloc, list)
+}
+
+/// A long text with commas.
+fn long_text(alloc: Global) -> Result<Value, ValueError> {
+    let mut text = String::new(alloc);
+    for _ in 0..REPEATS {
+        text.push_str("abc,efg,")?;
+    }
+    Value::from_text(Text::from_string(alloc, text)?)
+}
+
+fn word(alloc: Global, text: &str) -> Result<Value, ValueError> {
+    Value::from_text(Text::new(alloc, text)?)
+}
+
+/// How long the text of what was given is.
+fn size(given: Result<Value, Refusal>) -> usize {
+    match given {
+        Ok(value) => value.text_len(),
+        Err(_) => 0,
+    }
+}
+
+/// How long the text of a list is to which so many numbers were added.
+fn appends(alloc: Global) -> usize {
+    let mut value = Value::empty();
+    for i in 0..MANY {
+        let _ = lappend(alloc, &mut value, &[Value::from_int(i64::from(i))]);
+    }
+    value.text_len()
+}
+
+/// How long the text of a list is whose elements were set in turn, so often.
+fn sets(alloc: Global) -> usize {
+    let mut value = Value::empty();
+    for i in 0..MANY {
+        let index = Value::from_int(i64::from(i % PARTS));
+        let new = Value::from_int(i64::from(i));
+        let _ = lset(alloc, Tcl8, &mut value, &[index], &new);
+    }
+    value.text_len()
+}
+
+/// How long the text of a dict is whose values were counted up in turn, so often.
+fn counts(alloc: Global) -> usize {
+    let mut value = Value::empty();
+    for i in 0..MANY {
+        let key = Value::from_int(i64::from(i % PARTS));
+        let _ = incr(alloc, Tcl8, &mut value, &key, None);
+    }
+    value.text_len()
+}
+
+/// How long the text of a dict is that got so many keys.
+fn keys_set(alloc: Global) -> usize {
+    let mut value = Value::empty();
+    for i in 0..MANY {
+        let key = Value::from_int(i64::from(i));
+        let _ = set(alloc, &mut value, &[key], &Value::empty());
+    }
+    value.text_len()
+}
+
+/// How long the text of a dict is whose values were made longer in turn, so often.
+fn longer_values(alloc: Global, more: &Value) -> usize {
+    let mut value = Value::empty();
+    for i in 0..MANY {
+        let key = Value::from_int(i64::from(i % PARTS));
+        if let Ok(text) = more.clone() {
+            let _ = append(alloc, &mut value, &key, &[text]);
+        }
+    }
+    value.text_len()
+}
+
+/// Says on standard output what came of it, and on standard error how long it took.
+macro_rules! timed {
+    ($rt:expr, $name:expr, $work:expr) => {
+        let start = Instant::now($rt)?;
+        let came = $work;
+        let time = start.elapsed($rt)?;
+        let name = $name;
+        println!($rt; "{name}: {came}")?;
+        eprintln!($rt; "{name}: {time:?}")?;
+    };
+}
+
+/// Puts lists in order.
+fn order(rt: &HostRuntime) -> io::Result<()> {
+    let alloc = rt.alloc();
+    if let (Ok(option), Ok(list)) = (word(alloc, "-integer"), numbers(alloc)) {
+        let words = [option, list];
+        timed!(
+            rt,
+            "lsort -integer of 200,000",
+            size(lsort(alloc, Tcl8, &words))
+        );
+    }
+    if let Ok(list) = texts(alloc) {
+        let words = [list];
+        timed!(rt, "lsort of 200,000", size(lsort(alloc, Tcl8, &words)));
+    }
+    Ok(())
+}
+
+/// Takes a long text apart and joins it again.
+fn parts(rt: &HostRuntime) -> io::Result<()> {
+    let alloc = rt.alloc();
+    if let (Ok(text), Ok(comma)) = (long_text(alloc), word(alloc, ",")) {
+        let words = [text, comma];
+        let start = Instant::now(rt)?;
+        let given = split(alloc, &words);
+        let time = start.elapsed(rt)?;
+        eprintln!(rt; "split of 1 MB: {time:?}")?;
+        if let Ok(list) = given {
+            let words = [list];
+            timed!(rt, "join of 262,145", size(join(alloc, &words)));
+        }
+    }
+    Ok(())
+}
+
+fn main(rt: HostRuntime) -> io::Result<()> {
+    order(&rt)?;
+    parts(&rt)?;
+    let alloc = rt.alloc();
+    timed!(&rt, "200,000 times lappend", appends(alloc));
+    timed!(&rt, "200,000 times lset", sets(alloc));
+    timed!(&rt, "200,000 times dict incr", counts(alloc));
+    timed!(&rt, "200,000 times dict set", keys_set(alloc));
+    if let Ok(more) = word(alloc, "abcd") {
+        timed!(
+            &rt,
+            "200,000 times dict append",
+            longer_values(alloc, &more)
+        );
+    }
+    Ok(())
+}

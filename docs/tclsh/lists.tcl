@@ -1,0 +1,65 @@
+# The steps of crates/bench_lists in tclsh; times go to standard error.
+proc drawn {seed} {expr {($seed * 1103515245 + 12345) % 2147483648}}
+
+proc timed {name body} {
+    set start [clock microseconds]
+    set came [uplevel 1 $body]
+    puts stderr "$name: [expr {([clock microseconds] - $start) / 1000.0}] ms"
+    puts "$name: $came"
+}
+
+proc order {} {
+    set seed 1
+    set numbers {}
+    set texts {}
+    for {set i 0} {$i < 200000} {incr i} {
+        set seed [drawn $seed]
+        lappend numbers $seed
+        lappend texts key$seed
+    }
+    timed "lsort -integer of 200,000" {llength [lsort -integer $numbers]}
+    timed "lsort of 200,000" {llength [lsort $texts]}
+}
+
+proc parts {} {
+    set text [string repeat abc,efg, 131072]
+    timed "split of 1 MB" {llength [set parts [split $text ,]]}
+    timed "join of 262,145" {string length [join $parts]}
+}
+
+proc appends {} {
+    for {set i 0} {$i < 200000} {incr i} {lappend value $i}
+    llength $value
+}
+
+proc sets {} {
+    set value {}
+    for {set i 0} {$i < 200000} {incr i} {lset value [expr {$i % 1000}] $i}
+    llength $value
+}
+
+proc counts {} {
+    set value {}
+    for {set i 0} {$i < 200000} {incr i} {dict incr value [expr {$i % 1000}]}
+    dict size $value
+}
+
+proc keys_set {} {
+    set value {}
+    for {set i 0} {$i < 200000} {incr i} {dict set value $i {}}
+    dict size $value
+}
+
+proc longer_values {} {
+    set value {}
+    for {set i 0} {$i < 200000} {incr i} {dict append value [expr {$i % 1000}] abcd}
+    dict size $value
+}
+
+order
+parts
+timed "200,000 times lappend" appends
+timed "200,000 times lset" sets
+timed "200,000 times dict incr" counts
+timed "200,000 times dict set" keys_set
+timed "200,000 times dict append" longer_values
