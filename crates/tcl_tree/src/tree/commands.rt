@@ -36,16 +36,16 @@ impl Tree {
     pub fn command(&self, path: &[Text], name: &Text) -> Option<&Command>
         ensures { option_copied result ≡ option_and_then (λ n. command_in n.own name.now) (tree_of self.now path.now) }
     {
-        let node = self.node(path)?;
-        node.state.commands.get(name)
+        let place = self.place(path)?;
+        self.command_at(place, name)
     }
 
     /// What a name stands for among the hidden commands of the interpreter at the path. This takes no memory.
     pub fn hidden_command(&self, path: &[Text], name: &Text) -> Option<&Command>
         ensures { option_copied result ≡ option_and_then (λ n. hidden_in n.own name.now) (tree_of self.now path.now) }
     {
-        let node = self.node(path)?;
-        node.state.hidden.get(name)
+        let place = self.place(path)?;
+        self.hidden_at(place, name)
     }
 
     /// Makes a name of the interpreter at the path an alias, which is looked up at each call and not now.
