@@ -4,6 +4,7 @@
 pub mod alias;
 pub mod builtin;
 pub mod command;
+mod comparing;
 mod name;
 mod naming;
 pub mod node;

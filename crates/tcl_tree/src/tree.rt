@@ -14,6 +14,7 @@ use tcl_text::text::Text;
 
 pub mod children;
 mod commands;
+mod comparing;
 mod hiding;
 pub mod limits;
 mod looks;
