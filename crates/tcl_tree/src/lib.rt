@@ -5,6 +5,7 @@ pub mod alias;
 pub mod builtin;
 pub mod command;
 mod comparing;
+mod copying;
 mod name;
 mod naming;
 pub mod node;
