@@ -10,6 +10,7 @@ use tcl_tree::tree::Tree;
 use tcl_value::value::Value;
 
 /// A line: a path, a call, its two words, and what it answers. `.` is the path of the root, and `{}` the empty word.
+#[derive(Drop)]
 struct Line<'a> {
     path: &'a str,
     call: &'a str,
@@ -63,8 +64,8 @@ fn number(word: &str) -> u64 {
 }
 
 /// What is told of a call.
-fn told(result: Result<(), Refusal>) -> &'static str {
-    match result {
+fn told(answer: Result<(), Refusal>) -> &'static str {
+    match answer {
         Ok(()) => "0",
         Err(Refusal::Memory) => "401",
         Err(Refusal::BadName) => "238",
@@ -138,21 +139,15 @@ fn by_path(tree: &mut Tree, alloc: Global, line: &Line<'_>) -> Result<(), Refusa
 }
 
 /// Whether each call answers as its line says, and changes nothing where it is refused; else the first line that is wrong.
-fn first_wrong(
-    tree: &mut Tree,
-    alloc: Global,
-    lines: &str,
-    placed: bool,
-) -> Result<String, Fail> {
+fn first_wrong(tree: &mut Tree, alloc: Global, lines: &str, placed: bool) -> Result<String, Fail> {
     for line in lines.lines() {
         let before = tree.copy_at(&[])?;
         let call = read(alloc, line)?;
-        let result = if placed {
+        let answer = told(if placed {
             by_place(tree, alloc, &call)
         } else {
             by_path(tree, alloc, &call)
-        };
-        let answer = told(result);
+        });
         if answer != call.wanted {
             return Ok(format!(in alloc; "{line}: {answer}")?);
         }

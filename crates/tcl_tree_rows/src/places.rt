@@ -24,7 +24,7 @@ fn family(alloc: Global) -> Result<Tree, Refusal> {
 }
 
 #[test]
-fn one_is_reached_from_another(rt: HostRuntime) -> Result<(), Fail> {
+fn children_are_found_by_their_names(rt: HostRuntime) -> Result<(), Fail> {
     let alloc = rt.alloc();
     let tree = family(alloc)?;
     let c = text(alloc, "c")?;
@@ -32,11 +32,26 @@ fn one_is_reached_from_another(rt: HostRuntime) -> Result<(), Fail> {
     let child = tree.child_at(tree.root(), &c).ok_or("no child")?;
     let grandchild = tree.child_at(child, &g).ok_or("no grandchild")?;
     assert!(rt; tree.child_at(child, &c).is_none());
-    assert!(rt; matches!(tree.reach(grandchild, 1, &[]), Reach::There(_)));
-    assert!(rt; matches!(tree.reach(grandchild, 2, &[c]), Reach::There(_)));
-    assert!(rt; matches!(tree.reach(grandchild, 1, &[text(alloc, "x")?]), Reach::Missing));
-    assert!(rt; matches!(tree.reach(grandchild, 3, &[]), Reach::Outside));
-    assert!(rt; tree.node_at(grandchild).ok_or("no node")?.children.is_empty());
+    assert!(rt;
+        tree.node_at(grandchild)
+            .ok_or("no node")?
+            .children
+            .is_empty()
+    );
+    Ok(())
+}
+
+#[test]
+fn one_is_reached_from_another(rt: HostRuntime) -> Result<(), Fail> {
+    let alloc = rt.alloc();
+    let tree = family(alloc)?;
+    let c = text(alloc, "c")?;
+    let path = [c.clone()?, text(alloc, "g")?];
+    let place = tree.place(&path).ok_or("no place")?;
+    assert!(rt; matches!(tree.reach(place, 1, &[]), Reach::There(_)));
+    assert!(rt; matches!(tree.reach(place, 2, &[c]), Reach::There(_)));
+    assert!(rt; matches!(tree.reach(place, 1, &[text(alloc, "x")?]), Reach::Missing));
+    assert!(rt; matches!(tree.reach(place, 3, &[]), Reach::Outside));
     Ok(())
 }
 
@@ -158,7 +173,11 @@ fn one_command_more_is_seen(rt: HostRuntime) -> Result<(), Fail> {
     let mut tree = family(alloc)?;
     let before = tree.copy_at(&[])?;
     assert!(rt; tree.same(&before));
-    tree.rename(&[text(alloc, "c")?], &text(alloc, "set")?, text(alloc, "put")?)?;
+    tree.rename(
+        &[text(alloc, "c")?],
+        &text(alloc, "set")?,
+        text(alloc, "put")?,
+    )?;
     assert!(rt; !tree.same(&before));
     Ok(())
 }
