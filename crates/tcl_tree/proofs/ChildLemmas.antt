@@ -1,5 +1,5 @@
 -- What is made and deleted, in the words of the core.
-use Rattle.std.proofs.Common.{◌≡◌, ℕ, Bool, true, false, cond, List, [], ◌∷◌, ◌++◌, refl, sym, ◌∙◌, ap, inl, inr, Option, Some, None}
+use Rattle.std.proofs.Common.{◌≡◌, Bool, true, false, cond, [], ◌∷◌, ◌++◌, refl, sym, ◌∙◌, ap, inl, inr, Option, Some, None}
 use Rattle.std.specs.Prelude.{◌≢◌, is_some}
 use Rattle.std.specs.Option.{option_map}
 use Rattle.tcl_core.specs.Paths.{strip}
@@ -8,7 +8,7 @@ use Rattle.tcl_core.specs.Trees.{on_node, at_end, where_some, effect, with_own}
 use Rattle.tcl_core.specs.Trees.What.{Changed, Made, Dropped}
 use Rattle.tcl_core.specs.Programs.{either}
 use Rattle.tcl_core.proofs.PathLaws.{strip-sound, strip_own}
-use Rattle.tcl_tree.specs.Paths.{Text, Path, path_eq, is_above, with_node}
+use Rattle.tcl_tree.specs.Paths.{Text, Path, is_above, with_node}
 use Rattle.tcl_tree.specs.Own.{Own, with_new_child, without_old_child}
 use Rattle.tcl_tree.specs.Nodes.{NodeView, with_child, without_child, grown, deleted}
 use Rattle.tcl_tree.proofs.PathLemmas.{path_cases}

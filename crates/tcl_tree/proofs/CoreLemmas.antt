@@ -1,26 +1,22 @@
 -- What the table does, in the words of the core.
-use Rattle.std.proofs.Common.{◌≡◌, ◌⊎◌, ℕ, zero, suc, ◌+◌, ◌-◌, ◌<◌, ◌≤◌, Bool, true, false, cond, List, [], ◌∷◌, ◌++◌, length, take, map, refl, sym, ◌∙◌, ap, inl, inr, arith, Option, Some, None, ◌&&◌}
+use Rattle.std.proofs.Common.{◌≡◌, ◌⊎◌, ℕ, zero, suc, ◌-◌, ◌<◌, ◌≤◌, Bool, true, false, cond, [], ◌∷◌, ◌++◌, length, take, refl, sym, ◌∙◌, ap, inl, inr, arith, Option, Some, None, ◌&&◌}
 use Rattle.std.specs.Prelude.{◌≢◌, nat_eq, is_some, Result, Ok, Err, OnOk, OnErr, IfErr}
 use Rattle.std.proofs.lemmas.Bool.Decides.{nat_tests}
-use Rattle.std.specs.Option.{option_and_then, option_map, option_map_or}
+use Rattle.std.specs.Option.{option_map, option_map_or}
 use Rattle.std.specs.Str.{bytes_eq}
-use Rattle.std.proofs.lemmas.Option.{same_Some}
-use Rattle.tcl_core.specs.Paths as paths
-use Rattle.tcl_core.specs.Paths.{same, strip, guarded, rise, rejoined, top_of}
-use Rattle.tcl_tree.specs.Own.{Own}
-use Rattle.tcl_core.specs.Trees as core
-use Rattle.tcl_core.specs.Trees.{on_node, on_line, on_some, at_end, where_some, effect, with_own}
+use Rattle.tcl_core.specs.Paths.{same, strip, guarded, rise, rejoined}
+use Rattle.tcl_core.specs.Trees.{on_node, on_line, on_some, at_end, where_some}
 use Rattle.tcl_core.specs.Programs.{blocked, nearer}
 use Rattle.tcl_core.specs.Programs as programs
 use Rattle.tcl_core.proofs.PathLaws.{same-refl, same-sound, strip-sound, strip_own, rise_past}
-use Rattle.tcl_tree.specs.Paths.{Text, Path, path_eq, is_above, ancestor, with_node}
-use Rattle.tcl_tree.specs.Nodes.{Heap, NodeView, NoneFull, IsNearestFull, charged, full_up}
+use Rattle.tcl_tree.specs.Paths.{Text, Path, is_above, ancestor, with_node}
+use Rattle.tcl_tree.specs.Nodes.{NodeView, NoneFull, IsNearestFull, charged, full_up}
 use Rattle.tcl_tree.specs.declared.tree.Tree.{Tree as Table}
 use Rattle.slab.specs.Slab.{get}
 use Rattle.tcl_tree.specs.TreeOf.{tree_of, key_of}
 use Rattle.tcl_tree.proofs.HeapLemmas.{tree-at, tree-none, follow-nil}
 use Rattle.tcl_tree.proofs.StepLemmas.{some_there, leads_somewhere}
-use Rattle.tcl_tree.proofs.PathLemmas.{path_cases, text_cases, ancestor_itself}
+use Rattle.tcl_tree.proofs.PathLemmas.{path_cases, text_cases}
 
 pub same_is : (x y : Text) → same x y ≡ bytes_eq x y
 same_is x y = elim (text_cases x y) [

@@ -1,11 +1,12 @@
 -- What holds of the interpreters of every tree.
-use Rattle.std.proofs.Common.{◌≡◌, ◌≤◌, ℕ, subst, refl, sym, ◌∙◌, ap, inr, ◌++◌, Option, Some, None}
-use Rattle.std.specs.Option.{option_and_then, option_map}
+use Rattle.std.proofs.Common.{◌≡◌, ◌≤◌, ℕ, subst, refl, sym, ◌∙◌, inl, inr, ◌++◌, Option, Some, None}
+use Rattle.std.specs.Option.{option_map}
 use Rattle.std.proofs.lemmas.Option.{same_Some}
 use Rattle.slab.specs.Slab.{get}
 use Rattle.tcl_tree.specs.Paths.{Path}
 use Rattle.tcl_tree.specs.Nodes.{Heap, NodeView, view_of, tree_in, follow}
-use Rattle.tcl_tree.specs.Changes.{most_depth, RefusesToDeepen, RefusesDepthLimit}
+use Rattle.tcl_tree.specs.Changes.{most_depth, RefusesToDeepen, RefusesLimit, RefusesDepthLimit}
+use Rattle.tcl_tree.specs.Naming.{Untrusted}
 use Rattle.tcl_tree.specs.TreeOf.{tree_of}
 use Rattle.tcl_tree.specs.declared.node.Node.{Node}
 use Rattle.tcl_tree.specs.declared.refusal.Refusal.{Refusal}
@@ -57,3 +58,12 @@ deepen_refused NoHidden f p down limit h = absurd h
 deepen_refused TooMany f p down limit h = absurd h
 deepen_refused (CountLimit n) f p down limit h = absurd h
 deepen_refused (DepthLimit n) f p down limit h = absurd h
+
+-- what is refused to an interpreter that isn't trusted
+pub untrusted_limit : (e : Refusal) (f : Path → Option NodeView) (p down : Path) (limit : Option ℕ) → Untrusted e f p → RefusesLimit e f p down limit
+untrusted_limit e f p down limit (inl w) = subst (λ (x : Refusal). RefusesLimit x f p down limit) (sym w.0) (inl w.1)
+untrusted_limit e f p down limit (inr w) = subst (λ (x : Refusal). RefusesLimit x f p down limit) (sym w.0) (w.1, w.2, inl w.3)
+
+pub untrusted_depth : (e : Refusal) (f : Path → Option NodeView) (p down : Path) (limit : ℕ) → Untrusted e f p → RefusesDepthLimit e f p down limit
+untrusted_depth e f p down limit (inl w) = subst (λ (x : Refusal). RefusesDepthLimit x f p down limit) (sym w.0) (inl w.1)
+untrusted_depth e f p down limit (inr w) = subst (λ (x : Refusal). RefusesDepthLimit x f p down limit) (sym w.0) (inl (w.1, w.2, w.3))

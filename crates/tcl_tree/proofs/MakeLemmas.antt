@@ -1,7 +1,7 @@
 -- Lemmas on interpreters that are made and deleted.
-use Rattle.std.proofs.Common.{◌≡◌, ℕ, ◌+◌, ◌-◌, ◌<◌, ◌≤◌, ◌^◌, Bool, true, false, cond, List, [], ◌∷◌, ◌++◌, length, refl, sym, ◌∙◌, ap, inl, inr, arith, zero, suc, subst, set, get_or, count_by, length-append, append-nil, append_assoc, Option, Some, None}
+use Rattle.std.proofs.Common.{◌≡◌, ℕ, ◌+◌, ◌-◌, ◌<◌, ◌≤◌, ◌^◌, Bool, true, false, cond, List, [], ◌∷◌, ◌++◌, length, refl, sym, ◌∙◌, ap, inl, inr, arith, suc, subst, set, get_or, count_by, length-append, append-nil, append_assoc, Option, Some, None}
 use Rattle.std.specs.Prelude.{◌≢◌, is_some, IfSome}
-use Rattle.std.specs.Option.{option_and_then, option_map, option_map_or}
+use Rattle.std.specs.Option.{option_and_then, option_map}
 use Rattle.std.specs.Str.{bytes_eq}
 use Rattle.std.proofs.lemmas.Bool.{cases_eq}
 use Rattle.std.proofs.lemmas.Slice.Eq.{bytes_eq-Decides}
@@ -15,12 +15,12 @@ use Rattle.indexmap.specs.IndexMap.{IndexMap, get, keys, insert_entry}
 use Rattle.indexmap.proofs.CallerLemmas.{insert_entry-new}
 use Rattle.slab.specs.Slab as slab
 use Rattle.slab.specs.Slab.{Slab}
-use Rattle.tcl_tree.specs.Paths.{Text, Path, path_eq, is_above, with_node}
-use Rattle.tcl_tree.specs.Nodes.{Heap, NodeView, Shape, view_of, shape_of, with_child, without_child, Attached, Detached, SameTable, grown, pruned, deleted, child_in, follow, tree_in, link_of, link_in, level_in, safe_in, children_in, IsSound, IsGuarded}
+use Rattle.tcl_tree.specs.Paths.{Text, Path, is_above, with_node}
+use Rattle.tcl_tree.specs.Nodes.{Heap, NodeView, Shape, view_of, shape_of, with_child, without_child, Attached, Detached, SameTable, grown, pruned, deleted, child_in, follow, tree_in, link_in, level_in, safe_in, children_in, IsSound, IsGuarded}
 use Rattle.tcl_tree.specs.declared.node.Node.{Node}
-use Rattle.tcl_tree.proofs.PathLemmas.{path_cases, text_cases, ends_cases, above_cases, above_self, above_append, not_above_front}
-use Rattle.tcl_tree.proofs.HeapLemmas.{follow-nil, same_link, last_step, then_child, linked, one_path, tree-at, tree-none, Grows, guarded-grows, guarded-shrinks, tree-grows, tree-shrinks, sound-grows, sound-shrinks, follow-shrinks, follow_grown, sound_kept, guarded_kept, follow_kept, tree_kept}
-use Rattle.tcl_tree.proofs.StepLemmas.{child-at, child-eq, child-none, link-at, link-none, link-eq, level-at, level-none, level-eq, safe-at, safe-eq, children-at, children-none, children-eq, tree_some, follow_append, leads_somewhere}
+use Rattle.tcl_tree.proofs.PathLemmas.{path_cases, text_cases, above_cases, above_self, above_append, not_above_front}
+use Rattle.tcl_tree.proofs.HeapLemmas.{same_link, last_step, then_child, one_path, tree-none, Grows, guarded-grows, guarded-shrinks, tree-grows, tree-shrinks, sound-grows, sound-shrinks, follow-shrinks, follow_grown, sound_kept, guarded_kept, follow_kept, tree_kept}
+use Rattle.tcl_tree.proofs.StepLemmas.{child-at, child-eq, child-none, link-at, link-none, link-eq, level-at, level-none, level-eq, safe-at, safe-eq, children-at, children-none, children-eq, tree_some, follow_append}
 
 shorter_removed : (test : Text → Bool) (xs : List Text) → length (remove_key test xs) ≤ length xs
 shorter_removed test [] = omega arith

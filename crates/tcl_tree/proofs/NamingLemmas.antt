@@ -1,5 +1,5 @@
 -- What is done to the commands of one interpreter, in the words of the core.
-use Rattle.std.proofs.Common.{◌≡◌, ℕ, ◌∙◌, refl, sym, ap, inl, inr, Bool, true, false, List, Option, Some, None}
+use Rattle.std.proofs.Common.{◌≡◌, ℕ, ◌∙◌, refl, sym, ap, inl, inr, true, false, List, Option, Some, None}
 use Rattle.std.specs.Prelude.{is_some, Result, Ok, Err, OnOk, OnErr, IfOk, IfErr, IfNone}
 use Rattle.std.proofs.lemmas.Option.{same_Some}
 use Rattle.slab.specs.Slab as slab
@@ -15,7 +15,6 @@ use Rattle.tcl_tree.specs.declared.naming.Naming.{Naming}
 use Rattle.tcl_tree.specs.declared.node.Node.{Node}
 use Rattle.tcl_tree.specs.declared.node.State.{State}
 use Rattle.tcl_tree.specs.declared.refusal.Refusal.{Refusal}
-use Rattle.tcl_tree.specs.declared.refusal.Refusal.TheVariants.{Memory}
 use Rattle.tcl_tree.proofs.HeapLemmas.{SamePlace}
 use Rattle.tcl_tree.proofs.StepLemmas.{tree_some, tree_write}
 use Rattle.tcl_tree.proofs.CoreLemmas.{node_done, tree_there}

@@ -1,6 +1,6 @@
 -- What a write to one interpreter does, in the words of the core.
-use Rattle.std.proofs.Common.{◌≡◌, ℕ, ◌∙◌, refl, sym, ap, cond, inl, inr, arith, suc, Bool, true, false, length, [], ◌∷◌, ◌++◌, List, Option, Some, None}
-use Rattle.std.specs.Prelude.{◌≢◌, ◌==◌, is_some}
+use Rattle.std.proofs.Common.{◌≡◌, ℕ, ◌∙◌, refl, sym, ap, cond, inl, inr, arith, suc, Bool, true, false, length, [], ◌∷◌, Option, Some, None}
+use Rattle.std.specs.Prelude.{◌≢◌, ◌==◌}
 use Rattle.std.proofs.lemmas.Bool.Decides.{nat_tests}
 use Rattle.std.specs.Option.{option_map, option_map_or}
 use Rattle.std.proofs.lemmas.Option.{same_Some}
@@ -9,14 +9,11 @@ use Rattle.slab.specs.Slab.{Slab}
 use Rattle.tcl_core.specs.Trees.{effect}
 use Rattle.tcl_core.specs.Trees.What.{Limited, DepthLimited}
 use Rattle.tcl_frames.specs.Chain.{Chain}
-use Rattle.tcl_tree.specs.Paths.{Text, Path, with_node}
+use Rattle.tcl_tree.specs.Paths.{Path, with_node}
 use Rattle.tcl_tree.proofs.PathLemmas.{path_cases}
-use Rattle.tcl_tree.specs.Own.{Own, CommandMap, command_in, hidden_in}
+use Rattle.tcl_tree.specs.Own.{Own}
 use Rattle.tcl_tree.specs.Nodes.{NodeView, view_of, tree_in, follow, IsSound, IsGuarded}
 use Rattle.tcl_tree.specs.Changes.{Rewrites}
-use Rattle.tcl_tree.specs.declared.command.Command.{Command}
-use Rattle.std.specs.Str.{bytes_eq}
-use Rattle.std.specs.Map.{lookup, remove_entry}
 use Rattle.tcl_tree.specs.Lending.{with_frames, with_frames_at}
 use Rattle.tcl_tree.specs.declared.node.Node.{Node}
 use Rattle.tcl_tree.proofs.HeapLemmas.{SamePlace, tree-at}

@@ -1,5 +1,5 @@
 -- What renaming by path refuses, where the new name is empty and where it isn't.
-use Rattle.std.proofs.Common.{◌≡◌, ℕ, suc, ◌∙◌, refl, sym, ap, inl, inr, Bool, true, false, [], ◌∷◌, length, Option, Some, None, arith}
+use Rattle.std.proofs.Common.{◌≡◌, ℕ, suc, ◌∙◌, sym, ap, inr, Bool, true, false, [], ◌∷◌, length, Option, Some, arith}
 use Rattle.std.specs.Prelude.{◌==◌}
 use Rattle.std.proofs.lemmas.Bool.Decides.{nat_tests}
 use Rattle.std.specs.Option.{option_and_then}

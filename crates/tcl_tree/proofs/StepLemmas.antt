@@ -1,24 +1,24 @@
 -- Lemmas on the steps of the table's functions.
-use Rattle.std.proofs.Common.{◌≡◌, ℕ, ◌+◌, ◌-◌, ◌<◌, ◌≤◌, ◌^◌, Bool, true, false, cond, List, [], ◌∷◌, ◌++◌, length, drop, get_or, refl, sym, ◌∙◌, ap, inl, inr, arith, zero, suc, length-append, append-nil, append_assoc, Option, Some, None}
+use Rattle.std.proofs.Common.{◌≡◌, ℕ, ◌+◌, ◌<◌, ◌≤◌, Bool, true, false, List, [], ◌∷◌, ◌++◌, length, drop, get_or, refl, sym, ◌∙◌, ap, inl, inr, arith, zero, suc, length-append, Option, Some, None}
 use Rattle.std.specs.Prelude.{◌≢◌, MatchOption, OnSome, slice_index_or, is_some}
 use Rattle.std.specs.Option.{option_and_then, option_map, option_map_or}
 use Rattle.std.specs.Str.{bytes_eq}
 use Rattle.std.proofs.lemmas.List.{drop_more, drop_all}
 use Rattle.std.proofs.lemmas.Bool.{cases_eq}
-use Rattle.indexmap.specs.IndexMap.{IndexMap, get, keys}
+use Rattle.indexmap.specs.IndexMap.{get, keys}
 use Rattle.std.proofs.lemmas.Option.{MatchOption-at_some, MatchOption-at_none, same_Some}
 use Rattle.std.specs.Prelude.{Result, Ok, Err, OnOk, OnErr, IsOk, IfSome, ⊤}
 use Rattle.std.specs.Map.{lookup, keys_of}
 use Rattle.slab.specs.Slab as slab
 use Rattle.slab.specs.Slab.{Slab}
-use Rattle.tcl_tree.specs.Paths.{Text, Path, path_eq, is_above, ancestor, with_node}
+use Rattle.tcl_tree.specs.Paths.{Text, Path, is_above, ancestor, with_node}
 use Rattle.tcl_tree.specs.Nodes.{Heap, NodeView, view_of, state_view, full_of, full_up, charged, charged_below, child_in, follow, tree_in, link_of, link_in, level_in, safe_in, children_in, IsSound, IsGuarded}
 use Rattle.tcl_tree.specs.TreeOf.{alone}
 use Rattle.tcl_tree.specs.declared.node.Node.{Node}
 use Rattle.tcl_tree.specs.declared.node.State.{State}
 use Rattle.tcl_tree.specs.declared.node.Meter.{Meter}
 use Rattle.tcl_tree.specs.declared.node.Meter.TheVariants.{Steps, Levels, Back}
-use Rattle.tcl_tree.proofs.PathLemmas.{path_cases, text_cases, ends_cases, ancestor_length, ancestor_front, ancestor_above, above_same, test_cases, above_fits}
+use Rattle.tcl_tree.proofs.PathLemmas.{path_cases, ends_cases, ancestor_length, ancestor_front, ancestor_above, above_same, test_cases, above_fits}
 use Rattle.slab.proofs.SlabLemmas.{Updates-with_value}
 use Rattle.tcl_tree.proofs.HeapLemmas.{follow-nil, same_link, last_step, tree-at, tree-none, SamePlace, sound-same, guarded-same, follow-same, level-same, tree-same, then_child, linked}
 

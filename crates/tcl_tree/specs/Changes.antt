@@ -141,6 +141,12 @@ RefusesDepthLimit Denied f p down limit = ((v : NodeView) × (f p ≡ Some v) ×
 RefusesDepthLimit BadDepthLimit f p down limit = NoDepth f (p ++ down) limit
 RefusesDepthLimit _ f p down limit = Prim.⊥
 
+-- nothing is copied where there is no interpreter
+abbrev pub RefusesCopy : Refusal → (Path → Option NodeView) → Path → Type 0
+RefusesCopy NoInterpreter f p = f p ≡ None
+RefusesCopy Memory f p = Unit {0}
+RefusesCopy _ f p = Prim.⊥
+
 -- ## Commands
 
 -- the name stands for this, where it did or at the end

@@ -1,5 +1,5 @@
 -- What a contract sees of a table of interpreters.
-use Rattle.std.specs.Prelude.{◌≡◌, ◌≢◌, ℕ, suc, pred, ◌+◌, ◌^◌, ◌<◌, ◌≤◌, ◌&&◌, Bool, true, false, cond, not, nat_lt, List, [], ◌∷◌, ◌++◌, length, Option, Some, None, IsSome, IfSome}
+use Rattle.std.specs.Prelude.{◌≡◌, ◌≢◌, ◌⊎◌, ℕ, suc, pred, ◌+◌, ◌^◌, ◌<◌, ◌≤◌, ◌&&◌, Bool, true, false, cond, not, nat_lt, List, [], ◌∷◌, ◌++◌, length, Option, Some, None, IsSome, IfSome}
 use Rattle.std.specs.Option.{option_and_then, option_map, option_map_or}
 use Rattle.std.specs.Str.{bytes_eq}
 use Rattle.indexmap.specs.IndexMap.{get, keys}
@@ -197,3 +197,20 @@ NoneFull full f p = (m : ℕ) → m ≤ length p → full_up full f p m ≡ fals
 -- the tree in which the lowest so many nodes above the path are charged
 unfoldable pub charged_below : (NodeView → NodeView) → Tree_fn → Path → ℕ → Tree_fn
 charged_below once f p count q = cond (is_above q p && nat_lt (length p) (length q + count)) (option_map once (f q)) (f q)
+
+-- the node at a key is at another or below it: names lead there
+abbrev pub IsBelow : Heap → ℕ → ℕ → Type 0
+IsBelow h top key = (r : Path) × (follow h top r ≡ Some key)
+
+-- t has the nodes of s at a key and below it, under the same keys
+abbrev pub IsSubtable : Slab Node → ℕ → Slab Node → Type 0
+IsSubtable s top t = (k : ℕ) → (IsBelow (slab.get s) top k × (shape_at t k ≡ shape_at s k)) ⊎ ((IsBelow (slab.get s) top k → ⊥) × (slab.get t k ≡ None))
+
+-- a node with no parent
+abbrev pub orphaned : Node → Node
+orphaned node = record node { parent = None }
+
+-- the node at the key has no parent, and all else is as it was
+pub record IsCut (s t : Slab Node) (key : ℕ) : Type 0 where
+  pub top : slab.get t key ≡ option_map orphaned (slab.get s key)
+  pub others : (k : ℕ) → k ≢ key → slab.get t k ≡ slab.get s k

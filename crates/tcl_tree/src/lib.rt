@@ -4,6 +4,8 @@
 pub mod alias;
 pub mod builtin;
 pub mod command;
+mod comparing;
+mod copying;
 mod name;
 mod naming;
 pub mod node;

@@ -14,6 +14,8 @@ use tcl_text::text::Text;
 
 pub mod children;
 mod commands;
+mod comparing;
+mod copying;
 mod hiding;
 pub mod limits;
 mod looks;

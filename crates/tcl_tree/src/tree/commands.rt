@@ -7,9 +7,12 @@ use crate::command::{Command, is_child};
 use crate::procedure::Procedure;
 use crate::refusal::Refusal;
 use crate::tree::{Place, Tree};
+use std::alloc::Global;
 use tcl_text::text::Text;
+use tcl_value::value::Value;
 
 impl Tree {
+    ghost use Rattle.tcl_tree.specs.Commands.{way_between};
     ghost use Rattle.tcl_tree.specs.Own.{command_in, hidden_in};
     ghost use Rattle.tcl_tree.specs.Paths.{is_above};
     ghost use Rattle.tcl_tree.specs.Naming.{Becomes, RefusesThere, RefusesAt, Renames, RefusesRename, named, cleared};
@@ -36,16 +39,16 @@ impl Tree {
     pub fn command(&self, path: &[Text], name: &Text) -> Option<&Command>
         ensures { option_copied result ≡ option_and_then (λ n. command_in n.own name.now) (tree_of self.now path.now) }
     {
-        let node = self.node(path)?;
-        node.state.commands.get(name)
+        let place = self.place(path)?;
+        self.command_at(place, name)
     }
 
     /// What a name stands for among the hidden commands of the interpreter at the path. This takes no memory.
     pub fn hidden_command(&self, path: &[Text], name: &Text) -> Option<&Command>
         ensures { option_copied result ≡ option_and_then (λ n. hidden_in n.own name.now) (tree_of self.now path.now) }
     {
-        let node = self.node(path)?;
-        node.state.hidden.get(name)
+        let place = self.place(path)?;
+        self.hidden_at(place, name)
     }
 
     /// Makes a name of the interpreter at the path an alias, which is looked up at each call and not now.
@@ -64,6 +67,33 @@ impl Tree {
             return Err(Refusal::NoInterpreter);
         };
         self.set_alias_at(place, name, alias)
+    }
+
+    /// Makes a name of the interpreter at one path an alias whose target is the interpreter at another, which is looked up at each call and
+    /// not now. It is kept as the levels up and the names down that lead there, the leading names that the two paths have in common left out.
+    ///
+    /// # Errors
+    /// Refusals, in this order: 301 of the path that has the alias; 238 of the name; 302 where it is a child. Want of memory.
+    pub fn set_alias_between(
+        &mut self,
+        alloc: Global,
+        from: &[Text],
+        name: Text,
+        to: &[Text],
+        words: Vec<Value>,
+    ) -> Result<(), Refusal>
+        ensures there { OnOk result (IsSome (tree_of self.old from.now)) }
+        ensures set { OnOk result (Becomes (tree_of self.old) (tree_of self.new) from.now (λ own. named own name (command.Alias (way_between from.now to.now words.items)))) }
+        ensures refused { IfErr result (λ e. RefusesAt e (tree_of self.old) from.now (λ own. named own name (command.Alias (way_between from.now to.now words.items)))) }
+        ensures unchanged { OnErr result (tree_of self.new ≡ tree_of self.old) }
+        ensures keys { (q : List (List ℕ)) → key_of self.new q ≡ key_of self.old q }
+        ensures marks { marks_of self.new ≡ marks_of self.old }
+    {
+        let Some(place) = self.place(from) else {
+            return Err(Refusal::NoInterpreter);
+        };
+        let way = Alias::between(alloc, from, to, words)?;
+        self.set_alias_at(place, name, way)
     }
 
     /// Makes a name of the interpreter at the path a procedure.

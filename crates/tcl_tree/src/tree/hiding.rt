@@ -1,13 +1,31 @@
 //! Commands that are hidden and exposed.
-ghost use Rattle.std.specs.Prelude.{◌≡◌, ◌++◌, List, ℕ, IfOk, IfErr, OnOk, OnErr, IsSome};
+ghost use Rattle.std.specs.Prelude.{◌≡◌, ◌++◌, List, ℕ, Some, IfOk, IfErr, OnOk, OnErr, IsSome};
 
 use crate::refusal::Refusal;
 use crate::tree::{Place, Tree};
 use tcl_text::text::Text;
 
 impl Tree {
-    ghost use Rattle.tcl_tree.specs.Naming.{Becomes, IsTrusted, RefusesToAsk, RefusesAsked, hidden_under, exposed_under};
+    ghost use Rattle.tcl_tree.specs.Naming.{Becomes, IsTrusted, Untrusted, RefusesToAsk, RefusesAsked, hidden_under, exposed_under};
     ghost use Rattle.tcl_tree.specs.TreeOf.{tree_of, key_of, marks_of, Names};
+
+    // The key of the interpreter at a path, where that is trusted.
+    pub(crate) fn asker(&self, path: &[Text]) -> Result<usize, Refusal>
+        ensures trusted { OnOk result (IsTrusted (tree_of self.now) path.now) }
+        ensures key { IfOk result (λ key. key_of self.now path.now ≡ Some key) }
+        ensures refused { IfErr result (λ e. Untrusted e (tree_of self.now) path.now) }
+    {
+        let Some(key) = self.find(path) else {
+            return Err(Refusal::NoInterpreter);
+        };
+        let Some(asker) = self.nodes.get(key) else {
+            return Err(Refusal::NoInterpreter);
+        };
+        if asker.state.safe {
+            return Err(Refusal::Denied);
+        }
+        Ok(key)
+    }
 
     // The place that names lead to from the interpreter at a path, where that is trusted.
     fn asked(&self, path: &[Text], down: &[Text]) -> Result<Place, Refusal>
@@ -15,15 +33,7 @@ impl Tree {
         ensures place { IfOk result (λ place. Names self.now place (path.now ++ down.now)) }
         ensures refused { IfErr result (λ e. RefusesToAsk e (tree_of self.now) path.now down.now) }
     {
-        let Some(asking) = self.find(path) else {
-            return Err(Refusal::NoInterpreter);
-        };
-        let Some(asker) = self.nodes.get(asking) else {
-            return Err(Refusal::NoInterpreter);
-        };
-        if asker.state.safe {
-            return Err(Refusal::Denied);
-        }
+        let asking = self.asker(path)?;
         match self.descend(asking, down) {
             Some(key) => Ok(Place { key }),
             None => Err(Refusal::NoInterpreter),

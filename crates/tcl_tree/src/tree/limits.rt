@@ -213,15 +213,7 @@ impl Tree {
         ensures keys { (q : List (List ℕ)) → key_of self.new q ≡ key_of self.old q }
         ensures marks { marks_of self.new ≡ marks_of self.old }
     {
-        let Some(asking) = self.find(path) else {
-            return Err(Refusal::NoInterpreter);
-        };
-        let Some(asker) = self.nodes.get(asking) else {
-            return Err(Refusal::NoInterpreter);
-        };
-        if asker.state.safe {
-            return Err(Refusal::Denied);
-        }
+        let asking = self.asker(path)?;
         if down.is_empty() {
             return Err(Refusal::Denied);
         }
@@ -258,15 +250,7 @@ impl Tree {
         ensures keys { (q : List (List ℕ)) → key_of self.new q ≡ key_of self.old q }
         ensures marks { marks_of self.new ≡ marks_of self.old }
     {
-        let Some(asking) = self.find(path) else {
-            return Err(Refusal::NoInterpreter);
-        };
-        let Some(asker) = self.nodes.get(asking) else {
-            return Err(Refusal::NoInterpreter);
-        };
-        if asker.state.safe {
-            return Err(Refusal::Denied);
-        }
+        let asking = self.asker(path)?;
         let Some(key) = self.descend(asking, down) else {
             return Err(Refusal::NoInterpreter);
         };

@@ -1,4 +1,4 @@
-use Rattle.std.proofs.Common.{◌≡◌, ◌+◌, arith, drop, ap, sym, ◌∙◌}
+use Rattle.std.proofs.Common.{◌≡◌, arith, drop}
 use Rattle.tcl_core.specs.Paths.{together}
 use Rattle.tcl_tree.proofs.AliasLemmas.{together_more, together_none, together_second, differ, agree}
 use Rattle.tcl_tree.proofs.alias.in_common.Goals as goal

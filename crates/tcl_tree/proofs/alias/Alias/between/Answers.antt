@@ -1,4 +1,4 @@
-use Rattle.std.proofs.Common.{◌≡◌, ◌++◌, ◌-◌, List, ℕ, Some, length, drop, sym, ap, ◌∙◌, subst}
+use Rattle.std.proofs.Common.{◌≡◌, ◌++◌, ◌-◌, Some, length, drop, sym, ◌∙◌, subst}
 use Rattle.tcl_core.specs.Paths.{rise}
 use Rattle.tcl_tree.specs.Paths.{Path}
 use Rattle.tcl_tree.specs.Commands.{AliasView}

@@ -1,6 +1,4 @@
-use Rattle.std.specs.Prelude.{OnOk}
 use Rattle.tcl_core.specs.Programs.{is_spent}
-use Rattle.tcl_tree.specs.TreeOf.{tree_of}
 use Rattle.tcl_tree.specs.Nodes.{moved}
 use Rattle.tcl_tree.specs.declared.node.Meter.TheVariants.{Steps}
 use Rattle.tcl_tree.proofs.CoreLemmas.{on_both, if_err, line_done, none_blocked, near_blocked}

@@ -1,4 +1,3 @@
-use Rattle.std.proofs.Common.{sym}
 use Rattle.tcl_tree.proofs.NamingLemmas.{ok_map, err_map}
 use Rattle.tcl_tree.proofs.tree.Tree.create.Goals as goal
 

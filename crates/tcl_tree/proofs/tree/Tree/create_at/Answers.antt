@@ -1,15 +1,14 @@
-use Rattle.std.proofs.Common.{rules, arith, sym, ◌∙◌, refl, ap, ◌≡◌, ◌+◌, ◌<◌, ◌≤◌, ◌^◌, length, Bool, inl, inr, List, ℕ, None, Some, true, false}
-use Rattle.std.specs.Prelude.{is_some, OnErr}
+use Rattle.std.proofs.Common.{rules, arith, sym, ◌∙◌, refl, ap, ◌≡◌, ◌+◌, ◌<◌, ◌≤◌, ◌^◌, length, Bool, inl, inr, List, ℕ, None, false}
+use Rattle.std.specs.Prelude.{is_some}
 use Rattle.std.specs.Str.{bytes_eq}
 use Rattle.std.specs.Map.{keys_of, lookup}
 use Rattle.std.proofs.lemmas.Option.{same_Some}
 use Rattle.slab.specs.Slab.{get}
 use Rattle.tcl_core.specs.Programs.{either}
 use Rattle.tcl_tree.specs.Own.{new_own}
-use Rattle.tcl_tree.specs.Paths.{Path}
 use Rattle.tcl_core.specs.Trees as core
 use Rattle.tcl_tree.specs.Nodes.{NodeView, Shape, view_of, new_view, tree_in}
-use Rattle.tcl_tree.proofs.HeapLemmas.{tree-none, sound_kept, guarded_kept, tree_kept, follow_kept}
+use Rattle.tcl_tree.proofs.HeapLemmas.{sound_kept, guarded_kept, tree_kept, follow_kept}
 use Rattle.tcl_tree.proofs.StepLemmas.{tree_some, leads_somewhere, none_of, some_of, tree_child, tree_no_child, on_err}
 use Rattle.tcl_tree.proofs.MakeLemmas.{length_keys, room_there, room_keeps, sound_created, guarded_created, keys_created, tree_created}
 use Rattle.tcl_tree.proofs.ChildLemmas.{made_is, either_parent}

@@ -1,9 +1,7 @@
-use Rattle.std.proofs.Common.{◌≡◌, sym, ◌∙◌, ap, arith}
+use Rattle.std.proofs.Common.{sym, ◌∙◌, ap, arith}
 use Rattle.std.specs.Prelude.{is_some}
 use Rattle.std.proofs.lemmas.Option.{same_Some}
-use Rattle.slab.specs.Slab.{get}
 use Rattle.tcl_tree.specs.Nodes.{NodeView, view_of}
-use Rattle.tcl_tree.proofs.HeapLemmas.{then_none, tree-none}
 use Rattle.tcl_tree.proofs.StepLemmas.{leads_somewhere, tree_no_child, tree_some}
 use Rattle.tcl_tree.proofs.MakeLemmas.{descend_leads}
 use Rattle.tcl_tree.proofs.tree.Tree.delete_at.Goals as goal

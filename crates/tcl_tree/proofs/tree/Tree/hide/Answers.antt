@@ -1,4 +1,4 @@
-use Rattle.std.proofs.Common.{inl, inr, ◌++◌}
+use Rattle.std.proofs.Common.{inr, ◌++◌}
 use Rattle.tcl_tree.proofs.CoreLemmas.{tree_there}
 use Rattle.tcl_tree.proofs.NamingLemmas.{refuses_at, always_ok, ok_map, err_map}
 use Rattle.tcl_tree.proofs.tree.Tree.hide.Goals as goal

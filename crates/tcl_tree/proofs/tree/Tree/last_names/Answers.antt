@@ -4,7 +4,6 @@ use Rattle.slab.specs.Slab.{get}
 use Rattle.tcl_core.specs.Paths.{falls}
 use Rattle.tcl_tree.specs.Nodes.{follow}
 use Rattle.tcl_tree.specs.Paths.{Path, ancestor}
-use Rattle.tcl_tree.specs.TreeOf.{key_of, Names}
 use Rattle.tcl_tree.proofs.PathLemmas.{ancestor_itself}
 use Rattle.tcl_tree.proofs.StepLemmas.{climb_up, climb_end, climb_name, leads_somewhere}
 use Rattle.tcl_tree.proofs.FallLemmas.{falls_behind, falls_all, one_more, nothing_above}

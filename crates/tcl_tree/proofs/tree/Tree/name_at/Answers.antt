@@ -1,5 +1,4 @@
 use Rattle.std.proofs.Common.{sym}
-use Rattle.tcl_tree.specs.Naming.{named_so}
 use Rattle.tcl_tree.proofs.StepLemmas.{sound_write, guarded_write, follow_write, leads_somewhere}
 use Rattle.tcl_tree.proofs.NamingLemmas.{state_place, named_write, unnamed_write, refused_naming, ok_map, err_map, err_then}
 use Rattle.tcl_tree.proofs.tree.Tree.name_at.Goals as goal

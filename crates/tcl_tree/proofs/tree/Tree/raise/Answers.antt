@@ -1,4 +1,4 @@
-use Rattle.std.proofs.Common.{arith, sym, ◌∙◌, refl, ap, ◌+◌, ◌<◌, ◌^◌}
+use Rattle.std.proofs.Common.{arith, sym, ◌∙◌, refl, ap, ◌+◌}
 use Rattle.std.specs.Option.{option_map_or}
 use Rattle.slab.specs.Slab.{get}
 use Rattle.indexmap.specs.IndexMap.{keys}

@@ -1,4 +1,4 @@
-use Rattle.std.proofs.Common.{sym, ◌∙◌}
+use Rattle.std.proofs.Common.{sym}
 use Rattle.tcl_tree.proofs.HeapLemmas.{tree-none}
 use Rattle.tcl_tree.proofs.tree.Tree.reach.Goals as goal
 

@@ -1,7 +1,6 @@
-use Rattle.std.proofs.Common.{◌≡◌, ℕ, Some, ◌≤◌, ◌-◌, length}
+use Rattle.std.proofs.Common.{◌≡◌, Some, ◌≤◌, ◌-◌, length}
 use Rattle.tcl_tree.specs.Paths.{Path, ancestor}
 use Rattle.tcl_tree.specs.TreeOf.{key_of}
-use Rattle.slab.specs.Slab.{get}
 use Rattle.tcl_tree.proofs.tree.Tree.rise.Given as goal
 
 -- so far the way has been up from each path that leads to the first key

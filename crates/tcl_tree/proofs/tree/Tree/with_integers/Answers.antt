@@ -1,4 +1,4 @@
-use Rattle.std.proofs.Common.{◌≡◌, ◌∙◌, refl, ap, false, true, List, ℕ}
+use Rattle.std.proofs.Common.{◌∙◌, refl, ap, false, true}
 use Rattle.std.specs.Map.{keys_of}
 use Rattle.indexmap.specs.IndexMap.{keys}
 use Rattle.tcl_tree.specs.Nodes.{new_view}
