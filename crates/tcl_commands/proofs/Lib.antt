@@ -4,3 +4,9 @@ pub mod Short
 pub mod Chains
 pub mod Setting
 pub mod Ways
+pub mod Growths
+pub mod Same
+pub mod Linking
+pub mod Levels
+pub mod Looking
+pub mod Telling

@@ -1,4 +1,8 @@
 pub mod Answers
 pub mod Endings
+
 pub mod Steps
 pub mod Reading
+pub mod Growing
+pub mod GrowthKinds
+pub mod Calls

@@ -3,6 +3,9 @@
 
 mod answers;
 pub mod ends;
+pub mod growing;
+pub mod inspection;
+pub mod links;
 pub mod lists;
 mod steps;
 pub mod texts;
