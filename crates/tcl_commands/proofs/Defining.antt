@@ -1,10 +1,9 @@
 -- What the parameters of a procedure come to.
-use Rattle.std.proofs.Common.{◌≡◌, ℕ, ◌≤◌, ◌<◌, List, [], ◌∷◌, ◌++◌, Option, Some, None, length, get_or, refl, sym, ap, subst, ◌∙◌, arith}
+use Rattle.std.proofs.Common.{◌≡◌, ℕ, ◌≤◌, ◌<◌, List, [], ◌∷◌, ◌++◌, Some, None, length, get_or, refl, sym, ap, subst, ◌∙◌, arith}
 use Rattle.std.specs.Prelude.{Result, Ok, Err, IfOk, IfErr}
 use Rattle.tcl_core.specs.Endings.{Reply}
 use Rattle.tcl_core.specs.Endings.Reply.{Completed}
 use Rattle.tcl_core.specs.Paths.{Text}
-use Rattle.tcl_core.specs.Programs.Prog.{done}
 use Rattle.tcl_language.specs.Definitions.{parameter, parameters, proc, with_parameter}
 use Rattle.tcl_language.specs.Faults.{bad_name}
 use Rattle.tcl_language.specs.Instructions.{Program, fails, or_fails}
@@ -25,7 +24,6 @@ use Rattle.tcl_tree.specs.declared.tree.Tree.{Tree as Table}
 use Rattle.tcl_tree.specs.declared.tree.Place.{Place as TablePlace}
 use Rattle.tcl_commands.specs.Ending.{EndsSo}
 use Rattle.tcl_commands.specs.Parameters.{parameters_from, reads_parameter}
-use Rattle.tcl_commands.specs.Steps.{EndsAt}
 use Rattle.tcl_commands.proofs.Going.{acts_as, passed_acts}
 use Rattle.tcl_commands.proofs.Turns.{ends_as}
 

@@ -1,21 +1,19 @@
 -- What `lassign` comes to.
-use Rattle.std.proofs.Common.{◌≡◌, ℕ, List, [], ◌∷◌, length, drop, refl, sym, ap, subst, ◌∙◌}
-use Rattle.std.specs.Prelude.{Result, Ok, Err, codes}
-use Rattle.tcl_core.specs.Endings.{Reply}
-use Rattle.tcl_core.specs.Paths.{Path, Text}
+use Rattle.std.proofs.Common.{◌≡◌, List, ◌∷◌, length, refl, sym, subst}
+use Rattle.std.specs.Prelude.{Result, Ok, Err}
+use Rattle.tcl_core.specs.Paths.{Text}
 use Rattle.tcl_language.specs.Control.{sets_names}
 use Rattle.tcl_language.specs.Data.{answered, lassign}
-use Rattle.tcl_language.specs.Instructions.{Program, or_fails}
+use Rattle.tcl_language.specs.Instructions.{Program}
 use Rattle.tcl_lists.specs.Lists.{lassign_rest}
 use Rattle.tcl_run.specs.Ends.{Interrupts}
-use Rattle.tcl_run.specs.Plain.{Does, Acts}
+use Rattle.tcl_run.specs.Plain.{Acts}
 use Rattle.tcl_run.specs.Runs.{IsLevel}
 use Rattle.tcl_run.specs.declared.interruption.Interruption.{Interruption}
 use Rattle.tcl_run.proofs.Endings.{Interrupts-more}
 use Rattle.tcl_run.proofs.Plain.{does_read}
 use Rattle.tcl_text.specs.Lists.{list_of}
 use Rattle.tcl_text.specs.Writing.{fault_message}
-use Rattle.tcl_text.specs.declared.list.ListFault.{ListFault}
 use Rattle.tcl_tree.specs.TreeOf.{tree_of, marks_of}
 use Rattle.tcl_tree.specs.declared.tree.Tree.{Tree as Table}
 use Rattle.tcl_tree.specs.declared.tree.Place.{Place as TablePlace}

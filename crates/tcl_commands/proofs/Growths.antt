@@ -15,12 +15,10 @@ use Rattle.tcl_language.specs.Instructions.{Program, change, either, fits, look,
 use Rattle.tcl_language.specs.Variables as variables
 use Rattle.tcl_lists.specs.Lists.{lappend_of}
 use Rattle.tcl_run.specs.Plain.{Does, Acts}
-use Rattle.tcl_run.specs.Runs.{IsThere}
 use Rattle.tcl_run.specs.declared.interruption.Interruption.{Interruption}
 use Rattle.tcl_run.proofs.Endings.{Interrupts-more}
 use Rattle.tcl_run.proofs.Plain.{does_look}
 use Rattle.tcl_run.proofs.Steady.{stands, changed_same}
-use Rattle.tcl_text.specs.declared.integer.Integers.{Integers}
 use Rattle.tcl_tree.specs.LendingTree.{HasFrames}
 use Rattle.tcl_tree.specs.Own.{Own}
 use Rattle.tcl_tree.specs.TreeOf.{tree_of, Names}

@@ -1,11 +1,11 @@
 -- Commands that look at the interpreter where they are called.
-use Rattle.std.proofs.Common.{◌≡◌, ℕ, List, [], ◌∷◌, Some, refl, sym, ap, subst, ◌∙◌, length, ◌<◌, arith}
-use Rattle.std.specs.Prelude.{Result, Err}
-use Rattle.tcl_core.specs.Endings.{Completion, Reply, ok}
+use Rattle.std.proofs.Common.{◌≡◌, List, [], ◌∷◌, Some, refl, sym, subst, length, ◌<◌, arith}
+use Rattle.std.specs.Prelude.{Result}
+use Rattle.tcl_core.specs.Endings.{ok}
 use Rattle.tcl_core.specs.Endings.Reply.{Completed}
 use Rattle.tcl_core.specs.Paths.{Path, Text}
 use Rattle.tcl_core.specs.Programs.Prog.{done}
-use Rattle.tcl_core.specs.Trees.{Tree, Node}
+use Rattle.tcl_core.specs.Trees.{Node}
 use Rattle.tcl_language.specs.Instructions.{Program, either, fails, fits, gives, look, too_long}
 use Rattle.tcl_run.specs.Ends.{IfEnded, Interrupts, failing}
 use Rattle.tcl_run.specs.Plain.{Does, Acts}
@@ -18,7 +18,7 @@ use Rattle.tcl_tree.specs.TreeOf.{tree_of, Names}
 use Rattle.tcl_tree.specs.declared.tree.Tree.{Tree as Table}
 use Rattle.tcl_tree.specs.declared.tree.Place.{Place as TablePlace}
 use Rattle.tcl_tree.proofs.CoreLemmas.{tree_there}
-use Rattle.tcl_commands.specs.Steps.{Styled, EndsAt}
+use Rattle.tcl_commands.specs.Steps.{EndsAt}
 use Rattle.tcl_commands.proofs.Going.{acts_more}
 
 -- what is done of the interpreter as it stands

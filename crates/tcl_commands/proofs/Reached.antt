@@ -1,14 +1,13 @@
 -- What programs reach.
-use Rattle.std.proofs.Common.{◌≡◌, ℕ, List, [], ◌∷◌, Option, Some, None, refl, sym, ap, subst, ◌∙◌, append-nil}
+use Rattle.std.proofs.Common.{◌≡◌, ℕ, List, Option, Some, None, refl, sym, ap, subst, ◌∙◌, append-nil}
 use Rattle.std.specs.Prelude.{Result, Ok, Err}
-use Rattle.tcl_core.specs.Endings.{Completion, Reply}
-use Rattle.tcl_core.specs.Endings.Reply.{Completed}
+use Rattle.tcl_core.specs.Endings.{Reply}
 use Rattle.tcl_core.specs.Paths.{Path, Text}
 use Rattle.tcl_core.specs.Programs.{Table, changing}
 use Rattle.tcl_core.specs.Programs.Next.{On}
 use Rattle.tcl_core.specs.Programs.Prog.{done}
 use Rattle.tcl_core.specs.Threads.{acted}
-use Rattle.tcl_core.specs.Trees.{Tree, Node, Event, effect}
+use Rattle.tcl_core.specs.Trees.{Tree, Node, Event}
 use Rattle.tcl_core.specs.Trees.What.{Changed}
 use Rattle.tcl_frames.specs.Chain.{Chain, after_set}
 use Rattle.tcl_language.specs.Faults.{frame_message}
@@ -20,7 +19,6 @@ use Rattle.tcl_run.specs.Runs.{Comes, Rechained}
 use Rattle.tcl_run.proofs.Leads.{sees_below}
 use Rattle.tcl_tree.specs.Own.{Own}
 use Rattle.tcl_variables.specs.declared.fault.FrameFault.{FrameFault}
-use Rattle.tcl_commands.specs.Ending.{EndsSo}
 use Rattle.tcl_commands.specs.Reaching.{Reaches, ReachesEnd}
 use Rattle.tcl_commands.specs.Reaching.Reaches.{here, looked, changed}
 

@@ -1,15 +1,13 @@
 -- What naming a command comes to.
 use Rattle.std.proofs.Common.{◌≡◌, ℕ, Bool, true, false, List, [], ◌∷◌, Option, Some, None, refl, sym, ap, subst, ◌∙◌, inl, inr}
-use Rattle.std.specs.Prelude.{Result, Ok, Err, cond, not, ◌&&◌, ◌||◌, ◌==◌, ◌++◌, is_some, IsSome, ◌⊎◌}
+use Rattle.std.specs.Prelude.{Ok, Err, cond, not, ◌&&◌, ◌||◌, ◌==◌, ◌++◌, is_some}
 use Rattle.std.specs.Map.{remove_entry}
 use Rattle.std.specs.Str.{bytes_eq}
 use Rattle.tcl_core.specs.Endings.{Reply, ok}
 use Rattle.tcl_core.specs.Endings.Reply.{Completed}
 use Rattle.tcl_core.specs.Paths.{Path, Text}
-use Rattle.tcl_core.specs.Programs.Prog.{done}
-use Rattle.tcl_core.specs.Trees.{Tree, Node, effect}
-use Rattle.tcl_core.specs.Trees.What.{Changed}
-use Rattle.tcl_language.specs.Instructions.{Program, change, look, or_fails}
+use Rattle.tcl_core.specs.Trees.{Node}
+use Rattle.tcl_language.specs.Instructions.{change, or_fails}
 use Rattle.tcl_language.specs.Interpreters.{done_so, refused_text, renaming}
 use Rattle.tcl_language.specs.Naming as language
 use Rattle.tcl_language.specs.Naming.{command_name, without_colons, of_global}
@@ -18,12 +16,12 @@ use Rattle.tcl_run.specs.Plain.{Acts}
 use Rattle.tcl_run.specs.Runs.{IsLevel}
 use Rattle.tcl_run.specs.declared.interruption.Interruption.{Interruption}
 use Rattle.tcl_run.proofs.Endings.{Interrupts-more}
-use Rattle.tcl_run.proofs.Plain.{does_look, does_read, does_fail, does_change}
+use Rattle.tcl_run.proofs.Plain.{does_look, does_read, does_change}
 use Rattle.tcl_run.proofs.Steady.{stands, changed_level}
 use Rattle.tcl_tree.specs.Changes as changes
 use Rattle.tcl_tree.specs.Naming as tree
 use Rattle.tcl_tree.specs.Naming.{Becomes, RefusesNaming, Refuses}
-use Rattle.tcl_tree.specs.Own.{Own, command_in, hidden_in}
+use Rattle.tcl_tree.specs.Own.{Own, command_in}
 use Rattle.tcl_tree.specs.TreeOf.{tree_of, key_of, marks_of, Names}
 use Rattle.tcl_tree.specs.declared.command.Command.{Command}
 use Rattle.tcl_tree.specs.declared.command.Command.TheVariants as command
@@ -33,7 +31,7 @@ use Rattle.tcl_tree.specs.declared.tree.Tree.{Tree as Table}
 use Rattle.tcl_tree.specs.declared.tree.Place.{Place as TablePlace}
 use Rattle.tcl_tree.proofs.CoreLemmas.{tree_there}
 use Rattle.tcl_variables.specs.Names as names
-use Rattle.tcl_commands.specs.Renaming.{IsBadName, IsNoOwnCommand, IsNotHidden, IsOwnCommand, TellsRefusal, Told, is_memory, with_word}
+use Rattle.tcl_commands.specs.Renaming.{IsBadName, IsNoOwnCommand, IsOwnCommand, TellsRefusal, Told, is_memory, with_word}
 use Rattle.tcl_commands.specs.Steps.{EndsAt}
 
 -- ## Names
@@ -91,16 +89,6 @@ module _ (own : Own) (x plain : Text) (kept : command_name x ≡ Some plain) whe
   pub removed_so : language.removed own x ≡ with_word x (tree.removed own plain)
   removed_so = by_kept _ ∙ removes_so (command_in own plain)
 
-  clears_so : (o : Option Command) → language.clears own plain x o ≡ with_word x (cond (changes.is_alias o) (Ok (changes.without_command plain own)) (Err refusal.NoCommand))
-  clears_so None = refl
-  clears_so (Some command.Child) = refl
-  clears_so (Some (command.Builtin b)) = refl
-  clears_so (Some (command.Procedure p)) = refl
-  clears_so (Some (command.Alias a)) = refl
-
-  pub cleared_so : language.cleared own x ≡ with_word x (tree.cleared own plain)
-  cleared_so = by_kept _ ∙ clears_so (command_in own plain)
-
 -- the other name is wrong, where it isn't the first
 other_word : (y : Text) (b : Bool) (k : tree.Named) (r : language.Named) → r ≡ with_word y k → cond b (Err (refusal.Exists, y)) r ≡ with_word y (cond b (Err refusal.Exists) k)
 other_word y true k r h = refl
@@ -124,33 +112,6 @@ module _ (own : Own) (x plain y other : Text) (kept : command_name x ≡ Some pl
 
   pub renamed_so : IsOwnCommand (command_in own plain) → language.renamed own x y ≡ with_word y (tree.renamed own plain other)
   renamed_so h = by_kept own x plain kept _ ∙ renames_so (command_in own plain) h
-
-module _ (own : Own) (x plain h : Text) (kept : command_name x ≡ Some plain) where
-  hidden_word : (b : Bool) (k : tree.Named) (r : language.Named) → r ≡ with_word h k → cond b (Err (refusal.BadName, h)) r ≡ with_word h (cond (not b) k (Err refusal.BadName))
-  hidden_word true k r e = refl
-  hidden_word false k r e = e
-
-  put_so : (c : Command) → language.put_hidden own plain h c ≡ with_word h (tree.by_name h (tree.free (hidden_in own h) (Ok (record own { commands = remove_entry (bytes_eq plain) own.commands; hidden = own.hidden ++ (h, c) ∷ [] }))))
-  put_so c =
-      hidden_word (names.has_colons h) _ _ (other_word h (is_some (hidden_in own h)) (Ok (record own { commands = remove_entry (bytes_eq plain) own.commands; hidden = own.hidden ++ (h, c) ∷ [] })) _ refl)
-      ∙ ap (λ b. with_word h (cond (not b) (tree.free (hidden_in own h) (Ok (record own { commands = remove_entry (bytes_eq plain) own.commands; hidden = own.hidden ++ (h, c) ∷ [] }))) (Err refusal.BadName))) (colons_same h)
-
-  hides_so : (o : Option Command) → IsOwnCommand o → language.hides own plain x h o ≡ with_word h (tree.hidden_so own plain h o)
-  hides_so None e = elim e [ ]
-  hides_so (Some command.Child) e = elim e [ ]
-  hides_so (Some (command.Builtin b)) e = put_so (command.Builtin b)
-  hides_so (Some (command.Procedure p)) e = put_so (command.Procedure p)
-  hides_so (Some (command.Alias a)) e = put_so (command.Alias a)
-
-  pub hidden_so : IsOwnCommand (command_in own plain) → language.hidden_as own x h ≡ with_word h (tree.hidden_under own plain h)
-  hidden_so e = by_kept own x plain kept _ ∙ hides_so (command_in own plain) e
-
-  exposes_so : (o : Option Command) → IsSome o → language.exposes own h x o ≡ with_word x (tree.exposed_so own h plain o)
-  exposes_so None e = let clash : false ≡ true = e in cc
-  exposes_so (Some c) e = free_so own x plain kept (λ m. record own { commands = own.commands ++ (m, c) ∷ []; hidden = remove_entry (bytes_eq h) own.hidden })
-
-  pub exposed_so : IsSome (hidden_in own h) → language.exposed_as own h x ≡ with_word x (tree.exposed_under own h plain)
-  exposed_so e = exposes_so (hidden_in own h) e
 
 -- ## What comes of it
 

@@ -1,8 +1,8 @@
 -- What `info` comes to.
-use Rattle.std.proofs.Common.{◌≡◌, ℕ, zero, suc, ℤ, Bool, true, false, List, [], ◌∷◌, Option, Some, None, refl, sym, ap, subst, ◌∙◌, length, ◌<◌, arith}
+use Rattle.std.proofs.Common.{◌≡◌, ℕ, zero, suc, ℤ, Bool, List, [], ◌∷◌, Option, Some, None, refl, sym, ap, subst, ◌∙◌}
 use Rattle.std.specs.Prelude.{Result, Ok, Err, codes}
 use Rattle.std.specs.Fmt.{decimal}
-use Rattle.tcl_core.specs.Endings.{Reply, ok}
+use Rattle.tcl_core.specs.Endings.{ok}
 use Rattle.tcl_core.specs.Endings.Reply.{Completed}
 use Rattle.tcl_core.specs.Paths.{Path, Text}
 use Rattle.tcl_core.specs.Programs.Prog.{done}
@@ -12,8 +12,7 @@ use Rattle.tcl_frames.specs.Places.{current}
 use Rattle.tcl_frames.specs.declared.scope.Scope.{Scope}
 use Rattle.tcl_language.specs.Faults.{bad_level, frame_message, integer_message}
 use Rattle.tcl_language.specs.Inspection as inspection
-use Rattle.tcl_language.specs.Instructions.{Program, either, fails, fits, gives, look, or_fails, too_long}
-use Rattle.tcl_language.specs.Variables.{integer}
+use Rattle.tcl_language.specs.Instructions.{either, fails, fits, gives, look, or_fails, too_long}
 use Rattle.tcl_run.specs.Ends.{Gave, IfEnded, Interrupts, failing}
 use Rattle.tcl_run.specs.Plain.{Acts}
 use Rattle.tcl_run.specs.declared.interruption.Interruption.{Interruption}
@@ -24,7 +23,6 @@ use Rattle.tcl_tree.specs.Own.{Own}
 use Rattle.tcl_tree.specs.TreeOf.{tree_of, marks_of, Names}
 use Rattle.tcl_tree.specs.declared.tree.Tree.{Tree as Table}
 use Rattle.tcl_tree.specs.declared.tree.Place.{Place as TablePlace}
-use Rattle.tcl_variables.specs.declared.fault.FrameFault.{FrameFault}
 use Rattle.tcl_commands.specs.Answers.{IsGiven}
 use Rattle.tcl_commands.specs.Calls.{words_numbered}
 use Rattle.tcl_commands.specs.Steps.{EndsAt, Leads, Styled}

@@ -1,6 +1,6 @@
 -- What the turns of a loop over lists come to.
-use Rattle.std.proofs.Common.{◌≡◌, ℕ, zero, suc, pred, ◌+◌, ◌<◌, ◌≤◌, Bool, true, false, List, [], ◌∷◌, ◌++◌, length, length-drop, get_or, take, drop, refl, sym, ap, subst, ◌∙◌, add-one, append_assoc, Some, arith}
-use Rattle.std.specs.Prelude.{max, slice_index_or, ◌-◌, ◌&&◌, nat_le}
+use Rattle.std.proofs.Common.{◌≡◌, ℕ, zero, suc, ◌+◌, ◌<◌, ◌≤◌, Bool, true, false, List, [], ◌∷◌, ◌++◌, length, take, drop, refl, sym, ap, subst, ◌∙◌, add-one, append_assoc, Some, arith}
+use Rattle.std.specs.Prelude.{max, slice_index_or, ◌&&◌, nat_le}
 use Rattle.std.proofs.lemmas.Bool.Decides.{nat_tests}
 use Rattle.std.specs.Prelude.{Result, Ok, Err, slice_set}
 use Rattle.std.proofs.lemmas.List.{take_more_set}
@@ -8,11 +8,8 @@ use Rattle.tcl_core.specs.Endings.{Reply}
 use Rattle.tcl_core.specs.Paths.{Path, Text}
 use Rattle.tcl_core.specs.Trees.{Tree, Node}
 use Rattle.tcl_frames.specs.Chain.{after_set}
-use Rattle.tcl_language.specs.Control as control
 use Rattle.tcl_language.specs.Faults.{frame_message}
 use Rattle.tcl_language.specs.Control.{is_empty, is_over, sets_names, sets_walks}
-use Rattle.tcl_core.specs.Endings.{Completion}
-use Rattle.tcl_core.specs.Endings.Reply.{Completed}
 use Rattle.tcl_core.specs.Programs.Prog.{done, go}
 use Rattle.tcl_language.specs.Control.{foreach, foreach_form, walk_of, walks_of}
 use Rattle.tcl_language.specs.Faults.{wrong_args}

@@ -1,6 +1,6 @@
 -- What adding to a variable comes to.
 use Rattle.std.specs.Prelude.{◌≡◌, List, ◌++◌, [], Result, Ok, Err, MatchResult}
-use Rattle.tcl_core.specs.Endings.{Completion, Reply, ok}
+use Rattle.tcl_core.specs.Endings.{Completion, ok}
 use Rattle.tcl_core.specs.Endings.Reply.{Completed}
 use Rattle.tcl_core.specs.Paths.{Text}
 use Rattle.tcl_core.specs.Programs.Prog.{done}

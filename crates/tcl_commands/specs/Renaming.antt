@@ -1,9 +1,9 @@
 -- What refusals to name a command come to.
-use Rattle.std.specs.Prelude.{◌≡◌, Bool, true, false, Option, Some, None, Result, Ok, Err}
+use Rattle.std.specs.Prelude.{◌≡◌, Bool, true, false, Option, Some, None, Ok, Err}
 use Rattle.tcl_core.specs.Endings.{Reply}
 use Rattle.tcl_core.specs.Endings.Reply.{Completed}
 use Rattle.tcl_core.specs.Paths.{Text}
-use Rattle.tcl_language.specs.Faults.{bad_name, invalid_command, invalid_hidden}
+use Rattle.tcl_language.specs.Faults.{bad_name, invalid_command}
 use Rattle.tcl_language.specs.Interpreters.{already_exists, refusal_text}
 use Rattle.tcl_language.specs.Naming as language
 use Rattle.tcl_run.specs.Ends.{Interrupts, failing}
@@ -52,8 +52,3 @@ IsNoOwnCommand word (Some command.Child) r = r ≡ Completed (failing (already_e
 IsNoOwnCommand word (Some (command.Builtin b)) r = ⊥
 IsNoOwnCommand word (Some (command.Procedure p)) r = ⊥
 IsNoOwnCommand word (Some (command.Alias a)) r = ⊥
-
--- the end where no command is hidden so
-abbrev pub IsNotHidden : Text → Option Command → Reply → Type 0
-IsNotHidden word None r = r ≡ Completed (failing (invalid_hidden word))
-IsNotHidden word (Some c) r = ⊥

@@ -4,7 +4,9 @@ ghost use Rattle.tcl_core.specs.Paths.{Path};
 ghost use Rattle.tcl_language.specs.Definitions as definitions;
 ghost use Rattle.tcl_language.specs.Instructions.{Program};
 ghost use Rattle.tcl_language.specs.Interpreters.{renaming, done_so};
-ghost use Rattle.tcl_language.specs.Naming.{named, renamed, removed};
+ghost use Rattle.std.specs.Option.{option_copied};
+ghost use Rattle.tcl_language.specs.Naming.{command_name, named, renamed, removed};
+ghost use Rattle.tcl_tree.specs.Changes.{is_child};
 ghost use Rattle.tcl_run.specs.Ends.{Interrupts};
 ghost use Rattle.tcl_run.specs.Plain.{Acts};
 ghost use Rattle.tcl_run.specs.Runs.{IsLevel};
@@ -16,12 +18,13 @@ ghost use Rattle.tcl_tree.specs.declared.parameter.Parameter.{Parameter};
 ghost use Rattle.tcl_commands.specs.Parameters.{reads_parameter, parameters_from};
 ghost use Rattle.tcl_commands.specs.Ending.{EndsSo};
 
-use crate::naming::{kept_name, own_command, told};
-use std::alloc::Global;
+use crate::naming::{kept_name, name_of, own_command, told};
+use std::alloc::{AllocError, Global};
 use tcl_run::failure::{bad_name, wrong_args};
 use tcl_run::interruption::Interruption;
 use tcl_run::steps::read_list;
 use tcl_text::text::Text;
+use tcl_tree::command::Command;
 use tcl_tree::parameter::Parameter;
 use tcl_tree::procedure::Procedure;
 use tcl_tree::tree::{Place, Tree};
@@ -179,5 +182,36 @@ pub fn remove(
     match tree.remove_at(place, &kept) {
         Ok(()) => Ok(Value::empty()),
         Err(refusal) => Err(told(alloc, refusal, name)),
+    }
+}
+
+/// Whether a command is a child's.
+fn is_child(command: Option<&Command>) -> bool
+    ensures { result ≡ is_child (option_copied command.entry) }
+{
+    match command {
+        Some(Command::Child) => true,
+        Some(Command::Builtin(_)) => false,
+        Some(Command::Procedure(_)) => false,
+        Some(Command::Alias(_)) => false,
+        None => false,
+    }
+}
+
+/// Whether a name is that of a child's command, so that to take it away is to delete the child.
+///
+/// # Errors
+/// Want of memory.
+pub fn names_child(
+    tree: &Tree,
+    alloc: Global,
+    place: Place,
+    name: &Value,
+) -> Result<bool, AllocError>
+    ensures { IfOk result (λ is. (p : Path) (n : core.Node Own) → Names tree.now place p → tree_of tree.now p ≡ Some n → is ≡ definitions.child_named n.own (command_name name.now)) }
+{
+    match name_of(alloc, name)? {
+        Some(kept) => Ok(is_child(tree.command_at(place, &kept))),
+        None => Ok(false),
     }
 }

@@ -1,14 +1,14 @@
 //! How commands are named, and what is told where they can't be.
-ghost use Rattle.std.specs.Prelude.{◌≡◌, ◌++◌, codes, IfOk, IfErr, OnOk, IsSome, Some, None};
+ghost use Rattle.std.specs.Prelude.{◌≡◌, ◌++◌, codes, IfOk, IfErr, OnOk, Some, None};
 ghost use Rattle.tcl_core.specs.Endings.Reply.{Completed};
 ghost use Rattle.tcl_core.specs.Paths.{Path};
 ghost use Rattle.tcl_core.specs.Trees as core;
 ghost use Rattle.tcl_language.specs.Interpreters as interpreters;
 ghost use Rattle.tcl_language.specs.Naming.{command_name, without_colons};
 ghost use Rattle.tcl_run.specs.Ends.{Interrupts, failing};
-ghost use Rattle.tcl_tree.specs.Own.{Own, command_in, hidden_in};
+ghost use Rattle.tcl_tree.specs.Own.{Own, command_in};
 ghost use Rattle.tcl_tree.specs.TreeOf.{tree_of, Names};
-ghost use Rattle.tcl_commands.specs.Renaming.{IsBadName, IsNoOwnCommand, IsNotHidden, IsOwnCommand, TellsRefusal};
+ghost use Rattle.tcl_commands.specs.Renaming.{IsBadName, IsNoOwnCommand, IsOwnCommand, TellsRefusal};
 
 use std::alloc::{AllocError, Global};
 use tcl_run::failure::{bad_name, failure, invalid_command, invalid_hidden};
@@ -31,7 +31,7 @@ fn plain(name: Text) -> Option<Text>
 }
 
 /// The name by which a command is kept that is named so, where one can be: two leading colons name the global level, which is the only one.
-fn name_of(alloc: Global, word: &Value) -> Result<Option<Text>, AllocError>
+pub(crate) fn name_of(alloc: Global, word: &Value) -> Result<Option<Text>, AllocError>
     ensures { IfOk result (λ name. name ≡ command_name word.now) }
 {
     let name = word.text(alloc)?;
@@ -139,25 +139,5 @@ fn not_child(alloc: Global, command: &Command, word: &Value) -> Result<(), Inter
         Command::Builtin(_) => Ok(()),
         Command::Procedure(_) => Ok(()),
         Command::Alias(_) => Ok(()),
-    }
-}
-
-/// Sees to it that a name is that of a hidden command.
-///
-/// # Errors
-/// 306, with the word that is wrong; want of memory.
-pub(crate) fn hidden_command(
-    tree: &Tree,
-    alloc: Global,
-    place: Place,
-    name: &Text,
-    word: &Value,
-) -> Result<(), Interruption>
-    ensures there { OnOk result ((p : Path) (n : core.Node Own) → Names tree.now place p → tree_of tree.now p ≡ Some n → IsSome (hidden_in n.own name.now)) }
-    ensures refused { IfErr result (λ i. Interrupts i (λ e. (p : Path) (n : core.Node Own) → Names tree.now place p → tree_of tree.now p ≡ Some n → IsNotHidden word.now (hidden_in n.own name.now) e)) }
-{
-    match tree.hidden_at(place, name) {
-        None => Err(told(alloc, Refusal::NoHidden, word)),
-        Some(_) => Ok(()),
     }
 }

@@ -1,5 +1,4 @@
-use Rattle.std.proofs.Common.{◌≡◌, length, sym, ap, ◌∙◌, arith}
-use Rattle.std.specs.Prelude.{Ok}
+use Rattle.std.proofs.Common.{sym, ap, ◌∙◌, arith}
 use Rattle.tcl_text.specs.Lists.{list_of}
 use Rattle.tcl_commands.proofs.Defining.{one_made, one_refused, other_refused, two_made, two_refused}
 use Rattle.tcl_commands.proofs.definitions.read_parameter.Goals as goal

@@ -1,4 +1,4 @@
-use Rattle.std.proofs.Common.{◌≡◌, ◌+◌, ◌≤◌, drop, length}
+use Rattle.std.proofs.Common.{◌≡◌, ◌+◌, drop, length}
 use Rattle.tcl_language.specs.Variables.{joined}
 use Rattle.tcl_commands.proofs.growing.has_room.Given as goal
 

@@ -1,4 +1,4 @@
-use Rattle.std.proofs.Common.{◌≡◌, ℤ, refl, sym, subst}
+use Rattle.std.proofs.Common.{ℤ, refl, subst}
 use Rattle.std.proofs.lemmas.Result.{err_from_is_err_and}
 use Rattle.tcl_frames.specs.Places.{current}
 use Rattle.tcl_language.specs.Inspection as inspection

@@ -1,5 +1,4 @@
-use Rattle.std.proofs.Common.{◌≡◌, ℕ, List, [], ◌∷◌, sym, ap, ◌∙◌}
-use Rattle.tcl_frames.specs.Chain.{names_of}
+use Rattle.std.proofs.Common.{◌≡◌, ℕ, List, ap, ◌∙◌}
 use Rattle.tcl_language.specs.Inspection.{matching}
 use Rattle.tcl_commands.proofs.Going.{one_item}
 use Rattle.tcl_commands.proofs.Looking.{no_items}

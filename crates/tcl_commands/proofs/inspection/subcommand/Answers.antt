@@ -1,4 +1,4 @@
-use Rattle.std.proofs.Common.{◌≡◌, refl}
+use Rattle.std.proofs.Common.{refl}
 use Rattle.std.specs.Prelude.{codes}
 use Rattle.tcl_frames.specs.declared.scope.Scope.TheVariants.{Global, Local, Visible}
 use Rattle.tcl_language.specs.Inspection as inspection

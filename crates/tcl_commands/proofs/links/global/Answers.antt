@@ -1,5 +1,4 @@
-use Rattle.std.proofs.Common.{◌≡◌, sym, ◌∙◌}
-use Rattle.tcl_frames.specs.Places.{current}
+use Rattle.std.proofs.Common.{◌∙◌}
 use Rattle.tcl_commands.proofs.Linking.{global_acts}
 use Rattle.tcl_commands.proofs.links.global.Goals as goal
 

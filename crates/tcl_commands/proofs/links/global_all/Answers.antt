@@ -1,10 +1,6 @@
-use Rattle.std.proofs.Common.{◌≡◌, ◌+◌, ℕ, List, ◌∷◌, drop, sym, ap, subst, ◌∙◌, arith}
+use Rattle.std.proofs.Common.{◌≡◌, ◌+◌, ℕ, List, ◌∷◌, drop, sym, ap, ◌∙◌, arith}
 use Rattle.std.proofs.lemmas.Result.{err_from_is_err_and}
-use Rattle.tcl_language.specs.Variables.{global_all, local_name}
-use Rattle.tcl_run.specs.Ends.{Interrupts}
-use Rattle.tcl_tree.specs.TreeOf.{tree_of}
-use Rattle.tcl_variables.specs.Names.{name_of}
-use Rattle.tcl_commands.specs.Steps.{EndsAt, Leads}
+use Rattle.tcl_language.specs.Variables.{global_all}
 use Rattle.tcl_commands.proofs.Linking.{global_goes, global_ends}
 use Rattle.tcl_commands.proofs.Ways.{item_on, way_goes, way_passes}
 use Rattle.tcl_commands.proofs.links.global_all.Goals as goal

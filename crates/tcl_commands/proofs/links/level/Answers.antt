@@ -1,5 +1,4 @@
-use Rattle.std.proofs.Common.{◌≡◌, Some, None, ap, ◌∙◌}
-use Rattle.tcl_frames.specs.Places.{current}
+use Rattle.std.proofs.Common.{ap, ◌∙◌}
 use Rattle.tcl_language.specs.Variables.{level_of}
 use Rattle.tcl_commands.proofs.Levels.{level_found, level_missing}
 use Rattle.tcl_commands.proofs.links.level.Goals as goal

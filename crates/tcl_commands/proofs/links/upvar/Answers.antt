@@ -1,4 +1,4 @@
-use Rattle.std.proofs.Common.{◌≡◌, ℕ, ◌≤◌, true, false, List, drop, length, sym, ap, subst, ◌∙◌, arith}
+use Rattle.std.proofs.Common.{◌≡◌, ℕ, ◌≤◌, true, false, List, drop, length, sym, subst, ◌∙◌, arith}
 use Rattle.std.specs.Prelude.{codes, take, ◌-◌}
 use Rattle.std.proofs.lemmas.Result.{err_from_is_err_and}
 use Rattle.tcl_language.specs.Variables.{level}

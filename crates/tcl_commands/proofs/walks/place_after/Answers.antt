@@ -1,4 +1,3 @@
-use Rattle.std.proofs.Common.{◌≡◌, ◌+◌, drop, sym, ap, ◌∙◌, suc, zero, ℕ, List, [], ◌∷◌, refl, add-one}
 use Rattle.tcl_commands.proofs.Turns.{drop_more}
 use Rattle.tcl_commands.proofs.walks.place_after.Goals as goal
 

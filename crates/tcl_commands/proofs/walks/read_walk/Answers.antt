@@ -1,5 +1,4 @@
-use Rattle.std.proofs.Common.{◌≡◌, ℕ, List, sym, ap, subst, ◌∙◌}
-use Rattle.std.specs.Prelude.{Ok}
+use Rattle.std.proofs.Common.{ℕ, List, sym, ap, subst, ◌∙◌}
 use Rattle.std.proofs.lemmas.Result.{err_from_is_err_and}
 use Rattle.tcl_language.specs.Instructions.{Program, Walk}
 use Rattle.tcl_run.specs.Ends.{IsFailure}

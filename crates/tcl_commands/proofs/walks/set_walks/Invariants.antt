@@ -1,4 +1,4 @@
-use Rattle.std.proofs.Common.{◌≡◌, ◌≤◌, ◌++◌, List, drop, take, pred}
+use Rattle.std.proofs.Common.{◌≤◌, ◌++◌, List, drop, take, pred}
 use Rattle.tcl_language.specs.Control.{sets_walks}
 use Rattle.tcl_language.specs.Instructions.{Program, Walk}
 use Rattle.tcl_run.specs.Runs.{IsLevel}
