@@ -4,3 +4,14 @@ pub mod Short
 pub mod Chains
 pub mod Setting
 pub mod Ways
+pub mod Growths
+pub mod Same
+pub mod Linking
+pub mod Reached
+pub mod Renames
+pub mod Levels
+pub mod Looking
+pub mod Telling
+pub mod Turns
+pub mod Defining
+pub mod Elements

@@ -2,3 +2,11 @@ pub mod Answers
 pub mod Endings
 pub mod Steps
 pub mod Reading
+pub mod Growing
+pub mod GrowthKinds
+pub mod Calls
+pub mod Ending
+pub mod Parameters
+pub mod Renaming
+pub mod Reaching
+pub mod Walks

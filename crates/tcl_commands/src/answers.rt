@@ -1,5 +1,6 @@
 //! How commands end that are functions of their words.
 ghost use Rattle.std.specs.Prelude.{◌≡◌, IfOk};
+ghost use Rattle.tcl_language.specs.Variables.{is_odd};
 ghost use Rattle.tcl_commands.specs.Answers.{IsGiven};
 ghost use Rattle.tcl_words.specs.Outcomes.{Outcome, Gives, answer_text};
 ghost use Rattle.tcl_value.specs.Limits.{IsWithin};
@@ -43,4 +44,11 @@ pub(crate) fn answer_value(answer: Answer) -> Value
         Answer::Text(text) => Value::from_short_text(text),
         Answer::Number(n) => Value::from_int(n),
     }
+}
+
+/// Whether there is an odd number of words.
+pub(crate) fn is_odd(words: &[Value]) -> bool
+    ensures { result ≡ is_odd words.now }
+{
+    words.len() % 2 == 1
 }

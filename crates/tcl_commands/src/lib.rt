@@ -2,9 +2,16 @@
 #![tactic(auto)]
 
 mod answers;
+pub mod assigning;
+pub mod definitions;
 pub mod ends;
+pub mod growing;
+pub mod inspection;
+pub mod links;
 pub mod lists;
+mod naming;
 mod steps;
 pub mod texts;
 pub mod unsetting;
 pub mod variables;
+pub mod walks;

@@ -1,0 +1,15 @@
+use Rattle.std.proofs.lemmas.Result.{err_from_is_err_and}
+use Rattle.tcl_commands.proofs.Defining.{proc_acts, proc_fails}
+use Rattle.tcl_commands.proofs.definitions.proc.Goals as goal
+
+pub returns-in_err-parameters-in-len3-clause-acts : goal.returns-in_err-parameters-in-len3-clause-acts
+returns-in_err-parameters-in-len3-clause-acts c =
+    let p = err_from_is_err_and c.from_residual.result c.from_residual.ensures.1 in
+    proc_fails c.args.tree.now c.args.place c.args.args.now c.name-item.result c.parameters-item.result c.body-item.result c.in-len3.len_at_least c.in-len3.len_below c.name-item.is c.parameters-item.is c.body-item.is
+    c.in_err-parameters-in-len3.field-0.0 p.0 c.from_residual.result p.1 p.2 c.in_err-parameters-in-len3.ensures.refused
+
+pub returns-in_ok-procedure-in-len3-clause-acts : goal.returns-in_ok-procedure-in-len3-clause-acts
+returns-in_ok-procedure-in-len3-clause-acts c =
+    proc_acts c.args.tree.now c.args.place c.args.args.now c.name-item.result c.parameters-item.result c.body-item.result c.in-len3.len_at_least c.in-len3.len_below c.name-item.is c.parameters-item.is c.body-item.is
+    c.define.new.tree c.in_ok-parameters-in-len3.parameters.items c.in_ok-procedure-in-len3.procedure c.in_ok-clone-in-len3.field-0 c.define.result c.in_ok-parameters-in-len3.ensures.made c.in_ok-clone-in-len3.ensures.cases
+    c.in_ok-procedure-in-len3.ensures c.define.ensures.acts

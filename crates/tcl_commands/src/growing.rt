@@ -1,0 +1,212 @@
+//! The commands that add to variables: in place, where what a variable holds isn't shared.
+ghost use Rattle.std.specs.Prelude.{◌≡◌, ◌++◌, [], Ok, IfErr, OnOk, true};
+ghost use Rattle.tcl_core.specs.Paths.{Path};
+ghost use Rattle.tcl_language.specs.Data as collections;
+ghost use Rattle.tcl_frames.specs.Chain.{read};
+ghost use Rattle.tcl_language.specs.Instructions.{fits, look};
+ghost use Rattle.tcl_language.specs.Variables as variables;
+ghost use Rattle.tcl_run.specs.Plain.{Acts};
+ghost use Rattle.tcl_run.specs.Runs.{IsLevel};
+ghost use Rattle.tcl_run.specs.declared.interruption.Interruption.TheVariants.{Memory};
+ghost use Rattle.tcl_tree.specs.TreeOf.{Names};
+ghost use Rattle.tcl_commands.specs.Growing.{appended, lengthened, grown, finishes, Grows, GrowsTo};
+ghost use Rattle.tcl_commands.specs.GrowthKinds.{grown_by};
+
+use crate::steps::is_missing;
+use std::alloc::Global;
+use tcl_frames::frames::Frames;
+use tcl_lists::lengthening;
+use tcl_run::failure::{failure, too_long, wrong_args};
+use tcl_run::interruption::Interruption;
+use tcl_run::steps::{frame_failure, read_variable};
+use tcl_text::text::Text;
+use tcl_tree::tree::{Place, Tree};
+use tcl_value::value::{MOST_BYTES, Value};
+use tcl_variables::fault::FrameError;
+use tcl_words::refusal::Refusal;
+
+/// Whether a value is no longer than a value may be when these are added to it.
+fn has_room(value: &Value, more: &[Value]) -> bool
+    ensures { result ≡ fits (value.now ++ variables.joined more.now) }
+{
+    let mut room = MOST_BYTES - value.text_len();
+    'more: for part in more {
+        let len = part.text_len();
+        if len > room {
+            return false;
+        }
+        room -= len;
+    }
+    true
+}
+
+/// Adds the texts of values to that of a value.
+fn append_all(alloc: Global, value: &mut Value, more: &[Value]) -> Result<(), Interruption>
+    requires { fits (value.old ++ variables.joined more.now) ≡ true }
+    ensures appended { OnOk result (value.new ≡ value.old ++ variables.joined more.now) }
+    ensures memory { IfErr result (λ i. i ≡ Memory) }
+{
+    'more: for part in more {
+        let text = part.text(alloc)?;
+        if value.append(alloc, text.as_str()).is_err() {
+            return Err(Interruption::Memory);
+        }
+    }
+    Ok(())
+}
+
+/// What a variable grows by.
+#[derive(Clone, Copy)]
+enum Growth {
+    /// Texts behind its text.
+    Texts,
+    /// Elements behind those of its list.
+    Elements,
+}
+
+/// Adds the texts of values to that of a value, and gives what it then is.
+fn append_texts(alloc: Global, value: &mut Value, more: &[Value]) -> Result<Value, Interruption>
+    ensures { GrowsTo value.old (appended more.now) value.new result }
+{
+    if !has_room(value, more) {
+        return Err(too_long(alloc));
+    }
+    append_all(alloc, value, more)?;
+    Ok(value.clone()?)
+}
+
+/// Adds elements to the list of a value, and gives what it then is.
+fn append_elements(alloc: Global, value: &mut Value, more: &[Value]) -> Result<Value, Interruption>
+    ensures { GrowsTo value.old (lengthened more.now) value.new result }
+{
+    match lengthening::lappend(alloc, value, more) {
+        Ok(()) => Ok(value.clone()?),
+        Err(Refusal::Fault(message)) => Err(failure(alloc, message)),
+        Err(Refusal::Memory) => Err(Interruption::Memory),
+    }
+}
+
+/// Makes a value grow, and gives what it then is.
+fn grow_value(
+    alloc: Global,
+    value: &mut Value,
+    growth: Growth,
+    more: &[Value],
+) -> Result<Value, Interruption>
+    ensures { GrowsTo value.old (grown_by growth more.now) value.new result }
+{
+    match growth {
+        Growth::Texts => append_texts(alloc, value, more),
+        Growth::Elements => append_elements(alloc, value, more),
+    }
+}
+
+/// Makes a variable of which there is none yet.
+fn make_variable(
+    frames: &mut Frames,
+    alloc: Global,
+    name: &Text,
+    growth: Growth,
+    more: &[Value],
+) -> Result<Value, Interruption>
+    requires { variables.or_missing [] (read frames.old.frames name.now) ≡ Ok [] }
+    ensures { Grows frames.old name.now (grown_by growth more.now) frames.new result }
+{
+    let mut value = Value::empty();
+    let grown = grow_value(alloc, &mut value, growth, more)?;
+    match frames.set(alloc, name, value) {
+        Ok(()) => Ok(grown),
+        Err(error) => Err(frame_failure(alloc, error)),
+    }
+}
+
+/// Makes a variable grow, from the empty value where there is none.
+fn grow(
+    frames: &mut Frames,
+    alloc: Global,
+    name: &Text,
+    growth: Growth,
+    more: &[Value],
+) -> Result<Value, Interruption>
+    ensures { Grows frames.old name.now (grown_by growth more.now) frames.new result }
+{
+    match frames.get_mut(alloc, name) {
+        Ok(value) => grow_value(alloc, value, growth, more),
+        Err(error) => {
+            if is_missing(&error) {
+                return make_variable(frames, alloc, name, growth, more);
+            }
+            Err(frame_failure(alloc, error))
+        }
+    }
+}
+
+/// Makes a variable of the interpreter that the place names grow.
+fn grow_variable(
+    tree: &mut Tree,
+    alloc: Global,
+    place: Place,
+    name: &Text,
+    growth: Growth,
+    more: &[Value],
+) -> Result<Value, Interruption>
+    requires { (p : Path) × Names tree.old place p }
+    ensures acts { Acts tree.old place (λ style. look (λ n. finishes n.own (grown n.own.chain name.now (grown_by growth more.now)))) tree.new result }
+    ensures level { IsLevel tree.old tree.new }
+{
+    match tree.frames_of(place) {
+        Some(frames) => grow(frames, alloc, name, growth, more),
+        None => unreachable!(),
+    }
+}
+
+/// `append varName ?value ...?`: adds values to the text of a variable, which is empty where there is none. With no value the variable is
+/// read.
+///
+/// # Errors
+/// 241; 231 to 234 and 238; 122; want of memory.
+pub fn append(
+    tree: &mut Tree,
+    alloc: Global,
+    place: Place,
+    args: &[Value],
+) -> Result<Value, Interruption>
+    requires { (p : Path) × Names tree.old place p }
+    ensures acts { Acts tree.old place (λ style. variables.append args.now) tree.new result }
+    ensures level { IsLevel tree.old tree.new }
+{
+    match args {
+        [] => Err(wrong_args(alloc, "append varName ?value ...?")),
+        [name] => {
+            let name = name.text(alloc)?;
+            read_variable(tree, alloc, place, &name)
+        }
+        [name, values @ ..] => {
+            let name = name.text(alloc)?;
+            grow_variable(tree, alloc, place, &name, Growth::Texts, values)
+        }
+    }
+}
+
+/// `lappend varName ?value ...?`: adds elements to the list of a variable, which is empty where there is none.
+///
+/// # Errors
+/// 241; 232, 233 and 238; 101 to 104; 122; want of memory.
+pub fn lappend(
+    tree: &mut Tree,
+    alloc: Global,
+    place: Place,
+    args: &[Value],
+) -> Result<Value, Interruption>
+    requires { (p : Path) × Names tree.old place p }
+    ensures acts { Acts tree.old place (λ style. collections.lappend args.now) tree.new result }
+    ensures level { IsLevel tree.old tree.new }
+{
+    match args {
+        [] => Err(wrong_args(alloc, "lappend varName ?value ...?")),
+        [name, values @ ..] => {
+            let name = name.text(alloc)?;
+            grow_variable(tree, alloc, place, &name, Growth::Elements, values)
+        }
+    }
+}

@@ -1,0 +1,180 @@
+//! The commands that link variables.
+ghost use Rattle.std.specs.Prelude.{◌≡◌, ◌<◌, ◌^◌, IfOk, Some};
+ghost use Rattle.tcl_core.specs.Paths.{Path};
+ghost use Rattle.tcl_language.specs.Variables as variables;
+ghost use Rattle.tcl_frames.specs.Chain.{after_link};
+ghost use Rattle.tcl_language.specs.Instructions.{look};
+ghost use Rattle.tcl_run.specs.Plain.{Acts};
+ghost use Rattle.tcl_run.specs.Runs.{IsLevel};
+ghost use Rattle.tcl_text.specs.Numbers.{integer_of};
+ghost use Rattle.tcl_tree.specs.TreeOf.{marks_of, Names};
+ghost use Rattle.tcl_variables.specs.Names.{name_of};
+ghost use Rattle.tcl_commands.specs.Steps.{Steps, Finds};
+
+use crate::answers::is_odd;
+use crate::steps::{frames_seen, link_variable};
+use std::alloc::{AllocError, Global};
+use tcl_run::failure::{bad_level, wrong_args};
+use tcl_run::interruption::Interruption;
+use tcl_text::integer::{Integers, read_int};
+use tcl_text::text::Text;
+use tcl_tree::tree::{Place, Tree};
+use tcl_value::value::Value;
+use tcl_variables::name::read_name;
+
+/// The greatest level that an integer text names. No memory holds a chain that goes further.
+const MOST_LEVELS: usize = 9_223_372_036_854_775_807;
+
+/// The level of this number, where there is one.
+fn level_numbered(current: usize, number: i64) -> Option<usize>
+    ensures { result ≡ variables.level_at current (Some number) }
+{
+    if number < 0 {
+        return None;
+    }
+    let level = number as usize;
+    if level <= current { Some(level) } else { None }
+}
+
+/// The level that an integer text names, where there is one.
+fn level_at(style: Integers, current: usize, number: &str) -> Option<usize>
+    requires { current < 2 ^ 63 }
+    ensures { result ≡ variables.level_at current (integer_of style number.now) }
+{
+    match read_int(number, style) {
+        Ok(number) => level_numbered(current, number),
+        Err(_) => None,
+    }
+}
+
+/// The level that a word names, where there is one: `N` is N levels up, `#N` is level N.
+fn level_of(style: Integers, current: usize, word: &str) -> Option<usize>
+    requires { current < 2 ^ 63 }
+    ensures { result ≡ variables.level_of style current word.now }
+{
+    match word.strip_prefix('#') {
+        Some(number) => level_at(style, current, number),
+        None => {
+            let up = level_at(style, current, word)?;
+            Some(current - up)
+        }
+    }
+}
+
+/// The level that a word names.
+fn level(tree: &Tree, alloc: Global, place: Place, word: &str) -> Result<usize, Interruption>
+    requires { (p : Path) × Names tree.now place p }
+    ensures { Finds tree.now place (λ rest style. variables.level style word.now (λ n. rest n style)) tree.now result }
+{
+    let current = frames_seen(tree, place).level();
+    if current > MOST_LEVELS {
+        return Err(Interruption::Memory);
+    }
+    match level_of(tree.integers(), current, word) {
+        Some(level) => Ok(level),
+        None => Err(bad_level(alloc, word)),
+    }
+}
+
+/// Makes links from the left: to each other name, by the local name after it.
+fn link_all(
+    tree: &mut Tree,
+    alloc: Global,
+    place: Place,
+    level: usize,
+    names: &[Value],
+) -> Result<Value, Interruption>
+    requires { (p : Path) × Names tree.old place p }
+    ensures acts { Acts tree.old place (λ style. variables.link_all level names.now) tree.new result }
+    ensures level { IsLevel tree.old tree.new }
+{
+    let mut left = names;
+    'names: while let [other, local, rest @ ..] = left {
+        let other = other.text(alloc)?;
+        let local = local.text(alloc)?;
+        link_variable(tree, alloc, place, level, &other, &local)?;
+        left = rest;
+    }
+    Ok(Value::empty())
+}
+
+/// `upvar ?level? otherVar localVar ?otherVar localVar ...?`: makes local names links to what other names are at a level, which is that of
+/// the caller where none is named.
+///
+/// # Errors
+/// 241; 235 of the level; of each pair in turn, 238, 237, 233 and 236; want of memory.
+pub fn upvar(
+    tree: &mut Tree,
+    alloc: Global,
+    place: Place,
+    args: &[Value],
+) -> Result<Value, Interruption>
+    requires { (p : Path) × Names tree.old place p }
+    ensures acts { Acts tree.old place (λ style. variables.upvar style args.now) tree.new result }
+    ensures level { IsLevel tree.old tree.new }
+{
+    match args {
+        [] | [_] => Err(wrong_args(
+            alloc,
+            "upvar ?level? otherVar localVar ?otherVar localVar ...?",
+        )),
+        [word, pairs @ ..] => {
+            if !is_odd(args) {
+                let level = level(tree, alloc, place, "1")?;
+                return link_all(tree, alloc, place, level, args);
+            }
+            let word = word.text(alloc)?;
+            let level = level(tree, alloc, place, word.as_str())?;
+            link_all(tree, alloc, place, level, pairs)
+        }
+    }
+}
+
+/// The local name of a global variable.
+fn local_name(alloc: Global, name: &Text) -> Result<Text, AllocError>
+    ensures { IfOk result (λ local. local ≡ variables.local_name name.now (name_of name.now)) }
+{
+    match read_name(name.as_str()) {
+        Some(written) => Text::new(alloc, written.base),
+        None => name.clone(),
+    }
+}
+
+/// Makes local names links to global variables, from the left.
+fn global_all(
+    tree: &mut Tree,
+    alloc: Global,
+    place: Place,
+    names: &[Value],
+) -> Result<Value, Interruption>
+    requires { (p : Path) × Names tree.old place p }
+    ensures acts { Acts tree.old place (λ style. variables.global_all names.now) tree.new result }
+    ensures level { IsLevel tree.old tree.new }
+{
+    'names: for name in names {
+        let name = name.text(alloc)?;
+        let local = local_name(alloc, &name)?;
+        link_variable(tree, alloc, place, 0, &name, &local)?;
+    }
+    Ok(Value::empty())
+}
+
+/// `global ?varName ...?`: makes local names links to global variables, and at level 0 nothing.
+///
+/// # Errors
+/// Of each name in turn, 238, 237 and 236; want of memory.
+pub fn global(
+    tree: &mut Tree,
+    alloc: Global,
+    place: Place,
+    args: &[Value],
+) -> Result<Value, Interruption>
+    requires { (p : Path) × Names tree.old place p }
+    ensures acts { Acts tree.old place (λ style. variables.global args.now) tree.new result }
+    ensures level { IsLevel tree.old tree.new }
+{
+    if frames_seen(tree, place).level() == 0 {
+        return Ok(Value::empty());
+    }
+    global_all(tree, alloc, place, args)
+}
