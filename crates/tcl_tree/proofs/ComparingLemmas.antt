@@ -1,10 +1,9 @@
 -- Interpreters that are equal with all below them.
-use Rattle.std.proofs.Common.{◌≡◌, ℕ, zero, suc, ◌+◌, ◌<◌, ◌≤◌, List, [], ◌∷◌, Bool, true, false, not, Bor, IsTrue, length, refl, sym, ◌∙◌, ap, inl, inr, arith, Option, Some, None}
-use Rattle.std.specs.Prelude.{slice_get, is_some, ◌⊎◌}
+use Rattle.std.proofs.Common.{◌≡◌, ℕ, zero, suc, ◌<◌, List, [], ◌∷◌, Bool, true, false, not, Bor, IsTrue, length, refl, sym, ◌∙◌, ap, arith, Option, Some, None}
+use Rattle.std.specs.Prelude.{slice_get, is_some}
 use Rattle.std.specs.Option.{option_and_then, option_map, option_copied}
 use Rattle.std.specs.Str.{bytes_eq}
 use Rattle.std.specs.List.{list_any}
-use Rattle.std.specs.Map.{keys_of, lookup}
 use Rattle.std.proofs.lemmas.Option.{same_Some}
 use Rattle.std.proofs.lemmas.Map.Entries.{place_from_lookup}
 use Rattle.std.proofs.lemmas.Map.Made.{is_some-lookup}
@@ -13,7 +12,7 @@ use Rattle.indexmap.specs.IndexMap.{get, keys}
 use Rattle.tcl_tree.specs.Paths.{Text, Path}
 use Rattle.tcl_tree.specs.Nodes.{Heap, NodeView, state_view, view_of, child_in, follow, tree_in}
 use Rattle.tcl_tree.specs.declared.node.Node.{Node}
-use Rattle.tcl_tree.proofs.HeapLemmas.{follow-nil, tree-at, tree-none}
+use Rattle.tcl_tree.proofs.HeapLemmas.{follow-nil, tree-at}
 use Rattle.tcl_tree.proofs.StepLemmas.{child-at, child-none}
 
 -- the subtrees at two keys are equal

@@ -1,5 +1,5 @@
 -- The nodes at a key and below it, as a table of their own.
-use Rattle.std.proofs.Common.{◌≡◌, ℕ, zero, suc, ◌+◌, ◌<◌, ◌≤◌, ◌^◌, List, [], ◌∷◌, ◌++◌, Bool, true, false, IsTrue, Contains, length, refl, sym, ◌∙◌, ap, subst, inl, inr, arith, Option, Some, None}
+use Rattle.std.proofs.Common.{◌≡◌, ℕ, zero, suc, ◌+◌, ◌<◌, ◌≤◌, List, [], ◌∷◌, ◌++◌, true, false, Contains, length, refl, sym, ◌∙◌, ap, subst, inl, inr, arith, Option, Some, None}
 use Rattle.std.specs.Prelude.{◌≢◌, ◌⊎◌, is_some, slice_index_or}
 use Rattle.std.specs.Map.{keys_of, lookup}
 use Rattle.std.specs.Str.{bytes_eq}
@@ -12,11 +12,11 @@ use Rattle.slab.specs.Slab as slab
 use Rattle.slab.specs.Slab.{Slab, IsSlotClone, Updates}
 use Rattle.slab.proofs.SlabLemmas.{Contains-cons_cases}
 use Rattle.tcl_tree.specs.Paths.{Text, Path}
-use Rattle.tcl_tree.specs.Nodes.{Heap, NodeView, Shape, state_view, shape_of, shape_at, view_shape, view_of, link_of, child_in, follow, tree_in, link_in, level_in, safe_in, children_in, orphaned, IsBelow, IsSubtable, IsCut, IsSound, IsGuarded}
+use Rattle.tcl_tree.specs.Nodes.{Heap, NodeView, Shape, state_view, shape_of, shape_at, view_of, link_of, child_in, follow, tree_in, link_in, level_in, safe_in, children_in, orphaned, IsBelow, IsSubtable, IsCut, IsSound, IsGuarded}
 use Rattle.tcl_tree.specs.declared.node.Node.{Node}
 use Rattle.tcl_tree.proofs.PathLemmas.{snoc_ind, ends_cases}
-use Rattle.tcl_tree.proofs.HeapLemmas.{follow-nil, follow-snoc, last_step, then_child, same_link, clash, tree-at, tree-none, linked}
-use Rattle.tcl_tree.proofs.StepLemmas.{child-none, link-none, level-none, children-none, follow_append, child-at, link-at}
+use Rattle.tcl_tree.proofs.HeapLemmas.{follow-nil, last_step, then_child, same_link, clash, tree-at, tree-none}
+use Rattle.tcl_tree.proofs.StepLemmas.{child-none, link-none, level-none, children-none, follow_append, link-at}
 
 -- ## Climbing
 

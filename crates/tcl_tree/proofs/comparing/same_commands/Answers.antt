@@ -1,4 +1,4 @@
-use Rattle.std.proofs.Common.{◌≡◌, ◌≤◌, length, Some, refl, sym, ◌∙◌, ap, arith}
+use Rattle.std.proofs.Common.{◌≡◌, Some, refl, sym, ◌∙◌, arith}
 use Rattle.tcl_tree.proofs.SameLemmas.{same_more, same_all}
 use Rattle.tcl_tree.proofs.comparing.same_commands.Goals as goal
 

@@ -1,5 +1,4 @@
-use Rattle.std.proofs.Common.{◌≡◌, ◌≤◌, length, true, false, Some, refl, sym, ◌∙◌, ap, arith}
-use Rattle.std.specs.Prelude.{slice_get}
+use Rattle.std.proofs.Common.{◌≡◌, true, false, Some, refl, sym, ◌∙◌, ap, arith}
 use Rattle.indexmap.specs.IndexMap.{keys}
 use Rattle.tcl_tree.proofs.SameLemmas.{same_more, name_at, differ_at, same_all, names_length}
 use Rattle.tcl_tree.proofs.comparing.same_names.Goals as goal

@@ -1,5 +1,4 @@
 use Rattle.std.proofs.Common.{[]}
-use Rattle.tcl_tree.specs.Nodes.{shape_of}
 use Rattle.tcl_tree.proofs.copying.NodeClone.clone.Goals as goal
 
 pub returns : goal.returns

@@ -1,9 +1,9 @@
-use Rattle.std.proofs.Common.{◌≡◌, ◌<◌, ◌≤◌, ◌-◌, ◌^◌, ℕ, length, arith, List, [], ◌∷◌, true, false, Some, None, refl, sym, ◌∙◌, ap}
+use Rattle.std.proofs.Common.{◌≡◌, ◌<◌, ◌-◌, ◌^◌, arith, true, sym, ◌∙◌, ap}
 use Rattle.slab.specs.Slab.{get}
 use Rattle.tcl_tree.specs.Nodes.{NodeView, level_in}
 use Rattle.tcl_tree.proofs.HeapLemmas.{clash}
 use Rattle.tcl_tree.proofs.MakeLemmas.{descend_less}
-use Rattle.tcl_tree.proofs.ComparingLemmas.{SameBelow, always, never, both_none, there_alone, views_same, children_same, found, bare_views, whole_views, all_same}
+use Rattle.tcl_tree.proofs.ComparingLemmas.{always, never, both_none, there_alone, views_same, children_same, found, bare_views, whole_views, all_same}
 use Rattle.tcl_tree.proofs.tree.Tree.+same_below.Goals as goal
 
 pub returns-in_default : goal.returns-in_default

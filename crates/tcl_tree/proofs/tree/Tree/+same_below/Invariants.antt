@@ -1,4 +1,4 @@
-use Rattle.std.proofs.Common.{◌≡◌, ◌<◌, ◌-◌, ◌^◌, ℕ, Some}
+use Rattle.std.proofs.Common.{◌-◌, ◌^◌}
 use Rattle.slab.specs.Slab.{get}
 use Rattle.tcl_tree.specs.Nodes.{level_in}
 use Rattle.tcl_tree.proofs.ComparingLemmas.{SameChildren}

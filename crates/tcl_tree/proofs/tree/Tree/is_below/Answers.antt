@@ -1,8 +1,6 @@
-use Rattle.std.proofs.Common.{◌≡◌, ℕ, [], Some, refl, sym, ◌∙◌, ap}
-use Rattle.slab.specs.Slab.{get}
-use Rattle.tcl_tree.specs.Nodes.{IsBelow}
+use Rattle.std.proofs.Common.{[], sym}
 use Rattle.tcl_tree.proofs.HeapLemmas.{follow-nil}
-use Rattle.tcl_tree.proofs.ComparingLemmas.{always, never}
+use Rattle.tcl_tree.proofs.ComparingLemmas.{never}
 use Rattle.tcl_tree.proofs.CopyLemmas.{none_below, root_below, up_less, up_below, parent_is_below}
 use Rattle.tcl_tree.proofs.tree.Tree.is_below.Goals as goal
 

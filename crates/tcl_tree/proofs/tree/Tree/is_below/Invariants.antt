@@ -1,4 +1,3 @@
-use Rattle.std.proofs.Common.{◌≡◌, ℕ}
 use Rattle.slab.specs.Slab.{get}
 use Rattle.tcl_tree.specs.Nodes.{IsBelow, level_in}
 use Rattle.tcl_tree.proofs.tree.Tree.is_below.Given as goal

@@ -1,6 +1,5 @@
-use Rattle.std.proofs.Common.{◌≡◌, ℕ, true, false, inl, sym, ◌∙◌}
+use Rattle.std.proofs.Common.{◌≡◌, true, false, inl, sym, ◌∙◌}
 use Rattle.slab.proofs.SlabLemmas.{Contains-entries}
-use Rattle.tcl_tree.specs.Nodes.{IsBelow}
 use Rattle.tcl_tree.proofs.StepLemmas.{leads_somewhere}
 use Rattle.tcl_tree.proofs.CopyLemmas.{clone_same, shapes_removed, left_removed, all_left_out}
 use Rattle.tcl_tree.proofs.tree.Tree.subtable.Goals as goal
