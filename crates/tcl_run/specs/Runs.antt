@@ -1,5 +1,5 @@
 -- How a run goes through the table of interpreters.
-use Rattle.std.specs.Prelude.{◌≡◌, ℕ, ◌<◌, ◌≤◌, ◌-◌, List, [], Option, Some, None, Result, Ok, Err}
+use Rattle.std.specs.Prelude.{◌≡◌, ℕ, ◌<◌, ◌≤◌, ◌-◌, ◌++◌, List, [], Option, Some, None, Result, Ok, Err}
 use Rattle.std.specs.Option.{option_map}
 use Rattle.tcl_core.specs.Paths.{Place, Path}
 use Rattle.tcl_core.specs.Endings.{Reply}
@@ -45,20 +45,20 @@ limit_in (Some m) = m.1
 abbrev pub depth_at : Tree Own → Place → ℕ
 depth_at T p = depth_in (meters_at T p)
 
--- an evaluation is in progress there
+-- an evaluation is in progress there, and in all above it
 abbrev pub InUse : Tree Own → Place → Type 0
-InUse T p = 0 < depth_at T p
+InUse T p = (a b : Path) → a ++ b ≡ p → 0 < depth_at T a
 
 -- how much deeper an evaluation in the tree can go
 abbrev pub room : Tree Own → ℕ
 room T = 1000 - depth_at T []
 
--- What an evaluation leaves as it is: what is in use keeps its key, and each interpreter its depth.
+-- What an evaluation leaves as it is: what is in use keeps its key and its depth.
 pub record IsSteady (old new : table.Tree) : Type 0 where
   pub marks : marks_of new ≡ marks_of old
   pub keys : (q : Path) (k : ℕ) → key_of old q ≡ Some k → InUse (tree_of old) q → key_of new q ≡ Some k
-  pub depths : (q : Path) → depth_at (tree_of new) q ≡ depth_at (tree_of old) q
-  -- (the same of the top, for measures of how much deeper an evaluation can go)
+  pub depths : (q : Path) → InUse (tree_of old) q → depth_at (tree_of new) q ≡ depth_at (tree_of old) q
+  -- and the top its depth, in use or not, since that measures how much deeper an evaluation can go
   pub top : depth_at (tree_of new) [] ≡ depth_at (tree_of old) []
 
 -- What a change of own parts, or of counts, leaves as it is: all keys, and all depths with their limits.
