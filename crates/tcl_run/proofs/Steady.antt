@@ -39,7 +39,7 @@ meters_charged T U p q e = ap (λ (V : Tree Own). meters_at V q) e ∙ by (strip
 
 -- what is in used is so one level deeper
 pub deeper_in_use : (T U : Tree Own) (p q : Path) → U ≡ effect p Nested T → InUse T q → InUse U q
-deeper_in_use T U p q e used = subst (λ (V : Tree Own). 0 < depth_at V q) (sym e) (by (strip q p) (T q) used)
+deeper_in_use T U p q e used = λ a b is. subst (λ (V : Tree Own). 0 < depth_at V a) (sym e) (by (strip a p) (T a) (used a b is))
   where
     by : (s : Option Path) (o : Option (Node Own)) → 0 < depth_in (option_map meters_of o) → 0 < depth_in (option_map meters_of (where_some s deeper o))
     by None o h = h
@@ -116,7 +116,7 @@ pub begun_at : (s t : Table) (place : TablePlace) (p : Path) → Names s place p
 begun_at s t place p at e = begun (tree_of s) (tree_of t) p e (line_there s p place.key at)
 
 pub steady-refl : (t : Table) → IsSteady t t
-steady-refl t = record { marks = refl; keys = λ q k at used. at; depths = λ q. refl; top = refl }
+steady-refl t = record { marks = refl; keys = λ q k at used. at; depths = λ q used. refl; top = refl }
 
 pub level_steady : (s t : Table) → IsLevel s t → IsSteady s t
 level_steady s t l = record {

@@ -19,7 +19,9 @@ use Rattle.tcl_tree.specs.declared.tree.Place as table_place
 use Rattle.tcl_text.specs.declared.integer.Integers.{Integers}
 use Rattle.tcl_language.specs.Instructions.{Instr, Program, with_chain}
 use Rattle.tcl_language.specs.Language.{language}
+use Rattle.tcl_core.specs.Entries.{Answer}
 use Rattle.tcl_run.specs.Ends.{IfEnded}
+use Rattle.tcl_run.specs.Outsides.{staged}
 use Rattle.tcl_run.specs.declared.interruption.Interruption.{Interruption}
 
 -- From a tree and a state of the outside the program at the place may end so, with these left.
@@ -90,12 +92,14 @@ pub record IsAt (t : table.Tree) (place : table_place.Place) (p : Path) (style :
   pub running : InUse (tree_of t) p
 
 -- What came of a program in the interpreter that the place names, where an evaluation is in progress.
-abbrev pub Evaluates : {S : Type 0} → (S → Event Own → S → Type 0) → table.Tree → S → table_place.Place → (Integers → Program) → table.Tree → S → Result (List ℕ) Interruption → Type 0
-Evaluates goes old o place program new z result = IfEnded result (λ r. (p : Path) (style : Integers) → IsAt old place p style → Comes goes (language style) (tree_of old) o p (program style) (tree_of new) z r)
+abbrev pub Evaluates : {S : Type 0} → (S → Event Own → Answer → S → Type 0) → table.Tree → S → table_place.Place → (Integers → Program) → table.Tree → S → Result (List ℕ) Interruption → Type 0
+Evaluates goes old o place program new z result =
+    IfEnded result (λ r. (p : Path) (style : Integers) → IsAt old place p style → Comes (staged goes) (language style) (tree_of old) (o, None) p (program style) (tree_of new) (z, None) r)
 
 -- the same, wherever the place is
-abbrev pub EvaluatesAt : {S : Type 0} → (S → Event Own → S → Type 0) → table.Tree → S → table_place.Place → (Integers → Program) → table.Tree → S → Result (List ℕ) Interruption → Type 0
-EvaluatesAt goes old o place program new z result = IfEnded result (λ r. (p : Path) (style : Integers) → IsThere old place p style → Comes goes (language style) (tree_of old) o p (program style) (tree_of new) z r)
+abbrev pub EvaluatesAt : {S : Type 0} → (S → Event Own → Answer → S → Type 0) → table.Tree → S → table_place.Place → (Integers → Program) → table.Tree → S → Result (List ℕ) Interruption → Type 0
+EvaluatesAt goes old o place program new z result =
+    IfEnded result (λ r. (p : Path) (style : Integers) → IsThere old place p style → Comes (staged goes) (language style) (tree_of old) (o, None) p (program style) (tree_of new) (z, None) r)
 
 -- the own part at p has another chain, where there is one
 abbrev pub Rechained : Tree Own → Place → Own → Result Chain FrameFault → Tree Own → Type 0
