@@ -17,7 +17,7 @@ use Rattle.tcl_tree.proofs.CoreLemmas.{tree_there}
 use Rattle.tcl_tree.proofs.StepLemmas.{follow_append}
 use Rattle.tcl_tree.specs.declared.tree.Tree.{Tree as Table}
 use Rattle.tcl_tree.specs.declared.tree.Place.{Place as TablePlace}
-use Rattle.tcl_run.specs.Runs.{meters_of, meters_at, depth_in, limit_in, depth_at, InUse, IsSteady, IsLevel, IsAt, room}
+use Rattle.tcl_run.specs.Runs.{meters_of, meters_at, depth_in, limit_in, depth_at, InUse, IsSteady, IsLevel, IsAt, IsRunning, room}
 use Rattle.tcl_text.specs.declared.integer.Integers.{Integers}
 
 pub meters_changed : (T U : Tree Own) (p q : Path) (own : Own) → U ≡ effect p (Changed own) T → meters_at U q ≡ meters_at T q
@@ -147,6 +147,9 @@ still_at s t place p style h at = record {
   style_is = ap (λ m. m.integers) h.marks ∙ at.style_is;
   running = still_in_use s t p h at.running;
 }
+
+pub still_running : (s t : Table) (place : TablePlace) → IsSteady s t → IsRunning s place → IsRunning t place
+still_running s t place h r = (r.0, h.keys r.0 place.key r.1 r.2, still_in_use s t r.0 h r.2)
 
 pub charged_level : (s t : Table) (p : Path) → marks_of t ≡ marks_of s → ((q : Path) → key_of t q ≡ key_of s q) → tree_of t ≡ effect p Charged (tree_of s) → IsLevel s t
 charged_level s t p m k e = record { marks = m; keys = k; meters = λ q. meters_charged (tree_of s) (tree_of t) p q e }

@@ -1,0 +1,7 @@
+//! The evaluation of scripts over a tree of interpreters.
+#![tactic(auto)]
+
+mod commands;
+mod control;
+pub mod crossing;
+pub mod evaluation;
