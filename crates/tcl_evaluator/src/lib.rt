@@ -5,3 +5,5 @@ mod commands;
 mod control;
 pub mod crossing;
 pub mod evaluation;
+pub mod hosting;
+pub mod running;
