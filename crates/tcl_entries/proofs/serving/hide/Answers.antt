@@ -1,0 +1,25 @@
+use Rattle.std.proofs.Common.{◌≡◌, ◌∙◌, Bool, true, false, List, ℕ, Some, None, refl, sym, ap, subst}
+use Rattle.std.specs.Prelude.{Ok, Err, is_some, not}
+use Rattle.std.proofs.lemmas.Result.{err_from_is_err_and}
+use Rattle.tcl_core.specs.Paths.{Path, Text}
+use Rattle.tcl_core.specs.Trees.{Node}
+use Rattle.tcl_language.specs.Naming as language
+use Rattle.tcl_tree.specs.Naming as tree
+use Rattle.tcl_tree.specs.Own.{Own}
+use Rattle.tcl_tree.specs.TreeOf.{tree_of, Names}
+use Rattle.tcl_entries.proofs.serving.hide.Goals as goal
+
+pub returns-in_err-kept-clause-acts : goal.returns-in_err-kept-clause-acts
+returns-in_err-kept-clause-acts c = ?
+
+pub returns-then-names_child-clause-acts : goal.returns-then-names_child-clause-acts
+returns-then-names_child-clause-acts c = ?
+
+pub returns-in-Ok-clause-acts : goal.returns-in-Ok-clause-acts
+returns-in-Ok-clause-acts c = ?
+
+pub returns-in-Ok-clause-level : goal.returns-in-Ok-clause-level
+returns-in-Ok-clause-level c = ?
+
+pub returns-clause-acts : goal.returns-clause-acts
+returns-clause-acts c = ?
