@@ -4,6 +4,7 @@ use Rattle.std.specs.Prelude.{Result, Ok, Err, is_some, not, ◌&&◌, ◌||◌,
 use Rattle.std.specs.Map.{remove_entry}
 use Rattle.std.specs.Str.{bytes_eq}
 use Rattle.tcl_core.specs.Paths.{Text}
+use Rattle.tcl_language.specs.Interpreters.{refusal_text}
 use Rattle.tcl_language.specs.Naming as language
 use Rattle.tcl_language.specs.Naming.{command_name, of_global, without_colons}
 use Rattle.tcl_language.specs.Names.{is_name}
@@ -16,6 +17,7 @@ use Rattle.tcl_tree.specs.declared.command.Command.TheVariants as command
 use Rattle.tcl_tree.specs.declared.refusal.Refusal.{Refusal}
 use Rattle.tcl_tree.specs.declared.refusal.Refusal.TheVariants as refusal
 use Rattle.tcl_variables.specs.Names.{colons_after, has_colons, after_colons}
+use Rattle.tcl_entries.specs.Naming.{hiding_text}
 
 -- ## Colons
 
@@ -86,6 +88,14 @@ with_words x h (Err e) = Err (e, h)
 abbrev pub hiding_word : Text → Text → Refusal → Text
 hiding_word x h refusal.NoCommand = x
 hiding_word x h e = h
+
+pub words_err : (x h : Text) (e : Refusal) → with_words x h (Err e) ≡ Err (e, hiding_word x h e)
+words_err x h refusal.NoCommand = refl
+words_err x h e = refl
+
+pub hiding_same : (x h : Text) (e : Refusal) → hiding_text e x h ≡ refusal_text e (hiding_word x h e)
+hiding_same x h refusal.NoCommand = refl
+hiding_same x h e = refl
 
 put_is : (x h : Text) (a b : Bool) (own : Own) → b ≡ a → (d : Bool) →
     cond a (Err (refusal.BadName, h)) (cond d (Err (refusal.Exists, h)) (Ok own)) ≡ with_words x h (cond (not b) (cond d (Err refusal.Exists) (Ok own)) (Err refusal.BadName))

@@ -1,6 +1,6 @@
 -- What an interpreter does where it is asked for something that evaluates nothing.
 use Rattle.std.proofs.Common.{◌≡◌, ◌⊎◌, inl, inr, ℕ, zero, suc, ◌<◌, ◌≤◌, Bool, true, false, List, [], ◌∷◌, ◌++◌, length, Option, Some, None, refl, sym, ◌∙◌, ap, subst, append-nil, arith}
-use Rattle.std.specs.Prelude.{Result, Ok, Err, is_some, codes, nat_le, ◌&&◌, ◌||◌, IsSome}
+use Rattle.std.specs.Prelude.{Result, Ok, Err, IfOk, IfErr, is_some, codes, nat_le, ◌&&◌, ◌||◌, IsSome}
 use Rattle.std.specs.Option.{option_map}
 use Rattle.std.specs.Fmt.{decimal}
 use Rattle.std.specs.Map.{lookup}
@@ -18,7 +18,8 @@ use Rattle.tcl_core.specs.Programs.Prog.{done, act}
 use Rattle.tcl_core.specs.Trees.{Tree, Node, effect, at, at_end, where_some, with_own, with_limit, with_depth_limit}
 use Rattle.tcl_core.specs.Trees.What.{Changed, Made, Dropped, Limited, DepthLimited}
 use Rattle.tcl_core.proofs.PathLaws.{strip_own}
-use Rattle.tcl_language.specs.Instructions.{Program, either, fails, look, change, or_fails}
+use Rattle.tcl_core.specs.Entries.{Question}
+use Rattle.tcl_language.specs.Instructions.{Program, either, fails, fits, gives, too_long, look, change, or_fails}
 use Rattle.tcl_language.specs.Interpreters as interpreters
 use Rattle.tcl_language.specs.Interpreters.{renaming, done_so, refused_text, refusal_text}
 use Rattle.tcl_language.specs.Naming as language
@@ -30,7 +31,7 @@ use Rattle.tcl_run.specs.Plain.{Does, Acts}
 use Rattle.tcl_run.specs.Runs.{IsThere}
 use Rattle.tcl_run.specs.declared.interruption.Interruption.{Interruption}
 use Rattle.tcl_run.specs.declared.interruption.Interruption.TheVariants as interruption
-use Rattle.tcl_run.proofs.Endings.{Interrupts-more}
+use Rattle.tcl_run.proofs.Endings.{Interrupts-more, IfEnded-more}
 use Rattle.tcl_run.proofs.Plain.{does_look, does_read, does_fail, does_change, does_to}
 use Rattle.tcl_run.proofs.Steady.{stands}
 use Rattle.tcl_text.specs.declared.integer.Integers.{Integers}
@@ -367,3 +368,28 @@ renaming_bad t place f x i bad told = Interrupts-more i (λ e. (command_name x �
     does_look (tree_of t) (tree_of t) p r n.0 (λ m. or_fails refused_text (f m.own) (λ own. change own done_so)) n.1
     (does_fail (tree_of t) p refused_text (f n.0.own) (λ own. change own done_so) r
     (subst (λ (y : language.Named). IsFailure refused_text y r) (sym (bad p n.0 at.names n.1 h.0)) h.1))) told
+
+-- a child that is given no name
+pub create_unnamed : (t u : Table) (place : TablePlace) (name : Text) (safe : Bool) (r : Result Text Interruption) → ((p : Path) (n : Node Own) → Names t place p → tree_of t p ≡ Some n → name ≡ interpreters.free_name n.own) →
+    Acts t place (λ style. interpreters.creates name safe) u r → Acts t place (λ style. look (λ n. interpreters.creates (interpreters.free_name n.own) safe)) u r
+create_unnamed t u place name safe r named acts = IfEnded-more r (EndsAt t place (interpreters.creates name safe) (tree_of u)) (EndsAt t place (look (λ n. interpreters.creates (interpreters.free_name n.own) safe)) (tree_of u)) (λ e d p style at.
+    let n = there t place p at.names in
+    does_look (tree_of t) (tree_of u) p e n.0 (λ m. interpreters.creates (interpreters.free_name m.own) safe) n.1
+    (subst (λ (x : Text). Does (interpreters.creates x safe) (tree_of t) p (tree_of u) e) (named p n.0 at.names n.1) (d p style at))) acts
+
+-- ## Questions
+
+pub answered : (t : Table) (place : TablePlace) (q : Question) (text : Text) (r : Result Text Interruption) → ((p : Path) (n : Node Own) → Names t place p → tree_of t p ≡ Some n → text ≡ interpreters.answer q n) →
+    IfOk r (λ v. (v ≡ text) × (fits text ≡ true)) → IfErr r (λ i. Interrupts i (λ e. (fits text ≡ false) × (e ≡ Completed too_long))) → Acts t place (λ style. interpreters.answers q) t r
+answered t place q text (Ok v) is whole refused = λ p style at.
+    let n = there t place p at.names in
+    does_look (tree_of t) (tree_of t) p (Completed (ok v)) n.0 (λ m. gives (interpreters.answer q m)) n.1 (
+      refl,
+      ap (λ (x : Text). Completed (ok x)) whole.0 ∙ sym (ap (λ (b : Bool). Completed (either b (ok text) too_long)) whole.1) ∙ ap (λ (x : Text). Completed (either (fits x) (ok x) too_long)) (is p n.0 at.names n.1),
+    )
+answered t place q text (Err i) is whole refused = Interrupts-more i (λ e. (fits text ≡ false) × (e ≡ Completed too_long)) (EndsAt t place (interpreters.answers q) (tree_of t)) (λ e h p style at.
+    let n = there t place p at.names in
+    does_look (tree_of t) (tree_of t) p e n.0 (λ m. gives (interpreters.answer q m)) n.1 (
+      refl,
+      h.1 ∙ sym (ap (λ (b : Bool). Completed (either b (ok text) too_long)) h.0) ∙ ap (λ (x : Text). Completed (either (fits x) (ok x) too_long)) (is p n.0 at.names n.1),
+    )) refused

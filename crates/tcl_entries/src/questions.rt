@@ -69,11 +69,7 @@ fn truth_text(alloc: Global, truth: bool) -> Result<Text, AllocError>
 }
 
 /// Adds the name of a command, if that is an alias.
-fn push_alias(
-    names: &mut Vec<Text>,
-    name: &Text,
-    command: &Command,
-) -> Result<(), AllocError>
+fn push_alias(names: &mut Vec<Text>, name: &Text, command: &Command) -> Result<(), AllocError>
     ensures { (rest : Path) → OnOk result (names.new.items ++ rest ≡ names.old.items ++ interpreters.alias_only name.now command.now rest) }
 {
     match command {
@@ -88,11 +84,7 @@ fn push_alias(
 }
 
 /// Adds the name of the command at a place in their order, if that is an alias.
-fn push_alias_at(
-    names: &mut Vec<Text>,
-    commands: &Commands,
-    index: usize,
-) -> Result<(), AllocError>
+fn push_alias_at(names: &mut Vec<Text>, commands: &Commands, index: usize) -> Result<(), AllocError>
     requires { index < length commands.now.entries }
     ensures { OnOk result (names.new.items ++ interpreters.aliases_in (drop (index + 1) commands.now.entries) ≡ names.old.items ++ interpreters.aliases_in (drop index commands.now.entries)) }
 {
@@ -195,7 +187,10 @@ fn answer_text(alloc: Global, node: &Node, question: &Question) -> Result<Text, 
         Question::IsSafe => truth_text(alloc, node.state.safe),
         Question::Aliases => list_text(alloc, alias_names(alloc, &node.state.commands)?.as_slice()),
         Question::AliasOf(name) => {
-            list_text(alloc, words_of(alloc, node.state.commands.get(name))?.as_slice())
+            list_text(
+                alloc,
+                words_of(alloc, node.state.commands.get(name))?.as_slice(),
+            )
         }
         Question::Hidden => list_text(alloc, keys_of(alloc, &node.state.hidden)?.as_slice()),
         Question::Slaves => list_text(alloc, keys_of(alloc, &node.children)?.as_slice()),

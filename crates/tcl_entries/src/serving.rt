@@ -95,12 +95,7 @@ pub fn hide(
     }
     match tree.hide_at(place, &kept, hidden.clone()?) {
         Ok(()) => Ok(Value::empty()),
-        Err(refusal) => Err(hiding_failure(
-            alloc,
-            refusal,
-            name.as_str(),
-            hidden.as_str(),
-        )),
+        Err(refusal) => Err(hiding_failure(alloc, refusal, name.as_str(), hidden.as_str())),
     }
 }
 

@@ -7,7 +7,7 @@ use Rattle.tcl_language.specs.Naming as language
 use Rattle.tcl_tree.specs.Naming as tree
 use Rattle.tcl_tree.specs.Own.{Own}
 use Rattle.tcl_tree.specs.TreeOf.{tree_of, Names}
-use Rattle.tcl_language.specs.Interpreters.{refusal_text}
+use Rattle.tcl_language.specs.Interpreters.{renaming, done_so, refusal_text}
 use Rattle.std.proofs.Common.{inr}
 use Rattle.tcl_entries.specs.Naming.{Tells}
 use Rattle.tcl_entries.proofs.Changing.{cleared_is, bad_cleared, with_word}
@@ -18,7 +18,7 @@ use Rattle.tcl_entries.proofs.serving.clear_alias.Goals as goal
 pub returns-in_err-kept-clause-acts : goal.returns-in_err-kept-clause-acts
 returns-in_err-kept-clause-acts c =
     let p = err_from_is_err_and c.from_residual.result c.from_residual.ensures.1 in
-    passed_acts c.args.tree.now c.args.tree.now c.args.place _ c.from_residual.result c.in_err-kept.field-0.0 p.0 p.1 p.2
+    passed_acts c.args.tree.now c.args.tree.now c.args.place (renaming done_so (λ own. language.cleared own c.args.name.now)) c.from_residual.result c.in_err-kept.field-0.0 p.0 p.1 p.2
     (renaming_bad c.args.tree.now c.args.place (λ own. language.cleared own c.args.name.now) c.args.name.now c.in_err-kept.field-0.0
     (λ q n at is e. bad_cleared n.own c.args.name.now e) c.in_err-kept.ensures.refused)
 

@@ -28,5 +28,5 @@ pub returns-in-Ok-clause-steady : goal.returns-in-Ok-clause-steady
 returns-in-Ok-clause-steady c = created_steady c.args.tree.now c.create_at.new.self c.args.place c.args.name.now c.args.safe c.in-Ok.ensures.marks c.in-Ok.ensures.keys c.requires c.in-Ok.ensures.may c.in-Ok.ensures.made
 
 pub returns-in-Err-clause-acts : goal.returns-in-Err-clause-acts
-returns-in-Err-clause-acts c = create_refused c.args.tree.now c.create_at.new.self c.args.place c.args.name.now c.args.safe ? c.in-Err.ensures.unchanged c.in-Err.refusal c.making_failure.result c.requires c.in-Err.ensures.refused
+returns-in-Err-clause-acts c = create_refused c.args.tree.now c.create_at.new.self c.args.place c.args.name.now c.args.safe c.in_default.ensures.missing c.in-Err.ensures.unchanged c.in-Err.refusal c.making_failure.result c.requires c.in-Err.ensures.refused
     (subst (λ (x : Text). Tells c.in-Err.refusal (making_text c.in-Err.refusal x) c.making_failure.result) c.as_str-in-Err.ensures c.making_failure.ensures)
