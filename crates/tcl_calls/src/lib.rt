@@ -5,6 +5,7 @@
 pub mod carrying;
 pub mod catching;
 pub mod expressions;
+pub mod levels;
 pub mod lookup;
 pub mod procedures;
 pub mod scripts;

@@ -17,11 +17,14 @@ use Rattle.tcl_flow.specs.Stopping.{reply_of}
 use Rattle.tcl_flow.specs.View.{completion_of}
 use Rattle.tcl_language.specs.Faults.{lost_alias}
 use Rattle.tcl_language.specs.Instructions.{Instr, Program}
-use Rattle.tcl_language.specs.Instructions.Instr.{Script, Call, Target}
+use Rattle.tcl_language.specs.Instructions.Instr.{Script, Call, Target, Hidden}
 use Rattle.tcl_language.specs.Interpreters.{call_alias, finished}
 use Rattle.tcl_language.specs.Language.{language}
 use Rattle.tcl_language.specs.Scripts.{script}
-use Rattle.tcl_language.specs.Table.{called, serve, settled, some_words}
+use Rattle.tcl_language.specs.Faults.{invalid_command, invalid_hidden}
+use Rattle.tcl_language.specs.Table.{called, dispatch, invoked, serve, settled, some_words}
+use Rattle.tcl_tree.specs.declared.command.Command.{Command}
+use Rattle.tcl_tree.specs.declared.command.Command.TheVariants as command
 use Rattle.tcl_run.specs.declared.interruption.Interruption.{Interruption}
 use Rattle.tcl_run.specs.declared.interruption.Interruption.TheVariants as interruption
 use Rattle.tcl_run.specs.Ends.{Interrupts, IfEnded, failing, too_deep_at}
@@ -33,7 +36,14 @@ use Rattle.tcl_text.specs.declared.integer.Integers.{Integers}
 use Rattle.tcl_tree.specs.Commands.{AliasView}
 use Rattle.tcl_tree.specs.Own.{Own}
 use Rattle.tcl_calls.specs.Carrying.{Carries, Settles}
-use Rattle.tcl_evaluator.specs.View.{targeted}
+use Rattle.tcl_evaluator.specs.View.{targeted, unhidden}
+
+-- what there is is done, whatever is told where there is none
+pub same_dispatch : (style : Integers) (word : Text) (args : List Text) (c : Command) → dispatch style word args invalid_hidden (Some c) ≡ dispatch style word args invalid_command (Some c)
+same_dispatch style word args (command.Builtin b) = refl
+same_dispatch style word args (command.Procedure p) = refl
+same_dispatch style word args (command.Alias a) = refl
+same_dispatch style word args command.Child = refl
 
 -- ## How ends are told
 
@@ -79,6 +89,13 @@ module _ {S : Type 0} {goes : S → Event Own → S → Type 0} (style : Integer
 
   pub target_refused : {T U : Tree Own} {o : S} {p : Path} {r : Reply} (words : List Text) (n : ℕ) → blocked is_deep T p ≡ Some n → U ≡ T → r ≡ too_deep_at n → Comes goes (language style) T o p (targeted words) U o r
   target_refused words n full same e = at_finish same (at_reply e (nest_refused {i = Call words} n full))
+
+  pub unhidden_ends : {T U V W : Tree Own} {o z : S} {p : Path} {r : Reply} (words : List Text) → blocked is_deep T p ≡ None → U ≡ effect p Nested T → W ≡ effect p Unnested V →
+      Comes goes (language style) U o p (invoked style words) V z r → Comes goes (language style) T o p (unhidden words) W z r
+  unhidden_ends words free e f t = nests_done {i = Hidden words} free e f t
+
+  pub unhidden_refused : {T U : Tree Own} {o : S} {p : Path} {r : Reply} (words : List Text) (n : ℕ) → blocked is_deep T p ≡ Some n → U ≡ T → r ≡ too_deep_at n → Comes goes (language style) T o p (unhidden words) U o r
+  unhidden_refused words n full same e = at_finish same (at_reply e (nest_refused {i = Hidden words} n full))
 
   pub entry_stops : {T U : Tree Own} {o : S} {p : Path} {r : Reply} (words : List Text) → StopsCounting T p U r → Comes goes (language style) T o p (serve style (CallWords words)) U o r
   entry_stops words s = at_finish s.same (at_reply s.stop (charge_stops s.levels s.full))

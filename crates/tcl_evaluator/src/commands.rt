@@ -2,15 +2,16 @@
 ghost use Rattle.std.specs.Prelude.{◌≡◌, ◌≤◌, ◌∷◌, Some, IfOk};
 ghost use Rattle.tcl_language.specs.Control.{procedure as procedure_program};
 ghost use Rattle.tcl_language.specs.Faults as faults;
-ghost use Rattle.tcl_language.specs.Table.{called, dispatch, builtin as builtin_program};
+ghost use Rattle.tcl_language.specs.Table.{called, dispatch, invoked, builtin as builtin_program};
 ghost use Rattle.tcl_run.specs.Runs.{Evaluates, IsRunning, IsSteady};
 ghost use Rattle.tcl_evaluator.specs.View.{LeavesProc};
 
 use crate::control::{catch, eval};
 use crate::crossing::call_alias;
+use crate::interpreters::interp;
 use crate::evaluation::eval_value;
 use std::alloc::{AllocError, Global};
-use tcl_calls::lookup::find_command;
+use tcl_calls::lookup::{find_command, find_hidden};
 use tcl_calls::procedures::{bind, enter_frame, leave_frame, wrong_form};
 use tcl_flow::completion::leave_proc;
 use tcl_run::interruption::Interruption;
@@ -39,6 +40,27 @@ pub fn call<O: Outside>(
         return Ok(Value::empty());
     };
     let command = find_command(tree, alloc, place, word)?;
+    call_command(tree, alloc, outside, place, &command, word, args)
+}
+
+/// Calls the hidden command that the first word names, with the others.
+#[cycle(eval)]
+pub fn call_hidden<O: Outside>(
+    tree: &mut Tree,
+    alloc: Global,
+    outside: &mut O,
+    place: Place,
+    words: &[Value],
+) -> Result<Value, Interruption>
+    requires { IsRunning tree.old place }
+    ensures runs { Evaluates O.goes tree.old outside.old place (λ style. invoked style words.now) tree.new outside.new result }
+    ensures steady { IsSteady tree.old tree.new }
+    ensures left { O.entries_left outside.new ≤ O.entries_left outside.old }
+{
+    let [word, args @ ..] = words else {
+        return Ok(Value::empty());
+    };
+    let command = find_hidden(tree, alloc, place, word)?;
     call_command(tree, alloc, outside, place, &command, word, args)
 }
 
@@ -89,6 +111,7 @@ fn call_builtin<O: Outside>(
     match builtin {
         Builtin::Eval => eval(tree, alloc, outside, place, args),
         Builtin::Catch => catch(tree, alloc, outside, place, args),
+        Builtin::Interp => interp(tree, alloc, outside, place, args),
         _ => Err(Interruption::Memory),
     }
 }

@@ -6,4 +6,5 @@ mod control;
 pub mod crossing;
 pub mod evaluation;
 pub mod hosting;
+mod interpreters;
 pub mod running;

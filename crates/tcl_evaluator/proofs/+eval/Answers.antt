@@ -46,7 +46,25 @@ use Rattle.tcl_calls.specs.Found.{found}
 use Rattle.tcl_evaluator.proofs.Steps.{split_first}
 use Rattle.tcl_evaluator.proofs.Found.{call_found, call_missing}
 use Rattle.tcl_evaluator.proofs.Catching.{caught_ok, caught_err, eval_runs, eval_long, eval_none, catch_goes, catch_passes, catch_none, catch_many}
-use Rattle.tcl_evaluator.specs.View.{targeted}
+use Rattle.tcl_evaluator.specs.View.{targeted, unhidden, invokes_at}
+use Rattle.std.proofs.Common.{Bool, false}
+use Rattle.std.specs.Prelude.{Err}
+use Rattle.tcl_run.specs.Outsides.{staged}
+use Rattle.tcl_run.specs.Runs.{IsThere}
+use Rattle.tcl_text.specs.declared.integer.Integers.{Integers}
+use Rattle.tcl_entries.specs.Asking.{GoesOn}
+use Rattle.tcl_entries.proofs.Carried.{asks_nobody}
+use Rattle.tcl_entries.proofs.Reached.{never_outside}
+use Rattle.tcl_core.specs.Programs.Prog.{done}
+use Rattle.tcl_language.specs.Interpreters.{asks_at, eval as interp_evals}
+use Rattle.tcl_language.specs.Words.{concat}
+use Rattle.tcl_run.specs.Runs.{IsAt}
+use Rattle.tcl_run.proofs.Leads.{grows, outgrows}
+use Rattle.tcl_evaluator.proofs.Entered.{entered, evals, eval_is, eval_few, done_on, hidden_stops, hidden_settles, invokes_here, invokes_global}
+use Rattle.tcl_core.specs.Entries.Entry.{Eval, InvokeHidden}
+use Rattle.tcl_language.specs.Table.{invoked}
+use Rattle.tcl_calls.specs.Found.{hidden_found}
+use Rattle.tcl_evaluator.proofs.Found.{invoke_found, invoke_missing}
 use Rattle.tcl_core.specs.Entries.Entry.{CallWords}
 use Rattle.tcl_language.specs.Interpreters.{call_alias as alias_program}
 use Rattle.tcl_language.specs.Table.{serve}
@@ -56,7 +74,7 @@ use Rattle.tcl_core.specs.Runs.{carried}
 use Rattle.tcl_language.specs.Faults.{lost_alias}
 use Rattle.tcl_run.specs.Outsides.{IsCalled}
 use Rattle.tcl_run.specs.Runs.{InUse}
-use Rattle.tcl_evaluator.proofs.Targets.{carried_ends, settled_more, target_ends, target_refused, entry_stops, entry_calls, entry_evaluates, alias_goes, alias_missing, alias_leaves, called_as}
+use Rattle.tcl_evaluator.proofs.Targets.{carried_ends, settled_more, target_ends, target_refused, entry_stops, entry_calls, entry_evaluates, unhidden_ends, unhidden_refused, same_dispatch, alias_goes, alias_missing, alias_leaves, called_as}
 use Rattle.tcl_evaluator.proofs.+eval.Goals as goal
 
 -- the words of a command
@@ -603,3 +621,188 @@ crossing::call_alias-returns-in_ok-caller-in-Outside-clause-runs g t c =
     alias_leaves g.O.Outside.goes style c.args.alias.now c.args.word.now c.args.args.now c.in_ok-words.words.items (c.in_ok-words.ensures ∙ ap (λ (ws : List (List ℕ)). ws ++ c.args.args.now) c.words.ensures) w
     (called_as g.O.Outside.goes c.args.outside.now c.call_past_top.new.self e _ q _ c.args.alias.now.up _ c.args.alias.now.down _ c.in_ok-words.words.items
     (c.as_slice.ensures.value ∙ c.in_ok-caller-in-Outside.ensures q at.names ∙ whole_path c.args.tree.now q _ at.names) out c.down-in-Outside.ensures c.as_slice-in-Outside.ensures.value h)) c.call_past_top.ensures.called
+
+pub crossing::serve_eval-returns-clause-runs : goal.crossing::serve_eval-returns-clause-runs
+crossing::serve_eval-returns-clause-runs g t c =
+    settled_more c.eval_value-ended.result c.settled.result
+    (EndsAt g.O.Outside.goes c.args.tree.now c.args.outside.now c.args.place (λ style. script c.args.script.now) c.eval_value-ended.new.tree c.eval_value-ended.new.outside)
+    (EndsAt g.O.Outside.goes c.args.tree.now c.args.outside.now c.args.place (λ style. serve style (Eval c.args.script.now)) c.eval_value-ended.new.tree c.eval_value-ended.new.outside)
+    c.eval_value-ended.ensures.runs c.settled.ensures (λ e f h l q style at. entry_evaluates style c.args.script.now e f l (h q style at))
+
+-- hidden commands
+
+pub crossing::invoke-returns-in-Err-clause-runs : goal.crossing::invoke-returns-in-Err-clause-runs
+crossing::invoke-returns-in-Err-clause-runs g t c = Interrupts-more c.too_deep.result (λ e. e ≡ too_deep_at c.in-Err.levels) _ (λ e h q style at.
+    let no = c.in-Err.ensures.refused q at.names in unhidden_refused style c.args.words.now c.in-Err.levels no.0 no.1 h) c.too_deep.ensures
+
+pub crossing::invoke-call_hidden-ended-requires : goal.crossing::invoke-call_hidden-ended-requires
+crossing::invoke-call_hidden-ended-requires g t c κs within =
+    let p = c.requires.0 in
+    let names = c.requires.1 in
+    let free = c.in_default.ensures.nested p names in
+    let top = stands (tree_of c.args.tree.now []) (top_there c.args.tree.now) in
+    let fewer = less_room (tree_of c.args.tree.now) (tree_of c.nest_at.new.self) p top.0 top.1 (c.keeps_form.ensures.most [] top.0 top.1) free.0 free.1 in
+    (search rules, (search rules, (p, c.in_default.ensures.keys p ∙ names, begun_at c.args.tree.now c.nest_at.new.self c.args.place p names free.1)))
+
+pub crossing::invoke-unnest-requires : goal.crossing::invoke-unnest-requires
+crossing::invoke-unnest-requires g t c =
+    let p = c.requires.0 in
+    let names = c.requires.1 in
+    let free = c.in_default.ensures.nested p names in
+    (p, c.call_hidden-ended.ensures.steady.keys p _ (c.in_default.ensures.keys p ∙ names) (begun_at c.args.tree.now c.nest_at.new.self c.args.place p names free.1))
+
+pub crossing::invoke-returns-clause-there : goal.crossing::invoke-returns-clause-there
+crossing::invoke-returns-clause-there g t c = λ p names.
+    let free = c.in_default.ensures.nested p names in
+    c.unnest.ensures.keys p ∙ c.call_hidden-ended.ensures.steady.keys p _ (c.in_default.ensures.keys p ∙ names) (begun_at c.args.tree.now c.nest_at.new.self c.args.place p names free.1)
+
+pub crossing::invoke-returns-clause-runs : goal.crossing::invoke-returns-clause-runs
+crossing::invoke-returns-clause-runs g t c =
+    IfEnded-more c.call_hidden-ended.result
+    (EndsFrom g.O.Outside.goes c.nest_at.new.self c.args.outside.now c.args.place (λ style. invoked style c.args.words.now) c.call_hidden-ended.new.tree c.call_hidden-ended.new.outside)
+    (EndsAt g.O.Outside.goes c.args.tree.now c.args.outside.now c.args.place (λ style. unhidden c.args.words.now) c.unnest.new.self c.call_hidden-ended.new.outside)
+    (λ e h q style at.
+    let free = c.in_default.ensures.nested q at.names in
+    let running = begun_at c.args.tree.now c.nest_at.new.self c.args.place q at.names free.1 in
+    let names = c.in_default.ensures.keys q ∙ at.names in
+    unhidden_ends style c.args.words.now free.0 free.1 (c.unnest.ensures.unnested q (c.call_hidden-ended.ensures.steady.keys q _ names running))
+    (h q style (record { names = names; style_is = ap (λ m. m.integers) c.in_default.ensures.marks ∙ at.style_is; running = running })))
+    c.call_hidden-ended.ensures.runs
+
+pub crossing::invoke-returns-clause-steady : goal.crossing::invoke-returns-clause-steady
+crossing::invoke-returns-clause-steady g t c =
+    let p = c.requires.0 in
+    let names = c.requires.1 in
+    let free = c.in_default.ensures.nested p names in
+    let running = begun_at c.args.tree.now c.nest_at.new.self c.args.place p names free.1 in
+    nested_steady c.args.tree.now c.nest_at.new.self c.call_hidden-ended.new.tree c.unnest.new.self p c.in_default.ensures.marks c.in_default.ensures.keys free.1 c.call_hidden-ended.ensures.steady
+    c.unnest.ensures.marks c.unnest.ensures.keys (c.unnest.ensures.unnested p (c.call_hidden-ended.ensures.steady.keys p _ (c.in_default.ensures.keys p ∙ names) running))
+
+pub commands::call_hidden-returns-in_default-clause-runs : goal.commands::call_hidden-returns-in_default-clause-runs
+commands::call_hidden-returns-in_default-clause-runs g t c = λ q style at.
+    at_prog (ap (invoked style) (no_item c.args.words.now c.in_default.len_below)) (at_reply (ap (λ (x : List ℕ). Completed (ok x)) c.empty.ensures) completed)
+
+pub commands::call_hidden-returns-in_err-command-clause-runs : goal.commands::call_hidden-returns-in_err-command-clause-runs
+commands::call_hidden-returns-in_err-command-clause-runs g t c =
+    let p = err_from_is_err_and c.from_residual.result c.from_residual.ensures.1 in
+    ended_err c.from_residual.result c.in_err-command.field-0.0 p.0 _ _ _ p.1 p.2
+    (Interrupts-at c.in_err-command.field-0.0 c.args.tree.now c.args.place (λ n e. IsFailure itself (hidden_found n c.word-item.result) e) c.in_err-command.ensures)
+    (λ e h q style at. let n = stands (tree_of c.args.tree.now q) (tree_there c.args.tree.now q _ at.names) in
+    at_prog (ap (invoked style) (split_first c.args.words.now c.word-item.result c.in-len1-up.len_at_least c.word-item.is))
+    (invoke_missing style c.word-item.result _ e n.1 (h q n.0 at.names n.1)))
+
+pub commands::call_hidden-returns-clause-runs : goal.commands::call_hidden-returns-clause-runs
+commands::call_hidden-returns-clause-runs g t c =
+    IfEnded-more c.call_command.result
+    (EndsFrom g.O.Outside.goes c.args.tree.now c.args.outside.now c.args.place (λ style. dispatch style c.word-item.result (take (length c.args.words.now - 1) (drop 1 c.args.words.now)) invalid_command (Some c.in_ok-command.command)) c.call_command.new.tree c.call_command.new.outside)
+    (EndsFrom g.O.Outside.goes c.args.tree.now c.args.outside.now c.args.place (λ style. invoked style c.args.words.now) c.call_command.new.tree c.call_command.new.outside)
+    (λ e h q style at. let n = stands (tree_of c.args.tree.now q) (tree_there c.args.tree.now q _ at.names) in
+    at_prog (ap (invoked style) (split_first c.args.words.now c.word-item.result c.in-len1-up.len_at_least c.word-item.is))
+    (invoke_found style c.word-item.result _ c.in_ok-command.command n.1 (c.in_ok-command.ensures q n.0 at.names n.1) (at_prog (same_dispatch style c.word-item.result _ c.in_ok-command.command) (h q style at)))) c.call_command.ensures.runs
+
+pub crossing::serve_hidden-returns-in_err-charge-clause-runs : goal.crossing::serve_hidden-returns-in_err-charge-clause-runs
+crossing::serve_hidden-returns-in_err-charge-clause-runs g t c =
+    let p = err_from_is_err_and c.from_residual-in_err-charge.result c.from_residual-in_err-charge.ensures.1 in
+    ended_err c.from_residual-in_err-charge.result c.in_err-charge.field-0.0 p.0 _ _ _ p.1 p.2 c.in_err-charge.ensures.stopped
+    (λ e h q style at. hidden_stops style c.args.is_global c.args.words.items (h q at.names))
+
+pub crossing::serve_hidden-returns-clause-runs : goal.crossing::serve_hidden-returns-clause-runs
+crossing::serve_hidden-returns-clause-runs g t c =
+    settled_more c.invoke_at-ended.result c.settled.result
+    (λ e. (p : Path) (style : Integers) → IsThere c.charge.new.tree c.args.place p style → GoesOn (staged g.O.Outside.goes) style (tree_of c.charge.new.tree) (c.args.outside.now, None) p (invokes_at c.args.is_global c.as_slice.result.now) (tree_of c.invoke_at-ended.new.tree) (c.invoke_at-ended.new.outside, None) e)
+    (EndsAt g.O.Outside.goes c.args.tree.now c.args.outside.now c.args.place (λ style. serve style (InvokeHidden c.args.is_global c.args.words.items)) c.invoke_at-ended.new.tree c.invoke_at-ended.new.outside)
+    c.invoke_at-ended.ensures.runs c.settled.ensures
+    (λ e f h l q style at.
+    let free = c.in_ok-charge.ensures.charged q at.names in
+    hidden_settles style c.args.is_global c.args.words.items c.as_slice.result.now e f (search rules) free.0 free.1 l
+    (h q style (record { names = c.charge.ensures.level.keys q ∙ at.names; style_is = ap (λ m. m.integers) c.charge.ensures.level.marks ∙ at.style_is })))
+
+pub crossing::invoke_at-returns-then-not-is_global-clause-runs : goal.crossing::invoke_at-returns-then-not-is_global-clause-runs
+crossing::invoke_at-returns-then-not-is_global-clause-runs g t c =
+    let here : c.args.is_global ≡ false = search rules in
+    IfEnded-more c.invoke.result (EndsAt g.O.Outside.goes c.args.tree.now c.args.outside.now c.args.place (λ style. unhidden c.args.words.now) c.invoke.new.tree c.invoke.new.outside)
+    (λ e. (p : Path) (style : Integers) → IsThere c.args.tree.now c.args.place p style → GoesOn (staged g.O.Outside.goes) style (tree_of c.args.tree.now) (c.args.outside.now, None) p (invokes_at c.args.is_global c.args.words.now) (tree_of c.invoke.new.tree) (c.invoke.new.outside, None) e)
+    (λ e h q style at. invokes_here style c.args.is_global c.args.words.now e here (h q style at)) c.invoke.ensures.runs
+
+pub crossing::invoke_at-returns-clause-runs : goal.crossing::invoke_at-returns-clause-runs
+crossing::invoke_at-returns-clause-runs g t c =
+    let yes : c.args.is_global ≡ true = search rules in
+    IfEnded-more c.invoke-ended.result (EndsAt g.O.Outside.goes c.set_aside.new.tree c.args.outside.now c.args.place (λ style. unhidden c.args.words.now) c.invoke-ended.new.tree c.invoke-ended.new.outside)
+    (λ e. (p : Path) (style : Integers) → IsThere c.args.tree.now c.args.place p style → GoesOn (staged g.O.Outside.goes) style (tree_of c.args.tree.now) (c.args.outside.now, None) p (invokes_at c.args.is_global c.args.words.now) (tree_of c.bring_back.new.tree) (c.invoke-ended.new.outside, None) e)
+    (λ e h q style at.
+    let n = stands (tree_of c.args.tree.now q) (tree_there c.args.tree.now q _ at.names) in
+    let names = c.set_aside.ensures.level.keys q ∙ at.names in
+    let after = c.invoke-ended.ensures.there q names in
+    let m = stands (tree_of c.invoke-ended.new.tree q) (tree_there c.invoke-ended.new.tree q _ after) in
+    invokes_global style (tree_of c.args.tree.now) c.args.is_global c.args.words.now e yes n.1 (c.in_ok-set_aside.ensures.aside q n.0 at.names n.1) m.1 (c.bring_back.ensures.back q m.0 after m.1)
+    (h q style (record { names = names; style_is = ap (λ m. m.integers) c.set_aside.ensures.level.marks ∙ at.style_is }))) c.invoke-ended.ensures.runs
+
+pub crossing::ask_eval-unreachable-requires : goal.crossing::ask_eval-unreachable-requires
+crossing::ask_eval-unreachable-requires g t c = never_outside c.args.tree.now c.args.place c.args.path.now (λ p at. c.in-Outside.ensures p at) c.requires.0 c.requires.1
+
+pub crossing::ask_eval-returns-in-There-clause-asks : goal.crossing::ask_eval-returns-in-There-clause-asks
+crossing::ask_eval-returns-in-There-clause-asks g t c =
+    entered g.O.Outside.goes c.args.tree.now c.serve_eval-ended.new.tree c.args.outside.now c.serve_eval-ended.new.outside c.args.place c.args.path.now (Eval c.args.script.now) c.carry.result c.in-There.target c.serve_eval-ended.result
+    (λ p at. c.in-There.ensures p at) c.serve_eval-ended.ensures.runs c.carry.ensures c.serve_eval-ended.ensures.steady
+
+pub crossing::ask_eval-returns-in-Missing-clause-asks : goal.crossing::ask_eval-returns-in-Missing-clause-asks
+crossing::ask_eval-returns-in-Missing-clause-asks g t c =
+    asks_nobody g.O.Outside.goes c.args.tree.now c.args.tree.now c.args.outside.now c.args.place c.args.path.now (Eval c.args.script.now) (Err c.no_interpreter.result)
+    (λ p at. c.in-Missing.ensures p at) refl c.no_interpreter.ensures
+
+pub crossing::ask_hidden-unreachable-requires : goal.crossing::ask_hidden-unreachable-requires
+crossing::ask_hidden-unreachable-requires g t c = never_outside c.args.tree.now c.args.place c.args.path.now (λ p at. c.in-Outside.ensures p at) c.requires.0 c.requires.1
+
+pub crossing::ask_hidden-returns-in-There-clause-asks : goal.crossing::ask_hidden-returns-in-There-clause-asks
+crossing::ask_hidden-returns-in-There-clause-asks g t c =
+    entered g.O.Outside.goes c.args.tree.now c.serve_hidden-ended.new.tree c.args.outside.now c.serve_hidden-ended.new.outside c.args.place c.args.path.now (InvokeHidden c.args.is_global c.args.words.items) c.carry.result c.in-There.target c.serve_hidden-ended.result
+    (λ p at. c.in-There.ensures p at) c.serve_hidden-ended.ensures.runs c.carry.ensures c.serve_hidden-ended.ensures.steady
+
+pub crossing::ask_hidden-returns-in-Missing-clause-asks : goal.crossing::ask_hidden-returns-in-Missing-clause-asks
+crossing::ask_hidden-returns-in-Missing-clause-asks g t c =
+    asks_nobody g.O.Outside.goes c.args.tree.now c.args.tree.now c.args.outside.now c.args.place c.args.path.now (InvokeHidden c.args.is_global c.args.words.items) (Err c.no_interpreter.result)
+    (λ p at. c.in-Missing.ensures p at) refl c.no_interpreter.ensures
+
+-- interp eval
+
+pub interpreters::interp_eval-returns-in_default-clause-runs : goal.interpreters::interp_eval-returns-in_default-clause-runs
+interpreters::interp_eval-returns-in_default-clause-runs g t c =
+    let few = c.in_default.len_below in
+    Interrupts-more c.wrong_args.result _ _ (λ e h q style at. at_prog (eval_few c.args.args.now (omega (arith, few))) (at_reply h completed)) c.wrong_args.ensures
+
+pub interpreters::interp_eval-returns-then-is_empty-clause-runs : goal.interpreters::interp_eval-returns-then-is_empty-clause-runs
+interpreters::interp_eval-returns-then-is_empty-clause-runs g t c =
+    let none = Steps.zero_is (length (take (length c.args.args.now - 1) (drop 1 c.args.args.now))) c.is_empty.result c.is_empty.ensures c.if-is_empty.true in
+    let one = ap length (split_first c.args.args.now c.path-item.result c.in-len1-up.len_at_least c.path-item.is) in
+    Interrupts-more c.wrong_args-then-is_empty.result _ _ (λ e h q style at. at_prog (eval_few c.args.args.now (omega (arith, none, one))) (at_reply h completed)) c.wrong_args-then-is_empty.ensures
+
+pub interpreters::interp_eval-returns-in_err-found-clause-runs : goal.interpreters::interp_eval-returns-in_err-found-clause-runs
+interpreters::interp_eval-returns-in_err-found-clause-runs g t c =
+    let words = take (length c.args.args.now - 1) (drop 1 c.args.args.now) in
+    let some = Steps.some_is (length words) c.is_empty.result c.is_empty.ensures c.if-is_empty.false in
+    let is = eval_is c.args.args.now c.path-item.result words (split_first c.args.args.now c.path-item.result c.in-len1-up.len_at_least c.path-item.is) some in
+    let p = err_from_is_err_and c.from_residual.result c.from_residual.ensures.1 in
+    ended_err c.from_residual.result c.in_err-found.field-0.0 p.0 _ _ _ p.1 p.2 (c.in_err-found.ensures.read (evals words)) (λ e h q style at. at_prog is (h q style at))
+
+pub interpreters::interp_eval-returns-in_err-script-clause-runs : goal.interpreters::interp_eval-returns-in_err-script-clause-runs
+interpreters::interp_eval-returns-in_err-script-clause-runs g t c =
+    let words = take (length c.args.args.now - 1) (drop 1 c.args.args.now) in
+    let some = Steps.some_is (length words) c.is_empty.result c.is_empty.ensures c.if-is_empty.false in
+    let is = eval_is c.args.args.now c.path-item.result words (split_first c.args.args.now c.path-item.result c.in-len1-up.len_at_least c.path-item.is) some in
+    let p = err_from_is_err_and c.from_residual-in_err-script.result c.from_residual-in_err-script.ensures.1 in
+    ended_err c.from_residual-in_err-script.result c.in_err-script.field-0.0 p.0 _ _ _ p.1 p.2 c.in_err-script.ensures.refused
+    (λ e h q style at. at_prog is (c.in_ok-found.ensures.read (evals words) (tree_of c.args.tree.now) c.args.outside.now e
+    (λ r integers here. outgrows (concat words) (λ script. asks_at c.in_ok-found.found.path.items (Eval script) done) h.0 h.1) q style at))
+
+pub interpreters::interp_eval-returns-clause-runs : goal.interpreters::interp_eval-returns-clause-runs
+interpreters::interp_eval-returns-clause-runs g t c =
+    let words = take (length c.args.args.now - 1) (drop 1 c.args.args.now) in
+    let some = Steps.some_is (length words) c.is_empty.result c.is_empty.ensures c.if-is_empty.false in
+    let is = eval_is c.args.args.now c.path-item.result words (split_first c.args.args.now c.path-item.result c.in-len1-up.len_at_least c.path-item.is) some in
+    IfEnded-more c.ask_eval.result
+    (λ e. (p : Path) (style : Integers) → IsAt c.args.tree.now c.args.place p style → GoesOn (staged g.O.Outside.goes) style (tree_of c.args.tree.now) (c.args.outside.now, None) p (asks_at c.as_slice.result.now (Eval c.in_ok-script.script)) (tree_of c.ask_eval.new.tree) (c.ask_eval.new.outside, None) e)
+    (EndsFrom g.O.Outside.goes c.args.tree.now c.args.outside.now c.args.place (λ style. interp_evals c.args.args.now) c.ask_eval.new.tree c.ask_eval.new.outside)
+    (λ e h q style at. at_prog is (c.in_ok-found.ensures.read (evals words) (tree_of c.ask_eval.new.tree) c.ask_eval.new.outside e
+    (λ r integers here. grows (concat words) (λ script. asks_at c.in_ok-found.found.path.items (Eval script) done) c.in_ok-script.ensures.whole.1
+    (at_prog (ap (λ (x : Path). asks_at x (Eval (concat words)) done) (sym c.as_slice.ensures.value) ∙ ap (λ (x : List ℕ). asks_at c.as_slice.result.now (Eval x) done) (sym c.in_ok-script.ensures.whole.0))
+    (done_on integers (asks_at c.as_slice.result.now (Eval c.in_ok-script.script)) e (h r integers here)))) q style at)) c.ask_eval.ensures.asks

@@ -63,6 +63,33 @@ decreases-crossing::serve_call g l = 16016 * g.O.Outside.entries_left l.outside.
 abbrev pub decreases-crossing::call_alias : goal.decreases-crossing::call_alias
 decreases-crossing::call_alias g l = 16016 * g.O.Outside.entries_left l.outside.now + 16 * room (tree_of l.tree.now) + 2
 
+abbrev pub decreases-crossing::invoke : goal.decreases-crossing::invoke
+decreases-crossing::invoke g l = 16016 * g.O.Outside.entries_left l.outside.now + 16 * room (tree_of l.tree.now) + 0
+
+abbrev pub decreases-crossing::invoke_at : goal.decreases-crossing::invoke_at
+decreases-crossing::invoke_at g l = 16016 * g.O.Outside.entries_left l.outside.now + 16 * room (tree_of l.tree.now) + 1
+
+abbrev pub decreases-crossing::serve_hidden : goal.decreases-crossing::serve_hidden
+decreases-crossing::serve_hidden g l = 16016 * g.O.Outside.entries_left l.outside.now + 16 * room (tree_of l.tree.now) + 2
+
+abbrev pub decreases-crossing::serve_eval : goal.decreases-crossing::serve_eval
+decreases-crossing::serve_eval g l = 16016 * g.O.Outside.entries_left l.outside.now + 16 * room (tree_of l.tree.now) + 2
+
+abbrev pub decreases-crossing::ask_eval : goal.decreases-crossing::ask_eval
+decreases-crossing::ask_eval g l = 16016 * g.O.Outside.entries_left l.outside.now + 16 * room (tree_of l.tree.now) + 3
+
+abbrev pub decreases-crossing::ask_hidden : goal.decreases-crossing::ask_hidden
+decreases-crossing::ask_hidden g l = 16016 * g.O.Outside.entries_left l.outside.now + 16 * room (tree_of l.tree.now) + 3
+
+abbrev pub decreases-commands::call_hidden : goal.decreases-commands::call_hidden
+decreases-commands::call_hidden g l = 16016 * g.O.Outside.entries_left l.outside.now + 16 * room (tree_of l.tree.now) + 12
+
+abbrev pub decreases-interpreters::interp_eval : goal.decreases-interpreters::interp_eval
+decreases-interpreters::interp_eval g l = 16016 * g.O.Outside.entries_left l.outside.now + 16 * room (tree_of l.tree.now) + 4
+
+abbrev pub decreases-interpreters::interp : goal.decreases-interpreters::interp
+decreases-interpreters::interp g l = 16016 * g.O.Outside.entries_left l.outside.now + 16 * room (tree_of l.tree.now) + 9
+
 abbrev pub invariant-evaluation::eval_commands-commands : goal.invariant-evaluation::eval_commands-commands
 invariant-evaluation::eval_commands-commands g l = record {
   leads : (p : Path) (style : Integers) → IsAt l.fn.tree l.place p style →
