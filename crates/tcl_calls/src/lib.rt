@@ -2,6 +2,7 @@
 //! procedure.
 #![tactic(auto)]
 
+pub mod branches;
 pub mod carrying;
 pub mod catching;
 pub mod expressions;
@@ -9,4 +10,5 @@ pub mod lookup;
 pub mod procedures;
 pub mod scripts;
 pub mod setting;
+pub mod turns;
 pub mod words;

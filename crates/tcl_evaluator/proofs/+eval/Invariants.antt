@@ -1,0 +1,80 @@
+use Rattle.std.proofs.Common.{◌≡◌, ◌≤◌, ◌+◌, ◌*◌, [], drop, length}
+use Rattle.std.specs.String.{string_bytes}
+use Rattle.tcl_core.specs.Paths.{Path}
+use Rattle.tcl_language.specs.Scripts.{commands, words, parts}
+use Rattle.tcl_run.specs.Runs.{IsAt, IsSteady, room}
+use Rattle.tcl_text.specs.declared.integer.Integers.{Integers}
+use Rattle.tcl_tree.specs.TreeOf.{tree_of}
+use Rattle.tcl_calls.specs.Words.{opens, IsShort}
+use Rattle.tcl_evaluator.specs.View.{Leads}
+use Rattle.tcl_evaluator.proofs.+eval.Given as goal
+
+abbrev pub decreases-evaluation::eval_script : goal.decreases-evaluation::eval_script
+decreases-evaluation::eval_script g l = 16016 * g.O.Outside.entries_left l.outside.now + 16 * room (tree_of l.tree.now) + 0
+
+abbrev pub decreases-evaluation::eval_text : goal.decreases-evaluation::eval_text
+decreases-evaluation::eval_text g l = 16016 * g.O.Outside.entries_left l.outside.now + 16 * room (tree_of l.tree.now) + 1
+
+abbrev pub decreases-evaluation::eval_value : goal.decreases-evaluation::eval_value
+decreases-evaluation::eval_value g l = 16016 * g.O.Outside.entries_left l.outside.now + 16 * room (tree_of l.tree.now) + 1
+
+abbrev pub decreases-control::eval : goal.decreases-control::eval
+decreases-control::eval g l = 16016 * g.O.Outside.entries_left l.outside.now + 16 * room (tree_of l.tree.now) + 2
+
+abbrev pub decreases-control::catch : goal.decreases-control::catch
+decreases-control::catch g l = 16016 * g.O.Outside.entries_left l.outside.now + 16 * room (tree_of l.tree.now) + 2
+
+abbrev pub decreases-commands::call_procedure : goal.decreases-commands::call_procedure
+decreases-commands::call_procedure g l = 16016 * g.O.Outside.entries_left l.outside.now + 16 * room (tree_of l.tree.now) + 2
+
+abbrev pub decreases-evaluation::eval_part : goal.decreases-evaluation::eval_part
+decreases-evaluation::eval_part g l = 16016 * g.O.Outside.entries_left l.outside.now + 16 * room (tree_of l.tree.now) + 2
+
+abbrev pub decreases-evaluation::eval_lone_part : goal.decreases-evaluation::eval_lone_part
+decreases-evaluation::eval_lone_part g l = 16016 * g.O.Outside.entries_left l.outside.now + 16 * room (tree_of l.tree.now) + 2
+
+abbrev pub decreases-commands::call_builtin : goal.decreases-commands::call_builtin
+decreases-commands::call_builtin g l = 16016 * g.O.Outside.entries_left l.outside.now + 16 * room (tree_of l.tree.now) + 3
+
+abbrev pub decreases-evaluation::substitute : goal.decreases-evaluation::substitute
+decreases-evaluation::substitute g l = 16016 * g.O.Outside.entries_left l.outside.now + 16 * room (tree_of l.tree.now) + 3
+
+abbrev pub decreases-evaluation::eval_word : goal.decreases-evaluation::eval_word
+decreases-evaluation::eval_word g l = 16016 * g.O.Outside.entries_left l.outside.now + 16 * room (tree_of l.tree.now) + 4
+
+abbrev pub decreases-commands::call_command : goal.decreases-commands::call_command
+decreases-commands::call_command g l = 16016 * g.O.Outside.entries_left l.outside.now + 16 * room (tree_of l.tree.now) + 4
+
+abbrev pub decreases-commands::call : goal.decreases-commands::call
+decreases-commands::call g l = 16016 * g.O.Outside.entries_left l.outside.now + 16 * room (tree_of l.tree.now) + 5
+
+abbrev pub decreases-evaluation::eval_command : goal.decreases-evaluation::eval_command
+decreases-evaluation::eval_command g l = 16016 * g.O.Outside.entries_left l.outside.now + 16 * room (tree_of l.tree.now) + 8
+
+abbrev pub decreases-evaluation::eval_commands : goal.decreases-evaluation::eval_commands
+decreases-evaluation::eval_commands g l = 16016 * g.O.Outside.entries_left l.outside.now + 16 * room (tree_of l.tree.now) + 9
+
+abbrev pub invariant-evaluation::eval_commands-commands : goal.invariant-evaluation::eval_commands-commands
+invariant-evaluation::eval_commands-commands g l = record {
+  leads : (p : Path) (style : Integers) → IsAt l.fn.tree l.place p style →
+      Leads g.O.Outside.goes style (tree_of l.fn.tree) l.fn.outside p (commands l.fn.script.commands l.fn.script.fault []) (tree_of l.tree) l.outside (commands (drop l.command-index l.command-items) l.fn.script.fault l.last);
+  steady : IsSteady l.fn.tree l.tree;
+  left : g.O.Outside.entries_left l.outside ≤ g.O.Outside.entries_left l.fn.outside;
+}
+
+abbrev pub invariant-evaluation::eval_command-words : goal.invariant-evaluation::eval_command-words
+invariant-evaluation::eval_command-words g l = record {
+  leads : (p : Path) (style : Integers) → IsAt l.fn.tree l.place p style →
+      Leads g.O.Outside.goes style (tree_of l.fn.tree) l.fn.outside p (words l.fn.command []) (tree_of l.tree) l.outside (words (drop l.word-index l.word-items) l.words.items);
+  steady : IsSteady l.fn.tree l.tree;
+  left : g.O.Outside.entries_left l.outside ≤ g.O.Outside.entries_left l.fn.outside;
+}
+
+abbrev pub invariant-evaluation::substitute-parts : goal.invariant-evaluation::substitute-parts
+invariant-evaluation::substitute-parts g l = record {
+  leads : (p : Path) (style : Integers) → IsAt l.fn.tree l.place p style →
+      Leads g.O.Outside.goes style (tree_of l.fn.tree) l.fn.outside p (parts l.fn.parts [] []) (tree_of l.tree) l.outside (parts (drop l.part-index l.parts) (opens l.elements.items) (string_bytes l.text));
+  short : IsShort (string_bytes l.text);
+  steady : IsSteady l.fn.tree l.tree;
+  left : g.O.Outside.entries_left l.outside ≤ g.O.Outside.entries_left l.fn.outside;
+}

@@ -1,0 +1,144 @@
+//! Calls of commands.
+ghost use Rattle.std.specs.Prelude.{◌≡◌, ◌≤◌, ◌∷◌, Some, IfOk};
+ghost use Rattle.tcl_language.specs.Control.{procedure as procedure_program};
+ghost use Rattle.tcl_language.specs.Faults as faults;
+ghost use Rattle.tcl_language.specs.Table.{called, dispatch, builtin as builtin_program};
+ghost use Rattle.tcl_run.specs.Runs.{Evaluates, IsRunning, IsSteady};
+ghost use Rattle.tcl_evaluator.specs.View.{LeavesProc};
+
+use crate::control::{catch, eval};
+use crate::evaluation::eval_value;
+use std::alloc::{AllocError, Global};
+use tcl_calls::lookup::find_command;
+use tcl_calls::procedures::{bind, enter_frame, leave_frame, wrong_form};
+use tcl_flow::completion::leave_proc;
+use tcl_run::interruption::Interruption;
+use tcl_run::outside::Outside;
+use tcl_tree::builtin::Builtin;
+use tcl_tree::command::Command;
+use tcl_tree::procedure::Procedure;
+use tcl_tree::tree::{Place, Tree};
+use tcl_value::value::Value;
+
+/// Calls the command that the first word names, with the others.
+#[cycle(eval)]
+pub fn call<O: Outside>(
+    tree: &mut Tree,
+    alloc: Global,
+    outside: &mut O,
+    place: Place,
+    words: &[Value],
+) -> Result<Value, Interruption>
+    requires { IsRunning tree.old place }
+    ensures runs { Evaluates O.goes tree.old outside.old place (λ style. called style words.now) tree.new outside.new result }
+    ensures steady { IsSteady tree.old tree.new }
+    ensures left { O.entries_left outside.new ≤ O.entries_left outside.old }
+{
+    let [word, args @ ..] = words else {
+        return Ok(Value::empty());
+    };
+    let command = find_command(tree, alloc, place, word)?;
+    call_command(tree, alloc, outside, place, &command, word, args)
+}
+
+/// Calls a command by the word that named it.
+#[cycle(eval)]
+fn call_command<O: Outside>(
+    tree: &mut Tree,
+    alloc: Global,
+    outside: &mut O,
+    place: Place,
+    command: &Command,
+    word: &Value,
+    args: &[Value],
+) -> Result<Value, Interruption>
+    requires { IsRunning tree.old place }
+    ensures runs { Evaluates O.goes tree.old outside.old place (λ style. dispatch style word.now args.now faults.invalid_command (Some command.now)) tree.new outside.new result }
+    ensures steady { IsSteady tree.old tree.new }
+    ensures left { O.entries_left outside.new ≤ O.entries_left outside.old }
+{
+    match command {
+        Command::Builtin(builtin) => {
+            call_builtin(tree, alloc, outside, place, *builtin, word, args)
+        }
+        Command::Procedure(procedure) => {
+            call_procedure(tree, alloc, outside, place, procedure, word, args)
+        }
+        Command::Alias(_) => Err(Interruption::Memory),
+        Command::Child => Err(Interruption::Memory),
+    }
+}
+
+/// Calls a command of the language or of the host.
+#[cycle(eval)]
+fn call_builtin<O: Outside>(
+    tree: &mut Tree,
+    alloc: Global,
+    outside: &mut O,
+    place: Place,
+    builtin: Builtin,
+    word: &Value,
+    args: &[Value],
+) -> Result<Value, Interruption>
+    requires { IsRunning tree.old place }
+    ensures runs { Evaluates O.goes tree.old outside.old place (λ style. builtin_program style builtin word.now args.now) tree.new outside.new result }
+    ensures steady { IsSteady tree.old tree.new }
+    ensures left { O.entries_left outside.new ≤ O.entries_left outside.old }
+{
+    match builtin {
+        Builtin::Eval => eval(tree, alloc, outside, place, args),
+        Builtin::Catch => catch(tree, alloc, outside, place, args),
+        _ => Err(Interruption::Memory),
+    }
+}
+
+/// Calls a procedure: its parameters are bound in a frame of their own, and its body, as it was when it was called, runs there.
+#[cycle(eval)]
+fn call_procedure<O: Outside>(
+    tree: &mut Tree,
+    alloc: Global,
+    outside: &mut O,
+    place: Place,
+    procedure: &Procedure,
+    word: &Value,
+    args: &[Value],
+) -> Result<Value, Interruption>
+    requires { IsRunning tree.old place }
+    ensures runs { Evaluates O.goes tree.old outside.old place (λ style. procedure_program procedure.now word.now args.now) tree.new outside.new result }
+    ensures steady { IsSteady tree.old tree.new }
+    ensures left { O.entries_left outside.new ≤ O.entries_left outside.old }
+{
+    let Some(bindings) = bind(alloc, procedure.parameters(), args)? else {
+        return Err(wrong_form(alloc, word, procedure.parameters()));
+    };
+    let words = words_of_call(alloc, word, args)?;
+    let mut body = procedure.body().clone()?;
+    enter_frame(tree, alloc, place, words, bindings.as_slice())?;
+    let ended = eval_value(tree, alloc, outside, place, &mut body);
+    leave_frame(tree, place);
+    left_proc(alloc, ended)
+}
+
+/// The words of a call.
+fn words_of_call(alloc: Global, word: &Value, args: &[Value]) -> Result<Vec<Value>, AllocError>
+    ensures { IfOk result (λ words. words.items ≡ word.now ∷ args.now) }
+{
+    let mut words = Vec::with_capacity(alloc, args.len().saturating_add(1))?;
+    words.push(word.clone()?)?;
+    'args: for arg in args {
+        words.push(arg.clone()?)?;
+    }
+    Ok(words)
+}
+
+/// The end of a call whose body ended so.
+fn left_proc(alloc: Global, ended: Result<Value, Interruption>) -> Result<Value, Interruption>
+    ensures { LeavesProc ended result }
+{
+    match ended {
+        Err(Interruption::Completed(completion)) => {
+            Err(Interruption::Completed(leave_proc(alloc, completion)?))
+        }
+        other => other,
+    }
+}

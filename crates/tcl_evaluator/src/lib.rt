@@ -1,0 +1,6 @@
+//! The evaluation of scripts over a tree of interpreters.
+#![tactic(auto)]
+
+mod commands;
+mod control;
+pub mod evaluation;
