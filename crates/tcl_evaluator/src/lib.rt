@@ -4,3 +4,4 @@
 mod commands;
 mod control;
 pub mod evaluation;
+mod expressions;
