@@ -1,5 +1,7 @@
 mod Binding
+mod Branching
 mod Closing
 mod Keeping
 mod Kept
 mod Stops
+mod Turning

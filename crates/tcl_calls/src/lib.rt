@@ -2,6 +2,7 @@
 //! procedure.
 #![tactic(auto)]
 
+pub mod branches;
 pub mod carrying;
 pub mod catching;
 pub mod expressions;
@@ -10,4 +11,5 @@ pub mod lookup;
 pub mod procedures;
 pub mod scripts;
 pub mod setting;
+pub mod turns;
 pub mod words;

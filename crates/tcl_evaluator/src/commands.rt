@@ -10,6 +10,7 @@ use crate::control::{catch, eval};
 use crate::crossing::call_alias;
 use crate::interpreters::interp;
 use crate::evaluation::eval_value;
+use crate::expressions::{expr, for_loop, if_first, while_loop};
 use std::alloc::{AllocError, Global};
 use tcl_calls::lookup::{find_command, find_hidden};
 use tcl_calls::procedures::{bind, enter_frame, leave_frame, wrong_form};
@@ -112,6 +113,10 @@ fn call_builtin<O: Outside>(
         Builtin::Eval => eval(tree, alloc, outside, place, args),
         Builtin::Catch => catch(tree, alloc, outside, place, args),
         Builtin::Interp => interp(tree, alloc, outside, place, args),
+        Builtin::Expr => expr(tree, alloc, outside, place, args),
+        Builtin::If => if_first(tree, alloc, outside, place, args),
+        Builtin::While => while_loop(tree, alloc, outside, place, args),
+        Builtin::For => for_loop(tree, alloc, outside, place, args),
         _ => Err(Interruption::Memory),
     }
 }

@@ -12,10 +12,10 @@ ghost use Rattle.tcl_calls.specs.Words.{opens, IsShort};
 ghost use Rattle.tcl_evaluator.specs.View.{PartGoes, PartBreaks, read_so};
 
 use crate::commands::call;
+use std::alloc::Global;
 use tcl_calls::words::{
     OpenElement, append, append_value, close_element, finish, open_element, spread, within,
 };
-use std::alloc::Global;
 use tcl_parser::reader::parse;
 use tcl_parser::script::{Command, Part, Script, Word};
 use tcl_run::failure::too_deep;
@@ -135,7 +135,7 @@ fn eval_command<O: Outside>(
 
 /// The text of a word.
 #[cycle(eval)]
-fn eval_word<O: Outside>(
+pub(crate) fn eval_word<O: Outside>(
     tree: &mut Tree,
     alloc: Global,
     outside: &mut O,

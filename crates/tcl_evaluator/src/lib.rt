@@ -8,3 +8,4 @@ pub mod evaluation;
 pub mod hosting;
 mod interpreters;
 pub mod running;
+mod expressions;

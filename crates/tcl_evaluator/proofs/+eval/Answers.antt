@@ -75,6 +75,28 @@ use Rattle.tcl_language.specs.Faults.{lost_alias}
 use Rattle.tcl_run.specs.Outsides.{IsCalled}
 use Rattle.tcl_run.specs.Runs.{InUse}
 use Rattle.tcl_evaluator.proofs.Targets.{carried_ends, settled_more, target_ends, target_refused, entry_stops, entry_calls, entry_evaluates, unhidden_ends, unhidden_refused, same_dispatch, alias_goes, alias_missing, alias_leaves, called_as}
+-- (of expressions and the commands with conditions)
+use Rattle.std.proofs.Common.{◌⊎◌, inl, inr, ◌<◌, get_or}
+use Rattle.std.specs.Option.{option_copied}
+use Rattle.tcl_expr.specs.Expressions.{expression_of}
+use Rattle.tcl_expr.specs.Faults.{message_of as expression_message}
+use Rattle.tcl_expression_evaluation.specs.Computations.{value, substitute}
+use Rattle.tcl_expression_evaluation.specs.Steps.{from}
+use Rattle.tcl_language.specs.Control.{after_body}
+use Rattle.tcl_language.specs.Expressions.{after_next, branches_of, computed, expr, expression, first_true, if_first}
+use Rattle.tcl_core.specs.Programs.Prog.{go}
+use Rattle.tcl_language.specs.Instructions.Instr.{Script, While, For}
+use Rattle.tcl_operators.specs.Apply.{truth}
+use Rattle.tcl_operators.specs.Messages.{message_of as operator_message}
+use Rattle.tcl_run.proofs.Leads.{at_finish, charges, charge_stops, goes_done, goes_on}
+use Rattle.tcl_calls.specs.BranchesRead.{seen, tests_of}
+use Rattle.tcl_calls.specs.declared.branches.Branch.{Branch}
+use Rattle.tcl_calls.specs.Expressions.{IsRefused, settles}
+use Rattle.tcl_evaluator.proofs.Conditions
+use Rattle.tcl_evaluator.proofs.Looping
+use Rattle.tcl_evaluator.proofs.Looping.{next_then}
+use Rattle.tcl_evaluator.specs.Conditional.{ComputesTo, TestGoes, TurnGoes, turn_then}
+use Rattle.tcl_evaluator.proofs.+eval.Goals.{expressions::while_loop-in_default-via-then-args-lt2, expressions::while_loop-in_default-via-else-args-lt2+else-args-lt3, expressions::for_loop-in_default-via-then-args-lt4, expressions::for_loop-in_default-via-else-args-lt4+else-args-lt5}
 use Rattle.tcl_evaluator.proofs.+eval.Goals as goal
 
 -- the words of a command
@@ -292,7 +314,7 @@ pub evaluation::eval_lone_part-returns-in_ok-value-in-Script-clause-runs : goal.
 evaluation::eval_lone_part-returns-in_ok-value-in-Script-clause-runs g t c =
     let is : c.args.part.now ≡ part.Script c.as_str.result.now = c.in-Script.is ∙ ap (λ (text : List ℕ). part.Script text) (sym c.as_str.ensures) in
     let x = of_text c.eval_text.result c.in_ok-value-in-Script.value (EndsAt g.O.Outside.goes c.args.tree.now c.args.outside.now c.args.place (λ style. script c.as_str.result.now) c.eval_text.new.tree c.eval_text.new.outside)
-        c.in_ok-value-in-Script.ensures.text c.eval_text.ensures.runs in
+    c.in_ok-value-in-Script.ensures.text c.eval_text.ensures.runs in
     λ q style at. Steps.lone_script style c.args.part.now c.as_str.result.now c.known_short.result x.0 is x.2 (x.3 ∙ sym c.known_short.ensures.same)
     (ap fits c.known_short.ensures.same ∙ c.known_short.ensures.short) (x.1 q style (record { names = at.names; style_is = at.style_is }))
 
@@ -310,7 +332,7 @@ pub evaluation::eval_part-returns-in_ok-value-in-Script-clause-runs : goal.evalu
 evaluation::eval_part-returns-in_ok-value-in-Script-clause-runs g t c =
     let is : c.args.part.now ≡ part.Script c.as_str-in-Script.result.now = c.in-Script.is ∙ ap (λ (text : List ℕ). part.Script text) (sym c.as_str-in-Script.ensures) in
     let x = of_text c.eval_text.result c.in_ok-value-in-Script.value (EndsAt g.O.Outside.goes c.args.tree.now c.args.outside.now c.args.place (λ style. script c.as_str-in-Script.result.now) c.eval_text.new.tree c.eval_text.new.outside)
-        c.in_ok-value-in-Script.ensures.text c.eval_text.ensures.runs in
+    c.in_ok-value-in-Script.ensures.text c.eval_text.ensures.runs in
     appended c.append_value-in-Script.result c.append_value-in-Script.ensures.added c.append_value-in-Script.ensures.refused
     (λ a q style at rest V z r run. at_prog (ap (λ (y : Part). parts (y ∷ rest) (opens c.args.elements.now.items) (string_bytes c.args.text.now)) is)
     (Steps.script_goes style c.as_str-in-Script.result.now c.in_ok-value-in-Script.value rest (opens c.args.elements.now.items) (string_bytes c.args.text.now) x.0 x.2 x.3 (x.1 q style (record { names = at.names; style_is = at.style_is })) a.0
@@ -383,17 +405,17 @@ commands::call_procedure-returns-clause-runs g t c =
     (EndsFrom g.O.Outside.goes c.args.tree.now c.args.outside.now c.args.place (λ style. procedure c.args.procedure.now c.args.word.now c.args.args.now) c.leave_frame.new.tree c.eval_value-ended.new.outside)
     c.eval_value-ended.ensures.runs c.left_proc.ensures
     (λ e f h l q style at.
-        let n = stands (tree_of c.args.tree.now q) (tree_there c.args.tree.now q _ at.names) in
-        let here = still_at c.args.tree.now c.enter_frame.new.tree c.args.place q style (level_steady _ _ c.in_ok-enter_frame.ensures.level) at in
-        let after = still_at c.enter_frame.new.tree c.eval_value-ended.new.tree c.args.place q style c.eval_value-ended.ensures.steady here in
-        let m = stands (tree_of c.eval_value-ended.new.tree q) (tree_there c.eval_value-ended.new.tree q _ after.names) in
-        let entered = c.in_ok-enter_frame.ensures.entered q n.0 at.names n.1 in
-        let ws = c.in_ok-words.ensures in
-        let bs = c.as_slice.ensures.value in
-        call_runs style c.args.procedure.now c.args.word.now c.args.args.now (pairs_of c.in-Some.bindings.items) e f
-        (ap (λ (ps : List Parameter). bindings ps c.args.args.now) (sym c.parameters.ensures) ∙ found.0) found.1 n.1
-        (entered ∙ (λ i. effect q (Changed (in_frame (ws i) (pairs_of (bs i)) n.0.own)) (tree_of c.args.tree.now))) m.1 (c.leave_frame.ensures.left q m.0 after.names m.1)
-        (at_prog (ap script (sym (c.in_ok-body.ensures.cases ∙ c.body.ensures))) (h q style (record { names = here.names; style_is = here.style_is }))) l)
+    let n = stands (tree_of c.args.tree.now q) (tree_there c.args.tree.now q _ at.names) in
+    let here = still_at c.args.tree.now c.enter_frame.new.tree c.args.place q style (level_steady _ _ c.in_ok-enter_frame.ensures.level) at in
+    let after = still_at c.enter_frame.new.tree c.eval_value-ended.new.tree c.args.place q style c.eval_value-ended.ensures.steady here in
+    let m = stands (tree_of c.eval_value-ended.new.tree q) (tree_there c.eval_value-ended.new.tree q _ after.names) in
+    let entered = c.in_ok-enter_frame.ensures.entered q n.0 at.names n.1 in
+    let ws = c.in_ok-words.ensures in
+    let bs = c.as_slice.ensures.value in
+    call_runs style c.args.procedure.now c.args.word.now c.args.args.now (pairs_of c.in-Some.bindings.items) e f
+    (ap (λ (ps : List Parameter). bindings ps c.args.args.now) (sym c.parameters.ensures) ∙ found.0) found.1 n.1
+    (entered ∙ (λ i. effect q (Changed (in_frame (ws i) (pairs_of (bs i)) n.0.own)) (tree_of c.args.tree.now))) m.1 (c.leave_frame.ensures.left q m.0 after.names m.1)
+    (at_prog (ap script (sym (c.in_ok-body.ensures.cases ∙ c.body.ensures))) (h q style (record { names = here.names; style_is = here.style_is }))) l)
 
 pub commands::call-returns-in_default-clause-runs : goal.commands::call-returns-in_default-clause-runs
 commands::call-returns-in_default-clause-runs g t c = λ q style at.
@@ -445,7 +467,7 @@ control::catch-returns-in_err-keep_caught-clause-runs g t c =
     let few = c.if-names-gt2.false in
     let p = err_from_is_err_and c.from_residual-in_err-keep_caught.result c.from_residual-in_err-keep_caught.ensures.1 in
     let caught = caught_ok c.eval_value.result c.caught.result c.in_ok-completion.completion (EndsAt g.O.Outside.goes c.args.tree.now c.args.outside.now c.args.place (λ style. script c.in_ok-script.script) c.eval_value.new.tree c.eval_value.new.outside)
-        c.in_ok-completion.was c.caught.ensures c.eval_value.ensures.runs in
+    c.in_ok-completion.was c.caught.ensures c.eval_value.ensures.runs in
     ended_err c.from_residual-in_err-keep_caught.result c.in_err-keep_caught.field-0.0 p.0 _ _ _ p.1 p.2 c.in_err-keep_caught.ensures.kept
     (λ e h q style at.
     let after = still_at _ _ c.args.place q style c.eval_value.ensures.steady at in
@@ -458,7 +480,7 @@ pub control::catch-returns-clause-runs : goal.control::catch-returns-clause-runs
 control::catch-returns-clause-runs g t c = λ q style at.
     let few = c.if-names-gt2.false in
     let caught = caught_ok c.eval_value.result c.caught.result c.in_ok-completion.completion (EndsAt g.O.Outside.goes c.args.tree.now c.args.outside.now c.args.place (λ style. script c.in_ok-script.script) c.eval_value.new.tree c.eval_value.new.outside)
-        c.in_ok-completion.was c.caught.ensures c.eval_value.ensures.runs in
+    c.in_ok-completion.was c.caught.ensures c.eval_value.ensures.runs in
     let after = still_at _ _ c.args.place q style c.eval_value.ensures.steady at in
     let code : c.from_int.result ≡ code_text (completion_of c.in_ok-completion.completion) = search rules in
     at_prog (ap control_catch (split_first c.args.args.now c.script-item.result c.in-len1-up.len_at_least c.script-item.is))
@@ -806,3 +828,447 @@ interpreters::interp_eval-returns-clause-runs g t c =
     (λ r integers here. grows (concat words) (λ script. asks_at c.in_ok-found.found.path.items (Eval script) done) c.in_ok-script.ensures.whole.1
     (at_prog (ap (λ (x : Path). asks_at x (Eval (concat words)) done) (sym c.as_slice.ensures.value) ∙ ap (λ (x : List ℕ). asks_at c.as_slice.result.now (Eval x) done) (sym c.in_ok-script.ensures.whole.0))
     (done_on integers (asks_at c.as_slice.result.now (Eval c.in_ok-script.script)) e (h r integers here)))) q style at)) c.ask_eval.ensures.asks
+-- # Expressions, and the commands with conditions
+
+pub expressions::expression-returns-in_err-word-clause-runs : goal.expressions::expression-returns-in_err-word-clause-runs
+expressions::expression-returns-in_err-word-clause-runs g t c =
+    let p = err_from_is_err_and c.from_residual.result c.from_residual.ensures.1 in
+    ended_err c.from_residual.result c.in_err-word.field-0.0 p.0 _ _ _ p.1 p.2 c.in_err-word.ensures.gives
+    (λ e h q style at text is.
+    let same = c.integers-style.ensures ∙ at.style_is in
+    c.parts.invariant.leads q style at text is _ _ _
+    (Conditions.is_refused style _ (settles style) e (subst (λ (s : Integers). IsRefused (from s c.args.kept.now.nodes.items c.parts.evaluation.next c.parts.evaluation.values.items) e) same h)))
+
+pub expressions::expression-returns-in_err-value-in-Wants-clause-runs : goal.expressions::expression-returns-in_err-value-in-Wants-clause-runs
+expressions::expression-returns-in_err-value-in-Wants-clause-runs g t c =
+    let wants : from c.integers-style.result c.args.kept.now.nodes.items c.parts.evaluation.next c.parts.evaluation.values.items
+    ≡ substitute c.in-Wants.word.now (λ v. from c.integers-style.result c.args.kept.now.nodes.items c.next_part.new.evaluation.next (c.next_part.new.evaluation.values.items ++ v ∷ [])) = search rules in
+    let p = err_from_is_err_and c.from_residual-in_err-value-in-Wants.result c.from_residual-in_err-value-in-Wants.ensures.1 in
+    ended_err c.from_residual-in_err-value-in-Wants.result c.in_err-value-in-Wants.field-0.0 p.0 _ _ _ p.1 p.2
+    (stays_of c.eval_word.result c.in_err-value-in-Wants.field-0.0 (EndsFrom g.O.Outside.goes c.parts.tree c.parts.outside c.args.place (λ style. parts c.in-Wants.word.now.parts [] []) c.eval_word.new.tree c.eval_word.new.outside)
+    c.in_err-value-in-Wants.ensures.same c.eval_word.ensures.runs c.in_err-value-in-Wants.ensures.stays)
+    (λ e h q style at text is.
+    let same = c.integers-style.ensures ∙ at.style_is in
+    c.parts.invariant.leads q style at text is _ _ _
+    (Conditions.wants_part style c.integers-style.result c.args.kept.now.nodes.items c.parts.evaluation.next c.next_part.new.evaluation.next c.parts.evaluation.values.items c.next_part.new.evaluation.values.items c.in-Wants.word.now same wants
+    (Conditions.part_stays style c.in-Wants.word.now (λ v. from style c.args.kept.now.nodes.items c.next_part.new.evaluation.next (c.next_part.new.evaluation.values.items ++ v ∷ [])) (settles style) e h.1 (h.0 q style (still_at _ _ c.args.place q style c.parts.invariant.steady at)))))
+
+pub expressions::expression-returns-in-Done-clause-runs : goal.expressions::expression-returns-in-Done-clause-runs
+expressions::expression-returns-in-Done-clause-runs g t c =
+    let gives : from c.integers-style.result c.args.kept.now.nodes.items c.parts.evaluation.next c.parts.evaluation.values.items ≡ value c.in-Done.value = search rules in
+    IfEnded-more c.settle.result (EndsBy (settles c.integers-style.result c.in-Done.value)) (ComputesTo g.O.Outside.goes c.args.tree.now c.args.outside.now c.args.place c.args.kept.now c.parts.tree c.parts.outside)
+    (λ e h q style at text is.
+    let same = c.integers-style.ensures ∙ at.style_is in
+    c.parts.invariant.leads q style at text is _ _ _
+    (Conditions.is_value style c.integers-style.result c.args.kept.now.nodes.items c.parts.evaluation.next c.parts.evaluation.values.items c.in-Done.value e same gives h)) c.settle.ensures
+
+pub expressions::expression-parts-preserved : goal.expressions::expression-parts-preserved
+expressions::expression-parts-preserved g t c =
+    let wants : from c.integers-style.result c.args.kept.now.nodes.items c.parts.evaluation.next c.parts.evaluation.values.items
+    ≡ substitute c.in-Wants.word.now (λ v. from c.integers-style.result c.args.kept.now.nodes.items c.next_part.new.evaluation.next (c.next_part.new.evaluation.values.items ++ v ∷ [])) = search rules in
+    let x = of_text c.eval_word.result c.in_ok-value-in-Wants.value (EndsFrom g.O.Outside.goes c.parts.tree c.parts.outside c.args.place (λ style. parts c.in-Wants.word.now.parts [] []) c.eval_word.new.tree c.eval_word.new.outside)
+    c.in_ok-value-in-Wants.ensures.text c.eval_word.ensures.runs in
+    record {
+      leads = λ q style at text is V z r run.
+          let same = c.integers-style.ensures ∙ at.style_is in
+          c.parts.invariant.leads q style at text is _ _ _
+          (Conditions.wants_part style c.integers-style.result c.args.kept.now.nodes.items c.parts.evaluation.next c.next_part.new.evaluation.next c.parts.evaluation.values.items c.next_part.new.evaluation.values.items c.in-Wants.word.now same wants
+          (Conditions.part_goes style c.in-Wants.word.now (λ v. from style c.args.kept.now.nodes.items c.next_part.new.evaluation.next (c.next_part.new.evaluation.values.items ++ v ∷ [])) (settles style) x.0 c.in_ok-value-in-Wants.value x.2 x.3 (x.1 q style (still_at _ _ c.args.place q style c.parts.invariant.steady at))
+          (at_prog (λ i. computed (from style c.args.kept.now.nodes.items (sym c.in_ok-supply-in-Wants.ensures.next i) (sym c.in_ok-supply-in-Wants.ensures.values i)) (settles style)) run)));
+      steady = steady-trans _ _ _ c.parts.invariant.steady c.eval_word.ensures.steady;
+      left = let a = c.eval_word.ensures.left in let b = c.parts.invariant.left in omega arith;
+    }
+
+pub expressions::condition-returns-in_err-value-clause-runs : goal.expressions::condition-returns-in_err-value-clause-runs
+expressions::condition-returns-in_err-value-clause-runs g t c =
+    let p = err_from_is_err_and c.from_residual.result c.from_residual.ensures.1 in
+    ended_err c.from_residual.result c.in_err-value.field-0.0 p.0 _ _ _ p.1 p.2
+    (stays_of c.expression.result c.in_err-value.field-0.0 (ComputesTo g.O.Outside.goes c.args.tree.now c.args.outside.now c.args.place c.args.test.now c.expression.new.tree c.expression.new.outside)
+    c.in_err-value.ensures.same c.expression.ensures.runs c.in_err-value.ensures.stays)
+    (λ e h q style at text is k. Conditions.test_stays style text k e h.1 (h.0 q style at text is))
+
+pub expressions::condition-returns-clause-runs : goal.expressions::condition-returns-clause-runs
+expressions::condition-returns-clause-runs g t c =
+    let x = of_text c.expression.result c.in_ok-value.value (ComputesTo g.O.Outside.goes c.args.tree.now c.args.outside.now c.args.place c.args.test.now c.expression.new.tree c.expression.new.outside) c.in_ok-value.ensures.text c.expression.ensures.runs in
+    Conditions.tested (truth c.integers-style.result c.in_ok-value.value) c.holds.result _ _ c.holds.ensures
+    (λ b h q style at text is k V y r run.
+    let same = c.integers-style.ensures ∙ at.style_is in
+    Conditions.test_goes style text k x.0 c.in_ok-value.value b x.2 x.3 (ap (λ (s : Integers). truth s c.in_ok-value.value) (sym same) ∙ h) (x.1 q style at text is) run)
+    (λ e h q style at text is k.
+    let same = c.integers-style.ensures ∙ at.style_is in
+    Conditions.test_refused style text k x.0 c.in_ok-value.value e x.2 x.3 (subst (λ (s : Integers). IsFailure operator_message (truth s c.in_ok-value.value) e) same h) (x.1 q style at text is))
+
+pub expressions::expr-returns-then-is_empty-clause-runs : goal.expressions::expr-returns-then-is_empty-clause-runs
+expressions::expr-returns-then-is_empty-clause-runs g t c =
+    let none = Steps.zero_is (length c.args.args.now) c.is_empty.result c.is_empty.ensures c.if-is_empty.true in
+    Interrupts-more c.wrong_args.result _ _ (λ e h q style at. Conditions.expr_none style c.args.args.now (omega (arith, none)) h) c.wrong_args.ensures
+
+pub expressions::expr-returns-in_err-text-clause-runs : goal.expressions::expr-returns-in_err-text-clause-runs
+expressions::expr-returns-in_err-text-clause-runs g t c =
+    let some = Steps.some_is (length c.args.args.now) c.is_empty.result c.is_empty.ensures c.if-is_empty.false in
+    let p = err_from_is_err_and c.from_residual.result c.from_residual.ensures.1 in
+    ended_err c.from_residual.result c.in_err-text.field-0.0 p.0 _ _ _ p.1 p.2 c.in_err-text.ensures.refused
+    (λ e h q style at. Conditions.expr_long style c.args.args.now some h.0 h.1)
+
+pub expressions::expr-returns-in_err-kept-clause-runs : goal.expressions::expr-returns-in_err-kept-clause-runs
+expressions::expr-returns-in_err-kept-clause-runs g t c =
+    let some = Steps.some_is (length c.args.args.now) c.is_empty.result c.is_empty.ensures c.if-is_empty.false in
+    let p = err_from_is_err_and c.from_residual-in_err-kept.result c.from_residual-in_err-kept.ensures.1 in
+    ended_err c.from_residual-in_err-kept.result c.in_err-kept.field-0.0 p.0 _ _ _ p.1 p.2 c.in_err-kept.ensures.refused
+    (λ e h q style at.
+    let same = c.integers.ensures ∙ at.style_is in
+    Conditions.expr_runs style c.args.args.now some c.in_ok-text.ensures.whole.1
+    (at_prog (ap (expression style) (sym c.in_ok-text.ensures.whole.0)) (Conditions.misread style c.in_ok-text.text e (Conditions.misread_in c.integers.result style c.in_ok-text.text e same h))))
+
+pub expressions::expr-returns-clause-runs : goal.expressions::expr-returns-clause-runs
+expressions::expr-returns-clause-runs g t c =
+    let some = Steps.some_is (length c.args.args.now) c.is_empty.result c.is_empty.ensures c.if-is_empty.false in
+    IfEnded-more c.expression.result (ComputesTo g.O.Outside.goes c.args.tree.now c.args.outside.now c.args.place c.in_ok-kept.kept c.expression.new.tree c.expression.new.outside)
+    (EndsFrom g.O.Outside.goes c.args.tree.now c.args.outside.now c.args.place (λ style. expr c.args.args.now) c.expression.new.tree c.expression.new.outside)
+    (λ e h q style at.
+    let same = c.integers.ensures ∙ at.style_is in
+    Conditions.expr_runs style c.args.args.now some c.in_ok-text.ensures.whole.1
+    (at_prog (ap (expression style) (sym c.in_ok-text.ensures.whole.0)) (h q style at c.in_ok-text.text (Conditions.kept_in_style c.integers.result style c.in_ok-text.text c.in_ok-kept.kept same c.in_ok-kept.ensures.read)))) c.expression.ensures.runs
+
+-- if
+
+pub expressions::if_first-returns-in_default-clause-runs : goal.expressions::if_first-returns-in_default-clause-runs
+expressions::if_first-returns-in_default-clause-runs g t c =
+    let none : branches_of c.args.args.now ≡ None = search rules in
+    Interrupts-more c.wrong_args.result _ _ (λ e h q style at. Conditions.if_none style c.args.args.now none h) c.wrong_args.ensures
+
+pub expressions::if_first-tests-init : goal.expressions::if_first-tests-init
+expressions::if_first-tests-init g t c =
+    let some : branches_of c.args.args.now ≡ Some (seen c.in-Some.branches) = search rules in
+    record {
+      leads = λ q style at V z r run. Conditions.if_begins style c.args.args.now (seen c.in-Some.branches) some (at_prog (ap (λ (bs : List Branch). first_true style (tests_of bs) (option_copied c.in-Some.branches.last)) (sym c.deref-branch-items.ensures.value)) run);
+      steady = steady-refl _;
+      left = search rules;
+    }
+
+pub expressions::if_first-returns-in_err-test-clause-runs : goal.expressions::if_first-returns-in_err-test-clause-runs
+expressions::if_first-returns-in_err-test-clause-runs g t c =
+    let item = item_on c.deref-branch-items.result.now c.tests.branch-index c.branch-item.result c.tests-test.true c.branch-item.is in
+    let p = err_from_is_err_and c.from_residual-in_err-test.result c.from_residual-in_err-test.ensures.1 in
+    ended_err c.from_residual-in_err-test.result c.in_err-test.field-0.0 p.0 _ _ _ p.1 p.2 c.in_err-test.ensures.refused
+    (λ e h q style at.
+    let here = still_at _ _ c.args.place q style c.tests.invariant.steady at in
+    let same = c.integers.ensures ∙ here.style_is in
+    c.tests.invariant.leads q style at _ _ _ (at_prog (ap (λ (bs : List Branch). first_true style (tests_of bs) (option_copied c.in-Some.branches.last)) item)
+    (Conditions.test_misread style c.branch-item.result.test.now _ e (Conditions.misread_in c.integers.result style c.branch-item.result.test.now e same h))))
+
+pub expressions::if_first-returns-in_err-condition-clause-runs : goal.expressions::if_first-returns-in_err-condition-clause-runs
+expressions::if_first-returns-in_err-condition-clause-runs g t c =
+    let item = item_on c.deref-branch-items.result.now c.tests.branch-index c.branch-item.result c.tests-test.true c.branch-item.is in
+    let p = err_from_is_err_and c.from_residual-in_err-condition.result c.from_residual-in_err-condition.ensures.1 in
+    ended_err c.from_residual-in_err-condition.result c.in_err-condition.field-0.0 p.0 _ _ _ p.1 p.2 c.in_err-condition.ensures.runs
+    (λ e h q style at.
+    let here = still_at _ _ c.args.place q style c.tests.invariant.steady at in
+    let same = c.integers.ensures ∙ here.style_is in
+    c.tests.invariant.leads q style at _ _ _ (at_prog (ap (λ (bs : List Branch). first_true style (tests_of bs) (option_copied c.in-Some.branches.last)) item)
+    (h q style here c.branch-item.result.test.now (Conditions.kept_in_style c.integers.result style c.branch-item.result.test.now c.in_ok-test.test same c.in_ok-test.ensures.read) _)))
+
+pub expressions::if_first-returns-then-branch-clause-runs : goal.expressions::if_first-returns-then-branch-clause-runs
+expressions::if_first-returns-then-branch-clause-runs g t c =
+    let item = item_on c.deref-branch-items.result.now c.tests.branch-index c.branch-item.result c.tests-test.true c.branch-item.is in
+    let holds = subst (TestGoes g.O.Outside.goes c.tests.tree c.tests.outside c.args.place c.in_ok-test.test c.condition.new.tree c.condition.new.outside) c.if-branch.true c.in_ok-condition.ensures.runs in
+    IfEnded-more c.eval_value.result
+    (EndsAt g.O.Outside.goes c.condition.new.tree c.condition.new.outside c.args.place (λ style. script c.in_ok-body.body) c.eval_value.new.tree c.eval_value.new.outside)
+    (EndsFrom g.O.Outside.goes c.args.tree.now c.args.outside.now c.args.place (λ style. if_first style c.args.args.now) c.eval_value.new.tree c.eval_value.new.outside)
+    (λ e h q style at.
+    let here = still_at _ _ c.args.place q style c.tests.invariant.steady at in
+    let after = still_at _ _ c.args.place q style c.condition.ensures.steady here in
+    let same = c.integers.ensures ∙ here.style_is in
+    c.tests.invariant.leads q style at _ _ _ (at_prog (ap (λ (bs : List Branch). first_true style (tests_of bs) (option_copied c.in-Some.branches.last)) item)
+    (holds q style here c.branch-item.result.test.now (Conditions.kept_in_style c.integers.result style c.branch-item.result.test.now c.in_ok-test.test same c.in_ok-test.ensures.read) _ _ _ _
+    (goes_done {i = Script c.branch-item.result.body.now} (at_prog (ap script (sym c.in_ok-body.ensures.cases)) (h q style (record { names = after.names; style_is = after.style_is }))))))) c.eval_value.ensures.runs
+
+pub expressions::if_first-tests-preserved : goal.expressions::if_first-tests-preserved
+expressions::if_first-tests-preserved g t c =
+    let item = item_on c.deref-branch-items.result.now c.tests.branch-index c.branch-item.result c.tests-test.true c.branch-item.is in
+    let holds = subst (TestGoes g.O.Outside.goes c.tests.tree c.tests.outside c.args.place c.in_ok-test.test c.condition.new.tree c.condition.new.outside) c.if-branch.false c.in_ok-condition.ensures.runs in
+    record {
+      leads = λ q style at V z r run.
+          let here = still_at _ _ c.args.place q style c.tests.invariant.steady at in
+          let same = c.integers.ensures ∙ here.style_is in
+          c.tests.invariant.leads q style at _ _ _ (at_prog (ap (λ (bs : List Branch). first_true style (tests_of bs) (option_copied c.in-Some.branches.last)) item)
+          (holds q style here c.branch-item.result.test.now (Conditions.kept_in_style c.integers.result style c.branch-item.result.test.now c.in_ok-test.test same c.in_ok-test.ensures.read) _ V z r run));
+      steady = steady-trans _ _ _ c.tests.invariant.steady c.condition.ensures.steady;
+      left = let a = c.condition.ensures.left in let b = c.tests.invariant.left in omega arith;
+    }
+
+pub expressions::if_first-returns-in_default-last-clause-runs : goal.expressions::if_first-returns-in_default-last-clause-runs
+expressions::if_first-returns-in_default-last-clause-runs g t c = λ q style at.
+    let none = none_on c.deref-branch-items.result.now c.tests.branch-index c.tests-test.false in
+    c.tests.invariant.leads q style at _ _ _ (at_prog (ap (λ (bs : List Branch). first_true style (tests_of bs) (option_copied c.in-Some.branches.last)) none)
+    (Conditions.last_none style _ (ap option_copied c.in_default-last.is) (ap (λ (x : List ℕ). Completed (ok x)) c.empty.ensures)))
+
+pub expressions::if_first-returns-clause-runs : goal.expressions::if_first-returns-clause-runs
+expressions::if_first-returns-clause-runs g t c =
+    let none = none_on c.deref-branch-items.result.now c.tests.branch-index c.tests-test.false in
+    IfEnded-more c.eval_value-2.result
+    (EndsAt g.O.Outside.goes c.tests.tree c.tests.outside c.args.place (λ style. script c.in_ok-body-2.body) c.eval_value-2.new.tree c.eval_value-2.new.outside)
+    (EndsFrom g.O.Outside.goes c.args.tree.now c.args.outside.now c.args.place (λ style. if_first style c.args.args.now) c.eval_value-2.new.tree c.eval_value-2.new.outside)
+    (λ e h q style at.
+    let here = still_at _ _ c.args.place q style c.tests.invariant.steady at in
+    c.tests.invariant.leads q style at _ _ _ (at_prog (ap (λ (bs : List Branch). first_true style (tests_of bs) (option_copied c.in-Some.branches.last)) none)
+    (Conditions.last_runs style _ c.in-Some-last.last.now (ap option_copied c.in-Some-last.is)
+    (at_prog (ap script (sym c.in_ok-body-2.ensures.cases)) (h q style (record { names = here.names; style_is = here.style_is })))))) c.eval_value-2.ensures.runs
+
+-- turns
+
+pub expressions::turn-returns-in_err-condition-clause-runs : goal.expressions::turn-returns-in_err-condition-clause-runs
+expressions::turn-returns-in_err-condition-clause-runs g t c =
+    let p = err_from_is_err_and c.from_residual.result c.from_residual.ensures.1 in
+    ended_err c.from_residual.result c.in_err-condition.field-0.0 p.0 _ _ _ p.1 p.2 c.in_err-condition.ensures.runs
+    (λ e h q style at text is more. h q style at text is _)
+
+pub expressions::turn-returns-then-not-branch-clause-runs : goal.expressions::turn-returns-then-not-branch-clause-runs
+expressions::turn-returns-then-not-branch-clause-runs g t c =
+    let fails = subst (TestGoes g.O.Outside.goes c.args.tree.now c.args.outside.now c.args.place c.args.test.now c.condition.new.tree c.condition.new.outside) c.if-not-branch.true c.in_ok-condition.ensures.runs in
+    λ q style at text is more. fails q style at text is _ _ _ _ completed
+
+pub expressions::turn-returns-in_err-charge-clause-runs : goal.expressions::turn-returns-in_err-charge-clause-runs
+expressions::turn-returns-in_err-charge-clause-runs g t c =
+    let holds = subst (TestGoes g.O.Outside.goes c.args.tree.now c.args.outside.now c.args.place c.args.test.now c.condition.new.tree c.condition.new.outside) c.if-not-branch.false c.in_ok-condition.ensures.runs in
+    let p = err_from_is_err_and c.from_residual-in_err-charge.result c.from_residual-in_err-charge.ensures.1 in
+    ended_err c.from_residual-in_err-charge.result c.in_err-charge.field-0.0 p.0 _ _ _ p.1 p.2 c.in_err-charge.ensures.stopped
+    (λ e h q style at text is more.
+    let s = h q (still_at _ _ c.args.place q style c.condition.ensures.steady at).names in
+    holds q style at text is _ _ _ _ (at_finish s.same (at_reply s.stop (charge_stops s.levels s.full))))
+
+pub expressions::turn-returns-clause-runs : goal.expressions::turn-returns-clause-runs
+expressions::turn-returns-clause-runs g t c =
+    let holds = subst (TestGoes g.O.Outside.goes c.args.tree.now c.args.outside.now c.args.place c.args.test.now c.condition.new.tree c.condition.new.outside) c.if-not-branch.false c.in_ok-condition.ensures.runs in
+    Conditions.turned after_body c.eval_value.result c.goes_on.result
+    (EndsAt g.O.Outside.goes c.charge.new.tree c.condition.new.outside c.args.place (λ style. script c.args.body.now) c.eval_value.new.tree c.eval_value.new.outside) _ _ c.eval_value.ensures.runs c.goes_on.ensures
+    (λ d on h goes.
+    Conditions.turn_ends g.O.Outside.goes c.args.tree.now c.eval_value.new.tree c.args.outside.now c.eval_value.new.outside c.args.place c.args.test.now c.args.body.now d on
+    (λ q style at text is k V y r run.
+    let here = still_at _ _ c.args.place q style c.condition.ensures.steady at in
+    let after = still_at _ _ c.args.place q style (level_steady _ _ c.charge.ensures.level) here in
+    let free = c.in_ok-charge.ensures.charged q here.names in
+    holds q style at text is _ V y r (charges free.0 free.1 (goes_on {i = Script c.args.body.now} (h q style (record { names = after.names; style_is = after.style_is })) run))) goes)
+    (λ e h l q style at text is more.
+    let here = still_at _ _ c.args.place q style c.condition.ensures.steady at in
+    let after = still_at _ _ c.args.place q style (level_steady _ _ c.charge.ensures.level) here in
+    let free = c.in_ok-charge.ensures.charged q here.names in
+    holds q style at text is _ _ _ _ (charges free.0 free.1 (Conditions.leaves_after style after_body c.args.body.now more e l (h q style (record { names = after.names; style_is = after.style_is })))))
+
+-- while
+
+pub expressions::while_loop-returns-in_default-clause-runs : goal.expressions::while_loop-returns-in_default-clause-runs
+expressions::while_loop-returns-in_default-clause-runs g t c =
+    let other : (length c.args.args.now < 2) ⊎ (3 ≤ length c.args.args.now) = elim c.in_default.branch [
+      | expressions::while_loop-in_default-via-then-args-lt2 w ↦ inl (grind arith)
+      | expressions::while_loop-in_default-via-else-args-lt2+else-args-lt3 w ↦ inr (grind arith)
+    ] in
+    Interrupts-more c.wrong_args.result _ _ (λ e h q style at. Looping.while_other style c.args.args.now other h) c.wrong_args.ensures
+
+pub expressions::while_loop-returns-in_err-test-clause-runs : goal.expressions::while_loop-returns-in_err-test-clause-runs
+expressions::while_loop-returns-in_err-test-clause-runs g t c =
+    let p = err_from_is_err_and c.from_residual.result c.from_residual.ensures.1 in
+    let more = c.in-len2.len_at_least in
+    let test = Looping.item_at c.args.args.now 0 c.test-item.result (omega (arith, more)) c.test-item.is in
+    ended_err c.from_residual.result c.in_err-test.field-0.0 p.0 _ _ _ p.1 p.2 c.in_err-test.ensures.refused
+    (λ e h q style at.
+    Looping.while_begins style c.args.args.now c.in-len2.len_at_least c.in-len2.len_below
+    (Conditions.test_misread style (get_or c.args.args.now 0 []) _ e (Conditions.misread_as c.integers.result style c.test-item.result (get_or c.args.args.now 0 []) e (c.integers.ensures ∙ at.style_is) test h)))
+
+pub expressions::while_loop-turns-init : goal.expressions::while_loop-turns-init
+expressions::while_loop-turns-init g t c =
+    let more = c.in-len2.len_at_least in
+    record {
+      leads = λ q style at V z r run. Looping.while_begins style c.args.args.now c.in-len2.len_at_least c.in-len2.len_below run;
+      body = c.in_ok-body.ensures.cases ∙ Looping.item_at c.args.args.now 1 c.body-item.result (omega (arith, more)) c.body-item.is;
+      steady = steady-refl _;
+      left = search rules;
+    }
+
+pub expressions::while_loop-returns-in_err-turn-clause-runs : goal.expressions::while_loop-returns-in_err-turn-clause-runs
+expressions::while_loop-returns-in_err-turn-clause-runs g t c =
+    let p = err_from_is_err_and c.from_residual-in_err-turn.result c.from_residual-in_err-turn.ensures.1 in
+    let more = c.in-len2.len_at_least in
+    let test = Looping.item_at c.args.args.now 0 c.test-item.result (omega (arith, more)) c.test-item.is in
+    ended_err c.from_residual-in_err-turn.result c.in_err-turn.field-0.0 p.0 _ _ _ p.1 p.2 c.in_err-turn.ensures.runs
+    (λ e h q style at. c.turns.invariant.leads q style at _ _ _
+    (at_prog (ap (λ (body : List ℕ). turn_then style (get_or c.args.args.now 0 []) body (go (While (get_or c.args.args.now 0 []) (get_or c.args.args.now 1 [])) done)) (sym c.turns.invariant.body))
+    (h q style (still_at _ _ c.args.place q style c.turns.invariant.steady at) (get_or c.args.args.now 0 [])
+    (Conditions.kept_as c.integers.result style c.test-item.result (get_or c.args.args.now 0 []) c.in_ok-test.test (c.integers.ensures ∙ at.style_is) test c.in_ok-test.ensures.read) _)))
+
+pub expressions::while_loop-returns-then-not-branch-clause-runs : goal.expressions::while_loop-returns-then-not-branch-clause-runs
+expressions::while_loop-returns-then-not-branch-clause-runs g t c = λ q style at.
+    let more = c.in-len2.len_at_least in
+    let test = Looping.item_at c.args.args.now 0 c.test-item.result (omega (arith, more)) c.test-item.is in
+    let over = subst (TurnGoes g.O.Outside.goes c.turns.tree c.turns.outside c.args.place c.in_ok-test.test c.turns.body c.turn.new.tree c.turn.new.outside) c.if-not-branch.true c.in_ok-turn.ensures.runs in
+    c.turns.invariant.leads q style at _ _ _
+    (at_prog (ap (λ (body : List ℕ). turn_then style (get_or c.args.args.now 0 []) body (go (While (get_or c.args.args.now 0 []) (get_or c.args.args.now 1 [])) done)) (sym c.turns.invariant.body))
+    (at_reply (ap (λ (x : List ℕ). Completed (ok x)) c.empty.ensures)
+    (over q style (still_at _ _ c.args.place q style c.turns.invariant.steady at) (get_or c.args.args.now 0 [])
+    (Conditions.kept_as c.integers.result style c.test-item.result (get_or c.args.args.now 0 []) c.in_ok-test.test (c.integers.ensures ∙ at.style_is) test c.in_ok-test.ensures.read) _)))
+
+pub expressions::while_loop-turns-preserved : goal.expressions::while_loop-turns-preserved
+expressions::while_loop-turns-preserved g t c =
+    let more = c.in-len2.len_at_least in
+    let test = Looping.item_at c.args.args.now 0 c.test-item.result (omega (arith, more)) c.test-item.is in
+    let on = subst (TurnGoes g.O.Outside.goes c.turns.tree c.turns.outside c.args.place c.in_ok-test.test c.turns.body c.turn.new.tree c.turn.new.outside) c.if-not-branch.false c.in_ok-turn.ensures.runs in
+    record {
+      leads = λ q style at V z r run. c.turns.invariant.leads q style at _ _ _
+          (at_prog (ap (λ (body : List ℕ). turn_then style (get_or c.args.args.now 0 []) body (go (While (get_or c.args.args.now 0 []) (get_or c.args.args.now 1 [])) done)) (sym c.turns.invariant.body))
+          (on q style (still_at _ _ c.args.place q style c.turns.invariant.steady at) (get_or c.args.args.now 0 [])
+          (Conditions.kept_as c.integers.result style c.test-item.result (get_or c.args.args.now 0 []) c.in_ok-test.test (c.integers.ensures ∙ at.style_is) test c.in_ok-test.ensures.read) _ V z r
+          (goes_done {i = While (get_or c.args.args.now 0 []) (get_or c.args.args.now 1 [])} run)));
+      body = c.turn.ensures.same ∙ c.turns.invariant.body;
+      steady = steady-trans _ _ _ c.turns.invariant.steady c.turn.ensures.steady;
+      left = let a = c.turn.ensures.left in let b = c.turns.invariant.left in omega arith;
+    }
+
+-- for
+
+pub expressions::for_loop-returns-in_default-clause-runs : goal.expressions::for_loop-returns-in_default-clause-runs
+expressions::for_loop-returns-in_default-clause-runs g t c =
+    let other : (length c.args.args.now < 4) ⊎ (5 ≤ length c.args.args.now) = elim c.in_default.branch [
+      | expressions::for_loop-in_default-via-then-args-lt4 w ↦ inl (grind arith)
+      | expressions::for_loop-in_default-via-else-args-lt4+else-args-lt5 w ↦ inr (grind arith)
+    ] in
+    Interrupts-more c.wrong_args.result _ _ (λ e h q style at. Looping.for_other style c.args.args.now other h) c.wrong_args.ensures
+
+pub expressions::for_loop-returns-in_err-on_ok-clause-runs : goal.expressions::for_loop-returns-in_err-on_ok-clause-runs
+expressions::for_loop-returns-in_err-on_ok-clause-runs g t c =
+    let p = err_from_is_err_and c.from_residual-in_err-on_ok.result c.from_residual-in_err-on_ok.ensures.1 in
+    let more = c.in-len4.len_at_least in
+    let start = c.in_ok-start.ensures.cases ∙ Looping.item_at c.args.args.now 0 c.start-item.result (omega (arith, more)) c.start-item.is in
+    ended_err c.from_residual-in_err-on_ok.result c.in_err-on_ok.field-0.0 p.0 _ _ _ p.1 p.2
+    (stays_of c.eval_value.result c.in_err-on_ok.field-0.0 (EndsAt g.O.Outside.goes c.args.tree.now c.args.outside.now c.args.place (λ style. script c.in_ok-start.start) c.eval_value.new.tree c.eval_value.new.outside)
+    c.in_err-on_ok.ensures.same c.eval_value.ensures.runs c.in_err-on_ok.ensures.stays)
+    (λ e h q style at. Looping.for_stays style c.args.args.now e c.in-len4.len_at_least c.in-len4.len_below h.1
+    (at_prog (ap script (sym start)) (h.0 q style (record { names = at.names; style_is = at.style_is }))))
+
+pub expressions::for_loop-returns-in_err-test-clause-runs : goal.expressions::for_loop-returns-in_err-test-clause-runs
+expressions::for_loop-returns-in_err-test-clause-runs g t c =
+    let p = err_from_is_err_and c.from_residual-in_err-test.result c.from_residual-in_err-test.ensures.1 in
+    let more = c.in-len4.len_at_least in
+    let start = c.in_ok-start.ensures.cases ∙ Looping.item_at c.args.args.now 0 c.start-item.result (omega (arith, more)) c.start-item.is in
+    let test = Looping.item_at c.args.args.now 1 c.test-item.result (omega (arith, more)) c.test-item.is in
+    let x = of_text c.eval_value.result c.in_ok-on_ok.field-0 (EndsAt g.O.Outside.goes c.args.tree.now c.args.outside.now c.args.place (λ style. script c.in_ok-start.start) c.eval_value.new.tree c.eval_value.new.outside)
+    c.in_ok-on_ok.ensures.text c.eval_value.ensures.runs in
+    ended_err c.from_residual-in_err-test.result c.in_err-test.field-0.0 p.0 _ _ _ p.1 p.2 c.in_err-test.ensures.refused
+    (λ e h q style at.
+    let here = still_at _ _ c.args.place q style c.eval_value.ensures.steady at in
+    Looping.for_begins style c.args.args.now x.0 c.in_ok-on_ok.field-0 c.in-len4.len_at_least c.in-len4.len_below x.2 x.3
+    (at_prog (ap script (sym start)) (x.1 q style (record { names = at.names; style_is = at.style_is })))
+    (Conditions.test_misread style (get_or c.args.args.now 1 []) _ e (Conditions.misread_as c.integers.result style c.test-item.result (get_or c.args.args.now 1 []) e (c.integers.ensures ∙ here.style_is) test h)))
+
+pub expressions::for_loop-turns-init : goal.expressions::for_loop-turns-init
+expressions::for_loop-turns-init g t c =
+    let more = c.in-len4.len_at_least in
+    let start = c.in_ok-start.ensures.cases ∙ Looping.item_at c.args.args.now 0 c.start-item.result (omega (arith, more)) c.start-item.is in
+    let x = of_text c.eval_value.result c.in_ok-on_ok.field-0 (EndsAt g.O.Outside.goes c.args.tree.now c.args.outside.now c.args.place (λ style. script c.in_ok-start.start) c.eval_value.new.tree c.eval_value.new.outside)
+    c.in_ok-on_ok.ensures.text c.eval_value.ensures.runs in
+    record {
+      leads = λ q style at V z r run.
+          Looping.for_begins style c.args.args.now x.0 c.in_ok-on_ok.field-0 c.in-len4.len_at_least c.in-len4.len_below x.2 x.3
+          (at_prog (ap script (sym start)) (x.1 q style (record { names = at.names; style_is = at.style_is }))) run;
+      next = c.in_ok-next.ensures.cases ∙ Looping.item_at c.args.args.now 2 c.next-item.result (omega (arith, more)) c.next-item.is;
+      body = c.in_ok-body.ensures.cases ∙ Looping.item_at c.args.args.now 3 c.body-item.result (omega (arith, more)) c.body-item.is;
+      steady = c.eval_value.ensures.steady;
+      left = c.eval_value.ensures.left;
+    }
+
+pub expressions::for_loop-returns-in_err-turn-clause-runs : goal.expressions::for_loop-returns-in_err-turn-clause-runs
+expressions::for_loop-returns-in_err-turn-clause-runs g t c =
+    let p = err_from_is_err_and c.from_residual-in_err-turn.result c.from_residual-in_err-turn.ensures.1 in
+    let more = c.in-len4.len_at_least in
+    let test = Looping.item_at c.args.args.now 1 c.test-item.result (omega (arith, more)) c.test-item.is in
+    ended_err c.from_residual-in_err-turn.result c.in_err-turn.field-0.0 p.0 _ _ _ p.1 p.2 c.in_err-turn.ensures.runs
+    (λ e h q style at.
+    let first = still_at _ _ c.args.place q style c.eval_value.ensures.steady at in
+    c.turns.invariant.leads q style at _ _ _
+    (at_prog (ap (λ (body : List ℕ). turn_then style (get_or c.args.args.now 1 []) body (next_then (get_or c.args.args.now 1 []) (get_or c.args.args.now 2 []) (get_or c.args.args.now 3 []))) (sym c.turns.invariant.body))
+    (h q style (still_at _ _ c.args.place q style c.turns.invariant.steady at) (get_or c.args.args.now 1 [])
+    (Conditions.kept_as c.integers.result style c.test-item.result (get_or c.args.args.now 1 []) c.in_ok-test.test (c.integers.ensures ∙ first.style_is) test c.in_ok-test.ensures.read) _)))
+
+pub expressions::for_loop-returns-in_err-turn-clause-steady : goal.expressions::for_loop-returns-in_err-turn-clause-steady
+expressions::for_loop-returns-in_err-turn-clause-steady g t c = steady-trans _ _ _ c.turns.invariant.steady c.turn.ensures.steady
+
+pub expressions::for_loop-returns-then-not-branch-clause-runs : goal.expressions::for_loop-returns-then-not-branch-clause-runs
+expressions::for_loop-returns-then-not-branch-clause-runs g t c = λ q style at.
+    let more = c.in-len4.len_at_least in
+    let test = Looping.item_at c.args.args.now 1 c.test-item.result (omega (arith, more)) c.test-item.is in
+    let over = subst (TurnGoes g.O.Outside.goes c.turns.tree c.turns.outside c.args.place c.in_ok-test.test c.turns.body c.turn.new.tree c.turn.new.outside) c.if-not-branch.true c.in_ok-turn.ensures.runs in
+    let first = still_at _ _ c.args.place q style c.eval_value.ensures.steady at in
+    c.turns.invariant.leads q style at _ _ _
+    (at_prog (ap (λ (body : List ℕ). turn_then style (get_or c.args.args.now 1 []) body (next_then (get_or c.args.args.now 1 []) (get_or c.args.args.now 2 []) (get_or c.args.args.now 3 []))) (sym c.turns.invariant.body))
+    (at_reply (ap (λ (x : List ℕ). Completed (ok x)) c.empty.ensures)
+    (over q style (still_at _ _ c.args.place q style c.turns.invariant.steady at) (get_or c.args.args.now 1 [])
+    (Conditions.kept_as c.integers.result style c.test-item.result (get_or c.args.args.now 1 []) c.in_ok-test.test (c.integers.ensures ∙ first.style_is) test c.in_ok-test.ensures.read) _)))
+
+pub expressions::for_loop-returns-then-not-branch-clause-steady : goal.expressions::for_loop-returns-then-not-branch-clause-steady
+expressions::for_loop-returns-then-not-branch-clause-steady g t c = steady-trans _ _ _ c.turns.invariant.steady c.turn.ensures.steady
+
+pub expressions::for_loop-returns-in_err-turns_on-clause-runs : goal.expressions::for_loop-returns-in_err-turns_on-clause-runs
+expressions::for_loop-returns-in_err-turns_on-clause-runs g t c =
+    let p = err_from_is_err_and c.from_residual-in_err-turns_on.result c.from_residual-in_err-turns_on.ensures.1 in
+    let more = c.in-len4.len_at_least in
+    let test = Looping.item_at c.args.args.now 1 c.test-item.result (omega (arith, more)) c.test-item.is in
+    let on = subst (TurnGoes g.O.Outside.goes c.turns.tree c.turns.outside c.args.place c.in_ok-test.test c.turns.body c.turn.new.tree c.turn.new.outside) c.if-not-branch.false c.in_ok-turn.ensures.runs in
+    ended_err c.from_residual-in_err-turns_on.result c.in_err-turns_on.field-0.0 p.0 _ _ _ p.1 p.2
+    (Conditions.turned_err after_next c.eval_value-in-turns.result c.in_err-turns_on.field-0.0
+    (EndsAt g.O.Outside.goes c.turn.new.tree c.turn.new.outside c.args.place (λ style. script c.turns.next) c.eval_value-in-turns.new.tree c.eval_value-in-turns.new.outside) c.in_err-turns_on.ensures c.eval_value-in-turns.ensures.runs)
+    (λ e h q style at.
+    let first = still_at _ _ c.args.place q style c.eval_value.ensures.steady at in
+    let here = still_at _ _ c.args.place q style c.turns.invariant.steady at in
+    let after = still_at _ _ c.args.place q style c.turn.ensures.steady here in
+    c.turns.invariant.leads q style at _ _ _
+    (at_prog (ap (λ (body : List ℕ). turn_then style (get_or c.args.args.now 1 []) body (next_then (get_or c.args.args.now 1 []) (get_or c.args.args.now 2 []) (get_or c.args.args.now 3 []))) (sym c.turns.invariant.body))
+    (on q style here (get_or c.args.args.now 1 [])
+    (Conditions.kept_as c.integers.result style c.test-item.result (get_or c.args.args.now 1 []) c.in_ok-test.test (c.integers.ensures ∙ first.style_is) test c.in_ok-test.ensures.read) _ _ _ _
+    (Conditions.leaves_after style after_next (get_or c.args.args.now 2 []) _ e h.1 (at_prog (ap script (sym c.turns.invariant.next)) (h.0 q style (record { names = after.names; style_is = after.style_is })))))))
+
+pub expressions::for_loop-returns-in_err-turns_on-clause-steady : goal.expressions::for_loop-returns-in_err-turns_on-clause-steady
+expressions::for_loop-returns-in_err-turns_on-clause-steady g t c = steady-trans _ _ _ (steady-trans _ _ _ c.turns.invariant.steady c.turn.ensures.steady) c.eval_value-in-turns.ensures.steady
+
+pub expressions::for_loop-returns-then-not-branch-2-clause-runs : goal.expressions::for_loop-returns-then-not-branch-2-clause-runs
+expressions::for_loop-returns-then-not-branch-2-clause-runs g t c = λ q style at.
+    let more = c.in-len4.len_at_least in
+    let test = Looping.item_at c.args.args.now 1 c.test-item.result (omega (arith, more)) c.test-item.is in
+    let on = subst (TurnGoes g.O.Outside.goes c.turns.tree c.turns.outside c.args.place c.in_ok-test.test c.turns.body c.turn.new.tree c.turn.new.outside) c.if-not-branch.false c.in_ok-turn.ensures.runs in
+    let x = Conditions.turned_ok after_next c.eval_value-in-turns.result c.in_ok-turns_on.field-0 false
+    (EndsAt g.O.Outside.goes c.turn.new.tree c.turn.new.outside c.args.place (λ style. script c.turns.next) c.eval_value-in-turns.new.tree c.eval_value-in-turns.new.outside) c.in_ok-turns_on.ensures c.if-not-branch-2.true c.eval_value-in-turns.ensures.runs in
+    let first = still_at _ _ c.args.place q style c.eval_value.ensures.steady at in
+    let here = still_at _ _ c.args.place q style c.turns.invariant.steady at in
+    let after = still_at _ _ c.args.place q style c.turn.ensures.steady here in
+    c.turns.invariant.leads q style at _ _ _
+    (at_prog (ap (λ (body : List ℕ). turn_then style (get_or c.args.args.now 1 []) body (next_then (get_or c.args.args.now 1 []) (get_or c.args.args.now 2 []) (get_or c.args.args.now 3 []))) (sym c.turns.invariant.body))
+    (on q style here (get_or c.args.args.now 1 [])
+    (Conditions.kept_as c.integers.result style c.test-item.result (get_or c.args.args.now 1 []) c.in_ok-test.test (c.integers.ensures ∙ first.style_is) test c.in_ok-test.ensures.read) _ _ _ _
+    (goes_on {i = Script (get_or c.args.args.now 2 [])} (at_prog (ap script (sym c.turns.invariant.next)) (x.1 q style (record { names = after.names; style_is = after.style_is })))
+    (at_prog (x.2 (go (For (get_or c.args.args.now 1 []) (get_or c.args.args.now 2 []) (get_or c.args.args.now 3 [])) done)) (at_reply (ap (λ (y : List ℕ). Completed (ok y)) c.empty-then-not-branch-2.ensures) completed)))))
+
+pub expressions::for_loop-returns-then-not-branch-2-clause-steady : goal.expressions::for_loop-returns-then-not-branch-2-clause-steady
+expressions::for_loop-returns-then-not-branch-2-clause-steady g t c = steady-trans _ _ _ (steady-trans _ _ _ c.turns.invariant.steady c.turn.ensures.steady) c.eval_value-in-turns.ensures.steady
+
+pub expressions::for_loop-turns-preserved : goal.expressions::for_loop-turns-preserved
+expressions::for_loop-turns-preserved g t c =
+    let more = c.in-len4.len_at_least in
+    let test = Looping.item_at c.args.args.now 1 c.test-item.result (omega (arith, more)) c.test-item.is in
+    let on = subst (TurnGoes g.O.Outside.goes c.turns.tree c.turns.outside c.args.place c.in_ok-test.test c.turns.body c.turn.new.tree c.turn.new.outside) c.if-not-branch.false c.in_ok-turn.ensures.runs in
+    let x = Conditions.turned_ok after_next c.eval_value-in-turns.result c.in_ok-turns_on.field-0 true
+    (EndsAt g.O.Outside.goes c.turn.new.tree c.turn.new.outside c.args.place (λ style. script c.turns.next) c.eval_value-in-turns.new.tree c.eval_value-in-turns.new.outside) c.in_ok-turns_on.ensures c.if-not-branch-2.false c.eval_value-in-turns.ensures.runs in
+    record {
+      leads = λ q style at V z r run.
+          let first = still_at _ _ c.args.place q style c.eval_value.ensures.steady at in
+          let here = still_at _ _ c.args.place q style c.turns.invariant.steady at in
+          let after = still_at _ _ c.args.place q style c.turn.ensures.steady here in
+          c.turns.invariant.leads q style at _ _ _
+          (at_prog (ap (λ (body : List ℕ). turn_then style (get_or c.args.args.now 1 []) body (next_then (get_or c.args.args.now 1 []) (get_or c.args.args.now 2 []) (get_or c.args.args.now 3 []))) (sym c.turns.invariant.body))
+          (on q style here (get_or c.args.args.now 1 [])
+          (Conditions.kept_as c.integers.result style c.test-item.result (get_or c.args.args.now 1 []) c.in_ok-test.test (c.integers.ensures ∙ first.style_is) test c.in_ok-test.ensures.read) _ V z r
+          (goes_on {i = Script (get_or c.args.args.now 2 [])} (at_prog (ap script (sym c.turns.invariant.next)) (x.1 q style (record { names = after.names; style_is = after.style_is })))
+          (at_prog (x.2 (go (For (get_or c.args.args.now 1 []) (get_or c.args.args.now 2 []) (get_or c.args.args.now 3 [])) done))
+          (goes_done {i = For (get_or c.args.args.now 1 []) (get_or c.args.args.now 2 []) (get_or c.args.args.now 3 [])} run)))));
+      next = c.eval_value-in-turns.ensures.same ∙ c.turns.invariant.next;
+      body = c.turn.ensures.same ∙ c.turns.invariant.body;
+      steady = steady-trans _ _ _ (steady-trans _ _ _ c.turns.invariant.steady c.turn.ensures.steady) c.eval_value-in-turns.ensures.steady;
+      left = let a = c.turn.ensures.left in let b = c.turns.invariant.left in let d = c.eval_value-in-turns.ensures.left in omega arith;
+    }

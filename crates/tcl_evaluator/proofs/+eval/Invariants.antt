@@ -1,4 +1,5 @@
-use Rattle.std.proofs.Common.{◌≡◌, ◌≤◌, ◌+◌, ◌*◌, [], drop, length}
+use Rattle.std.proofs.Common.{◌≡◌, ◌≤◌, ◌+◌, ◌-◌, ◌*◌, ℕ, List, [], drop, get_or, length}
+use Rattle.std.specs.Option.{option_copied}
 use Rattle.std.specs.String.{string_bytes}
 use Rattle.tcl_core.specs.Paths.{Path}
 use Rattle.tcl_language.specs.Scripts.{commands, words, parts}
@@ -6,6 +7,10 @@ use Rattle.tcl_run.specs.Runs.{IsAt, IsSteady, room}
 use Rattle.tcl_text.specs.declared.integer.Integers.{Integers}
 use Rattle.tcl_tree.specs.TreeOf.{tree_of}
 use Rattle.tcl_calls.specs.Words.{opens, IsShort}
+use Rattle.tcl_expression_evaluation.specs.Steps.{from}
+use Rattle.tcl_language.specs.Expressions.{expression, computed, if_first, first_true, while_loop, while_turns, for_loop, for_turns}
+use Rattle.tcl_calls.specs.BranchesRead.{tests_of}
+use Rattle.tcl_calls.specs.Expressions.{IsKept, settles}
 use Rattle.tcl_evaluator.specs.View.{Leads}
 use Rattle.tcl_evaluator.proofs.+eval.Given as goal
 
@@ -111,6 +116,67 @@ invariant-evaluation::substitute-parts g l = record {
   leads : (p : Path) (style : Integers) → IsAt l.fn.tree l.place p style →
       Leads g.O.Outside.goes style (tree_of l.fn.tree) l.fn.outside p (parts l.fn.parts [] []) (tree_of l.tree) l.outside (parts (drop l.part-index l.parts) (opens l.elements.items) (string_bytes l.text));
   short : IsShort (string_bytes l.text);
+  steady : IsSteady l.fn.tree l.tree;
+  left : g.O.Outside.entries_left l.outside ≤ g.O.Outside.entries_left l.fn.outside;
+}
+
+-- Expressions, and the commands with conditions.
+
+abbrev pub decreases-expressions::expression : goal.decreases-expressions::expression
+decreases-expressions::expression g l = 16016 * g.O.Outside.entries_left l.outside.now + 16 * room (tree_of l.tree.now) + 5
+
+abbrev pub decreases-expressions::condition : goal.decreases-expressions::condition
+decreases-expressions::condition g l = 16016 * g.O.Outside.entries_left l.outside.now + 16 * room (tree_of l.tree.now) + 6
+
+abbrev pub decreases-expressions::expr : goal.decreases-expressions::expr
+decreases-expressions::expr g l = 16016 * g.O.Outside.entries_left l.outside.now + 16 * room (tree_of l.tree.now) + 6
+
+abbrev pub decreases-expressions::if_first : goal.decreases-expressions::if_first
+decreases-expressions::if_first g l = 16016 * g.O.Outside.entries_left l.outside.now + 16 * room (tree_of l.tree.now) + 7
+
+abbrev pub decreases-expressions::turn : goal.decreases-expressions::turn
+decreases-expressions::turn g l = 16016 * g.O.Outside.entries_left l.outside.now + 16 * room (tree_of l.tree.now) + 7
+
+abbrev pub decreases-expressions::while_loop : goal.decreases-expressions::while_loop
+decreases-expressions::while_loop g l = 16016 * g.O.Outside.entries_left l.outside.now + 16 * room (tree_of l.tree.now) + 8
+
+abbrev pub decreases-expressions::for_loop : goal.decreases-expressions::for_loop
+decreases-expressions::for_loop g l = 16016 * g.O.Outside.entries_left l.outside.now + 16 * room (tree_of l.tree.now) + 8
+
+abbrev pub decreases-expressions::expression-parts : goal.decreases-expressions::expression-parts
+decreases-expressions::expression-parts g l = length l.kept.nodes.items - l.evaluation.next
+
+abbrev pub invariant-expressions::expression-parts : goal.invariant-expressions::expression-parts
+invariant-expressions::expression-parts g l = record {
+  leads : (p : Path) (style : Integers) → IsAt l.fn.tree l.place p style → (text : List ℕ) → IsKept style text l.fn.kept →
+      Leads g.O.Outside.goes style (tree_of l.fn.tree) l.fn.outside p (expression style text) (tree_of l.tree) l.outside (computed (from style l.kept.nodes.items l.evaluation.next l.evaluation.values.items) (settles style));
+  steady : IsSteady l.fn.tree l.tree;
+  left : g.O.Outside.entries_left l.outside ≤ g.O.Outside.entries_left l.fn.outside;
+}
+
+abbrev pub invariant-expressions::if_first-tests : goal.invariant-expressions::if_first-tests
+invariant-expressions::if_first-tests g l = record {
+  leads : (p : Path) (style : Integers) → IsAt l.fn.tree l.place p style →
+      Leads g.O.Outside.goes style (tree_of l.fn.tree) l.fn.outside p (if_first style l.fn.args) (tree_of l.tree) l.outside (first_true style (tests_of (drop l.branch-index l.branch-items)) (option_copied l.last));
+  steady : IsSteady l.fn.tree l.tree;
+  left : g.O.Outside.entries_left l.outside ≤ g.O.Outside.entries_left l.fn.outside;
+}
+
+abbrev pub invariant-expressions::while_loop-turns : goal.invariant-expressions::while_loop-turns
+invariant-expressions::while_loop-turns g l = record {
+  leads : (p : Path) (style : Integers) → IsAt l.fn.tree l.place p style →
+      Leads g.O.Outside.goes style (tree_of l.fn.tree) l.fn.outside p (while_loop l.fn.args) (tree_of l.tree) l.outside (while_turns style (get_or l.fn.args 0 []) (get_or l.fn.args 1 []));
+  body : l.body ≡ get_or l.fn.args 1 [];
+  steady : IsSteady l.fn.tree l.tree;
+  left : g.O.Outside.entries_left l.outside ≤ g.O.Outside.entries_left l.fn.outside;
+}
+
+abbrev pub invariant-expressions::for_loop-turns : goal.invariant-expressions::for_loop-turns
+invariant-expressions::for_loop-turns g l = record {
+  leads : (p : Path) (style : Integers) → IsAt l.fn.tree l.place p style →
+      Leads g.O.Outside.goes style (tree_of l.fn.tree) l.fn.outside p (for_loop l.fn.args) (tree_of l.tree) l.outside (for_turns style (get_or l.fn.args 1 []) (get_or l.fn.args 2 []) (get_or l.fn.args 3 []));
+  next : l.next ≡ get_or l.fn.args 2 [];
+  body : l.body ≡ get_or l.fn.args 3 [];
   steady : IsSteady l.fn.tree l.tree;
   left : g.O.Outside.entries_left l.outside ≤ g.O.Outside.entries_left l.fn.outside;
 }
