@@ -9,6 +9,7 @@ ghost use Rattle.tcl_evaluator.specs.View.{LeavesProc};
 use crate::control::{catch, eval};
 use crate::evaluation::eval_value;
 use crate::expressions::{expr, for_loop, if_first, while_loop};
+use crate::loops::{foreach, uplevel};
 use std::alloc::{AllocError, Global};
 use tcl_calls::lookup::find_command;
 use tcl_calls::procedures::{bind, enter_frame, leave_frame, wrong_form};
@@ -89,6 +90,8 @@ fn call_builtin<O: Outside>(
     match builtin {
         Builtin::Eval => eval(tree, alloc, outside, place, args),
         Builtin::Catch => catch(tree, alloc, outside, place, args),
+        Builtin::Uplevel => uplevel(tree, alloc, outside, place, args),
+        Builtin::Foreach => foreach(tree, alloc, outside, place, args),
         Builtin::Expr => expr(tree, alloc, outside, place, args),
         Builtin::If => if_first(tree, alloc, outside, place, args),
         Builtin::While => while_loop(tree, alloc, outside, place, args),

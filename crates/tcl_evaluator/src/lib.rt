@@ -5,3 +5,4 @@ mod commands;
 mod control;
 pub mod evaluation;
 mod expressions;
+mod loops;
