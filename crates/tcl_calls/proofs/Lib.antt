@@ -3,5 +3,7 @@ mod Branching
 mod Closing
 mod Keeping
 mod Kept
+mod Levelling
 mod Stops
 mod Turning
+mod Walking

@@ -12,4 +12,5 @@ pub mod procedures;
 pub mod scripts;
 pub mod setting;
 pub mod turns;
+pub mod walks;
 pub mod words;

@@ -11,6 +11,7 @@ use crate::crossing::call_alias;
 use crate::interpreters::interp;
 use crate::evaluation::eval_value;
 use crate::expressions::{expr, for_loop, if_first, while_loop};
+use crate::loops::{foreach, uplevel};
 use std::alloc::{AllocError, Global};
 use tcl_calls::lookup::{find_command, find_hidden};
 use tcl_calls::procedures::{bind, enter_frame, leave_frame, wrong_form};
@@ -113,6 +114,8 @@ fn call_builtin<O: Outside>(
         Builtin::Eval => eval(tree, alloc, outside, place, args),
         Builtin::Catch => catch(tree, alloc, outside, place, args),
         Builtin::Interp => interp(tree, alloc, outside, place, args),
+        Builtin::Uplevel => uplevel(tree, alloc, outside, place, args),
+        Builtin::Foreach => foreach(tree, alloc, outside, place, args),
         Builtin::Expr => expr(tree, alloc, outside, place, args),
         Builtin::If => if_first(tree, alloc, outside, place, args),
         Builtin::While => while_loop(tree, alloc, outside, place, args),

@@ -9,3 +9,4 @@ pub mod hosting;
 mod interpreters;
 pub mod running;
 mod expressions;
+mod loops;

@@ -92,6 +92,18 @@ use Rattle.tcl_run.proofs.Leads.{at_finish, charges, charge_stops, goes_done, go
 use Rattle.tcl_calls.specs.BranchesRead.{seen, tests_of}
 use Rattle.tcl_calls.specs.declared.branches.Branch.{Branch}
 use Rattle.tcl_calls.specs.Expressions.{IsRefused, settles}
+use Rattle.tcl_language.specs.Control.{foreach_turns, is_over, sets_walks, uplevel}
+use Rattle.tcl_language.specs.Instructions.{Walk as Left}
+use Rattle.tcl_language.specs.Instructions.Instr.{Foreach}
+use Rattle.tcl_run.specs.Plain.{Does}
+use Rattle.tcl_tree.specs.TreeOf.{marks_of}
+use Rattle.tcl_calls.specs.Levels.{script_level}
+use Rattle.tcl_calls.specs.Walks.{walks_at}
+use Rattle.tcl_calls.specs.declared.walks.Walk.{Walk}
+use Rattle.std.proofs.Common.{map}
+use Rattle.tcl_evaluator.proofs.Levelling
+use Rattle.tcl_evaluator.proofs.Walking
+use Rattle.tcl_evaluator.proofs.Walking.{passed}
 use Rattle.tcl_evaluator.proofs.Conditions
 use Rattle.tcl_evaluator.proofs.Looping
 use Rattle.tcl_evaluator.proofs.Looping.{next_then}
@@ -1272,3 +1284,173 @@ expressions::for_loop-turns-preserved g t c =
       steady = steady-trans _ _ _ (steady-trans _ _ _ c.turns.invariant.steady c.turn.ensures.steady) c.eval_value-in-turns.ensures.steady;
       left = let a = c.turn.ensures.left in let b = c.turns.invariant.left in let d = c.eval_value-in-turns.ensures.left in omega arith;
     }
+
+-- # Loops over lists, and scripts at another level
+
+pub loops::foreach-returns-in_default-clause-runs : goal.loops::foreach-returns-in_default-clause-runs
+loops::foreach-returns-in_default-clause-runs g t c =
+    Interrupts-more c.wrong_args.result _ _ (λ e h q style at. Walking.foreach_none style c.args.args.now c.in_default.ensures h) c.wrong_args.ensures
+
+pub loops::foreach-returns-in_err-walks-clause-runs : goal.loops::foreach-returns-in_err-walks-clause-runs
+loops::foreach-returns-in_err-walks-clause-runs g t c =
+    let p = err_from_is_err_and c.from_residual.result c.from_residual.ensures.1 in
+    ended_err c.from_residual.result c.in_err-walks.field-0.0 p.0 _ _ _ p.1 p.2 c.in_err-walks.ensures.refused
+    (λ e h q style at. Walking.foreach_misread style c.args.args.now c.in-Some.words.now c.in-Some.body.now e c.in-Some.ensures h)
+
+pub loops::foreach-turns-init : goal.loops::foreach-turns-init
+loops::foreach-turns-init g t c = record {
+  leads = λ q style at V z r run. Walking.foreach_begins style c.args.args.now c.in-Some.words.now c.in-Some.body.now c.in_ok-walks.walks.items c.in-Some.ensures c.in_ok-walks.ensures.read
+      (at_prog (ap (foreach_turns (walks_at 0 c.in_ok-walks.walks.items)) (sym c.in_ok-body.ensures.cases)) run);
+  body = refl;
+  steady = steady-refl _;
+  left = search rules;
+}
+
+pub loops::foreach-returns-then-is_over-clause-runs : goal.loops::foreach-returns-then-is_over-clause-runs
+loops::foreach-returns-then-is_over-clause-runs g t c = λ q style at.
+    let over = ap (λ (ws : List Walk). is_over (walks_at c.turns.turns ws)) (sym c.as_slice.ensures.value) ∙ sym c.is_over.ensures ∙ c.if-is_over.true in
+    c.turns.invariant.leads q style at _ _ _
+    (Walking.turn_over style (walks_at c.turns.turns c.in_ok-walks.walks.items) c.in_ok-body.body over (ap (λ (x : List ℕ). Completed (ok x)) c.empty.ensures))
+
+pub loops::foreach-returns-in_err-charge-clause-runs : goal.loops::foreach-returns-in_err-charge-clause-runs
+loops::foreach-returns-in_err-charge-clause-runs g t c =
+    let more = ap (λ (ws : List Walk). is_over (walks_at c.turns.turns ws)) (sym c.as_slice.ensures.value) ∙ sym c.is_over.ensures ∙ c.if-is_over.false in
+    let p = err_from_is_err_and c.from_residual-in_err-charge.result c.from_residual-in_err-charge.ensures.1 in
+    ended_err c.from_residual-in_err-charge.result c.in_err-charge.field-0.0 p.0 _ _ _ p.1 p.2 c.in_err-charge.ensures.stopped
+    (λ e h q style at. c.turns.invariant.leads q style at _ _ _
+    (Walking.turn_stops style (walks_at c.turns.turns c.in_ok-walks.walks.items) c.in_ok-body.body more (h q (still_at _ _ c.args.place q style c.turns.invariant.steady at).names)))
+
+pub loops::foreach-returns-in_err-set_walks-clause-runs : goal.loops::foreach-returns-in_err-set_walks-clause-runs
+loops::foreach-returns-in_err-set_walks-clause-runs g t c =
+    let more = ap (λ (ws : List Walk). is_over (walks_at c.turns.turns ws)) (sym c.as_slice.ensures.value) ∙ sym c.is_over.ensures ∙ c.if-is_over.false in
+    let p = err_from_is_err_and c.from_residual-in_err-set_walks.result c.from_residual-in_err-set_walks.ensures.1 in
+    ended_err c.from_residual-in_err-set_walks.result c.in_err-set_walks.field-0.0 p.0 _ _ _ p.1 p.2 c.in_err-set_walks.ensures.set
+    (λ e h q style at.
+    let here = still_at _ _ c.args.place q style c.turns.invariant.steady at in
+    let after = still_at _ _ c.args.place q style (level_steady _ _ c.charge.ensures.level) here in
+    let free = c.in_ok-charge.ensures.charged q here.names in
+    c.turns.invariant.leads q style at _ _ _
+    (Walking.turn_fails style (walks_at c.turns.turns c.in_ok-walks.walks.items) c.in_ok-body.body more free.0 free.1
+    (λ k. subst (λ (ws : List Walk). Does (sets_walks (walks_at c.turns.turns ws) (λ rest. k)) (tree_of c.charge.new.tree) q (tree_of c.set_walks.new.tree) e) c.as_slice-in-turns.ensures.value (h q after.names k))))
+
+pub loops::foreach-returns-in_err-goes_on-clause-runs : goal.loops::foreach-returns-in_err-goes_on-clause-runs
+loops::foreach-returns-in_err-goes_on-clause-runs g t c =
+    let more = ap (λ (ws : List Walk). is_over (walks_at c.turns.turns ws)) (sym c.as_slice.ensures.value) ∙ sym c.is_over.ensures ∙ c.if-is_over.false in
+    let p = err_from_is_err_and c.from_residual-in_err-goes_on.result c.from_residual-in_err-goes_on.ensures.1 in
+    ended_err c.from_residual-in_err-goes_on.result c.in_err-goes_on.field-0.0 p.0 _ _ _ p.1 p.2
+    (Conditions.turned_err after_body c.eval_value.result c.in_err-goes_on.field-0.0
+    (EndsAt g.O.Outside.goes c.set_walks.new.tree c.turns.outside c.args.place (λ style. script c.turns.body) c.eval_value.new.tree c.eval_value.new.outside) c.in_err-goes_on.ensures c.eval_value.ensures.runs)
+    (λ e h q style at.
+    let here = still_at _ _ c.args.place q style c.turns.invariant.steady at in
+    let after = still_at _ _ c.args.place q style (level_steady _ _ c.charge.ensures.level) here in
+    let set = still_at _ _ c.args.place q style (level_steady _ _ c.set_walks.ensures.level) after in
+    let free = c.in_ok-charge.ensures.charged q here.names in
+    c.turns.invariant.leads q style at _ _ _
+    (Walking.turn_begins style (walks_at c.turns.turns c.in_ok-walks.walks.items) c.in_ok-body.body more free.0 free.1
+    (Walking.walks_set (walks_at c.turns.turns c.in_ok-walks.walks.items) (tree_of c.charge.new.tree) (tree_of c.set_walks.new.tree) q
+    (λ k V r d. subst (λ (ws : List Walk). Does (sets_walks (walks_at c.turns.turns ws) (λ rest. k)) (tree_of c.charge.new.tree) q V r) c.as_slice-in-turns.ensures.value (c.in_ok-set_walks.ensures.set q after.names k V r d)))
+    (Conditions.leaves_after style after_body c.in_ok-body.body _ e h.1 (at_prog (ap script (sym c.turns.invariant.body)) (h.0 q style (record { names = set.names; style_is = set.style_is }))))))
+
+pub loops::foreach-returns-then-not-branch-clause-runs : goal.loops::foreach-returns-then-not-branch-clause-runs
+loops::foreach-returns-then-not-branch-clause-runs g t c = λ q style at.
+    let more = ap (λ (ws : List Walk). is_over (walks_at c.turns.turns ws)) (sym c.as_slice.ensures.value) ∙ sym c.is_over.ensures ∙ c.if-is_over.false in
+    let x = Conditions.turned_ok after_body c.eval_value.result c.in_ok-goes_on.field-0 false
+    (EndsAt g.O.Outside.goes c.set_walks.new.tree c.turns.outside c.args.place (λ style. script c.turns.body) c.eval_value.new.tree c.eval_value.new.outside) c.in_ok-goes_on.ensures c.if-not-branch.true c.eval_value.ensures.runs in
+    let here = still_at _ _ c.args.place q style c.turns.invariant.steady at in
+    let after = still_at _ _ c.args.place q style (level_steady _ _ c.charge.ensures.level) here in
+    let set = still_at _ _ c.args.place q style (level_steady _ _ c.set_walks.ensures.level) after in
+    let free = c.in_ok-charge.ensures.charged q here.names in
+    c.turns.invariant.leads q style at _ _ _
+    (Walking.turn_begins style (walks_at c.turns.turns c.in_ok-walks.walks.items) c.in_ok-body.body more free.0 free.1
+    (Walking.walks_set (walks_at c.turns.turns c.in_ok-walks.walks.items) (tree_of c.charge.new.tree) (tree_of c.set_walks.new.tree) q
+    (λ k V r d. subst (λ (ws : List Walk). Does (sets_walks (walks_at c.turns.turns ws) (λ rest. k)) (tree_of c.charge.new.tree) q V r) c.as_slice-in-turns.ensures.value (c.in_ok-set_walks.ensures.set q after.names k V r d)))
+    (goes_on {i = Script c.in_ok-body.body} (at_prog (ap script (sym c.turns.invariant.body)) (x.1 q style (record { names = set.names; style_is = set.style_is })))
+    (at_prog (x.2 (go (Foreach (map passed (walks_at c.turns.turns c.in_ok-walks.walks.items)) c.in_ok-body.body) done)) (at_reply (ap (λ (y : List ℕ). Completed (ok y)) c.empty-then-not-branch.ensures) completed))))
+
+pub loops::foreach-turns-preserved : goal.loops::foreach-turns-preserved
+loops::foreach-turns-preserved g t c =
+    let more = ap (λ (ws : List Walk). is_over (walks_at c.turns.turns ws)) (sym c.as_slice.ensures.value) ∙ sym c.is_over.ensures ∙ c.if-is_over.false in
+    let x = Conditions.turned_ok after_body c.eval_value.result c.in_ok-goes_on.field-0 true
+    (EndsAt g.O.Outside.goes c.set_walks.new.tree c.turns.outside c.args.place (λ style. script c.turns.body) c.eval_value.new.tree c.eval_value.new.outside) c.in_ok-goes_on.ensures c.if-not-branch.false c.eval_value.ensures.runs in
+    record {
+      leads = λ q style at V z r run.
+          let here = still_at _ _ c.args.place q style c.turns.invariant.steady at in
+          let after = still_at _ _ c.args.place q style (level_steady _ _ c.charge.ensures.level) here in
+          let set = still_at _ _ c.args.place q style (level_steady _ _ c.set_walks.ensures.level) after in
+          let free = c.in_ok-charge.ensures.charged q here.names in
+          c.turns.invariant.leads q style at _ _ _
+          (Walking.turn_begins style (walks_at c.turns.turns c.in_ok-walks.walks.items) c.in_ok-body.body more free.0 free.1
+          (Walking.walks_set (walks_at c.turns.turns c.in_ok-walks.walks.items) (tree_of c.charge.new.tree) (tree_of c.set_walks.new.tree) q
+          (λ k V r d. subst (λ (ws : List Walk). Does (sets_walks (walks_at c.turns.turns ws) (λ rest. k)) (tree_of c.charge.new.tree) q V r) c.as_slice-in-turns.ensures.value (c.in_ok-set_walks.ensures.set q after.names k V r d)))
+          (goes_on {i = Script c.in_ok-body.body} (at_prog (ap script (sym c.turns.invariant.body)) (x.1 q style (record { names = set.names; style_is = set.style_is })))
+          (at_prog (x.2 (go (Foreach (map passed (walks_at c.turns.turns c.in_ok-walks.walks.items)) c.in_ok-body.body) done))
+          (goes_done {i = Foreach (map passed (walks_at c.turns.turns c.in_ok-walks.walks.items)) c.in_ok-body.body}
+          (at_prog (ap (λ (ws : List Left). foreach_turns ws c.in_ok-body.body) (Walking.walks_next c.turns.turns c.in_ok-walks.walks.items)) run)))));
+      body = c.eval_value.ensures.same ∙ c.turns.invariant.body;
+      steady = steady-trans _ _ _ (steady-trans _ _ _ (steady-trans _ _ _ c.turns.invariant.steady (level_steady _ _ c.charge.ensures.level)) (level_steady _ _ c.set_walks.ensures.level)) c.eval_value.ensures.steady;
+      left = let a = c.eval_value.ensures.left in let b = c.turns.invariant.left in omega arith;
+    }
+
+pub loops::uplevel-returns-in_err-level-clause-runs : goal.loops::uplevel-returns-in_err-level-clause-runs
+loops::uplevel-returns-in_err-level-clause-runs g t c =
+    let p = err_from_is_err_and c.from_residual.result c.from_residual.ensures.1 in
+    ended_err c.from_residual.result c.in_err-level.field-0.0 p.0 _ _ _ p.1 p.2
+    (Interrupts-at c.in_err-level.field-0.0 c.args.tree.now c.args.place (λ n e. IsFailure itself (script_level (marks_of c.args.tree.now).integers n c.args.args.now) e) c.in_err-level.ensures)
+    (λ e h q style at. let n = stands (tree_of c.args.tree.now q) (tree_there c.args.tree.now q _ at.names) in
+    Levelling.up_fails style c.args.args.now e n.1 (subst (λ (s : Integers). IsFailure itself (script_level s n.0 c.args.args.now) e) at.style_is (h q n.0 at.names n.1)))
+
+pub loops::uplevel-returns-in_err-script-clause-runs : goal.loops::uplevel-returns-in_err-script-clause-runs
+loops::uplevel-returns-in_err-script-clause-runs g t c =
+    let p = err_from_is_err_and c.from_residual-in_err-script.result c.from_residual-in_err-script.ensures.1 in
+    ended_err c.from_residual-in_err-script.result c.in_err-script.field-0.0 p.0 _ _ _ p.1 p.2 c.in_err-script.ensures.refused
+    (λ e h q style at. let n = stands (tree_of c.args.tree.now q) (tree_there c.args.tree.now q _ at.names) in
+    Levelling.up_found style c.args.args.now c.in_ok-level.words.now c.in_ok-level.level n.1
+    (ap (λ (s : Integers). script_level s n.0 c.args.args.now) (sym at.style_is) ∙ c.in_ok-level.ensures q n.0 at.names n.1)
+    (Levelling.up_long style c.in_ok-level.words.now c.in_ok-level.level h.0 h.1))
+
+pub loops::uplevel-returns-clause-runs : goal.loops::uplevel-returns-clause-runs
+loops::uplevel-returns-clause-runs g t c =
+    IfEnded-more c.eval_value-ended.result
+    (EndsAt g.O.Outside.goes c.set_aside.new.tree c.args.outside.now c.args.place (λ style. script c.in_ok-script.script) c.eval_value-ended.new.tree c.eval_value-ended.new.outside)
+    (EndsFrom g.O.Outside.goes c.args.tree.now c.args.outside.now c.args.place (λ style. uplevel style c.args.args.now) c.bring_back.new.tree c.eval_value-ended.new.outside)
+    (λ e h q style at.
+    let n = stands (tree_of c.args.tree.now q) (tree_there c.args.tree.now q _ at.names) in
+    let here = still_at c.args.tree.now c.set_aside.new.tree c.args.place q style (level_steady _ _ c.in_ok-set_aside.ensures.level) at in
+    let after = still_at c.set_aside.new.tree c.eval_value-ended.new.tree c.args.place q style c.eval_value-ended.ensures.steady here in
+    let m = stands (tree_of c.eval_value-ended.new.tree q) (tree_there c.eval_value-ended.new.tree q _ after.names) in
+    Levelling.up_found style c.args.args.now c.in_ok-level.words.now c.in_ok-level.level n.1
+    (ap (λ (s : Integers). script_level s n.0 c.args.args.now) (sym at.style_is) ∙ c.in_ok-level.ensures q n.0 at.names n.1)
+    (Levelling.up_runs style c.in_ok-level.words.now c.in_ok-level.level c.in_ok-script.ensures.whole.1 n.1 (c.in_ok-set_aside.ensures.aside q n.0 at.names n.1) m.1 (c.bring_back.ensures.back q m.0 after.names m.1)
+    (at_prog (ap script (sym c.in_ok-script.ensures.whole.0)) (h q style (record { names = here.names; style_is = here.style_is }))))) c.eval_value-ended.ensures.runs
+
+-- what stays as it is, in conditions and loops
+
+pub expressions::if_first-condition-requires : goal.expressions::if_first-condition-requires
+expressions::if_first-condition-requires g t c κs within = (search rules, (search rules, still_running _ _ c.args.place c.tests.invariant.steady c.requires))
+
+pub expressions::if_first-returns-in_err-condition-clause-steady : goal.expressions::if_first-returns-in_err-condition-clause-steady
+expressions::if_first-returns-in_err-condition-clause-steady g t c = steady-trans _ _ _ c.tests.invariant.steady c.condition.ensures.steady
+
+pub expressions::if_first-returns-in_err-body-clause-steady : goal.expressions::if_first-returns-in_err-body-clause-steady
+expressions::if_first-returns-in_err-body-clause-steady g t c = steady-trans _ _ _ c.tests.invariant.steady c.condition.ensures.steady
+
+pub expressions::if_first-eval_value-requires : goal.expressions::if_first-eval_value-requires
+expressions::if_first-eval_value-requires g t c κs within = (search rules, (search rules, let r = still_running _ _ c.args.place (steady-trans _ _ _ c.tests.invariant.steady c.condition.ensures.steady) c.requires in (r.0, r.1)))
+
+pub expressions::if_first-returns-then-branch-clause-steady : goal.expressions::if_first-returns-then-branch-clause-steady
+expressions::if_first-returns-then-branch-clause-steady g t c = steady-trans _ _ _ c.tests.invariant.steady (steady-trans _ _ _ c.condition.ensures.steady c.eval_value.ensures.steady)
+
+pub expressions::if_first-returns-clause-steady : goal.expressions::if_first-returns-clause-steady
+expressions::if_first-returns-clause-steady g t c = steady-trans _ _ _ c.tests.invariant.steady c.eval_value-2.ensures.steady
+
+pub expressions::while_loop-returns-in_err-turn-clause-steady : goal.expressions::while_loop-returns-in_err-turn-clause-steady
+expressions::while_loop-returns-in_err-turn-clause-steady g t c = steady-trans _ _ _ c.turns.invariant.steady c.turn.ensures.steady
+
+pub expressions::while_loop-returns-then-not-branch-clause-steady : goal.expressions::while_loop-returns-then-not-branch-clause-steady
+expressions::while_loop-returns-then-not-branch-clause-steady g t c = steady-trans _ _ _ c.turns.invariant.steady c.turn.ensures.steady
+
+pub expressions::for_loop-turn-requires : goal.expressions::for_loop-turn-requires
+expressions::for_loop-turn-requires g t c κs within = (search rules, (search rules, still_running _ _ c.args.place c.turns.invariant.steady c.requires))
+
+pub expressions::for_loop-eval_value-requires-in-turns : goal.expressions::for_loop-eval_value-requires-in-turns
+expressions::for_loop-eval_value-requires-in-turns g t c κs within = (search rules, (search rules, let r = still_running _ _ c.args.place (steady-trans _ _ _ c.turns.invariant.steady c.turn.ensures.steady) c.requires in (r.0, r.1)))

@@ -9,8 +9,10 @@ use Rattle.tcl_tree.specs.TreeOf.{tree_of}
 use Rattle.tcl_calls.specs.Words.{opens, IsShort}
 use Rattle.tcl_expression_evaluation.specs.Steps.{from}
 use Rattle.tcl_language.specs.Expressions.{expression, computed, if_first, first_true, while_loop, while_turns, for_loop, for_turns}
+use Rattle.tcl_language.specs.Control.{foreach, foreach_turns}
 use Rattle.tcl_calls.specs.BranchesRead.{tests_of}
 use Rattle.tcl_calls.specs.Expressions.{IsKept, settles}
+use Rattle.tcl_calls.specs.Walks.{walks_at}
 use Rattle.tcl_evaluator.specs.View.{Leads}
 use Rattle.tcl_evaluator.proofs.+eval.Given as goal
 
@@ -177,6 +179,23 @@ invariant-expressions::for_loop-turns g l = record {
       Leads g.O.Outside.goes style (tree_of l.fn.tree) l.fn.outside p (for_loop l.fn.args) (tree_of l.tree) l.outside (for_turns style (get_or l.fn.args 1 []) (get_or l.fn.args 2 []) (get_or l.fn.args 3 []));
   next : l.next ≡ get_or l.fn.args 2 [];
   body : l.body ≡ get_or l.fn.args 3 [];
+  steady : IsSteady l.fn.tree l.tree;
+  left : g.O.Outside.entries_left l.outside ≤ g.O.Outside.entries_left l.fn.outside;
+}
+
+-- Loops over lists, and scripts at another level.
+
+abbrev pub decreases-loops::foreach : goal.decreases-loops::foreach
+decreases-loops::foreach g l = 16016 * g.O.Outside.entries_left l.outside.now + 16 * room (tree_of l.tree.now) + 7
+
+abbrev pub decreases-loops::uplevel : goal.decreases-loops::uplevel
+decreases-loops::uplevel g l = 16016 * g.O.Outside.entries_left l.outside.now + 16 * room (tree_of l.tree.now) + 2
+
+abbrev pub invariant-loops::foreach-turns : goal.invariant-loops::foreach-turns
+invariant-loops::foreach-turns g l = record {
+  leads : (p : Path) (style : Integers) → IsAt l.fn.tree l.place p style →
+      Leads g.O.Outside.goes style (tree_of l.fn.tree) l.fn.outside p (foreach l.fn.args) (tree_of l.tree) l.outside (foreach_turns (walks_at l.turns l.walks.items) l.initial.body);
+  body : l.body ≡ l.initial.body;
   steady : IsSteady l.fn.tree l.tree;
   left : g.O.Outside.entries_left l.outside ≤ g.O.Outside.entries_left l.fn.outside;
 }
