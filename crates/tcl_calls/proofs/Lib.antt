@@ -1,5 +1,9 @@
 mod Binding
+mod Branching
 mod Closing
 mod Keeping
 mod Kept
+mod Levelling
 mod Stops
+mod Turning
+mod Walking

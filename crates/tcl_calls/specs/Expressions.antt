@@ -1,16 +1,19 @@
 -- What contracts see of expressions that commands read.
-use Rattle.std.specs.Prelude.{◌≡◌, ℕ, List, [], Result, Ok, Err}
-use Rattle.tcl_core.specs.Endings.{ok}
+use Rattle.std.specs.Prelude.{◌≡◌, ◌<◌, ℕ, List, [], Result, Ok, Err}
+use Rattle.tcl_core.specs.Endings.{Reply, ok}
 use Rattle.tcl_core.specs.Endings.Reply.{Completed}
 use Rattle.tcl_core.specs.Paths.{Text}
 use Rattle.tcl_core.specs.Programs.Prog.{done}
 use Rattle.tcl_expr.specs.Expressions.{expression_of}
 use Rattle.tcl_expr_grammar.specs.Trees.{Tree}
-use Rattle.tcl_expression_evaluation.specs.Computations.{computation_of, final}
+use Rattle.tcl_expression_evaluation.specs.Computations.{Computation, value, refused, substitute, computation_of, final}
 use Rattle.tcl_expression_evaluation.specs.Steps.{from}
+use Rattle.tcl_expression_evaluation.specs.declared.evaluation.Progress.{Progress}
+use Rattle.tcl_expression_evaluation.specs.declared.evaluation.Progress.TheVariants as progress
 use Rattle.tcl_expression_tree.specs.declared.tree.ExprTree.{ExprTree}
 use Rattle.tcl_language.specs.Instructions.{Program, or_fails}
 use Rattle.tcl_operators.specs.Messages.{message_of}
+use Rattle.tcl_operators.specs.declared.fault.OperatorFault.{OperatorFault}
 use Rattle.tcl_operators.specs.declared.fault.ApplyError.{ApplyError}
 use Rattle.tcl_operators.specs.declared.fault.ApplyError.TheVariants as error
 use Rattle.tcl_run.specs.Ends.{Interrupts, failing}
@@ -30,3 +33,19 @@ OperatorTells (error.Fault f) i = Interrupts i (λ e. e ≡ Completed (failing (
 -- an expression whose value is this is over
 abbrev pub settles : Integers → Text → Program
 settles style v = or_fails message_of (final style v) (λ result. done (ok result))
+
+-- a computation ends in a refusal
+abbrev pub IsRefused : Computation → Reply → Type 0
+IsRefused c e = (f : OperatorFault) × (c ≡ refused f) × (e ≡ Completed (failing (message_of f)))
+
+-- How a computation goes on: to a part that is to be substituted, behind which it goes on so; to its value; or to its refusal.
+abbrev pub GivesPart : Result Progress Interruption → Computation → (Text → Computation) → Type 0
+GivesPart (Ok (progress.Wants w)) c go = c ≡ substitute w.now go
+GivesPart (Ok (progress.Done v)) c go = c ≡ value v
+GivesPart (Err i) c go = Interrupts i (IsRefused c)
+
+-- behind a part fewer steps are left
+abbrev pub IsNearer : Result Progress Interruption → ℕ → ℕ → Type 0
+IsNearer (Ok (progress.Wants w)) old new = new < old
+IsNearer (Ok (progress.Done v)) old new = Unit {0}
+IsNearer (Err i) old new = Unit {0}

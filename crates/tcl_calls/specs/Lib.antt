@@ -1,6 +1,10 @@
+pub mod BranchesRead
 pub mod Carrying
 pub mod Catching
 pub mod Expressions
 pub mod Found
+pub mod Levels
 pub mod Procedures
+pub mod Turns
+pub mod Walks
 pub mod Words

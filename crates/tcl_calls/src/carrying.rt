@@ -5,11 +5,13 @@ ghost use Rattle.tcl_core.specs.Paths.{Path};
 ghost use Rattle.tcl_core.specs.Runs.{carried};
 ghost use Rattle.tcl_flow.specs.Stopping.{reply_of};
 ghost use Rattle.tcl_language.specs.Faults as faults;
+ghost use Rattle.tcl_language.specs.Table.{some_words};
 ghost use Rattle.tcl_run.specs.Ends.{Interrupts, failing};
 ghost use Rattle.tcl_tree.specs.TreeOf.{Names};
-ghost use Rattle.tcl_calls.specs.Carrying.{Carries};
+ghost use Rattle.tcl_calls.specs.Carrying.{Carries, Settles};
 
 use std::alloc::{AllocError, Global};
+use tcl_flow::completion::settle;
 use tcl_flow::stop::Stop;
 use tcl_run::interruption::Interruption;
 use tcl_text::text::Text;
@@ -29,6 +31,32 @@ pub fn target_words(alloc: Global, own: &[Value], args: &[Value]) -> Result<Vec<
         words.push(word.clone()?)?;
     }
     Ok(words)
+}
+
+/// The words of a call, where no word is one empty word.
+pub fn some_words(words: Vec<Value>) -> Result<Vec<Value>, AllocError>
+    ensures { IfOk result (λ given. given.items ≡ some_words words.items) }
+{
+    let mut words = words;
+    if words.is_empty() {
+        words.push(Value::empty())?;
+    }
+    Ok(words)
+}
+
+/// What an end comes to where only ok and error may pass.
+///
+/// # Errors
+/// Every end but an ordinary one; want of memory.
+pub fn settled(alloc: Global, ended: Result<Value, Interruption>) -> Result<Value, Interruption>
+    ensures { Settles ended result }
+{
+    match ended {
+        Err(Interruption::Completed(completion)) => {
+            Err(Interruption::Completed(settle(alloc, completion)?))
+        }
+        other => other,
+    }
 }
 
 /// How a caller is told the end of its call, which went so many levels up and then these names down.

@@ -1,15 +1,17 @@
 //! Expressions that commands read, and what their values come to.
-ghost use Rattle.std.specs.Prelude.{◌≡◌, IfOk, IfErr};
+ghost use Rattle.std.specs.Prelude.{◌≡◌, ◌++◌, ◌∷◌, ◌-◌, [], IfOk, IfErr, length};
 ghost use Rattle.tcl_expr.specs.Expressions.{expression_of};
 ghost use Rattle.tcl_expr.specs.Faults.{message_of};
+ghost use Rattle.tcl_expression_evaluation.specs.Steps.{from};
 ghost use Rattle.tcl_operators.specs.Apply.{truth};
 ghost use Rattle.tcl_operators.specs.Messages.{message_of as operator_message};
 ghost use Rattle.tcl_run.specs.Ends.{Gave, IfEnded, Interrupts, IsFailure};
-ghost use Rattle.tcl_calls.specs.Expressions.{IsKept, OperatorTells, settles};
+ghost use Rattle.tcl_calls.specs.Expressions.{GivesPart, IsKept, IsNearer, OperatorTells, settles};
 ghost use Rattle.tcl_calls.specs.Words.{EndsBy};
 
 use std::alloc::Global;
 use tcl_expr::fault::ExprError;
+use tcl_expression_evaluation::evaluation::{Evaluation, Progress};
 use tcl_expression_evaluation::result::final_value;
 use tcl_expression_tree::parser::parse_expr;
 use tcl_expression_tree::tree::ExprTree;
@@ -52,6 +54,25 @@ pub fn operator_failure(alloc: Global, error: ApplyError) -> Interruption
             Ok(message) => failure(alloc, message),
             Err(_) => Interruption::Memory,
         },
+    }
+}
+
+/// Goes on to the next part of an expression that is to be substituted, or to its value.
+///
+/// # Errors
+/// The refusal of an operator; want of memory.
+pub fn next_part<'t>(
+    evaluation: &mut Evaluation,
+    alloc: Global,
+    kept: &'t ExprTree,
+    style: Integers,
+) -> Result<Progress<'t>, Interruption>
+    ensures nearer { IsNearer result (length kept.now.nodes.items - evaluation.old.next) (length kept.now.nodes.items - evaluation.new.next) }
+    ensures gives { GivesPart result (from style kept.now.nodes.items evaluation.old.next evaluation.old.values.items) (λ v. from style kept.now.nodes.items evaluation.new.next (evaluation.new.values.items ++ v ∷ [])) }
+{
+    match evaluation.advance(alloc, kept, style) {
+        Ok(progress) => Ok(progress),
+        Err(error) => Err(operator_failure(alloc, error)),
     }
 }
 

@@ -2,11 +2,15 @@
 //! procedure.
 #![tactic(auto)]
 
+pub mod branches;
 pub mod carrying;
 pub mod catching;
 pub mod expressions;
+pub mod levels;
 pub mod lookup;
 pub mod procedures;
 pub mod scripts;
 pub mod setting;
+pub mod turns;
+pub mod walks;
 pub mod words;

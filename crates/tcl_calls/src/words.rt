@@ -161,7 +161,7 @@ fn ended(alloc: Global, text: &String) -> Interruption
 }
 
 /// The ordinary completion of this text.
-pub(crate) fn ordinary(alloc: Global, text: Value) -> Result<Completion, AllocError>
+pub fn ordinary(alloc: Global, text: Value) -> Result<Completion, AllocError>
     ensures { IfOk result (λ c. completion_of c ≡ ok text) }
 {
     Ok(Completion {

@@ -597,10 +597,14 @@ module _ (R : Discipline Own Instr) (F : Facts R) (l : Bool) where
   makes name safe own e p = (F.child name own p, λ T g. (subst (λ b. R.plain (new_own b) ≡ true) (sym e) F.made, λ U h. tt))
 
   creates : (name : Text) (safe : Bool) → Keeps (interpreters.creates name safe)
-  creates name safe = by_look _ (λ n s p. by_either (is_name name) _ (fails (bad_name name))
-      (by_either (is_some (lookup (bytes_eq name) n.own.commands)) (fails (interpreters.already_exists name)) _ tt
-      (by_either (nat_le interpreters.most_children (length n.own.children)) (fails (codes "too many interpreters")) (interpreters.makes name (safe || n.safe) n.own) tt
-      (makes name (safe || n.safe) n.own (or_true safe n.safe s) p))) tt)
+  creates name safe = by_look _ (λ n s p. (
+    tt,
+    λ T g. by_either (is_some (T (name ∷ []))) (fails (interpreters.already_exists name)) _ tt
+        (by_either (is_name name) _ (fails (bad_name name))
+        (by_either (is_some (lookup (bytes_eq name) n.own.commands)) (fails (interpreters.already_exists name)) _ tt
+        (by_either (nat_le interpreters.most_children (length n.own.children)) (fails (codes "too many interpreters")) (interpreters.makes name (safe || n.safe) n.own) tt
+        (makes name (safe || n.safe) n.own (or_true safe n.safe s) p))) tt),
+  ))
 
   by_depth : (name : Text) (own : Own) (depth : ℕ) → R.plain own ≡ true → Keeps (interpreters.drops_at name own depth)
   by_depth name own zero p = (F.dropped name own p, λ T g. (tt, λ U h. tt))

@@ -504,10 +504,11 @@ makes : (name : Text) (safe : Bool) (own : Own) → Calling (interpreters.makes 
 makes name safe own = λ T U. tt
 
 creates : (name : Text) (safe : Bool) → Calling (interpreters.creates name safe)
-creates name safe = by_look _ (λ n. by_either (is_name name) _ (fails (bad_name name))
+creates name safe = by_look _ (λ n T. by_either (is_some (T (name ∷ []))) (fails (interpreters.already_exists name)) _ tt
+    (by_either (is_name name) _ (fails (bad_name name))
     (by_either (is_some (lookup (bytes_eq name) n.own.commands)) (fails (interpreters.already_exists name)) _ tt
     (by_either (nat_le interpreters.most_children (length n.own.children)) (fails (codes "too many interpreters")) (interpreters.makes name (safe || n.safe) n.own) tt
-    (makes name (safe || n.safe) n.own))) tt)
+    (makes name (safe || n.safe) n.own))) tt))
 
 by_depth : (name : Text) (own : Own) (depth : ℕ) → Calling (interpreters.drops_at name own depth)
 by_depth name own zero = λ T U. tt

@@ -86,15 +86,18 @@ most_children = 256
 abbrev pub makes : Text → Bool → Own → Program
 makes name safe own = change (with_new_child name own) (act (Make name (new_own safe) safe) (λ T. done (ok [])))
 
--- A child is made, safe where that is asked for or its parent is safe. Its name isn't empty and has no two colons side by side, isn't
--- that of a command, and there are fewer than 256 children.
-abbrev pub creates : Text → Bool → Program
-creates name safe = look (λ n.
+abbrev pub creates_new : Text → Bool → Node Own → Program
+creates_new name safe n =
     either (is_name name)
     (either (is_some (lookup (bytes_eq name) n.own.commands)) (fails (already_exists name))
     (either (nat_le most_children (length n.own.children)) (fails (codes "too many interpreters"))
     (makes name (safe || n.safe) n.own)))
-    (fails (bad_name name)))
+    (fails (bad_name name))
+
+-- A child is made, safe where that is asked for or its parent is safe. No other child has its name, which isn't empty, has no two colons
+-- side by side and isn't that of a command, and there are fewer than 256 children.
+abbrev pub creates : Text → Bool → Program
+creates name safe = look (λ n. act Look (λ T. either (is_some (T (name ∷ []))) (fails (already_exists name)) (creates_new name safe n)))
 
 abbrev pub numbered : ℕ → Text
 numbered n = codes "interp" ++ decimal n

@@ -24,6 +24,10 @@ use Rattle.tcl_language.specs.Interpreters.{finished}
 use Rattle.tcl_run.specs.Ends.{IsFailure, too_deep_at}
 use Rattle.tcl_run.specs.Runs.{Comes}
 
+-- within a tree the outside is told nothing
+within : {S : Type 0} (goes : S → Event Own → S → Type 0) (y : S) (w : Event Own) {h : Option Place} {b : Place} → h ≡ Some b → passing h goes y w y
+within goes y w {h} {b} g = subst (λ (x : Option Place). passing x goes y w y) (sym g) refl
+
 module _ {S : Type 0} {goes : S → Event Own → S → Type 0} {language : Table Own Instr} where
   -- ## Along equations
 
@@ -132,41 +136,47 @@ module _ {S : Type 0} {goes : S → Event Own → S → Type 0} {language : Tabl
 
   -- ## Calls of other interpreters of the tree
 
+  entry_runs : {T U : Tree Own} {o u : S} {t : Place} {m : Node Own} {s : Reply} (i : Entry) → T t ≡ Some m →
+      Comes goes language T o t (language.entry i) U u s → Comes goes language T o t (entering language (T t) i) U u s
+  entry_runs i there t = at_prog (ap (λ x. entering language x i) there) t
+
+  -- the caller goes on where its call was answered by a completion
+  pub calls_on : {T U V : Tree Own} {o u z : S} {p : Place} {n : ℕ} {down : Path} {i : Entry} {lost : Completion} {k : Completion → Program} {m : Node Own} {s r : Reply} {c : Completion} (a : Place) → rise_to (Some n) p ≡ Some a → T (a ++ down) ≡ Some m →
+      Comes goes language T o (a ++ down) (language.entry i) U u s → carried (Some n) p down s ≡ Completed c → Comes goes language U u p (k c) V z r →
+      Comes goes language T o p (call (Some n) down i lost (finished k)) V z r
+  calls_on {T} {o = o} {u = u} {p = p} {n = n} {down = down} {i = i} {s = s} a e there t f g =
+      called {o1 = o} {o2 = o} {o3 = u} {o4 = u} {o5 = u} a (a ++ down) e (ap (λ x. where_stands x (a ++ down)) there)
+      (within goes o (event p (Out (Some n) down i)) e) (within goes o (event (a ++ down) (In (Some (length down)) i)) (rise_back a down)) (entry_runs i there t)
+      (within goes u (event (a ++ down) (Done (Some (length down)) s)) (rise_back a down)) f (within goes u (event p (Back (Some n) (Replied (carried (Some n) p down s)))) e) g
+
+  -- what is no completion ends the caller too
+  pub calls_passed : {T U : Tree Own} {o u : S} {p : Place} {n : ℕ} {down : Path} {i : Entry} {lost : Completion} {k : Completion → Program} {m : Node Own} {s r : Reply} (a : Place) → rise_to (Some n) p ≡ Some a → T (a ++ down) ≡ Some m →
+      Comes goes language T o (a ++ down) (language.entry i) U u s → carried (Some n) p down s ≡ r → IsQuit r →
+      Comes goes language T o p (call (Some n) down i lost (finished k)) U u r
+  calls_passed {T} {o = o} {u = u} {p = p} {n = n} {down = down} {i = i} {s = s} {r = r} a e there t f quit =
+      called_passed {o1 = o} {o2 = o} {o3 = u} {o4 = u} {o5 = u} a (a ++ down) e (ap (λ x. where_stands x (a ++ down)) there)
+      (within goes o (event p (Out (Some n) down i)) e) (within goes o (event (a ++ down) (In (Some (length down)) i)) (rise_back a down)) (entry_runs i there t)
+      (within goes u (event (a ++ down) (Done (Some (length down)) s)) (rise_back a down)) f quit (within goes u (event p (Back (Some n) (Replied r))) e)
+
   calls_as : {T U : Tree Own} {o u : S} {p : Place} {n : ℕ} {down : Path} {i : Entry} {lost : Completion} {m : Node Own} {s : Reply} (a : Place) (r : Reply) → rise_to (Some n) p ≡ Some a → T (a ++ down) ≡ Some m →
       Comes goes language T o (a ++ down) (language.entry i) U u s → carried (Some n) p down s ≡ r → Comes goes language T o p (call (Some n) down i lost (finished done)) U u r
-  calls_as {T} {U} {o} {u} {p} {n} {down} {i} {lost} {m} {s} a r e there t f = by r f
-    where
-      within : (y : S) (w : Event Own) {h : Option Place} {b : Place} → h ≡ Some b → passing h goes y w y
-      within y w {h} {b} g = subst (λ (x : Option Place). passing x goes y w y) (sym g) refl
+  calls_as a (Completed c) e there t f = calls_on a e there t f completed
+  calls_as a (Stop l k) e there t f = calls_passed a e there t f tt
+  calls_as a (Exit x) e there t f = calls_passed a e there t f tt
+  calls_as a (Cut x) e there t f = calls_passed a e there t f tt
 
-      at_target : reached T a down ≡ Some (a ++ down)
-      at_target = ap (λ x. where_stands x (a ++ down)) there
-
-      inner : Comes goes language T o (a ++ down) (entering language (T (a ++ down)) i) U u s
-      inner = at_prog (ap (λ x. entering language x i) there) t
-
-      by : (r : Reply) → carried (Some n) p down s ≡ r → Comes goes language T o p (call (Some n) down i lost (finished done)) U u r
-      by (Completed c) f = called {o1 = o} {o2 = o} {o3 = u} {o4 = u} {o5 = u} a (a ++ down) e at_target
-          (within o (event p (Out (Some n) down i)) e) (within o (event (a ++ down) (In (Some (length down)) i)) (rise_back a down)) inner
-          (within u (event (a ++ down) (Done (Some (length down)) s)) (rise_back a down)) f (within u (event p (Back (Some n) (Replied (carried (Some n) p down s)))) e) completed
-      by (Stop l k) f = called_passed {o1 = o} {o2 = o} {o3 = u} {o4 = u} {o5 = u} a (a ++ down) e at_target
-          (within o (event p (Out (Some n) down i)) e) (within o (event (a ++ down) (In (Some (length down)) i)) (rise_back a down)) inner
-          (within u (event (a ++ down) (Done (Some (length down)) s)) (rise_back a down)) f tt (within u (event p (Back (Some n) (Replied (Stop l k)))) e)
-      by (Exit x) f = called_passed {o1 = o} {o2 = o} {o3 = u} {o4 = u} {o5 = u} a (a ++ down) e at_target
-          (within o (event p (Out (Some n) down i)) e) (within o (event (a ++ down) (In (Some (length down)) i)) (rise_back a down)) inner
-          (within u (event (a ++ down) (Done (Some (length down)) s)) (rise_back a down)) f tt (within u (event p (Back (Some n) (Replied (Exit x)))) e)
-      by (Cut x) f = called_passed {o1 = o} {o2 = o} {o3 = u} {o4 = u} {o5 = u} a (a ++ down) e at_target
-          (within o (event p (Out (Some n) down i)) e) (within o (event (a ++ down) (In (Some (length down)) i)) (rise_back a down)) inner
-          (within u (event (a ++ down) (Done (Some (length down)) s)) (rise_back a down)) f tt (within u (event p (Back (Some n) (Replied (Cut x)))) e)
-
+  -- a call that is all that is left ends as it was answered
   pub calls_in : {T U : Tree Own} {o u : S} {p : Place} {n : ℕ} {down : Path} {i : Entry} {lost : Completion} {m : Node Own} {s r : Reply} (a : Place) → rise_to (Some n) p ≡ Some a → T (a ++ down) ≡ Some m →
       Comes goes language T o (a ++ down) (language.entry i) U u s → r ≡ carried (Some n) p down s → Comes goes language T o p (call (Some n) down i lost (finished done)) U u r
   calls_in {r = r} a e there t f = calls_as a r e there t (sym f)
 
+  -- the caller goes on with `lost` where nobody stands
+  pub finds_none_on : {T V : Tree Own} {o z : S} {p : Place} {n : ℕ} {down : Path} {i : Entry} {lost : Completion} {k : Completion → Program} {r : Reply} (a : Place) → rise_to (Some n) p ≡ Some a → T (a ++ down) ≡ None →
+      Comes goes language T o p (k lost) V z r → Comes goes language T o p (call (Some n) down i lost (finished k)) V z r
+  finds_none_on {o = o} {p = p} {n = n} {down = down} {i = i} {lost = lost} a e gone t =
+      unreached {o1 = o} {o2 = o} a e (ap (λ x. where_stands x (a ++ down)) gone)
+      (within goes o (event p (Out (Some n) down i)) e) (within goes o (event p (Back (Some n) (Replied (Completed lost)))) e) t
+
   pub finds_none : {T : Tree Own} {o : S} {p : Place} {n : ℕ} {down : Path} {i : Entry} {lost : Completion} {r : Reply} (a : Place) → rise_to (Some n) p ≡ Some a → T (a ++ down) ≡ None → r ≡ Completed lost →
       Comes goes language T o p (call (Some n) down i lost (finished done)) T o r
-  finds_none {T} {o} {p} {n} {down} {i} {lost} a e gone f = at_reply f (unreached {o1 = o} {o2 = o} a e (ap (λ x. where_stands x (a ++ down)) gone)
-      (within (event p (Out (Some n) down i)) e) (within (event p (Back (Some n) (Replied (Completed lost)))) e) completed)
-    where
-      within : (w : Event Own) {h : Option Place} {b : Place} → h ≡ Some b → passing h goes o w o
-      within w {h} {b} g = subst (λ (x : Option Place). passing x goes o w o) (sym g) refl
+  finds_none a e gone f = at_reply f (finds_none_on a e gone completed)

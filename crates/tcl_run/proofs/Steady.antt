@@ -1,5 +1,5 @@
 -- What stays as it is while an evaluation goes on.
-use Rattle.std.proofs.Common.{◌≡◌, ℕ, suc, pred, ◌<◌, ◌≤◌, Bool, true, false, [], ◌∷◌, Option, Some, None, refl, sym, ap, subst, ◌∙◌, arith, append-nil}
+use Rattle.std.proofs.Common.{◌≡◌, ℕ, suc, pred, ◌<◌, ◌≤◌, Bool, true, false, [], ◌∷◌, ◌++◌, Option, Some, None, refl, sym, ap, subst, ◌∙◌, arith, append_assoc, append-nil}
 use Rattle.std.specs.Prelude.{is_some}
 use Rattle.std.specs.Option.{option_map}
 use Rattle.std.proofs.lemmas.Bool.Decides.{nat_tests}
@@ -9,10 +9,15 @@ use Rattle.tcl_core.specs.Trees.What.{Changed, Charged, Nested, Unnested}
 use Rattle.tcl_core.proofs.PathLaws.{strip_own, strip-sound, not_both}
 use Rattle.tcl_core.specs.Programs.{blocked, is_deep, nearer, full_at}
 use Rattle.tcl_tree.specs.Own.{Own}
-use Rattle.tcl_tree.specs.TreeOf.{tree_of, key_of, marks_of}
+use Rattle.slab.specs.Slab.{get}
+use Rattle.std.specs.Option.{option_and_then}
+use Rattle.tcl_tree.specs.Nodes.{follow}
+use Rattle.tcl_tree.specs.TreeOf.{tree_of, key_of, marks_of, Names}
+use Rattle.tcl_tree.proofs.CoreLemmas.{tree_there}
+use Rattle.tcl_tree.proofs.StepLemmas.{follow_append}
 use Rattle.tcl_tree.specs.declared.tree.Tree.{Tree as Table}
 use Rattle.tcl_tree.specs.declared.tree.Place.{Place as TablePlace}
-use Rattle.tcl_run.specs.Runs.{meters_of, meters_at, depth_in, limit_in, depth_at, InUse, IsSteady, IsLevel, IsAt, room}
+use Rattle.tcl_run.specs.Runs.{meters_of, meters_at, depth_in, limit_in, depth_at, InUse, IsSteady, IsLevel, IsAt, IsRunning, room}
 use Rattle.tcl_text.specs.declared.integer.Integers.{Integers}
 
 pub meters_changed : (T U : Tree Own) (p q : Path) (own : Own) → U ≡ effect p (Changed own) T → meters_at U q ≡ meters_at T q
@@ -34,7 +39,7 @@ meters_charged T U p q e = ap (λ (V : Tree Own). meters_at V q) e ∙ by (strip
 
 -- what is in used is so one level deeper
 pub deeper_in_use : (T U : Tree Own) (p q : Path) → U ≡ effect p Nested T → InUse T q → InUse U q
-deeper_in_use T U p q e used = subst (λ (V : Tree Own). 0 < depth_at V q) (sym e) (by (strip q p) (T q) used)
+deeper_in_use T U p q e used = λ a b is. subst (λ (V : Tree Own). 0 < depth_at V a) (sym e) (by (strip a p) (T a) (used a b is))
   where
     by : (s : Option Path) (o : Option (Node Own)) → 0 < depth_in (option_map meters_of o) → 0 < depth_in (option_map meters_of (where_some s deeper o))
     by None o h = h
@@ -54,14 +59,14 @@ back_again T U V W p q e f same =
     by (Some a) (Some n) None h = ap pred h
     by (Some a) (Some n) (Some m) h = ap pred h
 
--- where an evaluation is begun it is in used
-pub begun : (T U : Tree Own) (p : Path) (n : Node Own) → U ≡ effect p Nested T → T p ≡ Some n → InUse U p
-begun T U p n e there = subst (λ (V : Tree Own). 0 < depth_at V p) (sym e) (by (strip p p) (T p) (ap (strip p) (sym (append-nil p)) ∙ strip_own p []) there)
+-- where an evaluation is begun it is in use
+pub begun : (T U : Tree Own) (p : Path) → U ≡ effect p Nested T → ((a b : Path) → a ++ b ≡ p → is_some (T a) ≡ true) → InUse U p
+begun T U p e there = λ a b is. subst (λ (V : Tree Own). 0 < depth_at V a) (sym e) (by b (strip a p) (T a) (ap (strip a) (sym is) ∙ strip_own a b) (there a b is))
   where
-    by : (s : Option Path) (o : Option (Node Own)) → s ≡ Some [] → o ≡ Some n → 0 < depth_in (option_map meters_of (where_some s deeper o))
-    by None o g h = elim (not_both refl g) [ ]
-    by (Some a) None g h = let x : None ≡ Some n = h in cc
-    by (Some a) (Some m) g h = omega arith
+    by : (b : Path) (s : Option Path) (o : Option (Node Own)) → s ≡ Some b → is_some o ≡ true → 0 < depth_in (option_map meters_of (where_some s deeper o))
+    by b None o g h = elim (not_both refl g) [ ]
+    by b (Some c) None g h = let x : false ≡ true = h in cc
+    by b (Some c) (Some m) g h = omega arith
 
 -- the top is deeper
 pub top_deeper : (T U : Tree Own) (p : Path) (n : Node Own) → U ≡ effect p Nested T → T [] ≡ Some n → depth_at U [] ≡ suc (depth_at T [])
@@ -98,25 +103,41 @@ less_room T U p n there bound free e =
 
 -- ## Tables
 
+-- where an interpreter stands all above it stand
+pub line_there : (t : Table) (p : Path) (k : ℕ) → key_of t p ≡ Some k → (a b : Path) → a ++ b ≡ p → is_some (tree_of t a) ≡ true
+line_there t p k at a b is = by (key_of t a) refl (sym (follow_append (get t.nodes) a b t.root) ∙ ap (key_of t) is ∙ at)
+  where
+    by : (o : Option ℕ) → key_of t a ≡ o → option_and_then (λ c. follow (get t.nodes) c b) o ≡ Some k → is_some (tree_of t a) ≡ true
+    by None e h = let x : None ≡ Some k = h in cc
+    by (Some j) e h = tree_there t a j e
+
+-- an evaluation that has begun is in progress
+pub begun_at : (s t : Table) (place : TablePlace) (p : Path) → Names s place p → tree_of t ≡ effect p Nested (tree_of s) → InUse (tree_of t) p
+begun_at s t place p at e = begun (tree_of s) (tree_of t) p e (line_there s p place.key at)
+
 pub steady-refl : (t : Table) → IsSteady t t
-steady-refl t = record { marks = refl; keys = λ q k at used. at; depths = λ q. refl; top = refl }
+steady-refl t = record { marks = refl; keys = λ q k at used. at; depths = λ q used. refl; top = refl }
 
 pub level_steady : (s t : Table) → IsLevel s t → IsSteady s t
 level_steady s t l = record {
   marks = l.marks;
   keys = λ q k at used. l.keys q ∙ at;
-  depths = λ q. ap depth_in (l.meters q);
+  depths = λ q used. ap depth_in (l.meters q);
   top = ap depth_in (l.meters []);
 }
 
+-- above what is in use all is
+pub in_use_above : (T : Tree Own) (a b q : Path) → a ++ b ≡ q → InUse T q → InUse T a
+in_use_above T a b q is used = λ c d same. used c (d ++ b) (sym (append_assoc c d b) ∙ ap (λ (x : Path). x ++ b) same ∙ is)
+
 pub still_in_use : (s t : Table) (q : Path) → IsSteady s t → InUse (tree_of s) q → InUse (tree_of t) q
-still_in_use s t q h used = subst (λ (n : ℕ). 0 < n) (sym (h.depths q)) used
+still_in_use s t q h used = λ a b is. subst (λ (n : ℕ). 0 < n) (sym (h.depths a (in_use_above (tree_of s) a b q is used))) (used a b is)
 
 pub steady-trans : (s t u : Table) → IsSteady s t → IsSteady t u → IsSteady s u
 steady-trans s t u g h = record {
   marks = h.marks ∙ g.marks;
   keys = λ q k at used. h.keys q k (g.keys q k at used) (still_in_use s t q g used);
-  depths = λ q. h.depths q ∙ g.depths q;
+  depths = λ q used. h.depths q (still_in_use s t q g used) ∙ g.depths q used;
   top = h.top ∙ g.top;
 }
 
@@ -126,6 +147,9 @@ still_at s t place p style h at = record {
   style_is = ap (λ m. m.integers) h.marks ∙ at.style_is;
   running = still_in_use s t p h at.running;
 }
+
+pub still_running : (s t : Table) (place : TablePlace) → IsSteady s t → IsRunning s place → IsRunning t place
+still_running s t place h r = (r.0, h.keys r.0 place.key r.1 r.2, still_in_use s t r.0 h r.2)
 
 pub charged_level : (s t : Table) (p : Path) → marks_of t ≡ marks_of s → ((q : Path) → key_of t q ≡ key_of s q) → tree_of t ≡ effect p Charged (tree_of s) → IsLevel s t
 charged_level s t p m k e = record { marks = m; keys = k; meters = λ q. meters_charged (tree_of s) (tree_of t) p q e }
@@ -140,7 +164,7 @@ pub nested_steady : (s t u v : Table) (p : Path) →
 nested_steady s t u v p m1 k1 e1 h m2 k2 e2 = record {
   marks = m2 ∙ h.marks ∙ m1;
   keys = λ q k at used. k2 q ∙ h.keys q k (k1 q ∙ at) (deeper_in_use (tree_of s) (tree_of t) p q e1 used);
-  depths = λ q. back_again (tree_of s) (tree_of t) (tree_of u) (tree_of v) p q e1 e2 (h.depths q);
+  depths = λ q used. back_again (tree_of s) (tree_of t) (tree_of u) (tree_of v) p q e1 e2 (h.depths q (deeper_in_use (tree_of s) (tree_of t) p q e1 used));
   top = back_again (tree_of s) (tree_of t) (tree_of u) (tree_of v) p [] e1 e2 h.top;
 }
 

@@ -1,5 +1,5 @@
 -- How a run goes through the table of interpreters.
-use Rattle.std.specs.Prelude.{◌≡◌, ℕ, ◌<◌, ◌≤◌, ◌-◌, List, [], Option, Some, None, Result, Ok, Err}
+use Rattle.std.specs.Prelude.{◌≡◌, ℕ, ◌<◌, ◌≤◌, ◌-◌, ◌++◌, List, [], Option, Some, None, Result, Ok, Err}
 use Rattle.std.specs.Option.{option_map}
 use Rattle.tcl_core.specs.Paths.{Place, Path}
 use Rattle.tcl_core.specs.Endings.{Reply}
@@ -19,7 +19,9 @@ use Rattle.tcl_tree.specs.declared.tree.Place as table_place
 use Rattle.tcl_text.specs.declared.integer.Integers.{Integers}
 use Rattle.tcl_language.specs.Instructions.{Instr, Program, with_chain}
 use Rattle.tcl_language.specs.Language.{language}
+use Rattle.tcl_core.specs.Entries.{Answer}
 use Rattle.tcl_run.specs.Ends.{IfEnded}
+use Rattle.tcl_run.specs.Outsides.{staged}
 use Rattle.tcl_run.specs.declared.interruption.Interruption.{Interruption}
 
 -- From a tree and a state of the outside the program at the place may end so, with these left.
@@ -45,20 +47,20 @@ limit_in (Some m) = m.1
 abbrev pub depth_at : Tree Own → Place → ℕ
 depth_at T p = depth_in (meters_at T p)
 
--- an evaluation is in progress there
+-- an evaluation is in progress there, and in all above it
 abbrev pub InUse : Tree Own → Place → Type 0
-InUse T p = 0 < depth_at T p
+InUse T p = (a b : Path) → a ++ b ≡ p → 0 < depth_at T a
 
 -- how much deeper an evaluation in the tree can go
 abbrev pub room : Tree Own → ℕ
 room T = 1000 - depth_at T []
 
--- What an evaluation leaves as it is: what is in use keeps its key, and each interpreter its depth.
+-- What an evaluation leaves as it is: what is in use keeps its key and its depth.
 pub record IsSteady (old new : table.Tree) : Type 0 where
   pub marks : marks_of new ≡ marks_of old
   pub keys : (q : Path) (k : ℕ) → key_of old q ≡ Some k → InUse (tree_of old) q → key_of new q ≡ Some k
-  pub depths : (q : Path) → depth_at (tree_of new) q ≡ depth_at (tree_of old) q
-  -- (the same of the top, for measures of how much deeper an evaluation can go)
+  pub depths : (q : Path) → InUse (tree_of old) q → depth_at (tree_of new) q ≡ depth_at (tree_of old) q
+  -- and the top its depth, in use or not, since that measures how much deeper an evaluation can go
   pub top : depth_at (tree_of new) [] ≡ depth_at (tree_of old) []
 
 -- What a change of own parts, or of counts, leaves as it is: all keys, and all depths with their limits.
@@ -90,12 +92,14 @@ pub record IsAt (t : table.Tree) (place : table_place.Place) (p : Path) (style :
   pub running : InUse (tree_of t) p
 
 -- What came of a program in the interpreter that the place names, where an evaluation is in progress.
-abbrev pub Evaluates : {S : Type 0} → (S → Event Own → S → Type 0) → table.Tree → S → table_place.Place → (Integers → Program) → table.Tree → S → Result (List ℕ) Interruption → Type 0
-Evaluates goes old o place program new z result = IfEnded result (λ r. (p : Path) (style : Integers) → IsAt old place p style → Comes goes (language style) (tree_of old) o p (program style) (tree_of new) z r)
+abbrev pub Evaluates : {S : Type 0} → (S → Event Own → Answer → S → Type 0) → table.Tree → S → table_place.Place → (Integers → Program) → table.Tree → S → Result (List ℕ) Interruption → Type 0
+Evaluates goes old o place program new z result =
+    IfEnded result (λ r. (p : Path) (style : Integers) → IsAt old place p style → Comes (staged goes) (language style) (tree_of old) (o, None) p (program style) (tree_of new) (z, None) r)
 
 -- the same, wherever the place is
-abbrev pub EvaluatesAt : {S : Type 0} → (S → Event Own → S → Type 0) → table.Tree → S → table_place.Place → (Integers → Program) → table.Tree → S → Result (List ℕ) Interruption → Type 0
-EvaluatesAt goes old o place program new z result = IfEnded result (λ r. (p : Path) (style : Integers) → IsThere old place p style → Comes goes (language style) (tree_of old) o p (program style) (tree_of new) z r)
+abbrev pub EvaluatesAt : {S : Type 0} → (S → Event Own → Answer → S → Type 0) → table.Tree → S → table_place.Place → (Integers → Program) → table.Tree → S → Result (List ℕ) Interruption → Type 0
+EvaluatesAt goes old o place program new z result =
+    IfEnded result (λ r. (p : Path) (style : Integers) → IsThere old place p style → Comes (staged goes) (language style) (tree_of old) (o, None) p (program style) (tree_of new) (z, None) r)
 
 -- the own part at p has another chain, where there is one
 abbrev pub Rechained : Tree Own → Place → Own → Result Chain FrameFault → Tree Own → Type 0

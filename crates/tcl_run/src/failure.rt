@@ -1,6 +1,7 @@
 //! The errors of scripts.
 ghost use Rattle.std.specs.Prelude.{◌≡◌, ◌++◌, [], codes, IfOk};
 ghost use Rattle.tcl_language.specs.Faults as faults;
+ghost use Rattle.tcl_language.specs.Interpreters.{no_interpreter};
 ghost use Rattle.tcl_variables.specs.Messages.{quoted};
 ghost use Rattle.tcl_core.specs.Endings as core;
 ghost use Rattle.tcl_core.specs.Endings.Reply.{Completed};
@@ -112,6 +113,20 @@ pub fn invalid_hidden(alloc: Global, name: &str) -> Interruption
     ensures { Interrupts result (λ e. e ≡ Completed (failing (faults.invalid_hidden name.now))) }
 {
     failure_about(alloc, "invalid hidden command name ", name)
+}
+
+/// There is no such interpreter.
+pub fn no_interpreter(alloc: Global, path: &str) -> Interruption
+    ensures { Interrupts result (λ e. e ≡ Completed (failing (no_interpreter path.now))) }
+{
+    failure_about(alloc, "could not find interpreter ", path)
+}
+
+/// The target of an alias that was called so isn't there.
+pub fn lost_alias(alloc: Global, word: &str) -> Interruption
+    ensures { Interrupts result (λ e. e ≡ Completed (failing (faults.lost_alias word.now))) }
+{
+    failure_about(alloc, "could not find the target of alias ", word)
 }
 
 /// Nothing may have this name.

@@ -1,0 +1,142 @@
+-- How loops over lists are read, and how their variables are set.
+use Rattle.std.proofs.Common.{◌≡◌, ℕ, zero, suc, ◌+◌, ◌-◌, ◌*◌, ◌<◌, ◌≤◌, ◌%◌, ◌==◌, Bool, true, false, List, [], ◌∷◌, ◌++◌, take, drop, get_or, length, map, Option, Some, None, refl, sym, ◌∙◌, ap, subst, arith, append_assoc}
+use Rattle.std.specs.Prelude.{Result, Ok, Err, ◌&&◌, nat_le}
+use Rattle.std.proofs.lemmas.Bool.Decides.{nat_tests}
+use Rattle.std.proofs.Math.Seq.{drop-nil, drop-cons, take-length}
+use Rattle.std.proofs.lemmas.List.{length-take-le}
+use Rattle.tcl_core.specs.Endings.{Reply}
+use Rattle.tcl_core.specs.Paths.{Text}
+use Rattle.tcl_core.specs.Programs.Prog.{done, go}
+use Rattle.tcl_language.specs.Control.{foreach, foreach_form, is_empty, is_over, sets_names, sets_walks, walks_of, walk_of}
+use Rattle.tcl_language.specs.Faults.{wrong_args}
+use Rattle.tcl_language.specs.Instructions.{Walk, Program, either, fails, or_fails}
+use Rattle.tcl_language.specs.Instructions.Instr.{Foreach}
+use Rattle.tcl_run.specs.Ends.{IsFailure}
+use Rattle.tcl_text.specs.Lists.{list_of}
+use Rattle.tcl_text.specs.Writing.{fault_message}
+use Rattle.tcl_text.specs.declared.list.ListFault.{ListFault}
+use Rattle.tcl_language.specs.Variables.{is_odd, sets}
+use Rattle.tcl_run.specs.Runs.{IsLevel}
+use Rattle.tcl_tree.specs.declared.tree.Tree.{Tree as Table}
+use Rattle.tcl_calls.specs.Walks.{reads_walk, whole, walk_at, walks_at, ReadsWalk, MisreadsWalk, IsForeach, IsNoForeach}
+use Rattle.tcl_calls.specs.Words.{EndsBy}
+use Rattle.tcl_calls.specs.declared.walks.Walk as read
+
+-- ## The words of a `foreach`
+
+pub odd_is : {A : Type 0} (xs : List A) → is_odd xs ≡ (length xs % 2 == 1)
+odd_is [] = refl
+odd_is (x ∷ []) = refl
+odd_is (x ∷ y ∷ xs) = let n : suc (suc (length xs)) % 2 ≡ length xs % 2 = omega arith in odd_is xs ∙ ap (λ m. m == 1) (sym n)
+
+pub even_is : {A : Type 0} (xs : List A) → (length xs % 2 ≡ 1 → ⊥) → is_odd xs ≡ false
+even_is xs h = let e = odd_is xs in grind (arith, nat_tests)
+
+pub few_foreach : (args : List Text) → length args < 3 → foreach args ≡ fails (wrong_args foreach_form)
+few_foreach [] h = refl
+few_foreach (a ∷ []) h = refl
+few_foreach (a ∷ b ∷ []) h = refl
+few_foreach (a ∷ b ∷ c ∷ rest) h = absurd (omega arith)
+
+even_foreach : (args : List Text) → length args % 2 ≡ 0 → foreach args ≡ fails (wrong_args foreach_form)
+even_foreach [] h = refl
+even_foreach (a ∷ []) h = refl
+even_foreach (a ∷ b ∷ rest) h =
+    let n : length rest % 2 ≡ 0 = omega arith in
+    let e : is_odd rest ≡ false = even_is rest (λ g. let clash : 0 ≡ 1 = sym n ∙ g in cc) in
+    ap (λ t. either t (walks_of (a ∷ b ∷ rest) [] (λ walks body. go (Foreach walks body) done)) (fails (wrong_args foreach_form))) e
+
+-- the words before the last, and the last
+pub before_last : (args : List Text) (last : Text) → 1 ≤ length args → last ≡ get_or args (length args - 1) last → args ≡ take (length args - 1) args ++ last ∷ []
+before_last [] last h e = absurd (omega arith)
+before_last (x ∷ []) last h e = ap (λ y. y ∷ []) (sym e)
+before_last (x ∷ y ∷ xs) last h e =
+    let n : length (x ∷ y ∷ xs) - 1 ≡ suc (length (y ∷ xs) - 1) = omega arith in
+    ap (λ ws. x ∷ ws) (before_last (y ∷ xs) last (omega arith) (e ∙ ap (λ m. get_or (x ∷ y ∷ xs) m last) n)) ∙ sym (ap (λ m. take m (x ∷ y ∷ xs) ++ last ∷ []) n)
+
+pub odd_foreach : (args : List Text) → 1 ≤ length args → length (take (length args - 1) args) % 2 ≡ 1 → foreach args ≡ fails (wrong_args foreach_form)
+odd_foreach args h e = even_foreach args (let n = take_less args h in omega (arith, e, n))
+  where
+    take_less : (xs : List Text) → 1 ≤ length xs → length (take (length xs - 1) xs) ≡ length xs - 1
+    take_less xs l = length-take-le (length xs - 1) xs (omega arith)
+
+-- ## Walks that are read
+
+pub walk_read : (names elements : Text) (rest : List Text) (before : List Walk) (k : List Walk → Text → Program) (w : read.Walk) → ReadsWalk names elements w →
+    walks_of (names ∷ elements ∷ rest) before k ≡ walks_of rest (before ++ whole w ∷ []) k
+walk_read names elements rest before k w r = r (λ walk. walks_of rest (before ++ walk ∷ []) k)
+
+pub walk_misread : (names elements : Text) (rest : List Text) (before : List Walk) (k : List Walk → Text → Program) (e : Reply) → MisreadsWalk names elements e → EndsBy (walks_of (names ∷ elements ∷ rest) before k) e
+walk_misread names elements rest before k e m = m (λ walk. walks_of rest (before ++ walk ∷ []) k)
+
+-- words of which none is left are no more than one
+pub none_left : (words : List Text) → length words < 2 → is_odd words ≡ false → words ≡ []
+none_left [] h e = refl
+none_left (x ∷ []) h e = let clash : true ≡ false = e in cc
+none_left (x ∷ y ∷ xs) h e = absurd (omega arith)
+
+-- two words, and those behind them
+pub two_left : (words : List Text) (a b : Text) → 2 ≤ length words → a ≡ get_or words 0 a → b ≡ get_or words 1 b → words ≡ a ∷ b ∷ take (length words - 2) (drop 2 words)
+two_left [] a b h e f = absurd (omega arith)
+two_left (x ∷ []) a b h e f = absurd (omega arith)
+two_left (x ∷ y ∷ xs) a b h e f =
+    let n : length (x ∷ y ∷ xs) - 2 ≡ length xs = omega arith in
+    (λ i. sym e i ∷ sym f i ∷ xs) ∙ ap (λ ws. a ∷ b ∷ ws) (sym (ap (λ m. take m xs) n ∙ take-length xs))
+
+-- ## What is left
+
+more_left : (elements : List Text) (n : ℕ) → n < length elements → is_empty (drop n elements) ≡ false
+more_left [] n h = absurd (omega arith)
+more_left (x ∷ xs) zero h = refl
+more_left (x ∷ xs) (suc n) h = more_left xs n (omega arith)
+
+-- ## Variables
+
+-- the first variable is set to the next element
+pub names_on : (names : List Text) (name : Text) (elements : List Text) (i : ℕ) (k : List Text → Program) → sets_names (name ∷ names) (drop i elements) k ≡ sets name (get_or elements i []) (sets_names names (drop (suc i) elements) k)
+names_on names name [] zero k = refl
+names_on names name [] (suc i) k = refl
+names_on names name (x ∷ elements) zero k = refl
+names_on names name (x ∷ elements) (suc i) k = names_on names name elements i k
+
+-- a variable is set, and then those behind it
+pub step_on : (names elements : List Text) (i j : ℕ) (name value : Text) (k : Program) → i < length names → name ≡ get_or names i name → value ≡ get_or elements j [] →
+    sets_names (drop i names) (drop j elements) (λ left. k) ≡ sets name value (sets_names (drop (i + 1) names) (drop (j + 1) elements) (λ left. k))
+step_on names elements i j name value k h e f =
+    let n : suc i ≡ i + 1 = omega arith in
+    let m : suc j ≡ j + 1 = omega arith in
+    ap (λ (ns : List Text). sets_names ns (drop j elements) (λ left. k)) (drop-cons names i name h ∙ ap (λ (x : Text). x ∷ drop (suc i) names) (sym e))
+    ∙ names_on (drop (suc i) names) name elements j (λ left. k)
+    ∙ (λ t. sets name (sym f t) (sets_names (drop (n t) names) (drop (m t) elements) (λ left. k)))
+
+pub names_end : (names left : List Text) (k : Program) → names ≡ [] → sets_names names left (λ more. k) ≡ k
+names_end names left k e = ap (λ (ns : List Text). sets_names ns left (λ more. k)) e
+
+-- ## Levels of trees
+
+pub level-trans : (s t u : Table) → IsLevel s t → IsLevel t u → IsLevel s u
+level-trans s t u g h = record { marks = h.marks ∙ g.marks; keys = λ q. h.keys q ∙ g.keys q; meters = λ q. h.meters q ∙ g.meters q }
+
+pub level-refl : (s : Table) → IsLevel s s
+level-refl s = record { marks = refl; keys = λ q. refl; meters = λ q. refl }
+
+-- ## Walks
+
+pub walk_on : (walks : List read.Walk) (i : ℕ) (walk : read.Walk) → i < length walks → walk ≡ get_or walks i walk → drop i walks ≡ walk ∷ drop (i + 1) walks
+walk_on walks i walk h e =
+    let n : suc i ≡ i + 1 = omega arith in
+    drop-cons walks i walk h ∙ (λ t. sym e t ∷ drop (n t) walks)
+
+-- elements are left of a walk
+pub not_over : (turns : ℕ) (walks : List read.Walk) (i : ℕ) (walk : read.Walk) → i < length walks → walk ≡ get_or walks i walk → turns * length walk.names < length walk.elements → is_over (walks_at turns (drop i walks)) ≡ false
+not_over turns walks i walk h e more =
+    ap (λ (ws : List read.Walk). is_over (walks_at turns ws)) (walk_on walks i walk h e)
+    ∙ ap (λ b. b && is_over (walks_at turns (drop (i + 1) walks))) (more_left walk.elements (turns * length walk.names) more)
+
+-- a list of elements that is none
+pub misread_second : (names elements : Text) (xs : List Text) (e : Reply) → list_of names ≡ Ok xs → IsFailure fault_message (list_of elements) e → MisreadsWalk names elements e
+misread_second names elements xs e f h = λ k. subst (λ (r : Result (List Text) ListFault). EndsBy (or_fails fault_message r (λ zs. or_fails fault_message (list_of elements) (λ ys. walk_of zs ys k))) e) (sym f) (by k (list_of elements) h)
+  where
+    by : (k : Walk → Program) (r : Result (List Text) ListFault) → IsFailure fault_message r e → EndsBy (or_fails fault_message r (λ ys. walk_of xs ys k)) e
+    by k (Ok ys) g = elim g [ ]
+    by k (Err x) g = g

@@ -1,0 +1,32 @@
+use Rattle.std.proofs.Common.{◌≡◌, ◌∙◌, Bool, true, false, List, ℕ, Some, None, refl, sym, ap, subst}
+use Rattle.std.specs.Prelude.{Ok, Err, is_some, not}
+use Rattle.std.proofs.lemmas.Result.{err_from_is_err_and}
+use Rattle.tcl_core.specs.Paths.{Path, Text}
+use Rattle.tcl_core.specs.Trees.{Node}
+use Rattle.tcl_language.specs.Naming as language
+use Rattle.tcl_tree.specs.Naming as tree
+use Rattle.tcl_tree.specs.Own.{Own}
+use Rattle.tcl_tree.specs.TreeOf.{tree_of, Names}
+use Rattle.tcl_core.proofs.PathLaws.{strip_own}
+use Rattle.tcl_language.specs.Interpreters.{already_exists}
+use Rattle.tcl_tree.proofs.CoreLemmas.{tree_there}
+use Rattle.tcl_entries.specs.Naming.{Tells, making_text}
+use Rattle.tcl_run.specs.Ends.{Interrupts, failing}
+use Rattle.tcl_core.specs.Endings.Reply.{Completed}
+use Rattle.tcl_entries.proofs.Served.{create_taken, created, create_refused}
+use Rattle.tcl_entries.proofs.Standing.{created_steady}
+use Rattle.tcl_entries.proofs.serving.create.Goals as goal
+
+pub returns-in-Some-clause-acts : goal.returns-in-Some-clause-acts
+returns-in-Some-clause-acts c = create_taken c.args.tree.now c.args.place c.args.name.now c.args.safe c.already_exists.result (λ p at. tree_there c.args.tree.now _ _ (c.in-Some.ensures.there p at))
+    (subst (λ (x : Text). Interrupts c.already_exists.result (λ r. r ≡ Completed (failing (already_exists x)))) c.as_str.ensures c.already_exists.ensures)
+
+pub returns-in-Ok-clause-acts : goal.returns-in-Ok-clause-acts
+returns-in-Ok-clause-acts c = created c.args.tree.now c.create_at.new.self c.args.place c.args.name.now c.args.safe c.empty.result c.empty.ensures c.in-Ok.ensures.may c.in-Ok.ensures.made
+
+pub returns-in-Ok-clause-steady : goal.returns-in-Ok-clause-steady
+returns-in-Ok-clause-steady c = created_steady c.args.tree.now c.create_at.new.self c.args.place c.args.name.now c.args.safe c.in-Ok.ensures.marks c.in-Ok.ensures.keys c.requires c.in-Ok.ensures.may c.in-Ok.ensures.made
+
+pub returns-in-Err-clause-acts : goal.returns-in-Err-clause-acts
+returns-in-Err-clause-acts c = create_refused c.args.tree.now c.create_at.new.self c.args.place c.args.name.now c.args.safe c.in_default.ensures.missing c.in-Err.ensures.unchanged c.in-Err.refusal c.making_failure.result c.requires c.in-Err.ensures.refused
+    (subst (λ (x : Text). Tells c.in-Err.refusal (making_text c.in-Err.refusal x) c.making_failure.result) c.as_str-in-Err.ensures c.making_failure.ensures)

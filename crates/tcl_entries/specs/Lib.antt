@@ -1,0 +1,4 @@
+pub mod Asking
+pub mod Entering
+pub mod Listing
+pub mod Naming

@@ -1,0 +1,98 @@
+//! Asking an interpreter, wherever it is in the tree.
+ghost use Rattle.std.specs.Prelude.{◌≡◌, ◌++◌, IfOk, IfErr, Ok};
+ghost use Rattle.tcl_core.specs.Paths.{Path};
+ghost use Rattle.tcl_language.specs.Interpreters as interpreters;
+ghost use Rattle.tcl_run.specs.Ends.{Interrupts, IsFailure};
+ghost use Rattle.tcl_run.specs.Runs.{IsRunning, IsSteady};
+ghost use Rattle.tcl_text.specs.Lists.{list_of};
+ghost use Rattle.tcl_text.specs.Writing.{fault_message};
+ghost use Rattle.tcl_tree.specs.TreeOf.{Names};
+ghost use Rattle.tcl_entries.specs.Asking.{Asks, Reads};
+ghost use Rattle.tcl_entries.specs.Entering.{entry_of};
+
+use crate::entry::OwnEntry;
+use crate::serving::serve;
+use std::alloc::Global;
+use tcl_calls::carrying::carry;
+use tcl_run::failure::no_interpreter;
+use tcl_run::interruption::Interruption;
+use tcl_run::outside::Outside;
+use tcl_run::steps::list_failure;
+use tcl_text::list::read_list;
+use tcl_text::text::Text;
+use tcl_tree::tree::places::Reach;
+use tcl_tree::tree::{Place, Tree};
+use tcl_value::value::Value;
+
+/// Asks the interpreter at a path, which begins at the one that the place names, for something that evaluates nothing.
+///
+/// # Errors
+/// 301 where none is there; those of the entry, as they are told to one that stands above; want of memory.
+pub fn ask<O: Outside>(
+    tree: &mut Tree,
+    alloc: Global,
+    outside: &O,
+    place: Place,
+    path: &[Text],
+    entry: &OwnEntry,
+) -> Result<Value, Interruption>
+    requires { IsRunning tree.old place }
+    ensures asks { Asks O.goes tree.old outside.now place path.now (entry_of entry.now) tree.new outside.now result }
+    ensures steady { IsSteady tree.old tree.new }
+{
+    let _outside = outside;
+    match tree.reach(place, 0, path) {
+        Reach::There(there) => {
+            let ended = serve(tree, alloc, there, entry);
+            carry(tree, alloc, place, 0, path, ended)
+        }
+        Reach::Missing => Err(no_interpreter(alloc, "")),
+        Reach::Outside => unreachable!(),
+    }
+}
+
+/// A path that was read: the names from one interpreter downward, and the interpreter to which they lead.
+#[derive(Drop)]
+pub struct FoundPath {
+    pub path: Vec<Text>,
+    pub place: Place,
+}
+
+/// The names that a word is, and the interpreter to which they lead from the one that the place names.
+///
+/// # Errors
+/// 101 to 104 where the word is no list; 301 where no interpreter is there; want of memory.
+pub fn path_of<O: Outside>(
+    tree: &Tree,
+    alloc: Global,
+    outside: &O,
+    place: Place,
+    word: &Value,
+) -> Result<FoundPath, Interruption>
+    requires { IsRunning tree.now place }
+    ensures found { IfOk result (λ found. (p : Path) → Names tree.now place p → Names tree.now found.place (p ++ found.path.items)) }
+    ensures read { Reads O.goes tree.now outside.now place (λ found. found.path.items) (λ rest style. interpreters.at_path word.now (λ path n. rest path style)) tree.now outside.now result }
+{
+    let _outside = outside;
+    let text = word.text(alloc)?;
+    let path = read_path(alloc, &text)?;
+    match tree.reach(place, 0, path.as_slice()) {
+        Reach::There(there) => Ok(FoundPath { path, place: there }),
+        Reach::Missing => Err(no_interpreter(alloc, text.as_str())),
+        Reach::Outside => unreachable!(),
+    }
+}
+
+/// The names that a text is.
+///
+/// # Errors
+/// 101 to 104; want of memory.
+pub(crate) fn read_path(alloc: Global, text: &Text) -> Result<Vec<Text>, Interruption>
+    ensures read { IfOk result (λ path. list_of text.now ≡ Ok path.items) }
+    ensures refused { IfErr result (λ i. Interrupts i (IsFailure fault_message (list_of text.now))) }
+{
+    match read_list(alloc, text.as_str()) {
+        Ok(path) => Ok(path),
+        Err(error) => Err(list_failure(alloc, error)),
+    }
+}

@@ -1,0 +1,9 @@
+//! What interpreters ask of one another that evaluates nothing, and the subcommands of `interp` and of a child's own command that do only that.
+#![tactic(auto)]
+
+pub mod asking;
+pub mod entry;
+pub mod failure;
+mod naming;
+pub mod questions;
+pub mod serving;
