@@ -9,4 +9,3 @@ pub mod Ending
 pub mod Parameters
 pub mod Renaming
 pub mod Reaching
-pub mod Walks
