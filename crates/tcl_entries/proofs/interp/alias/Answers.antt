@@ -1,0 +1,30 @@
+use Rattle.std.proofs.Common.{◌≡◌, ◌∙◌, List, ℕ, Bool, true, false, Option, [], ◌∷◌, ◌++◌, length, refl, sym, ap, subst}
+use Rattle.std.proofs.lemmas.Result.{err_from_is_err_and}
+use Rattle.tcl_core.specs.Entries.Entry.{Hide, Expose, SetAlias, ClearAlias, SetCountLimit, SetDepthLimit, Ask}
+use Rattle.tcl_core.specs.Entries.Question.{AliasOf, CountLimitOf, DepthLimitOf}
+use Rattle.tcl_core.specs.Paths.{Path, Text}
+use Rattle.tcl_core.specs.Programs.Act.{Look}
+use Rattle.tcl_core.specs.Programs.Prog.{done, act}
+use Rattle.tcl_language.specs.Faults.{wrong_args}
+use Rattle.tcl_language.specs.Instructions.{or_fails}
+use Rattle.tcl_language.specs.Interpreters as interpreters
+use Rattle.tcl_language.specs.Interpreters.{asks_at}
+use Rattle.tcl_run.specs.Runs.{Evaluates}
+use Rattle.tcl_run.proofs.Endings.{Interrupts-more}
+use Rattle.tcl_text.specs.Lists.{list_of}
+use Rattle.tcl_text.specs.Writing.{fault_message}
+use Rattle.tcl_entries.specs.Looking.{GetsToEnd}
+use Rattle.tcl_entries.specs.Telling.{limits_to, deepens_to, limits_below, deepens_there}
+use Rattle.tcl_entries.proofs.Looks.{gets_evaluates, passes_evaluates}
+use Rattle.tcl_entries.proofs.Telling.{evaluates_as, fails_told, leads_evaluates, passes, one_item, two_items, three_items, four_items}
+use Rattle.std.proofs.Common.{take, drop, ◌-◌}
+use Rattle.tcl_entries.proofs.Telling.{alias_few, alias_many}
+use Rattle.tcl_entries.proofs.interp.alias.Goals as goal
+
+pub returns-in_default-clause-evaluates : goal.returns-in_default-clause-evaluates
+returns-in_default-clause-evaluates g c = fails_told g.O.Outside.goes c.args.tree.now c.args.outside.now c.args.place (λ style. interpreters.alias c.args.args.now) (wrong_args interpreters.alias_form) c.wrong_args.result (λ style. alias_few c.args.args.now c.in_default.len_below) c.wrong_args.ensures
+
+pub returns-in-len4-up-clause-evaluates : goal.returns-in-len4-up-clause-evaluates
+returns-in-len4-up-clause-evaluates g c = evaluates_as g.O.Outside.goes c.args.tree.now c.set_alias.new.tree c.args.outside.now c.args.outside.now c.args.place (λ style. interpreters.alias c.args.args.now)
+    (λ style. interpreters.alias_path c.from-item.result c.own-item.result c.to-item.result c.word-item.result (take (length c.args.args.now - 4) (drop 4 c.args.args.now))) c.set_alias.result
+    (λ style. alias_many c.args.args.now c.from-item.result c.own-item.result c.to-item.result c.word-item.result c.in-len4-up.len_at_least c.from-item.is c.own-item.is c.to-item.is c.word-item.is) c.set_alias.ensures.evaluates
