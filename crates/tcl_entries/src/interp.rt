@@ -39,7 +39,14 @@ fn hide_as<O: Outside>(
 {
     let name = name.text(alloc)?;
     let hidden = hidden.text(alloc)?;
-    ask_trusted(tree, alloc, outside, place, path, &OwnEntry::Hide { name, hidden })
+    ask_trusted(
+        tree,
+        alloc,
+        outside,
+        place,
+        path,
+        &OwnEntry::Hide { name, hidden },
+    )
 }
 
 /// `interp hide path cmd ?hiddenName?`
@@ -80,7 +87,14 @@ fn expose_as<O: Outside>(
 {
     let hidden = hidden.text(alloc)?;
     let name = name.text(alloc)?;
-    ask_trusted(tree, alloc, outside, place, path, &OwnEntry::Expose { hidden, name })
+    ask_trusted(
+        tree,
+        alloc,
+        outside,
+        place,
+        path,
+        &OwnEntry::Expose { hidden, name },
+    )
 }
 
 /// `interp expose path hiddenName ?cmd?`
@@ -119,7 +133,14 @@ pub(crate) fn limit_to<O: Outside>(
     ensures steady { IsSteady tree.old tree.new }
 {
     let limit = limit_value(tree, alloc, place, value)?;
-    ask_at(tree, alloc, outside, place, path, &OwnEntry::SetCountLimit(limit))
+    ask_at(
+        tree,
+        alloc,
+        outside,
+        place,
+        path,
+        &OwnEntry::SetCountLimit(limit),
+    )
 }
 
 /// The same of a limit of depth.
@@ -136,7 +157,14 @@ pub(crate) fn deepen_to<O: Outside>(
     ensures steady { IsSteady tree.old tree.new }
 {
     let limit = depth_value(tree, alloc, place, value)?;
-    ask_at(tree, alloc, outside, place, path, &OwnEntry::SetDepthLimit(limit))
+    ask_at(
+        tree,
+        alloc,
+        outside,
+        place,
+        path,
+        &OwnEntry::SetDepthLimit(limit),
+    )
 }
 
 /// Sets the limit of steps of the interpreter at the path that a word is, which isn't the one that asks.
@@ -190,7 +218,14 @@ fn limit_of<O: Outside>(
     ensures steady { IsSteady tree.old tree.new }
 {
     commands_only(tree, alloc, place, word)?;
-    ask_there(tree, alloc, outside, place, path, &OwnEntry::Ask(Question::CountLimitOf))
+    ask_there(
+        tree,
+        alloc,
+        outside,
+        place,
+        path,
+        &OwnEntry::Ask(Question::CountLimitOf),
+    )
 }
 
 /// Sets the limit of steps of the interpreter at a path, after its words are looked at.
@@ -291,7 +326,14 @@ pub fn recursion_limit<O: Outside>(
 {
     match args {
         [path] => {
-            ask_there(tree, alloc, outside, place, path, &OwnEntry::Ask(Question::DepthLimitOf))
+            ask_there(
+                tree,
+                alloc,
+                outside,
+                place,
+                path,
+                &OwnEntry::Ask(Question::DepthLimitOf),
+            )
         }
         [word, value] => set_depth_limit(tree, alloc, outside, place, word, value),
         _ => Err(wrong_args(alloc, "interp recursionlimit path ?n?")),
@@ -321,7 +363,15 @@ fn set_alias<O: Outside>(
     let told = name.clone()?;
     let name = name.text(alloc)?;
     let entry = OwnEntry::SetAlias { name, alias };
-    ask_telling(tree, alloc, outside, place, found.path.as_slice(), &entry, told)
+    ask_telling(
+        tree,
+        alloc,
+        outside,
+        place,
+        found.path.as_slice(),
+        &entry,
+        told,
+    )
 }
 
 /// Takes an alias of the interpreter at a path away, where the last word is empty.
@@ -342,7 +392,14 @@ fn clear_alias<O: Outside>(
         return Err(wrong_args(alloc, ALIAS_FORM));
     }
     let name = name.text(alloc)?;
-    ask_there(tree, alloc, outside, place, source, &OwnEntry::ClearAlias(name))
+    ask_there(
+        tree,
+        alloc,
+        outside,
+        place,
+        source,
+        &OwnEntry::ClearAlias(name),
+    )
 }
 
 /// What an alias of the interpreter at a path stands for.
@@ -359,7 +416,14 @@ fn alias_of<O: Outside>(
     ensures steady { IsSteady tree.old tree.new }
 {
     let name = name.text(alloc)?;
-    ask_there(tree, alloc, outside, place, source, &OwnEntry::Ask(Question::AliasOf(name)))
+    ask_there(
+        tree,
+        alloc,
+        outside,
+        place,
+        source,
+        &OwnEntry::Ask(Question::AliasOf(name)),
+    )
 }
 
 /// The form of `interp alias`.

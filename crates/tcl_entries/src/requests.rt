@@ -136,5 +136,13 @@ pub(crate) fn ask_about<O: Outside>(
     ensures evaluates { Evaluates O.goes tree.old outside.now place (λ style. interpreters.question form.now (question_of question) args.now) tree.new outside.now result }
     ensures steady { IsSteady tree.old tree.new }
 {
-    ask_one(tree, alloc, outside, place, form, &OwnEntry::Ask(question), args)
+    ask_one(
+        tree,
+        alloc,
+        outside,
+        place,
+        form,
+        &OwnEntry::Ask(question),
+        args,
+    )
 }
