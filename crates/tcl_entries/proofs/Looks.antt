@@ -1,15 +1,15 @@
 -- Steps that read and look.
-use Rattle.std.proofs.Common.{◌≡◌, ℕ, ℤ, pos, negsuc, ◌<◌, ◌≤◌, Bool, true, false, List, [], ◌∷◌, ◌++◌, length, Option, Some, None, refl, sym, ◌∙◌, ap, subst, append-nil, arith}
+use Rattle.std.proofs.Common.{◌≡◌, ℕ, ℤ, ◌<◌, ◌≤◌, Bool, true, false, [], ◌∷◌, ◌++◌, length, Option, Some, None, refl, sym, ◌∙◌, ap, subst, append-nil, arith}
 use Rattle.std.specs.Prelude.{Result, Ok, Err, IfOk, IfErr, codes}
 use Rattle.std.specs.Bool.{Decides}
 use Rattle.std.proofs.lemmas.Slice.Eq.{bytes_eq-Decides}
 use Rattle.std.specs.Str.{bytes_eq}
-use Rattle.tcl_core.specs.Endings.{Completion, Reply}
+use Rattle.tcl_core.specs.Endings.{Reply}
 use Rattle.tcl_core.specs.Endings.Reply.{Completed}
 use Rattle.tcl_core.specs.Paths.{Text, Path, Place}
 use Rattle.tcl_core.specs.Programs.{Table}
 use Rattle.tcl_core.specs.Programs.Act.{Look}
-use Rattle.tcl_core.specs.Programs.Prog.{done, act}
+use Rattle.tcl_core.specs.Programs.Prog.{act}
 use Rattle.tcl_core.specs.Threads.{completed}
 use Rattle.tcl_core.specs.Trees.{Tree, Node, Event, at}
 use Rattle.tcl_language.specs.Instructions.{Instr, Program, either, fails, look, at_node, or_fails}
@@ -17,8 +17,8 @@ use Rattle.tcl_language.specs.Faults.{integer_message}
 use Rattle.tcl_language.specs.Interpreters as interpreters
 use Rattle.tcl_language.specs.Interpreters.{where_it_stands, no_interpreter}
 use Rattle.tcl_language.specs.Variables.{integer}
-use Rattle.tcl_run.specs.Ends.{Interrupts, IfEnded, IsFailure, Gave, failing}
-use Rattle.tcl_run.specs.Outsides.{Answering, staged}
+use Rattle.tcl_run.specs.Ends.{Interrupts, IfEnded, IsFailure, failing}
+use Rattle.tcl_run.specs.Outsides.{Answering}
 use Rattle.tcl_run.specs.Runs.{Comes, Evaluates, IsAt, IsThere}
 use Rattle.tcl_run.specs.declared.interruption.Interruption.{Interruption}
 use Rattle.tcl_run.proofs.Endings.{Interrupts-more, IfEnded-more}

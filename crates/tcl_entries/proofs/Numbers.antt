@@ -1,12 +1,8 @@
 -- Integers that were read.
-use Rattle.std.proofs.Common.{◌≡◌, ℤ, pos, negsuc, Bool, true, false, cond, ◌<◌, ◌^◌, List, ℕ, Option, Some, None, refl, sym, ap, subst, ◌∙◌, arith, FitsSigned, w64, to_z, of_z}
-use Rattle.std.specs.Prelude.{Result, Ok, Err, IfOk}
+use Rattle.std.proofs.Common.{◌≡◌, ℤ, pos, negsuc, Bool, true, false, cond, ◌<◌, ◌^◌, Option, Some, None, refl, subst, arith, FitsSigned, w64, to_z, of_z}
+use Rattle.std.specs.Prelude.{Result, Ok, Err}
 use Rattle.std.proofs.lemmas.Bool.Decides.{nat_tests}
 use Rattle.std.proofs.lemmas.Int.{ints, to_z-of_z}
-use Rattle.tcl_core.specs.Paths.{Text}
-use Rattle.tcl_language.specs.Faults.{integer_message}
-use Rattle.tcl_run.specs.Ends.{Gave}
-use Rattle.tcl_run.specs.declared.interruption.Interruption.{Interruption}
 use Rattle.tcl_text.specs.Numbers.{fits_64, in_64_bits}
 use Rattle.tcl_text.specs.declared.integer.IntegerFault.{IntegerFault}
 use Rattle.tcl_text.specs.declared.integer.IntegerFault.TheVariants.{TooLarge}

@@ -1,5 +1,5 @@
 -- Programs whose last step is to ask.
-use Rattle.std.proofs.Common.{◌≡◌, ◌⊎◌, inl, inr, ℕ, zero, suc, pos, negsuc, ◌<◌, ◌≤◌, Bool, true, false, List, [], ◌∷◌, length, take, drop, ◌-◌, None, refl, sym, ◌∙◌, ap, subst, arith, get_or}
+use Rattle.std.proofs.Common.{◌≡◌, ◌⊎◌, inl, inr, ◌<◌, ◌≤◌, Bool, true, false, List, [], ◌∷◌, length, take, drop, ◌-◌, None, refl, sym, ◌∙◌, ap, subst, arith, get_or}
 use Rattle.std.specs.Prelude.{Result, Ok, Err, codes}
 use Rattle.std.proofs.Math.Seq.{take-length}
 use Rattle.tcl_core.specs.Endings.{Completion, Reply, ok}
@@ -16,9 +16,9 @@ use Rattle.tcl_language.specs.Instructions.{Program, either, fails}
 use Rattle.tcl_language.specs.Interpreters as interpreters
 use Rattle.tcl_language.specs.Interpreters.{asks, asks_at, question, with_text, code_is_ok}
 use Rattle.tcl_language.specs.Language.{language}
-use Rattle.tcl_run.specs.Ends.{Interrupts, IfEnded, failing}
+use Rattle.tcl_run.specs.Ends.{Interrupts, failing}
 use Rattle.tcl_run.specs.Outsides.{Answering, staged}
-use Rattle.tcl_run.specs.Runs.{Comes, Evaluates, IsAt, IsThere, IsRunning, IsSteady}
+use Rattle.tcl_run.specs.Runs.{Comes, Evaluates, IsAt, IsRunning}
 use Rattle.tcl_run.specs.declared.interruption.Interruption.{Interruption}
 use Rattle.tcl_run.specs.declared.interruption.Interruption.TheVariants as interruption
 use Rattle.tcl_run.proofs.Endings.{IfEnded-more, Interrupts-more}

@@ -1,5 +1,5 @@
 -- The subcommands by their names, and what each comes to.
-use Rattle.std.specs.Prelude.{if◌then◌else◌, Bool, false, List, Some, None, codes}
+use Rattle.std.specs.Prelude.{if◌then◌else◌, false, List, Some, None, codes}
 use Rattle.std.specs.declared.option.Option.{Option}
 use Rattle.std.specs.Str.{bytes_eq}
 use Rattle.tcl_core.specs.Entries.Question.{Aliases, Hidden, IsSafe, Slaves}

@@ -1,5 +1,4 @@
-use Rattle.std.proofs.Common.{◌≡◌, ◌∙◌, List, ℕ, refl, sym, ap, subst}
-use Rattle.std.specs.Prelude.{Ok, Err}
+use Rattle.std.proofs.Common.{◌≡◌, refl, subst}
 use Rattle.std.proofs.lemmas.Result.{err_from_is_err_and}
 use Rattle.tcl_core.specs.Endings.Reply.{Completed}
 use Rattle.tcl_core.specs.Paths.{Path, Text}
@@ -9,10 +8,10 @@ use Rattle.tcl_run.proofs.Endings.{ended_err}
 use Rattle.tcl_text.specs.Lists.{list_of}
 use Rattle.tcl_text.specs.Writing.{fault_message}
 use Rattle.tcl_tree.specs.Reaching.{Leads as Leads_to}
-use Rattle.tcl_tree.specs.TreeOf.{tree_of, Names}
+use Rattle.tcl_tree.specs.TreeOf.{tree_of}
 use Rattle.tcl_tree.specs.declared.tree.places.Reach.TheVariants as reach
 use Rattle.tcl_entries.specs.Asking.{EndsIn}
-use Rattle.tcl_entries.proofs.Reached.{there_below, gone_below, never_outside, reads_path, reads_nobody, reads_no_list}
+use Rattle.tcl_entries.proofs.Reached.{there_below, never_outside, reads_path, reads_nobody, reads_no_list}
 use Rattle.tcl_entries.proofs.asking.path_at.Goals as goal
 
 pub returns-in_err-path-clause-read : goal.returns-in_err-path-clause-read

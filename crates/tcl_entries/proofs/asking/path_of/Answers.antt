@@ -1,5 +1,5 @@
 use Rattle.std.proofs.Common.{subst}
-use Rattle.tcl_core.specs.Paths.{Text, Path}
+use Rattle.tcl_core.specs.Paths.{Text}
 use Rattle.tcl_language.specs.Interpreters.{at_path}
 use Rattle.tcl_entries.specs.Asking.{Reads}
 use Rattle.tcl_entries.proofs.asking.path_of.Goals as goal

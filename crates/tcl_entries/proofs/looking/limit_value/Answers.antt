@@ -1,14 +1,7 @@
-use Rattle.std.proofs.Common.{◌≡◌, ◌∙◌, List, ℕ, ℤ, [], refl, sym, ap, subst}
-use Rattle.std.specs.Prelude.{Ok, Err, codes}
-use Rattle.tcl_core.specs.Endings.Reply.{Completed}
-use Rattle.tcl_core.specs.Paths.{Path, Text}
-use Rattle.tcl_core.specs.Trees.{Node}
+use Rattle.std.proofs.Common.{◌∙◌, ℤ, refl, sym, ap}
 use Rattle.tcl_language.specs.Interpreters as interpreters
-use Rattle.tcl_run.specs.Ends.{Interrupts, failing}
-use Rattle.tcl_run.proofs.Endings.{Interrupts-more, ended_err}
-use Rattle.tcl_tree.specs.Own.{Own}
-use Rattle.tcl_tree.specs.TreeOf.{tree_of, marks_of, Names}
-use Rattle.tcl_entries.specs.Looking.{GetsToEnd}
+use Rattle.tcl_run.proofs.Endings.{ended_err}
+use Rattle.tcl_tree.specs.TreeOf.{tree_of, marks_of}
 use Rattle.std.proofs.Common.{Some}
 use Rattle.std.proofs.lemmas.Result.{err_from_is_err_and}
 use Rattle.tcl_text.specs.Numbers.{integer_of}

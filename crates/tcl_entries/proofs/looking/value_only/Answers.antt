@@ -1,14 +1,10 @@
-use Rattle.std.proofs.Common.{◌≡◌, ◌∙◌, List, ℕ, [], refl, sym, ap, subst}
-use Rattle.std.specs.Prelude.{Ok, Err, codes}
+use Rattle.std.proofs.Common.{◌∙◌, ap}
+use Rattle.std.specs.Prelude.{codes}
 use Rattle.tcl_core.specs.Endings.Reply.{Completed}
-use Rattle.tcl_core.specs.Paths.{Path, Text}
-use Rattle.tcl_core.specs.Trees.{Node}
+use Rattle.tcl_core.specs.Paths.{Text}
 use Rattle.tcl_language.specs.Interpreters as interpreters
-use Rattle.tcl_run.specs.Ends.{Interrupts, failing}
-use Rattle.tcl_run.proofs.Endings.{Interrupts-more, ended_err}
-use Rattle.tcl_tree.specs.Own.{Own}
-use Rattle.tcl_tree.specs.TreeOf.{tree_of, marks_of, Names}
-use Rattle.tcl_entries.specs.Looking.{GetsToEnd}
+use Rattle.tcl_run.specs.Ends.{failing}
+use Rattle.tcl_run.proofs.Endings.{Interrupts-more}
 use Rattle.std.specs.Str.{bytes_eq}
 use Rattle.tcl_entries.proofs.Looks.{goes_true, fails_false, is_word, is_no_word, untrue}
 use Rattle.tcl_entries.proofs.looking.value_only.Goals as goal

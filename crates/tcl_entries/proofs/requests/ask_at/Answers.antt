@@ -1,10 +1,3 @@
-use Rattle.std.proofs.Common.{◌≡◌, ◌∙◌, List, ℕ, [], ◌∷◌, ◌++◌, refl, sym, ap, subst}
-use Rattle.std.proofs.lemmas.Result.{err_from_is_err_and}
-use Rattle.tcl_core.specs.Paths.{Path, Text}
-use Rattle.tcl_core.specs.Programs.Prog.{done}
-use Rattle.tcl_language.specs.Interpreters as interpreters
-use Rattle.tcl_language.specs.Interpreters.{asks_at}
-use Rattle.tcl_run.specs.Runs.{Evaluates}
 use Rattle.tcl_entries.specs.Entering.{entry_of}
 use Rattle.tcl_entries.proofs.Telling.{asks_last}
 use Rattle.tcl_entries.proofs.requests.ask_at.Goals as goal
