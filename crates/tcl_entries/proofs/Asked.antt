@@ -1,8 +1,8 @@
 -- What comes of asking: one law for what an interpreter asks of itself and one for a call of another, for any entry and any run inside.
-use Rattle.std.proofs.Common.{◌≡◌, ℕ, zero, suc, ◌+◌, ◌-◌, true, false, List, [], ◌∷◌, ◌++◌, length, Option, Some, None, refl, sym, ◌∙◌, ap, subst, append-nil, arith}
+use Rattle.std.proofs.Common.{◌≡◌, ℕ, suc, ◌+◌, ◌-◌, true, false, [], ◌∷◌, ◌++◌, length, Some, None, refl, sym, ◌∙◌, ap, subst, append-nil, arith}
 use Rattle.std.specs.Prelude.{nat_lt, nat_eq, is_some}
 use Rattle.std.proofs.lemmas.Bool.Decides.{nat_tests}
-use Rattle.tcl_core.specs.Endings.{Completion, Reply, Meter, error}
+use Rattle.tcl_core.specs.Endings.{Completion, Reply, error}
 use Rattle.tcl_core.specs.Endings.Reply.{Completed, Stop, Exit, Cut}
 use Rattle.tcl_core.specs.Entries.{Entry}
 use Rattle.tcl_core.specs.Paths.{Path, Place, rise, rise_to, rejoined, falls, together}
@@ -10,8 +10,7 @@ use Rattle.tcl_core.specs.Programs.Prog.{go, call}
 use Rattle.tcl_core.specs.Runs.{carried, lessened}
 use Rattle.tcl_core.specs.Threads.{passed}
 use Rattle.tcl_core.specs.Trees.{Tree, Node, Event}
-use Rattle.tcl_core.proofs.PathLaws.{not_both}
-use Rattle.tcl_language.specs.Instructions.{Instr, Program}
+use Rattle.tcl_language.specs.Instructions.{Instr}
 use Rattle.tcl_language.specs.Instructions.Instr.{Serve}
 use Rattle.tcl_language.specs.Interpreters.{asks_at, finished, no_interpreter}
 use Rattle.tcl_language.specs.Language.{language}

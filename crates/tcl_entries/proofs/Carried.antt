@@ -1,11 +1,11 @@
 -- How ends are told on.
-use Rattle.std.proofs.Common.{◌≡◌, ℕ, List, [], ◌++◌, Option, Some, None, refl, sym, ◌∙◌, ap, subst}
+use Rattle.std.proofs.Common.{◌≡◌, ℕ, List, [], ◌++◌, Some, None, refl, sym, ◌∙◌, subst}
 use Rattle.std.specs.Prelude.{Result, Ok, Err}
 use Rattle.std.proofs.lemmas.Option.{same_Some}
-use Rattle.tcl_core.specs.Endings.{Reply, error, ok}
+use Rattle.tcl_core.specs.Endings.{Reply, ok}
 use Rattle.tcl_core.specs.Endings.Reply.{Completed}
 use Rattle.tcl_core.specs.Entries.{Entry}
-use Rattle.tcl_core.specs.Paths.{Path, rise}
+use Rattle.tcl_core.specs.Paths.{Path}
 use Rattle.tcl_core.specs.Runs.{carried}
 use Rattle.tcl_flow.specs.Stopping.{reply_of}
 use Rattle.tcl_language.specs.Interpreters.{asks_at, no_interpreter}
@@ -16,12 +16,12 @@ use Rattle.tcl_run.specs.Plain.{Acts, Does}
 use Rattle.tcl_run.specs.Runs.{IsAt, IsThere, IsSteady}
 use Rattle.tcl_run.specs.declared.interruption.Interruption.{Interruption}
 use Rattle.tcl_run.specs.declared.interruption.Interruption.TheVariants as interruption
-use Rattle.tcl_run.proofs.Endings.{IfEnded-more, Interrupts-more}
+use Rattle.tcl_run.proofs.Endings.{IfEnded-more}
 use Rattle.tcl_run.proofs.Plain.{does_comes}
 use Rattle.tcl_run.proofs.Steady.{stands, still_at}
 use Rattle.tcl_text.specs.declared.integer.Integers.{Integers}
 use Rattle.tcl_tree.specs.Reaching.{Leads as Reached}
-use Rattle.tcl_tree.specs.TreeOf.{tree_of, marks_of, Names}
+use Rattle.tcl_tree.specs.TreeOf.{tree_of, Names}
 use Rattle.tcl_tree.specs.declared.tree.Tree.{Tree as Table}
 use Rattle.tcl_tree.specs.declared.tree.Place.{Place as TablePlace}
 use Rattle.tcl_tree.specs.declared.tree.places.Reach.TheVariants as reach

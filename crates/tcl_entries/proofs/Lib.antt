@@ -3,6 +3,9 @@ pub mod Carried
 pub mod Changing
 pub mod Counting
 pub mod Listed
+pub mod Looks
+pub mod Numbers
 pub mod Reached
 pub mod Served
 pub mod Standing
+pub mod Telling

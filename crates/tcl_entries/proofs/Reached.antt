@@ -1,10 +1,10 @@
 -- What comes of reading a path.
-use Rattle.std.proofs.Common.{◌≡◌, ℕ, List, ◌++◌, Option, Some, None, refl, sym, ◌∙◌, ap, subst}
-use Rattle.std.specs.Prelude.{Result, Ok, Err}
+use Rattle.std.proofs.Common.{◌≡◌, ◌++◌, Some, None, sym, ◌∙◌, ap, subst}
+use Rattle.std.specs.Prelude.{Ok}
 use Rattle.std.proofs.lemmas.Option.{same_Some}
 use Rattle.tcl_core.specs.Endings.{Reply}
 use Rattle.tcl_core.specs.Endings.Reply.{Completed}
-use Rattle.tcl_core.specs.Paths.{Text, Path, Place, rise}
+use Rattle.tcl_core.specs.Paths.{Text, Path, Place}
 use Rattle.tcl_core.specs.Programs.Act.{Look}
 use Rattle.tcl_core.specs.Programs.Prog.{act}
 use Rattle.tcl_core.specs.Threads.{completed}
@@ -22,7 +22,6 @@ use Rattle.tcl_run.proofs.Steady.{stands}
 use Rattle.tcl_text.specs.Lists.{list_of}
 use Rattle.tcl_text.specs.Writing.{fault_message}
 use Rattle.tcl_text.specs.declared.integer.Integers.{Integers}
-use Rattle.tcl_text.specs.declared.list.ListFault.{ListFault}
 use Rattle.tcl_tree.specs.Own.{Own}
 use Rattle.tcl_tree.specs.Reaching.{Leads as Leads_to}
 use Rattle.tcl_tree.specs.TreeOf.{tree_of, Names}

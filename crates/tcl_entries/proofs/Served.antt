@@ -1,7 +1,6 @@
 -- What an interpreter does where it is asked for something that evaluates nothing.
-use Rattle.std.proofs.Common.{◌≡◌, ◌⊎◌, inl, inr, ℕ, zero, suc, ◌<◌, ◌≤◌, Bool, true, false, List, [], ◌∷◌, ◌++◌, length, Option, Some, None, refl, sym, ◌∙◌, ap, subst, append-nil, arith}
+use Rattle.std.proofs.Common.{◌≡◌, ◌⊎◌, inl, inr, ℕ, zero, suc, ◌<◌, ◌≤◌, Bool, true, false, [], ◌∷◌, ◌++◌, length, Option, Some, None, refl, sym, ◌∙◌, ap, subst, append-nil, arith}
 use Rattle.std.specs.Prelude.{Result, Ok, Err, IfOk, IfErr, is_some, codes, nat_le, ◌&&◌, ◌||◌, IsSome}
-use Rattle.std.specs.Option.{option_map}
 use Rattle.std.specs.Fmt.{decimal}
 use Rattle.std.specs.Map.{lookup}
 use Rattle.std.specs.Str.{bytes_eq}
@@ -9,13 +8,13 @@ use Rattle.std.proofs.lemmas.Bool.Decides.{nat_tests}
 use Rattle.std.proofs.lemmas.Option.{same_Some}
 use Rattle.tcl_core.specs.Endings.{Reply, ok}
 use Rattle.tcl_core.specs.Endings.Reply.{Completed}
-use Rattle.tcl_core.specs.Paths.{Text, Path, Place, strip}
+use Rattle.tcl_core.specs.Paths.{Text, Path, strip}
 use Rattle.tcl_core.specs.Programs as programs
 use Rattle.tcl_core.specs.Programs.{Deed, spot, making, dropping, dropping_at}
 use Rattle.tcl_core.specs.Programs.Act.{Look, Make, Drop, Limit, LimitDepth}
 use Rattle.tcl_core.specs.Programs.Next.{On}
 use Rattle.tcl_core.specs.Programs.Prog.{done, act}
-use Rattle.tcl_core.specs.Trees.{Tree, Node, effect, at, at_end, where_some, with_own, with_limit, with_depth_limit}
+use Rattle.tcl_core.specs.Trees.{Tree, Node, effect, at, at_end, with_own}
 use Rattle.tcl_core.specs.Trees.What.{Changed, Made, Dropped, Limited, DepthLimited}
 use Rattle.tcl_core.proofs.PathLaws.{strip_own}
 use Rattle.tcl_core.specs.Entries.{Question}

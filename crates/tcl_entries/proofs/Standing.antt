@@ -1,9 +1,9 @@
 -- What stays as it is where an interpreter is asked for something that evaluates nothing.
-use Rattle.std.proofs.Common.{◌≡◌, ◌⊎◌, inl, inr, ℕ, ◌<◌, ◌≤◌, Bool, true, false, List, [], ◌∷◌, ◌++◌, Option, Some, None, refl, sym, ◌∙◌, ap, subst, append-nil, arith}
+use Rattle.std.proofs.Common.{◌≡◌, ◌⊎◌, inl, inr, ℕ, ◌<◌, Bool, true, false, [], ◌∷◌, ◌++◌, Option, Some, None, refl, sym, ◌∙◌, ap, append-nil, arith}
 use Rattle.std.specs.Prelude.{IsSome}
 use Rattle.std.specs.Option.{option_map}
 use Rattle.tcl_core.specs.Paths.{Text, Path, strip}
-use Rattle.tcl_core.specs.Trees.{Tree, Node, effect, at_end, where_some, with_own, with_limit, with_depth_limit, fresh}
+use Rattle.tcl_core.specs.Trees.{Tree, Node, effect, at_end, where_some, with_limit, with_depth_limit, fresh}
 use Rattle.tcl_core.specs.Trees.What.{Changed, Made, Dropped, Limited, DepthLimited}
 use Rattle.tcl_core.proofs.PathLaws.{strip-sound, not_both}
 use Rattle.tcl_run.specs.Runs.{meters_of, meters_at, depth_in, depth_at, InUse, IsSteady, IsLevel}

@@ -9,7 +9,7 @@ use Rattle.tcl_language.specs.Instructions.{Program}
 use Rattle.tcl_language.specs.Interpreters.{asks_at}
 use Rattle.tcl_language.specs.Language.{language}
 use Rattle.tcl_run.specs.Ends.{IfEnded, Interrupts}
-use Rattle.tcl_run.specs.Outsides.{Answering, Stage, staged}
+use Rattle.tcl_run.specs.Outsides.{Answering, staged}
 use Rattle.tcl_run.specs.Runs.{Comes, IsAt}
 use Rattle.tcl_run.specs.declared.interruption.Interruption.{Interruption}
 use Rattle.tcl_text.specs.declared.integer.Integers.{Integers}

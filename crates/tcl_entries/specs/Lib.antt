@@ -1,4 +1,7 @@
 pub mod Asking
 pub mod Entering
 pub mod Listing
+pub mod Looking
 pub mod Naming
+pub mod Subcommands
+pub mod Telling

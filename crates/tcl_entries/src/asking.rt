@@ -73,9 +73,27 @@ pub fn path_of<O: Outside>(
     ensures found { IfOk result (λ found. (p : Path) → Names tree.now place p → Names tree.now found.place (p ++ found.path.items)) }
     ensures read { Reads O.goes tree.now outside.now place (λ found. found.path.items) (λ rest style. interpreters.at_path word.now (λ path n. rest path style)) tree.now outside.now result }
 {
-    let _outside = outside;
     let text = word.text(alloc)?;
-    let path = read_path(alloc, &text)?;
+    path_at(tree, alloc, outside, place, &text)
+}
+
+/// The same of a text.
+///
+/// # Errors
+/// 101 to 104 where the text is no list; 301 where no interpreter is there; want of memory.
+pub fn path_at<O: Outside>(
+    tree: &Tree,
+    alloc: Global,
+    outside: &O,
+    place: Place,
+    text: &Text,
+) -> Result<FoundPath, Interruption>
+    requires { IsRunning tree.now place }
+    ensures found { IfOk result (λ found. (p : Path) → Names tree.now place p → Names tree.now found.place (p ++ found.path.items)) }
+    ensures read { Reads O.goes tree.now outside.now place (λ found. found.path.items) (λ rest style. interpreters.at_path text.now (λ path n. rest path style)) tree.now outside.now result }
+{
+    let _outside = outside;
+    let path = read_path(alloc, text)?;
     match tree.reach(place, 0, path.as_slice()) {
         Reach::There(there) => Ok(FoundPath { path, place: there }),
         Reach::Missing => Err(no_interpreter(alloc, text.as_str())),

@@ -4,6 +4,10 @@
 pub mod asking;
 pub mod entry;
 pub mod failure;
+pub mod interp;
+mod looking;
 mod naming;
 pub mod questions;
+mod requests;
 pub mod serving;
+pub mod subcommand;

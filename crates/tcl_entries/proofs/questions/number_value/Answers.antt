@@ -1,4 +1,4 @@
-use Rattle.std.proofs.Common.{◌≤◌, ◌<◌, ◌^◌, length, subst, sym, arith, List, ℕ}
+use Rattle.std.proofs.Common.{◌<◌, ◌^◌, subst, sym, arith, List, ℕ}
 use Rattle.std.specs.Fmt.{decimal}
 use Rattle.std.proofs.lemmas.Fmt.{length-decimal-le}
 use Rattle.tcl_value.specs.Limits.{IsWithin}

@@ -1,16 +1,5 @@
-use Rattle.std.proofs.Common.{◌≡◌, ◌∙◌, Bool, true, false, List, ℕ, Some, None, refl, sym, ap, subst}
-use Rattle.std.specs.Prelude.{Ok, Err, is_some, not}
-use Rattle.std.proofs.lemmas.Result.{err_from_is_err_and}
-use Rattle.tcl_core.specs.Endings.Reply.{Completed}
-use Rattle.tcl_core.specs.Paths.{Path, Text}
-use Rattle.tcl_core.specs.Trees.{Node}
-use Rattle.tcl_language.specs.Interpreters.{renaming, done_so, refusal_text}
-use Rattle.tcl_language.specs.Naming as language
-use Rattle.tcl_run.specs.Ends.{Interrupts, failing}
-use Rattle.tcl_tree.specs.Naming as tree
-use Rattle.tcl_tree.specs.Own.{Own}
-use Rattle.tcl_tree.specs.TreeOf.{tree_of, Names}
-use Rattle.tcl_entries.specs.Naming.{Tells}
+use Rattle.std.proofs.Common.{sym, subst}
+use Rattle.tcl_core.specs.Paths.{Text}
 use Rattle.std.specs.Prelude.{Option}
 use Rattle.tcl_core.specs.Entries.Entry.{Create}
 use Rattle.tcl_language.specs.Table.{serve}

@@ -1,0 +1,215 @@
+-- Steps that read and look.
+use Rattle.std.proofs.Common.{◌≡◌, ℕ, ℤ, ◌<◌, ◌≤◌, Bool, true, false, [], ◌∷◌, ◌++◌, length, Option, Some, None, refl, sym, ◌∙◌, ap, subst, append-nil, arith}
+use Rattle.std.specs.Prelude.{Result, Ok, Err, IfOk, IfErr, codes}
+use Rattle.std.specs.Bool.{Decides}
+use Rattle.std.proofs.lemmas.Slice.Eq.{bytes_eq-Decides}
+use Rattle.std.specs.Str.{bytes_eq}
+use Rattle.tcl_core.specs.Endings.{Reply}
+use Rattle.tcl_core.specs.Endings.Reply.{Completed}
+use Rattle.tcl_core.specs.Paths.{Text, Path, Place}
+use Rattle.tcl_core.specs.Programs.{Table}
+use Rattle.tcl_core.specs.Programs.Act.{Look}
+use Rattle.tcl_core.specs.Programs.Prog.{act}
+use Rattle.tcl_core.specs.Threads.{completed}
+use Rattle.tcl_core.specs.Trees.{Tree, Node, Event, at}
+use Rattle.tcl_language.specs.Instructions.{Instr, Program, either, fails, look, at_node, or_fails}
+use Rattle.tcl_language.specs.Faults.{integer_message}
+use Rattle.tcl_language.specs.Interpreters as interpreters
+use Rattle.tcl_language.specs.Interpreters.{where_it_stands, no_interpreter}
+use Rattle.tcl_language.specs.Variables.{integer}
+use Rattle.tcl_run.specs.Ends.{Interrupts, IfEnded, IsFailure, failing}
+use Rattle.tcl_run.specs.Outsides.{Answering}
+use Rattle.tcl_run.specs.Runs.{Comes, Evaluates, IsAt, IsThere}
+use Rattle.tcl_run.specs.declared.interruption.Interruption.{Interruption}
+use Rattle.tcl_run.proofs.Endings.{Interrupts-more, IfEnded-more}
+use Rattle.tcl_run.proofs.Leads.{at_reply, sees_below}
+use Rattle.tcl_run.proofs.Steady.{stands}
+use Rattle.tcl_text.specs.Lists.{list_of}
+use Rattle.tcl_text.specs.Numbers.{in_64_bits, integer_of}
+use Rattle.tcl_text.specs.Writing.{fault_message}
+use Rattle.tcl_text.specs.declared.integer.IntegerFault.{IntegerFault}
+use Rattle.tcl_text.specs.declared.integer.Integers.{Integers}
+use Rattle.tcl_text.specs.declared.list.ListFault.{ListFault}
+use Rattle.tcl_tree.specs.Own.{Own}
+use Rattle.tcl_tree.specs.Reaching.{Leads as Leads_to}
+use Rattle.tcl_tree.specs.TreeOf.{tree_of, marks_of, Names}
+use Rattle.tcl_tree.specs.declared.tree.places.Reach.TheVariants as reach
+use Rattle.tcl_tree.proofs.CoreLemmas.{tree_there}
+use Rattle.tcl_tree.specs.declared.tree.Tree.{Tree as Table_of}
+use Rattle.tcl_tree.specs.declared.tree.Place.{Place as TablePlace}
+use Rattle.tcl_entries.specs.Asking.{Styled, EndsIn, Leads}
+use Rattle.tcl_entries.specs.Looking.{LooksTo, here, looked, LooksToEnd, GetsTo, GetsToEnd, Finds, DepthGiven}
+use Rattle.tcl_entries.proofs.Reached.{there_below, gone_below}
+
+-- ## One interpreter
+
+pub looks_then : {T : Tree Own} {p : Place} {x y z : Program} → LooksTo T p x y → LooksTo T p y z → LooksTo T p x z
+looks_then here g = g
+looks_then (looked f) g = looked (looks_then f g)
+
+pub looks_as : (T : Tree Own) (p : Place) (x y z : Program) → x ≡ y → LooksTo T p y z → LooksTo T p x z
+looks_as T p x y z e f = subst (λ (a : Program). LooksTo T p a z) (sym e) f
+
+pub is_program : (T : Tree Own) (p : Place) (x y : Program) → x ≡ y → LooksTo T p x y
+is_program T p x y e = looks_as T p x y y e here
+
+pub looks_here : (T : Tree Own) (p : Place) (n : Node Own) (k : Node Own → Program) (y : Program) → T p ≡ Some n → LooksTo T p (k n) y → LooksTo T p (look k) y
+looks_here T p n k y there f = looked (looks_as T p _ (k n) y (ap (at_node k) (ap T (append-nil p) ∙ there)) f)
+
+module _ {S : Type 0} {goes : S → Event Own → S → Type 0} {language : Table Own Instr} where
+  pub looks_come : {T V : Tree Own} {o z : S} {p : Place} {x y : Program} {r : Reply} → LooksTo T p x y → Comes goes language T o p y V z r → Comes goes language T o p x V z r
+  looks_come here t = t
+  looks_come (looked f) t = sees_below (looks_come f t)
+
+-- ## Wherever the interpreter is
+
+there_at : (t : Table_of) (place : TablePlace) (p : Path) (style : Integers) → IsAt t place p style → IsThere t place p style
+there_at t place p style at = record { names = at.names; style_is = at.style_is }
+
+module _ {S : Type 0} (goes : Answering S) (t : Table_of) (o : S) (place : TablePlace) where
+  pub gets_leads : (whole rest : Styled) → GetsTo t place whole rest → Leads goes t o place whole t o rest
+  gets_leads whole rest f = λ V y r e p style at. looks_come (f p style (there_at t place p style at)) (e p style at)
+
+  -- what is left is evaluated
+  pub gets_evaluates : (whole rest : Styled) (new : Table_of) (z : S) (result : Result Text Interruption) → GetsTo t place whole rest → Evaluates goes t o place rest new z result → Evaluates goes t o place whole new z result
+  gets_evaluates whole rest new z result f e = IfEnded-more result (EndsIn goes t o place rest (tree_of new) z) (EndsIn goes t o place whole (tree_of new) z) (λ r d. gets_leads whole rest f (tree_of new) z r d) e
+
+  ends_so : (whole : Styled) (e : Reply) → GetsToEnd t place whole e → EndsIn goes t o place whole (tree_of t) o e
+  ends_so whole e f = λ p style at. let g = f p style (there_at t place p style at) in looks_come g.way (at_reply g.end completed)
+
+  -- an end that is passed on
+  pub passes_evaluates : (whole : Styled) (result : Result Text Interruption) (i y : Interruption) → result ≡ Err y → y ≡ i → Interrupts i (GetsToEnd t place whole) → Evaluates goes t o place whole t o result
+  passes_evaluates whole result i y e same h = subst (λ (x : Result Text Interruption). Evaluates goes t o place whole t o x) (sym (e ∙ ap Err same)) (Interrupts-more i (GetsToEnd t place whole) (EndsIn goes t o place whole (tree_of t) o) (ends_so whole) h)
+
+  -- an end of what is left
+  pub told_evaluates : (whole : Styled) (result : Result Text Interruption) → IfEnded result (GetsToEnd t place whole) → Evaluates goes t o place whole t o result
+  told_evaluates whole result h = IfEnded-more result (GetsToEnd t place whole) (EndsIn goes t o place whole (tree_of t) o) (ends_so whole) h
+
+pub gets_end : (t : Table_of) (place : TablePlace) (whole rest : Styled) (e : Reply) → GetsTo t place whole rest → GetsToEnd t place rest e → GetsToEnd t place whole e
+gets_end t place whole rest e f g = λ p style at. let h = g p style at in record { completion = h.completion; way = looks_then (f p style at) h.way; end = h.end }
+
+-- ## Tests
+
+pub goes_true : (t : Table_of) (place : TablePlace) (b : Bool) (x : Styled) (y : Program) → b ≡ true → GetsTo t place (λ style. either b (x style) y) x
+goes_true t place b x y e = λ p style at. is_program (tree_of t) p (either b (x style) y) (x style) (ap (λ (c : Bool). either c (x style) y) e)
+
+pub fails_false : (t : Table_of) (place : TablePlace) (b : Bool) (x : Styled) (message : Text) (r : Reply) → b ≡ false → r ≡ Completed (failing message) → GetsToEnd t place (λ style. either b (x style) (fails message)) r
+fails_false t place b x message r e f = λ p style at. record { completion = failing message; way = is_program (tree_of t) p (either b (x style) (fails message)) (fails message) (ap (λ (c : Bool). either c (x style) (fails message)) e); end = f }
+
+-- a test of the interpreter that asks
+pub node_fails : (t : Table_of) (place : TablePlace) (test : Node Own → Bool) (message : Text) (r : Reply) (rest : Styled) → ((p : Path) (n : Node Own) → Names t place p → tree_of t p ≡ Some n → test n ≡ true) → r ≡ Completed (failing message) →
+    GetsToEnd t place (λ style. look (λ n. either (test n) (fails message) (rest style))) r
+node_fails t place test message r rest holds e = λ p style at.
+    let n = stands (tree_of t p) (tree_there t p _ at.names) in record {
+      completion = failing message;
+      way = looks_here (tree_of t) p n.0 (λ m. either (test m) (fails message) (rest style)) (fails message) n.1 (is_program (tree_of t) p _ _ (ap (λ (b : Bool). either b (fails message) (rest style)) (holds p n.0 at.names n.1)));
+      end = e;
+    }
+
+pub node_passes : (t : Table_of) (place : TablePlace) (test : Node Own → Bool) (message : Text) (rest : Styled) → ((p : Path) (n : Node Own) → Names t place p → tree_of t p ≡ Some n → test n ≡ false) →
+    GetsTo t place (λ style. look (λ n. either (test n) (fails message) (rest style))) rest
+node_passes t place test message rest holds = λ p style at.
+    let n = stands (tree_of t p) (tree_there t p _ at.names) in
+    looks_here (tree_of t) p n.0 (λ m. either (test m) (fails message) (rest style)) (rest style) n.1 (is_program (tree_of t) p _ _ (ap (λ (b : Bool). either b (fails message) (rest style)) (holds p n.0 at.names n.1)))
+
+-- ## Words
+
+pub is_word : (w x : Text) → w ≡ x → bytes_eq w x ≡ true
+is_word w x e = (bytes_eq-Decides w x).1 e
+
+pub is_no_word : (w x : Text) → (w ≡ x → Prim.⊥) → bytes_eq w x ≡ false
+is_no_word w x other = by (bytes_eq w x) (bytes_eq-Decides w x)
+  where
+    by : (b : Bool) → Decides b (w ≡ x) → b ≡ false
+    by true d = absurd (other (d.0 refl))
+    by false d = refl
+
+-- a test that was false
+pub untrue : (b : Bool) (P : Type 0) → (P → b ≡ true) → b ≡ false → P → Prim.⊥
+untrue b P f e p = let clash : false ≡ true = sym e ∙ f p in cc
+
+-- ## Paths
+
+pub list_found : {A : Type 0} (t : Table_of) (place : TablePlace) (view : A → Path) (text word : Text) (r : Result A Interruption) → text ≡ word → IfOk r (λ a. list_of text ≡ Ok (view a)) → IfErr r (λ i. Interrupts i (IsFailure fault_message (list_of text))) →
+    Finds t place view (λ rest style. or_fails fault_message (list_of word) (λ names. rest names style)) r
+list_found t place view text word (Ok a) same read refused = λ rest p style at. is_program (tree_of t) p _ _ (ap (λ (x : Result Path ListFault). or_fails fault_message x (λ names. rest names style)) (ap list_of (sym same) ∙ read))
+list_found t place view text word (Err i) same read refused = Interrupts-more i (IsFailure fault_message (list_of text)) _ (λ e f rest p style at. failed (list_of word) (subst (λ (x : Text). IsFailure fault_message (list_of x) e) same f) rest p style) refused
+  where
+    failed : (x : Result Path ListFault) {e : Reply} → IsFailure fault_message x e → (rest : Path → Styled) (p : Path) (style : Integers) → LooksToEnd (tree_of t) p (or_fails fault_message x (λ names. rest names style)) e
+    failed (Ok a) f rest p style = elim f [ ]
+    failed (Err x) f rest p style = record { completion = failing (fault_message x); way = here; end = f }
+
+pub stands_there : (t : Table_of) (place there : TablePlace) (path : Path) (text : Text) (rest : Styled) → ((p : Path) → Names t place p → Leads_to t p 0 path (reach.There there)) →
+    GetsTo t place (λ style. act Look (λ T. where_it_stands text (λ n. rest style) (T path))) rest
+stands_there t place there path text rest leads = λ p style at.
+    let n = stands (tree_of t (p ++ path)) (tree_there t (p ++ path) _ (there_below t place there path leads p at.names)) in
+    looked (is_program (tree_of t) p _ _ (ap (where_it_stands text (λ n. rest style)) n.1))
+
+pub stands_nowhere : (t : Table_of) (place : TablePlace) (path : Path) (text : Text) (r : Reply) (rest : Styled) → ((p : Path) → Names t place p → Leads_to t p 0 path reach.Missing) → r ≡ Completed (failing (no_interpreter text)) →
+    GetsToEnd t place (λ style. act Look (λ T. where_it_stands text (λ n. rest style) (T path))) r
+stands_nowhere t place path text r rest leads e = λ p style at. record {
+  completion = failing (no_interpreter text);
+  way = looked (is_program (tree_of t) p _ _ (ap (where_it_stands text (λ n. rest style)) (gone_below t place path leads p at.names)));
+  end = e;
+}
+
+pub below_goes : (path : Path) (k : Program) → 1 ≤ length path → interpreters.below_itself path k ≡ k
+below_goes [] k h = absurd (omega arith)
+below_goes (x ∷ xs) k h = refl
+
+pub below_denied : (path : Path) (k : Program) → length path < 1 → interpreters.below_itself path k ≡ fails interpreters.denied
+below_denied [] k h = refl
+below_denied (x ∷ xs) k h = absurd (omega arith)
+
+pub unless_goes : (path : Path) (k : Program) → 1 ≤ length path → interpreters.unless_root path k ≡ k
+unless_goes [] k h = absurd (omega arith)
+unless_goes (x ∷ xs) k h = refl
+
+-- the same program
+pub gets_as : (t : Table_of) (place : TablePlace) (x y : Styled) → ((style : Integers) → x style ≡ y style) → GetsTo t place x y
+gets_as t place x y e = λ p style at. is_program (tree_of t) p (x style) (y style) (e style)
+
+-- it fails so
+pub gets_failed : (t : Table_of) (place : TablePlace) (x : Styled) (message : Text) (r : Reply) → ((style : Integers) → x style ≡ fails message) → r ≡ Completed (failing message) → GetsToEnd t place x r
+gets_failed t place x message r e f = λ p style at. record { completion = failing message; way = is_program (tree_of t) p (x style) (fails message) (e style); end = f }
+
+-- ## Integers
+
+pub integer_goes : (t : Table_of) (place : TablePlace) (own : Integers) (word : Text) (n : ℤ) (rest : ℤ → Styled) → own ≡ (marks_of t).integers → in_64_bits (integer_of own word) ≡ Ok n →
+    GetsTo t place (λ style. integer style word (λ z. rest z style)) (rest n)
+integer_goes t place own word n rest same read = λ p style at.
+    is_program (tree_of t) p _ _ (ap (λ (x : Result ℤ IntegerFault). or_fails (integer_message word) x (λ z. rest z style)) (ap (λ (s : Integers). in_64_bits (integer_of s word)) (sym (same ∙ at.style_is)) ∙ read))
+
+pub integer_fails : (t : Table_of) (place : TablePlace) (own : Integers) (word : Text) (e : Reply) (rest : ℤ → Styled) → own ≡ (marks_of t).integers → IsFailure (integer_message word) (in_64_bits (integer_of own word)) e →
+    GetsToEnd t place (λ style. integer style word (λ z. rest z style)) e
+integer_fails t place own word e rest same f = λ p style at. by (in_64_bits (integer_of style word)) p style (subst (λ (s : Integers). IsFailure (integer_message word) (in_64_bits (integer_of s word)) e) (same ∙ at.style_is) f)
+  where
+    by : (x : Result ℤ IntegerFault) (p : Path) (style : Integers) → IsFailure (integer_message word) x e → LooksToEnd (tree_of t) p (or_fails (integer_message word) x (λ z. rest z style)) e
+    by (Ok z) p style g = elim g [ ]
+    by (Err x) p style g = record { completion = failing (integer_message word x); way = here; end = g }
+
+pub depth_found : (t : Table_of) (place : TablePlace) (own : Integers) (word : Text) (n given : ℤ) (r : Result ℕ Interruption) → own ≡ (marks_of t).integers → in_64_bits (integer_of own word) ≡ Ok n → given ≡ n → DepthGiven given r →
+    Finds t place (λ limit. limit) (λ rest style. integer style word (λ z. interpreters.depth_number z (λ limit. rest limit style))) r
+depth_found t place own word n given (Ok m) same read is d = λ rest p style at.
+    looks_then (integer_goes t place own word n (λ z style. interpreters.depth_number z (λ limit. rest limit style)) same read p style at)
+    (is_program (tree_of t) p _ _ (ap (λ (z : ℤ). interpreters.depth_number z (λ limit. rest limit style)) (sym is ∙ d)))
+depth_found t place own word n given (Err i) same read is d = Interrupts-more i _ _ (λ e h rest. gets_end t place _ (λ style. interpreters.depth_number n (λ limit. rest limit style)) e
+    (integer_goes t place own word n (λ z style. interpreters.depth_number z (λ limit. rest limit style)) same read)
+    (gets_failed t place (λ style. interpreters.depth_number n (λ limit. rest limit style)) (codes "recursion limit must be between 1 and 1000") e (λ style. ap (λ (z : ℤ). interpreters.depth_number z (λ limit. rest limit style)) (sym is ∙ h.1)) h.2)) d
+
+pub no_limit : (style : Integers) (word : Text) (k : Option ℕ → Program) → word ≡ [] → interpreters.limit_value style word k ≡ k None
+no_limit style word k e = ap (λ (w : Text). interpreters.limit_value style w k) e
+
+some_limit : (style : Integers) (word : Text) (k : Option ℕ → Program) → (word ≡ [] → Prim.⊥) → interpreters.limit_value style word k ≡ integer style word (λ z. interpreters.limit_number word z (λ n. k (Some n)))
+some_limit style [] k other = absurd (other refl)
+some_limit style (c ∷ cs) k other = refl
+
+pub limit_fails : (t : Table_of) (place : TablePlace) (own : Integers) (word : Text) (e : Reply) (rest : Option ℕ → Styled) → (word ≡ [] → Prim.⊥) → own ≡ (marks_of t).integers → IsFailure (integer_message word) (in_64_bits (integer_of own word)) e →
+    GetsToEnd t place (λ style. interpreters.limit_value style word (λ l. rest l style)) e
+limit_fails t place own word e rest other same f = gets_end t place _ (λ style. integer style word (λ z. interpreters.limit_number word z (λ n. rest (Some n) style))) e
+    (gets_as t place _ _ (λ style. some_limit style word (λ l. rest l style) other)) (integer_fails t place own word e (λ z style. interpreters.limit_number word z (λ n. rest (Some n) style)) same f)
+
+pub limit_goes : (t : Table_of) (place : TablePlace) (own : Integers) (word : Text) (n : ℤ) (rest : Option ℕ → Styled) → (word ≡ [] → Prim.⊥) → own ≡ (marks_of t).integers → in_64_bits (integer_of own word) ≡ Ok n →
+    GetsTo t place (λ style. interpreters.limit_value style word (λ l. rest l style)) (λ style. interpreters.limit_number word n (λ m. rest (Some m) style))
+limit_goes t place own word n rest other same read = λ p style at.
+    looks_as (tree_of t) p _ _ _ (some_limit style word (λ l. rest l style) other) (integer_goes t place own word n (λ z style. interpreters.limit_number word z (λ m. rest (Some m) style)) same read p style at)
