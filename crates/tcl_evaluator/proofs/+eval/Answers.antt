@@ -1454,3 +1454,9 @@ expressions::for_loop-turn-requires g t c κs within = (search rules, (search ru
 
 pub expressions::for_loop-eval_value-requires-in-turns : goal.expressions::for_loop-eval_value-requires-in-turns
 expressions::for_loop-eval_value-requires-in-turns g t c κs within = (search rules, (search rules, let r = still_running _ _ c.args.place (steady-trans _ _ _ c.turns.invariant.steady c.turn.ensures.steady) c.requires in (r.0, r.1)))
+
+pub loops::foreach-returns-in_err-goes_on-clause-steady : goal.loops::foreach-returns-in_err-goes_on-clause-steady
+loops::foreach-returns-in_err-goes_on-clause-steady g t c = steady-trans _ _ _ c.turns.invariant.steady (steady-trans _ _ _ (level_steady _ _ c.charge.ensures.level) (steady-trans _ _ _ (level_steady _ _ c.set_walks.ensures.level) c.eval_value.ensures.steady))
+
+pub loops::foreach-returns-then-not-branch-clause-steady : goal.loops::foreach-returns-then-not-branch-clause-steady
+loops::foreach-returns-then-not-branch-clause-steady g t c = steady-trans _ _ _ c.turns.invariant.steady (steady-trans _ _ _ (level_steady _ _ c.charge.ensures.level) (steady-trans _ _ _ (level_steady _ _ c.set_walks.ensures.level) c.eval_value.ensures.steady))
