@@ -6,6 +6,7 @@ use tcl_calls::scripts::script_of;
 use tcl_calls::words::{element_text, spread};
 use tcl_text::integer::Integers;
 use tcl_text::text::Text;
+use tcl_tree::tree::Tree;
 use tcl_value::value::Value;
 
 fn value(alloc: Global, text: &str) -> Result<Value, Fail> {
@@ -56,7 +57,8 @@ fn scripts_are_put_together(rt: HostRuntime) -> Result<(), Fail> {
 
 /// Whether a text is an expression.
 fn is_expression(alloc: Global, text: &str) -> Result<bool, Fail> {
-    Ok(read_expression(alloc, Integers::Tcl8, &value(alloc, text)?).is_ok())
+    let tree = Tree::new(alloc)?;
+    Ok(read_expression(&tree, alloc, Integers::Tcl8, &value(alloc, text)?).is_ok())
 }
 
 #[test]

@@ -1,6 +1,6 @@
 -- Expressions that were read.
-use Rattle.std.proofs.Common.{◌≡◌, ℕ, ◌≤◌, true, List, [], length, refl, ap, ◌∙◌, arith}
-use Rattle.std.specs.Prelude.{nat_le, Result, Ok, Err}
+use Rattle.std.proofs.Common.{◌≡◌, ℕ, ◌≤◌, true, List, [], Some, None, length, refl, sym, ap, ◌∙◌, arith}
+use Rattle.std.specs.Prelude.{nat_le, unwrap_or, Result, Ok, Err}
 use Rattle.std.proofs.lemmas.Bool.Decides.{nat_tests}
 use Rattle.tcl_core.specs.Paths.{Text}
 use Rattle.tcl_expr.specs.Expressions.{expression_of}
@@ -11,7 +11,7 @@ use Rattle.tcl_expression_evaluation.specs.Computations.{Computation}
 use Rattle.tcl_expression_evaluation.specs.Steps.{from}
 use Rattle.tcl_expression_evaluation.proofs.Trees.{steps_compute_trees}
 use Rattle.tcl_expression_tree.specs.Code.{code_of}
-use Rattle.tcl_expression_tree.specs.Parsing.{Keeps}
+use Rattle.tcl_readings.specs.Kept.{steps_of}
 use Rattle.tcl_expression_tree.specs.declared.tree.ExprTree.{ExprTree}
 use Rattle.tcl_expression_tree.specs.declared.tree.Node.{Node}
 use Rattle.tcl_language.specs.Instructions.{fits}
@@ -21,9 +21,9 @@ use Rattle.tcl_calls.specs.Expressions.{IsKept}
 pub fits_within : (text : Text) → fits text ≡ true → length text ≤ 16777216
 fits_within text h = grind (arith, nat_tests)
 
-pub kept_is : (style : Integers) (text : Text) (kept : ExprTree) → Keeps (Ok kept) (expression_of style text) → IsKept style text kept
+pub kept_is : (style : Integers) (text : Text) (kept : ExprTree) → steps_of (expression_of style text) ≡ Some kept.nodes.items → IsKept style text kept
 kept_is style text kept h = by (expression_of style text) refl h
   where
-    by : (read : Result Tree ExprFault) → expression_of style text ≡ read → Keeps (Ok kept) read → IsKept style text kept
-    by (Ok t) e k = (t, e, ap (λ (nodes : List Node). from style nodes 0 []) k ∙ steps_compute_trees style text t ((gives_tree style text t).0 e))
-    by (Err f) e k = elim k [ ]
+    by : (read : Result Tree ExprFault) → expression_of style text ≡ read → steps_of read ≡ Some kept.nodes.items → IsKept style text kept
+    by (Ok t) e k = (t, e, ap (λ (nodes : List Node). from style nodes 0 []) (sym (ap (λ o. unwrap_or o []) k)) ∙ steps_compute_trees style text t ((gives_tree style text t).0 e))
+    by (Err f) e k = let clash : None ≡ Some kept.nodes.items = k in cc

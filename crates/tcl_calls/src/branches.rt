@@ -63,6 +63,7 @@ fn last_body(words: &[Value]) -> Option<&Value>
 ///
 /// # Errors
 /// Want of memory.
+#[inline(never)]
 pub fn branches_of(alloc: Global, words: &[Value]) -> Result<Option<Branches<'_>>, AllocError>
     ensures { IfOk result (λ read. option_map seen read ≡ branches_of words.now) }
 {

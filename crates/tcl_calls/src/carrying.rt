@@ -20,6 +20,7 @@ use tcl_tree::tree::{Place, Tree};
 use tcl_value::value::Value;
 
 /// The words with which an alias calls its target: its own, and then those of the call.
+#[inline(never)]
 pub fn target_words(alloc: Global, own: &[Value], args: &[Value]) -> Result<Vec<Value>, AllocError>
     ensures { IfOk result (λ words. words.items ≡ own.now ++ args.now) }
 {
@@ -34,6 +35,7 @@ pub fn target_words(alloc: Global, own: &[Value], args: &[Value]) -> Result<Vec<
 }
 
 /// The words of a call, where no word is one empty word.
+#[inline(never)]
 pub fn some_words(words: Vec<Value>) -> Result<Vec<Value>, AllocError>
     ensures { IfOk result (λ given. given.items ≡ some_words words.items) }
 {
@@ -48,6 +50,7 @@ pub fn some_words(words: Vec<Value>) -> Result<Vec<Value>, AllocError>
 ///
 /// # Errors
 /// Every end but an ordinary one; want of memory.
+#[inline(never)]
 pub fn settled(alloc: Global, ended: Result<Value, Interruption>) -> Result<Value, Interruption>
     ensures { Settles ended result }
 {
@@ -60,6 +63,7 @@ pub fn settled(alloc: Global, ended: Result<Value, Interruption>) -> Result<Valu
 }
 
 /// How a caller is told the end of its call, which went so many levels up and then these names down.
+#[inline(never)]
 pub fn carry(
     tree: &Tree,
     alloc: Global,

@@ -23,6 +23,7 @@ use tcl_tree::tree::{Place, Tree};
 use tcl_value::value::{Value, ValueError};
 
 /// The completion that an evaluation ended in. Stops, exits, cuts and want of memory are none: they go further.
+#[inline(never)]
 pub fn caught(alloc: Global, ended: Result<Value, Interruption>) -> Result<Completion, Interruption>
     ensures { Catches ended result }
 {
@@ -37,6 +38,7 @@ pub fn caught(alloc: Global, ended: Result<Value, Interruption>) -> Result<Compl
 ///
 /// # Errors
 /// The first that can't be set; that the options are too long for a value; want of memory.
+#[inline(never)]
 pub fn keep_caught(
     tree: &mut Tree,
     alloc: Global,
@@ -63,6 +65,7 @@ pub fn keep_caught(
 ///
 /// # Errors
 /// That it is too long for a value; want of memory.
+#[inline(never)]
 pub fn options_value(alloc: Global, completion: &Completion) -> Result<Value, Interruption>
     ensures whole { IfOk result (λ value. (value ≡ options_text (completion_of completion.now)) × (fits (options_text (completion_of completion.now)) ≡ true)) }
     ensures refused { IfErr result (λ i. Interrupts i (λ e. (fits (options_text (completion_of completion.now)) ≡ false) × (e ≡ Completed too_long_error))) }

@@ -10,10 +10,10 @@ ghost use Rattle.tcl_calls.specs.Expressions.{GivesPart, IsKept, IsNearer, Opera
 ghost use Rattle.tcl_calls.specs.Words.{EndsBy};
 
 use std::alloc::Global;
+use std::rc::Rc;
 use tcl_expr::fault::ExprError;
 use tcl_expression_evaluation::evaluation::{Evaluation, Progress};
 use tcl_expression_evaluation::result::final_value;
-use tcl_expression_tree::parser::parse_expr;
 use tcl_expression_tree::tree::ExprTree;
 use tcl_operators::apply::truth_of;
 use tcl_operators::fault::ApplyError;
@@ -21,30 +21,34 @@ use tcl_run::failure::failure;
 use tcl_run::interruption::Interruption;
 use tcl_run::steps::known_short;
 use tcl_text::integer::Integers;
+use tcl_tree::tree::Tree;
 use tcl_value::value::Value;
 
-/// Reads a value as an expression, in a style of integers. (expr(n))
+/// Reads a value as an expression, in a style of integers: anew only where its text wasn't read before in the tree. (expr(n))
 ///
 /// # Errors
 /// Why its text is no expression; want of memory.
+#[inline(never)]
 pub fn read_expression(
+    tree: &Tree,
     alloc: Global,
     style: Integers,
     value: &Value,
-) -> Result<ExprTree, Interruption>
-    ensures read { IfOk result (λ kept. IsKept style value.now kept) }
+) -> Result<Rc<ExprTree>, Interruption>
+    ensures read { IfOk result (λ kept. IsKept style value.now kept.value) }
     ensures refused { IfErr result (λ i. Interrupts i (IsFailure (message_of value.now) (expression_of style value.now))) }
 {
     let value = known_short(value.clone()?);
     let text = value.text(alloc)?;
-    match parse_expr(alloc, text.as_str(), style) {
-        Ok(tree) => Ok(tree),
+    match tree.expression(alloc, &text, style) {
+        Ok(kept) => Ok(kept),
         Err(ExprError::Fault(fault)) => Err(failure(alloc, fault.message(alloc, text.as_str())?)),
         Err(ExprError::Memory) => Err(Interruption::Memory),
     }
 }
 
 /// The error that a refusal of an operator is.
+#[inline(never)]
 pub fn operator_failure(alloc: Global, error: ApplyError) -> Interruption
     ensures { OperatorTells error result }
 {
@@ -61,6 +65,7 @@ pub fn operator_failure(alloc: Global, error: ApplyError) -> Interruption
 ///
 /// # Errors
 /// The refusal of an operator; want of memory.
+#[inline(never)]
 pub fn next_part<'t>(
     evaluation: &mut Evaluation,
     alloc: Global,
@@ -77,6 +82,7 @@ pub fn next_part<'t>(
 }
 
 /// What an expression of this value comes to.
+#[inline(never)]
 pub fn settle(alloc: Global, style: Integers, value: Value) -> Result<Value, Interruption>
     ensures { IfEnded result (EndsBy (settles style value)) }
 {
@@ -87,6 +93,7 @@ pub fn settle(alloc: Global, style: Integers, value: Value) -> Result<Value, Int
 }
 
 /// Whether a condition of this value holds.
+#[inline(never)]
 pub fn holds(alloc: Global, style: Integers, value: Value) -> Result<bool, Interruption>
     ensures { Gave operator_message (truth style value) result }
 {

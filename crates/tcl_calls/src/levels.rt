@@ -122,6 +122,7 @@ fn is_level(word: &[u8]) -> bool
 ///
 /// # Errors
 /// That there are no words; that there is no such level; want of memory.
+#[inline(never)]
 pub fn script_level<'w>(
     tree: &Tree,
     alloc: Global,
@@ -145,6 +146,7 @@ pub fn script_level<'w>(
 ///
 /// # Errors
 /// Want of memory.
+#[inline(never)]
 pub fn set_aside(
     tree: &mut Tree,
     alloc: Global,
@@ -167,6 +169,7 @@ pub fn set_aside(
 }
 
 /// Brings the frames back that were set aside last.
+#[inline(never)]
 pub fn bring_back(tree: &mut Tree, place: Place)
     requires { (p : Path) × Names tree.old place p }
     ensures back { (p : Path) (n : core.Node Own) → Names tree.old place p → tree_of tree.old p ≡ Some n → tree_of tree.new ≡ effect p (Changed (level_over n.own)) (tree_of tree.old) }

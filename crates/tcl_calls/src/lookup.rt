@@ -27,8 +27,12 @@ fn plain(name: Text) -> Option<Text>
     Some(name)
 }
 
-/// The name by which a command is kept that is called so: two leading colons name the global level, which is the only one.
-fn kept_name(alloc: Global, word: &Value) -> Result<Option<Text>, AllocError>
+/// The name by which a command is kept that is called so, if one can be: two leading colons name the global level, which is the only one.
+///
+/// # Errors
+/// Want of memory.
+#[inline(never)]
+pub fn kept_name(alloc: Global, word: &Value) -> Result<Option<Text>, AllocError>
     ensures { IfOk result (λ name. name ≡ command_name word.now) }
 {
     let name = word.text(alloc)?;
@@ -39,6 +43,7 @@ fn kept_name(alloc: Global, word: &Value) -> Result<Option<Text>, AllocError>
 }
 
 /// The command that a word names in the interpreter.
+#[inline(never)]
 pub fn find_command(
     tree: &Tree,
     alloc: Global,
@@ -57,6 +62,7 @@ pub fn find_command(
 }
 
 /// The hidden command of this name in the interpreter.
+#[inline(never)]
 pub fn find_hidden(
     tree: &Tree,
     alloc: Global,

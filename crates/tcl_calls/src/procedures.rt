@@ -53,6 +53,7 @@ fn bind_all(frames: &mut Frames, alloc: Global, bindings: &[Binding]) -> Result<
 }
 
 /// Puts a frame with these words and variables on top.
+#[inline(never)]
 pub fn enter_frame(
     tree: &mut Tree,
     alloc: Global,
@@ -73,6 +74,7 @@ pub fn enter_frame(
 }
 
 /// Takes the frame on top off.
+#[inline(never)]
 pub fn leave_frame(tree: &mut Tree, place: Place)
     requires { (p : Path) × Names tree.old place p }
     ensures left { (p : Path) (n : core.Node Own) → Names tree.old place p → tree_of tree.old p ≡ Some n → tree_of tree.new ≡ effect p (Changed (out_of_frame n.own)) (tree_of tree.old) }
@@ -86,6 +88,7 @@ pub fn leave_frame(tree: &mut Tree, place: Place)
 
 /// What the parameters of a call are bound to, from the left: a word, or the default where none is left. A last `args` takes the list of
 /// what is left. None where words are too few or too many. (proc(n))
+#[inline(never)]
 pub fn bind(
     alloc: Global,
     parameters: &[Parameter],
@@ -188,6 +191,7 @@ fn list_value(alloc: Global, words: &[Value]) -> Result<Value, Interruption>
 }
 
 /// The error of a call with too few or too many words.
+#[inline(never)]
 pub fn wrong_form(alloc: Global, word: &Value, parameters: &[Parameter]) -> Interruption
     ensures { Interrupts result (λ e. e ≡ Completed (failing (faults.wrong_args (proc_form word.now parameters.now)))) }
 {

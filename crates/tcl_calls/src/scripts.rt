@@ -15,6 +15,7 @@ use tcl_value::value::Value;
 ///
 /// # Errors
 /// That it is too long for a value; want of memory.
+#[inline(never)]
 pub fn script_of(alloc: Global, words: &[Value]) -> Result<Value, Interruption>
     ensures whole { IfOk result (λ text. (text ≡ concatenated words.now) × (fits (concatenated words.now) ≡ true)) }
     ensures refused { IfErr result (λ i. Interrupts i (λ e. (fits (concatenated words.now) ≡ false) × (e ≡ Completed too_long_error))) }

@@ -16,6 +16,7 @@ use tcl_value::value::Value;
 ///
 /// # Errors
 /// Why it can't be set; want of memory.
+#[inline(never)]
 pub fn set_named(
     tree: &mut Tree,
     alloc: Global,

@@ -29,6 +29,7 @@ pub struct Walk {
 }
 
 /// The words of a `foreach` that are read as walks, and its body, if the number of words is that of a `foreach`. (foreach(n))
+#[inline(never)]
 pub fn loop_words(args: &[Value]) -> Option<(&[Value], &Value)>
     ensures { MatchOption result (IsNoForeach args.now) (λ x. IsForeach args.now x.0.now x.1.now) }
 {
@@ -71,6 +72,7 @@ fn read_walk(alloc: Global, names: &Value, elements: &Value) -> Result<Walk, Int
 ///
 /// # Errors
 /// The first word that is no list; that a list of variables has none; want of memory.
+#[inline(never)]
 pub fn read_walks(alloc: Global, words: &[Value]) -> Result<Vec<Walk>, Interruption>
     requires { is_odd words.now ≡ false }
     ensures read { IfOk result (λ walks. ReadsWalks words.now walks.items) }
@@ -86,6 +88,7 @@ pub fn read_walks(alloc: Global, words: &[Value]) -> Result<Vec<Walk>, Interrupt
 }
 
 /// Whether no list has elements left after so many turns.
+#[inline(never)]
 pub fn is_over(walks: &[Walk], turns: usize) -> bool
     ensures { result ≡ is_over (walks_at turns walks.now) }
 {
@@ -125,6 +128,7 @@ fn set_walk(
 ///
 /// # Errors
 /// Why the first that can't be set can't; want of memory.
+#[inline(never)]
 pub fn set_walks(
     tree: &mut Tree,
     alloc: Global,

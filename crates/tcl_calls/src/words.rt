@@ -39,6 +39,7 @@ pub struct OpenElement {
 }
 
 /// What a script gives whose commands are done: its last result, or its fault.
+#[inline(never)]
 pub fn finish(alloc: Global, script: &Script, last: Value) -> Result<Value, Interruption>
     ensures { IfEnded result (EndsBy (over script.now.fault last)) }
 {
@@ -49,6 +50,7 @@ pub fn finish(alloc: Global, script: &Script, last: Value) -> Result<Value, Inte
 }
 
 /// Adds the words that a word's text stands for: the text, or its elements as a list.
+#[inline(never)]
 pub fn spread(
     alloc: Global,
     expand: bool,
@@ -80,6 +82,7 @@ fn add_elements(list: &List, words: &mut Vec<Value>) -> Result<(), AllocError>
 }
 
 /// Adds to a word's text.
+#[inline(never)]
 pub fn append(alloc: Global, text: &mut String, more: &str) -> Result<(), Interruption>
     ensures added { OnOk result ((fits (string_bytes text.old ++ more.now) ≡ true) × (string_bytes text.new ≡ string_bytes text.old ++ more.now)) }
     ensures refused { IfErr result (λ i. Interrupts i (λ e. (fits (string_bytes text.old ++ more.now) ≡ false) × (e ≡ Completed too_long_error))) }
@@ -93,6 +96,7 @@ pub fn append(alloc: Global, text: &mut String, more: &str) -> Result<(), Interr
 }
 
 /// Adds a value to a word's text.
+#[inline(never)]
 pub fn append_value(alloc: Global, text: &mut String, value: &Value) -> Result<(), Interruption>
     ensures added { OnOk result ((fits (string_bytes text.old ++ value.now) ≡ true) × (string_bytes text.new ≡ string_bytes text.old ++ value.now)) }
     ensures refused { IfErr result (λ i. Interrupts i (λ e. (fits (string_bytes text.old ++ value.now) ≡ false) × (e ≡ Completed too_long_error))) }
@@ -106,6 +110,7 @@ pub fn append_value(alloc: Global, text: &mut String, value: &Value) -> Result<(
 }
 
 /// A value of this text, or the error that it is too long.
+#[inline(never)]
 pub fn within(alloc: Global, text: Text) -> Result<Value, Interruption>
     ensures whole { IfOk result (λ value. (value ≡ text) × (fits text ≡ true)) }
     ensures refused { IfErr result (λ i. Interrupts i (λ e. (fits text ≡ false) × (e ≡ Completed too_long_error))) }
@@ -117,6 +122,7 @@ pub fn within(alloc: Global, text: Text) -> Result<Value, Interruption>
 }
 
 /// Begins an element: its key is substituted next.
+#[inline(never)]
 pub fn open_element(
     alloc: Global,
     name: &Text,
@@ -136,6 +142,7 @@ pub fn open_element(
 }
 
 /// `a(k)`
+#[inline(never)]
 pub fn element_text(alloc: Global, name: &str, key: &str) -> Result<Text, AllocError>
     ensures { IfOk result (λ text. text ≡ element_name name.now key.now) }
 {
@@ -161,6 +168,7 @@ fn ended(alloc: Global, text: &String) -> Interruption
 }
 
 /// The ordinary completion of this text.
+#[inline(never)]
 pub fn ordinary(alloc: Global, text: Value) -> Result<Completion, AllocError>
     ensures { IfOk result (λ c. completion_of c ≡ ok text) }
 {
@@ -176,6 +184,7 @@ pub fn ordinary(alloc: Global, text: Value) -> Result<Completion, AllocError>
 }
 
 /// Ends an element: its value goes to the word's text before it.
+#[inline(never)]
 pub fn close_element(
     tree: &Tree,
     alloc: Global,

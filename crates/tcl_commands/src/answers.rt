@@ -14,7 +14,7 @@ use tcl_words::answer::Answer;
 use tcl_words::refusal::Refusal;
 
 /// The end of a command that gives a value or refuses its words.
-pub(crate) fn answered(alloc: Global, given: Result<Value, Refusal>) -> Result<Value, Interruption>
+pub fn answered(alloc: Global, given: Result<Value, Refusal>) -> Result<Value, Interruption>
     ensures { (outcome : Outcome) → Gives (λ value. value) given outcome → IsGiven outcome result }
 {
     match given {

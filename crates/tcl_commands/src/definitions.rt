@@ -116,6 +116,15 @@ fn define(
     }
 }
 
+/// The body of a procedure, which keeps the script that it is: no call reads it again.
+fn read_body(alloc: Global, body: &Value) -> Result<Value, AllocError>
+    ensures { IfOk result (λ own. own ≡ body.now) }
+{
+    let mut own = body.clone()?;
+    own.as_script(alloc)?;
+    Ok(own)
+}
+
 /// `proc name args body`: makes a name a procedure, whose parameters are read from a list.
 ///
 /// # Errors
@@ -133,7 +142,7 @@ pub fn proc(
     match args {
         [name, parameters, body] => {
             let parameters = read_parameters(alloc, parameters)?;
-            let procedure = Procedure::new(alloc, parameters, body.clone()?)?;
+            let procedure = Procedure::new(alloc, parameters, read_body(alloc, body)?)?;
             define(tree, alloc, place, name, procedure)
         }
         _ => Err(wrong_args(alloc, "proc name args body")),

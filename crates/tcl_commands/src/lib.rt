@@ -1,7 +1,7 @@
 //! The commands that run nothing inside, call nobody and count no step: each is a function of its words and of the interpreter where it is called.
 #![tactic(auto)]
 
-mod answers;
+pub mod answers;
 pub mod assigning;
 pub mod definitions;
 pub mod ends;
@@ -10,7 +10,7 @@ pub mod inspection;
 pub mod links;
 pub mod lists;
 mod naming;
-mod steps;
+pub mod steps;
 pub mod texts;
 pub mod unsetting;
 pub mod variables;

@@ -206,7 +206,7 @@ pub(crate) fn integer(tree: &Tree, alloc: Global, value: &mut Value) -> Result<i
 }
 
 /// The integer of a word.
-pub(crate) fn word_integer(tree: &Tree, alloc: Global, word: &Value) -> Result<i64, Interruption>
+pub fn word_integer(tree: &Tree, alloc: Global, word: &Value) -> Result<i64, Interruption>
     ensures { Gave (integer_message word.now) (in_64_bits (integer_of (marks_of tree.now).integers word.now)) result }
 {
     let mut own = word.clone()?;

@@ -1,14 +1,16 @@
 //! The changes that subcommands of `dict` make to a variable's value.
-ghost use Rattle.std.specs.Prelude.{◌≡◌, codes};
+ghost use Rattle.std.specs.Prelude.{◌≡◌, codes, Ok, IfOk, OnErr};
+ghost use Rattle.std.specs.Bool.{OnTrue, OnFalse};
 ghost use Rattle.std.specs.Option.{option_copied};
 ghost use Rattle.tcl_words.specs.Outcomes.{Gives};
 ghost use Rattle.tcl_words.specs.Arguments.{two_or_three_words};
+ghost use Rattle.tcl_value.specs.Limits.{IsWithin};
 ghost use Rattle.tcl_lists.specs.Lists.{Changes, two_and_rest, first_middle_last};
 ghost use Rattle.tcl_dicts.specs.Changing.{with_keys, set_words_of, set_of, unset_of, found_of, put_of, incr_of, append_of, lappend_of};
 
 use crate::reading::{not_changed, own_dict};
 use crate::values::{appended, incremented, lengthened};
-use std::alloc::Global;
+use std::alloc::{AllocError, Global};
 use tcl_lists::reading::{first_middle_last, two_and_rest, two_or_three_words};
 use tcl_lists::refusing::nested_refusal;
 use tcl_nested::changing::{remove_key, set_value};
@@ -178,12 +180,41 @@ pub fn lappend_words(alloc: Global, words: &[Value]) -> Result<(&Value, &Value, 
 }
 
 /// What `dict lappend varName key ?value ...?` makes of the variable's value: the list of the key's value, which is empty where it
-/// is missing, has the values behind its elements. Where nobody shares the dict it is changed in place, but the key's list is
-/// copied. A refusal leaves the value as it was.
+/// is missing, has the values behind its elements. Where nobody shares the dict it is changed in place, and so is the key's list
+/// where it is kept as one. A refusal leaves the value as it was.
 ///
 /// # Errors
 /// 101 to 104 and 121 of the dict, 101 to 104 of the key's value, 122; want of memory.
 pub fn lappend(alloc: Global, old: &mut Value, key: &Value, words: &[Value]) -> Result<(), Refusal>
+    ensures { Changes result old.old old.new (lappend_of old.old key.now words.now) }
+{
+    if lengthened_in_place(alloc, old, key, words)? {
+        return Ok(());
+    }
+    lappend_anew(alloc, old, key, words)
+}
+
+/// Puts words behind the elements of a key's list, where it is kept as one. Says whether it did; where it didn't, nothing is
+/// changed.
+fn lengthened_in_place(
+    alloc: Global,
+    old: &mut Value,
+    key: &Value,
+    words: &[Value],
+) -> Result<bool, AllocError>
+    ensures changed { IfOk result (λ done. OnTrue done (lappend_of old.old key.now words.now ≡ Ok old.new)) }
+    ensures within { IfOk result (λ done. OnTrue done (IsWithin old.new)) }
+    ensures unchanged { IfOk result (λ done. OnFalse done (old.new ≡ old.old)) }
+    ensures memory { OnErr result (old.new ≡ old.old) }
+{
+    let path = [key.clone()?];
+    let done = old.extend_inside(alloc, &path, words);
+    let _within = old.text_len();
+    Ok(done)
+}
+
+/// What `dict lappend` makes of a value, where the key's list is copied.
+fn lappend_anew(alloc: Global, old: &mut Value, key: &Value, words: &[Value]) -> Result<(), Refusal>
     ensures { Changes result old.old old.new (lappend_of old.old key.now words.now) }
 {
     let found = found_in(alloc, old, key)?;

@@ -1,5 +1,5 @@
 //! Asking an interpreter, wherever it is in the tree.
-ghost use Rattle.std.specs.Prelude.{◌≡◌, ◌++◌, IfOk, IfErr, Ok};
+ghost use Rattle.std.specs.Prelude.{◌≡◌, ◌≤◌, ◌++◌, IfOk, IfErr, Ok};
 ghost use Rattle.tcl_core.specs.Paths.{Path};
 ghost use Rattle.tcl_language.specs.Interpreters as interpreters;
 ghost use Rattle.tcl_run.specs.Ends.{Interrupts, IsFailure};
@@ -31,16 +31,17 @@ use tcl_value::value::Value;
 pub fn ask<O: Outside>(
     tree: &mut Tree,
     alloc: Global,
-    outside: &O,
+    outside: &mut O,
     place: Place,
     path: &[Text],
     entry: &OwnEntry,
 ) -> Result<Value, Interruption>
     requires { IsRunning tree.old place }
-    ensures asks { Asks O.goes tree.old outside.now place path.now (entry_of entry.now) tree.new outside.now result }
+    ensures asks { Asks O.goes tree.old outside.old place path.now (entry_of entry.now) tree.new outside.new result }
     ensures steady { IsSteady tree.old tree.new }
+    ensures left { O.entries_left outside.new ≤ O.entries_left outside.old }
 {
-    let _outside = outside;
+    let _outside = &*outside;
     match tree.reach(place, 0, path) {
         Reach::There(there) => {
             let ended = serve(tree, alloc, there, entry);
@@ -105,7 +106,7 @@ pub fn path_at<O: Outside>(
 ///
 /// # Errors
 /// 101 to 104; want of memory.
-pub(crate) fn read_path(alloc: Global, text: &Text) -> Result<Vec<Text>, Interruption>
+pub fn read_path(alloc: Global, text: &Text) -> Result<Vec<Text>, Interruption>
     ensures read { IfOk result (λ path. list_of text.now ≡ Ok path.items) }
     ensures refused { IfErr result (λ i. Interrupts i (IsFailure fault_message (list_of text.now))) }
 {

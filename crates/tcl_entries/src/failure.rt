@@ -45,7 +45,7 @@ fn quoting(alloc: Global, front: &str, text: &str, end: &str) -> Interruption
 }
 
 /// The error that a refusal to name a command is, with the word that is wrong.
-pub(crate) fn refusal_failure(alloc: Global, refusal: Refusal, word: &str) -> Interruption
+pub fn refusal_failure(alloc: Global, refusal: Refusal, word: &str) -> Interruption
     ensures { Tells refusal (interpreters.refusal_text refusal word.now) result }
 {
     match refusal {
@@ -66,12 +66,7 @@ pub(crate) fn refusal_failure(alloc: Global, refusal: Refusal, word: &str) -> In
 }
 
 /// The error that a refusal to hide a command is: no such command, or a name that can't be given.
-pub(crate) fn hiding_failure(
-    alloc: Global,
-    refusal: Refusal,
-    name: &str,
-    hidden: &str,
-) -> Interruption
+pub fn hiding_failure(alloc: Global, refusal: Refusal, name: &str, hidden: &str) -> Interruption
     ensures { Tells refusal (hiding_text refusal name.now hidden.now) result }
 {
     match refusal {

@@ -1,5 +1,5 @@
 //! The subcommands of `interp` that evaluate nothing.
-ghost use Rattle.std.specs.Prelude.{◌≡◌, ◌∷◌, []};
+ghost use Rattle.std.specs.Prelude.{◌≡◌, ◌≤◌, ◌∷◌, []};
 ghost use Rattle.tcl_core.specs.Entries.Entry.{Hide, Expose};
 ghost use Rattle.tcl_language.specs.Interpreters as interpreters;
 ghost use Rattle.tcl_run.specs.Runs.{Evaluates, IsRunning, IsSteady};
@@ -27,15 +27,16 @@ use tcl_value::value::Value;
 fn hide_as<O: Outside>(
     tree: &mut Tree,
     alloc: Global,
-    outside: &O,
+    outside: &mut O,
     place: Place,
     path: &Value,
     name: &Value,
     hidden: &Value,
 ) -> Result<Value, Interruption>
     requires { IsRunning tree.old place }
-    ensures evaluates { Evaluates O.goes tree.old outside.now place (λ style. interpreters.asks_trusted path.now (Hide name.now hidden.now)) tree.new outside.now result }
+    ensures evaluates { Evaluates O.goes tree.old outside.old place (λ style. interpreters.asks_trusted path.now (Hide name.now hidden.now)) tree.new outside.new result }
     ensures steady { IsSteady tree.old tree.new }
+    ensures left { O.entries_left outside.new ≤ O.entries_left outside.old }
 {
     let name = name.text(alloc)?;
     let hidden = hidden.text(alloc)?;
@@ -56,13 +57,14 @@ fn hide_as<O: Outside>(
 pub fn hide<O: Outside>(
     tree: &mut Tree,
     alloc: Global,
-    outside: &O,
+    outside: &mut O,
     place: Place,
     args: &[Value],
 ) -> Result<Value, Interruption>
     requires { IsRunning tree.old place }
-    ensures evaluates { Evaluates O.goes tree.old outside.now place (λ style. interpreters.hide args.now) tree.new outside.now result }
+    ensures evaluates { Evaluates O.goes tree.old outside.old place (λ style. interpreters.hide args.now) tree.new outside.new result }
     ensures steady { IsSteady tree.old tree.new }
+    ensures left { O.entries_left outside.new ≤ O.entries_left outside.old }
 {
     match args {
         [path, name] => hide_as(tree, alloc, outside, place, path, name, name),
@@ -75,15 +77,16 @@ pub fn hide<O: Outside>(
 fn expose_as<O: Outside>(
     tree: &mut Tree,
     alloc: Global,
-    outside: &O,
+    outside: &mut O,
     place: Place,
     path: &Value,
     hidden: &Value,
     name: &Value,
 ) -> Result<Value, Interruption>
     requires { IsRunning tree.old place }
-    ensures evaluates { Evaluates O.goes tree.old outside.now place (λ style. interpreters.asks_trusted path.now (Expose hidden.now name.now)) tree.new outside.now result }
+    ensures evaluates { Evaluates O.goes tree.old outside.old place (λ style. interpreters.asks_trusted path.now (Expose hidden.now name.now)) tree.new outside.new result }
     ensures steady { IsSteady tree.old tree.new }
+    ensures left { O.entries_left outside.new ≤ O.entries_left outside.old }
 {
     let hidden = hidden.text(alloc)?;
     let name = name.text(alloc)?;
@@ -104,13 +107,14 @@ fn expose_as<O: Outside>(
 pub fn expose<O: Outside>(
     tree: &mut Tree,
     alloc: Global,
-    outside: &O,
+    outside: &mut O,
     place: Place,
     args: &[Value],
 ) -> Result<Value, Interruption>
     requires { IsRunning tree.old place }
-    ensures evaluates { Evaluates O.goes tree.old outside.now place (λ style. interpreters.expose args.now) tree.new outside.now result }
+    ensures evaluates { Evaluates O.goes tree.old outside.old place (λ style. interpreters.expose args.now) tree.new outside.new result }
     ensures steady { IsSteady tree.old tree.new }
+    ensures left { O.entries_left outside.new ≤ O.entries_left outside.old }
 {
     match args {
         [path, hidden] => expose_as(tree, alloc, outside, place, path, hidden, hidden),
@@ -120,17 +124,18 @@ pub fn expose<O: Outside>(
 }
 
 /// Sets the limit of steps of the interpreter at a path to what a word is.
-pub(crate) fn limit_to<O: Outside>(
+pub fn limit_to<O: Outside>(
     tree: &mut Tree,
     alloc: Global,
-    outside: &O,
+    outside: &mut O,
     place: Place,
     path: &[Text],
     value: &Value,
 ) -> Result<Value, Interruption>
     requires { IsRunning tree.old place }
-    ensures evaluates { Evaluates O.goes tree.old outside.now place (λ style. limits_to style path.now value.now) tree.new outside.now result }
+    ensures evaluates { Evaluates O.goes tree.old outside.old place (λ style. limits_to style path.now value.now) tree.new outside.new result }
     ensures steady { IsSteady tree.old tree.new }
+    ensures left { O.entries_left outside.new ≤ O.entries_left outside.old }
 {
     let limit = limit_value(tree, alloc, place, value)?;
     ask_at(
@@ -144,17 +149,18 @@ pub(crate) fn limit_to<O: Outside>(
 }
 
 /// The same of a limit of depth.
-pub(crate) fn deepen_to<O: Outside>(
+pub fn deepen_to<O: Outside>(
     tree: &mut Tree,
     alloc: Global,
-    outside: &O,
+    outside: &mut O,
     place: Place,
     path: &[Text],
     value: &Value,
 ) -> Result<Value, Interruption>
     requires { IsRunning tree.old place }
-    ensures evaluates { Evaluates O.goes tree.old outside.now place (λ style. deepens_to style path.now value.now) tree.new outside.now result }
+    ensures evaluates { Evaluates O.goes tree.old outside.old place (λ style. deepens_to style path.now value.now) tree.new outside.new result }
     ensures steady { IsSteady tree.old tree.new }
+    ensures left { O.entries_left outside.new ≤ O.entries_left outside.old }
 {
     let limit = depth_value(tree, alloc, place, value)?;
     ask_at(
@@ -171,14 +177,15 @@ pub(crate) fn deepen_to<O: Outside>(
 fn set_limit<O: Outside>(
     tree: &mut Tree,
     alloc: Global,
-    outside: &O,
+    outside: &mut O,
     place: Place,
     word: &Value,
     value: &Value,
 ) -> Result<Value, Interruption>
     requires { IsRunning tree.old place }
-    ensures evaluates { Evaluates O.goes tree.old outside.now place (λ style. interpreters.sets_limit style word.now value.now) tree.new outside.now result }
+    ensures evaluates { Evaluates O.goes tree.old outside.old place (λ style. interpreters.sets_limit style word.now value.now) tree.new outside.new result }
     ensures steady { IsSteady tree.old tree.new }
+    ensures left { O.entries_left outside.new ≤ O.entries_left outside.old }
 {
     permit(tree, alloc, place)?;
     let names = names_of(tree, alloc, place, word)?;
@@ -189,15 +196,16 @@ fn set_limit<O: Outside>(
 fn limit_below<O: Outside>(
     tree: &mut Tree,
     alloc: Global,
-    outside: &O,
+    outside: &mut O,
     place: Place,
     word: &Value,
     names: &[Text],
     value: &Value,
 ) -> Result<Value, Interruption>
     requires { IsRunning tree.old place }
-    ensures evaluates { Evaluates O.goes tree.old outside.now place (λ style. limits_below style word.now names.now value.now) tree.new outside.now result }
+    ensures evaluates { Evaluates O.goes tree.old outside.old place (λ style. limits_below style word.now names.now value.now) tree.new outside.new result }
     ensures steady { IsSteady tree.old tree.new }
+    ensures left { O.entries_left outside.new ≤ O.entries_left outside.old }
 {
     below_itself(tree, alloc, place, names)?;
     stands(tree, alloc, place, word, names)?;
@@ -208,14 +216,15 @@ fn limit_below<O: Outside>(
 fn limit_of<O: Outside>(
     tree: &mut Tree,
     alloc: Global,
-    outside: &O,
+    outside: &mut O,
     place: Place,
     path: &Value,
     word: &Value,
 ) -> Result<Value, Interruption>
     requires { IsRunning tree.old place }
-    ensures evaluates { Evaluates O.goes tree.old outside.now place (λ style. interpreters.limit style (path.now ∷ word.now ∷ [])) tree.new outside.now result }
+    ensures evaluates { Evaluates O.goes tree.old outside.old place (λ style. interpreters.limit style (path.now ∷ word.now ∷ [])) tree.new outside.new result }
     ensures steady { IsSteady tree.old tree.new }
+    ensures left { O.entries_left outside.new ≤ O.entries_left outside.old }
 {
     commands_only(tree, alloc, place, word)?;
     ask_there(
@@ -232,7 +241,7 @@ fn limit_of<O: Outside>(
 fn limit_with<O: Outside>(
     tree: &mut Tree,
     alloc: Global,
-    outside: &O,
+    outside: &mut O,
     place: Place,
     path: &Value,
     word: &Value,
@@ -240,8 +249,9 @@ fn limit_with<O: Outside>(
     value: &Value,
 ) -> Result<Value, Interruption>
     requires { IsRunning tree.old place }
-    ensures evaluates { Evaluates O.goes tree.old outside.now place (λ style. interpreters.limit style (path.now ∷ word.now ∷ option.now ∷ value.now ∷ [])) tree.new outside.now result }
+    ensures evaluates { Evaluates O.goes tree.old outside.old place (λ style. interpreters.limit style (path.now ∷ word.now ∷ option.now ∷ value.now ∷ [])) tree.new outside.new result }
     ensures steady { IsSteady tree.old tree.new }
+    ensures left { O.entries_left outside.new ≤ O.entries_left outside.old }
 {
     commands_only(tree, alloc, place, word)?;
     value_only(tree, alloc, place, option)?;
@@ -255,13 +265,14 @@ fn limit_with<O: Outside>(
 pub fn limit<O: Outside>(
     tree: &mut Tree,
     alloc: Global,
-    outside: &O,
+    outside: &mut O,
     place: Place,
     args: &[Value],
 ) -> Result<Value, Interruption>
     requires { IsRunning tree.old place }
-    ensures evaluates { Evaluates O.goes tree.old outside.now place (λ style. interpreters.limit style args.now) tree.new outside.now result }
+    ensures evaluates { Evaluates O.goes tree.old outside.old place (λ style. interpreters.limit style args.now) tree.new outside.new result }
     ensures steady { IsSteady tree.old tree.new }
+    ensures left { O.entries_left outside.new ≤ O.entries_left outside.old }
 {
     match args {
         [path, word] => limit_of(tree, alloc, outside, place, path, word),
@@ -276,14 +287,15 @@ pub fn limit<O: Outside>(
 fn set_depth_limit<O: Outside>(
     tree: &mut Tree,
     alloc: Global,
-    outside: &O,
+    outside: &mut O,
     place: Place,
     word: &Value,
     value: &Value,
 ) -> Result<Value, Interruption>
     requires { IsRunning tree.old place }
-    ensures evaluates { Evaluates O.goes tree.old outside.now place (λ style. interpreters.sets_depth_limit style word.now value.now) tree.new outside.now result }
+    ensures evaluates { Evaluates O.goes tree.old outside.old place (λ style. interpreters.sets_depth_limit style word.now value.now) tree.new outside.new result }
     ensures steady { IsSteady tree.old tree.new }
+    ensures left { O.entries_left outside.new ≤ O.entries_left outside.old }
 {
     permit(tree, alloc, place)?;
     let names = names_of(tree, alloc, place, word)?;
@@ -294,15 +306,16 @@ fn set_depth_limit<O: Outside>(
 fn deepen_there<O: Outside>(
     tree: &mut Tree,
     alloc: Global,
-    outside: &O,
+    outside: &mut O,
     place: Place,
     word: &Value,
     names: &[Text],
     value: &Value,
 ) -> Result<Value, Interruption>
     requires { IsRunning tree.old place }
-    ensures evaluates { Evaluates O.goes tree.old outside.now place (λ style. deepens_there style word.now names.now value.now) tree.new outside.now result }
+    ensures evaluates { Evaluates O.goes tree.old outside.old place (λ style. deepens_there style word.now names.now value.now) tree.new outside.new result }
     ensures steady { IsSteady tree.old tree.new }
+    ensures left { O.entries_left outside.new ≤ O.entries_left outside.old }
 {
     unless_root(tree, alloc, place, names)?;
     stands(tree, alloc, place, word, names)?;
@@ -316,13 +329,14 @@ fn deepen_there<O: Outside>(
 pub fn recursion_limit<O: Outside>(
     tree: &mut Tree,
     alloc: Global,
-    outside: &O,
+    outside: &mut O,
     place: Place,
     args: &[Value],
 ) -> Result<Value, Interruption>
     requires { IsRunning tree.old place }
-    ensures evaluates { Evaluates O.goes tree.old outside.now place (λ style. interpreters.recursion_limit style args.now) tree.new outside.now result }
+    ensures evaluates { Evaluates O.goes tree.old outside.old place (λ style. interpreters.recursion_limit style args.now) tree.new outside.new result }
     ensures steady { IsSteady tree.old tree.new }
+    ensures left { O.entries_left outside.new ≤ O.entries_left outside.old }
 {
     match args {
         [path] => {
@@ -344,7 +358,7 @@ pub fn recursion_limit<O: Outside>(
 fn set_alias<O: Outside>(
     tree: &mut Tree,
     alloc: Global,
-    outside: &O,
+    outside: &mut O,
     place: Place,
     source: &Value,
     name: &Value,
@@ -353,8 +367,9 @@ fn set_alias<O: Outside>(
     words: &[Value],
 ) -> Result<Value, Interruption>
     requires { IsRunning tree.old place }
-    ensures evaluates { Evaluates O.goes tree.old outside.now place (λ style. interpreters.alias_path source.now name.now target.now word.now words.now) tree.new outside.now result }
+    ensures evaluates { Evaluates O.goes tree.old outside.old place (λ style. interpreters.alias_path source.now name.now target.now word.now words.now) tree.new outside.new result }
     ensures steady { IsSteady tree.old tree.new }
+    ensures left { O.entries_left outside.new ≤ O.entries_left outside.old }
 {
     let found = path_of(tree, alloc, outside, place, source)?;
     let goal = names_of(tree, alloc, place, target)?;
@@ -378,15 +393,16 @@ fn set_alias<O: Outside>(
 fn clear_alias<O: Outside>(
     tree: &mut Tree,
     alloc: Global,
-    outside: &O,
+    outside: &mut O,
     place: Place,
     source: &Value,
     name: &Value,
     target: &Value,
 ) -> Result<Value, Interruption>
     requires { IsRunning tree.old place }
-    ensures evaluates { Evaluates O.goes tree.old outside.now place (λ style. interpreters.alias (source.now ∷ name.now ∷ target.now ∷ [])) tree.new outside.now result }
+    ensures evaluates { Evaluates O.goes tree.old outside.old place (λ style. interpreters.alias (source.now ∷ name.now ∷ target.now ∷ [])) tree.new outside.new result }
     ensures steady { IsSteady tree.old tree.new }
+    ensures left { O.entries_left outside.new ≤ O.entries_left outside.old }
 {
     if !target.is_text(b"") {
         return Err(wrong_args(alloc, ALIAS_FORM));
@@ -406,14 +422,15 @@ fn clear_alias<O: Outside>(
 fn alias_of<O: Outside>(
     tree: &mut Tree,
     alloc: Global,
-    outside: &O,
+    outside: &mut O,
     place: Place,
     source: &Value,
     name: &Value,
 ) -> Result<Value, Interruption>
     requires { IsRunning tree.old place }
-    ensures evaluates { Evaluates O.goes tree.old outside.now place (λ style. interpreters.alias (source.now ∷ name.now ∷ [])) tree.new outside.now result }
+    ensures evaluates { Evaluates O.goes tree.old outside.old place (λ style. interpreters.alias (source.now ∷ name.now ∷ [])) tree.new outside.new result }
     ensures steady { IsSteady tree.old tree.new }
+    ensures left { O.entries_left outside.new ≤ O.entries_left outside.old }
 {
     let name = name.text(alloc)?;
     ask_there(
@@ -436,13 +453,14 @@ const ALIAS_FORM: &str = "interp alias srcPath srcCmd ?targetPath? ?targetCmd? ?
 pub fn alias<O: Outside>(
     tree: &mut Tree,
     alloc: Global,
-    outside: &O,
+    outside: &mut O,
     place: Place,
     args: &[Value],
 ) -> Result<Value, Interruption>
     requires { IsRunning tree.old place }
-    ensures evaluates { Evaluates O.goes tree.old outside.now place (λ style. interpreters.alias args.now) tree.new outside.now result }
+    ensures evaluates { Evaluates O.goes tree.old outside.old place (λ style. interpreters.alias args.now) tree.new outside.new result }
     ensures steady { IsSteady tree.old tree.new }
+    ensures left { O.entries_left outside.new ≤ O.entries_left outside.old }
 {
     match args {
         [source, name] => alias_of(tree, alloc, outside, place, source, name),

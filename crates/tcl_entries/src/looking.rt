@@ -31,7 +31,7 @@ use tcl_value::value::Value;
 ///
 /// # Errors
 /// 304; want of memory.
-pub(crate) fn permit(tree: &Tree, alloc: Global, place: Place) -> Result<(), Interruption>
+pub fn permit(tree: &Tree, alloc: Global, place: Place) -> Result<(), Interruption>
     requires { (p : Path) × Names tree.now place p }
     ensures { Passes tree.now place (λ rest style. interpreters.permitted (rest style)) result }
 {
@@ -45,7 +45,7 @@ pub(crate) fn permit(tree: &Tree, alloc: Global, place: Place) -> Result<(), Int
 ///
 /// # Errors
 /// 221; want of memory.
-pub(crate) fn commands_only(
+pub fn commands_only(
     tree: &Tree,
     alloc: Global,
     place: Place,
@@ -64,7 +64,7 @@ pub(crate) fn commands_only(
 ///
 /// # Errors
 /// 221; want of memory.
-pub(crate) fn value_only(
+pub fn value_only(
     tree: &Tree,
     alloc: Global,
     place: Place,
@@ -83,7 +83,7 @@ pub(crate) fn value_only(
 ///
 /// # Errors
 /// 101 to 104; want of memory.
-pub(crate) fn names_of(
+pub fn names_of(
     tree: &Tree,
     alloc: Global,
     place: Place,
@@ -99,7 +99,7 @@ pub(crate) fn names_of(
 ///
 /// # Errors
 /// 301, with the word; want of memory.
-pub(crate) fn stands(
+pub fn stands(
     tree: &Tree,
     alloc: Global,
     place: Place,
@@ -120,7 +120,7 @@ pub(crate) fn stands(
 ///
 /// # Errors
 /// 304; want of memory.
-pub(crate) fn below_itself(
+pub fn below_itself(
     tree: &Tree,
     alloc: Global,
     place: Place,
@@ -139,7 +139,7 @@ pub(crate) fn below_itself(
 ///
 /// # Errors
 /// 304; want of memory.
-pub(crate) fn unless_root(
+pub fn unless_root(
     tree: &Tree,
     alloc: Global,
     place: Place,
@@ -210,7 +210,7 @@ fn count_of(alloc: Global, word: &Value, n: i64) -> Result<u64, Interruption>
 ///
 /// # Errors
 /// 111, 112 and 245; want of memory.
-pub(crate) fn limit_value(
+pub fn limit_value(
     tree: &Tree,
     alloc: Global,
     place: Place,
@@ -240,7 +240,7 @@ fn depth_of(alloc: Global, n: i64) -> Result<u64, Interruption>
 ///
 /// # Errors
 /// 111, 112 and 309; want of memory.
-pub(crate) fn depth_value(
+pub fn depth_value(
     tree: &Tree,
     alloc: Global,
     place: Place,

@@ -26,7 +26,7 @@ use tcl_tree::tree::{Place, Tree};
 use tcl_value::value::Value;
 
 /// The interpreter that the place names.
-pub(crate) fn node(tree: &Tree, place: Place) -> &Node
+pub fn node(tree: &Tree, place: Place) -> &Node
     requires { (p : Path) × Names tree.now place p }
     ensures { (p : Path) (n : core.Node Own) → Names tree.now place p → tree_of tree.now p ≡ Some n → view_of result.now ≡ n }
 {
@@ -44,7 +44,7 @@ fn number_text(alloc: Global, n: u64) -> Result<Text, AllocError>
 }
 
 /// A number as a value.
-pub(crate) fn number_value(alloc: Global, n: u64) -> Result<Value, AllocError>
+pub fn number_value(alloc: Global, n: u64) -> Result<Value, AllocError>
     ensures { IfOk result (λ value. value ≡ decimal n) }
 {
     Ok(Value::from_short_text(number_text(alloc, n)?))

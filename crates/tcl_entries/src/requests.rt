@@ -1,4 +1,5 @@
 //! Requests of interpreters, whose answers are all that is left.
+ghost use Rattle.std.specs.Prelude.{◌≤◌};
 ghost use Rattle.tcl_core.specs.Programs.Prog.{done};
 ghost use Rattle.tcl_language.specs.Interpreters as interpreters;
 ghost use Rattle.tcl_run.specs.Runs.{Evaluates, IsRunning, IsSteady};
@@ -18,17 +19,18 @@ use tcl_tree::tree::{Place, Tree};
 use tcl_value::value::Value;
 
 /// Asks the interpreter at a path.
-pub(crate) fn ask_at<O: Outside>(
+pub fn ask_at<O: Outside>(
     tree: &mut Tree,
     alloc: Global,
-    outside: &O,
+    outside: &mut O,
     place: Place,
     path: &[Text],
     entry: &OwnEntry,
 ) -> Result<Value, Interruption>
     requires { IsRunning tree.old place }
-    ensures evaluates { Evaluates O.goes tree.old outside.now place (λ style. interpreters.asks_at path.now (entry_of entry.now) done) tree.new outside.now result }
+    ensures evaluates { Evaluates O.goes tree.old outside.old place (λ style. interpreters.asks_at path.now (entry_of entry.now) done) tree.new outside.new result }
     ensures steady { IsSteady tree.old tree.new }
+    ensures left { O.entries_left outside.new ≤ O.entries_left outside.old }
 {
     ask(tree, alloc, outside, place, path, entry)
 }
@@ -51,51 +53,54 @@ fn told_as(ended: Result<Value, Interruption>, value: Value) -> Result<Value, In
 }
 
 /// Asks the interpreter at a path, and tells its ordinary answer as this value.
-pub(crate) fn ask_telling<O: Outside>(
+pub fn ask_telling<O: Outside>(
     tree: &mut Tree,
     alloc: Global,
-    outside: &O,
+    outside: &mut O,
     place: Place,
     path: &[Text],
     entry: &OwnEntry,
     value: Value,
 ) -> Result<Value, Interruption>
     requires { IsRunning tree.old place }
-    ensures evaluates { Evaluates O.goes tree.old outside.now place (λ style. interpreters.asks_at path.now (entry_of entry.now) (interpreters.with_text value)) tree.new outside.now result }
+    ensures evaluates { Evaluates O.goes tree.old outside.old place (λ style. interpreters.asks_at path.now (entry_of entry.now) (interpreters.with_text value)) tree.new outside.new result }
     ensures steady { IsSteady tree.old tree.new }
+    ensures left { O.entries_left outside.new ≤ O.entries_left outside.old }
 {
     told_as(ask(tree, alloc, outside, place, path, entry), value)
 }
 
 /// Asks the interpreter at the path that a word is.
-pub(crate) fn ask_there<O: Outside>(
+pub fn ask_there<O: Outside>(
     tree: &mut Tree,
     alloc: Global,
-    outside: &O,
+    outside: &mut O,
     place: Place,
     word: &Value,
     entry: &OwnEntry,
 ) -> Result<Value, Interruption>
     requires { IsRunning tree.old place }
-    ensures evaluates { Evaluates O.goes tree.old outside.now place (λ style. interpreters.asks word.now (entry_of entry.now)) tree.new outside.now result }
+    ensures evaluates { Evaluates O.goes tree.old outside.old place (λ style. interpreters.asks word.now (entry_of entry.now)) tree.new outside.new result }
     ensures steady { IsSteady tree.old tree.new }
+    ensures left { O.entries_left outside.new ≤ O.entries_left outside.old }
 {
     let found = path_of(tree, alloc, outside, place, word)?;
     ask_at(tree, alloc, outside, place, found.path.as_slice(), entry)
 }
 
 /// The same, where the interpreter that asks isn't safe.
-pub(crate) fn ask_trusted<O: Outside>(
+pub fn ask_trusted<O: Outside>(
     tree: &mut Tree,
     alloc: Global,
-    outside: &O,
+    outside: &mut O,
     place: Place,
     word: &Value,
     entry: &OwnEntry,
 ) -> Result<Value, Interruption>
     requires { IsRunning tree.old place }
-    ensures evaluates { Evaluates O.goes tree.old outside.now place (λ style. interpreters.asks_trusted word.now (entry_of entry.now)) tree.new outside.now result }
+    ensures evaluates { Evaluates O.goes tree.old outside.old place (λ style. interpreters.asks_trusted word.now (entry_of entry.now)) tree.new outside.new result }
     ensures steady { IsSteady tree.old tree.new }
+    ensures left { O.entries_left outside.new ≤ O.entries_left outside.old }
 {
     permit(tree, alloc, place)?;
     ask_there(tree, alloc, outside, place, word, entry)
@@ -105,15 +110,16 @@ pub(crate) fn ask_trusted<O: Outside>(
 fn ask_one<O: Outside>(
     tree: &mut Tree,
     alloc: Global,
-    outside: &O,
+    outside: &mut O,
     place: Place,
     form: &str,
     entry: &OwnEntry,
     args: &[Value],
 ) -> Result<Value, Interruption>
     requires { IsRunning tree.old place }
-    ensures evaluates { Evaluates O.goes tree.old outside.now place (λ style. asked_of form.now (entry_of entry.now) args.now) tree.new outside.now result }
+    ensures evaluates { Evaluates O.goes tree.old outside.old place (λ style. asked_of form.now (entry_of entry.now) args.now) tree.new outside.new result }
     ensures steady { IsSteady tree.old tree.new }
+    ensures left { O.entries_left outside.new ≤ O.entries_left outside.old }
 {
     match args {
         [] => ask_there(tree, alloc, outside, place, &Value::empty(), entry),
@@ -123,18 +129,19 @@ fn ask_one<O: Outside>(
 }
 
 /// Asks a question of the interpreter at the path that the word is, or of the one that asks where there is no word.
-pub(crate) fn ask_about<O: Outside>(
+pub fn ask_about<O: Outside>(
     tree: &mut Tree,
     alloc: Global,
-    outside: &O,
+    outside: &mut O,
     place: Place,
     form: &str,
     question: Question,
     args: &[Value],
 ) -> Result<Value, Interruption>
     requires { IsRunning tree.old place }
-    ensures evaluates { Evaluates O.goes tree.old outside.now place (λ style. interpreters.question form.now (question_of question) args.now) tree.new outside.now result }
+    ensures evaluates { Evaluates O.goes tree.old outside.old place (λ style. interpreters.question form.now (question_of question) args.now) tree.new outside.new result }
     ensures steady { IsSteady tree.old tree.new }
+    ensures left { O.entries_left outside.new ≤ O.entries_left outside.old }
 {
     ask_one(
         tree,

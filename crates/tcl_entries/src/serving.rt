@@ -225,7 +225,7 @@ fn no_child(alloc: Global, name: &Text) -> Interruption
 }
 
 /// The path of a child, as a text.
-pub(crate) fn path_text(alloc: Global, name: &Text) -> Result<Text, AllocError>
+pub fn path_text(alloc: Global, name: &Text) -> Result<Text, AllocError>
     ensures { IfOk result (λ path. path ≡ written_list (name.now ∷ [])) }
 {
     let mut out = String::new(alloc);

@@ -450,3 +450,53 @@ dict incr {a 08} a 01 => a 9";
     assert_eq!(rt; first_wrong(rt.alloc(), Tcl9, rows)?, "");
     Ok(())
 }
+
+/// A text.
+fn key(alloc: Global, text: &str) -> Result<Value, Fail> {
+    Ok(value(alloc, text)?)
+}
+
+#[test]
+fn key_list_grows_and_its_copy_stays(rt: HostRuntime) -> Result<(), Fail> {
+    let alloc = rt.alloc();
+    let mut own = Value::empty();
+    let l = key(alloc, "l")?;
+    for word in ["1", "2", "x y"] {
+        changing::lappend(alloc, &mut own, &l, &[key(alloc, word)?])?;
+    }
+    assert_eq!(rt; own.text(alloc)?.as_str(), "l {1 2 {x y}}");
+    let copy = own.clone()?;
+    changing::lappend(alloc, &mut own, &l, &[key(alloc, "")?, key(alloc, "z")?])?;
+    assert_eq!(rt; own.text(alloc)?.as_str(), "l {1 2 {x y} {} z}");
+    assert_eq!(rt; own.text_len(), 18);
+    assert_eq!(rt; copy.text(alloc)?.as_str(), "l {1 2 {x y}}");
+    Ok(())
+}
+
+#[test]
+fn inner_elements_and_entries_change_and_copies_stay(rt: HostRuntime) -> Result<(), Fail> {
+    let alloc = rt.alloc();
+    let mut own = key(alloc, "{1 2} {3 4}")?;
+    for new in ["a", "b c", "d"] {
+        let path = [Value::from_int(1), Value::from_int(0)];
+        let copy = own.clone()?;
+        let before = own.text(alloc)?;
+        lset(alloc, Tcl8, &mut own, &path, &key(alloc, new)?)?;
+        assert_eq!(rt; copy.text(alloc)?.as_str(), before.as_str());
+    }
+    assert_eq!(rt; own.text(alloc)?.as_str(), "{1 2} {d 4}");
+    let far = [Value::from_int(1), Value::from_int(5)];
+    let refused = lset(alloc, Tcl8, &mut own, &far, &key(alloc, "e")?);
+    assert!(rt; refused.is_err(), "no such place");
+    assert_eq!(rt; own.text(alloc)?.as_str(), "{1 2} {d 4}");
+    let mut dict = key(alloc, "a {x 1 y 2} b 3")?;
+    for new in ["5", "6 7", "8"] {
+        let copy = dict.clone()?;
+        let before = dict.text(alloc)?;
+        let path = [key(alloc, "a")?, key(alloc, "x")?];
+        changing::set(alloc, &mut dict, &path, &key(alloc, new)?)?;
+        assert_eq!(rt; copy.text(alloc)?.as_str(), before.as_str());
+    }
+    assert_eq!(rt; dict.text(alloc)?.as_str(), "a {x 8 y 2} b 3");
+    Ok(())
+}

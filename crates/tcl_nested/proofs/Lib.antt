@@ -1,4 +1,5 @@
 pub mod Lengths
 pub mod Levels
+pub mod Places
 pub mod Placed
 pub mod Named

@@ -10,6 +10,7 @@ use Rattle.tcl_text.specs.declared.list.ListFault.{ListFault}
 use Rattle.tcl_text.specs.Indexes.{index_of, place}
 use Rattle.tcl_text.specs.Lists.{list_of}
 use Rattle.tcl_value.specs.declared.dict_fault.DictFault.{DictFault}
+pub use Rattle.tcl_value.specs.Inside.{element_at, with_element, value_or_empty}
 use Rattle.tcl_value.specs.Limits.{IsPast}
 use Rattle.tcl_value.specs.Writing.{write}
 use Rattle.tcl_value.specs.Texts.{flat}
@@ -66,18 +67,6 @@ place_or index count (Some at) = place_found (place_within count at)
 abbrev pub place_in : Integers → Texts → List ℕ → Result ℕ NestedFault
 place_in style l index = place_or index (length l) (option_map place (index_of style (pos (length l) -ℤ pos 1) index))
 
--- the element at a place, which is empty where there is none yet
-abbrev pub element_at : ℕ → Texts → List ℕ
-element_at n [] = []
-element_at zero (y ∷ l) = y
-element_at (suc n) (y ∷ l) = element_at n l
-
--- the list with an element at a place, where it goes last if there is none yet
-abbrev pub with_element : ℕ → List ℕ → Texts → Texts
-with_element n x [] = x ∷ []
-with_element zero x (y ∷ l) = x ∷ l
-with_element (suc n) x (y ∷ l) = y ∷ with_element n x l
-
 -- The text with another element at a path of indexes: the first names a place in its list, and the rest lead on in the element there.
 -- A list that is changed is written anew. Without an index it is the new text as it is.
 abbrev pub element_changed : Integers → Texts → List ℕ → List ℕ → Outcome
@@ -86,11 +75,6 @@ element_changed style (i ∷ path) new text =
     next (list_in text) (λ l.
     next (place_in style l i) (λ n.
     next (element_changed style path new (element_at n l)) (λ x. Ok (write (with_element n x l)))))
-
--- the value of a key, which is empty where there is none yet
-abbrev pub value_or_empty : Option (List ℕ) → List ℕ
-value_or_empty (Some v) = v
-value_or_empty None = []
 
 -- The text with another value at a path of keys: the first is one of its dict, and the rest lead on in the value of that. A key that is
 -- missing is new. A dict that is changed is written anew. Without a key it is the new text as it is.

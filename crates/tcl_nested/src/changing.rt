@@ -1,5 +1,6 @@
 //! Changes inside nested lists and dicts.
 ghost use Rattle.std.specs.Prelude.{◌≡◌, ◌≤◌, ◌-ℤ◌, pos, length, Ok, Err, IfOk, IfErr, IfSome, OnOk, OnErr, ok_or, option_map};
+ghost use Rattle.std.specs.Bool.{OnTrue, OnFalse};
 ghost use Rattle.tcl_text.specs.Indexes.{index_of, place};
 ghost use Rattle.tcl_value.specs.Writing.{write};
 ghost use Rattle.tcl_value.specs.Texts.{flat};
@@ -8,6 +9,7 @@ ghost use Rattle.tcl_value.specs.Reading.{list_of};
 ghost use Rattle.tcl_value.specs.Changes.{AtList};
 ghost use Rattle.tcl_value.specs.DictChanges.{AtDict};
 ghost use Rattle.tcl_nested.specs.Nested.{next, list_in, dict_in, place_within, place_or, place_in, element_at, with_element, element_changed, value_or_empty, value_changed, known, key_removed, Refuses, RefusesText};
+ghost use Rattle.tcl_nested.specs.Steps.{Leads};
 
 use crate::fault::{NestedError, NestedFault};
 use crate::step::{Step, with_innermost};
@@ -18,16 +20,83 @@ use tcl_value::dict::Dict;
 use tcl_value::list::List;
 use tcl_value::value::{MOST_BYTES, Value};
 
+/// How many levels a path may have for a change in place: more lists and dicts never stand in one another without a text.
+const MOST_LEVELS: usize = 100;
+
 /// Puts a value at a path of indexes: the first names a place in the list that a value reads as, the next a place in the list
 /// that stands there, and so on. The place behind the last element adds one, and what is added is empty where the path leads
-/// on. A list that is changed is written anew; without an index the value becomes the new one as it is. Where nobody shares
-/// the outermost list it is changed in place; the lists inside are copied.
+/// on. A list that is changed is written anew; without an index the value becomes the new one as it is. A list on the way that
+/// is kept as one and that nobody shares is changed in place.
 ///
 /// # Errors
 /// [`NestedError::Fault`]: from the left 101 to 104 where there is no list, then 114 where an index is none, then 243 where
 /// it names another place. [`NestedError::TooLong`] exactly where the changed text would be too long (122); want of memory.
 /// Any leaves the value as it was.
 pub fn set_element(
+    alloc: Global,
+    style: Integers,
+    own: &mut Value,
+    path: &[Value],
+    value: Value,
+) -> Result<(), NestedError>
+    ensures changed { OnOk result (element_changed style path.now value own.old ≡ Ok own.new) }
+    ensures refused { IfErr result (λ e. RefusesText e (element_changed style path.now value own.old)) }
+    ensures unchanged { OnErr result (own.new ≡ own.old) }
+{
+    if put_in_place(alloc, style, own, path, &value) {
+        return Ok(());
+    }
+    set_element_anew(alloc, style, own, path, value)
+}
+
+/// Puts a value at a path of several indexes, where each list on the way is kept as one. Says whether it did; where it didn't,
+/// nothing is changed.
+fn put_in_place(
+    alloc: Global,
+    style: Integers,
+    own: &mut Value,
+    path: &[Value],
+    value: &Value,
+) -> bool
+    ensures changed { OnTrue result (element_changed style path.now value.now own.old ≡ Ok own.new) }
+    ensures unchanged { OnFalse result (own.new ≡ own.old) }
+{
+    if path.len() < 2 || path.len() > MOST_LEVELS {
+        return false;
+    }
+    let mut places = Vec::new(alloc);
+    if !find_places(alloc, style, own, path, &mut places) {
+        return false;
+    }
+    own.put_inside(alloc, &places, value)
+}
+
+/// Adds the places that indexes name one inside the other. Says whether there are all of them.
+fn find_places(
+    alloc: Global,
+    style: Integers,
+    own: &mut Value,
+    path: &[Value],
+    places: &mut Vec<usize>,
+) -> bool
+    ensures found { OnTrue result (Leads style path.now places.old.items places.new.items own.old) }
+    ensures text { own.new ≡ own.old }
+{
+    let [index, rest @ ..] = path else {
+        return true;
+    };
+    let Ok((place, inner)) = find_in(alloc, style, own, index) else {
+        return false;
+    };
+    if places.push(place).is_err() {
+        return false;
+    }
+    let mut inner = inner;
+    find_places(alloc, style, &mut inner, rest, places)
+}
+
+/// Puts a value at a path of indexes, where the lists inside the outermost one are copied.
+fn set_element_anew(
     alloc: Global,
     style: Integers,
     own: &mut Value,
@@ -53,12 +122,38 @@ pub fn set_element(
 
 /// Gives a value to a path of keys: the first is a key of the dict that a value reads as, the next one of the dict that is its
 /// value, and so on. A key that is missing is new. A dict that is changed is written anew; without a key the value becomes
-/// the new one as it is. Where nobody shares the outermost dict it is changed in place; the dicts inside are copied.
+/// the new one as it is. A dict on the way that is kept as one and that nobody shares is changed in place.
 ///
 /// # Errors
 /// [`NestedError::Fault`] where there is no dict (101 to 104, 121), the first from the left. [`NestedError::TooLong`] exactly
 /// where the changed text would be too long (122); want of memory. Any leaves the value as it was.
 pub fn set_value(
+    alloc: Global,
+    own: &mut Value,
+    path: &[Value],
+    value: Value,
+) -> Result<(), NestedError>
+    ensures changed { OnOk result (value_changed path.now value own.old ≡ Ok own.new) }
+    ensures refused { IfErr result (λ e. RefusesText e (value_changed path.now value own.old)) }
+    ensures unchanged { OnErr result (own.new ≡ own.old) }
+{
+    if path.len() > 1 && set_in_place(alloc, own, path, &value) {
+        return Ok(());
+    }
+    set_value_anew(alloc, own, path, value)
+}
+
+/// Gives a value to a path of keys, where each dict on the way is kept as one. Says whether it did; where it didn't, nothing is
+/// changed.
+fn set_in_place(alloc: Global, own: &mut Value, path: &[Value], value: &Value) -> bool
+    ensures changed { OnTrue result (value_changed path.now value.now own.old ≡ Ok own.new) }
+    ensures unchanged { OnFalse result (own.new ≡ own.old) }
+{
+    own.set_inside(alloc, path, value)
+}
+
+/// Gives a value to a path of keys, where the dicts inside the outermost one are copied.
+fn set_value_anew(
     alloc: Global,
     own: &mut Value,
     path: &[Value],

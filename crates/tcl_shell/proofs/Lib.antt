@@ -1,1 +1,3 @@
-pub mod Comings
+mod EvaluatingLemmas
+mod ReadingLemmas
+mod WordLemmas

@@ -1,1 +1,6 @@
-pub mod Endings
+pub mod Beginning
+pub mod CommandLine
+pub mod Evaluating
+pub mod Program
+pub mod Reading
+pub mod Telling

@@ -1,5 +1,12 @@
-//! The program `tclsafe`, as functions over a reader and two writers.
+//! The program `tclsafe`, as a function of its words over a host.
 #![tactic(auto)]
 
-pub mod ending;
-pub mod program;
+mod begun;
+mod ending;
+mod evaluating;
+mod options;
+mod program;
+mod script;
+mod telling;
+
+pub use program::run_args;

@@ -1,28 +1,19 @@
 -- Interpreters that are equal with all below them.
-use Rattle.std.proofs.Common.{◌≡◌, ℕ, zero, suc, ◌<◌, List, [], ◌∷◌, Bool, true, false, not, Bor, IsTrue, length, refl, sym, ◌∙◌, ap, arith, Option, Some, None}
+use Rattle.std.proofs.Common.{◌≡◌, ℕ, zero, suc, ◌<◌, List, [], ◌∷◌, true, false, IsTrue, length, refl, sym, ◌∙◌, ap, arith, Option, Some, None}
 use Rattle.std.specs.Prelude.{slice_get, is_some}
-use Rattle.std.specs.Option.{option_and_then, option_map, option_copied}
+use Rattle.std.specs.Option.{option_and_then, option_map}
 use Rattle.std.specs.Str.{bytes_eq}
 use Rattle.std.specs.List.{list_any}
-use Rattle.std.proofs.lemmas.Option.{same_Some}
 use Rattle.std.proofs.lemmas.Map.Entries.{place_from_lookup}
 use Rattle.std.proofs.lemmas.Map.Made.{is_some-lookup}
 use Rattle.std.proofs.lemmas.Slice.Eq.{bytes_eq-Decides}
 use Rattle.indexmap.specs.IndexMap.{get, keys}
 use Rattle.tcl_tree.specs.Paths.{Text, Path}
-use Rattle.tcl_tree.specs.Nodes.{Heap, NodeView, state_view, view_of, child_in, follow, tree_in}
+use Rattle.tcl_tree.specs.Walking.{SameBelow, SameChildren}
+use Rattle.tcl_tree.specs.Nodes.{Heap, view_of, child_in, follow, tree_in}
 use Rattle.tcl_tree.specs.declared.node.Node.{Node}
 use Rattle.tcl_tree.proofs.HeapLemmas.{follow-nil, tree-at}
 use Rattle.tcl_tree.proofs.StepLemmas.{child-at, child-none}
-
--- the subtrees at two keys are equal
-abbrev pub SameBelow : Heap → Heap → ℕ → ℕ → Type 0
-SameBelow h g k t = (q : Path) → tree_in h k q ≡ tree_in g t q
-
--- so are those of the first so many children
-abbrev pub SameChildren : Heap → Heap → Node → Node → ℕ → Type 0
-SameChildren h g this that count = (i : ℕ) (n : Text) (c d : ℕ) → i < count → slice_get this.children.entries i ≡ Some (n, c)
-    → get bytes_eq that.children n ≡ Some d → SameBelow h g c d
 
 -- the interpreter itself
 pub top_at : (h : Heap) (k : ℕ) → tree_in h k [] ≡ option_map view_of (h k)
@@ -42,7 +33,7 @@ pub nowhere : (h : Heap) (k : ℕ) → h k ≡ None → (q : Path) → tree_in h
 nowhere h k e [] = top_at h k ∙ ap (option_map view_of) e
 nowhere h k e (n ∷ q) = below_none h k n q (child-none h k n e)
 
-same_text : (a b : Text) → bytes_eq a b ≡ true → a ≡ b
+pub same_text : (a b : Text) → bytes_eq a b ≡ true → a ≡ b
 same_text a b = (bytes_eq-Decides a b).0
 
 within : {A : Type 0} (xs : List A) (i : ℕ) (x : A) → slice_get xs i ≡ Some x → i < length xs
@@ -51,15 +42,6 @@ within (y ∷ xs) zero x e = omega arith
 within (y ∷ xs) (suc i) x e = let w = within xs i x e in omega arith
 
 module _ (h g : Heap) (k t : ℕ) (this that : Node) (is : h k ≡ Some this) (twin : g t ≡ Some that) where
-  -- where the two are equal, so are their views
-  pub views_same : SameBelow h g k t → view_of this ≡ view_of that
-  views_same s = same_Some _ _ (sym (top_at h k ∙ ap (option_map view_of) is) ∙ s [] ∙ top_at g t ∙ ap (option_map view_of) twin)
-
-  -- and their children
-  pub children_same : SameBelow h g k t → (n : Text) (c d : ℕ) → get bytes_eq this.children n ≡ Some c → get bytes_eq that.children n ≡ Some d → SameBelow h g c d
-  children_same s n c d e f q =
-      sym (below_child h k n c q (child-at h k n this is ∙ e)) ∙ s (n ∷ q) ∙ below_child g t n d q (child-at g t n that twin ∙ f)
-
   missing : (keys this.children ≡ keys that.children) → (n : Text) → get bytes_eq this.children n ≡ None → get bytes_eq that.children n ≡ None
   missing names n e = by (get bytes_eq that.children n) (is_some-lookup (bytes_eq n) that.children.entries ∙ ap (list_any (bytes_eq n)) (sym names) ∙ sym (is_some-lookup (bytes_eq n) this.children.entries) ∙ ap is_some e)
     where
@@ -89,36 +71,6 @@ module _ (h g : Heap) (k t : ℕ) (this that : Node) (is : h k ≡ Some this) (t
           ∙ children place.0 n c w.0 (within this.children.entries place.0 (place.1, c) place.2) (place.2 ∙ ap (λ m. Some (m, c)) (sym (same_text n place.1 place.3))) w.1 q
           ∙ sym (below_child g t n w.0 q (child-at g t n that twin ∙ w.1))
 
--- what is told to be so, and what is told not to be
-pub always : {P : Type 0} → P → (IsTrue true → P) × (P → IsTrue true)
-always p = (λ t. p, λ q. refl)
-
+-- what is told not to be so
 pub never : {P : Type 0} → (P → ⊥) → (IsTrue false → P) × (P → IsTrue false)
 never f = (λ t. let x : false ≡ true = t in cc, λ p. absurd (f p))
-
-copied_some : {T : Type 0} (o : Option (Bor T)) → is_some (option_copied o) ≡ is_some o
-copied_some None = refl
-copied_some (Some x) = refl
-
-pub both_none : (h g : Heap) (k t : ℕ) → h k ≡ None → (o : Option (Bor Node)) (b : Bool) → option_copied o ≡ g t → is_some o ≡ not b → (IsTrue b → SameBelow h g k t) × (SameBelow h g k t → IsTrue b)
-both_none h g k t e o true copied none = always (λ q. nowhere h k e q ∙ sym (nowhere g t (gone (g t) (ap is_some (sym copied) ∙ copied_some o ∙ none)) q))
-  where
-    gone : (x : Option Node) → is_some x ≡ false → x ≡ None
-    gone None f = refl
-    gone (Some y) f = absurd (cc)
-both_none h g k t e o false copied some = never (λ s. there (g t) refl (ap is_some (sym copied) ∙ copied_some o ∙ some) s)
-  where
-    there : (x : Option Node) → g t ≡ x → is_some x ≡ true → SameBelow h g k t → ⊥
-    there None f y s = cc
-    there (Some y) f z s = let v : None ≡ Some (view_of y) = sym (ap (option_map view_of) e) ∙ sym (top_at h k) ∙ s [] ∙ top_at g t ∙ ap (option_map view_of) f in cc
-
-pub there_alone : (h g : Heap) (k t : ℕ) (this : Node) → h k ≡ Some this → g t ≡ None → SameBelow h g k t → ⊥
-there_alone h g k t this is none s =
-    let v : Some (view_of this) ≡ None = sym (ap (option_map view_of) is) ∙ sym (top_at h k) ∙ s [] ∙ top_at g t ∙ ap (option_map view_of) none in cc
-
--- the views of two nodes, but for the names of their children
-pub bare_views : (this that : Node) → view_of this ≡ view_of that → state_view this.state [] ≡ state_view that.state []
-bare_views this that e = ap (λ (v : NodeView). record v { own = record v.own { children = [] } }) e
-
-pub whole_views : (this that : Node) → state_view this.state [] ≡ state_view that.state [] → keys this.children ≡ keys that.children → view_of this ≡ view_of that
-whole_views this that e names = λ i. let v = e i in record v { own = record v.own { children = names i } }

@@ -3,6 +3,7 @@ pub mod Commands
 pub mod Own
 pub mod Paths
 pub mod Nodes
+pub mod Walking
 pub mod TreeOf
 pub mod Changes
 pub mod Lending

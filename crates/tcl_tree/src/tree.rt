@@ -9,6 +9,8 @@ use crate::tree::limits::MOST_DEPTH;
 use indexmap::IndexMap;
 use slab::Slab;
 use std::alloc::{AllocError, Global};
+use std::cell::RefCell;
+use tcl_readings::readings::Readings;
 use tcl_text::integer::Integers;
 use tcl_text::text::Text;
 
@@ -21,6 +23,7 @@ pub mod limits;
 mod looks;
 mod naming;
 pub mod places;
+mod readings;
 mod variables;
 
 /// An interpreter that is reached with no walk along its path: its key.
@@ -38,6 +41,8 @@ pub struct Tree {
     root: usize,
     integers: Integers,
     broken: bool,
+    readings: RefCell<Readings>,
+    alloc: Global,
     ghost sound: { IsSound (get nodes) root },
     ghost guarded: { IsGuarded (get nodes) },
 }
@@ -84,6 +89,8 @@ impl Tree {
             root,
             integers,
             broken: false,
+            readings: RefCell::new(Readings::new(alloc)),
+            alloc,
         })
     }
 

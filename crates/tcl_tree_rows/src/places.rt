@@ -156,6 +156,30 @@ fn keys_are_not_seen(rt: HostRuntime) -> Result<(), Fail> {
     Ok(())
 }
 
+// A root with so many interpreters below it, one below the other.
+fn chain(alloc: Global, count: usize) -> Result<Tree, Refusal> {
+    let c = text(alloc, "c")?;
+    let mut tree = Tree::new(alloc)?;
+    let mut place = tree.root();
+    'levels: for _ in 0..count {
+        tree.create_at(alloc, place, &c, false)?;
+        let Some(child) = tree.child_at(place, &c) else {
+            return Err(Refusal::NoInterpreter);
+        };
+        place = child;
+    }
+    Ok(tree)
+}
+
+#[test]
+fn long_chains_are_compared(rt: HostRuntime) -> Result<(), Fail> {
+    let alloc = rt.alloc();
+    let tree = chain(alloc, 20_000)?;
+    assert!(rt; tree.same(&tree));
+    assert!(rt; !tree.same(&chain(alloc, 20_001)?));
+    Ok(())
+}
+
 #[test]
 fn styles_of_integers_are_seen(rt: HostRuntime) -> Result<(), Fail> {
     let alloc = rt.alloc();

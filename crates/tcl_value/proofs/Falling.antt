@@ -37,7 +37,7 @@ deep_within [] i x e h s = absurd (omega arith)
 deep_within (y ∷ ys) zero x e h s = omega (arith, deep_first x e, ap (λ z. length (write_element true z)) s, length-append (write_element true y) (write_from false ys), ap length (write_from-all (y ∷ ys)))
 deep_within (y ∷ ys) (suc i) x e h s = omega (arith, deep_written x e, ap (λ z. length (write_element false z)) s, rest_holds ys i (element_text x) (omega arith), length-append (write_element true y) (write_from false ys), ap length (write_from-all (y ∷ ys)))
 
-get_value : (es : List (List ℕ × List ℕ)) (i : ℕ) (d : List ℕ) → get_or (flat es) (2 * i + 1) d ≡ (get_or es i ([], d)).1
+pub get_value : (es : List (List ℕ × List ℕ)) (i : ℕ) (d : List ℕ) → get_or (flat es) (2 * i + 1) d ≡ (get_or es i ([], d)).1
 get_value [] i d = refl
 get_value (e ∷ es) zero d = refl
 get_value (e ∷ es) (suc i) d =

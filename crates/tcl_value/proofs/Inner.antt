@@ -1,7 +1,8 @@
 -- A list of two elements or more whose last element doesn't end in a backslash is written in braces where it is an element.
-use Rattle.std.proofs.Common.{◌≡◌, ℕ, ◌-◌, ◌<◌, ◌≤◌, Bool, true, false, cond, ◌||◌, List, [], ◌∷◌, ◌++◌, length, refl, sym, ◌∙◌, ap, arith, get_or, inl, inr, length-append}
+use Rattle.std.proofs.Common.{◌≡◌, ℕ, zero, suc, set, ◌-◌, ◌<◌, ◌≤◌, Bool, true, false, cond, ◌||◌, List, [], ◌∷◌, ◌++◌, length, refl, sym, ◌∙◌, ap, arith, get_or, inl, inr, length-append}
 use Rattle.std.specs.Prelude.{◌==◌}
 use Rattle.std.specs.List.{flat_map}
+use Rattle.std.proofs.lemmas.List.{length-set}
 use Rattle.std.proofs.lemmas.Bool.{cases_Bool, and_parts, not-true}
 use Rattle.std.proofs.lemmas.Bool.Decides.{nat_tests}
 use Rattle.tcl_text.specs.declared.list_writing.Form.TheVariants.{Plain, Braced, Escaped}
@@ -32,7 +33,7 @@ last_ends [] = refl
 last_ends (b ∷ []) = refl
 last_ends (b ∷ c ∷ x) = last_ends (c ∷ x)
 
-ends_append : (s t : List ℕ) → 0 < length t → ends_in_backslash (s ++ t) ≡ ends_in_backslash t
+pub ends_append : (s t : List ℕ) → 0 < length t → ends_in_backslash (s ++ t) ≡ ends_in_backslash t
 ends_append [] t h = refl
 ends_append (b ∷ []) [] h = absurd (omega arith)
 ends_append (b ∷ []) (c ∷ t) h = refl
@@ -103,3 +104,51 @@ pub inner_list : (xs : List (List ℕ)) (last : List ℕ) → 2 ≤ length xs �
 inner_list [] last many at ends within = absurd (omega arith)
 inner_list (x ∷ []) last many at ends within = absurd (omega arith)
 inner_list (x ∷ y ∷ xs) last many at ends within = inner_several x y xs (ends_from true x (y ∷ xs) last at ∙ ends) within
+
+-- whatever stands for an element that there is, it is the same
+pub there : {A : Type 0} (xs : List A) (i : ℕ) (d e : A) → i < length xs → get_or xs i d ≡ get_or xs i e
+there [] i d e h = absurd (omega arith)
+there (x ∷ xs) zero d e h = refl
+there (x ∷ xs) (suc i) d e h = there xs i d e (omega arith)
+
+-- how the text of a list ends
+pub ends_write : (xs : List (List ℕ)) (d : List ℕ) → 0 < length xs → ends_in_backslash (write xs) ≡ ends_in_backslash (get_or xs (length xs - 1) d)
+ends_write [] d h = absurd (omega arith)
+ends_write (x ∷ xs) d h = ends_from true x xs (get_or (x ∷ xs) (length (x ∷ xs) - 1) d) (there (x ∷ xs) (length (x ∷ xs) - 1) d _ (omega arith))
+
+-- after an element was put in the place of another, or behind the last
+last_set : (xs : List (List ℕ)) (i : ℕ) (y d : List ℕ) → i < length xs → ends_in_backslash (get_or xs (length xs - 1) d) ≡ false → ends_in_backslash y ≡ false → ends_in_backslash (get_or (set xs i y) (length (set xs i y) - 1) d) ≡ false
+last_set [] i y d h e f = absurd (omega arith)
+last_set (x ∷ []) zero y d h e f = f
+last_set (x ∷ []) (suc i) y d h e f = absurd (omega arith)
+last_set (x ∷ z ∷ xs) zero y d h e f = ap ends_in_backslash (last_cons y z xs d ∙ sym (last_cons x z xs d)) ∙ e
+last_set (x ∷ z ∷ xs) (suc zero) y d h e f = ap ends_in_backslash (last_cons x y xs d) ∙ last_set (z ∷ xs) zero y d (omega arith) (ap ends_in_backslash (sym (last_cons x z xs d)) ∙ e) f
+last_set (x ∷ z ∷ xs) (suc (suc i)) y d h e f = ap ends_in_backslash (last_cons x z (set xs i y) d) ∙ last_set (z ∷ xs) (suc i) y d (omega arith) (ap ends_in_backslash (sym (last_cons x z xs d)) ∙ e) f
+
+last_push : (xs : List (List ℕ)) (y d : List ℕ) → get_or (xs ++ y ∷ []) (length (xs ++ y ∷ []) - 1) d ≡ y
+last_push [] y d = refl
+last_push (x ∷ []) y d = refl
+last_push (x ∷ z ∷ xs) y d = last_cons x z (xs ++ y ∷ []) d ∙ last_push (z ∷ xs) y d
+
+pub ends_set : (xs : List (List ℕ)) (i : ℕ) (y : List ℕ) → i < length xs → ends_in_backslash (write xs) ≡ false → ends_in_backslash y ≡ false → ends_in_backslash (write (set xs i y)) ≡ false
+ends_set xs i y h e f =
+    let some : 0 < length (set xs i y) = omega (arith, length-set xs i y) in
+    ends_write (set xs i y) [] some ∙ last_set xs i y [] h (sym (ends_write xs [] (omega arith)) ∙ e) f
+
+pub ends_push : (xs : List (List ℕ)) (y : List ℕ) → ends_in_backslash (write (xs ++ y ∷ [])) ≡ ends_in_backslash y
+ends_push xs y = ends_write (xs ++ y ∷ []) [] (omega (arith, length-append xs (y ∷ []))) ∙ ap ends_in_backslash (last_push xs y [])
+
+-- a list of several elements that doesn't end in a backslash is written in braces
+pub inner_of : (xs : List (List ℕ)) → 2 ≤ length xs → ends_in_backslash (write xs) ≡ false → IsWithin (write xs) → IsInner (write xs)
+inner_of [] many ends within = absurd (omega arith)
+inner_of (x ∷ []) many ends within = absurd (omega arith)
+inner_of (x ∷ y ∷ xs) many ends within = inner_several x y xs ends within
+
+last_append : (xs ys : List (List ℕ)) (d : List ℕ) → 1 ≤ length ys → get_or (xs ++ ys) (length (xs ++ ys) - 1) d ≡ get_or ys (length ys - 1) d
+last_append [] ys d h = refl
+last_append (x ∷ []) [] d h = absurd (omega arith)
+last_append (x ∷ []) (y ∷ ys) d h = last_cons x y ys d
+last_append (x ∷ z ∷ xs) ys d h = last_cons x z (xs ++ ys) d ∙ last_append (z ∷ xs) ys d h
+
+pub ends_append_list : (xs ys : List (List ℕ)) → 1 ≤ length ys → ends_in_backslash (write (xs ++ ys)) ≡ ends_in_backslash (write ys)
+ends_append_list xs ys h = ends_write (xs ++ ys) [] (omega (arith, length-append xs ys)) ∙ ap ends_in_backslash (last_append xs ys [] h) ∙ sym (ends_write ys [] (omega arith))

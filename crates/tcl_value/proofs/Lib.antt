@@ -16,3 +16,6 @@ pub mod Errors
 pub mod Same
 pub mod Falling
 pub mod Extended
+pub mod Longer
+pub mod Inside
+pub mod InsideDicts

@@ -100,7 +100,7 @@ AreElements-get [] i d h k = absurd (omega arith)
 AreElements-get (x ∷ xs) zero d h k = h.0
 AreElements-get (x ∷ xs) (suc i) d h k = AreElements-get xs i d h.1 (omega arith)
 
-starts_at_test : (i : ℕ) → (i == 0) ≡ starts_at true i
+pub starts_at_test : (i : ℕ) → (i == 0) ≡ starts_at true i
 starts_at_test zero = refl
 starts_at_test (suc i) = grind (arith, nat_tests)
 

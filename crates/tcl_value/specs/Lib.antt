@@ -9,3 +9,4 @@ pub mod Dicts
 pub mod DictMessages
 pub mod DictChanges
 pub mod Laws
+pub mod Inside

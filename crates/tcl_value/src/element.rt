@@ -1,14 +1,17 @@
 //! The elements of lists and the values of dicts.
-ghost use Rattle.std.specs.Prelude.{◌≡◌, ◌≢◌, ◌≤◌, ◌++◌, ◌∷◌, ◌↔◌, [], length, OnOk, OnErr, IfOk, IsTrue, MatchOption};
+ghost use Rattle.std.specs.Prelude.{◌≡◌, ◌≢◌, ◌≤◌, ◌+◌, false, ◌++◌, ◌∷◌, ◌↔◌, [], length, OnOk, OnErr, IfOk, IsTrue, MatchOption};
+ghost use Rattle.std.specs.Bool.{OnTrue, OnFalse};
 ghost use Rattle.std.specs.String.{string_bytes};
 ghost use Rattle.std.specs.Fmt.{signed_decimal};
 ghost use Rattle.tcl_text.specs.Writing.{Extends};
 ghost use Rattle.tcl_value.specs.Limits.{Bytes, IsWithin};
-ghost use Rattle.tcl_value.specs.Writing.{write_element, placed, space};
-ghost use Rattle.tcl_value.specs.Texts.{element_text, ends_in_backslash, IsElement};
+ghost use Rattle.tcl_value.specs.Writing.{write, write_element, placed, space};
+ghost use Rattle.tcl_value.specs.Texts.{element_text, texts, flat, AreElements, ends_in_backslash, IsElement, IsInner};
+ghost use Rattle.tcl_value.specs.Inside.{ListPut, InnerChange, DictChange, IsChange, element_put, entry_changed, changed_by};
 
 use crate::entries::Entries;
 use crate::items::Items;
+use crate::value::Value;
 use itoa::Buffer;
 use std::alloc::{AllocError, Global};
 use std::rc::Rc;
@@ -28,6 +31,17 @@ pub(crate) enum Element {
     Number(i64),
     List(Rc<Items>),
     Dict(Rc<Entries>),
+}
+
+/// What becomes of the value at the end of a path of keys.
+#[derive(Drop)]
+pub(crate) enum Change {
+    /// This one takes its place.
+    Value(Element),
+    /// These come behind the elements of its list.
+    Elements(Vec<Element>),
+    /// This comes behind its text.
+    Text(Text),
 }
 
 impl Element {
@@ -174,6 +188,68 @@ impl Element {
         }
     }
 
+    /// Puts an element at a path of places in it, where it is kept as a list, and what is written of it is then longer by at most so
+    /// many bytes. What isn't shared is changed in place. Says whether it did; where it didn't, nothing is changed.
+    #[cycle(put)]
+    pub(crate) fn put(&mut self, path: &[usize], element: Element, room: usize) -> bool
+        requires own { IsElement self.old }
+        requires element { IsElement element }
+        requires ends { ends_in_backslash (element_text element) ≡ false }
+        requires room { length (element_text self.old) + room ≤ 16777216 }
+        ensures put { OnTrue result (InnerChange (element_put path.now (element_text element) (element_text self.old)) room (element_text self.old) (element_text self.new)) }
+        ensures element { IsElement self.new }
+        ensures unchanged { OnFalse result (element_text self.new ≡ element_text self.old) }
+    {
+        match self {
+            Element::List(items) => put_inner(items, path, element, room),
+            Element::Text(_) | Element::Number(_) | Element::Dict(_) => false,
+        }
+    }
+
+    /// Changes it at the end of a path of keys in it, where each dict on the way is kept as one, and what is written of it is then longer
+    /// by at most so many bytes. What isn't shared is changed in place. Says whether it did; where it didn't, nothing is
+    /// changed.
+    #[cycle(change)]
+    pub(crate) fn change(
+        &mut self,
+        alloc: Global,
+        path: &[Value],
+        change: Change,
+        room: usize,
+    ) -> bool
+        requires own { IsElement self.old }
+        requires change { IsChange change }
+        requires room { length (element_text self.old) + room ≤ 16777216 }
+        ensures change { OnTrue result (InnerChange (entry_changed path.now change (element_text self.old)) room (element_text self.old) (element_text self.new)) }
+        ensures element { IsElement self.new }
+        ensures unchanged { OnFalse result (element_text self.new ≡ element_text self.old) }
+    {
+        if path.is_empty() {
+            return self.change_itself(change, room);
+        }
+        match self {
+            Element::Dict(entries) => change_shared(entries, alloc, path, change, room),
+            Element::Text(_) | Element::Number(_) | Element::List(_) => false,
+        }
+    }
+
+    /// Changes it, where it is kept in the form that the change asks for, and what is written of it is then longer by at most so many
+    /// bytes. What isn't shared is changed in place. Says whether it did; where it didn't, nothing is changed.
+    fn change_itself(&mut self, change: Change, room: usize) -> bool
+        requires own { IsElement self.old }
+        requires change { IsChange change }
+        requires room { length (element_text self.old) + room ≤ 16777216 }
+        ensures change { OnTrue result (InnerChange (changed_by change (element_text self.old)) room (element_text self.old) (element_text self.new)) }
+        ensures element { IsElement self.new }
+        ensures unchanged { OnFalse result (element_text self.new ≡ element_text self.old) }
+    {
+        match self {
+            Element::List(items) => extend_by(items, change, room),
+            Element::Text(text) => append_by(text, change, room),
+            Element::Number(_) | Element::Dict(_) => false,
+        }
+    }
+
     /// How deep lists and dicts stand in it, at most.
     pub(crate) fn depth(&self) -> u32 {
         match self {
@@ -184,8 +260,100 @@ impl Element {
     }
 }
 
+/// Puts an element at a path of places in a list: in place where the list isn't shared.
+#[cycle(put)]
+pub(crate) fn put_inner(
+    items: &mut Rc<Items>,
+    path: &[usize],
+    element: Element,
+    room: usize,
+) -> bool
+    requires element { IsElement element }
+    requires ends { ends_in_backslash (element_text element) ≡ false }
+    requires room { length (write items.old.value) + room ≤ 16777216 }
+    ensures put { OnTrue result (ListPut path.now (element_text element) room items.old.value items.new.value) }
+    ensures unchanged { OnFalse result (items.new.value ≡ items.old.value) }
+{
+    match Rc::make_mut(items) {
+        Ok(own) => own.put(path, element, room),
+        Err(_) => false,
+    }
+}
+
+/// Changes what stands at the end of a path of keys in a dict: in place where the dict isn't shared.
+#[cycle(change)]
+pub(crate) fn change_shared(
+    entries: &mut Rc<Entries>,
+    alloc: Global,
+    path: &[Value],
+    change: Change,
+    room: usize,
+) -> bool
+    requires change { IsChange change }
+    requires room { length (write (flat entries.old.value)) + room ≤ 16777216 }
+    ensures change { OnTrue result (DictChange path.now change room entries.old.value entries.new.value) }
+    ensures unchanged { OnFalse result (entries.new.value ≡ entries.old.value) }
+{
+    match Rc::make_mut(entries) {
+        Ok(own) => own.change(alloc, path, change, room),
+        Err(_) => false,
+    }
+}
+
+/// Adds elements to a list, where that is the change and its text is then longer by at most so many bytes: in place where it isn't
+/// shared. Says whether it did; where it didn't, nothing is changed.
+fn extend_by(items: &mut Rc<Items>, change: Change, room: usize) -> bool
+    requires own { IsInner (write items.old.value) × (2 ≤ length items.old.value) }
+    requires change { IsChange change }
+    requires room { length (write items.old.value) + room ≤ 16777216 }
+    ensures change { OnTrue result (InnerChange (changed_by change (write items.old.value)) room (write items.old.value) (write items.new.value)) }
+    ensures inner { IsInner (write items.new.value) × (2 ≤ length items.new.value) }
+    ensures unchanged { OnFalse result (write items.new.value ≡ write items.old.value) }
+{
+    let Change::Elements(elements) = change else {
+        return false;
+    };
+    extend_shared(items, elements, room)
+}
+
+/// Adds elements to a list, where its text is then longer by at most so many bytes: in place where it isn't shared. Says whether
+/// it did; where it didn't, nothing is changed.
+fn extend_shared(items: &mut Rc<Items>, elements: Vec<Element>, room: usize) -> bool
+    requires { AreElements elements.items }
+    ensures extended { OnTrue result ((items.new.value ≡ items.old.value ++ texts elements.items) × (length (write items.new.value) ≤ length (write items.old.value) + room)) }
+    ensures unchanged { OnFalse result (items.new.value ≡ items.old.value) }
+{
+    match Rc::make_mut(items) {
+        Ok(own) => own.extend_within(elements, room),
+        Err(_) => false,
+    }
+}
+
+/// Adds to the end of a text, where that is the change and what is written of the text is then longer by at most so many bytes: in
+/// place where it isn't shared. Says whether it did; where it didn't, nothing is changed.
+fn append_by(text: &mut Text, change: Change, room: usize) -> bool
+    requires own { IsWithin text.old }
+    requires change { IsChange change }
+    requires room { length text.old + room ≤ 16777216 }
+    ensures change { OnTrue result (InnerChange (changed_by change text.old) room text.old text.new) }
+    ensures within { IsWithin text.new }
+    ensures unchanged { OnFalse result (text.new ≡ text.old) }
+{
+    let Change::Text(more) = change else {
+        return false;
+    };
+    // What is written of a text has at most twice its bytes and two more.
+    if more.len() > room {
+        return false;
+    }
+    if text.len() + 2 * more.len() + 2 > room {
+        return false;
+    }
+    text.append(more.as_str()).is_ok()
+}
+
 /// Whether the last byte is a backslash.
-fn has_backslash_end(text: &[u8]) -> bool
+pub(crate) fn has_backslash_end(text: &[u8]) -> bool
     ensures { result ≡ ends_in_backslash text.now }
 {
     match text {

@@ -1,15 +1,17 @@
 //! Dicts that carry no text.
 ghost use Rattle.std.specs.Prelude.{◌≡◌, ◌≤◌, ◌<◌, ◌+◌, ◌++◌, ◌∷◌, ◌↔◌, [], length, IfOk, OnOk, OnErr, IfErr, IsErrOf, IsTrue, IfSome, MatchOption, option_map, slice_index_or};
+ghost use Rattle.std.specs.Bool.{OnTrue, OnFalse};
 ghost use Rattle.std.specs.String.{string_bytes};
 ghost use Rattle.tcl_text.specs.Writing.{Extends};
 ghost use Rattle.tcl_value.specs.Limits.{IsWithin, IsPast};
 ghost use Rattle.tcl_value.specs.Writing.{write, write_element};
 ghost use Rattle.tcl_value.specs.Texts.{texts, flat, element_text, IsElement, IsInner, AreElements, weight, element_shown};
 ghost use Rattle.tcl_value.specs.Dicts.{put, without, value_of, put_all, place_of, value_set, entry_dropped};
+ghost use Rattle.tcl_value.specs.Inside.{DictChange, IsChange};
 
-use crate::element::{Element, MOST_DEPTH, behind_key};
+use crate::element::{Change, Element, MOST_DEPTH, behind_key};
 use crate::items::Items;
-use crate::value::ValueError;
+use crate::value::{Value, ValueError};
 use indexmap::IndexSet;
 use std::alloc::{AllocError, Global};
 use std::marker::Model;
@@ -303,6 +305,82 @@ impl Entries {
             None if self.is_within() => Ok(()),
             None => Err(ValueError::TooLong),
         }
+    }
+
+    /// Gives a key a value, where its text is then longer by at most so many bytes. Says whether it did; where it didn't, nothing is
+    /// changed.
+    fn change_key(&mut self, key: Text, change: Change, room: usize) -> bool
+        requires key { IsWithin key }
+        requires change { IsChange change }
+        ensures change { OnTrue result (DictChange (key ∷ []) change room self.old self.new) }
+        ensures unchanged { OnFalse result (self.new ≡ self.old) }
+    {
+        let Change::Value(value) = change else {
+            return false;
+        };
+        self.reads_back();
+        let most = self.weight + room as u128;
+        self.put(key, value, most).is_ok()
+    }
+
+    /// Changes what stands at the end of a path of keys in the value of a key, where the text is then longer by at most so many bytes.
+    /// Says whether it did; where it didn't, nothing is changed.
+    #[cycle(change)]
+    fn change_deeper(
+        &mut self,
+        alloc: Global,
+        key: &Text,
+        path: &[Value],
+        change: Change,
+        room: usize,
+    ) -> bool
+        requires change { IsChange change }
+        requires room { length (write (flat self.old)) + room ≤ 16777216 }
+        ensures change { OnTrue result (DictChange (key.now ∷ path.now) change room self.old self.new) }
+        ensures unchanged { OnFalse result (self.new ≡ self.old) }
+    {
+        self.reads_back();
+        let Some(index) = self.find(key) else {
+            return false;
+        };
+        let less = self.value(index).written_len(false);
+        let inner = &mut self.values[index];
+        if !inner.change(alloc, path, change, room) {
+            return false;
+        }
+        let more = inner.written_len(false);
+        let depth = inner.depth();
+        self.depth = self.depth.max(depth);
+        self.weight = self.weight + more as u128 - less as u128;
+        true
+    }
+
+    /// Changes what stands at the end of a path of keys in dicts that stand in one another, where each of them is kept as a dict, and
+    /// the text is then longer by at most so many bytes. What isn't shared is changed in place. Says whether it did; where it
+    /// didn't, nothing is changed.
+    #[cycle(change)]
+    pub(crate) fn change(
+        &mut self,
+        alloc: Global,
+        path: &[Value],
+        change: Change,
+        room: usize,
+    ) -> bool
+        requires change { IsChange change }
+        requires room { length (write (flat self.old)) + room ≤ 16777216 }
+        ensures change { OnTrue result (DictChange path.now change room self.old self.new) }
+        ensures unchanged { OnFalse result (self.new ≡ self.old) }
+    {
+        let [key, rest @ ..] = path else {
+            return false;
+        };
+        let Ok(key) = key.key_text(alloc) else {
+            return false;
+        };
+        if rest.is_empty() && matches!(change, Change::Value(_)) {
+            return self.change_key(key, change, room);
+        }
+        self.change_deeper(alloc, &key, rest, change, room)
     }
 
     /// Its keys and values in turn read as itself.

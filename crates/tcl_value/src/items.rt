@@ -1,10 +1,12 @@
 //! Lists that carry no text.
-ghost use Rattle.std.specs.Prelude.{◌≡◌, ◌<◌, ◌≤◌, ◌++◌, ◌∷◌, ◌^◌, ◌==◌, ◌&&◌, ◌↔◌, [], length, IfOk, OnOk, OnErr, IfErr, IsErr, IsErrOf, IsTrue, slice_index_or, slice_set};
+ghost use Rattle.std.specs.Prelude.{◌≡◌, ◌<◌, ◌≤◌, ◌++◌, ◌∷◌, ◌^◌, ◌+◌, ◌==◌, false, ◌&&◌, ◌↔◌, [], length, IfOk, OnOk, OnErr, IfErr, IsErr, IsErrOf, IsTrue, slice_index_or, slice_set};
+ghost use Rattle.std.specs.Bool.{OnTrue, OnFalse};
 ghost use Rattle.std.specs.String.{string_bytes};
 ghost use Rattle.tcl_text.specs.Writing.{Extends};
 ghost use Rattle.tcl_value.specs.Limits.{IsWithin, IsPast};
 ghost use Rattle.tcl_value.specs.Writing.{write};
-ghost use Rattle.tcl_value.specs.Texts.{element_text, texts, flat, IsElement, IsInner, AreElements, weight, weight_from};
+ghost use Rattle.tcl_value.specs.Texts.{element_text, texts, flat, IsElement, IsInner, AreElements, ends_in_backslash, weight, weight_from};
+ghost use Rattle.tcl_value.specs.Inside.{ListPut};
 
 use crate::element::{Element, MOST_DEPTH};
 use crate::entries::Entries;
@@ -228,6 +230,28 @@ impl Items {
         self.weight + more as u128 - less as u128
     }
 
+    /// Adds an element at the end, where it then weighs at most this much.
+    ///
+    /// # Errors
+    /// [`ValueError::TooLong`] exactly where it would weigh more; want of memory.
+    fn push_light(&mut self, element: Element, most: u128) -> Result<(), ValueError>
+        requires { IsElement element }
+        ensures pushed { OnOk result (self.new ≡ self.old ++ element_text element ∷ []) }
+        ensures light { OnOk result (weight self.new ≤ most) }
+        ensures refused { IsErrOf result ValueError.TooLong ↔ (most < weight (self.old ++ element_text element ∷ [])) }
+        ensures unchanged { OnErr result (self.new ≡ self.old) }
+    {
+        let weight = self.weight_with(&element);
+        if weight > most {
+            return Err(ValueError::TooLong);
+        }
+        let depth = self.depth.max(element.depth());
+        self.elements.push(element)?;
+        self.weight = weight;
+        self.depth = depth;
+        Ok(())
+    }
+
     /// Adds an element at the end.
     ///
     /// # Errors
@@ -239,12 +263,27 @@ impl Items {
         ensures refused { IsErrOf result ValueError.TooLong ↔ IsPast (write (self.old ++ element_text element ∷ [])) }
         ensures unchanged { OnErr result (self.new ≡ self.old) }
     {
-        let weight = self.weight_with(&element);
-        if weight > MOST_WEIGHT {
+        self.push_light(element, MOST_WEIGHT)
+    }
+
+    /// Adds elements at the end, all of them or none, where it then weighs at most this much.
+    ///
+    /// # Errors
+    /// [`ValueError::TooLong`] exactly where it would weigh more; want of memory.
+    fn extend_light(&mut self, elements: Vec<Element>, most: u128) -> Result<(), ValueError>
+        requires { AreElements elements.items }
+        ensures extended { OnOk result (self.new ≡ self.old ++ texts elements.items) }
+        ensures light { OnOk result (weight self.new ≤ most) }
+        ensures refused { IsErrOf result ValueError.TooLong ↔ (most < weight (self.old ++ texts elements.items)) }
+        ensures unchanged { OnErr result (self.new ≡ self.old) }
+    {
+        let mut elements = elements;
+        let weight = self.weight + weigh_from(self.elements.is_empty(), &elements);
+        if weight > most {
             return Err(ValueError::TooLong);
         }
-        let depth = self.depth.max(element.depth());
-        self.elements.push(element)?;
+        let depth = self.depth.max(deepest(&elements));
+        self.elements.append(&mut elements)?;
         self.weight = weight;
         self.depth = depth;
         Ok(())
@@ -261,13 +300,39 @@ impl Items {
         ensures refused { IsErrOf result ValueError.TooLong ↔ IsPast (write (self.old ++ texts elements.items)) }
         ensures unchanged { OnErr result (self.new ≡ self.old) }
     {
-        let mut elements = elements;
-        let weight = self.weight + weigh_from(self.elements.is_empty(), &elements);
-        if weight > MOST_WEIGHT {
+        self.extend_light(elements, MOST_WEIGHT)
+    }
+
+    /// Adds elements at the end, where its text is then longer by at most so many bytes. Says whether it did; where it didn't, nothing
+    /// is changed.
+    pub(crate) fn extend_within(&mut self, elements: Vec<Element>, room: usize) -> bool
+        requires { AreElements elements.items }
+        ensures extended { OnTrue result ((self.new ≡ self.old ++ texts elements.items) × (length (write self.new) ≤ length (write self.old) + room)) }
+        ensures unchanged { OnFalse result (self.new ≡ self.old) }
+    {
+        let most = self.weight + room as u128;
+        self.extend_light(elements, most).is_ok()
+    }
+
+    /// Puts an element in the place of another, where it then weighs at most this much.
+    ///
+    /// # Errors
+    /// [`ValueError::TooLong`] exactly where it would weigh more.
+    fn set_light(&mut self, index: usize, element: Element, most: u128) -> Result<(), ValueError>
+        requires element { IsElement element }
+        requires in_bounds { index < length self.old }
+        ensures set { OnOk result (self.new ≡ slice_set self.old index (element_text element)) }
+        ensures light { OnOk result (weight self.new ≤ most) }
+        ensures refused { IsErr result ↔ (most < weight (slice_set self.old index (element_text element))) }
+        ensures error { IfErr result (λ e. e ≡ ValueError.TooLong) }
+        ensures unchanged { OnErr result (self.new ≡ self.old) }
+    {
+        let weight = self.weight_with_at(index, &element);
+        if weight > most {
             return Err(ValueError::TooLong);
         }
-        let depth = self.depth.max(deepest(&elements));
-        self.elements.append(&mut elements)?;
+        let depth = self.depth.max(element.depth());
+        self.elements[index] = element;
         self.weight = weight;
         self.depth = depth;
         Ok(())
@@ -286,15 +351,68 @@ impl Items {
         ensures error { IfErr result (λ e. e ≡ ValueError.TooLong) }
         ensures unchanged { OnErr result (self.new ≡ self.old) }
     {
-        let weight = self.weight_with_at(index, &element);
-        if weight > MOST_WEIGHT {
-            return Err(ValueError::TooLong);
+        self.set_light(index, element, MOST_WEIGHT)
+    }
+
+    /// Puts an element in the place of another or behind the last, where its text is then longer by at most so many bytes.
+    /// Says whether it did; where it didn't, nothing is changed.
+    fn put_at(&mut self, place: usize, element: Element, room: usize) -> bool
+        requires element { IsElement element }
+        requires ends { ends_in_backslash (element_text element) ≡ false }
+        ensures put { OnTrue result (ListPut (place ∷ []) (element_text element) room self.old self.new) }
+        ensures unchanged { OnFalse result (self.new ≡ self.old) }
+    {
+        let most = self.weight + room as u128;
+        if place < self.len() {
+            return self.set_light(place, element, most).is_ok();
         }
-        let depth = self.depth.max(element.depth());
-        self.elements[index] = element;
-        self.weight = weight;
-        self.depth = depth;
-        Ok(())
+        if place > self.len() {
+            return false;
+        }
+        self.push_light(element, most).is_ok()
+    }
+
+    /// Puts an element at a path of places in an element, where the text is then longer by at most so many bytes. Says whether it
+    /// did; where it didn't, nothing is changed.
+    #[cycle(put)]
+    fn put_deeper(&mut self, place: usize, path: &[usize], element: Element, room: usize) -> bool
+        requires element { IsElement element }
+        requires ends { ends_in_backslash (element_text element) ≡ false }
+        requires room { length (write self.old) + room ≤ 16777216 }
+        ensures put { OnTrue result (ListPut (place ∷ path.now) (element_text element) room self.old self.new) }
+        ensures unchanged { OnFalse result (self.new ≡ self.old) }
+    {
+        if place >= self.elements.len() {
+            return false;
+        }
+        let first = place == 0;
+        let less = self.elements[place].written_len(first);
+        let inner = &mut self.elements[place];
+        if !inner.put(path, element, room) {
+            return false;
+        }
+        let more = self.elements[place].written_len(first);
+        self.depth = self.depth.max(self.elements[place].depth());
+        self.weight = self.weight + more as u128 - less as u128;
+        true
+    }
+
+    /// Puts an element at a path of places in lists that stand in one another, where each of them is kept as a list, and the
+    /// text is then longer by at most so many bytes. What isn't shared is changed in place. Says whether it did; where it
+    /// didn't, nothing is changed.
+    #[cycle(put)]
+    pub(crate) fn put(&mut self, path: &[usize], element: Element, room: usize) -> bool
+        requires element { IsElement element }
+        requires ends { ends_in_backslash (element_text element) ≡ false }
+        requires room { length (write self.old) + room ≤ 16777216 }
+        ensures put { OnTrue result (ListPut path.now (element_text element) room self.old self.new) }
+        ensures unchanged { OnFalse result (self.new ≡ self.old) }
+    {
+        match path {
+            [] => false,
+            [place] => self.put_at(*place, element, room),
+            [place, rest @ ..] => self.put_deeper(*place, rest, element, room),
+        }
     }
 }
 

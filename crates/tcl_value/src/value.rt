@@ -1,10 +1,12 @@
 //! Values, each of which is seen as its text.
-ghost use Rattle.std.specs.Prelude.{◌≡◌, ◌≤◌, ◌<◌, ◌++◌, ◌∷◌, ◌↔◌, [], length, Ok, IfOk, OnOk, OnErr, IsErrOf, IfErr, MatchResult, IfSome, IsTrue, slice_set};
+ghost use Rattle.std.specs.Prelude.{◌≡◌, ◌≤◌, ◌<◌, ◌++◌, ◌∷◌, ◌↔◌, [], length, Ok, IfOk, OnOk, OnErr, IsErrOf, IfErr, MatchResult, IfSome, Some, false, IsTrue, slice_set};
+ghost use Rattle.std.specs.Bool.{OnTrue, OnFalse};
 ghost use Rattle.std.specs.Fmt.{signed_decimal};
 ghost use Rattle.std.specs.String.{string_bytes};
 ghost use Rattle.tcl_value.specs.Limits.{Bytes, IsWithin, IsPast};
 ghost use Rattle.tcl_value.specs.Writing.{write};
-ghost use Rattle.tcl_value.specs.Texts.{element_text, texts, flat, IsElement, AreElements};
+ghost use Rattle.tcl_value.specs.Texts.{element_text, texts, flat, ends_in_backslash, IsElement, AreElements};
+ghost use Rattle.tcl_value.specs.Inside.{element_put, entry_changed, entry_made, elements_added, IsChange};
 ghost use Rattle.tcl_value.specs.Reading.{int_of, list_of};
 ghost use Rattle.tcl_text.specs.Reading.{Gives};
 ghost use Rattle.tcl_text.specs.Writing.{Extends};
@@ -15,7 +17,7 @@ ghost use Rattle.tcl_value.specs.DictChanges.{AtDict, RefusesEntry};
 
 use crate::dict::Dict;
 use crate::dict_fault::{DictError, EntryError};
-use crate::element::Element;
+use crate::element::{Change, Element, MOST_DEPTH, change_shared, has_backslash_end, put_inner};
 use crate::entries::Entries;
 use crate::items::Items;
 use crate::list::List;
@@ -633,6 +635,89 @@ impl Value {
         Ok(())
     }
 
+    /// Puts an element at a path of places in it, where the lists on the way are kept as lists.
+    fn put_element(&mut self, path: &[usize], element: Element) -> bool
+        requires element { IsElement element }
+        requires ends { ends_in_backslash (element_text element) ≡ false }
+        ensures put { OnTrue result (element_put path.now (element_text element) self.old ≡ Some self.new) }
+        ensures unchanged { OnFalse result (self.new ≡ self.old) }
+    {
+        let room = MOST_BYTES - self.text_len();
+        if let Form::List(items) = &mut self.form {
+            self.kept = Kept::Nothing;
+            return put_inner(items, path, element, room);
+        }
+        false
+    }
+
+    /// Changes what stands at the end of a path of keys in it, where the dicts on the way are kept as dicts.
+    fn change_entry(&mut self, alloc: Global, path: &[Value], change: Change) -> bool
+        requires { IsChange change }
+        ensures changed { OnTrue result (entry_changed path.now change self.old ≡ Some self.new) }
+        ensures unchanged { OnFalse result (self.new ≡ self.old) }
+    {
+        let room = MOST_BYTES - self.text_len();
+        if let Form::Dict(entries) = &mut self.form {
+            self.kept = Kept::Nothing;
+            return change_shared(entries, alloc, path, change, room);
+        }
+        false
+    }
+
+    /// Puts an element at a path of places in the lists that stand in one another, where each of them is kept as a list: in place
+    /// where it isn't shared. Says whether it did; where it didn't, nothing is changed, and the change is one to be made
+    /// otherwise.
+    pub fn put_inside(&mut self, alloc: Global, path: &[usize], value: &Value) -> bool
+        ensures put { OnTrue result (element_put path.now value.now self.old ≡ Some self.new) }
+        ensures unchanged { OnFalse result (self.new ≡ self.old) }
+    {
+        match inner_element(alloc, value, path.len()) {
+            Some(element) => self.put_element(path, element),
+            None => false,
+        }
+    }
+
+    /// Gives a value to a path of keys in the dicts that stand in one another, where each of them is kept as a dict: in place where
+    /// it isn't shared. Says whether it did; where it didn't, nothing is changed, and the change is one to be made otherwise.
+    pub fn set_inside(&mut self, alloc: Global, path: &[Value], value: &Value) -> bool
+        ensures set { OnTrue result (entry_made path.now (λ _. Some value.now) self.old ≡ Some self.new) }
+        ensures unchanged { OnFalse result (self.new ≡ self.old) }
+    {
+        match inner_element(alloc, value, path.len()) {
+            Some(element) => self.change_entry(alloc, path, Change::Value(element)),
+            None => false,
+        }
+    }
+
+    /// Adds to the value at the end of a path of keys, where the dicts on the way are kept as dicts and the value as a text: in place
+    /// where they aren't shared. Says whether it did; where it didn't, nothing is changed, and the change is one to be made
+    /// otherwise.
+    pub fn append_inside(&mut self, alloc: Global, path: &[Value], more: Text) -> bool
+        ensures appended { OnTrue result (entry_made path.now (λ text. Some (text ++ more)) self.old ≡ Some self.new) }
+        ensures unchanged { OnFalse result (self.new ≡ self.old) }
+    {
+        if more.is_empty() || has_backslash_end(more.as_str().as_bytes()) {
+            return false;
+        }
+        self.change_entry(alloc, path, Change::Text(more))
+    }
+
+    /// Adds elements to the list at the end of a path of keys, where the dicts on the way are kept as dicts and the list as a list: in
+    /// place where they aren't shared. Says whether it did; where it didn't, nothing is changed, and the change is one to be
+    /// made otherwise.
+    pub fn extend_inside(&mut self, alloc: Global, path: &[Value], values: &[Value]) -> bool
+        ensures extended { OnTrue result (entry_made path.now (elements_added values.now) self.old ≡ Some self.new) }
+        ensures unchanged { OnFalse result (self.new ≡ self.old) }
+    {
+        let Ok(elements) = elements_of(alloc, values) else {
+            return false;
+        };
+        if !may_come_last(&elements, path.len()) {
+            return false;
+        }
+        self.change_entry(alloc, path, Change::Elements(elements))
+    }
+
     /// The script that its text is, which is kept. Faults of the text are part of the script.
     ///
     /// # Errors
@@ -648,6 +733,69 @@ impl Value {
         let script = Rc::new(alloc, parse(alloc, text.as_str())?)?;
         self.kept = Kept::Script(script.clone()?);
         Ok(script)
+    }
+
+    /// The script that its text is, if that is what it was last read as.
+    ///
+    /// # Errors
+    /// Want of memory.
+    pub fn script_at_hand(&self) -> Result<Option<Rc<Script>>, AllocError>
+        ensures { IfOk result (λ found. IfSome found (λ script. script.value ≡ read_script self.now)) }
+    {
+        match &self.kept {
+            Kept::Script(script) => Ok(Some(script.clone()?)),
+            _ => Ok(None),
+        }
+    }
+
+    /// Keeps the script that its text is.
+    pub fn keep_script(&mut self, script: Rc<Script>)
+        requires { script.value ≡ read_script self.old }
+        ensures { self.new ≡ self.old }
+    {
+        self.kept = Kept::Script(script);
+    }
+}
+
+/// A value as an element that may stand so many levels deep in lists and dicts that carry no text, if it is one.
+fn inner_element(alloc: Global, value: &Value, levels: usize) -> Option<Element>
+    ensures text { IfSome result (λ element. element_text element ≡ value.now) }
+    ensures element { IfSome result IsElement }
+    ensures ends { IfSome result (λ element. ends_in_backslash (element_text element) ≡ false) }
+{
+    let Ok(element) = own_element(alloc, value) else {
+        return None;
+    };
+    if element.ends_in_backslash() || !stands_in(&element, levels) {
+        return None;
+    }
+    Some(element)
+}
+
+/// A clone of a value as an element.
+fn own_element(alloc: Global, value: &Value) -> Result<Element, AllocError>
+    ensures text { IfOk result (λ element. element_text element ≡ value.now) }
+    ensures element { IfOk result IsElement }
+{
+    value.clone()?.into_element(alloc)
+}
+
+/// Whether lists and dicts aren't too deep in one another where an element stands so many levels deep.
+fn stands_in(element: &Element, levels: usize) -> bool {
+    let most = MOST_DEPTH as usize;
+    levels < most && element.depth() as usize + levels < most
+}
+
+/// Whether elements may come last in a list that stands so many levels deep in lists and dicts that carry no text.
+fn may_come_last(elements: &[Element], levels: usize) -> bool
+    requires { AreElements elements.now }
+    ensures some { IsTrue result → 1 ≤ length elements.now }
+    ensures ends { IsTrue result → ends_in_backslash (write (texts elements.now)) ≡ false }
+{
+    match elements.last() {
+        None => false,
+        Some(last) => !last.ends_in_backslash()
+            && elements.iter().all(|element| stands_in(element, levels)),
     }
 }
 

@@ -8,6 +8,8 @@ use crate::refusal::Refusal;
 use crate::tree::Tree;
 use slab::Slab;
 use std::alloc::AllocError;
+use std::cell::RefCell;
+use tcl_readings::readings::Readings;
 use tcl_text::text::Text;
 
 // Cuts a node off from its parent.
@@ -78,6 +80,8 @@ impl Tree {
             root,
             integers: self.integers,
             broken: false,
+            readings: RefCell::new(Readings::new(self.alloc)),
+            alloc: self.alloc,
         })
     }
 }

@@ -11,5 +11,5 @@ returns-in_err-parameters-in-len3-clause-acts c =
 pub returns-in_ok-procedure-in-len3-clause-acts : goal.returns-in_ok-procedure-in-len3-clause-acts
 returns-in_ok-procedure-in-len3-clause-acts c =
     proc_acts c.args.tree.now c.args.place c.args.args.now c.name-item.result c.parameters-item.result c.body-item.result c.in-len3.len_at_least c.in-len3.len_below c.name-item.is c.parameters-item.is c.body-item.is
-    c.define.new.tree c.in_ok-parameters-in-len3.parameters.items c.in_ok-procedure-in-len3.procedure c.in_ok-clone-in-len3.field-0 c.define.result c.in_ok-parameters-in-len3.ensures.made c.in_ok-clone-in-len3.ensures.cases
+    c.define.new.tree c.in_ok-parameters-in-len3.parameters.items c.in_ok-procedure-in-len3.procedure c.in_ok-read_body-in-len3.field-0 c.define.result c.in_ok-parameters-in-len3.ensures.made c.in_ok-read_body-in-len3.ensures
     c.in_ok-procedure-in-len3.ensures c.define.ensures.acts

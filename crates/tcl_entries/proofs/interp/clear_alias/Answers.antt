@@ -14,5 +14,5 @@ returns-then-not-is_text-clause-evaluates g c = fails_told g.O.Outside.goes c.ar
     (λ style. alias_short c.args.source.now c.args.name.now c.args.target.now (untrue c.is_text.result _ c.is_text.ensures.1 c.if-not-is_text.true)) c.wrong_args.ensures
 
 pub returns-clause-evaluates : goal.returns-clause-evaluates
-returns-clause-evaluates g c = evaluates_as g.O.Outside.goes c.args.tree.now c.ask_there.new.tree c.args.outside.now c.args.outside.now c.args.place (λ style. interpreters.alias (c.args.source.now ∷ c.args.name.now ∷ c.args.target.now ∷ [])) (λ style. interpreters.asks c.args.source.now (ClearAlias c.in_ok-name.name)) c.ask_there.result
+returns-clause-evaluates g c = evaluates_as g.O.Outside.goes c.args.tree.now c.ask_there.new.tree c.args.outside.now c.ask_there.new.outside c.args.place (λ style. interpreters.alias (c.args.source.now ∷ c.args.name.now ∷ c.args.target.now ∷ [])) (λ style. interpreters.asks c.args.source.now (ClearAlias c.in_ok-name.name)) c.ask_there.result
     (λ style. ap (λ (x : Text). interpreters.alias (c.args.source.now ∷ c.args.name.now ∷ x ∷ [])) (c.is_text.ensures.0 c.if-not-is_text.false) ∙ ap (λ (x : Text). interpreters.asks c.args.source.now (ClearAlias x)) (sym c.in_ok-name.ensures)) c.ask_there.ensures.evaluates

@@ -11,10 +11,10 @@ use Rattle.tcl_entries.proofs.interp.hide.Goals.{in_default-via-then-args-lt2, i
 use Rattle.tcl_entries.proofs.interp.hide.Goals as goal
 
 pub returns-in-len2-clause-evaluates : goal.returns-in-len2-clause-evaluates
-returns-in-len2-clause-evaluates g c = evaluates_as g.O.Outside.goes c.args.tree.now c.hide_as.new.tree c.args.outside.now c.args.outside.now c.args.place (λ style. interpreters.hide c.args.args.now) (λ style. interpreters.asks_trusted c.path-item.result (Hide c.name-item.result c.name-item.result)) c.hide_as.result (λ style. ap interpreters.hide (two_items c.args.args.now c.path-item.result c.name-item.result c.in-len2.len_at_least c.in-len2.len_below c.path-item.is c.name-item.is)) c.hide_as.ensures.evaluates
+returns-in-len2-clause-evaluates g c = evaluates_as g.O.Outside.goes c.args.tree.now c.hide_as.new.tree c.args.outside.now c.hide_as.new.outside c.args.place (λ style. interpreters.hide c.args.args.now) (λ style. interpreters.asks_trusted c.path-item.result (Hide c.name-item.result c.name-item.result)) c.hide_as.result (λ style. ap interpreters.hide (two_items c.args.args.now c.path-item.result c.name-item.result c.in-len2.len_at_least c.in-len2.len_below c.path-item.is c.name-item.is)) c.hide_as.ensures.evaluates
 
 pub returns-in-len3-clause-evaluates : goal.returns-in-len3-clause-evaluates
-returns-in-len3-clause-evaluates g c = evaluates_as g.O.Outside.goes c.args.tree.now c.hide_as-in-len3.new.tree c.args.outside.now c.args.outside.now c.args.place (λ style. interpreters.hide c.args.args.now) (λ style. interpreters.asks_trusted c.word-item.result (Hide c.command-item.result c.hidden-item.result)) c.hide_as-in-len3.result (λ style. ap interpreters.hide (three_items c.args.args.now c.word-item.result c.command-item.result c.hidden-item.result c.in-len3.len_at_least c.in-len3.len_below c.word-item.is c.command-item.is c.hidden-item.is)) c.hide_as-in-len3.ensures.evaluates
+returns-in-len3-clause-evaluates g c = evaluates_as g.O.Outside.goes c.args.tree.now c.hide_as-in-len3.new.tree c.args.outside.now c.hide_as-in-len3.new.outside c.args.place (λ style. interpreters.hide c.args.args.now) (λ style. interpreters.asks_trusted c.word-item.result (Hide c.command-item.result c.hidden-item.result)) c.hide_as-in-len3.result (λ style. ap interpreters.hide (three_items c.args.args.now c.word-item.result c.command-item.result c.hidden-item.result c.in-len3.len_at_least c.in-len3.len_below c.word-item.is c.command-item.is c.hidden-item.is)) c.hide_as-in-len3.ensures.evaluates
 
 pub returns-in_default-clause-evaluates : goal.returns-in_default-clause-evaluates
 returns-in_default-clause-evaluates g c =

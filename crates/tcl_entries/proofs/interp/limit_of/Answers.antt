@@ -14,5 +14,5 @@ returns-in_err-commands_only-clause-evaluates g c = passes_evaluates g.O.Outside
     (Interrupts-more c.in_err-commands_only.field-0.0 _ (GetsToEnd c.args.tree.now c.args.place (λ style. interpreters.limit style (c.args.path.now ∷ c.args.word.now ∷ []))) (λ e f. f (λ style. interpreters.asks c.args.path.now (Ask CountLimitOf))) c.in_err-commands_only.ensures)
 
 pub returns-clause-evaluates : goal.returns-clause-evaluates
-returns-clause-evaluates g c = gets_evaluates g.O.Outside.goes c.args.tree.now c.args.outside.now c.args.place (λ style. interpreters.limit style (c.args.path.now ∷ c.args.word.now ∷ [])) (λ style. interpreters.asks c.args.path.now (Ask CountLimitOf)) c.ask_there.new.tree c.args.outside.now c.ask_there.result (c.in_ok-commands_only.ensures (λ style. interpreters.asks c.args.path.now (Ask CountLimitOf)))
+returns-clause-evaluates g c = gets_evaluates g.O.Outside.goes c.args.tree.now c.args.outside.now c.args.place (λ style. interpreters.limit style (c.args.path.now ∷ c.args.word.now ∷ [])) (λ style. interpreters.asks c.args.path.now (Ask CountLimitOf)) c.ask_there.new.tree c.ask_there.new.outside c.ask_there.result (c.in_ok-commands_only.ensures (λ style. interpreters.asks c.args.path.now (Ask CountLimitOf)))
     (c.ask_there.ensures.evaluates)

@@ -13,5 +13,5 @@ returns-in_err-limit-clause-evaluates g c = passes_evaluates g.O.Outside.goes c.
     (Interrupts-more c.in_err-limit.field-0.0 _ (GetsToEnd c.args.tree.now c.args.place (λ style. limits_to style c.args.path.now c.args.value.now)) (λ e f. f (λ l style. asks_at c.args.path.now (SetCountLimit l) done)) c.in_err-limit.ensures)
 
 pub returns-clause-evaluates : goal.returns-clause-evaluates
-returns-clause-evaluates g c = gets_evaluates g.O.Outside.goes c.args.tree.now c.args.outside.now c.args.place (λ style. limits_to style c.args.path.now c.args.value.now) (λ style. asks_at c.args.path.now (SetCountLimit c.in_ok-limit.limit) done) c.ask_at.new.tree c.args.outside.now c.ask_at.result (c.in_ok-limit.ensures (λ l style. asks_at c.args.path.now (SetCountLimit l) done))
+returns-clause-evaluates g c = gets_evaluates g.O.Outside.goes c.args.tree.now c.args.outside.now c.args.place (λ style. limits_to style c.args.path.now c.args.value.now) (λ style. asks_at c.args.path.now (SetCountLimit c.in_ok-limit.limit) done) c.ask_at.new.tree c.ask_at.new.outside c.ask_at.result (c.in_ok-limit.ensures (λ l style. asks_at c.args.path.now (SetCountLimit l) done))
     (c.ask_at.ensures.evaluates)

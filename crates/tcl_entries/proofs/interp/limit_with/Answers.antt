@@ -17,6 +17,6 @@ returns-in_err-value_only-clause-evaluates g c = gets_evaluates g.O.Outside.goes
     (Interrupts-more c.in_err-value_only.field-0.0 _ (GetsToEnd c.args.tree.now c.args.place (λ style. interpreters.value_only c.args.option.now (interpreters.sets_limit style c.args.path.now c.args.value.now))) (λ e f. f (λ style. interpreters.sets_limit style c.args.path.now c.args.value.now)) c.in_err-value_only.ensures))
 
 pub returns-clause-evaluates : goal.returns-clause-evaluates
-returns-clause-evaluates g c = gets_evaluates g.O.Outside.goes c.args.tree.now c.args.outside.now c.args.place (λ style. interpreters.limit style (c.args.path.now ∷ c.args.word.now ∷ c.args.option.now ∷ c.args.value.now ∷ [])) (λ style. interpreters.value_only c.args.option.now (interpreters.sets_limit style c.args.path.now c.args.value.now)) c.set_limit.new.tree c.args.outside.now c.set_limit.result (c.in_ok-commands_only.ensures (λ style. interpreters.value_only c.args.option.now (interpreters.sets_limit style c.args.path.now c.args.value.now)))
-    (gets_evaluates g.O.Outside.goes c.args.tree.now c.args.outside.now c.args.place (λ style. interpreters.value_only c.args.option.now (interpreters.sets_limit style c.args.path.now c.args.value.now)) (λ style. interpreters.sets_limit style c.args.path.now c.args.value.now) c.set_limit.new.tree c.args.outside.now c.set_limit.result (c.in_ok-value_only.ensures (λ style. interpreters.sets_limit style c.args.path.now c.args.value.now))
+returns-clause-evaluates g c = gets_evaluates g.O.Outside.goes c.args.tree.now c.args.outside.now c.args.place (λ style. interpreters.limit style (c.args.path.now ∷ c.args.word.now ∷ c.args.option.now ∷ c.args.value.now ∷ [])) (λ style. interpreters.value_only c.args.option.now (interpreters.sets_limit style c.args.path.now c.args.value.now)) c.set_limit.new.tree c.set_limit.new.outside c.set_limit.result (c.in_ok-commands_only.ensures (λ style. interpreters.value_only c.args.option.now (interpreters.sets_limit style c.args.path.now c.args.value.now)))
+    (gets_evaluates g.O.Outside.goes c.args.tree.now c.args.outside.now c.args.place (λ style. interpreters.value_only c.args.option.now (interpreters.sets_limit style c.args.path.now c.args.value.now)) (λ style. interpreters.sets_limit style c.args.path.now c.args.value.now) c.set_limit.new.tree c.set_limit.new.outside c.set_limit.result (c.in_ok-value_only.ensures (λ style. interpreters.sets_limit style c.args.path.now c.args.value.now))
     (c.set_limit.ensures.evaluates))

@@ -12,10 +12,10 @@ use Rattle.tcl_entries.proofs.interp.recursion_limit.Goals.{in_default-via-then-
 use Rattle.tcl_entries.proofs.interp.recursion_limit.Goals as goal
 
 pub returns-in-len1-clause-evaluates : goal.returns-in-len1-clause-evaluates
-returns-in-len1-clause-evaluates g c = evaluates_as g.O.Outside.goes c.args.tree.now c.ask_there.new.tree c.args.outside.now c.args.outside.now c.args.place (λ style. interpreters.recursion_limit style c.args.args.now) (λ style. interpreters.asks c.path-item.result (Ask DepthLimitOf)) c.ask_there.result (λ style. ap (interpreters.recursion_limit style) (one_item c.args.args.now c.path-item.result c.in-len1.len_at_least c.in-len1.len_below c.path-item.is)) c.ask_there.ensures.evaluates
+returns-in-len1-clause-evaluates g c = evaluates_as g.O.Outside.goes c.args.tree.now c.ask_there.new.tree c.args.outside.now c.ask_there.new.outside c.args.place (λ style. interpreters.recursion_limit style c.args.args.now) (λ style. interpreters.asks c.path-item.result (Ask DepthLimitOf)) c.ask_there.result (λ style. ap (interpreters.recursion_limit style) (one_item c.args.args.now c.path-item.result c.in-len1.len_at_least c.in-len1.len_below c.path-item.is)) c.ask_there.ensures.evaluates
 
 pub returns-in-len2-clause-evaluates : goal.returns-in-len2-clause-evaluates
-returns-in-len2-clause-evaluates g c = evaluates_as g.O.Outside.goes c.args.tree.now c.set_depth_limit.new.tree c.args.outside.now c.args.outside.now c.args.place (λ style. interpreters.recursion_limit style c.args.args.now) (λ style. interpreters.sets_depth_limit style c.word-item.result c.value-item.result) c.set_depth_limit.result (λ style. ap (interpreters.recursion_limit style) (two_items c.args.args.now c.word-item.result c.value-item.result c.in-len2.len_at_least c.in-len2.len_below c.word-item.is c.value-item.is)) c.set_depth_limit.ensures.evaluates
+returns-in-len2-clause-evaluates g c = evaluates_as g.O.Outside.goes c.args.tree.now c.set_depth_limit.new.tree c.args.outside.now c.set_depth_limit.new.outside c.args.place (λ style. interpreters.recursion_limit style c.args.args.now) (λ style. interpreters.sets_depth_limit style c.word-item.result c.value-item.result) c.set_depth_limit.result (λ style. ap (interpreters.recursion_limit style) (two_items c.args.args.now c.word-item.result c.value-item.result c.in-len2.len_at_least c.in-len2.len_below c.word-item.is c.value-item.is)) c.set_depth_limit.ensures.evaluates
 
 pub returns-in_default-clause-evaluates : goal.returns-in_default-clause-evaluates
 returns-in_default-clause-evaluates g c =

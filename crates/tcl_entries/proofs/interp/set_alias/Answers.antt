@@ -25,9 +25,9 @@ returns-in_err-goal-clause-evaluates g c = leads_evaluates g.O.Outside.goes c.ar
     (Interrupts-more c.in_err-goal.field-0.0 _ (GetsToEnd c.args.tree.now c.args.place (λ style. or_fails fault_message (list_of c.args.target.now) (λ goal. asks_at c.in_ok-found.found.path.items (SetAlias c.args.name.now (length c.in_ok-found.found.path.items - together c.in_ok-found.found.path.items goal) (drop (together c.in_ok-found.found.path.items goal) goal) (c.args.word.now ∷ c.args.words.now)) (interpreters.with_text c.args.name.now)))) (λ e f. f (λ goal style. asks_at c.in_ok-found.found.path.items (SetAlias c.args.name.now (length c.in_ok-found.found.path.items - together c.in_ok-found.found.path.items goal) (drop (together c.in_ok-found.found.path.items goal) goal) (c.args.word.now ∷ c.args.words.now)) (interpreters.with_text c.args.name.now))) c.in_err-goal.ensures))
 
 pub returns-clause-evaluates : goal.returns-clause-evaluates
-returns-clause-evaluates g c = leads_evaluates g.O.Outside.goes c.args.tree.now c.ask_telling.new.tree c.args.outside.now c.args.outside.now c.args.place (λ style. interpreters.alias_path c.args.source.now c.args.name.now c.args.target.now c.args.word.now c.args.words.now) (λ style. or_fails fault_message (list_of c.args.target.now) (λ goal. asks_at c.in_ok-found.found.path.items (SetAlias c.args.name.now (length c.in_ok-found.found.path.items - together c.in_ok-found.found.path.items goal) (drop (together c.in_ok-found.found.path.items goal) goal) (c.args.word.now ∷ c.args.words.now)) (interpreters.with_text c.args.name.now))) c.ask_telling.result (c.in_ok-found.ensures.read (λ path style. or_fails fault_message (list_of c.args.target.now) (λ goal. asks_at path (SetAlias c.args.name.now (length path - together path goal) (drop (together path goal) goal) (c.args.word.now ∷ c.args.words.now)) (interpreters.with_text c.args.name.now))))
-    (gets_evaluates g.O.Outside.goes c.args.tree.now c.args.outside.now c.args.place (λ style. or_fails fault_message (list_of c.args.target.now) (λ goal. asks_at c.in_ok-found.found.path.items (SetAlias c.args.name.now (length c.in_ok-found.found.path.items - together c.in_ok-found.found.path.items goal) (drop (together c.in_ok-found.found.path.items goal) goal) (c.args.word.now ∷ c.args.words.now)) (interpreters.with_text c.args.name.now))) (λ style. asks_at c.in_ok-found.found.path.items (SetAlias c.args.name.now (length c.in_ok-found.found.path.items - together c.in_ok-found.found.path.items c.in_ok-goal.goal.items) (drop (together c.in_ok-found.found.path.items c.in_ok-goal.goal.items) c.in_ok-goal.goal.items) (c.args.word.now ∷ c.args.words.now)) (interpreters.with_text c.args.name.now)) c.ask_telling.new.tree c.args.outside.now c.ask_telling.result (c.in_ok-goal.ensures (λ goal style. asks_at c.in_ok-found.found.path.items (SetAlias c.args.name.now (length c.in_ok-found.found.path.items - together c.in_ok-found.found.path.items goal) (drop (together c.in_ok-found.found.path.items goal) goal) (c.args.word.now ∷ c.args.words.now)) (interpreters.with_text c.args.name.now)))
-    (evaluates_as g.O.Outside.goes c.args.tree.now c.ask_telling.new.tree c.args.outside.now c.args.outside.now c.args.place (λ style. asks_at c.in_ok-found.found.path.items (SetAlias c.args.name.now (length c.in_ok-found.found.path.items - together c.in_ok-found.found.path.items c.in_ok-goal.goal.items) (drop (together c.in_ok-found.found.path.items c.in_ok-goal.goal.items) c.in_ok-goal.goal.items) (c.args.word.now ∷ c.args.words.now)) (interpreters.with_text c.args.name.now)) (λ style. asks_at c.as_slice-3.result.now (SetAlias c.in_ok-name.name c.in_ok-alias.alias.up c.in_ok-alias.alias.down c.in_ok-alias.alias.words) (interpreters.with_text c.in_ok-told.told)) c.ask_telling.result
+returns-clause-evaluates g c = leads_evaluates g.O.Outside.goes c.args.tree.now c.ask_telling.new.tree c.args.outside.now c.ask_telling.new.outside c.args.place (λ style. interpreters.alias_path c.args.source.now c.args.name.now c.args.target.now c.args.word.now c.args.words.now) (λ style. or_fails fault_message (list_of c.args.target.now) (λ goal. asks_at c.in_ok-found.found.path.items (SetAlias c.args.name.now (length c.in_ok-found.found.path.items - together c.in_ok-found.found.path.items goal) (drop (together c.in_ok-found.found.path.items goal) goal) (c.args.word.now ∷ c.args.words.now)) (interpreters.with_text c.args.name.now))) c.ask_telling.result (c.in_ok-found.ensures.read (λ path style. or_fails fault_message (list_of c.args.target.now) (λ goal. asks_at path (SetAlias c.args.name.now (length path - together path goal) (drop (together path goal) goal) (c.args.word.now ∷ c.args.words.now)) (interpreters.with_text c.args.name.now))))
+    (gets_evaluates g.O.Outside.goes c.args.tree.now c.args.outside.now c.args.place (λ style. or_fails fault_message (list_of c.args.target.now) (λ goal. asks_at c.in_ok-found.found.path.items (SetAlias c.args.name.now (length c.in_ok-found.found.path.items - together c.in_ok-found.found.path.items goal) (drop (together c.in_ok-found.found.path.items goal) goal) (c.args.word.now ∷ c.args.words.now)) (interpreters.with_text c.args.name.now))) (λ style. asks_at c.in_ok-found.found.path.items (SetAlias c.args.name.now (length c.in_ok-found.found.path.items - together c.in_ok-found.found.path.items c.in_ok-goal.goal.items) (drop (together c.in_ok-found.found.path.items c.in_ok-goal.goal.items) c.in_ok-goal.goal.items) (c.args.word.now ∷ c.args.words.now)) (interpreters.with_text c.args.name.now)) c.ask_telling.new.tree c.ask_telling.new.outside c.ask_telling.result (c.in_ok-goal.ensures (λ goal style. asks_at c.in_ok-found.found.path.items (SetAlias c.args.name.now (length c.in_ok-found.found.path.items - together c.in_ok-found.found.path.items goal) (drop (together c.in_ok-found.found.path.items goal) goal) (c.args.word.now ∷ c.args.words.now)) (interpreters.with_text c.args.name.now)))
+    (evaluates_as g.O.Outside.goes c.args.tree.now c.ask_telling.new.tree c.args.outside.now c.ask_telling.new.outside c.args.place (λ style. asks_at c.in_ok-found.found.path.items (SetAlias c.args.name.now (length c.in_ok-found.found.path.items - together c.in_ok-found.found.path.items c.in_ok-goal.goal.items) (drop (together c.in_ok-found.found.path.items c.in_ok-goal.goal.items) c.in_ok-goal.goal.items) (c.args.word.now ∷ c.args.words.now)) (interpreters.with_text c.args.name.now)) (λ style. asks_at c.as_slice-3.result.now (SetAlias c.in_ok-name.name c.in_ok-alias.alias.up c.in_ok-alias.alias.down c.in_ok-alias.alias.words) (interpreters.with_text c.in_ok-told.told)) c.ask_telling.result
     (λ style. alias_asked c.in_ok-found.found.path.items c.in_ok-goal.goal.items c.as_slice.result.now c.as_slice-2.result.now c.as_slice-3.result.now c.args.name.now c.in_ok-name.name c.in_ok-told.told c.args.word.now c.args.words.now c.in_ok-own.own.items c.in_ok-alias.alias
     c.as_slice.ensures.value c.as_slice-2.ensures.value c.as_slice-3.ensures.value c.in_ok-name.ensures c.in_ok-told.ensures.cases (c.in_ok-own.ensures ∙ ap (λ (xs : List Text). xs ++ c.args.words.now) c.from_ref.ensures.value) c.in_ok-alias.ensures.made)
     c.ask_telling.ensures.evaluates))

@@ -16,6 +16,6 @@ returns-in_err-found-clause-evaluates g c =
     (c.in_err-found.ensures.read (λ path style. asks_at path (entry_of c.args.entry.now) done))
 
 pub returns-clause-evaluates : goal.returns-clause-evaluates
-returns-clause-evaluates g c = leads_evaluates g.O.Outside.goes c.args.tree.now c.ask_at.new.tree c.args.outside.now c.args.outside.now c.args.place (λ style. interpreters.asks c.args.word.now (entry_of c.args.entry.now))
+returns-clause-evaluates g c = leads_evaluates g.O.Outside.goes c.args.tree.now c.ask_at.new.tree c.args.outside.now c.ask_at.new.outside c.args.place (λ style. interpreters.asks c.args.word.now (entry_of c.args.entry.now))
     (λ style. asks_at c.in_ok-found.found.path.items (entry_of c.args.entry.now) done) c.ask_at.result (c.in_ok-found.ensures.read (λ path style. asks_at path (entry_of c.args.entry.now) done))
-    (subst (λ (x : Path). Evaluates g.O.Outside.goes c.args.tree.now c.args.outside.now c.args.place (λ style. asks_at x (entry_of c.args.entry.now) done) c.ask_at.new.tree c.args.outside.now c.ask_at.result) c.as_slice.ensures.value c.ask_at.ensures.evaluates)
+    (subst (λ (x : Path). Evaluates g.O.Outside.goes c.args.tree.now c.args.outside.now c.args.place (λ style. asks_at x (entry_of c.args.entry.now) done) c.ask_at.new.tree c.ask_at.new.outside c.ask_at.result) c.as_slice.ensures.value c.ask_at.ensures.evaluates)

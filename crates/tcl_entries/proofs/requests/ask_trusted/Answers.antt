@@ -15,4 +15,4 @@ returns-in_err-permit-clause-evaluates g c =
 
 pub returns-clause-evaluates : goal.returns-clause-evaluates
 returns-clause-evaluates g c = gets_evaluates g.O.Outside.goes c.args.tree.now c.args.outside.now c.args.place (λ style. interpreters.asks_trusted c.args.word.now (entry_of c.args.entry.now)) (λ style. interpreters.asks c.args.word.now (entry_of c.args.entry.now))
-    c.ask_there.new.tree c.args.outside.now c.ask_there.result (c.in_ok-permit.ensures (λ style. interpreters.asks c.args.word.now (entry_of c.args.entry.now))) c.ask_there.ensures.evaluates
+    c.ask_there.new.tree c.ask_there.new.outside c.ask_there.result (c.in_ok-permit.ensures (λ style. interpreters.asks c.args.word.now (entry_of c.args.entry.now))) c.ask_there.ensures.evaluates

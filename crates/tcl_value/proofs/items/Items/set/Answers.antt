@@ -1,38 +1,10 @@
-use Rattle.std.proofs.Common.{arith, ◌≡◌, ap, ◌∙◌, sym, length, refl, set}
-use Rattle.tcl_value.specs.Writing.{write}
-use Rattle.tcl_value.specs.Texts.{weight, texts, element_text}
-use Rattle.tcl_value.proofs.Weights.{length-write, length-texts, texts-set, AreElements-set}
+use Rattle.std.specs.Prelude.{slice_set}
+use Rattle.tcl_value.specs.Texts.{element_text}
+use Rattle.tcl_value.proofs.Removed.{light_within_at, heavy_past}
 use Rattle.tcl_value.proofs.items.Items.set.Goals as goal
 
-pub index_mut-requires : goal.index_mut-requires
-index_mut-requires c =
-    let same = ap length c.self.view_is in
-    omega (arith, length-texts c.self.inside.elements.items, c.requires.in_bounds, c.self.inside.elements.ok.0)
-
-pub returns-then-weight-gt-MOST_WEIGHT-clause-refused : goal.returns-then-weight-gt-MOST_WEIGHT-clause-refused
-returns-then-weight-gt-MOST_WEIGHT-clause-refused c =
-    let len = length-write (set c.args.self.now c.args.index (element_text c.args.element)) in
-    ((λ e. omega arith), (λ p. refl))
-
-texts_now : (c : goal.After-self-3-1) → texts (set c.self.inside.elements.items c.args.index c.args.element) ≡ set c.args.self.now c.args.index (element_text c.args.element)
-texts_now c = texts-set c.self.inside.elements.items c.args.index c.args.element ∙ ap (λ t. set t c.args.index (element_text c.args.element)) c.self.view_is
-
-pub invariant_of-self : goal.invariant_of-self
-invariant_of-self c = record {
-  elements = AreElements-set _ c.args.index c.args.element c.self.invariant.elements c.requires.element;
-  weighs = c.weight_with_at-weight.ensures ∙ ap weight (sym (texts_now c));
-}
-
-pub returns-clause-set : goal.returns-clause-set
-returns-clause-set c = texts_now c
-
 pub returns-clause-within : goal.returns-clause-within
-returns-clause-within c =
-    let len = length-write (set c.args.self.now c.args.index (element_text c.args.element)) in
-    let now = ap (λ t. length (write t)) (texts_now c) in
-    omega arith
+returns-clause-within c = light_within_at c.set_light.result c.set_light.new.self c.set_light.ensures.light
 
 pub returns-clause-refused : goal.returns-clause-refused
-returns-clause-refused c =
-    let len = length-write (set c.args.self.now c.args.index (element_text c.args.element)) in
-    ((λ e. absurd (cc)), (λ p. absurd (omega arith)))
+returns-clause-refused c = heavy_past (slice_set c.args.self.now c.args.index (element_text c.args.element)) c.set_light.ensures.refused

@@ -1,0 +1,3 @@
+pub mod Exiting
+pub mod Kinds
+pub mod Subcommands

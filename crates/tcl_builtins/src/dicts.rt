@@ -1,0 +1,61 @@
+//! `dict`.
+ghost use Rattle.std.specs.Prelude.{◌≡◌};
+ghost use Rattle.tcl_language.specs.Data as collections;
+ghost use Rattle.tcl_run.specs.Plain.{Acts};
+ghost use Rattle.tcl_run.specs.Runs.{IsLevel};
+ghost use Rattle.tcl_words.specs.Outcomes.{Gives};
+ghost use Rattle.tcl_builtins.specs.Subcommands.{outcome_of};
+
+use crate::subcommand::Subcommand;
+use std::alloc::Global;
+use tcl_commands::answers::answered;
+use tcl_dicts::building::{create, merge, remove, replace};
+use tcl_dicts::finding::{exists, get, size};
+use tcl_dicts::listing::{keys, values};
+use tcl_run::failure::{unknown_subcommand, wrong_args};
+use tcl_run::interruption::Interruption;
+use tcl_tree::tree::{Place, Tree};
+use tcl_value::value::Value;
+use tcl_words::refusal::Refusal;
+
+/// What a subcommand gives for its words.
+fn value_of(alloc: Global, subcommand: Subcommand, words: &[Value]) -> Result<Value, Refusal>
+    ensures { Gives (λ value. value) result (outcome_of subcommand words.now) }
+{
+    match subcommand {
+        Subcommand::Create => create(alloc, words),
+        Subcommand::Get => get(alloc, words),
+        Subcommand::Exists => exists(alloc, words),
+        Subcommand::Keys => keys(alloc, words),
+        Subcommand::Values => values(alloc, words),
+        Subcommand::Size => size(alloc, words),
+        Subcommand::Merge => merge(alloc, words),
+        Subcommand::Replace => replace(alloc, words),
+        Subcommand::Remove => remove(alloc, words),
+    }
+}
+
+/// `dict subcommand ?arg ...?`: what a subcommand makes of dicts, keys and values.
+///
+/// # Errors
+/// 241; 244 of the subcommand; 101 to 104 and 121 where a word is no dict; 242 of `get`; 122; want of memory.
+pub fn dict(
+    tree: &mut Tree,
+    alloc: Global,
+    place: Place,
+    args: &[Value],
+) -> Result<Value, Interruption>
+    ensures acts { Acts tree.old place (λ _. collections.dict args.now) tree.new result }
+    ensures level { IsLevel tree.old tree.new }
+{
+    match args {
+        [] => Err(wrong_args(alloc, "dict subcommand ?arg ...?")),
+        [word, words @ ..] => {
+            let word = word.text(alloc)?;
+            match Subcommand::named(word.as_str()) {
+                Some(subcommand) => answered(alloc, value_of(alloc, subcommand, words)),
+                None => Err(unknown_subcommand(alloc, word.as_str())),
+            }
+        }
+    }
+}

@@ -1,0 +1,102 @@
+//! Calls of commands that evaluate nothing and ask nobody.
+ghost use Rattle.std.specs.Prelude.{◌≡◌, true, false};
+ghost use Rattle.tcl_core.specs.Paths.{Path};
+ghost use Rattle.tcl_language.specs.Table.{builtin as program_of};
+ghost use Rattle.tcl_run.specs.Plain.{Acts};
+ghost use Rattle.tcl_run.specs.Runs.{IsLevel};
+ghost use Rattle.tcl_tree.specs.TreeOf.{Names};
+ghost use Rattle.tcl_builtins.specs.Kinds.{is_effectful, is_plain};
+
+use crate::dicts::dict;
+use crate::exits::exit;
+use std::alloc::Global;
+use tcl_commands::assigning::lassign;
+use tcl_commands::definitions::proc;
+use tcl_commands::ends::{breaks, continues, error, returns};
+use tcl_commands::growing::{append, lappend};
+use tcl_commands::inspection::info;
+use tcl_commands::links::{global, upvar};
+use tcl_commands::lists::{
+    concat, join, lindex, linsert, list, llength, lrange, lrepeat, lreplace, lreverse, split,
+};
+use tcl_commands::texts::{format, string};
+use tcl_commands::unsetting::unset;
+use tcl_commands::variables::{incr, set};
+use tcl_run::failure::invalid_command;
+use tcl_run::interruption::Interruption;
+use tcl_tree::builtin::Builtin;
+use tcl_tree::tree::{Place, Tree};
+use tcl_value::value::Value;
+
+/// Calls a built-in command that evaluates nothing and asks nobody. One that isn't written yet is no command.
+///
+/// # Errors
+/// Those of the command; 305 where it isn't written yet; want of memory.
+pub fn call_plain(
+    tree: &mut Tree,
+    alloc: Global,
+    place: Place,
+    builtin: Builtin,
+    word: &Value,
+    args: &[Value],
+) -> Result<Value, Interruption>
+    requires names { (p : Path) × Names tree.old place p }
+    requires plain { is_plain builtin ≡ true }
+    ensures acts { Acts tree.old place (λ style. program_of style builtin word.now args.now) tree.new result }
+    ensures level { IsLevel tree.old tree.new }
+{
+    match builtin {
+        Builtin::Set => set(tree, alloc, place, args),
+        Builtin::Unset => unset(tree, alloc, place, args),
+        Builtin::Incr => incr(tree, alloc, place, args),
+        Builtin::Append => append(tree, alloc, place, args),
+        Builtin::Lappend => lappend(tree, alloc, place, args),
+        Builtin::Lassign => lassign(tree, alloc, place, args),
+        Builtin::Global => global(tree, alloc, place, args),
+        Builtin::Upvar => upvar(tree, alloc, place, args),
+        Builtin::Proc => proc(tree, alloc, place, args),
+        Builtin::Info => info(tree, alloc, place, args),
+        Builtin::Break => breaks(tree, alloc, place, args),
+        Builtin::Continue => continues(tree, alloc, place, args),
+        Builtin::Error => error(tree, alloc, place, args),
+        Builtin::Return => returns(tree, alloc, place, args),
+        Builtin::Exit => exit(tree, alloc, place, args),
+        other => call_pure(tree, alloc, place, other, word, args),
+    }
+}
+
+/// Calls a built-in command that gives what is a function of its words. One that isn't written yet is no command.
+fn call_pure(
+    tree: &mut Tree,
+    alloc: Global,
+    place: Place,
+    builtin: Builtin,
+    word: &Value,
+    args: &[Value],
+) -> Result<Value, Interruption>
+    requires plain { is_plain builtin ≡ true }
+    requires quiet { is_effectful builtin ≡ false }
+    ensures acts { Acts tree.old place (λ style. program_of style builtin word.now args.now) tree.new result }
+    ensures level { IsLevel tree.old tree.new }
+{
+    match builtin {
+        Builtin::List => list(tree, alloc, place, args),
+        Builtin::Llength => llength(tree, alloc, place, args),
+        Builtin::Lindex => lindex(tree, alloc, place, args),
+        Builtin::Lrange => lrange(tree, alloc, place, args),
+        Builtin::Linsert => linsert(tree, alloc, place, args),
+        Builtin::Lreplace => lreplace(tree, alloc, place, args),
+        Builtin::Lrepeat => lrepeat(tree, alloc, place, args),
+        Builtin::Lreverse => lreverse(tree, alloc, place, args),
+        Builtin::Concat => concat(tree, alloc, place, args),
+        Builtin::Join => join(tree, alloc, place, args),
+        Builtin::Split => split(tree, alloc, place, args),
+        Builtin::Dict => dict(tree, alloc, place, args),
+        Builtin::String => string(tree, alloc, place, args),
+        Builtin::Format => format(tree, alloc, place, args),
+        _ => {
+            let word = word.text(alloc)?;
+            Err(invalid_command(alloc, word.as_str()))
+        }
+    }
+}

@@ -1,0 +1,4 @@
+pub mod Children
+pub mod Forms
+pub mod Invoking
+pub mod Named

@@ -1,0 +1,2 @@
+pub mod HiddenCalls
+pub mod Own

@@ -1,0 +1,4 @@
+pub mod Laws
+pub mod Replying
+pub mod Steps
+pub mod Streams

@@ -1,0 +1,118 @@
+-- What comes of asking an interpreter for an evaluation.
+use Rattle.std.proofs.Common.{◌≡◌, ℕ, ◌<◌, ◌≤◌, Bool, true, false, List, [], ◌∷◌, ◌++◌, length, Option, Some, None, refl, sym, ◌∙◌, ap, subst, arith}
+use Rattle.std.specs.Prelude.{Result, Ok, Err}
+use Rattle.std.proofs.lemmas.Option.{same_Some}
+use Rattle.tcl_core.specs.Endings.{Completion, Reply, settle}
+use Rattle.tcl_core.specs.Endings.Reply.{Completed, Stop, Exit, Cut}
+use Rattle.tcl_core.specs.Entries.{Entry}
+use Rattle.tcl_core.specs.Entries.Entry.{Eval, InvokeHidden}
+use Rattle.tcl_core.specs.Paths.{Path, Text, rise}
+use Rattle.tcl_core.specs.Programs.{blocked, is_spent}
+use Rattle.tcl_core.specs.Programs.Prog.{done, go}
+use Rattle.tcl_core.specs.Runs.{carried}
+use Rattle.tcl_core.specs.Threads.{completed}
+use Rattle.tcl_core.specs.Trees.{Tree, Node, Event, effect}
+use Rattle.tcl_core.specs.Trees.What.{Changed, Charged}
+use Rattle.tcl_language.specs.Control.{at_level, level_over}
+use Rattle.tcl_language.specs.Faults.{wrong_args}
+use Rattle.tcl_language.specs.Instructions.{Program, fails, grown}
+use Rattle.tcl_language.specs.Instructions.Instr.{Invoke}
+use Rattle.tcl_language.specs.Interpreters.{asks_at, at_path, eval}
+use Rattle.tcl_language.specs.Language.{language}
+use Rattle.tcl_language.specs.Table.{invoked_at, serve, settled, some_words}
+use Rattle.tcl_language.specs.Words.{concat}
+use Rattle.tcl_run.specs.Ends.{IfEnded, Interrupts}
+use Rattle.tcl_run.specs.Outsides.{Answering, staged}
+use Rattle.tcl_run.specs.Runs.{Comes, EvaluatesAt, IsAt, IsThere, IsSteady, StopsCounting}
+use Rattle.tcl_run.specs.declared.interruption.Interruption.{Interruption}
+use Rattle.tcl_run.proofs.Endings.{IfEnded-more}
+use Rattle.tcl_run.proofs.Leads.{at_prog, at_reply, at_finish, charges, charge_stops, framed, framed_passed, looks}
+use Rattle.tcl_run.proofs.Steady.{stands, still_at}
+use Rattle.tcl_text.specs.declared.integer.Integers.{Integers}
+use Rattle.tcl_tree.specs.Own.{Own}
+use Rattle.tcl_tree.specs.Reaching.{Leads as Reached}
+use Rattle.tcl_tree.specs.TreeOf.{tree_of, Names}
+use Rattle.tcl_tree.specs.declared.tree.Tree.{Tree as Table}
+use Rattle.tcl_tree.specs.declared.tree.Place.{Place as TablePlace}
+use Rattle.tcl_tree.specs.declared.tree.places.Reach.TheVariants as reach
+use Rattle.tcl_tree.proofs.CoreLemmas.{tree_there}
+use Rattle.tcl_calls.specs.Carrying.{Carries}
+use Rattle.tcl_entries.specs.Asking.{Asks, GoesOn}
+use Rattle.tcl_entries.proofs.Asked.{rise_zero, asked_goes, inner_goes}
+use Rattle.tcl_entries.proofs.Carried.{IfEnded-each, carried_ended}
+use Rattle.tcl_evaluator.specs.View.{invokes_at, unhidden}
+use Rattle.tcl_evaluator.proofs.Targets.{Settled}
+
+-- where somebody stands
+pub entered : {S : Type 0} (goes : Answering S) (old new : Table) (o z : S) (place : TablePlace) (path : Path) (entry : Entry) (result : Result (List ℕ) Interruption) (there : TablePlace) (ended : Result (List ℕ) Interruption) →
+    ((p : Path) → Names old place p → Reached old p 0 path (reach.There there)) → EvaluatesAt goes old o there (λ style. serve style entry) new z ended →
+    ((p : Path) → Names new place p → Carries p 0 path ended result) → IsSteady old new → Asks goes old o place path entry new z result
+entered goes old new o z place path entry result there ended leads runs carries steady =
+    IfEnded-each result old place (λ p style e. GoesOn (staged goes) style (tree_of old) (o, None) p (asks_at path entry) (tree_of new) (z, None) e) (λ p style at.
+    let lead = leads p at.names in
+    let here : lead.0 ≡ p = same_Some _ _ (sym lead.1 ∙ rise_zero p) in
+    let named : Names old there (p ++ path) = subst (λ (a : Path). Names old there (a ++ path)) here lead.2 in
+    let m = stands (tree_of old (p ++ path)) (tree_there old (p ++ path) _ named) in
+    carried_ended p 0 path ended result (λ s. (q : Path) (y : Integers) → IsThere old there q y → Comes (staged goes) (language y) (tree_of old) (o, None) q (serve y entry) (tree_of new) (z, None) s)
+    (λ e. GoesOn (staged goes) style (tree_of old) (o, None) p (asks_at path entry) (tree_of new) (z, None) e)
+    (carries p (still_at old new place p style steady at).names) runs
+    (λ s d. asked_goes (staged goes) style p path entry _ m.1 (d (p ++ path) style (record { names = named; style_is = at.style_is })) refl))
+
+-- ## interp eval
+
+-- what is left once the path is read
+abbrev pub evals : List Text → Path → Integers → Program
+evals words path style = grown (concat words) (λ script. asks_at path (Eval script) done)
+
+pub eval_is : (args : List Text) (path : Text) (words : List Text) → args ≡ path ∷ words → 1 ≤ length words → eval args ≡ at_path path (λ q n. grown (concat words) (λ script. asks_at q (Eval script) done))
+eval_is args path [] e h = absurd (omega arith)
+eval_is args path (w ∷ ws) e h = ap eval e
+
+pub eval_few : (args : List Text) → length args < 2 → eval args ≡ fails (wrong_args (Rattle.std.specs.Prelude.codes "interp eval path arg ?arg ...?"))
+eval_few [] h = refl
+eval_few (a ∷ []) h = refl
+eval_few (a ∷ b ∷ bs) h = absurd (omega arith)
+
+-- at level 0 or as it is
+invoked_is : (g : Bool) (words : List Text) → invoked_at g words ≡ invokes_at g words settled
+invoked_is true words = refl
+invoked_is false words = refl
+
+module _ {S : Type 0} {goes : S → Event Own → S → Type 0} (style : Integers) where
+  -- nothing is left to do
+  pub done_on : {T U : Tree Own} {o u : S} {p : Path} (x : (Completion → Program) → Program) (e : Reply) → GoesOn goes style T o p x U u e → Comes goes (language style) T o p (x done) U u e
+  done_on x (Completed c) g = g done _ _ _ completed
+  done_on x (Stop n m) g = g done
+  done_on x (Exit n) g = g done
+  done_on x (Cut c) g = g done
+
+  -- only ok and error pass
+  pub settled_on : {T U : Tree Own} {o u : S} {p : Path} (x : (Completion → Program) → Program) (e f : Reply) → Settled e f → GoesOn goes style T o p x U u e → Comes goes (language style) T o p (x settled) U u f
+  settled_on x (Completed c) f l g = g settled _ _ _ (at_reply l completed)
+  settled_on x (Stop n m) f l g = at_reply l (g settled)
+  settled_on x (Exit n) f l g = at_reply l (g settled)
+  settled_on x (Cut c) f l g = at_reply l (g settled)
+
+  -- ## Hidden commands
+
+  pub hidden_stops : {T U : Tree Own} {o : S} {p : Path} {r : Reply} (g : Bool) (words : List Text) → StopsCounting T p U r → Comes goes (language style) T o p (serve style (InvokeHidden g words)) U o r
+  hidden_stops g words s = at_finish s.same (at_reply s.stop (charge_stops s.levels s.full))
+
+  pub hidden_settles : {T U V : Tree Own} {o z : S} {p : Path} (g : Bool) (words given : List Text) (e f : Reply) → given ≡ some_words words → blocked is_spent T p ≡ None → U ≡ effect p Charged T → Settled e f →
+      GoesOn goes style U o p (invokes_at g given) V z e → Comes goes (language style) T o p (serve style (InvokeHidden g words)) V z f
+  hidden_settles g words given e f same free u l t =
+      charges free u (at_prog (invoked_is g (some_words words) ∙ ap (λ ws. invokes_at g ws settled) (sym same)) (settled_on (invokes_at g given) e f l t))
+
+  pub invokes_here : {T U : Tree Own} {o u : S} {p : Path} (g : Bool) (words : List Text) (e : Reply) → g ≡ false → Comes goes (language style) T o p (unhidden words) U u e → GoesOn goes style T o p (invokes_at g words) U u e
+  invokes_here {T} {U} {o} {u} {p} g words e same t = subst (λ (b : Bool). GoesOn goes style T o p (invokes_at b words) U u e) (sym same) (inner_goes goes style (Invoke words) e t)
+
+  at_the_top : (T : Tree Own) {U V W : Tree Own} {o z : S} {p : Path} {n m : Node Own} (words : List Text) (e : Reply) → T p ≡ Some n → U ≡ effect p (Changed (at_level 0 n.own)) T → V p ≡ Some m → W ≡ effect p (Changed (level_over m.own)) V →
+      Comes goes (language style) U o p (unhidden words) V z e → GoesOn goes style T o p (invokes_at true words) W z e
+  at_the_top T words (Completed c) there u is w t = λ k X y r s. looks there (framed {i = Invoke words} there u is w t s)
+  at_the_top T words (Stop l x) there u is w t = λ k. looks there (framed_passed {i = Invoke words} tt there u is w t)
+  at_the_top T words (Exit x) there u is w t = λ k. looks there (framed_passed {i = Invoke words} tt there u is w t)
+  at_the_top T words (Cut x) there u is w t = λ k. looks there (framed_passed {i = Invoke words} tt there u is w t)
+
+  pub invokes_global : (T : Tree Own) {U V W : Tree Own} {o z : S} {p : Path} {n m : Node Own} (g : Bool) (words : List Text) (e : Reply) → g ≡ true → T p ≡ Some n → U ≡ effect p (Changed (at_level 0 n.own)) T → V p ≡ Some m → W ≡ effect p (Changed (level_over m.own)) V →
+      Comes goes (language style) U o p (unhidden words) V z e → GoesOn goes style T o p (invokes_at g words) W z e
+  invokes_global T {U} {V} {W} {o} {z} {p} g words e same there u is w t = subst (λ (b : Bool). GoesOn goes style T o p (invokes_at b words) W z e) (sym same) (at_the_top T words e there u is w t)

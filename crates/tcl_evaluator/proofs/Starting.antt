@@ -1,0 +1,42 @@
+-- When a run can begin.
+use Rattle.std.proofs.Common.{◌≡◌, ◌<◌, ◌≤◌, ◌+◌, true, false, Bool, ℕ, Option, Some, None, refl, sym, ap, ◌∙◌, subst, arith}
+use Rattle.std.specs.Prelude.{is_some, nat_le}
+use Rattle.std.proofs.lemmas.Bool.Decides.{nat_tests}
+use Rattle.tcl_core.specs.Paths.{Path, Text}
+use Rattle.tcl_language.specs.Instructions.{fits}
+use Rattle.tcl_tree.specs.TreeOf.{tree_of, marks_of}
+use Rattle.tcl_tree.specs.declared.tree.Tree.{Tree as Table}
+use Rattle.std.specs.Prelude.{Result, Ok, Err, IfOk}
+use Rattle.tcl_core.specs.Endings.{Reply}
+use Rattle.tcl_run.specs.declared.interruption.Interruption.{Interruption}
+use Rattle.tcl_run.specs.declared.interruption.Interruption.TheVariants as interruption
+use Rattle.tcl_run.specs.Ends.{IfEnded}
+use Rattle.tcl_evaluator.specs.Running.{first_of, unfit, root_count, most_steps, Tells, ending_by, ending_of}
+use Rattle.tcl_evaluator.specs.declared.running.End.{End}
+use Rattle.tcl_evaluator.specs.declared.running.Refused.TheVariants as refused
+
+by_all : (t : Table) (path : Path) (script : Text) (limit : ℕ) (b s n f : Bool) → (marks_of t).broken ≡ b → is_some (tree_of t path) ≡ s → nat_le (root_count t + limit) most_steps ≡ n → fits script ≡ f → unfit t path script limit ≡ first_of b s n f
+by_all t path script limit b s n f eb es en ef =
+    ap (λ x. first_of x (is_some (tree_of t path)) (nat_le (root_count t + limit) most_steps) (fits script)) eb ∙ ap (λ x. first_of b x (nat_le (root_count t + limit) most_steps) (fits script)) es
+    ∙ ap (λ x. first_of b s x (fits script)) en ∙ ap (first_of b s n) ef
+
+pub counts_too_far : (t : Table) (path : Path) (script : Text) (limit : ℕ) → (marks_of t).broken ≡ false → is_some (tree_of t path) ≡ true → most_steps < root_count t + limit → unfit t path script limit ≡ Some refused.CountTooLarge
+counts_too_far t path script limit eb es h = by_all t path script limit false true false (fits script) eb es (grind (arith, nat_tests)) refl
+
+pub is_too_long : (t : Table) (path : Path) (script : Text) (limit : ℕ) → (marks_of t).broken ≡ false → is_some (tree_of t path) ≡ true → root_count t + limit ≤ most_steps → fits script ≡ false → unfit t path script limit ≡ Some refused.TooLong
+is_too_long t path script limit eb es h f = by_all t path script limit false true true false eb es (grind (arith, nat_tests)) f
+
+pub is_fit : (t : Table) (path : Path) (script : Text) (limit : ℕ) → (marks_of t).broken ≡ false → is_some (tree_of t path) ≡ true → root_count t + limit ≤ most_steps → fits script ≡ true → unfit t path script limit ≡ None
+is_fit t path script limit eb es h f = by_all t path script limit false true true true eb es (grind (arith, nat_tests)) f
+
+-- ## How it ended
+
+pub told_so : {E : Type 0} (depth : ℕ) (ended : Result Text Interruption) (result : Result End E) (P : Reply → Type 0) (Q : End → Type 0) → Tells depth ended result → IfEnded ended P →
+    ((e : End) (r : Reply) → P r → ending_by depth r ≡ Some (ending_of e) → Q e) → IfOk result Q
+told_so depth ended (Err e) P Q t p k = tt
+told_so depth (Ok text) (Ok e) P Q t p k = k e _ p t
+told_so depth (Err interruption.Memory) (Ok e) P Q t p k = elim t [ ]
+told_so depth (Err (interruption.Completed c)) (Ok e) P Q t p k = k e _ p t
+told_so depth (Err (interruption.Stopped s)) (Ok e) P Q t p k = k e _ p t
+told_so depth (Err (interruption.Exited n)) (Ok e) P Q t p k = k e _ p t
+told_so depth (Err (interruption.Cut c)) (Ok e) P Q t p k = k e _ p t

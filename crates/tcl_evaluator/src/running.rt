@@ -1,0 +1,179 @@
+//! Runs of scripts in a tree of interpreters, with a host.
+ghost use Rattle.std.specs.Prelude.{◌≡◌, ◌+◌, ◌<◌, ◌≤◌, true, Some, None, IfOk, IfErr, IfSome, IfNone, IsErrOf, length};
+ghost use Rattle.tcl_core.specs.Paths.{Path};
+ghost use Rattle.tcl_language.specs.Instructions.{fits};
+ghost use Rattle.tcl_flow.specs.Stopping.{reply_of};
+ghost use Rattle.tcl_run.specs.Outsides.{hosted};
+ghost use Rattle.tcl_tree.specs.TreeOf.{marks_of, Names};
+ghost use Rattle.tcl_evaluator.specs.Running.{IsRun, Tells, ending_by, ending_of, unfit, root_count, root_limit};
+ghost use Rattle.tcl_evaluator.specs.declared.running.Refused.TheVariants.{Memory};
+
+use crate::crossing::serve_eval;
+use std::alloc::{AllocError, Global};
+use tcl_calls::words::ordinary;
+use tcl_flow::completion::Completion;
+use tcl_flow::stop::{Stop, StopKind};
+use tcl_host::host::Host;
+use tcl_run::interruption::Interruption;
+use tcl_text::text::Text;
+use tcl_tree::node::MOST_STEPS;
+use tcl_tree::tree::{Place, Tree};
+use tcl_value::value::{MOST_BYTES, Value};
+
+/// How a run ended.
+#[derive(Drop)]
+pub enum End {
+    /// The script completed, by an ordinary result or by an error.
+    Done(Completion),
+    /// A limit of the root would have been passed: that of steps, which is the run's own, or that of depth.
+    Stopped(StopKind),
+    /// The script ended the run with this status.
+    Exit(i64),
+}
+
+/// Why there was no run, or none that came to its end.
+#[derive(Clone, Copy, Debug, PartialEq, Eq)]
+pub enum Refused {
+    /// 401: memory was wanted. The tree is broken since then.
+    Memory,
+    /// 402: the tree was broken before.
+    Broken,
+    /// 403: no interpreter stands at the path.
+    NoInterpreter,
+    /// 404: the steps that were counted in the root and those of the run pass 9223372036854775807 together.
+    CountTooLarge,
+    /// 122: the script is longer than 16777216 bytes.
+    TooLong,
+}
+
+/// What a run begins with.
+#[derive(Clone, Copy)]
+struct Start {
+    /// Where the script is evaluated.
+    place: Place,
+    /// The limit of steps that the root has during the run.
+    most: u64,
+    /// And its own.
+    own: Option<u64>,
+}
+
+/// Evaluates a script in the interpreter at the path, as one entry into it, with at most so many counted steps in the whole tree.
+///
+/// # Errors
+/// 402, 403, 404 and 122, which are looked for in this order and change nothing; and 401.
+pub fn eval<H: Host>(
+    tree: &mut Tree,
+    alloc: Global,
+    host: &mut H,
+    path: &[Text],
+    script: &str,
+    limit: u64,
+) -> Result<End, Refused>
+    ensures refused { IfSome (unfit tree.old path.now script.now limit) (λ e. result ≡ Err e) }
+    ensures unchanged { IfSome (unfit tree.old path.now script.now limit) (λ _. (tree.new ≡ tree.old) × (host.new ≡ host.old)) }
+    ensures begun { IfNone (unfit tree.old path.now script.now limit) (IfErr result (λ e. e ≡ Memory)) }
+    ensures broken { IsErrOf result Memory → (marks_of tree.new).broken ≡ true }
+    ensures runs { IfOk result (λ end. IsRun (hosted H.step) tree.old host.old path.now script.now (root_count tree.old + limit) tree.new host.new end) }
+{
+    let start = start_of(tree, path, script, limit)?;
+    match run(tree, alloc, host, start, path.len(), script) {
+        Ok(end) => Ok(end),
+        Err(_) => {
+            tree.mark_broken();
+            Err(Refused::Memory)
+        }
+    }
+}
+
+/// What a run begins with, or why there is none.
+fn start_of(tree: &Tree, path: &[Text], script: &str, limit: u64) -> Result<Start, Refused>
+    ensures refused { IfErr result (λ e. unfit tree.now path.now script.now limit ≡ Some e) }
+    ensures fit { IfOk result (λ _. unfit tree.now path.now script.now limit ≡ None) }
+    ensures short { IfOk result (λ _. fits script.now ≡ true) }
+    ensures place { IfOk result (λ start. Names tree.now start.place path.now) }
+    ensures most { IfOk result (λ start. start.most ≡ root_count tree.now + limit) }
+    ensures own { IfOk result (λ start. start.own ≡ root_limit tree.now) }
+{
+    if tree.is_broken() {
+        return Err(Refused::Broken);
+    }
+    let Some(place) = tree.place(path) else {
+        return Err(Refused::NoInterpreter);
+    };
+    let (count, own) = root_meters(tree);
+    let Some(most) = most_of(count, limit) else {
+        return Err(Refused::CountTooLarge);
+    };
+    if script.len() > MOST_BYTES {
+        return Err(Refused::TooLong);
+    }
+    Ok(Start { place, most, own })
+}
+
+/// How many steps were counted in the root, and its limit.
+fn root_meters(tree: &Tree) -> (u64, Option<u64>)
+    ensures count { result.0 ≡ root_count tree.now }
+    ensures limit { result.1 ≡ root_limit tree.now }
+{
+    match tree.node_at(tree.root()) {
+        Some(node) => (node.state.count, node.state.limit),
+        None => unreachable!(),
+    }
+}
+
+/// The limit of a root that may be counted so many steps more, where steps can be counted so far.
+fn most_of(count: u64, limit: u64) -> Option<u64>
+    ensures most { IfSome result (λ most. (most ≡ count + limit) × (count + limit ≤ 9223372036854775807)) }
+    ensures none { IfNone result (9223372036854775807 < count + limit) }
+{
+    let most = count.checked_add(limit)?;
+    if most > MOST_STEPS {
+        return None;
+    }
+    Some(most)
+}
+
+/// Evaluates the script, while the root has the limit of the run.
+fn run<H: Host>(
+    tree: &mut Tree,
+    alloc: Global,
+    host: &mut H,
+    start: Start,
+    depth: usize,
+    script: &str,
+) -> Result<End, AllocError>
+    requires short { fits script.now ≡ true }
+    requires place { (p : Path) × Names tree.old start.place p }
+    requires own { start.own ≡ root_limit tree.old }
+    ensures { IfOk result (λ end. (p : Path) → Names tree.old start.place p → length p ≡ depth → IsRun (hosted H.step) tree.old host.old p script.now start.most tree.new host.new end) }
+{
+    let mut script = Value::from_short_text(Text::new(alloc, script)?);
+    tree.set_run_limit(Some(start.most));
+    let ended = serve_eval(tree, alloc, host, start.place, &mut script);
+    tree.set_run_limit(start.own);
+    told(alloc, depth, ended)
+}
+
+/// How a run ended whose entry, so many levels below the root, ended so.
+fn told(alloc: Global, depth: usize, ended: Result<Value, Interruption>) -> Result<End, AllocError>
+    ensures { Tells depth ended result }
+{
+    match ended {
+        Ok(text) => Ok(End::Done(ordinary(alloc, text)?)),
+        Err(Interruption::Completed(completion)) => Ok(End::Done(completion)),
+        Err(Interruption::Stopped(stop)) => stopped(alloc, depth, stop),
+        Err(Interruption::Exited(status)) => Ok(End::Exit(status)),
+        Err(Interruption::Memory) => Err(AllocError),
+        Err(Interruption::Cut(_)) => Err(AllocError),
+    }
+}
+
+/// What a stop is to whoever began the run: where it names the root the run's end, and else an error.
+fn stopped(alloc: Global, depth: usize, stop: Stop) -> Result<End, AllocError>
+    ensures { IfOk result (λ end. ending_by depth (reply_of stop) ≡ Some (ending_of end)) }
+{
+    if stop.levels_up == depth {
+        return Ok(End::Stopped(stop.kind));
+    }
+    Ok(End::Done(stop.kind.error(alloc)?))
+}

@@ -1,0 +1,4 @@
+pub mod Forms
+pub mod Named
+pub mod Options
+pub mod Stepping

@@ -1,0 +1,50 @@
+-- `interp` goes by the names of its subcommands.
+use Rattle.std.proofs.Common.{◌≡◌, Bool, true, false, if◌then◌else◌, List, Option, Some, None, refl}
+use Rattle.std.specs.Prelude.{codes}
+use Rattle.std.specs.Str.{bytes_eq}
+use Rattle.tcl_core.specs.Entries.Question.{Aliases, Hidden, IsSafe, Slaves}
+use Rattle.tcl_core.specs.Paths.{Text}
+use Rattle.tcl_language.specs.Faults.{unknown_subcommand}
+use Rattle.tcl_language.specs.Instructions.{Program, either, fails}
+use Rattle.tcl_language.specs.Interpreters as interpreters
+use Rattle.tcl_text.specs.declared.integer.Integers.{Integers}
+use Rattle.tcl_entries.specs.Subcommands.{or_else, asking_of, changing_of, subcommand_of, program_named}
+use Rattle.tcl_entries.specs.declared.subcommand.Subcommand.{Subcommand}
+use Rattle.tcl_entries.specs.declared.subcommand.Subcommand.TheVariants as sub
+
+making : (style : Integers) (word : Text) (args : List Text) (a b c d e : Bool) (rest : Program) (o : Option Subcommand) → rest ≡ program_named style o word args →
+    either a (interpreters.create_options false args) (either b (interpreters.delete args) (either c (interpreters.eval args) (either d (interpreters.alias args) (either e (interpreters.question (codes "interp aliases ?path?") Aliases args) rest))))
+    ≡ program_named style (or_else (if a then Some sub.Create else (if b then Some sub.Delete else (if c then Some sub.Eval else (if d then Some sub.Alias else (if e then Some sub.Aliases else None))))) o) word args
+making style word args true b c d e rest o h = refl
+making style word args false true c d e rest o h = refl
+making style word args false false true d e rest o h = refl
+making style word args false false false true e rest o h = refl
+making style word args false false false false true rest o h = refl
+making style word args false false false false false rest o h = h
+
+asking : (style : Integers) (word : Text) (args : List Text) (a b c d e : Bool) (rest : Program) (o : Option Subcommand) → rest ≡ program_named style o word args →
+    either a (interpreters.exists args) (either b (interpreters.question (codes "interp hidden ?path?") Hidden args) (either c (interpreters.question (codes "interp issafe ?path?") IsSafe args) (either d (interpreters.question (codes "interp slaves ?path?") Slaves args) (either e (interpreters.question (codes "interp children ?path?") Slaves args) rest))))
+    ≡ program_named style (or_else (if a then Some sub.Exists else (if b then Some sub.Hidden else (if c then Some sub.IsSafe else (if d then Some sub.Slaves else (if e then Some sub.Children else None))))) o) word args
+asking style word args true b c d e rest o h = refl
+asking style word args false true c d e rest o h = refl
+asking style word args false false true d e rest o h = refl
+asking style word args false false false true e rest o h = refl
+asking style word args false false false false true rest o h = refl
+asking style word args false false false false false rest o h = h
+
+changing : (style : Integers) (word : Text) (args : List Text) (a b c d e : Bool) →
+    either a (interpreters.limit style args) (either b (interpreters.recursion_limit style args) (either c (interpreters.hide args) (either d (interpreters.expose args) (either e (interpreters.invoke_hidden args) (fails (unknown_subcommand word))))))
+    ≡ program_named style (if a then Some sub.Limit else (if b then Some sub.RecursionLimit else (if c then Some sub.Hide else (if d then Some sub.Expose else (if e then Some sub.InvokeHidden else None))))) word args
+changing style word args true b c d e = refl
+changing style word args false true c d e = refl
+changing style word args false false true d e = refl
+changing style word args false false false true e = refl
+changing style word args false false false false true = refl
+changing style word args false false false false false = refl
+
+-- what `interp` does with a word and those behind it is the program of the subcommand that the word names
+pub by_name : (style : Integers) (word : Text) (args : List Text) → interpreters.subcommand style word args ≡ program_named style (subcommand_of word) word args
+by_name style word args =
+    making style word args (bytes_eq word (codes "create")) (bytes_eq word (codes "delete")) (bytes_eq word (codes "eval")) (bytes_eq word (codes "alias")) (bytes_eq word (codes "aliases")) _ (or_else (asking_of word) (changing_of word))
+    (asking style word args (bytes_eq word (codes "exists")) (bytes_eq word (codes "hidden")) (bytes_eq word (codes "issafe")) (bytes_eq word (codes "slaves")) (bytes_eq word (codes "children")) _ (changing_of word)
+    (changing style word args (bytes_eq word (codes "limit")) (bytes_eq word (codes "recursionlimit")) (bytes_eq word (codes "hide")) (bytes_eq word (codes "expose")) (bytes_eq word (codes "invokehidden"))))

@@ -1,0 +1,3 @@
+pub mod Deleting
+pub mod Evaluating
+pub mod Failing

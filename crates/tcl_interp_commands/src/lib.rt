@@ -1,0 +1,9 @@
+//! The subcommands of `interp` that evaluate no script, and `rename`.
+#![tactic(auto)]
+
+pub mod creating;
+pub mod deleting;
+pub mod dispatch;
+pub mod existing;
+pub mod listing;
+pub mod naming;

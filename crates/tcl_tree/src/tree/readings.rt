@@ -1,0 +1,65 @@
+//! What the texts that are evaluated in a tree are read as.
+ghost use Rattle.std.specs.Prelude.{◌≡◌, Err, IfOk};
+ghost use Rattle.tcl_expr.specs.Expressions.{expression_of};
+ghost use Rattle.tcl_parser.specs.Reading.{read_script};
+ghost use Rattle.tcl_readings.specs.Kept.{Gives};
+ghost use Rattle.tcl_value.specs.Limits.{IsWithin, IsPast};
+
+use crate::tree::Tree;
+use std::alloc::{AllocError, Global};
+use std::rc::Rc;
+use tcl_expr::fault::{ExprError, ExprFault};
+use tcl_expression_tree::tree::ExprTree;
+use tcl_parser::script::Script;
+use tcl_readings::readings::Readings;
+use tcl_text::integer::Integers;
+use tcl_text::text::Text;
+use tcl_value::value::Value;
+
+impl Tree {
+    /// The script that a value is, read anew only where it wasn't read before. Faults of its text are part of it. The value keeps it.
+    ///
+    /// # Errors
+    /// Want of memory.
+    pub fn script_of(&self, alloc: Global, value: &mut Value) -> Result<Rc<Script>, AllocError>
+        ensures read { IfOk result (λ script. script.value ≡ read_script value.old) }
+        ensures same { value.new ≡ value.old }
+    {
+        match self.readings.try_borrow_mut() {
+            Ok(mut readings) => readings.script_of(alloc, value),
+            Err(_) => Readings::new(alloc).script_of(alloc, value),
+        }
+    }
+
+    /// The script that a text is, read anew only where it wasn't read before. Faults of the text are part of it.
+    ///
+    /// # Errors
+    /// Want of memory.
+    pub fn script(&self, alloc: Global, text: &Text) -> Result<Rc<Script>, AllocError>
+        ensures { IfOk result (λ script. script.value ≡ read_script text.now) }
+    {
+        match self.readings.try_borrow_mut() {
+            Ok(mut readings) => readings.script(alloc, text),
+            Err(_) => Readings::new(alloc).script(alloc, text),
+        }
+    }
+
+    /// The expression that a text is in a style of integers, read anew only where it wasn't read before.
+    ///
+    /// # Errors
+    /// Why the text is none, and 122 exactly where it is longer than a value may be; want of memory.
+    pub fn expression(
+        &self,
+        alloc: Global,
+        text: &Text,
+        style: Integers,
+    ) -> Result<Rc<ExprTree>, ExprError>
+        ensures read { IsWithin text.now → Gives result (expression_of style text.now) }
+        ensures too_long { IsPast text.now → result ≡ Err (ExprError.Fault ExprFault.TooLong) }
+    {
+        match self.readings.try_borrow_mut() {
+            Ok(mut readings) => readings.expression(alloc, text, style),
+            Err(_) => Readings::new(alloc).expression(alloc, text, style),
+        }
+    }
+}
