@@ -3,7 +3,7 @@ use crate::runs::{World, see_beginnings, see_rows};
 use std::test::Fail;
 use tcl_text::integer::Integers;
 
-/// Calls within calls, by one construct or another; each but the first ends at the last level that is allowed, or goes past it.
+/// Calls within calls, by one construct or another: to the last level that is allowed, and past it.
 const NESTED: &str =
     r##"proc f {n} {if {$n == 0} {return done}; f [expr {$n - 1}]}; f 997 => 0: done
 proc f {n} {if {$n == 0} {return done}; f [expr {$n - 1}]}; f 998 => 1: too many nested evaluations (infinite loop?)
@@ -17,7 +17,20 @@ proc f n {if {$n == 0} {return done}; eval {uplevel 0 {f [expr {$n - 1}]}}}; f 3
 proc f n {if {$n == 0} {return done}; eval {uplevel 0 {f [expr {$n - 1}]}}}; f 333 => 1: too many nested evaluations (infinite loop?)
 proc f n {if {$n == 0} {return 0}; expr {1 + [f [expr {$n - 1}]]}}; f 498 => 0: 498
 proc f n {if {$n == 0} {return 0}; expr {1 + [f [expr {$n - 1}]]}}; f 499 => 1: too many nested evaluations (infinite loop?)
-proc f n {if {$n == 0} {return 0}; catch {f [expr {$n - 1}]}}; f 499 => 0: 0"##;
+proc f n {if {$n == 0} {return 0}; while {[f [expr {$n - 1}]]} {}; return 0}; f 498 => 0: 0
+proc f n {if {$n == 0} {return 0}; while {[f [expr {$n - 1}]]} {}; return 0}; f 499 => 1: too many nested evaluations (infinite loop?)
+proc f n {if {[catch {f [expr {$n - 1}]}]} {set ::at $n}}; f 400; set at => 0: 68"##;
+
+/// Loops and conditions in brackets, within one another.
+const BRACKETED: &str =
+    r##"proc f n {if {$n == 0} {return 0}; list [foreach x 1 {f [expr {$n - 1}]}]; return $n}; f 332 => 0: 332
+proc f n {if {$n == 0} {return 0}; list [foreach x 1 {f [expr {$n - 1}]}]; return $n}; f 333 => 1: too many nested evaluations (infinite loop?)
+proc f n {if {$n == 0} {return 0}; list [while 1 {f [expr {$n - 1}]; break}]; return $n}; f 332 => 0: 332
+proc f n {if {$n == 0} {return 0}; list [while 1 {f [expr {$n - 1}]; break}]; return $n}; f 333 => 1: too many nested evaluations (infinite loop?)
+proc f n {if {$n == 0} {return 0}; list [for {} 1 {} {f [expr {$n - 1}]; break}]; return $n}; f 332 => 0: 332
+proc f n {if {$n == 0} {return 0}; list [for {} 1 {} {f [expr {$n - 1}]; break}]; return $n}; f 333 => 1: too many nested evaluations (infinite loop?)
+proc f n {if {$n == 0} {return 0}; list [if 1 {f [expr {$n - 1}]}]; return $n}; f 332 => 0: 332
+proc f n {if {$n == 0} {return 0}; list [if 1 {f [expr {$n - 1}]}]; return $n}; f 333 => 1: too many nested evaluations (infinite loop?)"##;
 
 /// What refuses a level in a child: its own limit, which can be caught there, or that of the root, which can't.
 const CHILDREN: &str =
@@ -33,6 +46,11 @@ fn evaluations_nest_a_thousand_deep(rt: HostRuntime) -> Result<(), Fail> {
 #[test]
 fn beginnings_of_nested_evaluations(rt: HostRuntime) -> Result<(), Fail> {
     see_beginnings(rt.alloc(), NESTED)
+}
+
+#[test]
+fn loops_in_brackets_nest_a_thousand_deep(rt: HostRuntime) -> Result<(), Fail> {
+    see_rows(rt.alloc(), BRACKETED)
 }
 
 #[test]

@@ -20,6 +20,8 @@ interp create {x y} => 1: could not find interpreter "x y"
 interp create c; list [interp exists c] [interp exists d] [interp issafe c] [rename c {}] [interp exists c] => 0: 1 0 0 {} 0
 interp create c; c eval {set x 1}; list [info exists x] [c eval {info exists x}] [interp eval c set x 2] [c eval {set x}] => 0: 0 1 2 2
 interp create c; c eval {interp create g}; interp eval {c g} {set x 1}; list [interp slaves c] [c eval {g eval {set x}}] => 0: g 1
+interp create c; list [c alias a list x] [c aliases] [c alias a] [c eval {a y}] [c issafe] [c hide list] [c hidden] [c expose list] [c recursionlimit 50] => 0: a a {list x} {x y} 0 {} list {} 50
+interp create c; list [interp children] [interp children c] [c eval {interp create g}] [interp children c] => 0: c {} g g
 interp create c; c nope => 1: unknown subcommand "nope"
 interp create c; list [catch {c eval {break}} m] $m => 0: 1 {invoked "break" outside of a loop}"##;
 

@@ -13,6 +13,7 @@ string repeat ab 8388609 => 1: value longer than 16777216 bytes
 string length [string repeat ab 8388608] => 0: 16777216
 list [string range abcdef 1 end-1] [string index abc end] [string reverse abc] [string trim { a }] [string cat a b] => 0: bcde c cba a ab
 list [string first b abcb] [string last b abcb] [string replace abcd 1 2 X] [string toupper aB1] => 0: 1 3 aXd AB1
+list [string equal a a] [string equal -nocase a B] [string tolower aB1] [string trimleft xxax x] [string trimright xxax x] => 0: 1 0 ab1 ax xxa
 string nope x => 1: unknown subcommand "nope"
 string index abc { end} => 1: bad index " end""##;
 
