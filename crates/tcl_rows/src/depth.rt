@@ -63,12 +63,14 @@ fn beginnings_of_levels_of_children(rt: HostRuntime) -> Result<(), Fail> {
     see_beginnings(rt.alloc(), CHILDREN)
 }
 
+/// A child and its parent, which call each other until a level is refused.
+const CALLING: &str =
+    "interp create c; interp recursionlimit c 1000; set n 0; proc ping {} {incr ::n; c eval pong}; interp alias c ping {} ping; c eval {proc pong {} {ping}}; list [catch {c eval pong} m] $m $n";
+
 #[test]
 fn a_child_and_its_parent_call_each_other(rt: HostRuntime) -> Result<(), Fail> {
     let alloc = rt.alloc();
     let mut world = World::new(alloc, Integers::Tcl8)?;
-    let calls =
-        "interp create c; interp recursionlimit c 1000; set n 0; proc ping {} {incr ::n; c eval pong}; interp alias c ping {} ping; c eval {proc pong {} {ping}}; list [catch {c eval pong} m] $m $n";
-    world.see(alloc, calls, "stopped by depth")?;
+    world.see(alloc, CALLING, "stopped by depth")?;
     world.see(alloc, "set n", "0: 249")
 }

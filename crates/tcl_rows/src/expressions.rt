@@ -1,5 +1,5 @@
 //! Expressions, conditions and loops, and the two styles of integers.
-use crate::runs::{World, see_beginnings, see_rows, see_rows_in};
+use crate::runs::{World, see_beginnings, see_beginnings_of, see_rows, see_rows_in};
 use std::alloc::{AllocError, Global};
 use std::test::Fail;
 use tcl_text::integer::Integers;
@@ -74,6 +74,12 @@ fn integers_of_tcl_8(rt: HostRuntime) -> Result<(), Fail> {
 }
 
 #[test]
+fn beginnings_of_integers(rt: HostRuntime) -> Result<(), Fail> {
+    see_beginnings(rt.alloc(), NINE)?;
+    see_beginnings(rt.alloc(), EIGHT)
+}
+
+#[test]
 fn a_turn_is_a_step(rt: HostRuntime) -> Result<(), Fail> {
     let alloc = rt.alloc();
     let turns = "foreach x {a b c} {set y $x}";
@@ -83,12 +89,24 @@ fn a_turn_is_a_step(rt: HostRuntime) -> Result<(), Fail> {
     world.see(alloc, "set y", "0: b")
 }
 
+/// A loop of a million turns.
+const MILLION: &str = "set i 0; while {$i < 1000000} {incr i}; set i";
+
 #[test]
 fn a_million_turns(rt: HostRuntime) -> Result<(), Fail> {
-    let alloc = rt.alloc();
-    let turns = "set i 0; while {$i < 1000000} {incr i}; set i";
-    World::new(alloc, Integers::Tcl8)?.see_within(alloc, turns, 2_000_003, "0: 1000000")?;
-    World::new(alloc, Integers::Tcl8)?.see_within(alloc, turns, 2_000_002, "stopped by count")
+    let mut world = World::new(rt.alloc(), Integers::Tcl8)?;
+    world.see_within(rt.alloc(), MILLION, 2_000_003, "0: 1000000")
+}
+
+#[test]
+fn a_million_turns_but_one_step(rt: HostRuntime) -> Result<(), Fail> {
+    let mut world = World::new(rt.alloc(), Integers::Tcl8)?;
+    world.see_within(rt.alloc(), MILLION, 2_000_002, "stopped by count")
+}
+
+#[test]
+fn beginnings_of_a_million_turns(rt: HostRuntime) -> Result<(), Fail> {
+    see_beginnings_of(rt.alloc(), MILLION)
 }
 
 /// `expr` of 1 in so many parentheses.

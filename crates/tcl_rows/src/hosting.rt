@@ -1,5 +1,5 @@
 //! Scripts that reach the host, with each of their requests failing in turn.
-use crate::runs::{STEPS, World, see};
+use crate::runs::{STEPS, World, see, see_beginnings_of};
 use std::alloc::Global;
 use std::test::Fail;
 use tcl_host::host::Host;
@@ -139,4 +139,11 @@ fn one_of_three_lines_may_fail(rt: HostRuntime) -> Result<(), Fail> {
     see_lines(alloc, 1, "0: 0", "b\nc\n")?;
     see_lines(alloc, 2, "0: 0", "a\nc\n")?;
     see_lines(alloc, 3, "0: 1", "a\nb\n")
+}
+
+#[test]
+fn beginnings_of_scripts_that_reach_the_host(rt: HostRuntime) -> Result<(), Fail> {
+    see_beginnings_of(rt.alloc(), HIDDEN)?;
+    see_beginnings_of(rt.alloc(), EXPOSED)?;
+    see_beginnings_of(rt.alloc(), LINES)
 }

@@ -1,5 +1,5 @@
 //! The tree of interpreters: children, aliases, hidden commands, limits of children.
-use crate::runs::{STEPS, World, see, see_beginnings, see_rows};
+use crate::runs::{STEPS, World, see, see_beginnings, see_beginnings_of, see_rows};
 use std::test::Fail;
 use tcl_text::integer::Integers;
 use tcl_text::text::Text;
@@ -105,6 +105,11 @@ const ASKED: &str =
     "interp create -safe c; proc answer k {interp eval c [list set seen $k]; return yes}; interp alias c ask {} answer";
 
 #[test]
+fn beginnings_of_an_alias_that_enters_its_caller(rt: HostRuntime) -> Result<(), Fail> {
+    see_beginnings_of(rt.alloc(), ASKED)
+}
+
+#[test]
 fn an_alias_enters_its_caller_before_it_answers(rt: HostRuntime) -> Result<(), Fail> {
     let alloc = rt.alloc();
     let mut world = World::new(alloc, Integers::Tcl8)?;
@@ -119,7 +124,7 @@ fn what_else_stands_in_the_root_changes_no_answer(rt: HostRuntime) -> Result<(),
     let mut world = World::new(alloc, Integers::Tcl8)?;
     world.see(alloc, ASKED, "0: ask")?;
     let others =
-        "set secret 1; for {set i 0} {$i < 100} {incr i} {interp create x; interp delete x}";
+        "set secret 1; interp create other; for {set i 0} {$i < 100} {incr i} {interp create x; interp delete x}";
     world.see(alloc, others, "0:")?;
     world.see(alloc, "c eval {list [ask q] $seen}", "0: yes q")?;
     world.see(alloc, "c eval {info globals}", "0: seen")

@@ -120,9 +120,15 @@ pub(crate) fn see_rows(alloc: Global, rows: &str) -> Result<(), Fail> {
 pub(crate) fn see_beginnings(alloc: Global, rows: &str) -> Result<(), Fail> {
     'rows: for row in rows.lines() {
         let (script, _) = halves(row)?;
-        'ends: for end in 0..script.len() {
-            see_beginning(alloc, script.get(..end))?;
-        }
+        see_beginnings_of(alloc, script)?;
+    }
+    Ok(())
+}
+
+/// Sees that every beginning of a script is run to an end, and told incomplete where its fault is a form that is open.
+pub(crate) fn see_beginnings_of(alloc: Global, script: &str) -> Result<(), Fail> {
+    'ends: for end in 0..script.len() {
+        see_beginning(alloc, script.get(..end))?;
     }
     Ok(())
 }
