@@ -70,7 +70,7 @@ pub(crate) fn see(script: &str, found: &str, wanted: &str) -> Result<(), Fail> {
     if found == wanted {
         return Ok(());
     }
-    Err(Fail::new(format_args!("{script}\nfound {found}\nwanted {wanted}")))
+    Err(Fail::new(format_args!("found {found}\nwanted {wanted}\nof {script}")))
 }
 
 /// How a run ended, in writing.
