@@ -8,7 +8,7 @@ use crate::failure::wrong_child_args;
 use std::alloc::Global;
 use std::slice;
 use tcl_calls::carrying::target_words;
-use tcl_entries::entry::{OwnEntry, Question};
+use tcl_run::entry::{OwnEntry, Question};
 use tcl_entries::requests::{ask_at, ask_telling};
 use tcl_run::interruption::Interruption;
 use tcl_run::outside::Outside;

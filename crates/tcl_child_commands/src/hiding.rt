@@ -7,13 +7,13 @@ ghost use Rattle.tcl_language.specs.Interpreters as interpreters;
 ghost use Rattle.tcl_run.specs.Ends.{Interrupts, failing};
 ghost use Rattle.tcl_run.specs.Runs.{Evaluates, IsRunning, IsSteady};
 ghost use Rattle.tcl_tree.specs.TreeOf.{Names};
-ghost use Rattle.tcl_entries.specs.Entering.{entry_of};
+ghost use Rattle.tcl_run.specs.Entering.{entry_of};
 ghost use Rattle.tcl_entries.specs.Looking.{Finds};
 
 use crate::failure::wrong_child_args;
 use std::alloc::Global;
 use std::slice;
-use tcl_entries::entry::OwnEntry;
+use tcl_run::entry::OwnEntry;
 use tcl_entries::looking::permit;
 use tcl_entries::requests::ask_at;
 use tcl_run::failure::no_interpreter;

@@ -7,7 +7,7 @@ ghost use Rattle.tcl_entries.specs.Telling.{limits_to, deepens_to};
 use crate::failure::wrong_child_args;
 use std::alloc::Global;
 use std::slice;
-use tcl_entries::entry::{OwnEntry, Question};
+use tcl_run::entry::{OwnEntry, Question};
 use tcl_entries::interp::{deepen_to, limit_to};
 use tcl_entries::looking::{commands_only, permit, value_only};
 use tcl_entries::requests::ask_at;

@@ -15,6 +15,7 @@ use Rattle.tcl_language.specs.Instructions.Instr.{Serve}
 use Rattle.tcl_language.specs.Interpreters.{asks_at, finished, no_interpreter}
 use Rattle.tcl_language.specs.Language.{language}
 use Rattle.tcl_language.specs.Table.{program, serve}
+use Rattle.tcl_run.specs.Outsides.{Going}
 use Rattle.tcl_run.specs.Runs.{Comes}
 use Rattle.tcl_run.proofs.Leads.{at_prog, at_reply, goes_on, calls_on, calls_passed, finds_none_on}
 use Rattle.tcl_text.specs.declared.integer.Integers.{Integers}
@@ -41,7 +42,7 @@ carried_here p (Stop n m) = by (together (falls 0 p) [])
 carried_here p (Exit n) = refl
 carried_here p (Cut c) = refl
 
-module _ {S : Type 0} (goes : S → Event Own → S → Type 0) (style : Integers) where
+module _ {S : Type 0} (goes : Going S) (style : Integers) where
   -- an instruction by itself
   pub inner_goes : {T U : Tree Own} {o u : S} {p : Place} (i : Instr) (e : Reply) → Comes goes (language style) T o p (program style i) U u e → GoesOn goes style T o p (go i) U u e
   inner_goes i (Completed c) t = λ k V z r s. goes_on {i = i} t s

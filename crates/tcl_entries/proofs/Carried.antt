@@ -11,7 +11,7 @@ use Rattle.tcl_flow.specs.Stopping.{reply_of}
 use Rattle.tcl_language.specs.Interpreters.{asks_at, no_interpreter}
 use Rattle.tcl_language.specs.Table.{serve}
 use Rattle.tcl_run.specs.Ends.{IfEnded, Interrupts, failing}
-use Rattle.tcl_run.specs.Outsides.{Answering, staged}
+use Rattle.tcl_run.specs.Outsides.{Going}
 use Rattle.tcl_run.specs.Plain.{Acts, Does}
 use Rattle.tcl_run.specs.Runs.{IsAt, IsThere, IsSteady}
 use Rattle.tcl_run.specs.declared.interruption.Interruption.{Interruption}
@@ -54,26 +54,26 @@ carried_ended p up down (Err (interruption.Stopped s)) result P Q c e f = IfEnde
 carried_ended p up down (Err (interruption.Exited n)) result P Q c e f = subst (λ (y : Result (List ℕ) Interruption). IfEnded y Q) (sym c) (f _ e)
 carried_ended p up down (Err (interruption.Cut x)) result P Q c e f = subst (λ (y : Result (List ℕ) Interruption). IfEnded y Q) (sym c) (f _ e)
 
-module _ {S : Type 0} (goes : Answering S) (old new : Table) (o : S) (place : TablePlace) (path : Path) (entry : Entry) (result : Result (List ℕ) Interruption) where
+module _ {S : Type 0} (goes : Going S) (old new : Table) (o : S) (place : TablePlace) (path : Path) (entry : Entry) (result : Result (List ℕ) Interruption) where
   -- where somebody stands
   pub asks_there : (there : TablePlace) (ended : Result (List ℕ) Interruption) → ((p : Path) → Names old place p → Reached old p 0 path (reach.There there)) → Acts old there (λ style. serve style entry) new ended →
       ((p : Path) → Names new place p → Carries p 0 path ended result) → IsSteady old new → Asks goes old o place path entry new o result
-  asks_there there ended leads acts carries steady = IfEnded-each result old place (λ p style e. GoesOn (staged goes) style (tree_of old) (o, None) p (asks_at path entry) (tree_of new) (o, None) e) (λ p style at.
+  asks_there there ended leads acts carries steady = IfEnded-each result old place (λ p style e. GoesOn goes style (tree_of old) o p (asks_at path entry) (tree_of new) o e) (λ p style at.
       let lead = leads p at.names in
       let here : lead.0 ≡ p = same_Some _ _ (sym lead.1 ∙ rise_zero p) in
       let named : Names old there (p ++ path) = subst (λ (a : Path). Names old there (a ++ path)) here lead.2 in
       let m = stands (tree_of old (p ++ path)) (tree_there old (p ++ path) _ named) in
       carried_ended p 0 path ended result (λ s. (q : Path) (z : Integers) → IsThere old there q z → Does (serve z entry) (tree_of old) q (tree_of new) s)
-      (λ e. GoesOn (staged goes) style (tree_of old) (o, None) p (asks_at path entry) (tree_of new) (o, None) e)
+      (λ e. GoesOn goes style (tree_of old) o p (asks_at path entry) (tree_of new) o e)
       (carries p (still_at old new place p style steady at).names) acts
-      (λ s d. asked_goes (staged goes) style p path entry _ m.1 (does_comes (serve style entry) (o, None) (d (p ++ path) style (record { names = named; style_is = at.style_is }))) refl))
+      (λ s d. asked_goes goes style p path entry _ m.1 (does_comes (serve style entry) o (d (p ++ path) style (record { names = named; style_is = at.style_is }))) refl))
 
   -- and where nobody does
   pub asks_nobody : ((p : Path) → Names old place p → Reached old p 0 path reach.Missing) → new ≡ old → IfEnded result (λ e. e ≡ Completed (failing (no_interpreter []))) → Asks goes old o place path entry new o result
-  asks_nobody leads same told = IfEnded-each result old place (λ p style e. GoesOn (staged goes) style (tree_of old) (o, None) p (asks_at path entry) (tree_of new) (o, None) e) (λ p style at.
+  asks_nobody leads same told = IfEnded-each result old place (λ p style e. GoesOn goes style (tree_of old) o p (asks_at path entry) (tree_of new) o e) (λ p style at.
       let lead = leads p at.names in
       let here : lead.0 ≡ p = same_Some _ _ (sym lead.1 ∙ rise_zero p) in
       let gone : tree_of old (p ++ path) ≡ None = subst (λ (a : Path). tree_of old (a ++ path) ≡ None) here lead.2 in
-      IfEnded-more result (λ e. e ≡ Completed (failing (no_interpreter []))) (λ e. GoesOn (staged goes) style (tree_of old) (o, None) p (asks_at path entry) (tree_of new) (o, None) e)
-      (λ e f. subst (λ (t : Table). GoesOn (staged goes) style (tree_of old) (o, None) p (asks_at path entry) (tree_of t) (o, None) e) (sym same)
-      (unasked_goes (staged goes) style (tree_of old) (o, None) p path entry e (tree_there old p _ at.names) gone f)) told)
+      IfEnded-more result (λ e. e ≡ Completed (failing (no_interpreter []))) (λ e. GoesOn goes style (tree_of old) o p (asks_at path entry) (tree_of new) o e)
+      (λ e f. subst (λ (t : Table). GoesOn goes style (tree_of old) o p (asks_at path entry) (tree_of t) o e) (sym same)
+      (unasked_goes goes style (tree_of old) o p path entry e (tree_there old p _ at.names) gone f)) told)

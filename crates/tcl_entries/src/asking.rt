@@ -8,9 +8,9 @@ ghost use Rattle.tcl_text.specs.Lists.{list_of};
 ghost use Rattle.tcl_text.specs.Writing.{fault_message};
 ghost use Rattle.tcl_tree.specs.TreeOf.{Names};
 ghost use Rattle.tcl_entries.specs.Asking.{Asks, Reads};
-ghost use Rattle.tcl_entries.specs.Entering.{entry_of};
+ghost use Rattle.tcl_run.specs.Entering.{entry_of};
 
-use crate::entry::OwnEntry;
+use tcl_run::entry::OwnEntry;
 use crate::serving::serve;
 use std::alloc::Global;
 use tcl_calls::carrying::carry;

@@ -6,7 +6,7 @@ ghost use Rattle.tcl_run.specs.Runs.{Evaluates, IsRunning, IsSteady};
 ghost use Rattle.tcl_entries.specs.Telling.{limits_to, deepens_to, limits_below, deepens_there};
 
 use crate::asking::path_of;
-use crate::entry::{OwnEntry, Question};
+use tcl_run::entry::{OwnEntry, Question};
 use crate::looking::{
     below_itself, commands_only, depth_value, limit_value, names_of, permit, stands, unless_root,
     value_only,

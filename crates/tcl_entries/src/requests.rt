@@ -3,11 +3,11 @@ ghost use Rattle.std.specs.Prelude.{◌≤◌};
 ghost use Rattle.tcl_core.specs.Programs.Prog.{done};
 ghost use Rattle.tcl_language.specs.Interpreters as interpreters;
 ghost use Rattle.tcl_run.specs.Runs.{Evaluates, IsRunning, IsSteady};
-ghost use Rattle.tcl_entries.specs.Entering.{entry_of, question_of};
+ghost use Rattle.tcl_run.specs.Entering.{entry_of, question_of};
 ghost use Rattle.tcl_entries.specs.Telling.{TellsAs, asked_of};
 
 use crate::asking::{ask, path_of};
-use crate::entry::{OwnEntry, Question};
+use tcl_run::entry::{OwnEntry, Question};
 use crate::looking::permit;
 use std::alloc::Global;
 use tcl_flow::completion::OK;

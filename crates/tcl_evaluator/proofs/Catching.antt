@@ -19,6 +19,7 @@ use Rattle.tcl_language.specs.Words.{concat}
 use Rattle.tcl_run.specs.declared.interruption.Interruption.{Interruption}
 use Rattle.tcl_run.specs.declared.interruption.Interruption.TheVariants as interruption
 use Rattle.tcl_run.specs.Ends.{Interrupts, IfEnded, failing}
+use Rattle.tcl_run.specs.Outsides.{Going}
 use Rattle.tcl_run.specs.Runs.{Comes}
 use Rattle.tcl_run.proofs.Endings.{Interrupts-more}
 use Rattle.tcl_run.proofs.Leads.{at_prog, at_reply, goes_on, goes_done, grows, outgrows}
@@ -52,7 +53,7 @@ caught_err (Err (interruption.Cut c)) r i P e h p = let same : Err (interruption
 abbrev pub told : List Text → core_completion → Program
 told names c = kept_in names c (done (ok (code_text c)))
 
-module _ {S : Type 0} {goes : S → Event Own → S → Type 0} (style : Integers) where
+module _ {S : Type 0} {goes : Going S} (style : Integers) where
   -- ## eval
 
   pub eval_runs : {T V : Tree Own} {o z : S} {p : Path} {r : Reply} (args : List Text) → 1 ≤ length args → fits (concat args) ≡ true →

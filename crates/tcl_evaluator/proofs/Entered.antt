@@ -22,7 +22,7 @@ use Rattle.tcl_language.specs.Language.{language}
 use Rattle.tcl_language.specs.Table.{invoked_at, serve, settled, some_words}
 use Rattle.tcl_language.specs.Words.{concat}
 use Rattle.tcl_run.specs.Ends.{IfEnded, Interrupts}
-use Rattle.tcl_run.specs.Outsides.{Answering, staged}
+use Rattle.tcl_run.specs.Outsides.{Going}
 use Rattle.tcl_run.specs.Runs.{Comes, EvaluatesAt, IsAt, IsThere, IsSteady, StopsCounting}
 use Rattle.tcl_run.specs.declared.interruption.Interruption.{Interruption}
 use Rattle.tcl_run.proofs.Endings.{IfEnded-more}
@@ -44,19 +44,19 @@ use Rattle.tcl_evaluator.specs.View.{invokes_at, unhidden}
 use Rattle.tcl_evaluator.proofs.Targets.{Settled}
 
 -- where somebody stands
-pub entered : {S : Type 0} (goes : Answering S) (old new : Table) (o z : S) (place : TablePlace) (path : Path) (entry : Entry) (result : Result (List ℕ) Interruption) (there : TablePlace) (ended : Result (List ℕ) Interruption) →
+pub entered : {S : Type 0} (goes : Going S) (old new : Table) (o z : S) (place : TablePlace) (path : Path) (entry : Entry) (result : Result (List ℕ) Interruption) (there : TablePlace) (ended : Result (List ℕ) Interruption) →
     ((p : Path) → Names old place p → Reached old p 0 path (reach.There there)) → EvaluatesAt goes old o there (λ style. serve style entry) new z ended →
     ((p : Path) → Names new place p → Carries p 0 path ended result) → IsSteady old new → Asks goes old o place path entry new z result
 entered goes old new o z place path entry result there ended leads runs carries steady =
-    IfEnded-each result old place (λ p style e. GoesOn (staged goes) style (tree_of old) (o, None) p (asks_at path entry) (tree_of new) (z, None) e) (λ p style at.
+    IfEnded-each result old place (λ p style e. GoesOn goes style (tree_of old) o p (asks_at path entry) (tree_of new) z e) (λ p style at.
     let lead = leads p at.names in
     let here : lead.0 ≡ p = same_Some _ _ (sym lead.1 ∙ rise_zero p) in
     let named : Names old there (p ++ path) = subst (λ (a : Path). Names old there (a ++ path)) here lead.2 in
     let m = stands (tree_of old (p ++ path)) (tree_there old (p ++ path) _ named) in
-    carried_ended p 0 path ended result (λ s. (q : Path) (y : Integers) → IsThere old there q y → Comes (staged goes) (language y) (tree_of old) (o, None) q (serve y entry) (tree_of new) (z, None) s)
-    (λ e. GoesOn (staged goes) style (tree_of old) (o, None) p (asks_at path entry) (tree_of new) (z, None) e)
+    carried_ended p 0 path ended result (λ s. (q : Path) (y : Integers) → IsThere old there q y → Comes goes (language y) (tree_of old) o q (serve y entry) (tree_of new) z s)
+    (λ e. GoesOn goes style (tree_of old) o p (asks_at path entry) (tree_of new) z e)
     (carries p (still_at old new place p style steady at).names) runs
-    (λ s d. asked_goes (staged goes) style p path entry _ m.1 (d (p ++ path) style (record { names = named; style_is = at.style_is })) refl))
+    (λ s d. asked_goes goes style p path entry _ m.1 (d (p ++ path) style (record { names = named; style_is = at.style_is })) refl))
 
 -- ## interp eval
 
@@ -78,7 +78,7 @@ invoked_is : (g : Bool) (words : List Text) → invoked_at g words ≡ invokes_a
 invoked_is true words = refl
 invoked_is false words = refl
 
-module _ {S : Type 0} {goes : S → Event Own → S → Type 0} (style : Integers) where
+module _ {S : Type 0} {goes : Going S} (style : Integers) where
   -- nothing is left to do
   pub done_on : {T U : Tree Own} {o u : S} {p : Path} (x : (Completion → Program) → Program) (e : Reply) → GoesOn goes style T o p x U u e → Comes goes (language style) T o p (x done) U u e
   done_on x (Completed c) g = g done _ _ _ completed

@@ -29,6 +29,7 @@ use Rattle.tcl_run.specs.declared.interruption.Interruption.{Interruption}
 use Rattle.tcl_run.specs.declared.interruption.Interruption.TheVariants as interruption
 use Rattle.tcl_run.specs.Ends.{Interrupts, IfEnded, failing, too_deep_at}
 use Rattle.tcl_run.specs.Outsides.{IsCalled, staged}
+use Rattle.tcl_run.specs.Outsides.{Going}
 use Rattle.tcl_run.specs.Runs.{Comes, StopsCounting}
 use Rattle.tcl_run.proofs.Endings.{IfEnded-more}
 use Rattle.tcl_run.proofs.Leads.{at_prog, at_reply, at_finish, charges, charge_stops, goes_on, goes_done, nests_done, nest_refused, calls_in, finds_none}
@@ -80,7 +81,7 @@ settled_more (Err (interruption.Stopped s)) told P Q p l k = subst (λ (x : Resu
 settled_more (Err (interruption.Exited n)) told P Q p l k = subst (λ (x : Result Text Interruption). IfEnded x Q) (sym l) (k _ _ p refl)
 settled_more (Err (interruption.Cut c)) told P Q p l k = subst (λ (x : Result Text Interruption). IfEnded x Q) (sym l) (k _ _ p refl)
 
-module _ {S : Type 0} {goes : S → Event Own → S → Type 0} (style : Integers) where
+module _ {S : Type 0} {goes : Going S} (style : Integers) where
   -- ## Targets
 
   pub target_ends : {T U V W : Tree Own} {o z : S} {p : Path} {r : Reply} (words : List Text) → blocked is_deep T p ≡ None → U ≡ effect p Nested T → W ≡ effect p Unnested V →
@@ -121,36 +122,36 @@ module _ {S : Type 0} {goes : S → Event Own → S → Type 0} (style : Integer
   alias_missing a word args top up gone e = finds_none top up gone e
 
 -- what passes the top is the outside's
-past_top : {S : Type 0} (goes : S → Event Own → S → Type 0) (h : Option Path) (o : S) (x : Event Own) (u : S) → h ≡ None → goes o x u → passing h goes o x u
+past_top : {S : Type 0} (goes : Going S) (h : Option Path) (o : S) (x : Event Own) (u : S) → h ≡ None → goes o x u → passing h goes o x u
 past_top goes h o x u e g = subst (λ (t : Option Path). passing t goes o x u) (sym e) g
 
-module _ {S : Type 0} (goes : S → Event Own → Answer → S → Type 0) (style : Integers) where
+module _ {S : Type 0} (goes : Going S) (style : Integers) where
   alias_told : {T : Tree Own} {o z : S} {p : Path} (a : AliasView) (word : Text) (args : List Text) (r : Reply) → rise_to (Some a.up) p ≡ None →
-      goes o (event p (Out (Some a.up) a.down (CallWords (a.words ++ args)))) (Replied r) z → Comes (staged goes) (language style) T (o, None) p (call_alias a word args) T (z, None) r
+      goes o (event p (Out (Some a.up) a.down (CallWords (a.words ++ args)))) (Replied r) z → Comes goes (language style) T o p (call_alias a word args) T z r
   alias_told {T} {o} {z} {p} a word args r e g = by r g
     where
       out : Event Own
       out = event p (Out (Some a.up) a.down (CallWords (a.words ++ args)))
 
-      leaves : Crossings (staged goes) (o, None) out (o, Some out)
-      leaves = past_top (staged goes) (rise_to (Some a.up) p) (o, None) out (o, Some out) e (refl, refl)
+      leaves : Crossings goes o out (o, Some out)
+      leaves = past_top goes (rise_to (Some a.up) p) o out (o, Some out) e (refl, refl)
 
-      comes : (x : Reply) → goes o out (Replied x) z → Crossings (staged goes) (o, Some out) (event p (Back (Some a.up) (Replied x))) (z, None)
-      comes x h = past_top (staged goes) (rise_to (Some a.up) p) (o, Some out) (event p (Back (Some a.up) (Replied x))) (z, None) e (h, refl)
+      comes : (x : Reply) → goes o out (Replied x) z → Crossings goes (o, Some out) (event p (Back (Some a.up) (Replied x))) z
+      comes x h = past_top goes (rise_to (Some a.up) p) (o, Some out) (event p (Back (Some a.up) (Replied x))) z e (h, refl)
 
-      by : (x : Reply) → goes o out (Replied x) z → Comes (staged goes) (language style) T (o, None) p (call_alias a word args) T (z, None) x
+      by : (x : Reply) → goes o out (Replied x) z → Comes goes (language style) T o p (call_alias a word args) T z x
       by (Completed c) h = called_out e leaves (answered e refl (comes (Completed c) h) completed)
       by (Stop n m) h = called_out e leaves (answered_passed tt e refl (comes (Stop n m) h))
       by (Exit n) h = called_out e leaves (answered_passed tt e refl (comes (Exit n) h))
       by (Cut c) h = called_out e leaves (answered_passed tt e refl (comes (Cut c) h))
 
   pub alias_leaves : {T : Tree Own} {o z : S} {p : Path} {r : Reply} (a : AliasView) (word : Text) (args words : List Text) → words ≡ a.words ++ args → rise a.up p ≡ None → IsCalled goes o p a.up a.down words z r →
-      Comes (staged goes) (language style) T (o, None) p (call_alias a word args) T (z, None) r
+      Comes goes (language style) T o p (call_alias a word args) T z r
   alias_leaves {o = o} {z} {p} {r} a word args words same e h =
       alias_told a word args r e (subst (λ (ws : List Text). goes o (event p (Out (Some a.up) a.down (CallWords ws))) (Replied r) z) same h)
 
 -- the same call, told otherwise
-pub called_as : {S : Type 0} (goes : S → Event Own → Answer → S → Type 0) (o z : S) (r : Reply) (p q : Path) (up u : ℕ) (down d : Path) (words given : List Text) → p ≡ q → up ≡ u → down ≡ d → words ≡ given →
+pub called_as : {S : Type 0} (goes : Going S) (o z : S) (r : Reply) (p q : Path) (up u : ℕ) (down d : Path) (words given : List Text) → p ≡ q → up ≡ u → down ≡ d → words ≡ given →
     IsCalled goes o p up down words z r → IsCalled goes o q u d given z r
 called_as goes o z r p q up u down d words given ep eu ed ew h =
     subst (λ (x : Path). IsCalled goes o x u d given z r) ep (subst (λ (x : ℕ). IsCalled goes o p x d given z r) eu (subst (λ (x : Path). IsCalled goes o p up x given z r) ed (subst (λ (x : List Text). IsCalled goes o p up down x z r) ew h)))

@@ -16,17 +16,18 @@ use Rattle.tcl_value.specs.Limits.{IsPast}
 use Rattle.tcl_run.specs.declared.outside.Written.{Written}
 use Rattle.tcl_run.specs.declared.outside.Written.TheVariants as answer
 use Rattle.tcl_run.specs.Outsides.{IsHeard, IsEnded, Stage, answer_of, staged}
+use Rattle.tcl_run.specs.Outsides.{Going}
 use Rattle.tcl_run.specs.Runs.{Comes}
 use Rattle.tcl_text.specs.declared.integer.Integers.{Integers}
 use Rattle.tcl_tree.specs.Own.{Own}
 
-module _ {S : Type 0} (goes : S → Event Own → Answer → S → Type 0) (style : Integers) where
-  pub write_heard : {T V : Tree Own} {o z : S} {y : Stage S} {p : Path} {r : Reply} (channel text : Text) (a : Written) → IsHeard goes o p (Write channel text) z (answer_of a) →
-      Comes (staged goes) (language style) T (z, None) p (written channel (answer_of a)) V y r → Comes (staged goes) (language style) T (o, None) p (writes channel text) V y r
+module _ {S : Type 0} (goes : Going S) (style : Integers) where
+  pub write_heard : {T V : Tree Own} {o z : S} {y : S} {p : Path} {r : Reply} (channel text : Text) (a : Written) → IsHeard goes o p (Write channel text) z (answer_of a) →
+      Comes goes (language style) T z p (written channel (answer_of a)) V y r → Comes goes (language style) T o p (writes channel text) V y r
   write_heard channel text answer.Accepted g t = called_out refl (refl, refl) (heard refl refl (g, refl) t)
   write_heard channel text (answer.Refused n) g t = called_out refl (refl, refl) (heard refl refl (g, refl) t)
 
-  pub write_over : {T : Tree Own} {o z : S} {p : Path} (r : Reply) (channel text : Text) → IsEnded goes o p (Write channel text) z r → Comes (staged goes) (language style) T (o, None) p (writes channel text) T (z, None) r
+  pub write_over : {T : Tree Own} {o z : S} {p : Path} (r : Reply) (channel text : Text) → IsEnded goes o p (Write channel text) z r → Comes goes (language style) T o p (writes channel text) T z r
   write_over (Completed c) channel text g = elim g.0 [ ]
   write_over (Stop n m) channel text g = elim g.0 [ ]
   write_over (Exit n) channel text g = called_out refl (refl, refl) (answered_passed tt refl refl (g.1, refl))

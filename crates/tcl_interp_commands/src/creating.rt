@@ -14,7 +14,7 @@ ghost use Rattle.tcl_value.specs.Limits.{IsWithin};
 ghost use Rattle.tcl_interp_commands.specs.Failing.{FailsSo};
 
 use std::alloc::{AllocError, Global};
-use tcl_entries::entry::OwnEntry;
+use tcl_run::entry::OwnEntry;
 use tcl_entries::failure::bad_option;
 use tcl_entries::looking::{names_of, stands};
 use tcl_entries::questions::node;

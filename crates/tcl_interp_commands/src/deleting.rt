@@ -8,7 +8,7 @@ ghost use Rattle.tcl_interp_commands.specs.Deleting.{Deletes};
 
 use std::alloc::Global;
 use tcl_entries::asking::{ask, path_at};
-use tcl_entries::entry::OwnEntry;
+use tcl_run::entry::OwnEntry;
 use tcl_entries::failure::in_use;
 use tcl_flow::completion::OK;
 use tcl_run::interruption::Interruption;

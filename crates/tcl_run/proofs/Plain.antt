@@ -20,12 +20,13 @@ use Rattle.tcl_core.specs.Programs.Next.{On}
 use Rattle.tcl_core.specs.Programs.Prog.{done, exit, act, go, inside, call, wait}
 use Rattle.tcl_core.specs.Rules.{IsOn}
 use Rattle.tcl_core.specs.Threads.{completed, exited, acted, Crossings, event}
-use Rattle.tcl_core.specs.Trees.{Tree, Node, Event, effect, at}
+use Rattle.tcl_core.specs.Trees.{Tree, Node, effect, at}
 use Rattle.tcl_core.specs.Trees.What.{Seen, Changed, Limited, DepthLimited, Made, Dropped}
 use Rattle.tcl_language.specs.Instructions.{Instr, Program, look, change, with_chain, at_node, or_fails, fails, grown, fits, too_long}
 use Rattle.tcl_tree.specs.Own.{Own}
 use Rattle.tcl_run.specs.Ends.{IsFailure, Interrupts}
 use Rattle.tcl_run.specs.Plain.{Does, Steps}
+use Rattle.tcl_run.specs.Outsides.{Going}
 use Rattle.tcl_run.specs.Runs.{Comes, Rechained}
 use Rattle.tcl_run.proofs.Leads.{at_finish, at_reply}
 
@@ -43,20 +44,20 @@ drops_on : (name : List ℕ) (a : Option (Node Own)) → (dropping name a).2 ≡
 drops_on name None = refl
 drops_on name (Some n) = drops_at_on name n.depth
 
-made_unseen : (S : Type 0) (goes : S → Event Own → S → Type 0) (q : Place) (name : List ℕ) (own : Own) (s : Bool) (a b : Option (Node Own)) (o : S) → Crossings goes o (event q (making name own s a b).1) o
+made_unseen : (S : Type 0) (goes : Going S) (q : Place) (name : List ℕ) (own : Own) (s : Bool) (a b : Option (Node Own)) (o : S) → Crossings goes o None (event q (making name own s a b).1) o
 made_unseen S goes q name own s None b o = refl
 made_unseen S goes q name own s (Some p) None o = refl
 made_unseen S goes q name own s (Some p) (Some n) o = refl
 
-dropped_at_unseen : (S : Type 0) (goes : S → Event Own → S → Type 0) (q : Place) (name : List ℕ) (d : ℕ) (o : S) → Crossings goes o (event q (dropping_at {O = Own} name d).1) o
+dropped_at_unseen : (S : Type 0) (goes : Going S) (q : Place) (name : List ℕ) (d : ℕ) (o : S) → Crossings goes o None (event q (dropping_at {O = Own} name d).1) o
 dropped_at_unseen S goes q name zero o = refl
 dropped_at_unseen S goes q name (suc d) o = refl
 
-dropped_unseen : (S : Type 0) (goes : S → Event Own → S → Type 0) (q : Place) (name : List ℕ) (a : Option (Node Own)) (o : S) → Crossings goes o (event q (dropping name a).1) o
+dropped_unseen : (S : Type 0) (goes : Going S) (q : Place) (name : List ℕ) (a : Option (Node Own)) (o : S) → Crossings goes o None (event q (dropping name a).1) o
 dropped_unseen S goes q name None o = refl
 dropped_unseen S goes q name (Some n) o = dropped_at_unseen S goes q name n.depth o
 
-module _ {S : Type 0} {goes : S → Event Own → S → Type 0} {language : Table Own Instr} where
+module _ {S : Type 0} {goes : Going S} {language : Table Own Instr} where
   -- what is done so comes, and the outside isn't told
   pub does_comes : (x : Program) {T V : Tree Own} {p : Place} {r : Reply} (o : S) → Does x T p V r → Comes goes language T o p x V o r
   does_comes (done c) o e = at_finish e.0 (at_reply e.1 completed)

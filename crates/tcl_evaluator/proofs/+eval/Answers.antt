@@ -49,7 +49,7 @@ use Rattle.tcl_evaluator.proofs.Catching.{caught_ok, caught_err, eval_runs, eval
 use Rattle.tcl_evaluator.specs.View.{targeted, unhidden, invokes_at}
 use Rattle.std.proofs.Common.{Bool, false}
 use Rattle.std.specs.Prelude.{Err}
-use Rattle.tcl_run.specs.Outsides.{staged}
+use Rattle.tcl_run.specs.Outsides.{Going}
 use Rattle.tcl_run.specs.Runs.{IsThere}
 use Rattle.tcl_text.specs.declared.integer.Integers.{Integers}
 use Rattle.tcl_entries.specs.Asking.{GoesOn}
@@ -498,7 +498,7 @@ control::catch-returns-in_err-keep_caught-clause-runs g t c =
     at_prog (ap control_catch (split_first c.args.args.now c.script-item.result c.in-len1-up.len_at_least c.script-item.is))
     (catch_goes style c.script-item.result _ (completion_of c.in_ok-completion.completion) (omega (arith, few))
     (at_prog (ap script (sym c.in_ok-script.ensures.cases)) (caught q style (record { names = at.names; style_is = at.style_is })))
-    (does_comes _ (c.eval_value.new.outside, None) (h q after.names _))))
+    (does_comes _ c.eval_value.new.outside (h q after.names _))))
 
 pub control::catch-returns-clause-runs : goal.control::catch-returns-clause-runs
 control::catch-returns-clause-runs g t c = λ q style at.
@@ -510,7 +510,7 @@ control::catch-returns-clause-runs g t c = λ q style at.
     at_prog (ap control_catch (split_first c.args.args.now c.script-item.result c.in-len1-up.len_at_least c.script-item.is))
     (catch_goes style c.script-item.result _ (completion_of c.in_ok-completion.completion) (omega (arith, few))
     (at_prog (ap script (sym c.in_ok-script.ensures.cases)) (caught q style (record { names = at.names; style_is = at.style_is })))
-    (does_comes _ (c.eval_value.new.outside, None) (c.in_ok-keep_caught.ensures.kept q after.names _ (tree_of c.keep_caught.new.tree) _ (refl, ap (λ (x : List ℕ). Completed (ok x)) code))))
+    (does_comes _ c.eval_value.new.outside (c.in_ok-keep_caught.ensures.kept q after.names _ (tree_of c.keep_caught.new.tree) _ (refl, ap (λ (x : List ℕ). Completed (ok x)) code))))
 
 pub control::catch-returns-clause-steady : goal.control::catch-returns-clause-steady
 control::catch-returns-clause-steady g t c = steady-trans _ _ _ c.eval_value.ensures.steady (level_steady _ _ c.keep_caught.ensures.level)
@@ -755,7 +755,7 @@ crossing::serve_hidden-returns-in_err-charge-clause-runs g t c =
 pub crossing::serve_hidden-returns-clause-runs : goal.crossing::serve_hidden-returns-clause-runs
 crossing::serve_hidden-returns-clause-runs g t c =
     settled_more c.invoke_at-ended.result c.settled.result
-    (λ e. (p : Path) (style : Integers) → IsThere c.charge.new.tree c.args.place p style → GoesOn (staged g.O.Outside.goes) style (tree_of c.charge.new.tree) (c.args.outside.now, None) p (invokes_at c.args.is_global c.as_slice.result.now) (tree_of c.invoke_at-ended.new.tree) (c.invoke_at-ended.new.outside, None) e)
+    (λ e. (p : Path) (style : Integers) → IsThere c.charge.new.tree c.args.place p style → GoesOn g.O.Outside.goes style (tree_of c.charge.new.tree) c.args.outside.now p (invokes_at c.args.is_global c.as_slice.result.now) (tree_of c.invoke_at-ended.new.tree) c.invoke_at-ended.new.outside e)
     (EndsAt g.O.Outside.goes c.args.tree.now c.args.outside.now c.args.place (λ style. serve style (InvokeHidden c.args.is_global c.args.words.items)) c.invoke_at-ended.new.tree c.invoke_at-ended.new.outside)
     c.invoke_at-ended.ensures.runs c.settled.ensures
     (λ e f h l q style at.
@@ -767,14 +767,14 @@ pub crossing::invoke_at-returns-then-not-is_global-clause-runs : goal.crossing::
 crossing::invoke_at-returns-then-not-is_global-clause-runs g t c =
     let here : c.args.is_global ≡ false = search rules in
     IfEnded-more c.invoke.result (EndsAt g.O.Outside.goes c.args.tree.now c.args.outside.now c.args.place (λ style. unhidden c.args.words.now) c.invoke.new.tree c.invoke.new.outside)
-    (λ e. (p : Path) (style : Integers) → IsThere c.args.tree.now c.args.place p style → GoesOn (staged g.O.Outside.goes) style (tree_of c.args.tree.now) (c.args.outside.now, None) p (invokes_at c.args.is_global c.args.words.now) (tree_of c.invoke.new.tree) (c.invoke.new.outside, None) e)
+    (λ e. (p : Path) (style : Integers) → IsThere c.args.tree.now c.args.place p style → GoesOn g.O.Outside.goes style (tree_of c.args.tree.now) c.args.outside.now p (invokes_at c.args.is_global c.args.words.now) (tree_of c.invoke.new.tree) c.invoke.new.outside e)
     (λ e h q style at. invokes_here style c.args.is_global c.args.words.now e here (h q style at)) c.invoke.ensures.runs
 
 pub crossing::invoke_at-returns-clause-runs : goal.crossing::invoke_at-returns-clause-runs
 crossing::invoke_at-returns-clause-runs g t c =
     let yes : c.args.is_global ≡ true = search rules in
     IfEnded-more c.invoke-ended.result (EndsAt g.O.Outside.goes c.set_aside.new.tree c.args.outside.now c.args.place (λ style. unhidden c.args.words.now) c.invoke-ended.new.tree c.invoke-ended.new.outside)
-    (λ e. (p : Path) (style : Integers) → IsThere c.args.tree.now c.args.place p style → GoesOn (staged g.O.Outside.goes) style (tree_of c.args.tree.now) (c.args.outside.now, None) p (invokes_at c.args.is_global c.args.words.now) (tree_of c.bring_back.new.tree) (c.invoke-ended.new.outside, None) e)
+    (λ e. (p : Path) (style : Integers) → IsThere c.args.tree.now c.args.place p style → GoesOn g.O.Outside.goes style (tree_of c.args.tree.now) c.args.outside.now p (invokes_at c.args.is_global c.args.words.now) (tree_of c.bring_back.new.tree) c.invoke-ended.new.outside e)
     (λ e h q style at.
     let n = stands (tree_of c.args.tree.now q) (tree_there c.args.tree.now q _ at.names) in
     let names = c.set_aside.ensures.level.keys q ∙ at.names in
@@ -846,7 +846,7 @@ interpreters::interp_eval-returns-clause-runs g t c =
     let some = Steps.some_is (length words) c.is_empty.result c.is_empty.ensures c.if-is_empty.false in
     let is = eval_is c.args.args.now c.path-item.result words (split_first c.args.args.now c.path-item.result c.in-len1-up.len_at_least c.path-item.is) some in
     IfEnded-more c.ask_eval.result
-    (λ e. (p : Path) (style : Integers) → IsAt c.args.tree.now c.args.place p style → GoesOn (staged g.O.Outside.goes) style (tree_of c.args.tree.now) (c.args.outside.now, None) p (asks_at c.as_slice.result.now (Eval c.in_ok-script.script)) (tree_of c.ask_eval.new.tree) (c.ask_eval.new.outside, None) e)
+    (λ e. (p : Path) (style : Integers) → IsAt c.args.tree.now c.args.place p style → GoesOn g.O.Outside.goes style (tree_of c.args.tree.now) c.args.outside.now p (asks_at c.as_slice.result.now (Eval c.in_ok-script.script)) (tree_of c.ask_eval.new.tree) c.ask_eval.new.outside e)
     (EndsFrom g.O.Outside.goes c.args.tree.now c.args.outside.now c.args.place (λ style. interp_evals c.args.args.now) c.ask_eval.new.tree c.ask_eval.new.outside)
     (λ e h q style at. at_prog is (c.in_ok-found.ensures.read (evals words) (tree_of c.ask_eval.new.tree) c.ask_eval.new.outside e
     (λ r integers here. grows (concat words) (λ script. asks_at c.in_ok-found.found.path.items (Eval script) done) c.in_ok-script.ensures.whole.1

@@ -1,6 +1,6 @@
 use Rattle.std.proofs.Common.{refl}
 use Rattle.std.specs.Prelude.{Err}
-use Rattle.tcl_entries.specs.Entering.{entry_of}
+use Rattle.tcl_run.specs.Entering.{entry_of}
 use Rattle.tcl_entries.proofs.Carried.{asks_there, asks_nobody}
 use Rattle.tcl_entries.proofs.Reached.{never_outside}
 use Rattle.tcl_entries.proofs.asking.ask.Goals as goal

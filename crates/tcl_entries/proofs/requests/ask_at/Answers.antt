@@ -1,4 +1,4 @@
-use Rattle.tcl_entries.specs.Entering.{entry_of}
+use Rattle.tcl_run.specs.Entering.{entry_of}
 use Rattle.tcl_entries.proofs.Telling.{asks_last}
 use Rattle.tcl_entries.proofs.requests.ask_at.Goals as goal
 

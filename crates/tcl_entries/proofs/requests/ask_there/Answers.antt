@@ -5,7 +5,7 @@ use Rattle.tcl_core.specs.Programs.Prog.{done}
 use Rattle.tcl_language.specs.Interpreters as interpreters
 use Rattle.tcl_language.specs.Interpreters.{asks_at}
 use Rattle.tcl_run.specs.Runs.{Evaluates}
-use Rattle.tcl_entries.specs.Entering.{entry_of}
+use Rattle.tcl_run.specs.Entering.{entry_of}
 use Rattle.tcl_entries.proofs.Telling.{leads_evaluates, passes}
 use Rattle.tcl_entries.proofs.requests.ask_there.Goals as goal
 
