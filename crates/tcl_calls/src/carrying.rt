@@ -1,19 +1,20 @@
 //! Calls that cross to another interpreter: their words, and how their ends are told to the caller.
-ghost use Rattle.std.specs.Prelude.{◌≡◌, ◌++◌, Some, IfOk};
+ghost use Rattle.std.specs.Prelude.{◌≡◌, ◌≤◌, ◌++◌, Some, IfOk};
 ghost use Rattle.tcl_core.specs.Endings.Reply.{Completed};
-ghost use Rattle.tcl_core.specs.Paths.{Path};
+ghost use Rattle.tcl_core.specs.Paths.{Path, rise_to};
 ghost use Rattle.tcl_core.specs.Runs.{carried};
 ghost use Rattle.tcl_flow.specs.Stopping.{reply_of};
 ghost use Rattle.tcl_language.specs.Faults as faults;
 ghost use Rattle.tcl_language.specs.Table.{some_words};
-ghost use Rattle.tcl_run.specs.Ends.{Interrupts, failing};
+ghost use Rattle.tcl_run.specs.Ends.{IfEnded, Interrupts, failing};
 ghost use Rattle.tcl_tree.specs.TreeOf.{Names};
-ghost use Rattle.tcl_calls.specs.Carrying.{Carries, Settles};
+ghost use Rattle.tcl_calls.specs.Carrying.{ComesBack, Settles};
 
 use std::alloc::{AllocError, Global};
 use tcl_flow::completion::settle;
 use tcl_flow::stop::Stop;
 use tcl_run::interruption::Interruption;
+use tcl_run::outside::Outside;
 use tcl_text::text::Text;
 use tcl_tree::alias::in_common;
 use tcl_tree::tree::{Place, Tree};
@@ -62,22 +63,35 @@ pub fn settled(alloc: Global, ended: Result<Value, Interruption>) -> Result<Valu
     }
 }
 
-/// How a caller is told the end of its call, which went so many levels up and then these names down.
+/// Tells the outside that a call came to its end, so many levels up and these names down from the caller, and gives how the caller is told it.
+///
+/// # Errors
+/// Every end but an ordinary one; want of memory.
 #[inline(never)]
-pub fn carry(
+pub fn come_back<O: Outside>(
     tree: &Tree,
     alloc: Global,
-    place: Place,
+    outside: &mut O,
+    caller: Place,
     up: usize,
     down: &[Text],
     ended: Result<Value, Interruption>,
 ) -> Result<Value, Interruption>
-    requires { (p : Path) × Names tree.now place p }
-    ensures { (p : Path) → Names tree.now place p → Carries p up down.now ended result }
+    requires { (p : Path) × Names tree.now caller p }
+    ensures comes { IfEnded result (λ r. (p a : Path) → Names tree.now caller p → rise_to (Some up) p ≡ Some a → ComesBack O.goes outside.old p up a down.now ended r outside.new) }
+    ensures left { O.entries_left outside.new ≤ O.entries_left outside.old }
 {
     match ended {
-        Err(Interruption::Stopped(stop)) => Err(told_stop(tree, alloc, place, up, down, stop)),
-        other => other,
+        Err(Interruption::Stopped(stop)) => {
+            let told = Err(told_stop(tree, alloc, caller, up, down, stop));
+            let ended = Err(Interruption::Stopped(stop));
+            outside.returns(alloc, tree, caller, up, down, &ended, &told)?;
+            told
+        }
+        other => {
+            outside.returns(alloc, tree, caller, up, down, &other, &other)?;
+            other
+        }
     }
 }
 

@@ -38,7 +38,7 @@ fn alias_of<O: Outside>(
         outside,
         place,
         slice::from_ref(name),
-        &OwnEntry::Ask(Question::AliasOf(source)),
+        OwnEntry::Ask(Question::AliasOf(source)),
     )
 }
 
@@ -63,7 +63,7 @@ fn clear_alias<O: Outside>(
         outside,
         place,
         slice::from_ref(name),
-        &OwnEntry::ClearAlias(source),
+        OwnEntry::ClearAlias(source),
     )
 }
 
@@ -97,7 +97,7 @@ fn set_alias<O: Outside>(
         outside,
         place,
         slice::from_ref(name),
-        &entry,
+        entry,
         told,
     )
 }

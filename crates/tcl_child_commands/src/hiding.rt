@@ -62,10 +62,10 @@ fn ask_child_trusted<O: Outside>(
     outside: &mut O,
     place: Place,
     name: &Text,
-    entry: &OwnEntry,
+    entry: OwnEntry,
 ) -> Result<Value, Interruption>
     requires { IsRunning tree.old place }
-    ensures evaluates { Evaluates O.goes tree.old outside.old place (λ style. interpreters.asks_trusted (interpreters.child_path name.now) (entry_of entry.now)) tree.new outside.new result }
+    ensures evaluates { Evaluates O.goes tree.old outside.old place (λ style. interpreters.asks_trusted (interpreters.child_path name.now) (entry_of entry)) tree.new outside.new result }
     ensures steady { IsSteady tree.old tree.new }
     ensures left { O.entries_left outside.new ≤ O.entries_left outside.old }
 {
@@ -97,7 +97,7 @@ fn hide_as<O: Outside>(
         outside,
         place,
         name,
-        &OwnEntry::Hide {
+        OwnEntry::Hide {
             name: command,
             hidden,
         },
@@ -151,7 +151,7 @@ fn expose_as<O: Outside>(
         outside,
         place,
         name,
-        &OwnEntry::Expose {
+        OwnEntry::Expose {
             hidden,
             name: command,
         },

@@ -38,7 +38,7 @@ fn limit_of<O: Outside>(
         outside,
         place,
         slice::from_ref(name),
-        &OwnEntry::Ask(Question::CountLimitOf),
+        OwnEntry::Ask(Question::CountLimitOf),
     )
 }
 
@@ -148,7 +148,7 @@ pub fn recursion_limit<O: Outside>(
                 outside,
                 place,
                 slice::from_ref(name),
-                &OwnEntry::Ask(Question::DepthLimitOf),
+                OwnEntry::Ask(Question::DepthLimitOf),
             )
         }
         [value] => set_depth_limit(tree, alloc, outside, place, name, value),

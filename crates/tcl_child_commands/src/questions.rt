@@ -43,6 +43,6 @@ pub fn ask_child<O: Outside>(
         outside,
         place,
         slice::from_ref(name),
-        &OwnEntry::Ask(question),
+        OwnEntry::Ask(question),
     )
 }

@@ -1,12 +1,13 @@
 -- What comes of asking an interpreter, wherever it is in the tree: the program that asks goes on, whatever is left of it.
-use Rattle.std.specs.Prelude.{ℕ, List, None, Result, MatchResult}
-use Rattle.tcl_core.specs.Endings.{Completion, Reply}
+use Rattle.std.specs.Prelude.{ℕ, List, [], Some, Result, MatchResult}
+use Rattle.tcl_core.specs.Endings.{Completion, Reply, error}
 use Rattle.tcl_core.specs.Endings.Reply.{Completed}
 use Rattle.tcl_core.specs.Entries.{Entry}
 use Rattle.tcl_core.specs.Paths.{Path, Place}
 use Rattle.tcl_core.specs.Trees.{Tree, Event}
 use Rattle.tcl_language.specs.Instructions.{Program}
-use Rattle.tcl_language.specs.Interpreters.{asks_at}
+use Rattle.tcl_core.specs.Programs.Prog.{call}
+use Rattle.tcl_language.specs.Interpreters.{asks_at, finished, no_interpreter}
 use Rattle.tcl_language.specs.Language.{language}
 use Rattle.tcl_run.specs.Ends.{IfEnded, Interrupts}
 use Rattle.tcl_run.specs.Outsides.{Going}
@@ -26,6 +27,14 @@ GoesOn {S} goes style T o p x U u e = (k : Completion → Program) → Comes goe
 -- What came of asking the interpreter at a path for something, in one where an evaluation is in progress.
 abbrev pub Asks : {S : Type 0} → Going S → table.Tree → S → table_place.Place → Path → Entry → table.Tree → S → Result (List ℕ) Interruption → Type 0
 Asks goes old o place path entry new z result = IfEnded result (λ e. (p : Path) (style : Integers) → IsAt old place p style → GoesOn goes style (tree_of old) o p (asks_at path entry) (tree_of new) z e)
+
+-- a call of the interpreter these names down, which isn't the one that asks
+abbrev pub asks_below : Path → Entry → (Completion → Program) → Program
+asks_below path entry k = call (Some 0) path entry (error (no_interpreter [])) (finished k)
+
+-- the same, where the outside is told of it, as of a call to another interpreter
+abbrev pub AsksBelow : {S : Type 0} → Going S → table.Tree → S → table_place.Place → Path → Entry → table.Tree → S → Result (List ℕ) Interruption → Type 0
+AsksBelow goes old o place path entry new z result = IfEnded result (λ e. (p : Path) (style : Integers) → IsAt old place p style → GoesOn goes style (tree_of old) o p (asks_below path entry) (tree_of new) z e)
 
 -- a program for each style of integer texts
 abbrev pub Styled : Type 0

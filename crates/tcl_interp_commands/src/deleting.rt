@@ -54,7 +54,7 @@ fn delete_below<O: Outside>(
     ensures left { O.entries_left outside.new ≤ O.entries_left outside.old }
 {
     let entry = OwnEntry::Delete(name.clone()?);
-    let ended = ask(tree, alloc, outside, place, above, &entry);
+    let ended = ask(tree, alloc, outside, place, above, entry);
     deleted(alloc, text, ended)
 }
 

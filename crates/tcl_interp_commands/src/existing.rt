@@ -32,7 +32,7 @@ fn exists_at<O: Outside>(
     match tree.reach(place, 0, path) {
         Reach::There(_) => {
             let entry = OwnEntry::Ask(Question::Exists);
-            ask_at(tree, alloc, outside, place, path, &entry)
+            ask_at(tree, alloc, outside, place, path, entry)
         }
         Reach::Missing => Ok(Value::from_int(0)),
         Reach::Outside => unreachable!(),

@@ -74,6 +74,10 @@ Interrupts-both (interruption.Stopped s) P Q R f p q = f _ p q
 Interrupts-both (interruption.Exited n) P Q R f p q = f _ p q
 Interrupts-both (interruption.Cut c) P Q R f p q = f _ p q
 
+pub IfEnded-both : (r : Result (List ℕ) Interruption) (P Q R : Reply → Type 0) → ((e : Reply) → P e → Q e → R e) → IfEnded r P → IfEnded r Q → IfEnded r R
+IfEnded-both (Ok text) P Q R f p q = f _ p q
+IfEnded-both (Err i) P Q R f p q = Interrupts-both i P Q R f p q
+
 -- what holds of an interruption wherever the place is
 pub Interrupts-at : (i : Interruption) (t : Table) (place : TablePlace) (P : Node Own → Reply → Type 0) →
     ((p : Path) (n : Node Own) → Names t place p → tree_of t p ≡ Some n → Interrupts i (P n)) →

@@ -60,3 +60,8 @@ whole_entry (entry.CallWords words) = CallWords words.items
 whole_entry (entry.InvokeHidden is_global words) = InvokeHidden is_global words.items
 whole_entry (entry.Own own) = entry_of own
 whole_entry (entry.AskHost request) = AskHost (request_of request)
+
+-- it asks for what evaluates nothing
+abbrev pub IsOwn : Entry → Type 0
+IsOwn (entry.Own own) = Unit {0}
+IsOwn e = Prim.⊥
