@@ -109,8 +109,8 @@ hears goes o s p (Back h a) u = goes o s (event p (Back h a)) u
 hears goes o s p _ u = u ≡ o
 
 -- How an outside goes that is told of all crossings, those between two interpreters of the tree among them; all else leaves it as it is.
-abbrev pub Crossings : {O S : Type 0} → (S → Wait → Event O → S → Type 0) → S → Wait → Event O → S → Type 0
-Crossings goes o s ev u = hears goes o s ev.place ev.what u
+pub record Crossings {O S : Type 0} (goes : S → Wait → Event O → S → Type 0) (o : S) (s : Wait) (ev : Event O) (u : S) : Type 0 where
+  pub told : hears goes o s ev.place ev.what u
 
 -- the outside goes through these happenings
 pub data Chain {O S : Type 0} (step : S → Wait → Event O → S → Type 0) : S → List (Event O) → S → Type 0 where
