@@ -16,6 +16,11 @@ EndedBy (Ok text) s = s ≡ Completed (ok text)
 EndedBy (Err interruption.Memory) s = Prim.⊥
 EndedBy (Err i) s = Interrupts i (λ r. s ≡ r)
 
+-- it ended otherwise than by a stop
+abbrev pub IsNoStop : Result Text Interruption → Type 0
+IsNoStop (Err (interruption.Stopped s)) = Prim.⊥
+IsNoStop r = Unit {0}
+
 -- The caller at p is told so of the end of its call, which went so many levels up, to a, and then these names down: a stop as it is seen from there, and all else
 -- as it is. The outside is told both.
 pub record ComesBack {S : Type 0} (goes : Going S) (o : S) (p : Path) (up : ℕ) (a down : Path) (ended : Result Text Interruption) (told : Reply) (z : S) : Type 0 where

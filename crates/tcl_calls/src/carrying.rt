@@ -1,5 +1,5 @@
 //! Calls that cross to another interpreter: their words, and how their ends are told to the caller.
-ghost use Rattle.std.specs.Prelude.{◌≡◌, ◌≤◌, ◌++◌, Some, IfOk};
+ghost use Rattle.std.specs.Prelude.{◌≡◌, ◌≤◌, ◌++◌, Some, Err, IfOk, IfSome, IfNone};
 ghost use Rattle.tcl_core.specs.Endings.Reply.{Completed};
 ghost use Rattle.tcl_core.specs.Paths.{Path, rise_to};
 ghost use Rattle.tcl_core.specs.Runs.{carried};
@@ -8,7 +8,8 @@ ghost use Rattle.tcl_language.specs.Faults as faults;
 ghost use Rattle.tcl_language.specs.Table.{some_words};
 ghost use Rattle.tcl_run.specs.Ends.{IfEnded, Interrupts, failing};
 ghost use Rattle.tcl_tree.specs.TreeOf.{Names};
-ghost use Rattle.tcl_calls.specs.Carrying.{ComesBack, Settles};
+ghost use Rattle.tcl_run.specs.declared.interruption.Interruption.TheVariants.{Stopped};
+ghost use Rattle.tcl_calls.specs.Carrying.{ComesBack, IsNoStop, Settles};
 
 use std::alloc::{AllocError, Global};
 use tcl_flow::completion::settle;
@@ -81,18 +82,44 @@ pub fn come_back<O: Outside>(
     ensures comes { IfEnded result (λ r. (p a : Path) → Names tree.now caller p → rise_to (Some up) p ≡ Some a → ComesBack O.goes outside.old p up a down.now ended r outside.new) }
     ensures left { O.entries_left outside.new ≤ O.entries_left outside.old }
 {
-    match ended {
-        Err(Interruption::Stopped(stop)) => {
-            let told = Err(told_stop(tree, alloc, caller, up, down, stop));
-            let ended = Err(Interruption::Stopped(stop));
-            outside.returns(alloc, tree, caller, up, down, &ended, &told)?;
-            told
-        }
-        other => {
-            outside.returns(alloc, tree, caller, up, down, &other, &other)?;
-            other
+    match stop_of(&ended) {
+        Some(stop) => stop_comes_back(tree, alloc, outside, caller, up, down, stop),
+        None => {
+            outside.returns(alloc, tree, caller, up, down, &ended, &ended)?;
+            ended
         }
     }
+}
+
+/// The stop that an end is.
+fn stop_of(ended: &Result<Value, Interruption>) -> Option<Stop>
+    ensures some { IfSome result (λ stop. ended.now ≡ Err (Stopped stop)) }
+    ensures none { IfNone result (IsNoStop ended.now) }
+{
+    match ended {
+        Err(Interruption::Stopped(stop)) => Some(*stop),
+        _ => None,
+    }
+}
+
+/// Tells the outside that a call was ended by a stop, and gives the stop as the caller sees it.
+fn stop_comes_back<O: Outside>(
+    tree: &Tree,
+    alloc: Global,
+    outside: &mut O,
+    caller: Place,
+    up: usize,
+    down: &[Text],
+    stop: Stop,
+) -> Result<Value, Interruption>
+    requires { (p : Path) × Names tree.now caller p }
+    ensures comes { IfEnded result (λ r. (p a : Path) → Names tree.now caller p → rise_to (Some up) p ≡ Some a → ComesBack O.goes outside.old p up a down.now (Err (Stopped stop)) r outside.new) }
+    ensures left { O.entries_left outside.new ≤ O.entries_left outside.old }
+{
+    let ended = Err(Interruption::Stopped(stop));
+    let told = Err(told_stop(tree, alloc, caller, up, down, stop));
+    outside.returns(alloc, tree, caller, up, down, &ended, &told)?;
+    told
 }
 
 /// A stop as the caller sees it: where it doesn't stand below the interpreter that is full, an error.
