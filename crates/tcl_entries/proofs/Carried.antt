@@ -1,6 +1,7 @@
 -- How ends are told on.
-use Rattle.std.proofs.Common.{◌≡◌, ℕ, ◌≤◌, List, [], ◌∷◌, ◌++◌, length, Some, None, refl, sym, ◌∙◌, subst, arith}
+use Rattle.std.proofs.Common.{◌≡◌, ℕ, suc, ◌≤◌, ◌==◌, true, false, List, [], ◌∷◌, ◌++◌, length, Some, None, refl, sym, ◌∙◌, subst, arith}
 use Rattle.std.specs.Prelude.{Result, Ok, Err}
+use Rattle.std.proofs.lemmas.Bool.Decides.{nat_tests}
 use Rattle.std.proofs.lemmas.Option.{same_Some}
 use Rattle.tcl_core.specs.Endings.{Reply, error}
 use Rattle.tcl_core.specs.Endings.Reply.{Completed}
@@ -53,6 +54,20 @@ ended_by (Err (interruption.Stopped x)) s P e h = subst P (sym e) h
 ended_by (Err (interruption.Exited n)) s P e h = subst P (sym e) h
 ended_by (Err (interruption.Cut c)) s P e h = subst P (sym e) h
 
+-- what is done by itself comes, and the outside is told nothing
+pub acts_at : {S : Type 0} (goes : Going S) (old new : Table) (o : S) (there : TablePlace) (entry : Entry) (ended : Result (List ℕ) Interruption) → Acts old there (λ style. serve style entry) new ended →
+    IfEnded ended (λ s. (q : Path) (z : Integers) → IsThere old there q z → Comes goes (language z) (tree_of old) o q (serve z entry) (tree_of new) o s)
+acts_at goes old new o there entry ended acts = IfEnded-more ended (λ s. (q : Path) (z : Integers) → IsThere old there q z → Does (serve z entry) (tree_of old) q (tree_of new) s)
+    (λ s. (q : Path) (z : Integers) → IsThere old there q z → Comes goes (language z) (tree_of old) o q (serve z entry) (tree_of new) o s) (λ s d q z at. does_comes (serve z entry) o (d q z at)) acts
+
+pub is_empty_path : (path : Path) → (length path == 0) ≡ true → path ≡ []
+is_empty_path [] e = refl
+is_empty_path (x ∷ path) e = let d : (suc (length path) == 0) ≡ false = grind (arith, nat_tests) in let f : false ≡ true = sym d ∙ e in cc
+
+pub is_some_path : (path : Path) → (length path == 0) ≡ false → 1 ≤ length path
+is_some_path [] e = let d : (0 == 0) ≡ true = grind (arith, nat_tests) in let f : true ≡ false = sym d ∙ e in cc
+is_some_path (x ∷ path) e = omega arith
+
 -- ## What an interpreter asks of itself
 
 pub asks_itself : {S : Type 0} (goes : Going S) (old new : Table) (o : S) (place : TablePlace) (path : Path) (entry : Entry) (result : Result (List ℕ) Interruption) → path ≡ [] → Acts old place (λ style. serve style entry) new result → Asks goes old o place path entry new o result
@@ -68,11 +83,11 @@ asks_another goes old new o z place (x ∷ path) entry result some asks = asks
 
 module _ {S : Type 0} (goes : Going S) (old new : Table) (o : S) (place : TablePlace) (path : Path) (entry : Entry) (result : Result (List ℕ) Interruption) where
   -- where somebody stands, whose program came to that end, of which the outside was told
-  pub asks_there : {u v w : S} (there : TablePlace) (ended : Result (List ℕ) Interruption) → ((p : Path) → Names old place p → Reached old p 0 path (reach.There there)) →
+  pub asks_there : (u v w : S) (there : TablePlace) (ended : Result (List ℕ) Interruption) → ((p : Path) → Names old place p → Reached old p 0 path (reach.There there)) →
       ((p a : Path) → Names old place p → rise_to (Some 0) p ≡ Some a → Enters goes o p 0 a path entry u) →
       IfEnded ended (λ s. (q : Path) (z : Integers) → IsThere old there q z → Comes goes (language z) (tree_of old) u q (serve z entry) (tree_of new) v s) →
       IfEnded result (λ r. (p a : Path) → Names new place p → rise_to (Some 0) p ≡ Some a → ComesBack goes v p 0 a path ended r w) → IsSteady old new → AsksBelow goes old o place path entry new w result
-  asks_there {u} {v} {w} there ended leads enters runs comes steady = IfEnded-more result (λ r. (p a : Path) → Names new place p → rise_to (Some 0) p ≡ Some a → ComesBack goes v p 0 a path ended r w)
+  asks_there u v w there ended leads enters runs comes steady = IfEnded-more result (λ r. (p a : Path) → Names new place p → rise_to (Some 0) p ≡ Some a → ComesBack goes v p 0 a path ended r w)
       (λ e. (p : Path) (style : Integers) → IsAt old place p style → GoesOn goes style (tree_of old) o p (asks_below path entry) (tree_of new) w e)
       (λ r back p style at.
       let lead = leads p at.names in
@@ -85,9 +100,9 @@ module _ {S : Type 0} (goes : Going S) (old new : Table) (o : S) (place : TableP
       told.told_so told.returns) comes
 
   -- and where nobody does
-  pub asks_nobody : {u : S} → ((p : Path) → Names old place p → Reached old p 0 path reach.Missing) → new ≡ old → IfEnded result (λ e. e ≡ Completed (failing (no_interpreter []))) →
+  pub asks_nobody : (u : S) → ((p : Path) → Names old place p → Reached old p 0 path reach.Missing) → new ≡ old → IfEnded result (λ e. e ≡ Completed (failing (no_interpreter []))) →
       IfEnded result (λ e. (p a : Path) → Names old place p → rise_to (Some 0) p ≡ Some a → Misses goes o p 0 path entry e u) → AsksBelow goes old o place path entry new u result
-  asks_nobody {u} leads same told misses = IfEnded-both result (λ e. e ≡ Completed (failing (no_interpreter []))) (λ e. (p a : Path) → Names old place p → rise_to (Some 0) p ≡ Some a → Misses goes o p 0 path entry e u)
+  asks_nobody u leads same told misses = IfEnded-both result (λ e. e ≡ Completed (failing (no_interpreter []))) (λ e. (p a : Path) → Names old place p → rise_to (Some 0) p ≡ Some a → Misses goes o p 0 path entry e u)
       (λ e. (p : Path) (style : Integers) → IsAt old place p style → GoesOn goes style (tree_of old) o p (asks_below path entry) (tree_of new) u e)
       (λ e f miss p style at.
       let lead = leads p at.names in
