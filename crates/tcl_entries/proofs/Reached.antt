@@ -8,7 +8,7 @@ use Rattle.tcl_core.specs.Paths.{Text, Path, Place}
 use Rattle.tcl_core.specs.Programs.Act.{Look}
 use Rattle.tcl_core.specs.Programs.Prog.{act}
 use Rattle.tcl_core.specs.Threads.{completed}
-use Rattle.tcl_core.specs.Trees.{Tree, Node, Event}
+use Rattle.tcl_core.specs.Trees.{Tree, Node}
 use Rattle.tcl_language.specs.Instructions.{Program}
 use Rattle.tcl_language.specs.Interpreters.{at_path, where_it_stands, no_interpreter}
 use Rattle.tcl_language.specs.Language.{language}

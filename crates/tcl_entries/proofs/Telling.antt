@@ -1,5 +1,5 @@
 -- Programs whose last step is to ask.
-use Rattle.std.proofs.Common.{◌≡◌, ◌⊎◌, inl, inr, ◌<◌, ◌≤◌, Bool, true, false, List, [], ◌∷◌, length, take, drop, ◌-◌, None, refl, sym, ◌∙◌, ap, subst, arith, get_or}
+use Rattle.std.proofs.Common.{◌≡◌, ◌⊎◌, inl, inr, ◌<◌, ◌≤◌, Bool, true, false, List, [], ◌∷◌, length, take, drop, ◌-◌, refl, sym, ◌∙◌, ap, subst, arith, get_or}
 use Rattle.std.specs.Prelude.{Result, Ok, Err, codes}
 use Rattle.std.proofs.Math.Seq.{take-length}
 use Rattle.tcl_core.specs.Endings.{Completion, Reply, ok}
@@ -9,7 +9,7 @@ use Rattle.tcl_core.specs.Entries.Entry.{Ask, SetAlias}
 use Rattle.tcl_core.specs.Paths.{Text, Path, Place, together}
 use Rattle.tcl_core.specs.Programs.Prog.{done}
 use Rattle.tcl_core.specs.Threads.{completed}
-use Rattle.tcl_core.specs.Trees.{Tree, Event}
+use Rattle.tcl_core.specs.Trees.{Tree}
 use Rattle.tcl_flow.specs.View.{completion_of}
 use Rattle.tcl_language.specs.Faults.{wrong_args}
 use Rattle.tcl_language.specs.Instructions.{Program, either, fails}

@@ -4,7 +4,7 @@ use Rattle.tcl_core.specs.Endings.{Completion, Reply, error}
 use Rattle.tcl_core.specs.Endings.Reply.{Completed}
 use Rattle.tcl_core.specs.Entries.{Entry}
 use Rattle.tcl_core.specs.Paths.{Path, Place}
-use Rattle.tcl_core.specs.Trees.{Tree, Event}
+use Rattle.tcl_core.specs.Trees.{Tree}
 use Rattle.tcl_language.specs.Instructions.{Program}
 use Rattle.tcl_core.specs.Programs.Prog.{call}
 use Rattle.tcl_language.specs.Interpreters.{asks_at, finished, no_interpreter}

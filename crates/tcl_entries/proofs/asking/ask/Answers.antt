@@ -1,6 +1,4 @@
-use Rattle.std.proofs.Common.{◌≡◌, ◌≤◌, true, length, sym, ◌∙◌, arith}
-use Rattle.std.proofs.lemmas.Bool.Decides.{nat_tests}
-use Rattle.tcl_core.specs.Paths.{Path}
+use Rattle.std.proofs.Common.{sym, ◌∙◌}
 use Rattle.tcl_run.specs.Entering.{entry_of}
 use Rattle.tcl_entries.proofs.Carried.{asks_another, asks_itself, is_empty_path, is_some_path}
 use Rattle.tcl_entries.proofs.asking.ask.Goals as goal
