@@ -1,15 +1,13 @@
 -- What comes of asking an interpreter for an evaluation.
 use Rattle.std.proofs.Common.{◌≡◌, ℕ, ◌<◌, ◌≤◌, Bool, true, false, List, [], ◌∷◌, ◌++◌, length, Option, Some, None, refl, sym, ◌∙◌, ap, subst, arith}
 use Rattle.std.specs.Prelude.{Result, Ok, Err}
-use Rattle.std.proofs.lemmas.Option.{same_Some}
 use Rattle.tcl_core.specs.Endings.{Completion, Reply, settle}
 use Rattle.tcl_core.specs.Endings.Reply.{Completed, Stop, Exit, Cut}
 use Rattle.tcl_core.specs.Entries.{Entry}
 use Rattle.tcl_core.specs.Entries.Entry.{Eval, InvokeHidden}
-use Rattle.tcl_core.specs.Paths.{Path, Text, rise}
+use Rattle.tcl_core.specs.Paths.{Path, Text}
 use Rattle.tcl_core.specs.Programs.{blocked, is_spent}
 use Rattle.tcl_core.specs.Programs.Prog.{done, go}
-use Rattle.tcl_core.specs.Runs.{carried}
 use Rattle.tcl_core.specs.Threads.{completed}
 use Rattle.tcl_core.specs.Trees.{Tree, Node, Event, effect}
 use Rattle.tcl_core.specs.Trees.What.{Changed, Charged}
@@ -23,40 +21,27 @@ use Rattle.tcl_language.specs.Table.{invoked_at, serve, settled, some_words}
 use Rattle.tcl_language.specs.Words.{concat}
 use Rattle.tcl_run.specs.Ends.{IfEnded, Interrupts}
 use Rattle.tcl_run.specs.Outsides.{Going}
-use Rattle.tcl_run.specs.Runs.{Comes, EvaluatesAt, IsAt, IsThere, IsSteady, StopsCounting}
+use Rattle.tcl_run.specs.Runs.{Comes, EvaluatesAt, IsAt, IsThere, StopsCounting}
 use Rattle.tcl_run.specs.declared.interruption.Interruption.{Interruption}
 use Rattle.tcl_run.proofs.Endings.{IfEnded-more}
 use Rattle.tcl_run.proofs.Leads.{at_prog, at_reply, at_finish, charges, charge_stops, framed, framed_passed, looks}
-use Rattle.tcl_run.proofs.Steady.{stands, still_at}
 use Rattle.tcl_text.specs.declared.integer.Integers.{Integers}
 use Rattle.tcl_tree.specs.Own.{Own}
-use Rattle.tcl_tree.specs.Reaching.{Leads as Reached}
 use Rattle.tcl_tree.specs.TreeOf.{tree_of, Names}
 use Rattle.tcl_tree.specs.declared.tree.Tree.{Tree as Table}
 use Rattle.tcl_tree.specs.declared.tree.Place.{Place as TablePlace}
-use Rattle.tcl_tree.specs.declared.tree.places.Reach.TheVariants as reach
-use Rattle.tcl_tree.proofs.CoreLemmas.{tree_there}
-use Rattle.tcl_calls.specs.Carrying.{Carries}
 use Rattle.tcl_entries.specs.Asking.{Asks, GoesOn}
-use Rattle.tcl_entries.proofs.Asked.{rise_zero, asked_goes, inner_goes}
-use Rattle.tcl_entries.proofs.Carried.{IfEnded-each, carried_ended}
+use Rattle.tcl_entries.proofs.Asked.{inner_goes, serve_goes}
 use Rattle.tcl_evaluator.specs.View.{invokes_at, unhidden}
 use Rattle.tcl_evaluator.proofs.Targets.{Settled}
 
--- where somebody stands
-pub entered : {S : Type 0} (goes : Going S) (old new : Table) (o z : S) (place : TablePlace) (path : Path) (entry : Entry) (result : Result (List ℕ) Interruption) (there : TablePlace) (ended : Result (List ℕ) Interruption) →
-    ((p : Path) → Names old place p → Reached old p 0 path (reach.There there)) → EvaluatesAt goes old o there (λ style. serve style entry) new z ended →
-    ((p : Path) → Names new place p → Carries p 0 path ended result) → IsSteady old new → Asks goes old o place path entry new z result
-entered goes old new o z place path entry result there ended leads runs carries steady =
-    IfEnded-each result old place (λ p style e. GoesOn goes style (tree_of old) o p (asks_at path entry) (tree_of new) z e) (λ p style at.
-    let lead = leads p at.names in
-    let here : lead.0 ≡ p = same_Some _ _ (sym lead.1 ∙ rise_zero p) in
-    let named : Names old there (p ++ path) = subst (λ (a : Path). Names old there (a ++ path)) here lead.2 in
-    let m = stands (tree_of old (p ++ path)) (tree_there old (p ++ path) _ named) in
-    carried_ended p 0 path ended result (λ s. (q : Path) (y : Integers) → IsThere old there q y → Comes goes (language y) (tree_of old) o q (serve y entry) (tree_of new) z s)
-    (λ e. GoesOn goes style (tree_of old) o p (asks_at path entry) (tree_of new) z e)
-    (carries p (still_at old new place p style steady at).names) runs
-    (λ s d. asked_goes goes style p path entry _ m.1 (d (p ++ path) style (record { names = named; style_is = at.style_is })) refl))
+-- what an interpreter asks of itself
+pub asks_here : {S : Type 0} (goes : Going S) (old new : Table) (o z : S) (place : TablePlace) (path : Path) (entry : Entry) (result : Result (List ℕ) Interruption) → path ≡ [] →
+    EvaluatesAt goes old o place (λ style. serve style entry) new z result → Asks goes old o place path entry new z result
+asks_here goes old new o z place path entry result none runs = IfEnded-more result (λ s. (q : Path) (y : Integers) → IsThere old place q y → Comes goes (language y) (tree_of old) o q (serve y entry) (tree_of new) z s)
+    (λ e. (p : Path) (style : Integers) → IsAt old place p style → GoesOn goes style (tree_of old) o p (asks_at path entry) (tree_of new) z e)
+    (λ e d p style at. subst (λ (x : Path). GoesOn goes style (tree_of old) o p (asks_at x entry) (tree_of new) z e) (sym none)
+    (serve_goes goes style entry e (d p style (record { names = at.names; style_is = at.style_is })))) runs
 
 -- ## interp eval
 

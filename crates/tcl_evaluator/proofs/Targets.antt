@@ -1,42 +1,48 @@
 -- What evaluations come to that others ask for.
-use Rattle.std.proofs.Common.{◌≡◌, ℕ, List, [], ◌∷◌, ◌++◌, Option, Some, None, refl, sym, ◌∙◌, ap, subst}
-use Rattle.std.specs.Prelude.{Result, Ok, Err, length}
-use Rattle.tcl_core.specs.Paths.{Text, Path, rise, rise_to}
-use Rattle.tcl_core.specs.Endings.{Completion, Reply, IsQuit, ok, settle}
+use Rattle.std.proofs.Common.{◌≡◌, ℕ, List, [], ◌∷◌, ◌++◌, Some, None, refl, sym, ◌∙◌, ap, subst}
+use Rattle.std.specs.Prelude.{Result, Ok, Err}
+use Rattle.tcl_core.specs.Paths.{Text, Path, rise_to}
+use Rattle.tcl_core.specs.Endings.{Completion, Reply, ok, settle}
 use Rattle.tcl_core.specs.Endings.Reply.{Completed, Stop, Exit, Cut}
-use Rattle.tcl_core.specs.Entries.{Entry, Answer}
+use Rattle.tcl_core.specs.Entries.{Entry}
 use Rattle.tcl_core.specs.Entries.Entry.{Eval, CallWords}
-use Rattle.tcl_core.specs.Entries.Answer.{Replied}
 use Rattle.tcl_core.specs.Programs.{blocked, is_deep, is_spent}
-use Rattle.tcl_core.specs.Programs.Prog.{done, call, go}
-use Rattle.tcl_core.specs.Runs.{carried}
-use Rattle.tcl_core.specs.Threads.{Crossings, passing, event, completed, passed, answered, answered_passed, called_out}
-use Rattle.tcl_core.specs.Trees.{Tree, Node, Event, What, effect}
-use Rattle.tcl_core.specs.Trees.What.{Charged, Nested, Unnested, Out, Back}
-use Rattle.tcl_flow.specs.Stopping.{reply_of}
+use Rattle.tcl_core.specs.Programs.Prog.{call, done}
+use Rattle.tcl_core.specs.Threads.{passed}
+use Rattle.tcl_core.specs.Trees.{Tree, effect}
+use Rattle.tcl_core.specs.Trees.What.{Charged, Nested, Unnested}
 use Rattle.tcl_flow.specs.View.{completion_of}
 use Rattle.tcl_language.specs.Faults.{lost_alias}
-use Rattle.tcl_language.specs.Instructions.{Instr, Program}
+use Rattle.tcl_language.specs.Instructions.{Program}
 use Rattle.tcl_language.specs.Instructions.Instr.{Script, Call, Target, Hidden}
 use Rattle.tcl_language.specs.Interpreters.{call_alias, finished}
 use Rattle.tcl_language.specs.Language.{language}
 use Rattle.tcl_language.specs.Scripts.{script}
 use Rattle.tcl_language.specs.Faults.{invalid_command, invalid_hidden}
-use Rattle.tcl_language.specs.Table.{called, dispatch, invoked, serve, settled, some_words}
+use Rattle.tcl_language.specs.Table.{called, dispatch, invoked, serve, some_words}
 use Rattle.tcl_tree.specs.declared.command.Command.{Command}
 use Rattle.tcl_tree.specs.declared.command.Command.TheVariants as command
 use Rattle.tcl_run.specs.declared.interruption.Interruption.{Interruption}
 use Rattle.tcl_run.specs.declared.interruption.Interruption.TheVariants as interruption
-use Rattle.tcl_run.specs.Ends.{Interrupts, IfEnded, failing, too_deep_at}
-use Rattle.tcl_run.specs.Outsides.{IsCalled, staged}
-use Rattle.tcl_run.specs.Outsides.{Going}
-use Rattle.tcl_run.specs.Runs.{Comes, StopsCounting}
-use Rattle.tcl_run.proofs.Endings.{IfEnded-more}
+use Rattle.tcl_run.specs.Ends.{IfEnded, failing, too_deep_at}
+use Rattle.tcl_run.specs.Outsides.{Going, Enters, Misses}
+use Rattle.tcl_run.specs.Plain.{Acts, Does}
+use Rattle.tcl_run.specs.Runs.{Comes, Evaluates, EvaluatesAt, IsAt, IsThere, IsSteady, StopsCounting}
+use Rattle.tcl_run.proofs.Endings.{IfEnded-more, IfEnded-both}
 use Rattle.tcl_run.proofs.Leads.{at_prog, at_reply, at_finish, charges, charge_stops, goes_on, goes_done, nests_done, nest_refused, calls_in, finds_none}
+use Rattle.tcl_run.proofs.Plain.{does_comes}
+use Rattle.tcl_run.proofs.Steady.{stands, still_at}
 use Rattle.tcl_text.specs.declared.integer.Integers.{Integers}
+use Rattle.tcl_tree.proofs.CoreLemmas.{tree_there}
 use Rattle.tcl_tree.specs.Commands.{AliasView}
 use Rattle.tcl_tree.specs.Own.{Own}
-use Rattle.tcl_calls.specs.Carrying.{Carries, Settles}
+use Rattle.tcl_tree.specs.Reaching.{Leads as Reached}
+use Rattle.tcl_tree.specs.TreeOf.{tree_of, Names}
+use Rattle.tcl_tree.specs.declared.tree.Tree.{Tree as Table}
+use Rattle.tcl_tree.specs.declared.tree.Place.{Place as TablePlace}
+use Rattle.tcl_tree.specs.declared.tree.places.Reach.TheVariants as reach
+use Rattle.tcl_calls.specs.Carrying.{ComesBack, Settles}
+use Rattle.tcl_entries.proofs.Carried.{ended_by}
 use Rattle.tcl_evaluator.specs.View.{targeted, unhidden}
 
 -- what there is is done, whatever is told where there is none
@@ -47,26 +53,6 @@ same_dispatch style word args (command.Alias a) = refl
 same_dispatch style word args command.Child = refl
 
 -- ## How ends are told
-
--- what holds for each place holds of the end that there is
-IfEnded-all : {A : Type 0} (At : A → Type 0) (r : Result Text Interruption) (P : A → Reply → Type 0) → ((a : A) → At a → IfEnded r (P a)) → IfEnded r (λ e. (a : A) → At a → P a e)
-IfEnded-all At (Ok text) P f = f
-IfEnded-all At (Err interruption.Memory) P f = tt
-IfEnded-all At (Err (interruption.Completed c)) P f = f
-IfEnded-all At (Err (interruption.Stopped s)) P f = f
-IfEnded-all At (Err (interruption.Exited n)) P f = f
-IfEnded-all At (Err (interruption.Cut c)) P f = f
-
--- an end that is carried, wherever the caller is
-pub carried_ends : (At : Path → Type 0) (p : Path) → At p → (up : ℕ) (down : Path) (ended told : Result Text Interruption) (P Q : Reply → Type 0) → IfEnded ended P → ((q : Path) → At q → Carries q up down ended told) →
-    ((e r : Reply) → P e → ((q : Path) → At q → r ≡ carried (Some up) q down e) → Q r) → IfEnded told Q
-carried_ends At p at up down (Ok text) told P Q h c k = subst (λ (x : Result Text Interruption). IfEnded x Q) (sym (c p at)) (k _ _ h (λ q a. refl))
-carried_ends At p at up down (Err interruption.Memory) told P Q h c k = subst (λ (x : Result Text Interruption). IfEnded x Q) (sym (c p at)) tt
-carried_ends At p at up down (Err (interruption.Completed x)) told P Q h c k = subst (λ (x : Result Text Interruption). IfEnded x Q) (sym (c p at)) (k _ _ h (λ q a. refl))
-carried_ends At p at up down (Err (interruption.Stopped s)) told P Q h c k =
-    IfEnded-more told (λ e. (q : Path) → At q → e ≡ carried (Some up) q down (reply_of s)) Q (λ e f. k _ e h f) (IfEnded-all At told (λ q e. e ≡ carried (Some up) q down (reply_of s)) c)
-carried_ends At p at up down (Err (interruption.Exited n)) told P Q h c k = subst (λ (x : Result Text Interruption). IfEnded x Q) (sym (c p at)) (k _ _ h (λ q a. refl))
-carried_ends At p at up down (Err (interruption.Cut x)) told P Q h c k = subst (λ (x : Result Text Interruption). IfEnded x Q) (sym (c p at)) (k _ _ h (λ q a. refl))
 
 -- the end of an entry where only ok and error may pass
 abbrev pub Settled : Reply → Reply → Type 0
@@ -111,47 +97,50 @@ module _ {S : Type 0} {goes : Going S} (style : Integers) where
   entry_evaluates text (Exit n) f l t = at_reply l (passed tt t)
   entry_evaluates text (Cut c) f l t = at_reply l (passed tt t)
 
-  -- ## Aliases
+-- ## Entries
 
-  pub alias_goes : {T V : Tree Own} {o z : S} {p : Path} {m : Node Own} {e r : Reply} (a : AliasView) (word : Text) (args words : List Text) (top : Path) → words ≡ a.words ++ args → rise a.up p ≡ Some top → T (top ++ a.down) ≡ Some m →
-      Comes goes (language style) T o (top ++ a.down) (serve style (CallWords words)) V z e → r ≡ carried (Some a.up) p a.down e → Comes goes (language style) T o p (call_alias a word args) V z r
-  alias_goes a word args words top same up there t f = calls_in top up there (at_prog (ap (λ (ws : List Text). serve style (CallWords ws)) (sym same)) t) f
+-- what evaluates nothing
+pub acts_there : {S : Type 0} (goes : Going S) (t u : Table) (o : S) (place : TablePlace) (program : Integers → Program) (r : Result Text Interruption) → Acts t place program u r → EvaluatesAt goes t o place program u o r
+acts_there goes t u o place program r acts = IfEnded-more r (λ e. (p : Path) (style : Integers) → IsThere t place p style → Does (program style) (tree_of t) p (tree_of u) e)
+    (λ e. (p : Path) (style : Integers) → IsThere t place p style → Comes goes (language style) (tree_of t) o p (program style) (tree_of u) o e)
+    (λ e h p style at. does_comes (program style) o (h p style at)) acts
 
-  pub alias_missing : {T : Tree Own} {o : S} {p : Path} {r : Reply} (a : AliasView) (word : Text) (args : List Text) (top : Path) → rise a.up p ≡ Some top → T (top ++ a.down) ≡ None → r ≡ Completed (failing (lost_alias word)) →
-      Comes goes (language style) T o p (call_alias a word args) T o r
-  alias_missing a word args top up gone e = finds_none top up gone e
+-- the same program, told otherwise
+pub evaluates_there : {S : Type 0} (goes : Going S) (t u : Table) (o z : S) (place : TablePlace) (x y : Entry) (r : Result Text Interruption) → x ≡ y → EvaluatesAt goes t o place (λ style. serve style y) u z r → EvaluatesAt goes t o place (λ style. serve style x) u z r
+evaluates_there goes t u o z place x y r same h = subst (λ (i : Entry). EvaluatesAt goes t o place (λ style. serve style i) u z r) (sym same) h
 
--- what passes the top is the outside's
-past_top : {S : Type 0} (goes : Going S) (h : Option Path) (o : S) (x : Event Own) (u : S) → h ≡ None → goes o x u → passing h goes o x u
-past_top goes h o x u e g = subst (λ (t : Option Path). passing t goes o x u) (sym e) g
+-- ## Calls that are all that is left
 
-module _ {S : Type 0} (goes : Going S) (style : Integers) where
-  alias_told : {T : Tree Own} {o z : S} {p : Path} (a : AliasView) (word : Text) (args : List Text) (r : Reply) → rise_to (Some a.up) p ≡ None →
-      goes o (event p (Out (Some a.up) a.down (CallWords (a.words ++ args)))) (Replied r) z → Comes goes (language style) T o p (call_alias a word args) T z r
-  alias_told {T} {o} {z} {p} a word args r e g = by r g
-    where
-      out : Event Own
-      out = event p (Out (Some a.up) a.down (CallWords (a.words ++ args)))
+abbrev pub calls : ℕ → Path → Entry → Completion → Program
+calls up down i lost = call (Some up) down i lost (finished done)
 
-      leaves : Crossings goes o out (o, Some out)
-      leaves = past_top goes (rise_to (Some a.up) p) o out (o, Some out) e (refl, refl)
+-- an alias is such a call
+pub alias_is : (a : AliasView) (word : Text) (args : List Text) (up : ℕ) (down : Path) (words : List Text) → up ≡ a.up → down ≡ a.down → words ≡ a.words ++ args → call_alias a word args ≡ calls up down (CallWords words) (failing (lost_alias word))
+alias_is a word args up down words eu ed ew =
+    ap (λ (n : ℕ). calls n a.down (CallWords (a.words ++ args)) (failing (lost_alias word))) (sym eu) ∙ ap (λ (d : Path). calls up d (CallWords (a.words ++ args)) (failing (lost_alias word))) (sym ed)
+    ∙ ap (λ (ws : List Text). calls up down (CallWords ws) (failing (lost_alias word))) (sym ew)
 
-      comes : (x : Reply) → goes o out (Replied x) z → Crossings goes (o, Some out) (event p (Back (Some a.up) (Replied x))) z
-      comes x h = past_top goes (rise_to (Some a.up) p) (o, Some out) (event p (Back (Some a.up) (Replied x))) z e (h, refl)
+module _ {S : Type 0} (goes : Going S) (old new : Table) (o : S) (place : TablePlace) (up : ℕ) (down : Path) (i : Entry) (lost : Completion) (result : Result Text Interruption) where
+  -- where somebody stands, whose program came to that end, of which the outside was told
+  pub calls_there : {u v w : S} (there : TablePlace) (ended : Result Text Interruption) → ((p : Path) → Names old place p → Reached old p up down (reach.There there)) →
+      ((p a : Path) → Names old place p → rise_to (Some up) p ≡ Some a → Enters goes o p up a down i u) → EvaluatesAt goes old u there (λ style. serve style i) new v ended →
+      IfEnded result (λ r. (p a : Path) → Names new place p → rise_to (Some up) p ≡ Some a → ComesBack goes v p up a down ended r w) → IsSteady old new → Evaluates goes old o place (λ style. calls up down i lost) new w result
+  calls_there {u} {v} {w} there ended leads enters runs comes steady = IfEnded-more result (λ r. (p a : Path) → Names new place p → rise_to (Some up) p ≡ Some a → ComesBack goes v p up a down ended r w)
+      (λ e. (p : Path) (style : Integers) → IsAt old place p style → Comes goes (language style) (tree_of old) o p (calls up down i lost) (tree_of new) w e)
+      (λ r back p style at.
+      let lead = leads p at.names in
+      let m = stands (tree_of old (lead.0 ++ down)) (tree_there old (lead.0 ++ down) _ lead.2) in
+      let told = back p lead.0 (still_at old new place p style steady at).names lead.1 in
+      calls_in lead.0 lead.1 m.1 (enters p lead.0 at.names lead.1)
+      (ended_by ended told.reply (λ s. (q : Path) (z : Integers) → IsThere old there q z → Comes goes (language z) (tree_of old) u q (serve z i) (tree_of new) v s) told.ended_so runs (lead.0 ++ down) style
+      (record { names = lead.2; style_is = at.style_is })) told.told_so told.returns) comes
 
-      by : (x : Reply) → goes o out (Replied x) z → Comes goes (language style) T o p (call_alias a word args) T z x
-      by (Completed c) h = called_out e leaves (answered e refl (comes (Completed c) h) completed)
-      by (Stop n m) h = called_out e leaves (answered_passed tt e refl (comes (Stop n m) h))
-      by (Exit n) h = called_out e leaves (answered_passed tt e refl (comes (Exit n) h))
-      by (Cut c) h = called_out e leaves (answered_passed tt e refl (comes (Cut c) h))
-
-  pub alias_leaves : {T : Tree Own} {o z : S} {p : Path} {r : Reply} (a : AliasView) (word : Text) (args words : List Text) → words ≡ a.words ++ args → rise a.up p ≡ None → IsCalled goes o p a.up a.down words z r →
-      Comes goes (language style) T o p (call_alias a word args) T z r
-  alias_leaves {o = o} {z} {p} {r} a word args words same e h =
-      alias_told a word args r e (subst (λ (ws : List Text). goes o (event p (Out (Some a.up) a.down (CallWords ws))) (Replied r) z) same h)
-
--- the same call, told otherwise
-pub called_as : {S : Type 0} (goes : Going S) (o z : S) (r : Reply) (p q : Path) (up u : ℕ) (down d : Path) (words given : List Text) → p ≡ q → up ≡ u → down ≡ d → words ≡ given →
-    IsCalled goes o p up down words z r → IsCalled goes o q u d given z r
-called_as goes o z r p q up u down d words given ep eu ed ew h =
-    subst (λ (x : Path). IsCalled goes o x u d given z r) ep (subst (λ (x : ℕ). IsCalled goes o p x d given z r) eu (subst (λ (x : Path). IsCalled goes o p up x given z r) ed (subst (λ (x : List Text). IsCalled goes o p up down x z r) ew h)))
+  -- and where nobody does
+  pub calls_nobody : {u : S} → ((p : Path) → Names old place p → Reached old p up down reach.Missing) → new ≡ old → IfEnded result (λ e. e ≡ Completed lost) →
+      IfEnded result (λ e. (p a : Path) → Names old place p → rise_to (Some up) p ≡ Some a → Misses goes o p up down i e u) → Evaluates goes old o place (λ style. calls up down i lost) new u result
+  calls_nobody {u} leads same told misses = IfEnded-both result (λ e. e ≡ Completed lost) (λ e. (p a : Path) → Names old place p → rise_to (Some up) p ≡ Some a → Misses goes o p up down i e u)
+      (λ e. (p : Path) (style : Integers) → IsAt old place p style → Comes goes (language style) (tree_of old) o p (calls up down i lost) (tree_of new) u e)
+      (λ e f miss p style at.
+      let lead = leads p at.names in
+      subst (λ (t : Table). Comes goes (language style) (tree_of old) o p (calls up down i lost) (tree_of t) u e) (sym same)
+      (finds_none lead.0 lead.1 lead.2 (subst (λ (r : Reply). Misses goes o p up down i r u) f (miss p lead.0 at.names lead.1)) f)) told misses

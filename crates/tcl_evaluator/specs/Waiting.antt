@@ -87,7 +87,7 @@ WaitsOn {S} goes old o place up i target inner new z = (before : S) → goes bef
 -- or it ends by the entry's exit.
 abbrev pub EndsBefore : {S : Type 0} → Going S → table.Tree → S → table_place.Place → Height → Entry → Path → Entry → table.Tree → S → Reply → Type 0
 EndsBefore {S} goes old o place up i target inner new z r = (before : S) → goes before None (event target (In None inner)) o →
-    Wherever old place (λ p style. rise_to up p ≡ None → (k : core.Said → Program) → Comes goes (language style) (tree_of old) before p (waiting up i k) (tree_of new) z r)
+    Wherever old place (λ p style. rise_to up p ≡ None → AnswersBy goes style (tree_of old) before p up i (tree_of new) z r)
 
 abbrev pub HandsIn : {S : Type 0} → Going S → table.Tree → S → table_place.Place → Height → Entry → Path → Entry → table.Tree → S → Result (Unit {0}) Interruption → Type 0
 HandsIn goes old o place up i target inner new z result =
