@@ -1,4 +1,5 @@
 -- What expressions, conditions and the commands with conditions come to.
+use Rattle.tcl_core.specs.Programs.{Wait}
 use Rattle.std.proofs.Common.{◌≡◌, ℕ, pos, ◌<◌, ◌≤◌, Bool, true, false, List, [], ◌∷◌, ◌++◌, length, get_or, Option, Some, None, refl, sym, ◌∙◌, ap, subst, arith}
 use Rattle.std.specs.Prelude.{Result, Ok, Err, MatchResult, codes}
 use Rattle.tcl_core.specs.Endings.{Completion, Reply, IsQuit, ok}
@@ -78,7 +79,7 @@ misread_in s style text e same h = subst (λ (x : Integers). IsFailure (expressi
 pub misread_as : (s style : Integers) (t text : Text) (e : Reply) → s ≡ style → t ≡ text → IsFailure (expression_message t) (expression_of s t) e → IsFailure (expression_message text) (expression_of style text) e
 misread_as s style t text e same is h = subst (λ (x : Text). IsFailure (expression_message x) (expression_of style x) e) is (misread_in s style t e same h)
 
-module _ {S : Type 0} {goes : Going S} (style : Integers) where
+module _ {S : Type 0} {goes : S → Wait → Event Own → S → Type 0} (style : Integers) where
   -- ## Expressions
 
   pub part_stays : {T U : Tree Own} {o u : S} {p : Path} (part : WordRead) (next : Text → Computation) (k : Text → Program) (e : Reply) → Stays e →
@@ -203,7 +204,7 @@ pub turn_ends : {S : Type 0} (goes : Going S) (old new : Table) (o z : S) (place
 turn_ends goes old new o z place kept body c true runs g = λ p style at text is more V y r t. runs p style at text is (λ d. after_body d.code d more) V y r (at_prog (g more) t)
 turn_ends goes old new o z place kept body c false runs g = λ p style at text is more. runs p style at text is (λ d. after_body d.code d more) (tree_of new) z (Completed (ok [])) (at_prog (g more) completed)
 
-module _ {S : Type 0} {goes : Going S} where
+module _ {S : Type 0} {goes : S → Wait → Event Own → S → Type 0} where
   -- a body that ended the loop
   pub leaves_after : {T U : Tree Own} {o u : S} {p : Path} (style : Integers) (after : After) (body : Text) (more : Program) (e : Reply) → Leaves after e →
       Comes goes (language style) T o p (script body) U u e → Comes goes (language style) T o p (go (Script body) (λ c. after c.code c more)) U u e

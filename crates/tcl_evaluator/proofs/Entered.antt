@@ -6,7 +6,7 @@ use Rattle.tcl_core.specs.Endings.Reply.{Completed, Stop, Exit, Cut}
 use Rattle.tcl_core.specs.Entries.{Entry}
 use Rattle.tcl_core.specs.Entries.Entry.{Eval, InvokeHidden}
 use Rattle.tcl_core.specs.Paths.{Path, Text}
-use Rattle.tcl_core.specs.Programs.{blocked, is_spent}
+use Rattle.tcl_core.specs.Programs.{blocked, is_spent, Wait}
 use Rattle.tcl_core.specs.Programs.Prog.{done, go}
 use Rattle.tcl_core.specs.Threads.{completed}
 use Rattle.tcl_core.specs.Trees.{Tree, Node, Event, effect}
@@ -63,7 +63,7 @@ invoked_is : (g : Bool) (words : List Text) → invoked_at g words ≡ invokes_a
 invoked_is true words = refl
 invoked_is false words = refl
 
-module _ {S : Type 0} {goes : Going S} (style : Integers) where
+module _ {S : Type 0} {goes : S → Wait → Event Own → S → Type 0} (style : Integers) where
   -- nothing is left to do
   pub done_on : {T U : Tree Own} {o u : S} {p : Path} (x : (Completion → Program) → Program) (e : Reply) → GoesOn goes style T o p x U u e → Comes goes (language style) T o p (x done) U u e
   done_on x (Completed c) g = g done _ _ _ completed

@@ -9,7 +9,7 @@ use Rattle.tcl_core.specs.Paths.{Path}
 use Rattle.tcl_core.specs.Endings.{Completion, Reply, ok}
 use Rattle.tcl_core.specs.Endings.Reply.{Completed, Stop, Exit, Cut}
 use Rattle.tcl_core.specs.Trees.{Tree, Node, Event}
-use Rattle.tcl_core.specs.Programs.{blocked, is_spent, is_deep}
+use Rattle.tcl_core.specs.Programs.{blocked, is_spent, is_deep, Wait}
 use Rattle.tcl_core.specs.Programs.Act.{Charge}
 use Rattle.tcl_core.specs.Programs.Prog.{done, go, act}
 use Rattle.tcl_core.specs.Trees.{effect}
@@ -138,7 +138,7 @@ some_words : (items : List (List ℕ)) → 1 ≤ length items → charged items 
 some_words [] h = absurd (omega arith)
 some_words (w ∷ ws) h = refl
 
-module _ {S : Type 0} {goes : Going S} (style : Integers) where
+module _ {S : Type 0} {goes : S → Wait → Event Own → S → Type 0} (style : Integers) where
   -- ## After an inner evaluation
 
   pub goes_stays : {T U : Tree Own} {o u : S} {p : Path} {i : Instr} (k : List ℕ → Program) (e : Reply) → Stays e →

@@ -6,10 +6,10 @@ use Rattle.tcl_core.specs.Endings.{Completion, Reply, ok, settle}
 use Rattle.tcl_core.specs.Endings.Reply.{Completed, Stop, Exit, Cut}
 use Rattle.tcl_core.specs.Entries.{Entry}
 use Rattle.tcl_core.specs.Entries.Entry.{Eval, CallWords}
-use Rattle.tcl_core.specs.Programs.{blocked, is_deep, is_spent}
+use Rattle.tcl_core.specs.Programs.{blocked, is_deep, is_spent, Wait}
 use Rattle.tcl_core.specs.Programs.Prog.{call, done}
 use Rattle.tcl_core.specs.Threads.{passed}
-use Rattle.tcl_core.specs.Trees.{Tree, effect}
+use Rattle.tcl_core.specs.Trees.{Tree, effect, Event}
 use Rattle.tcl_core.specs.Trees.What.{Charged, Nested, Unnested}
 use Rattle.tcl_flow.specs.View.{completion_of}
 use Rattle.tcl_language.specs.Faults.{lost_alias}
@@ -67,7 +67,7 @@ settled_more (Err (interruption.Stopped s)) told P Q p l k = subst (λ (x : Resu
 settled_more (Err (interruption.Exited n)) told P Q p l k = subst (λ (x : Result Text Interruption). IfEnded x Q) (sym l) (k _ _ p refl)
 settled_more (Err (interruption.Cut c)) told P Q p l k = subst (λ (x : Result Text Interruption). IfEnded x Q) (sym l) (k _ _ p refl)
 
-module _ {S : Type 0} {goes : Going S} (style : Integers) where
+module _ {S : Type 0} {goes : S → Wait → Event Own → S → Type 0} (style : Integers) where
   -- ## Targets
 
   pub target_ends : {T U V W : Tree Own} {o z : S} {p : Path} {r : Reply} (words : List Text) → blocked is_deep T p ≡ None → U ≡ effect p Nested T → W ≡ effect p Unnested V →

@@ -1,6 +1,6 @@
 -- What asking the host comes to.
-use Rattle.std.proofs.Common.{◌≡◌, ◌⊎◌, inl, inr, ◌<◌, ◌≤◌, List, [], ◌∷◌, length, get_or, None, false, refl, sym, ◌∙◌, ap, arith}
-use Rattle.std.specs.Prelude.{Result}
+use Rattle.std.proofs.Common.{◌≡◌, ◌⊎◌, inl, inr, ◌<◌, ◌≤◌, List, [], ◌∷◌, length, get_or, None, false, refl, sym, ◌∙◌, ap, subst, arith}
+use Rattle.std.specs.Prelude.{Result, Err}
 use Rattle.std.proofs.lemmas.Bool.Decides.{nat_tests}
 use Rattle.tcl_core.specs.Endings.{Completion, Reply, ok}
 use Rattle.tcl_core.specs.Endings.Reply.{Completed}
@@ -15,18 +15,19 @@ use Rattle.tcl_host.specs.declared.reply.HostReply.TheVariants as theirs
 use Rattle.tcl_language.specs.Hosting.{channel_message, heard, puts, puts_form, writes, written}
 use Rattle.tcl_language.specs.Instructions.{fits}
 use Rattle.tcl_language.specs.Language.{language}
-use Rattle.tcl_run.specs.Ends.{IfEnded, failing}
+use Rattle.tcl_run.specs.Ends.{IfEnded, Interrupts, failing}
 use Rattle.tcl_run.specs.Outsides.{Going, number_of, reply_of}
 use Rattle.tcl_run.specs.Runs.{Comes, Evaluates, IsAt}
 use Rattle.tcl_run.specs.declared.interruption.Interruption.{Interruption}
-use Rattle.tcl_run.proofs.Endings.{IfEnded-more}
+use Rattle.tcl_run.proofs.Endings.{IfEnded-more, ended_err}
 use Rattle.tcl_run.proofs.Leads.{at_reply}
 use Rattle.tcl_text.specs.declared.integer.Integers.{Integers}
 use Rattle.tcl_tree.specs.TreeOf.{tree_of, Names}
 use Rattle.tcl_tree.specs.declared.tree.Tree.{Tree as Table}
 use Rattle.tcl_tree.specs.declared.tree.Place.{Place as TablePlace}
 use Rattle.tcl_value.specs.Limits.{IsPast}
-use Rattle.tcl_evaluator.specs.Waiting.{HearsSo, IsWritten, Wherever}
+use Rattle.tcl_evaluator.specs.Waiting.{EndsWait, HearsSo, IsWritten, Wherever}
+use Rattle.tcl_evaluator.proofs.Awaited.{ends_out}
 
 -- what a text that was to be written comes to, by the host's reply
 module _ {S : Type 0} (goes : Going S) (old new : Table) (o u z : S) (place : TablePlace) (channel text : Text) (result : Result Text Interruption)
@@ -35,7 +36,7 @@ module _ {S : Type 0} (goes : Going S) (old new : Table) (o u z : S) (place : Ta
       Wherever old place (λ p style. HearsSo goes style (tree_of old) u p None (AskHost (Write channel text)) (tree_of new) z (reply_of reply)) → IfEnded result (λ e. e ≡ Completed c) →
       Evaluates goes old o place (λ style. writes channel text) new z result
   over_by reply c ends hears told = IfEnded-more result (λ e. e ≡ Completed c) (λ e. (p : Path) (style : Integers) → IsAt old place p style → Comes goes (language style) (tree_of old) o p (writes channel text) (tree_of new) z e)
-      (λ e f p style at. called_out refl (leaves p at.names) (hears p style at (heard (written channel)) _ _ _ (ends style p e f))) told
+      (λ e f p style at. called_out refl (record { told = leaves p at.names }) (hears p style at (heard (written channel)) _ _ _ (ends style p e f))) told
 
   pub writes_heard : (reply : TheirReply) → Wherever old place (λ p style. HearsSo goes style (tree_of old) u p None (AskHost (Write channel text)) (tree_of new) z (reply_of reply)) → IsWritten channel reply result →
       Evaluates goes old o place (λ style. writes channel text) new z result
@@ -46,6 +47,21 @@ module _ {S : Type 0} (goes : Going S) (old new : Table) (o u z : S) (place : Ta
   writes_heard (theirs.Rest bytes) hears told = over_by (theirs.Rest bytes) (ok []) (λ style p e f. at_reply f completed) hears told
   writes_heard theirs.Done hears told = over_by theirs.Done (ok []) (λ style p e f. at_reply f completed) hears told
   writes_heard (theirs.AtEnd ended) hears told = over_by (theirs.AtEnd ended) (ok []) (λ style p e f. at_reply f completed) hears told
+
+-- the same text for the same channel, told otherwise
+pub writes_as : {S : Type 0} (goes : Going S) (old new : Table) (o z : S) (place : TablePlace) (channel text c t : Text) (result : Result Text Interruption) → c ≡ channel → t ≡ text →
+    Evaluates goes old o place (λ style. writes c t) new z result → Evaluates goes old o place (λ style. writes channel text) new z result
+writes_as goes old new o z place channel text c t result ec et h =
+    subst (λ (x : Text). Evaluates goes old o place (λ style. writes x text) new z result) ec (subst (λ (x : Text). Evaluates goes old o place (λ style. writes c x) new z result) et h)
+
+-- what is asked of the host ended otherwise than by its reply
+pub writes_over : {S : Type 0} (goes : Going S) (old new : Table) (o u z : S) (place : TablePlace) (channel text : Text) (result : Result Text Interruption) (i y : Interruption) →
+    ((p : Path) → Names old place p → goes o None (event p (Out None [] (AskHost (Write channel text)))) u) → result ≡ Err y → y ≡ i → Interrupts i (EndsWait goes old u place None (AskHost (Write channel text)) new z) →
+    Evaluates goes old o place (λ style. writes channel text) new z result
+writes_over goes old new o u z place channel text result i y leaves is same ends =
+    ended_err result i y (λ x. (p : Path) (style : Integers) → IsAt old place p style → Comes goes (language style) (tree_of old) o p (writes channel text) (tree_of new) z (Completed (ok x)))
+    (EndsWait goes old u place None (AskHost (Write channel text)) new z) (λ e. (p : Path) (style : Integers) → IsAt old place p style → Comes goes (language style) (tree_of old) o p (writes channel text) (tree_of new) z e) is same ends
+    (λ e h p style at. ends_out goes style None [] (AskHost (Write channel text)) (ok []) (heard (written channel)) e (λ c. refl) refl (leaves p at.names) (h p style at))
 
 -- ## Words
 

@@ -93,12 +93,11 @@ abbrev pub HandsIn : {S : Type 0} → Going S → table.Tree → S → table_pla
 HandsIn goes old o place up i target inner new z result =
     MatchResult result (λ x. WaitsOn goes old o place up i target inner new z) (λ e. Interrupts e (EndsBefore goes old o place up i target inner new z))
 
--- the status of an exit
-abbrev pub ExitOf : {E : Type 0} → Result Text Interruption → Result (Option ℤ) E → Type 0
-ExitOf ended (Err e) = Unit {0}
-ExitOf (Err (interruption.Exited n)) (Ok status) = status ≡ Some n
-ExitOf (Err interruption.Memory) (Ok status) = Prim.⊥
-ExitOf ended (Ok status) = status ≡ None
+-- the status of an exit, where it was one
+abbrev pub ExitOf : Result Text Interruption → Option ℤ → Type 0
+ExitOf (Err (interruption.Exited n)) status = status ≡ Some n
+ExitOf (Err interruption.Memory) status = Prim.⊥
+ExitOf ended status = status ≡ None
 
 -- ## What the host is asked to write
 

@@ -94,7 +94,7 @@ fn hand_in<O: Outside>(
 
 /// The status by which the run ended, where it did.
 fn exit_of(ended: &Result<Value, Interruption>) -> Result<Option<i64>, AllocError>
-    ensures { ExitOf ended.now result }
+    ensures { IfOk result (λ status. ExitOf ended.now status) }
 {
     match ended {
         Err(Interruption::Exited(status)) => Ok(Some(*status)),

@@ -21,7 +21,7 @@ use Rattle.tcl_parser.specs.Words.{WordRead}
 use Rattle.tcl_language.specs.Instructions.{fits, Open}
 use Rattle.tcl_run.proofs.Endings.{IfEnded-more, IfEnded-at, Interrupts-more, Interrupts-at, ended_err, of_text}
 use Rattle.tcl_run.proofs.Leads.{at_prog, at_reply}
-use Rattle.tcl_run.proofs.Steady.{still_at, still_running, steady-refl, steady-trans, level_steady, nested_steady, begun_at, less_room}
+use Rattle.tcl_run.proofs.Steady.{still_at, still_in_use, still_running, steady-refl, steady-trans, level_steady, nested_steady, begun_at, less_room}
 use Rattle.tcl_evaluator.proofs.Steps
 use Rattle.tcl_evaluator.proofs.Steps.{item_on, none_on, no_item, stays_of, EndsFrom, TextEnds, text_ends, VariableEnds, variable_ends, EndsAt, appended, forgets, both, stands}
 use Rattle.std.proofs.Common.{true, None}
@@ -125,8 +125,18 @@ use Rattle.tcl_language.specs.Hosting as hosting
 use Rattle.tcl_language.specs.Instructions.{either}
 use Rattle.tcl_value.specs.Limits.{IsPast}
 use Rattle.tcl_evaluator.proofs.Steps.{one_item, two_items}
-use Rattle.tcl_evaluator.proofs.Waiting
-use Rattle.tcl_evaluator.proofs.Writing.{three_items, not_put, past_long, writes_heard}
+use Rattle.tcl_evaluator.proofs.Awaited
+use Rattle.tcl_evaluator.proofs.Writing.{three_items, not_put, past_long, writes_as, writes_heard, writes_over}
+use Rattle.std.proofs.Common.{FitsSigned, w64, ℤ}
+use Rattle.std.proofs.lemmas.Int.{to_z-of_z}
+use Rattle.std.specs.Prelude.{Ok}
+use Rattle.tcl_core.specs.Entries.Entry.{AskHost}
+use Rattle.tcl_core.specs.Entries.Request.{Write}
+use Rattle.tcl_run.specs.Entering.{whole_entry}
+use Rattle.tcl_run.specs.Outsides.{OnEntry, reply_of}
+use Rattle.tcl_run.specs.Runs.{room}
+use Rattle.tcl_run.specs.declared.outside.Turn.{Turn}
+use Rattle.tcl_evaluator.specs.Waiting.{IsWritten, SaysOn}
 use Rattle.tcl_evaluator.proofs.+eval.Goals.{hosting::puts-in_default-via-then-args-lt1, hosting::puts-in_default-via-else-args-lt1+else-args-lt2+else-args-lt3+else-args-lt4}
 use Rattle.tcl_evaluator.proofs.+eval.Goals as goal
 
@@ -1630,3 +1640,106 @@ hosting::puts-returns-in_default-clause-runs g t c =
       | hosting::puts-in_default-via-else-args-lt1+else-args-lt2+else-args-lt3+else-args-lt4 w ↦ not_put c.args.args.now (inr (search rules))
     ] in
     Interrupts-more c.wrong_args-in_default.result _ _ (λ e h q style at. at_prog other (at_reply h completed)) c.wrong_args-in_default.ensures
+
+pub hosting::write-returns-in_err-reply-clause-runs : goal.hosting::write-returns-in_err-reply-clause-runs
+hosting::write-returns-in_err-reply-clause-runs g t c =
+    let channel : c.in_ok-clone.field-0 ≡ c.args.channel.now = search rules in
+    let p = err_from_is_err_and c.from_residual-in_err-reply.result c.from_residual-in_err-reply.ensures.1 in
+    writes_as g.O.Outside.goes c.args.tree.now c.wait.new.tree c.args.outside.now c.wait.new.outside c.args.place c.args.channel.now c.args.text.now c.in_ok-clone.field-0 c.in_ok-text.field-0 c.from_residual-in_err-reply.result
+    channel c.in_ok-text.ensures
+    (writes_over g.O.Outside.goes c.args.tree.now c.wait.new.tree c.args.outside.now c.passes_top.new.self c.wait.new.outside c.args.place c.in_ok-clone.field-0 c.in_ok-text.field-0 c.from_residual-in_err-reply.result
+    c.in_err-reply.field-0.0 p.0 (λ q at. c.in_ok-passes_top.ensures.told q at refl) p.1 p.2 c.in_err-reply.ensures.runs)
+
+pub hosting::write-returns-clause-runs : goal.hosting::write-returns-clause-runs
+hosting::write-returns-clause-runs g t c =
+    let channel : c.in_ok-clone.field-0 ≡ c.args.channel.now = search rules in
+    let named : c.as_str.result.now ≡ c.args.channel.now = search rules in
+    writes_as g.O.Outside.goes c.args.tree.now c.wait.new.tree c.args.outside.now c.wait.new.outside c.args.place c.args.channel.now c.args.text.now c.in_ok-clone.field-0 c.in_ok-text.field-0 c.written.result
+    channel c.in_ok-text.ensures
+    (writes_heard g.O.Outside.goes c.args.tree.now c.wait.new.tree c.args.outside.now c.passes_top.new.self c.wait.new.outside c.args.place c.in_ok-clone.field-0 c.in_ok-text.field-0 c.written.result
+    (λ q at. c.in_ok-passes_top.ensures.told q at refl) c.in-Heard.reply
+    (subst (SaysOn g.O.Outside.goes c.args.tree.now c.passes_top.new.self c.args.place None (AskHost (Write c.in_ok-clone.field-0 c.in_ok-text.field-0)) c.wait.new.tree c.wait.new.outside) c.in-Heard.is c.in_ok-reply.ensures.runs)
+    (subst (λ (x : Text). IsWritten x c.in-Heard.reply c.written.result) (named ∙ sym channel) c.written.ensures))
+
+-- # Calls that pass the top of the tree, and what is handed in
+
+pub waiting::enter-returns-in-Some-clause-runs : goal.waiting::enter-returns-in-Some-clause-runs
+waiting::enter-returns-in-Some-clause-runs g t c =
+    Awaited.enters_there g.O.Outside.goes c.args.tree.now c.serve_entry.new.tree c.args.outside.now c.serve_entry.new.outside c.in-Some.place c.args.target.now (whole_entry c.args.entry) c.serve_entry.result
+    c.in-Some.ensures.there c.serve_entry.ensures.runs
+
+pub waiting::enter-returns-in-None-clause-runs : goal.waiting::enter-returns-in-None-clause-runs
+waiting::enter-returns-in-None-clause-runs g t c =
+    Awaited.enters_nobody g.O.Outside.goes c.args.tree.now c.args.outside.now c.args.target.now (whole_entry c.args.entry) c.no_interpreter.result c.in-None.ensures.missing c.no_interpreter.ensures
+
+pub waiting::hand_in-returns-in_default-clause-runs : goal.waiting::hand_in-returns-in_default-clause-runs
+waiting::hand_in-returns-in_default-clause-runs g t c =
+    Awaited.handed_on g.O.Outside.goes c.args.tree.now c.enter-ended.new.tree c.args.outside.now c.enter-ended.new.outside c.args.place c.args.up (whole_entry c.args.entry.now) c.as_slice-path.result.now c.args.target.items
+    (whole_entry c.args.inner) c.enter-ended.result c.entry_leaves.new.self c.in_ok-status.field-0 c.in_default.is c.as_slice-path.ensures.value c.enter-ended.ensures.runs c.in_ok-entry_leaves.ensures.told c.in_ok-status.ensures
+
+pub waiting::hand_in-returns-clause-runs : goal.waiting::hand_in-returns-clause-runs
+waiting::hand_in-returns-clause-runs g t c =
+    let fits_it : FitsSigned w64 c.in-Some.status = search rules in
+    let same = to_z-of_z w64 c.in-Some.status fits_it in
+    Awaited.handed_out g.O.Outside.goes c.args.tree.now c.enter-ended.new.tree c.args.outside.now c.enter-ended.new.outside c.args.place c.args.up (whole_entry c.args.entry.now) c.as_slice-path.result.now c.args.target.items
+    (whole_entry c.args.inner) c.enter-ended.result c.entry_leaves.new.self c.exit_comes_back.new.self _ c.in_ok-status.field-0 (c.in-Some.is ∙ ap (λ (n : ℤ). Some n) (sym same)) c.as_slice-path.ensures.value
+    c.enter-ended.ensures.runs c.in_ok-entry_leaves.ensures.told c.in_ok-status.ensures (λ p at e. c.in_ok-exit_comes_back.ensures.told p at e) c.enter-ended.ensures.steady
+
+pub waiting::wait-returns-in_err-target-clause-runs : goal.waiting::wait-returns-in_err-target-clause-runs
+waiting::wait-returns-in_err-target-clause-runs g t c =
+    let p = err_from_is_err_and c.from_residual.result c.from_residual.ensures.1 in
+    ended_err c.from_residual.result c.in_err-target.field-0.0 p.0 _ _ _ p.1 p.2
+    (Awaited.ends_wait g.O.Outside.goes c.args.tree.now c.turns.tree c.args.outside.now c.turns.outside c.next.new.self c.args.place c.args.up (whole_entry c.args.entry.now) c.in_err-target.field-0.0
+    c.turns.invariant.leads c.turns.invariant.steady c.requires.above (λ q at e. c.in_err-target.ensures.comes q at e)) (λ e h. h)
+
+pub waiting::wait-hand_in-requires : goal.waiting::wait-hand_in-requires
+waiting::wait-hand_in-requires g t c =
+    let p = c.requires.running.0 in
+    let named = c.turns.invariant.steady.keys p _ c.requires.running.1 c.requires.running.2 in
+    let comes = Awaited.turned g.O.Outside.goes g.O.Outside.hands_in c.turns.outside c.next.new.self p c.args.up (whole_entry c.args.entry.now) c.in_ok-target.field-0 _ c.in-Entry.is
+        (c.in_ok-target.ensures.comes p named (c.requires.above p c.requires.running.1)) in
+    let fewer = subst (λ (x : Turn). OnEntry (Ok x) (g.O.Outside.entries_left c.next.new.self < g.O.Outside.entries_left c.turns.outside)) c.in-Entry.is c.in_ok-target.ensures.fewer in
+    let left = c.turns.invariant.left in
+    let most : room (tree_of c.turns.tree) ≤ 1000 = omega arith in
+    λ κs h. (search rules, (search rules, ((p, named, still_in_use c.args.tree.now c.turns.tree p c.turns.invariant.steady c.requires.running.2), comes.1)))
+
+pub waiting::wait-turns-preserved : goal.waiting::wait-turns-preserved
+waiting::wait-turns-preserved g t c = record {
+  leads = Awaited.waits_on g.O.Outside.goes c.args.tree.now c.turns.tree c.hand_in.new.tree c.args.outside.now c.turns.outside c.next.new.self c.hand_in.new.outside c.args.place c.args.up (whole_entry c.args.entry.now)
+      c.in-Entry.target.items (whole_entry c.in-Entry.inner) c.turns.invariant.leads c.turns.invariant.steady c.requires.above
+      (λ p at e. (Awaited.turned g.O.Outside.goes g.O.Outside.hands_in c.turns.outside c.next.new.self p c.args.up (whole_entry c.args.entry.now) c.in_ok-target.field-0 _ c.in-Entry.is (c.in_ok-target.ensures.comes p at e)).0)
+      c.in_ok-hand_in-in-Entry.ensures.runs;
+  steady = steady-trans _ _ _ c.turns.invariant.steady c.hand_in.ensures.steady;
+  left = let a = c.hand_in.ensures.left in let b = c.turns.invariant.left in let d = c.next.ensures.left in omega arith;
+}
+
+pub waiting::wait-returns-in_err-hand_in-in-Entry-clause-runs : goal.waiting::wait-returns-in_err-hand_in-in-Entry-clause-runs
+waiting::wait-returns-in_err-hand_in-in-Entry-clause-runs g t c =
+    let p = err_from_is_err_and c.from_residual-in_err-hand_in-in-Entry.result c.from_residual-in_err-hand_in-in-Entry.ensures.1 in
+    ended_err c.from_residual-in_err-hand_in-in-Entry.result c.in_err-hand_in-in-Entry.field-0.0 p.0 _ _ _ p.1 p.2
+    (Awaited.waits_out g.O.Outside.goes c.args.tree.now c.turns.tree c.hand_in.new.tree c.args.outside.now c.turns.outside c.next.new.self c.hand_in.new.outside c.args.place c.args.up (whole_entry c.args.entry.now)
+    c.in-Entry.target.items (whole_entry c.in-Entry.inner) c.in_err-hand_in-in-Entry.field-0.0 c.turns.invariant.leads c.turns.invariant.steady c.requires.above
+    (λ q at e. (Awaited.turned g.O.Outside.goes g.O.Outside.hands_in c.turns.outside c.next.new.self q c.args.up (whole_entry c.args.entry.now) c.in_ok-target.field-0 _ c.in-Entry.is (c.in_ok-target.ensures.comes q at e)).0)
+    c.in_err-hand_in-in-Entry.ensures.runs) (λ e h. h)
+
+pub waiting::wait-returns-in_err-hand_in-in-Entry-clause-steady : goal.waiting::wait-returns-in_err-hand_in-in-Entry-clause-steady
+waiting::wait-returns-in_err-hand_in-in-Entry-clause-steady g t c = steady-trans _ _ _ c.turns.invariant.steady c.hand_in.ensures.steady
+
+pub waiting::wait-returns-in-Completed-clause-runs : goal.waiting::wait-returns-in-Completed-clause-runs
+waiting::wait-returns-in-Completed-clause-runs g t c =
+    Awaited.completes_wait g.O.Outside.goes c.args.tree.now c.turns.tree c.args.outside.now c.turns.outside c.next.new.self c.args.place c.args.up (whole_entry c.args.entry.now) c.in-Completed.value
+    c.turns.invariant.leads c.turns.invariant.steady c.requires.above
+    (λ p at e. Awaited.turned g.O.Outside.goes g.O.Outside.hands_in c.turns.outside c.next.new.self p c.args.up (whole_entry c.args.entry.now) c.in_ok-target.field-0 _ c.in-Completed.is (c.in_ok-target.ensures.comes p at e))
+
+pub waiting::wait-returns-in-Heard-clause-runs : goal.waiting::wait-returns-in-Heard-clause-runs
+waiting::wait-returns-in-Heard-clause-runs g t c =
+    Awaited.hears_wait g.O.Outside.goes c.args.tree.now c.turns.tree c.args.outside.now c.turns.outside c.next.new.self c.args.place c.args.up (whole_entry c.args.entry.now) (reply_of c.in-Heard.reply)
+    c.turns.invariant.leads c.turns.invariant.steady c.requires.above
+    (λ p at e. Awaited.turned g.O.Outside.goes g.O.Outside.hands_in c.turns.outside c.next.new.self p c.args.up (whole_entry c.args.entry.now) c.in_ok-target.field-0 _ c.in-Heard.is (c.in_ok-target.ensures.comes p at e))
+
+pub waiting::wait-returns-in-Heard-clause-own : goal.waiting::wait-returns-in-Heard-clause-own
+waiting::wait-returns-in-Heard-clause-own g t c =
+    let p = c.requires.running.0 in
+    let named = c.turns.invariant.steady.keys p _ c.requires.running.1 c.requires.running.2 in
+    (Awaited.turned g.O.Outside.goes g.O.Outside.hands_in c.turns.outside c.next.new.self p c.args.up (whole_entry c.args.entry.now) c.in_ok-target.field-0 _ c.in-Heard.is
+    (c.in_ok-target.ensures.comes p named (c.requires.above p c.requires.running.1))).1

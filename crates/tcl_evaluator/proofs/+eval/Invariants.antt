@@ -15,7 +15,7 @@ use Rattle.tcl_calls.specs.BranchesRead.{tests_of}
 use Rattle.tcl_calls.specs.Expressions.{IsKept, settles}
 use Rattle.tcl_calls.specs.Walks.{walks_at}
 use Rattle.tcl_evaluator.specs.View.{Leads}
-use Rattle.tcl_evaluator.proofs.Waiting.{WaitsFrom}
+use Rattle.tcl_evaluator.proofs.Awaited.{WaitsFrom}
 use Rattle.tcl_evaluator.proofs.+eval.Given as goal
 
 abbrev pub decreases-evaluation::eval_script : goal.decreases-evaluation::eval_script
