@@ -1,5 +1,5 @@
 -- What waiting for what stands outside of the tree comes to, and what is handed in meanwhile.
-use Rattle.std.proofs.Common.{◌≡◌, ℤ, [], Option, Some, None, sym, ap, subst}
+use Rattle.std.proofs.Common.{◌≡◌, ℤ, [], Option, Some, None, refl, sym, ap, subst}
 use Rattle.std.specs.Prelude.{Result, Ok, Err}
 use Rattle.std.proofs.lemmas.Option.{same_Some}
 use Rattle.tcl_core.specs.Endings.{Completion, Reply, ok}
@@ -18,7 +18,7 @@ use Rattle.tcl_core.specs.Trees.What.{Out, In, Done, Back}
 use Rattle.tcl_flow.specs.Stopping.{reply_of as stopped_by}
 use Rattle.tcl_flow.specs.View.{completion_of}
 use Rattle.tcl_language.specs.Instructions.{Program}
-use Rattle.tcl_language.specs.Interpreters.{no_interpreter}
+use Rattle.tcl_language.specs.Interpreters.{finished, no_interpreter}
 use Rattle.tcl_language.specs.Table.{serve}
 use Rattle.tcl_language.specs.Language.{language}
 use Rattle.tcl_run.specs.Ends.{IfEnded, Interrupts, cause_of, failing}
@@ -27,7 +27,7 @@ use Rattle.tcl_run.specs.Runs.{Comes, EvaluatesAt, IsAt, IsThere, IsSteady}
 use Rattle.tcl_run.specs.declared.interruption.Interruption.{Interruption}
 use Rattle.tcl_run.specs.declared.interruption.Interruption.TheVariants as interruption
 use Rattle.tcl_run.specs.declared.outside.Turn.{Turn}
-use Rattle.tcl_run.proofs.Endings.{IfEnded-both, IfEnded-more, Interrupts-more}
+use Rattle.tcl_run.proofs.Endings.{IfEnded-both, IfEnded-more, Interrupts-more, ended_err}
 use Rattle.tcl_run.proofs.Leads.{at_prog, at_reply}
 use Rattle.tcl_run.proofs.Steady.{stands, still_at}
 use Rattle.tcl_entries.proofs.Carried.{Interrupts-each}
@@ -38,7 +38,7 @@ use Rattle.tcl_tree.specs.TreeOf.{tree_of, marks_of, Names}
 use Rattle.tcl_tree.specs.declared.tree.Tree.{Tree as Table}
 use Rattle.tcl_tree.specs.declared.tree.Place.{Place as TablePlace}
 use Rattle.tcl_evaluator.specs.View.{Leads}
-use Rattle.tcl_evaluator.specs.Waiting.{AnswersBy, EndsBefore, EndsEntry, EndsWait, ExitOf, HearsSo, WaitsOn, Wherever, waiting}
+use Rattle.tcl_evaluator.specs.Waiting.{AnswersBy, CallsOut, EndsBefore, EndsEntry, EndsWait, ExitOf, HearsSo, WaitsOn, Wherever, waiting}
 
 -- ## How an entry ended
 
@@ -187,3 +187,18 @@ waits_out goes old now new o b m z place up i target inner e leads steady above 
     Interrupts-more e (EndsBefore goes now m place up i target inner new z) (EndsWait goes old o place up i new z)
     (λ r f p style at. let here = still_at old now place p style steady at in
     answers_from goes style (tree_of new) z up i r (leads p style at) (f b (comes p here.names (above p at.names)) p style here (above p at.names))) out
+
+-- ## Calls that pass the top of the tree
+
+module _ {S : Type 0} (goes : Going S) (old new : Table) (o u z : S) (place : TablePlace) (up : Height) (down : Path) (i : Entry)
+    (leaves : (p : Path) → Names old place p → rise_to up p ≡ None → goes o None (event p (Out up down i)) u) (above : (p : Path) → Names old place p → rise_to up p ≡ None) where
+  -- the call ended by what is no ordinary result
+  pub calls_out_over : (result : Result Text Interruption) (e y : Interruption) → result ≡ Err y → y ≡ e → Interrupts e (EndsWait goes old u place up i new z) → CallsOut goes old o place up down i new z result
+  calls_out_over result e y is same ends =
+      ended_err result e y (λ x. Wherever old place (λ p style. (lost : Completion) → Comes goes (language style) (tree_of old) o p (call up down i lost (finished done)) (tree_of new) z (Completed (ok x))))
+      (EndsWait goes old u place up i new z) (λ r. Wherever old place (λ p style. (lost : Completion) → Comes goes (language style) (tree_of old) o p (call up down i lost (finished done)) (tree_of new) z r)) is same ends
+      (λ r h p style at lost. ends_out goes style up down i lost (finished done) r (λ c. refl) (above p at.names) (leaves p at.names (above p at.names)) (h p style at))
+
+  -- or by one
+  pub calls_out_on : (text : Text) → EndsWait goes old u place up i new z (Completed (ok text)) → CallsOut goes old o place up down i new z (Ok text)
+  calls_out_on text h = λ p style at lost. ends_out goes style up down i lost (finished done) (Completed (ok text)) (λ c. refl) (above p at.names) (leaves p at.names (above p at.names)) (h p style at)

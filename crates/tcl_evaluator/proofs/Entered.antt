@@ -64,13 +64,6 @@ invoked_is true words = refl
 invoked_is false words = refl
 
 module _ {S : Type 0} {goes : S → Wait → Event Own → S → Type 0} (style : Integers) where
-  -- nothing is left to do
-  pub done_on : {T U : Tree Own} {o u : S} {p : Path} (x : (Completion → Program) → Program) (e : Reply) → GoesOn goes style T o p x U u e → Comes goes (language style) T o p (x done) U u e
-  done_on x (Completed c) g = g done _ _ _ completed
-  done_on x (Stop n m) g = g done
-  done_on x (Exit n) g = g done
-  done_on x (Cut c) g = g done
-
   -- only ok and error pass
   pub settled_on : {T U : Tree Own} {o u : S} {p : Path} (x : (Completion → Program) → Program) (e f : Reply) → Settled e f → GoesOn goes style T o p x U u e → Comes goes (language style) T o p (x settled) U u f
   settled_on x (Completed c) f l g = g settled _ _ _ (at_reply l completed)

@@ -2,20 +2,20 @@
 use Rattle.std.proofs.Common.{◌≡◌, ℕ, List, [], ◌∷◌, ◌++◌, Some, None, refl, sym, ◌∙◌, ap, subst}
 use Rattle.std.specs.Prelude.{Result, Ok, Err}
 use Rattle.tcl_core.specs.Paths.{Text, Path, rise_to}
-use Rattle.tcl_core.specs.Endings.{Completion, Reply, ok, settle}
+use Rattle.tcl_core.specs.Endings.{Completion, Reply, error, ok, settle}
 use Rattle.tcl_core.specs.Endings.Reply.{Completed, Stop, Exit, Cut}
 use Rattle.tcl_core.specs.Entries.{Entry}
 use Rattle.tcl_core.specs.Entries.Entry.{Eval, CallWords}
 use Rattle.tcl_core.specs.Programs.{blocked, is_deep, is_spent, Wait}
-use Rattle.tcl_core.specs.Programs.Prog.{call, done}
-use Rattle.tcl_core.specs.Threads.{passed}
+use Rattle.tcl_core.specs.Programs.Prog.{done}
+use Rattle.tcl_core.specs.Threads.{completed, passed}
 use Rattle.tcl_core.specs.Trees.{Tree, effect, Event}
 use Rattle.tcl_core.specs.Trees.What.{Charged, Nested, Unnested}
 use Rattle.tcl_flow.specs.View.{completion_of}
 use Rattle.tcl_language.specs.Faults.{lost_alias}
 use Rattle.tcl_language.specs.Instructions.{Program}
 use Rattle.tcl_language.specs.Instructions.Instr.{Script, Call, Target, Hidden}
-use Rattle.tcl_language.specs.Interpreters.{call_alias, finished}
+use Rattle.tcl_language.specs.Interpreters.{call_alias, no_interpreter}
 use Rattle.tcl_language.specs.Language.{language}
 use Rattle.tcl_language.specs.Scripts.{script}
 use Rattle.tcl_language.specs.Faults.{invalid_command, invalid_hidden}
@@ -24,12 +24,12 @@ use Rattle.tcl_tree.specs.declared.command.Command.{Command}
 use Rattle.tcl_tree.specs.declared.command.Command.TheVariants as command
 use Rattle.tcl_run.specs.declared.interruption.Interruption.{Interruption}
 use Rattle.tcl_run.specs.declared.interruption.Interruption.TheVariants as interruption
-use Rattle.tcl_run.specs.Ends.{IfEnded, failing, too_deep_at}
+use Rattle.tcl_run.specs.Ends.{IfEnded, Interrupts, failing, too_deep_at}
 use Rattle.tcl_run.specs.Outsides.{Going, Enters, Misses}
 use Rattle.tcl_run.specs.Plain.{Acts, Does}
 use Rattle.tcl_run.specs.Runs.{Comes, Evaluates, EvaluatesAt, IsAt, IsThere, IsSteady, StopsCounting}
 use Rattle.tcl_run.proofs.Endings.{IfEnded-more, IfEnded-both}
-use Rattle.tcl_run.proofs.Leads.{at_prog, at_reply, at_finish, charges, charge_stops, goes_on, goes_done, nests_done, nest_refused, calls_in, finds_none}
+use Rattle.tcl_run.proofs.Leads.{at_prog, at_reply, at_finish, charges, charge_stops, goes_on, goes_done, nests_done, nest_refused, finds_none}
 use Rattle.tcl_run.proofs.Plain.{does_comes}
 use Rattle.tcl_run.proofs.Steady.{stands, still_at}
 use Rattle.tcl_text.specs.declared.integer.Integers.{Integers}
@@ -41,9 +41,12 @@ use Rattle.tcl_tree.specs.TreeOf.{tree_of, Names}
 use Rattle.tcl_tree.specs.declared.tree.Tree.{Tree as Table}
 use Rattle.tcl_tree.specs.declared.tree.Place.{Place as TablePlace}
 use Rattle.tcl_tree.specs.declared.tree.places.Reach.TheVariants as reach
-use Rattle.tcl_calls.specs.Carrying.{ComesBack, Settles}
+use Rattle.tcl_calls.specs.Carrying.{ComesBack, EndedBy, Settles}
+use Rattle.tcl_entries.specs.Asking.{AsksBelow, GoesOn, asks_below}
+use Rattle.tcl_entries.proofs.Asked.{call_goes}
 use Rattle.tcl_entries.proofs.Carried.{ended_by}
 use Rattle.tcl_evaluator.specs.View.{targeted, unhidden}
+use Rattle.tcl_evaluator.specs.Waiting.{CallsOut, CallsThere, FindsNobody, calls}
 
 -- what there is is done, whatever is told where there is none
 pub same_dispatch : (style : Integers) (word : Text) (args : List Text) (c : Command) → dispatch style word args invalid_hidden (Some c) ≡ dispatch style word args invalid_command (Some c)
@@ -105,42 +108,71 @@ acts_there goes t u o place program r acts = IfEnded-more r (λ e. (p : Path) (s
     (λ e. (p : Path) (style : Integers) → IsThere t place p style → Comes goes (language style) (tree_of t) o p (program style) (tree_of u) o e)
     (λ e h p style at. does_comes (program style) o (h p style at)) acts
 
--- the same program, told otherwise
+-- the same entry, told otherwise
 pub evaluates_there : {S : Type 0} (goes : Going S) (t u : Table) (o z : S) (place : TablePlace) (x y : Entry) (r : Result Text Interruption) → x ≡ y → EvaluatesAt goes t o place (λ style. serve style y) u z r → EvaluatesAt goes t o place (λ style. serve style x) u z r
 evaluates_there goes t u o z place x y r same h = subst (λ (i : Entry). EvaluatesAt goes t o place (λ style. serve style i) u z r) (sym same) h
 
--- ## Calls that are all that is left
+-- the same program, told otherwise
+pub evaluates_same : {S : Type 0} (goes : Going S) (old new : Table) (o z : S) (place : TablePlace) (x y : Program) (r : Result Text Interruption) → x ≡ y → Evaluates goes old o place (λ style. y) new z r → Evaluates goes old o place (λ style. x) new z r
+evaluates_same goes old new o z place x y r same h = subst (λ (a : Program). Evaluates goes old o place (λ style. a) new z r) (sym same) h
 
-abbrev pub calls : ℕ → Path → Entry → Completion → Program
-calls up down i lost = call (Some up) down i lost (finished done)
+-- ## Calls
 
--- an alias is such a call
-pub alias_is : (a : AliasView) (word : Text) (args : List Text) (up : ℕ) (down : Path) (words : List Text) → up ≡ a.up → down ≡ a.down → words ≡ a.words ++ args → call_alias a word args ≡ calls up down (CallWords words) (failing (lost_alias word))
+-- an alias is a call behind which nothing is left
+pub alias_is : (a : AliasView) (word : Text) (args : List Text) (up : ℕ) (down : Path) (words : List Text) → up ≡ a.up → down ≡ a.down → words ≡ a.words ++ args → call_alias a word args ≡ calls up down (CallWords words) (failing (lost_alias word)) done
 alias_is a word args up down words eu ed ew =
-    ap (λ (n : ℕ). calls n a.down (CallWords (a.words ++ args)) (failing (lost_alias word))) (sym eu) ∙ ap (λ (d : Path). calls up d (CallWords (a.words ++ args)) (failing (lost_alias word))) (sym ed)
-    ∙ ap (λ (ws : List Text). calls up down (CallWords ws) (failing (lost_alias word))) (sym ew)
+    ap (λ (n : ℕ). calls n a.down (CallWords (a.words ++ args)) (failing (lost_alias word)) done) (sym eu) ∙ ap (λ (d : Path). calls up d (CallWords (a.words ++ args)) (failing (lost_alias word)) done) (sym ed)
+    ∙ ap (λ (ws : List Text). calls up down (CallWords ws) (failing (lost_alias word)) done) (sym ew)
 
-module _ {S : Type 0} (goes : Going S) (old new : Table) (o : S) (place : TablePlace) (up : ℕ) (down : Path) (i : Entry) (lost : Completion) (result : Result Text Interruption) where
+-- nothing is left to do
+pub done_on : {S : Type 0} (goes : Going S) (style : Integers) {T U : Tree Own} {o u : S} {p : Path} (x : (Completion → Program) → Program) (e : Reply) → GoesOn goes style T o p x U u e → Comes goes (language style) T o p (x done) U u e
+done_on goes style x (Completed c) g = g done _ _ _ completed
+done_on goes style x (Stop n m) g = g done
+done_on goes style x (Exit n) g = g done
+done_on goes style x (Cut c) g = g done
+
+module _ {S : Type 0} (goes : Going S) (old new : Table) (o : S) (place : TablePlace) (up : ℕ) (down : Path) (i : Entry) (result : Result Text Interruption) where
   -- where somebody stands, whose program came to that end, of which the outside was told
-  pub calls_there : {u v w : S} (there : TablePlace) (ended : Result Text Interruption) → ((p : Path) → Names old place p → Reached old p up down (reach.There there)) →
+  pub calls_there : (u v w : S) (there : TablePlace) (ended : Result Text Interruption) → ((p : Path) → Names old place p → Reached old p up down (reach.There there)) →
       ((p a : Path) → Names old place p → rise_to (Some up) p ≡ Some a → Enters goes o p up a down i u) → EvaluatesAt goes old u there (λ style. serve style i) new v ended →
-      IfEnded result (λ r. (p a : Path) → Names new place p → rise_to (Some up) p ≡ Some a → ComesBack goes v p up a down ended r w) → IsSteady old new → Evaluates goes old o place (λ style. calls up down i lost) new w result
-  calls_there {u} {v} {w} there ended leads enters runs comes steady = IfEnded-more result (λ r. (p a : Path) → Names new place p → rise_to (Some up) p ≡ Some a → ComesBack goes v p up a down ended r w)
-      (λ e. (p : Path) (style : Integers) → IsAt old place p style → Comes goes (language style) (tree_of old) o p (calls up down i lost) (tree_of new) w e)
-      (λ r back p style at.
+      IfEnded result (λ r. (p a : Path) → Names new place p → rise_to (Some up) p ≡ Some a → ComesBack goes v p up a down ended r w) → IsSteady old new → CallsThere goes old o place up down i new w result
+  calls_there u v w there ended leads enters runs comes steady = IfEnded-more result (λ r. (p a : Path) → Names new place p → rise_to (Some up) p ≡ Some a → ComesBack goes v p up a down ended r w)
+      (λ e. (p : Path) (style : Integers) → IsAt old place p style → (lost : Completion) → GoesOn goes style (tree_of old) o p (calls up down i lost) (tree_of new) w e)
+      (λ r back p style at lost.
       let lead = leads p at.names in
       let m = stands (tree_of old (lead.0 ++ down)) (tree_there old (lead.0 ++ down) _ lead.2) in
       let told = back p lead.0 (still_at old new place p style steady at).names lead.1 in
-      calls_in lead.0 lead.1 m.1 (enters p lead.0 at.names lead.1)
+      call_goes goes style p up down i lost lead.0 r lead.1 m.1 (enters p lead.0 at.names lead.1)
       (ended_by ended told.reply (λ s. (q : Path) (z : Integers) → IsThere old there q z → Comes goes (language z) (tree_of old) u q (serve z i) (tree_of new) v s) told.ended_so runs (lead.0 ++ down) style
       (record { names = lead.2; style_is = at.style_is })) told.told_so told.returns) comes
 
-  -- and where nobody does
-  pub calls_nobody : {u : S} → ((p : Path) → Names old place p → Reached old p up down reach.Missing) → new ≡ old → IfEnded result (λ e. e ≡ Completed lost) →
-      IfEnded result (λ e. (p a : Path) → Names old place p → rise_to (Some up) p ≡ Some a → Misses goes o p up down i e u) → Evaluates goes old o place (λ style. calls up down i lost) new u result
-  calls_nobody {u} leads same told misses = IfEnded-both result (λ e. e ≡ Completed lost) (λ e. (p a : Path) → Names old place p → rise_to (Some up) p ≡ Some a → Misses goes o p up down i e u)
-      (λ e. (p : Path) (style : Integers) → IsAt old place p style → Comes goes (language style) (tree_of old) o p (calls up down i lost) (tree_of new) u e)
-      (λ e f miss p style at.
-      let lead = leads p at.names in
-      subst (λ (t : Table). Comes goes (language style) (tree_of old) o p (calls up down i lost) (tree_of t) u e) (sym same)
-      (finds_none lead.0 lead.1 lead.2 (subst (λ (r : Reply). Misses goes o p up down i r u) f (miss p lead.0 at.names lead.1)) f)) told misses
+  -- so it ends where nothing is left
+  pub calls_end : (z : S) (lost : Completion) → CallsThere goes old o place up down i new z result → Evaluates goes old o place (λ style. calls up down i lost done) new z result
+  calls_end z lost h = IfEnded-more result (λ e. (p : Path) (style : Integers) → IsAt old place p style → (lost : Completion) → GoesOn goes style (tree_of old) o p (calls up down i lost) (tree_of new) z e)
+      (λ e. (p : Path) (style : Integers) → IsAt old place p style → Comes goes (language style) (tree_of old) o p (calls up down i lost done) (tree_of new) z e)
+      (λ e f p style at. done_on goes style (calls up down i lost) e (f p style at lost)) h
+
+  -- and so it goes on below
+  pub calls_below : (z : S) → up ≡ 0 → CallsThere goes old o place up down i new z result → AsksBelow goes old o place down i new z result
+  calls_below z none h = IfEnded-more result (λ e. (p : Path) (style : Integers) → IsAt old place p style → (lost : Completion) → GoesOn goes style (tree_of old) o p (calls up down i lost) (tree_of new) z e)
+      (λ e. (p : Path) (style : Integers) → IsAt old place p style → GoesOn goes style (tree_of old) o p (asks_below down i) (tree_of new) z e)
+      (λ e f p style at. subst (λ (n : ℕ). GoesOn goes style (tree_of old) o p (calls n down i (error (no_interpreter []))) (tree_of new) z e) none (f p style at (error (no_interpreter [])))) h
+
+-- where nobody stands
+pub calls_nobody : {S : Type 0} (goes : Going S) (old : Table) (o u : S) (place : TablePlace) (up : ℕ) (down : Path) (i : Entry) (result : Result Text Interruption) (lost : Completion) →
+    ((p : Path) → Names old place p → Reached old p up down reach.Missing) → IfEnded result (λ e. e ≡ Completed lost) → FindsNobody goes old o place up down i u result → Evaluates goes old o place (λ style. calls up down i lost done) old u result
+calls_nobody goes old o u place up down i result lost leads told misses = IfEnded-both result (λ e. e ≡ Completed lost) (λ e. (p a : Path) → Names old place p → rise_to (Some up) p ≡ Some a → Misses goes o p up down i e u)
+    (λ e. (p : Path) (style : Integers) → IsAt old place p style → Comes goes (language style) (tree_of old) o p (calls up down i lost done) (tree_of old) u e)
+    (λ e f miss p style at.
+    let lead = leads p at.names in
+    finds_none lead.0 lead.1 lead.2 (subst (λ (r : Reply). Misses goes o p up down i r u) f (miss p lead.0 at.names lead.1)) f) told misses
+
+-- past the top
+pub calls_past : {S : Type 0} (goes : Going S) (old new : Table) (o z : S) (place : TablePlace) (up : ℕ) (down : Path) (i : Entry) (result : Result Text Interruption) (lost : Completion) → CallsOut goes old o place (Some up) down i new z result →
+    Evaluates goes old o place (λ style. calls up down i lost done) new z result
+calls_past goes old new o z place up down i result lost h = IfEnded-more result (λ e. (p : Path) (style : Integers) → IsAt old place p style → (lost : Completion) → Comes goes (language style) (tree_of old) o p (calls up down i lost done) (tree_of new) z e)
+    (λ e. (p : Path) (style : Integers) → IsAt old place p style → Comes goes (language style) (tree_of old) o p (calls up down i lost done) (tree_of new) z e) (λ e f p style at. f p style at lost) h
+
+-- how it is told that nobody was found
+pub lost_so : (i : Interruption) (result : Result Text Interruption) (P : Reply → Type 0) → Interrupts i P → IfEnded result (EndedBy (Err i)) → IfEnded result P
+lost_so i result P h told = IfEnded-more result (EndedBy (Err i)) P (λ e f. ended_by (Err i) e P f h) told

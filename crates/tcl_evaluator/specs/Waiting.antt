@@ -1,5 +1,5 @@
 -- What contracts see of calls that pass the top of the tree, and of what is handed in while they are open.
-use Rattle.std.specs.Prelude.{◌≡◌, true, ℤ, [], Option, Some, None, Result, Ok, Err, MatchResult}
+use Rattle.std.specs.Prelude.{◌≡◌, true, ℕ, ℤ, [], Option, Some, None, Result, Ok, Err, MatchResult}
 use Rattle.tcl_core.specs.Endings.{Completion, Reply, ok}
 use Rattle.tcl_core.specs.Endings.Reply.{Completed}
 use Rattle.tcl_core.specs.Entries.{Answer, Entry, HostReply}
@@ -19,15 +19,16 @@ use Rattle.tcl_language.specs.Instructions.{Program}
 use Rattle.tcl_language.specs.Interpreters.{finished}
 use Rattle.tcl_language.specs.Language.{language}
 use Rattle.tcl_run.specs.Ends.{IfEnded, Interrupts, failing}
-use Rattle.tcl_run.specs.Outsides.{Going, number_of, reply_of}
+use Rattle.tcl_run.specs.Outsides.{Going, Misses, number_of, reply_of}
 use Rattle.tcl_run.specs.Runs.{Comes, IsAt}
 use Rattle.tcl_run.specs.declared.interruption.Interruption.{Interruption}
 use Rattle.tcl_run.specs.declared.interruption.Interruption.TheVariants as interruption
 use Rattle.tcl_text.specs.declared.integer.Integers.{Integers}
 use Rattle.tcl_tree.specs.Own.{Own}
-use Rattle.tcl_tree.specs.TreeOf.{tree_of, marks_of}
+use Rattle.tcl_tree.specs.TreeOf.{tree_of, marks_of, Names}
 use Rattle.tcl_tree.specs.declared.tree.Place as table_place
 use Rattle.tcl_tree.specs.declared.tree.Tree as table
+use Rattle.tcl_entries.specs.Asking.{GoesOn}
 use Rattle.tcl_evaluator.specs.View.{Leads}
 use Rattle.tcl_evaluator.specs.declared.waiting.Said.{Said}
 use Rattle.tcl_evaluator.specs.declared.waiting.Said.TheVariants as said
@@ -66,6 +67,21 @@ Waits goes old o place up i new z result = MatchResult result (SaysOn goes old o
 abbrev pub IsAnswer : Height → Entry → Said → Type 0
 IsAnswer up i (said.Completed text) = is_own up i (Replied (Completed (ok text))) ≡ true
 IsAnswer up i (said.Heard reply) = is_own up i (Heard (reply_of reply)) ≡ true
+
+-- ## Calls of interpreters
+
+-- a call so many levels up and these names down, behind which a program goes on
+abbrev pub calls : ℕ → Path → Entry → Completion → (Completion → Program) → Program
+calls up down i lost k = call (Some up) down i lost (finished k)
+
+-- What came of a call of an interpreter of the tree, whatever program goes on behind it.
+abbrev pub CallsThere : {S : Type 0} → Going S → table.Tree → S → table_place.Place → ℕ → Path → Entry → table.Tree → S → Result Text Interruption → Type 0
+CallsThere goes old o place up down i new z result =
+    IfEnded result (λ r. Wherever old place (λ p style. (lost : Completion) → GoesOn goes style (tree_of old) o p (calls up down i lost) (tree_of new) z r))
+
+-- The outside is told that a call found nobody, and was answered so.
+abbrev pub FindsNobody : {S : Type 0} → Going S → table.Tree → S → table_place.Place → ℕ → Path → Entry → S → Result Text Interruption → Type 0
+FindsNobody goes old o place up down i z result = IfEnded result (λ r. (p a : Path) → Names old place p → rise_to (Some up) p ≡ Some a → Misses goes o p up down i r z)
 
 -- What came of a call of an interpreter above the tree, or below one that is, by which the caller ends.
 abbrev pub CallsOut : {S : Type 0} → Going S → table.Tree → S → table_place.Place → Height → Path → Entry → table.Tree → S → Result Text Interruption → Type 0

@@ -1,15 +1,21 @@
 //! Evaluations that others ask for: by an alias, by `interp`, or from outside of the tree.
-ghost use Rattle.std.specs.Prelude.{◌≡◌, ◌≤◌, Some, None};
-ghost use Rattle.tcl_core.specs.Paths.{Path, rise_to};
+ghost use Rattle.std.specs.Prelude.{◌≡◌, ◌≤◌, Some, None, Err};
+ghost use Rattle.tcl_core.specs.Endings.Reply.{Completed};
 ghost use Rattle.tcl_core.specs.Entries.Entry.{Eval, CallWords, InvokeHidden};
+ghost use Rattle.tcl_core.specs.Paths.{Path, rise_to};
+ghost use Rattle.tcl_language.specs.Faults as faults;
 ghost use Rattle.tcl_language.specs.Interpreters.{call_alias as alias_program};
 ghost use Rattle.tcl_language.specs.Table as table;
-ghost use Rattle.tcl_run.specs.Runs.{Evaluates, EvaluatesAt, IsRunning, IsSteady};
-ghost use Rattle.tcl_tree.specs.TreeOf.{Names};
-ghost use Rattle.tcl_entries.specs.Asking.{Asks, AsksBelow};
+ghost use Rattle.tcl_run.specs.Ends.{IfEnded, failing};
 ghost use Rattle.tcl_run.specs.Entering.{whole_entry};
+ghost use Rattle.tcl_run.specs.Runs.{Evaluates, EvaluatesAt, IsRunning, IsSteady};
+ghost use Rattle.tcl_tree.specs.Reaching.{Leads};
+ghost use Rattle.tcl_tree.specs.TreeOf.{Names};
+ghost use Rattle.tcl_tree.specs.declared.tree.places.Reach.TheVariants.{There};
+ghost use Rattle.tcl_calls.specs.Carrying.{EndedBy};
+ghost use Rattle.tcl_entries.specs.Asking.{Asks, AsksBelow};
 ghost use Rattle.tcl_evaluator.specs.View.{Invokes, targeted, unhidden};
-ghost use Rattle.tcl_evaluator.specs.Waiting.{CallsOut};
+ghost use Rattle.tcl_evaluator.specs.Waiting.{CallsOut, CallsThere, FindsNobody};
 
 use crate::commands::{call, call_hidden};
 use crate::evaluation::eval_value;
@@ -51,17 +57,76 @@ pub fn call_alias<O: Outside>(
     let down = alias.down();
     match tree.reach(place, up, down) {
         Reach::There(target) => {
-            outside.enters(alloc, tree, place, up, down, &entry)?;
-            let ended = serve_entry(tree, alloc, outside, target, entry);
-            come_back(tree, alloc, outside, place, up, down, ended)
+            call_there(tree, alloc, outside, place, up, down, target, entry)
         }
-        Reach::Missing => {
-            let told = Err(lost_alias(alloc, word.text(alloc)?.as_str()));
-            outside.misses(alloc, tree, place, up, down, &entry, &told)?;
-            told
-        }
-        Reach::Outside => call_past_top(tree, alloc, outside, place, up, down, &entry),
+        Reach::Missing => miss_alias(tree, alloc, outside, place, up, down, entry, word),
+        Reach::Outside => call_past_top(tree, alloc, outside, place, up, down, entry),
     }
+}
+
+/// An alias whose target isn't there.
+#[inline(never)]
+fn miss_alias<O: Outside>(
+    tree: &Tree,
+    alloc: Global,
+    outside: &mut O,
+    place: Place,
+    up: usize,
+    down: &[Text],
+    entry: Entry,
+    word: &Value,
+) -> Result<Value, Interruption>
+    ensures told { IfEnded result (λ r. r ≡ Completed (failing (faults.lost_alias word.now))) }
+    ensures misses { FindsNobody O.goes tree.now outside.old place up down.now (whole_entry entry) outside.new result }
+    ensures left { O.entries_left outside.new ≤ O.entries_left outside.old }
+{
+    let lost = lost_alias(alloc, word.text(alloc)?.as_str());
+    find_nobody(tree, alloc, outside, place, up, down, entry, lost)
+}
+
+/// Tells the outside of a call that finds nobody, so many levels up and these names down from the caller, and ends it so.
+#[inline(never)]
+fn find_nobody<O: Outside>(
+    tree: &Tree,
+    alloc: Global,
+    outside: &mut O,
+    caller: Place,
+    up: usize,
+    down: &[Text],
+    entry: Entry,
+    lost: Interruption,
+) -> Result<Value, Interruption>
+    ensures told { IfEnded result (EndedBy (Err lost)) }
+    ensures misses { FindsNobody O.goes tree.now outside.old caller up down.now (whole_entry entry) outside.new result }
+    ensures left { O.entries_left outside.new ≤ O.entries_left outside.old }
+{
+    let told = Err(lost);
+    outside.misses(alloc, tree, caller, up, down, &entry, &told)?;
+    told
+}
+
+/// Calls the interpreter so many levels up and these names down from the caller, which is the target. The outside is told of it.
+#[cycle(eval)]
+#[inline(never)]
+fn call_there<O: Outside>(
+    tree: &mut Tree,
+    alloc: Global,
+    outside: &mut O,
+    caller: Place,
+    up: usize,
+    down: &[Text],
+    target: Place,
+    entry: Entry,
+) -> Result<Value, Interruption>
+    requires running { IsRunning tree.old caller }
+    requires leads { (p : Path) → Names tree.old caller p → Leads tree.old p up down.now (There target) }
+    ensures runs { CallsThere O.goes tree.old outside.old caller up down.now (whole_entry entry) tree.new outside.new result }
+    ensures steady { IsSteady tree.old tree.new }
+    ensures left { O.entries_left outside.new ≤ O.entries_left outside.old }
+{
+    outside.enters(alloc, tree, caller, up, down, &entry)?;
+    let ended = serve_entry(tree, alloc, outside, target, entry);
+    come_back(tree, alloc, outside, caller, up, down, ended)
 }
 
 /// Calls an interpreter above the tree, or below one that is, and waits for its answer.
@@ -71,19 +136,19 @@ fn call_past_top<O: Outside>(
     tree: &mut Tree,
     alloc: Global,
     outside: &mut O,
-    place: Place,
+    caller: Place,
     up: usize,
     down: &[Text],
-    entry: &Entry,
+    entry: Entry,
 ) -> Result<Value, Interruption>
-    requires running { IsRunning tree.old place }
-    requires above { (p : Path) → Names tree.old place p → rise_to (Some up) p ≡ None }
-    ensures runs { CallsOut O.goes tree.old outside.old place (Some up) down.now (whole_entry entry.now) tree.new outside.new result }
+    requires running { IsRunning tree.old caller }
+    requires above { (p : Path) → Names tree.old caller p → rise_to (Some up) p ≡ None }
+    ensures runs { CallsOut O.goes tree.old outside.old caller (Some up) down.now (whole_entry entry) tree.new outside.new result }
     ensures steady { IsSteady tree.old tree.new }
     ensures left { O.entries_left outside.new ≤ O.entries_left outside.old }
 {
-    outside.passes_top(alloc, tree, place, Some(up), down, entry)?;
-    match wait(tree, alloc, outside, place, Some(up), entry)? {
+    outside.passes_top(alloc, tree, caller, Some(up), down, &entry)?;
+    match wait(tree, alloc, outside, caller, Some(up), &entry)? {
         Said::Completed(value) => Ok(value),
         Said::Heard(_) => unreachable!(),
     }
@@ -294,14 +359,11 @@ fn ask_below<O: Outside>(
 {
     match tree.reach(place, 0, path) {
         Reach::There(target) => {
-            outside.enters(alloc, tree, place, 0, path, &entry)?;
-            let ended = serve_entry(tree, alloc, outside, target, entry);
-            come_back(tree, alloc, outside, place, 0, path, ended)
+            call_there(tree, alloc, outside, place, 0, path, target, entry)
         }
         Reach::Missing => {
-            let told = Err(no_interpreter(alloc, ""));
-            outside.misses(alloc, tree, place, 0, path, &entry, &told)?;
-            told
+            let lost = no_interpreter(alloc, "");
+            find_nobody(tree, alloc, outside, place, 0, path, entry, lost)
         }
         Reach::Outside => unreachable!(),
     }

@@ -53,14 +53,14 @@ use Rattle.tcl_run.specs.Outsides.{Going}
 use Rattle.tcl_run.specs.Runs.{IsThere}
 use Rattle.tcl_text.specs.declared.integer.Integers.{Integers}
 use Rattle.tcl_entries.specs.Asking.{GoesOn}
-use Rattle.tcl_entries.proofs.Carried.{asks_another, asks_there, asks_nobody}
+use Rattle.tcl_entries.proofs.Carried.{asks_another, asks_nobody}
 use Rattle.tcl_entries.proofs.Reached.{never_outside}
 use Rattle.tcl_core.specs.Programs.Prog.{done}
 use Rattle.tcl_language.specs.Interpreters.{asks_at, eval as interp_evals}
 use Rattle.tcl_language.specs.Words.{concat}
 use Rattle.tcl_run.specs.Runs.{IsAt}
 use Rattle.tcl_run.proofs.Leads.{grows, outgrows}
-use Rattle.tcl_evaluator.proofs.Entered.{asks_here, evals, eval_is, eval_few, done_on, hidden_stops, hidden_settles, invokes_here, invokes_global}
+use Rattle.tcl_evaluator.proofs.Entered.{asks_here, evals, eval_is, eval_few, hidden_stops, hidden_settles, invokes_here, invokes_global}
 use Rattle.tcl_core.specs.Entries.Entry.{Eval, InvokeHidden}
 use Rattle.tcl_language.specs.Table.{invoked}
 use Rattle.tcl_calls.specs.Found.{hidden_found}
@@ -71,7 +71,7 @@ use Rattle.tcl_language.specs.Table.{serve}
 use Rattle.tcl_tree.specs.declared.command.Command.{Command}
 use Rattle.tcl_language.specs.Faults.{lost_alias}
 use Rattle.tcl_run.specs.Runs.{InUse}
-use Rattle.tcl_evaluator.proofs.Targets.{settled_more, target_ends, target_refused, entry_stops, entry_calls, entry_evaluates, unhidden_ends, unhidden_refused, same_dispatch, acts_there, evaluates_there, alias_is, calls_there, calls_nobody}
+use Rattle.tcl_evaluator.proofs.Targets.{settled_more, target_ends, target_refused, entry_stops, entry_calls, entry_evaluates, unhidden_ends, unhidden_refused, same_dispatch, acts_there, evaluates_there, alias_is, done_on, evaluates_same, calls_there, calls_end, calls_below, calls_nobody, calls_past, lost_so}
 -- (of expressions and the commands with conditions)
 use Rattle.std.proofs.Common.{◌⊎◌, inl, inr, ◌<◌, get_or}
 use Rattle.std.specs.Option.{option_copied}
@@ -132,11 +132,12 @@ use Rattle.std.proofs.lemmas.Int.{to_z-of_z}
 use Rattle.std.specs.Prelude.{Ok}
 use Rattle.tcl_core.specs.Entries.Entry.{AskHost}
 use Rattle.tcl_core.specs.Entries.Request.{Write}
-use Rattle.tcl_run.specs.Entering.{whole_entry}
+use Rattle.tcl_run.specs.Entering.{entry_of, whole_entry}
 use Rattle.tcl_run.specs.Outsides.{OnEntry, reply_of}
 use Rattle.tcl_run.specs.Runs.{room}
 use Rattle.tcl_run.specs.declared.outside.Turn.{Turn}
-use Rattle.tcl_evaluator.specs.Waiting.{IsWritten, SaysOn}
+use Rattle.tcl_language.specs.Interpreters.{no_interpreter}
+use Rattle.tcl_evaluator.specs.Waiting.{IsWritten, SaysOn, calls}
 use Rattle.tcl_evaluator.proofs.+eval.Goals.{hosting::puts-in_default-via-then-args-lt1, hosting::puts-in_default-via-else-args-lt1+else-args-lt2+else-args-lt3+else-args-lt4}
 use Rattle.tcl_evaluator.proofs.+eval.Goals as goal
 
@@ -805,7 +806,7 @@ interpreters::interp_eval-returns-clause-runs g t c =
     (λ e h q style at. at_prog is (c.in_ok-found.ensures.read (evals words) (tree_of c.ask_entry.new.tree) c.ask_entry.new.outside e
     (λ r integers here. grows (concat words) (λ script. asks_at c.in_ok-found.found.path.items (Eval script) done) c.in_ok-script.ensures.whole.1
     (at_prog (ap (λ (x : Path). asks_at x (Eval (concat words)) done) (sym c.as_slice.ensures.value) ∙ ap (λ (x : List ℕ). asks_at c.as_slice.result.now (Eval x) done) (sym c.in_ok-script.ensures.whole.0))
-    (done_on integers (asks_at c.as_slice.result.now (Eval c.in_ok-script.script)) e (h r integers here)))) q style at)) c.ask_entry.ensures.asks
+    (done_on g.O.Outside.goes integers (asks_at c.as_slice.result.now (Eval c.in_ok-script.script)) e (h r integers here)))) q style at)) c.ask_entry.ensures.asks
 
 -- # Expressions, and the commands with conditions
 
@@ -1660,6 +1661,91 @@ hosting::write-returns-clause-runs g t c =
     (λ q at. c.in_ok-passes_top.ensures.told q at refl) c.in-Heard.reply
     (subst (SaysOn g.O.Outside.goes c.args.tree.now c.passes_top.new.self c.args.place None (AskHost (Write c.in_ok-clone.field-0 c.in_ok-text.field-0)) c.wait.new.tree c.wait.new.outside) c.in-Heard.is c.in_ok-reply.ensures.runs)
     (subst (λ (x : Text). IsWritten x c.in-Heard.reply c.written.result) (named ∙ sym channel) c.written.ensures))
+
+-- # Calls between interpreters
+
+pub crossing::ask_below-unreachable-requires : goal.crossing::ask_below-unreachable-requires
+crossing::ask_below-unreachable-requires g t c = never_outside c.args.tree.now c.args.place c.args.path.now (λ p at. c.in-Outside.ensures p at) c.requires.0 c.requires.1
+
+pub crossing::ask_below-returns-in-There-clause-asks : goal.crossing::ask_below-returns-in-There-clause-asks
+crossing::ask_below-returns-in-There-clause-asks g t c =
+    calls_below g.O.Outside.goes c.args.tree.now c.call_there.new.tree c.args.outside.now c.args.place 0 c.args.path.now (whole_entry c.args.entry) c.call_there.result c.call_there.new.outside refl c.call_there.ensures.runs
+
+pub crossing::ask_below-returns-in-Missing-clause-asks : goal.crossing::ask_below-returns-in-Missing-clause-asks
+crossing::ask_below-returns-in-Missing-clause-asks g t c =
+    asks_nobody g.O.Outside.goes c.args.tree.now c.args.tree.now c.args.outside.now c.args.place c.args.path.now (whole_entry c.args.entry) c.find_nobody.result c.find_nobody.new.outside
+    (λ p at. c.in-Missing.ensures p at) refl
+    (lost_so c.no_interpreter-lost.result c.find_nobody.result (λ (e : Reply). e ≡ Completed (failing (no_interpreter []))) c.no_interpreter-lost.ensures c.find_nobody.ensures.told) c.find_nobody.ensures.misses
+
+pub crossing::ask_entry-returns-then-is_empty-clause-asks : goal.crossing::ask_entry-returns-then-is_empty-clause-asks
+crossing::ask_entry-returns-then-is_empty-clause-asks g t c =
+    let zero = Steps.zero_is (length c.args.path.now) c.is_empty.result c.is_empty.ensures c.if-is_empty.true in
+    asks_here g.O.Outside.goes c.args.tree.now c.serve_entry.new.tree c.args.outside.now c.serve_entry.new.outside c.args.place c.args.path.now (whole_entry c.args.entry) c.serve_entry.result
+    (no_item c.args.path.now (omega (arith, zero))) c.serve_entry.ensures.runs
+
+pub crossing::ask_entry-returns-clause-asks : goal.crossing::ask_entry-returns-clause-asks
+crossing::ask_entry-returns-clause-asks g t c =
+    let some = Steps.some_is (length c.args.path.now) c.is_empty.result c.is_empty.ensures c.if-is_empty.false in
+    asks_another g.O.Outside.goes c.args.tree.now c.ask_below.new.tree c.args.outside.now c.ask_below.new.outside c.args.place c.args.path.now (whole_entry c.args.entry) c.ask_below.result some c.ask_below.ensures.asks
+
+pub crossing::call_alias-returns-in-There-clause-runs : goal.crossing::call_alias-returns-in-There-clause-runs
+crossing::call_alias-returns-in-There-clause-runs g t c =
+    let up : c.up-up.result ≡ c.args.alias.now.up = search rules in
+    let same = alias_is c.args.alias.now c.args.word.now c.args.args.now c.up-up.result c.down-down.result.now c.in_ok-target_words.field-0.items up c.down-down.ensures
+        (c.in_ok-target_words.ensures ∙ ap (λ (ws : List (List ℕ)). ws ++ c.args.args.now) c.words.ensures) in
+    evaluates_same g.O.Outside.goes c.args.tree.now c.call_there.new.tree c.args.outside.now c.call_there.new.outside c.args.place (alias_program c.args.alias.now c.args.word.now c.args.args.now) _ c.call_there.result same
+    (calls_end g.O.Outside.goes c.args.tree.now c.call_there.new.tree c.args.outside.now c.args.place c.up-up.result c.down-down.result.now (CallWords c.in_ok-target_words.field-0.items) c.call_there.result
+    c.call_there.new.outside (failing (lost_alias c.args.word.now)) c.call_there.ensures.runs)
+
+pub crossing::call_alias-returns-in-Missing-clause-runs : goal.crossing::call_alias-returns-in-Missing-clause-runs
+crossing::call_alias-returns-in-Missing-clause-runs g t c =
+    let up : c.up-up.result ≡ c.args.alias.now.up = search rules in
+    let same = alias_is c.args.alias.now c.args.word.now c.args.args.now c.up-up.result c.down-down.result.now c.in_ok-target_words.field-0.items up c.down-down.ensures
+        (c.in_ok-target_words.ensures ∙ ap (λ (ws : List (List ℕ)). ws ++ c.args.args.now) c.words.ensures) in
+    evaluates_same g.O.Outside.goes c.args.tree.now c.args.tree.now c.args.outside.now c.miss_alias.new.outside c.args.place (alias_program c.args.alias.now c.args.word.now c.args.args.now) _ c.miss_alias.result same
+    (calls_nobody g.O.Outside.goes c.args.tree.now c.args.outside.now c.miss_alias.new.outside c.args.place c.up-up.result c.down-down.result.now (CallWords c.in_ok-target_words.field-0.items) c.miss_alias.result
+    (failing (lost_alias c.args.word.now)) (λ p at. c.in-Missing.ensures p at) c.miss_alias.ensures.told c.miss_alias.ensures.misses)
+
+pub crossing::call_alias-returns-in-Outside-clause-runs : goal.crossing::call_alias-returns-in-Outside-clause-runs
+crossing::call_alias-returns-in-Outside-clause-runs g t c =
+    let up : c.up-up.result ≡ c.args.alias.now.up = search rules in
+    let same = alias_is c.args.alias.now c.args.word.now c.args.args.now c.up-up.result c.down-down.result.now c.in_ok-target_words.field-0.items up c.down-down.ensures
+        (c.in_ok-target_words.ensures ∙ ap (λ (ws : List (List ℕ)). ws ++ c.args.args.now) c.words.ensures) in
+    evaluates_same g.O.Outside.goes c.args.tree.now c.call_past_top.new.tree c.args.outside.now c.call_past_top.new.outside c.args.place (alias_program c.args.alias.now c.args.word.now c.args.args.now) _ c.call_past_top.result same
+    (calls_past g.O.Outside.goes c.args.tree.now c.call_past_top.new.tree c.args.outside.now c.call_past_top.new.outside c.args.place c.up-up.result c.down-down.result.now (CallWords c.in_ok-target_words.field-0.items)
+    c.call_past_top.result (failing (lost_alias c.args.word.now)) c.call_past_top.ensures.runs)
+
+pub crossing::call_past_top-returns-in_err-value-clause-runs : goal.crossing::call_past_top-returns-in_err-value-clause-runs
+crossing::call_past_top-returns-in_err-value-clause-runs g t c =
+    let p = err_from_is_err_and c.from_residual-in_err-value.result c.from_residual-in_err-value.ensures.1 in
+    Awaited.calls_out_over g.O.Outside.goes c.args.tree.now c.wait.new.tree c.args.outside.now c.passes_top.new.self c.wait.new.outside c.args.caller (Some c.args.up) c.args.down.now (whole_entry c.args.entry)
+    (λ q at e. c.in_ok-passes_top.ensures.told q at e) c.requires.above c.from_residual-in_err-value.result c.in_err-value.field-0.0 p.0 p.1 p.2 c.in_err-value.ensures.runs
+
+pub crossing::call_past_top-returns-clause-runs : goal.crossing::call_past_top-returns-clause-runs
+crossing::call_past_top-returns-clause-runs g t c =
+    Awaited.calls_out_on g.O.Outside.goes c.args.tree.now c.wait.new.tree c.args.outside.now c.passes_top.new.self c.wait.new.outside c.args.caller (Some c.args.up) c.args.down.now (whole_entry c.args.entry)
+    (λ q at e. c.in_ok-passes_top.ensures.told q at e) c.requires.above c.in-Completed.value
+    (subst (SaysOn g.O.Outside.goes c.args.tree.now c.passes_top.new.self c.args.caller (Some c.args.up) (whole_entry c.args.entry) c.wait.new.tree c.wait.new.outside) c.in-Completed.is c.in_ok-value.ensures.runs)
+
+pub crossing::call_there-come_back-requires : goal.crossing::call_there-come_back-requires
+crossing::call_there-come_back-requires g t c =
+    let p = c.requires.running.0 in
+    (p, c.serve_entry-ended.ensures.steady.keys p _ c.requires.running.1 c.requires.running.2)
+
+pub crossing::call_there-returns-clause-runs : goal.crossing::call_there-returns-clause-runs
+crossing::call_there-returns-clause-runs g t c =
+    calls_there g.O.Outside.goes c.args.tree.now c.serve_entry-ended.new.tree c.args.outside.now c.args.caller c.args.up c.args.down.now (whole_entry c.args.entry) c.come_back.result
+    c.enters.new.self c.serve_entry-ended.new.outside c.come_back.new.outside c.args.target c.serve_entry-ended.result c.requires.leads (λ p a at e. c.in_ok-enters.ensures.told p a at e)
+    c.serve_entry-ended.ensures.runs c.come_back.ensures.comes c.serve_entry-ended.ensures.steady
+
+pub crossing::serve_entry-returns-in-Own-clause-runs : goal.crossing::serve_entry-returns-in-Own-clause-runs
+crossing::serve_entry-returns-in-Own-clause-runs g t c =
+    evaluates_there g.O.Outside.goes c.args.tree.now c.serve.new.tree c.args.outside.now c.args.outside.now c.args.place (whole_entry c.args.entry) (entry_of c.in-Own.own) c.serve.result (ap whole_entry c.in-Own.is)
+    (acts_there g.O.Outside.goes c.args.tree.now c.serve.new.tree c.args.outside.now c.args.place (λ style. serve style (entry_of c.in-Own.own)) c.serve.result c.serve.ensures.acts)
+
+pub crossing::serve_entry-returns-clause-runs : goal.crossing::serve_entry-returns-clause-runs
+crossing::serve_entry-returns-clause-runs g t c =
+    λ p style at. at_prog (ap (λ i. serve style (whole_entry i)) c.in-AskHost.is) (at_reply (ap (λ (x : List ℕ). Completed (ok x)) c.empty.ensures) completed)
 
 -- # Calls that pass the top of the tree, and what is handed in
 

@@ -70,7 +70,7 @@ abbrev pub decreases-crossing::serve_call : goal.decreases-crossing::serve_call
 decreases-crossing::serve_call g l = 16016 * g.O.Outside.entries_left l.outside.now + 16 * room (tree_of l.tree.now) + 1
 
 abbrev pub decreases-crossing::call_alias : goal.decreases-crossing::call_alias
-decreases-crossing::call_alias g l = 16016 * g.O.Outside.entries_left l.outside.now + 16 * room (tree_of l.tree.now) + 4
+decreases-crossing::call_alias g l = 16016 * g.O.Outside.entries_left l.outside.now + 16 * room (tree_of l.tree.now) + 5
 
 abbrev pub decreases-crossing::invoke : goal.decreases-crossing::invoke
 decreases-crossing::invoke g l = 16016 * g.O.Outside.entries_left l.outside.now + 16 * room (tree_of l.tree.now) + 0
@@ -88,25 +88,25 @@ abbrev pub decreases-commands::call_hidden : goal.decreases-commands::call_hidde
 decreases-commands::call_hidden g l = 16016 * g.O.Outside.entries_left l.outside.now + 16 * room (tree_of l.tree.now) + 12
 
 abbrev pub decreases-interpreters::interp_eval : goal.decreases-interpreters::interp_eval
-decreases-interpreters::interp_eval g l = 16016 * g.O.Outside.entries_left l.outside.now + 16 * room (tree_of l.tree.now) + 6
+decreases-interpreters::interp_eval g l = 16016 * g.O.Outside.entries_left l.outside.now + 16 * room (tree_of l.tree.now) + 7
 
 abbrev pub decreases-interpreters::interp : goal.decreases-interpreters::interp
 decreases-interpreters::interp g l = 16016 * g.O.Outside.entries_left l.outside.now + 16 * room (tree_of l.tree.now) + 9
 
 abbrev pub decreases-interpreters::interp_invoke_hidden : goal.decreases-interpreters::interp_invoke_hidden
-decreases-interpreters::interp_invoke_hidden g l = 16016 * g.O.Outside.entries_left l.outside.now + 16 * room (tree_of l.tree.now) + 6
+decreases-interpreters::interp_invoke_hidden g l = 16016 * g.O.Outside.entries_left l.outside.now + 16 * room (tree_of l.tree.now) + 7
 
 abbrev pub decreases-interpreters::call_subcommand : goal.decreases-interpreters::call_subcommand
-decreases-interpreters::call_subcommand g l = 16016 * g.O.Outside.entries_left l.outside.now + 16 * room (tree_of l.tree.now) + 7
+decreases-interpreters::call_subcommand g l = 16016 * g.O.Outside.entries_left l.outside.now + 16 * room (tree_of l.tree.now) + 8
 
 abbrev pub decreases-children::child_eval : goal.decreases-children::child_eval
-decreases-children::child_eval g l = 16016 * g.O.Outside.entries_left l.outside.now + 16 * room (tree_of l.tree.now) + 6
+decreases-children::child_eval g l = 16016 * g.O.Outside.entries_left l.outside.now + 16 * room (tree_of l.tree.now) + 7
 
 abbrev pub decreases-children::child_invoke_hidden : goal.decreases-children::child_invoke_hidden
-decreases-children::child_invoke_hidden g l = 16016 * g.O.Outside.entries_left l.outside.now + 16 * room (tree_of l.tree.now) + 6
+decreases-children::child_invoke_hidden g l = 16016 * g.O.Outside.entries_left l.outside.now + 16 * room (tree_of l.tree.now) + 7
 
 abbrev pub decreases-children::call_subcommand : goal.decreases-children::call_subcommand
-decreases-children::call_subcommand g l = 16016 * g.O.Outside.entries_left l.outside.now + 16 * room (tree_of l.tree.now) + 7
+decreases-children::call_subcommand g l = 16016 * g.O.Outside.entries_left l.outside.now + 16 * room (tree_of l.tree.now) + 8
 
 abbrev pub decreases-children::child : goal.decreases-children::child
 decreases-children::child g l = 16016 * g.O.Outside.entries_left l.outside.now + 16 * room (tree_of l.tree.now) + 9
@@ -219,14 +219,17 @@ invariant-loops::foreach-turns g l = record {
 abbrev pub decreases-crossing::serve_entry : goal.decreases-crossing::serve_entry
 decreases-crossing::serve_entry g l = 16016 * g.O.Outside.entries_left l.outside.now + 16 * room (tree_of l.tree.now) + 3
 
+abbrev pub decreases-crossing::call_there : goal.decreases-crossing::call_there
+decreases-crossing::call_there g l = 16016 * g.O.Outside.entries_left l.outside.now + 16 * room (tree_of l.tree.now) + 4
+
 abbrev pub decreases-crossing::call_past_top : goal.decreases-crossing::call_past_top
 decreases-crossing::call_past_top g l = 16016 * g.O.Outside.entries_left l.outside.now + 16 * room (tree_of l.tree.now) + 1
 
 abbrev pub decreases-crossing::ask_below : goal.decreases-crossing::ask_below
-decreases-crossing::ask_below g l = 16016 * g.O.Outside.entries_left l.outside.now + 16 * room (tree_of l.tree.now) + 4
+decreases-crossing::ask_below g l = 16016 * g.O.Outside.entries_left l.outside.now + 16 * room (tree_of l.tree.now) + 5
 
 abbrev pub decreases-crossing::ask_entry : goal.decreases-crossing::ask_entry
-decreases-crossing::ask_entry g l = 16016 * g.O.Outside.entries_left l.outside.now + 16 * room (tree_of l.tree.now) + 5
+decreases-crossing::ask_entry g l = 16016 * g.O.Outside.entries_left l.outside.now + 16 * room (tree_of l.tree.now) + 6
 
 abbrev pub decreases-waiting::wait : goal.decreases-waiting::wait
 decreases-waiting::wait g l = 16016 * g.O.Outside.entries_left l.outside.now + 16 * room (tree_of l.tree.now) + 0
