@@ -56,9 +56,7 @@ pub fn call_alias<O: Outside>(
     let up = alias.up();
     let down = alias.down();
     match tree.reach(place, up, down) {
-        Reach::There(target) => {
-            call_there(tree, alloc, outside, place, up, down, target, entry)
-        }
+        Reach::There(target) => { call_there(tree, alloc, outside, place, up, down, target, entry) }
         Reach::Missing => miss_alias(tree, alloc, outside, place, up, down, entry, word),
         Reach::Outside => call_past_top(tree, alloc, outside, place, up, down, entry),
     }
@@ -358,9 +356,7 @@ fn ask_below<O: Outside>(
     ensures left { O.entries_left outside.new ≤ O.entries_left outside.old }
 {
     match tree.reach(place, 0, path) {
-        Reach::There(target) => {
-            call_there(tree, alloc, outside, place, 0, path, target, entry)
-        }
+        Reach::There(target) => { call_there(tree, alloc, outside, place, 0, path, target, entry) }
         Reach::Missing => {
             let lost = no_interpreter(alloc, "");
             find_nobody(tree, alloc, outside, place, 0, path, entry, lost)

@@ -1692,7 +1692,7 @@ pub crossing::call_alias-returns-in-There-clause-runs : goal.crossing::call_alia
 crossing::call_alias-returns-in-There-clause-runs g t c =
     let up : c.up-up.result ≡ c.args.alias.now.up = search rules in
     let same = alias_is c.args.alias.now c.args.word.now c.args.args.now c.up-up.result c.down-down.result.now c.in_ok-target_words.field-0.items up c.down-down.ensures
-        (c.in_ok-target_words.ensures ∙ ap (λ (ws : List (List ℕ)). ws ++ c.args.args.now) c.words.ensures) in
+    (c.in_ok-target_words.ensures ∙ ap (λ (ws : List (List ℕ)). ws ++ c.args.args.now) c.words.ensures) in
     evaluates_same g.O.Outside.goes c.args.tree.now c.call_there.new.tree c.args.outside.now c.call_there.new.outside c.args.place (alias_program c.args.alias.now c.args.word.now c.args.args.now) _ c.call_there.result same
     (calls_end g.O.Outside.goes c.args.tree.now c.call_there.new.tree c.args.outside.now c.args.place c.up-up.result c.down-down.result.now (CallWords c.in_ok-target_words.field-0.items) c.call_there.result
     c.call_there.new.outside (failing (lost_alias c.args.word.now)) c.call_there.ensures.runs)
@@ -1701,7 +1701,7 @@ pub crossing::call_alias-returns-in-Missing-clause-runs : goal.crossing::call_al
 crossing::call_alias-returns-in-Missing-clause-runs g t c =
     let up : c.up-up.result ≡ c.args.alias.now.up = search rules in
     let same = alias_is c.args.alias.now c.args.word.now c.args.args.now c.up-up.result c.down-down.result.now c.in_ok-target_words.field-0.items up c.down-down.ensures
-        (c.in_ok-target_words.ensures ∙ ap (λ (ws : List (List ℕ)). ws ++ c.args.args.now) c.words.ensures) in
+    (c.in_ok-target_words.ensures ∙ ap (λ (ws : List (List ℕ)). ws ++ c.args.args.now) c.words.ensures) in
     evaluates_same g.O.Outside.goes c.args.tree.now c.args.tree.now c.args.outside.now c.miss_alias.new.outside c.args.place (alias_program c.args.alias.now c.args.word.now c.args.args.now) _ c.miss_alias.result same
     (calls_nobody g.O.Outside.goes c.args.tree.now c.args.outside.now c.miss_alias.new.outside c.args.place c.up-up.result c.down-down.result.now (CallWords c.in_ok-target_words.field-0.items) c.miss_alias.result
     (failing (lost_alias c.args.word.now)) (λ p at. c.in-Missing.ensures p at) c.miss_alias.ensures.told c.miss_alias.ensures.misses)
@@ -1710,7 +1710,7 @@ pub crossing::call_alias-returns-in-Outside-clause-runs : goal.crossing::call_al
 crossing::call_alias-returns-in-Outside-clause-runs g t c =
     let up : c.up-up.result ≡ c.args.alias.now.up = search rules in
     let same = alias_is c.args.alias.now c.args.word.now c.args.args.now c.up-up.result c.down-down.result.now c.in_ok-target_words.field-0.items up c.down-down.ensures
-        (c.in_ok-target_words.ensures ∙ ap (λ (ws : List (List ℕ)). ws ++ c.args.args.now) c.words.ensures) in
+    (c.in_ok-target_words.ensures ∙ ap (λ (ws : List (List ℕ)). ws ++ c.args.args.now) c.words.ensures) in
     evaluates_same g.O.Outside.goes c.args.tree.now c.call_past_top.new.tree c.args.outside.now c.call_past_top.new.outside c.args.place (alias_program c.args.alias.now c.args.word.now c.args.args.now) _ c.call_past_top.result same
     (calls_past g.O.Outside.goes c.args.tree.now c.call_past_top.new.tree c.args.outside.now c.call_past_top.new.outside c.args.place c.up-up.result c.down-down.result.now (CallWords c.in_ok-target_words.field-0.items)
     c.call_past_top.result (failing (lost_alias c.args.word.now)) c.call_past_top.ensures.runs)
@@ -1783,7 +1783,7 @@ waiting::wait-hand_in-requires g t c =
     let p = c.requires.running.0 in
     let named = c.turns.invariant.steady.keys p _ c.requires.running.1 c.requires.running.2 in
     let comes = Awaited.turned g.O.Outside.goes g.O.Outside.hands_in c.turns.outside c.next.new.self p c.args.up (whole_entry c.args.entry.now) c.in_ok-target.field-0 _ c.in-Entry.is
-        (c.in_ok-target.ensures.comes p named (c.requires.above p c.requires.running.1)) in
+    (c.in_ok-target.ensures.comes p named (c.requires.above p c.requires.running.1)) in
     let fewer = subst (λ (x : Turn). OnEntry (Ok x) (g.O.Outside.entries_left c.next.new.self < g.O.Outside.entries_left c.turns.outside)) c.in-Entry.is c.in_ok-target.ensures.fewer in
     let left = c.turns.invariant.left in
     let most : room (tree_of c.turns.tree) ≤ 1000 = omega arith in
