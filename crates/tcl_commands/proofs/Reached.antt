@@ -46,7 +46,7 @@ module _ {S : Type 0} {goes : Going S} {language : Table Own Instr} where
   pub reaches_comes : {p : Path} {x y : Program} {T U V : Tree Own} {o z : S} {r : Reply} → Reaches p x T y U → Comes goes language U o p y V z r → Comes goes language T o p x V z r
   reaches_comes here t = t
   reaches_comes (looked g) t = sees_below (reaches_comes g t)
-  reaches_comes (changed {own = own} there g) t = acted (None, Changed own, On) (λ gs. ap (λ m. Some (changing own m)) there) tt refl (reaches_comes g t)
+  reaches_comes (changed {own = own} there g) t = acted (None, Changed own, On) (λ gs. ap (λ m. Some (changing own m)) there) tt (record { told = refl }) (reaches_comes g t)
 
 -- ## Steps
 
