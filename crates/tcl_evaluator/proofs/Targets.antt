@@ -1,5 +1,5 @@
 -- What evaluations come to that others ask for.
-use Rattle.std.proofs.Common.{◌≡◌, ℕ, List, [], ◌∷◌, ◌++◌, Some, None, refl, sym, ◌∙◌, ap, subst}
+use Rattle.std.proofs.Common.{◌≡◌, ℕ, List, [], ◌++◌, Some, None, refl, sym, ◌∙◌, ap, subst}
 use Rattle.std.specs.Prelude.{Result, Ok, Err}
 use Rattle.tcl_core.specs.Paths.{Text, Path, rise_to}
 use Rattle.tcl_core.specs.Endings.{Completion, Reply, error, ok, settle}

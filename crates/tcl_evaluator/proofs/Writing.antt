@@ -4,7 +4,6 @@ use Rattle.std.specs.Prelude.{Result, Err}
 use Rattle.std.proofs.lemmas.Bool.Decides.{nat_tests}
 use Rattle.tcl_core.specs.Endings.{Completion, Reply, ok}
 use Rattle.tcl_core.specs.Endings.Reply.{Completed}
-use Rattle.tcl_core.specs.Entries.{Entry}
 use Rattle.tcl_core.specs.Entries.Entry.{AskHost}
 use Rattle.tcl_core.specs.Entries.Request.{Write}
 use Rattle.tcl_core.specs.Paths.{Text, Path}

@@ -1,8 +1,8 @@
 -- What contracts see of calls that pass the top of the tree, and of what is handed in while they are open.
-use Rattle.std.specs.Prelude.{◌≡◌, true, ℕ, ℤ, [], Option, Some, None, Result, Ok, Err, MatchResult}
+use Rattle.std.specs.Prelude.{◌≡◌, true, ℕ, ℤ, [], Option, Some, None, Result, Err, MatchResult}
 use Rattle.tcl_core.specs.Endings.{Completion, Reply, ok}
 use Rattle.tcl_core.specs.Endings.Reply.{Completed}
-use Rattle.tcl_core.specs.Entries.{Answer, Entry, HostReply}
+use Rattle.tcl_core.specs.Entries.{Entry, HostReply}
 use Rattle.tcl_core.specs.Entries as core
 use Rattle.tcl_core.specs.Entries.Answer.{Replied, Heard}
 use Rattle.tcl_core.specs.Entries.Said.{Finished, Told}
@@ -10,7 +10,7 @@ use Rattle.tcl_core.specs.Paths.{Height, Path, Place, Text, rise_to}
 use Rattle.tcl_core.specs.Programs.Prog.{call, done, wait}
 use Rattle.tcl_core.specs.Runs.{entering, is_own}
 use Rattle.tcl_core.specs.Threads.{event}
-use Rattle.tcl_core.specs.Trees.{Event, Tree}
+use Rattle.tcl_core.specs.Trees.{Tree}
 use Rattle.tcl_core.specs.Trees.What.{In}
 use Rattle.tcl_host.specs.declared.reply.HostReply.{HostReply as TheirReply}
 use Rattle.tcl_host.specs.declared.reply.HostReply.TheVariants as theirs

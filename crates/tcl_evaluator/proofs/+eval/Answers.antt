@@ -49,7 +49,6 @@ use Rattle.tcl_evaluator.proofs.Catching.{caught_ok, caught_err, eval_runs, eval
 use Rattle.tcl_evaluator.specs.View.{targeted, unhidden, invokes_at}
 use Rattle.std.proofs.Common.{Bool, false}
 use Rattle.std.specs.Prelude.{Err}
-use Rattle.tcl_run.specs.Outsides.{Going}
 use Rattle.tcl_run.specs.Runs.{IsThere}
 use Rattle.tcl_text.specs.declared.integer.Integers.{Integers}
 use Rattle.tcl_entries.specs.Asking.{GoesOn}
