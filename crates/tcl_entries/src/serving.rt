@@ -12,10 +12,10 @@ ghost use Rattle.tcl_run.specs.Runs.{IsLevel, IsSteady};
 ghost use Rattle.tcl_text.specs.Writing.{written_list};
 ghost use Rattle.tcl_tree.specs.Own.{Own};
 ghost use Rattle.tcl_tree.specs.TreeOf.{tree_of, Names};
-ghost use Rattle.tcl_entries.specs.Entering.{entry_of};
+ghost use Rattle.tcl_run.specs.Entering.{entry_of};
 ghost use Rattle.tcl_entries.specs.Naming.{Tells, making_text, deleting_text};
 
-use crate::entry::OwnEntry;
+use tcl_run::entry::OwnEntry;
 use crate::failure::{
     already_exists, bad_depth_limit, denied, hiding_failure, in_use, refusal_failure, too_many,
 };

@@ -1,4 +1,5 @@
 -- What eval and catch come to.
+use Rattle.tcl_core.specs.Programs.{Wait}
 use Rattle.std.proofs.Common.{◌≡◌, ℕ, ◌≤◌, ◌<◌, Bool, true, false, List, [], ◌∷◌, length, refl, sym, ◌∙◌, ap, subst, arith}
 use Rattle.std.specs.Prelude.{Result, Ok, Err, codes}
 use Rattle.tcl_core.specs.Paths.{Text, Path}
@@ -52,7 +53,7 @@ caught_err (Err (interruption.Cut c)) r i P e h p = let same : Err (interruption
 abbrev pub told : List Text → core_completion → Program
 told names c = kept_in names c (done (ok (code_text c)))
 
-module _ {S : Type 0} {goes : S → Event Own → S → Type 0} (style : Integers) where
+module _ {S : Type 0} {goes : S → Wait → Event Own → S → Type 0} (style : Integers) where
   -- ## eval
 
   pub eval_runs : {T V : Tree Own} {o z : S} {p : Path} {r : Reply} (args : List Text) → 1 ≤ length args → fits (concat args) ≡ true →

@@ -9,7 +9,7 @@ use Rattle.tcl_core.specs.Paths.{Path}
 use Rattle.tcl_core.specs.Endings.{Completion, Reply, ok}
 use Rattle.tcl_core.specs.Endings.Reply.{Completed, Stop, Exit, Cut}
 use Rattle.tcl_core.specs.Trees.{Tree, Node, Event}
-use Rattle.tcl_core.specs.Programs.{blocked, is_spent, is_deep}
+use Rattle.tcl_core.specs.Programs.{blocked, is_spent, is_deep, Wait}
 use Rattle.tcl_core.specs.Programs.Act.{Charge}
 use Rattle.tcl_core.specs.Programs.Prog.{done, go, act}
 use Rattle.tcl_core.specs.Trees.{effect}
@@ -31,7 +31,7 @@ use Rattle.tcl_run.specs.declared.interruption.Interruption.TheVariants as inter
 use Rattle.tcl_run.specs.Ends.{Interrupts, IfEnded, IsFailure, Stays, IsText, Gave, too_deep_at}
 use Rattle.tcl_language.specs.Table.{called}
 use Rattle.tcl_core.specs.Entries.{Answer}
-use Rattle.tcl_run.specs.Outsides.{staged}
+use Rattle.tcl_run.specs.Outsides.{Going}
 use Rattle.tcl_run.specs.Runs.{Comes, IsAt, IsThere, StopsCounting}
 use Rattle.tcl_text.specs.Lists.{list_of}
 use Rattle.tcl_text.specs.Writing.{fault_message}
@@ -49,12 +49,12 @@ use Rattle.tcl_calls.specs.Words.{open_of, opens, words_of, AtOk, Closes, Closes
 use Rattle.tcl_evaluator.specs.View.{read_so}
 
 -- how a program ends that is run in an interpreter where an evaluation is in progress
-abbrev pub EndsFrom : {S : Type 0} → (S → Event Own → Answer → S → Type 0) → Table → S → TablePlace → (Integers → Program) → Table → S → Reply → Type 0
-EndsFrom goes old o place program new z r = (p : Path) (style : Integers) → IsAt old place p style → Comes (staged goes) (language style) (tree_of old) (o, None) p (program style) (tree_of new) (z, None) r
+abbrev pub EndsFrom : {S : Type 0} → Going S → Table → S → TablePlace → (Integers → Program) → Table → S → Reply → Type 0
+EndsFrom goes old o place program new z r = (p : Path) (style : Integers) → IsAt old place p style → Comes goes (language style) (tree_of old) o p (program style) (tree_of new) z r
 
 -- the same, wherever the interpreter is
-abbrev pub EndsAt : {S : Type 0} → (S → Event Own → Answer → S → Type 0) → Table → S → TablePlace → (Integers → Program) → Table → S → Reply → Type 0
-EndsAt goes old o place program new z r = (p : Path) (style : Integers) → IsThere old place p style → Comes (staged goes) (language style) (tree_of old) (o, None) p (program style) (tree_of new) (z, None) r
+abbrev pub EndsAt : {S : Type 0} → Going S → Table → S → TablePlace → (Integers → Program) → Table → S → Reply → Type 0
+EndsAt goes old o place program new z r = (p : Path) (style : Integers) → IsThere old place p style → Comes goes (language style) (tree_of old) o p (program style) (tree_of new) z r
 
 -- ## Lists by their items
 
@@ -138,7 +138,7 @@ some_words : (items : List (List ℕ)) → 1 ≤ length items → charged items 
 some_words [] h = absurd (omega arith)
 some_words (w ∷ ws) h = refl
 
-module _ {S : Type 0} {goes : S → Event Own → S → Type 0} (style : Integers) where
+module _ {S : Type 0} {goes : S → Wait → Event Own → S → Type 0} (style : Integers) where
   -- ## After an inner evaluation
 
   pub goes_stays : {T U : Tree Own} {o u : S} {p : Path} {i : Instr} (k : List ℕ → Program) (e : Reply) → Stays e →

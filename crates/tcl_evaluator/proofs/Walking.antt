@@ -5,7 +5,7 @@ use Rattle.std.proofs.Math.Seq.{drop-nil}
 use Rattle.tcl_core.specs.Endings.{Completion, Reply, ok, error}
 use Rattle.tcl_core.specs.Endings.Reply.{Completed, Stop, Exit, Cut}
 use Rattle.tcl_core.specs.Paths.{Text, Path}
-use Rattle.tcl_core.specs.Programs.{blocked, is_spent}
+use Rattle.tcl_core.specs.Programs.{blocked, is_spent, Wait}
 use Rattle.tcl_core.specs.Programs.Act.{Charge}
 use Rattle.tcl_core.specs.Programs.Prog.{done, act, go}
 use Rattle.tcl_core.specs.Threads.{completed}
@@ -150,7 +150,7 @@ foreach_is args words body h = ap foreach h.0 ∙ by words h.1 h.2
 abbrev pub body_then : Text → List Walk → Program
 body_then body walks = go (Script body) (λ c. after_body c.code c (go (Foreach walks body) done))
 
-module _ {S : Type 0} {goes : S → Event Own → S → Type 0} (style : Integers) where
+module _ {S : Type 0} {goes : S → Wait → Event Own → S → Type 0} (style : Integers) where
   pub foreach_begins : {T V : Tree Own} {o z : S} {p : Path} {r : Reply} (args words : List Text) (body : Text) (ws : List read.Walk) → IsForeach args words body → ReadsWalks words ws →
       Comes goes (language style) T o p (foreach_turns (walks_at 0 ws) body) V z r → Comes goes (language style) T o p (foreach args) V z r
   foreach_begins args words body ws h read t =

@@ -16,7 +16,7 @@ use Rattle.tcl_language.specs.Table.{serve}
 use Rattle.tcl_run.specs.declared.interruption.Interruption.{Interruption}
 use Rattle.tcl_run.specs.declared.interruption.Interruption.TheVariants as interruption
 use Rattle.tcl_run.specs.Ends.{Interrupts}
-use Rattle.tcl_run.specs.Outsides.{staged}
+use Rattle.tcl_run.specs.Outsides.{Going}
 use Rattle.tcl_run.specs.Runs.{Comes}
 use Rattle.tcl_tree.specs.Own.{Own}
 use Rattle.tcl_tree.specs.TreeOf.{tree_of, marks_of}
@@ -79,10 +79,10 @@ ending_by depth (Exit n) = Some (Exited n)
 ending_by depth (Cut c) = None
 
 -- The script is one entry into the interpreter at the path, in the tree whose root may be counted so far; then the root has its own limit again.
-pub record IsRun {S : Type 0} (goes : S → Event Own → Answer → S → Type 0) (old : Table) (o : S) (path : Path) (script : Text) (most : ℕ) (new : Table) (z : S) (e : End) : Type 0 where
+pub record IsRun {S : Type 0} (goes : Going S) (old : Table) (o : S) (path : Path) (script : Text) (most : ℕ) (new : Table) (z : S) (e : End) : Type 0 where
   pub during : Tree Own
   pub reply : Reply
-  pub runs : Comes (staged goes) (language (marks_of old).integers) (effect [] (Limited (Some most)) (tree_of old)) (o, None) path (serve (marks_of old).integers (Eval script)) during (z, None) reply
+  pub runs : Comes goes (language (marks_of old).integers) (effect [] (Limited (Some most)) (tree_of old)) o path (serve (marks_of old).integers (Eval script)) during z reply
   pub after : tree_of new ≡ effect [] (Limited (root_limit old)) during
   pub ends : ending_by (length path) reply ≡ Some (ending_of e)
 

@@ -1,6 +1,6 @@
 use Rattle.std.proofs.Common.{sym, subst}
-use Rattle.tcl_entries.specs.declared.entry.OwnEntry.{OwnEntry}
-use Rattle.tcl_entries.specs.Entering.{entry_of}
+use Rattle.tcl_run.specs.declared.entry.OwnEntry.{OwnEntry}
+use Rattle.tcl_run.specs.Entering.{entry_of}
 use Rattle.tcl_language.specs.Table.{serve}
 use Rattle.tcl_run.specs.Plain.{Acts}
 use Rattle.tcl_entries.proofs.serving.serve.Goals as goal

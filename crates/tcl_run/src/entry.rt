@@ -1,7 +1,9 @@
-//! What an interpreter is asked for that evaluates nothing.
+//! What an interpreter is asked for by another one, or from outside of the tree.
 
+use tcl_host::request::Request;
 use tcl_text::text::Text;
 use tcl_tree::alias::Alias;
+use tcl_value::value::Value;
 
 /// What can be asked about an interpreter.
 #[derive(Drop)]
@@ -45,4 +47,19 @@ pub enum OwnEntry {
     Delete(Text),
     /// The answer to a question.
     Ask(Question),
+}
+
+/// What an interpreter is asked for, or the host.
+#[derive(Drop)]
+pub enum Entry {
+    /// That it evaluate a script.
+    Eval(Value),
+    /// That it call a command of these words, as an alias of another interpreter does.
+    CallWords(Vec<Value>),
+    /// That it call a hidden command, at level 0 where that is asked for.
+    InvokeHidden { is_global: bool, words: Vec<Value> },
+    /// What evaluates nothing.
+    Own(OwnEntry),
+    /// What only the host is asked for.
+    AskHost(Request),
 }
