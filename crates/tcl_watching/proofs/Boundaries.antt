@@ -1,10 +1,10 @@
 -- Boundaries, crossing by crossing.
-use Rattle.std.proofs.Common.{◌≡◌, ℕ, zero, suc, ◌+◌, ◌<◌, ◌≤◌, Bool, true, false, List, [], ◌∷◌, ◌++◌, Option, Some, None, length, nat_lt, drop, refl, sym, ◌∙◌, ap, subst, arith, length-append, append-nil}
+use Rattle.std.proofs.Common.{◌≡◌, ℕ, zero, suc, ◌+◌, ◌<◌, ◌≤◌, Bool, true, false, List, [], ◌∷◌, ◌++◌, Option, Some, None, length, nat_eq, nat_le, nat_lt, ◌-◌, drop, take, append_assoc, refl, sym, ◌∙◌, ap, subst, arith, length-append, append-nil}
 use Rattle.std.proofs.lemmas.Bool.Decides.{nat_tests}
 use Rattle.tcl_core.specs.Entries.{Answer, Entry}
 use Rattle.tcl_core.specs.Endings.{Reply}
 use Rattle.tcl_core.specs.Lives.{put}
-use Rattle.tcl_core.specs.Paths.{Path, Place, Height, guarded, same, strip, rise, rise_to, seen_height, together, unless}
+use Rattle.tcl_core.specs.Paths.{Path, Place, Height, guarded, rejoined, same, strip, rise, rise_to, seen_height, together, unless}
 use Rattle.tcl_core.specs.Threads.{event}
 use Rattle.tcl_core.specs.Trees.{Event, What, seen_answer, seen_reply}
 use Rattle.tcl_core.specs.Trees.What.{Out, In, Done, Back}
@@ -69,20 +69,20 @@ module _ {O : Type 0} where
 pub not_below : (c p : Path) → together c p < length c → strip c p ≡ None
 not_below [] p lt = absurd (omega arith)
 not_below (x ∷ c) [] lt = refl
-not_below (x ∷ c) (y ∷ p) lt = by (same x y) lt
+not_below (x ∷ c) (y ∷ p) lt = by (not_below c p) (same x y) lt
   where
-    by : (b : Bool) → unless b (suc (together c p)) < suc (length c) → guarded b (strip c p) ≡ None
-    by true l = not_below c p (omega arith)
-    by false l = refl
+    by : (together c p < length c → strip c p ≡ None) → (b : Bool) → unless b (suc (together c p)) < suc (length c) → guarded b (strip c p) ≡ None
+    by f true l = f (omega arith)
+    by f false l = refl
 
 pub is_below : (c p : Path) → length c ≤ together c p → strip c p ≡ Some (drop (length c) p)
 is_below [] p le = refl
 is_below (x ∷ c) [] le = absurd (omega arith)
-is_below (x ∷ c) (y ∷ p) le = by (same x y) le
+is_below (x ∷ c) (y ∷ p) le = by (is_below c p) (same x y) le
   where
-    by : (b : Bool) → suc (length c) ≤ unless b (suc (together c p)) → guarded b (strip c p) ≡ Some (drop (length c) p)
-    by true l = is_below c p (omega arith)
-    by false l = absurd (omega arith)
+    by : (length c ≤ together c p → strip c p ≡ Some (drop (length c) p)) → (b : Bool) → suc (length c) ≤ unless b (suc (together c p)) → guarded b (strip c p) ≡ Some (drop (length c) p)
+    by f true l = f (omega arith)
+    by f false l = absurd (omega arith)
 
 -- a way that ends at or below the top doesn't pass it, and one that ends above it does
 pub stays : (c p q : Path) (n : ℕ) → strip c p ≡ Some q → n ≤ length q → passing c p (Some n) ≡ None
@@ -101,7 +101,7 @@ arrives_beside c a down e = by (strip c a) refl
     by None f = ap (λ o. passing_by o (Some (length down))) (beside a down c e f)
     by (Some b) f =
         let at : a ≡ c ++ b = strip-sound c a b f in
-        let whole : strip c (a ++ down) ≡ Some (b ++ down) = ap (λ (z : Path). strip c (z ++ down)) at ∙ ap (strip c) (Rattle.std.proofs.Common.append_assoc c b down) ∙ strip_own c (b ++ down) in
+        let whole : strip c (a ++ down) ≡ Some (b ++ down) = ap (λ (z : Path). strip c (z ++ down)) at ∙ ap (strip c) (append_assoc c b down) ∙ strip_own c (b ++ down) in
         ap (λ o. passing_by o (Some (length down))) whole ∙ ap (λ o. beyond o (b ++ down)) (rise_back b down)
 
 -- what is reached from c itself comes from within
@@ -118,3 +118,42 @@ arrives c a down rest x e = ap (λ o. passing_by o (Some (length down))) (ap (λ
     by : (o : Option Path) → strip (x ∷ rest) down ≡ o → passing_by o (Some (length down)) ≡ o
     by None f = refl
     by (Some q) f = ap (λ o. beyond o q) (rise_past (length down) q (down_into (x ∷ rest) [] down q refl f))
+
+-- ## Ways up
+
+-- the place so many steps up, as the front of the path
+pub rise_front : (n : ℕ) (p : Path) → n ≤ length p → rise n p ≡ Some (take (length p - n) p)
+rise_front zero [] le = refl
+rise_front (suc n) [] le = absurd (omega arith)
+rise_front n (x ∷ p) le = by (rise_front n p) (nat_le n (length p)) refl
+  where
+    by : (n ≤ length p → rise n p ≡ Some (take (length p - n) p)) → (b : Bool) → nat_le n (length p) ≡ b → rejoined x (rise n p) (nat_eq n (suc (length p))) ≡ Some (take (suc (length p) - n) (x ∷ p))
+    by f true e =
+        let l : n ≤ length p = grind (arith, nat_tests) in
+        let m : suc (length p) - n ≡ suc (length p - n) = omega arith in
+        ap (λ o. rejoined x o (nat_eq n (suc (length p)))) (f l) ∙ ap (λ (k : ℕ). Some (take k (x ∷ p))) (sym m)
+    by f false e =
+        let l : length p < n = grind (arith, nat_tests) in
+        let same : nat_eq n (suc (length p)) ≡ true = grind (arith, nat_tests) in
+        let m : suc (length p) - n ≡ 0 = omega arith in
+        ap (λ o. rejoined x o (nat_eq n (suc (length p)))) (rise_past n p l) ∙ ap (λ b. rejoined x None b) same ∙ ap (λ (k : ℕ). Some (take k (x ∷ p))) (sym m)
+
+nothing_left : (xs : Path) → length xs ≡ 0 → xs ≡ []
+nothing_left [] e = refl
+nothing_left (x ∷ xs) e = absurd (omega (arith, e))
+
+-- the same where what is left of the way to c is told by its length
+pub arrives_at_c : (c a down rest : Path) → strip a c ≡ Some rest → length rest ≡ 0 → passing c (a ++ down) (Some (length down)) ≡ None
+arrives_at_c c a down rest e l = arrives_within c a down (e ∙ ap Some (nothing_left rest l))
+
+pub arrives_below : (c a down rest : Path) → strip a c ≡ Some rest → 0 < length rest → passing c (a ++ down) (Some (length down)) ≡ strip rest down
+arrives_below c a down [] e l = absurd (omega (arith, l))
+arrives_below c a down (x ∷ rest) e l = arrives c a down rest x e
+
+-- a way to the outside of the tree passes every top
+pub passing_out : (c p : Path) → passing c p None ≡ strip c p
+passing_out c p = by (strip c p)
+  where
+    by : (o : Option Path) → passing_by o None ≡ o
+    by None = refl
+    by (Some q) = refl

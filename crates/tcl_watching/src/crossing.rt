@@ -1,11 +1,11 @@
 //! What crosses the boundary of an interpreter.
-ghost use Rattle.std.specs.Prelude.{◌≡◌, ◌-◌, IfOk, length, option_map};
+ghost use Rattle.std.specs.Prelude.{◌≡◌, IfOk};
 ghost use Rattle.tcl_core.specs.Endings.{ok};
 ghost use Rattle.tcl_core.specs.Endings as core;
 ghost use Rattle.tcl_core.specs.Trees.{seen_reply};
+ghost use Rattle.tcl_flow.specs.Stopping as stopping;
 ghost use Rattle.tcl_flow.specs.View.{completion_of};
 ghost use Rattle.tcl_run.specs.Ends.{IfEnded, Interrupts};
-ghost use Rattle.tcl_run.specs.Outsides as outsides;
 
 use std::alloc::{AllocError, Global};
 use tcl_flow::completion::{Completion, OK, Options};
@@ -121,7 +121,7 @@ impl Reply {
 
     /// How a stop is told that ends an evaluation at this path.
     fn of_stop(stop: Stop, path: &[Text]) -> Reply
-        ensures { reply_of result ≡ seen_reply path.now (Rattle.tcl_flow.specs.Stopping.reply_of stop) }
+        ensures { reply_of result ≡ seen_reply path.now (stopping.reply_of stop) }
     {
         if stop.levels_up > path.len() {
             return Reply::Ended;
