@@ -1,2 +1,4 @@
 pub mod Boundaries
+pub mod Lengths
 pub mod Notes
+pub mod Recorders
