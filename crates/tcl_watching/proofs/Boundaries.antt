@@ -1,15 +1,15 @@
 -- Boundaries, crossing by crossing.
-use Rattle.std.proofs.Common.{◌≡◌, ℕ, zero, suc, ◌+◌, ◌<◌, ◌≤◌, Bool, true, false, List, [], ◌∷◌, ◌++◌, Option, Some, None, length, nat_eq, nat_le, nat_lt, ◌-◌, drop, take, append_assoc, refl, sym, ◌∙◌, ap, subst, arith, length-append, append-nil}
+use Rattle.std.proofs.Common.{◌≡◌, ℕ, zero, suc, ◌<◌, ◌≤◌, Bool, true, false, List, [], ◌∷◌, ◌++◌, Option, Some, None, length, nat_eq, nat_le, ◌-◌, drop, take, append_assoc, refl, sym, ◌∙◌, ap, arith, append-nil}
 use Rattle.std.proofs.lemmas.Bool.Decides.{nat_tests}
 use Rattle.tcl_core.specs.Entries.{Answer, Entry}
 use Rattle.tcl_core.specs.Endings.{Reply}
 use Rattle.tcl_core.specs.Lives.{put}
 use Rattle.tcl_core.specs.Paths.{Path, Place, Height, guarded, rejoined, same, strip, rise, rise_to, seen_height, together, unless}
 use Rattle.tcl_core.specs.Threads.{event}
-use Rattle.tcl_core.specs.Trees.{Event, What, seen_answer, seen_reply}
+use Rattle.tcl_core.specs.Trees.{Event, seen_answer, seen_reply}
 use Rattle.tcl_core.specs.Trees.What.{Out, In, Done, Back}
 use Rattle.tcl_core.specs.Views.{kept, view}
-use Rattle.tcl_core.proofs.PathLaws.{not_both, beside, down_into, rise_back, rise_past, rise_some, rise_to_out, rise_to_within, rise_within, seen_out, seen_rise, strip-append, strip-sound, strip_own}
+use Rattle.tcl_core.proofs.PathLaws.{beside, down_into, rise_back, rise_past, rise_some, seen_out, seen_rise, strip-append, strip-sound, strip_own}
 use Rattle.tcl_watching.specs.Boundary.{at_passing, back_seen, beyond, boundary, done_seen, in_seen, out_seen, passing, passing_by, past_the_top}
 
 -- ## Which crossings are in it

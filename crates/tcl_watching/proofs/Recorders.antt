@@ -1,5 +1,5 @@
 -- What a recorder's calls come to.
-use Rattle.std.proofs.Common.{◌≡◌, ℕ, ◌++◌, Some, None, length, refl, subst}
+use Rattle.std.proofs.Common.{◌≡◌, ℕ, ◌++◌, Some, length, refl, subst}
 use Rattle.std.specs.Prelude.{Result, Ok, Err}
 use Rattle.tcl_core.specs.Endings.{Reply}
 use Rattle.tcl_core.specs.Entries.{Entry}

@@ -1,5 +1,6 @@
 -- Crossings as they are recorded, in the words of the core.
-use Rattle.std.specs.Prelude.{List, map, Option, Some, None}
+use Rattle.std.specs.Prelude.{ℕ, ◌-◌, List, length, map, Option, None}
+use Rattle.std.specs.Option.{option_map}
 use Rattle.tcl_core.specs.Endings as core
 use Rattle.tcl_core.specs.Endings.Cause.{Above}
 use Rattle.tcl_core.specs.Endings.Reply.{Completed, Exit, Cut}
@@ -36,6 +37,13 @@ event_of (crossing.In target entry) = event target.items (In None (whole_entry e
 event_of (crossing.Done target reply) = event target.items (Done None (reply_of reply))
 event_of (crossing.Out caller up down entry) = event caller.items (Out up down.items (whole_entry entry))
 event_of (crossing.Back caller up answer) = event caller.items (Back up (answer_of answer))
+
+-- how many levels above the watched interpreter the way of a call goes up
+abbrev pub levels_above : Crossing → Option ℕ
+levels_above (crossing.In target entry) = None
+levels_above (crossing.Done target reply) = None
+levels_above (crossing.Out caller up down entry) = option_map (λ n. n - length caller.items) up
+levels_above (crossing.Back caller up answer) = option_map (λ n. n - length caller.items) up
 
 abbrev pub events_of : List Crossing → List (Event Own)
 events_of xs = map event_of xs

@@ -43,9 +43,15 @@ pub enum Answer {
 #[derive(Drop)]
 pub enum Crossing {
     /// An entry into the interpreter at a path.
-    In { target: Vec<Text>, entry: Entry },
+    In {
+        target: Vec<Text>,
+        entry: Entry,
+    },
     /// The end of such an entry.
-    Done { target: Vec<Text>, reply: Reply },
+    Done {
+        target: Vec<Text>,
+        reply: Reply,
+    },
     /// A call of the interpreter at a path, so many levels up from it, or to the host, and these names down.
     Out {
         caller: Vec<Text>,
@@ -59,6 +65,23 @@ pub enum Crossing {
         up: Option<usize>,
         answer: Answer,
     },
+}
+
+impl Crossing {
+    ghost use Rattle.tcl_watching.specs.Crossings.{levels_above};
+
+    /// How many levels above the watched interpreter the way of a call goes up; none where it goes to the host, and none of an entry.
+    pub fn levels_above(&self) -> Option<usize>
+        ensures { result ≡ levels_above self.now }
+    {
+        match self {
+            Crossing::Out { caller, up, .. } | Crossing::Back { caller, up, .. } => match up {
+                Some(levels) => Some(levels.saturating_sub(caller.len())),
+                None => None,
+            },
+            Crossing::In { .. } | Crossing::Done { .. } => None,
+        }
+    }
 }
 
 /// How a completion is told again. Its values share what they keep.

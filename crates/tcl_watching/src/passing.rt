@@ -20,11 +20,7 @@ fn below<'a>(top: &[Text], path: &'a [Text]) -> Option<&'a [Text]>
 
 /// What is left of an interpreter's path below the top, if it is there or below it and a way so many levels up passes the top. A way to
 /// the outside of the tree passes every top. This takes no memory.
-pub(crate) fn passing<'a>(
-    top: &[Text],
-    path: &'a [Text],
-    up: Option<usize>,
-) -> Option<&'a [Text]>
+pub(crate) fn passing<'a>(top: &[Text], path: &'a [Text], up: Option<usize>) -> Option<&'a [Text]>
     ensures { option_copied result ≡ passing top.now path.now up }
 {
     let inside = below(top, path)?;
@@ -35,11 +31,7 @@ pub(crate) fn passing<'a>(
 }
 
 /// The same of the path that leads from an interpreter down by these names, and the way back up. This takes no memory.
-pub(crate) fn arriving<'a>(
-    top: &[Text],
-    from: &[Text],
-    down: &'a [Text],
-) -> Option<&'a [Text]>
+pub(crate) fn arriving<'a>(top: &[Text], from: &[Text], down: &'a [Text]) -> Option<&'a [Text]>
     ensures { option_copied result ≡ passing top.now (from.now ++ down.now) (Some (length down.now)) }
 {
     let rest = below(from, top)?;

@@ -93,7 +93,8 @@ impl<O: Outside> Outside for Recorder<O> {
     ) -> Result<(), AllocError> {
         self.outside.enters(alloc, tree, caller, up, down, entry)?;
         let path = tree.last_names(alloc, caller, usize::MAX)?;
-        self.kept.call_enters(alloc, path.as_slice(), up, down, entry)
+        self.kept
+            .call_enters(alloc, path.as_slice(), up, down, entry)
     }
 
     fn returns(

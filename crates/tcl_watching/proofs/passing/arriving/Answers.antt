@@ -1,7 +1,6 @@
-use Rattle.std.proofs.Common.{◌≡◌, ◌<◌, Some, None, length, sym, ◌∙◌, ap, arith}
+use Rattle.std.proofs.Common.{◌≡◌, ◌<◌, length, sym, ◌∙◌, ap, arith}
 use Rattle.std.proofs.lemmas.Bool.Decides.{nat_tests}
 use Rattle.std.specs.Option.{option_copied}
-use Rattle.tcl_core.specs.Paths.{strip}
 use Rattle.tcl_watching.proofs.Boundaries.{arrives_at_c, arrives_below, arrives_beside}
 use Rattle.tcl_watching.proofs.passing.arriving.Goals as goal
 

@@ -1,4 +1,4 @@
-use Rattle.std.proofs.Common.{◌≡◌, ◌<◌, ◌≤◌, Some, None, length, take, sym, ◌∙◌, ap, lt_of_not-le}
+use Rattle.std.proofs.Common.{Some, take, sym, ◌∙◌, ap, lt_of_not-le}
 use Rattle.std.specs.Option.{option_copied}
 use Rattle.tcl_core.proofs.PathLaws.{rise_past}
 use Rattle.tcl_watching.proofs.Boundaries.{rise_front}

@@ -1,4 +1,4 @@
-use Rattle.std.proofs.Common.{◌≡◌, Some, None, sym, ◌∙◌, ap}
+use Rattle.std.proofs.Common.{◌≡◌, Some, sym, ◌∙◌, ap}
 use Rattle.std.proofs.lemmas.Result.{on_ok_weaker}
 use Rattle.std.specs.Option.{option_copied}
 use Rattle.tcl_core.specs.Entries.Answer.{Replied}

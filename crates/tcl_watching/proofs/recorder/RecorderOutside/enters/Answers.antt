@@ -1,6 +1,5 @@
-use Rattle.std.proofs.Common.{◌≡◌, Some, None, ◌∙◌}
+use Rattle.std.proofs.Common.{◌∙◌}
 use Rattle.std.proofs.lemmas.Result.{on_ok_weaker}
-use Rattle.tcl_core.specs.Paths.{Path}
 use Rattle.tcl_run.specs.Entering.{whole_entry}
 use Rattle.tcl_watching.proofs.Lengths.{whole_path}
 use Rattle.tcl_watching.proofs.Recorders.{enters}

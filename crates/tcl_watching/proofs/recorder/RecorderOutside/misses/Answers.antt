@@ -1,4 +1,4 @@
-use Rattle.std.proofs.Common.{◌≡◌, Some, None, ◌∙◌}
+use Rattle.std.proofs.Common.{◌≡◌, Some, ◌∙◌}
 use Rattle.std.proofs.lemmas.Result.{on_ok_weaker}
 use Rattle.tcl_core.specs.Endings.{Reply}
 use Rattle.tcl_core.specs.Entries.Answer.{Replied}
@@ -28,6 +28,6 @@ returns-clause-told g c =
     let Outer : Reply → Type 0 = λ r. (p a : Path) → Names c.args.tree.now c.args.caller p → rise_to (Some n) p ≡ Some a → Misses (recorded g.O.Outside.goes) old p n down i r new in
     on_ok_weaker c.call_misses.result
     (λ e. IfEnded-both c.args.told.now Kept Inner Outer
-        (λ r kept inner p a at up. misses g.O.Outside.goes old new q p n down i r (c.as_slice.ensures.value ∙ c.in_ok-path.ensures p at ∙ whole_path c.args.tree.now p _ at) kept (inner p a at up))
-        e c.in_ok-misses.ensures.told)
+    (λ r kept inner p a at up. misses g.O.Outside.goes old new q p n down i r (c.as_slice.ensures.value ∙ c.in_ok-path.ensures p at ∙ whole_path c.args.tree.now p _ at) kept (inner p a at up))
+    e c.in_ok-misses.ensures.told)
     c.call_misses.ensures

@@ -1,5 +1,4 @@
-use Rattle.std.proofs.Common.{◌≡◌, ◌∙◌}
-use Rattle.tcl_core.specs.Paths.{Path}
+use Rattle.std.proofs.Common.{◌∙◌}
 use Rattle.tcl_run.specs.Entering.{whole_entry}
 use Rattle.tcl_watching.proofs.Lengths.{whole_path}
 use Rattle.tcl_watching.proofs.Recorders.{comes}

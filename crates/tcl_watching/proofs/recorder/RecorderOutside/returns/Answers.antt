@@ -1,4 +1,4 @@
-use Rattle.std.proofs.Common.{◌≡◌, ◌++◌, Some, None, length, ◌∙◌}
+use Rattle.std.proofs.Common.{◌≡◌, ◌++◌, Some, length, ◌∙◌}
 use Rattle.std.proofs.lemmas.Result.{on_ok_weaker}
 use Rattle.tcl_core.specs.Endings.{Reply}
 use Rattle.tcl_core.specs.Entries.Answer.{Replied}
@@ -27,7 +27,7 @@ returns-clause-told g c =
     let Outer : Reply → Reply → Type 0 = λ s r. (p a : Path) → Names c.args.tree.now c.args.caller p → rise_to (Some n) p ≡ Some a → Returns (recorded g.O.Outside.goes) old p n a down s r new in
     on_ok_weaker c.call_returns.result
     (λ e. IfEnded-both c.args.ended.now (λ s. IfEnded c.args.told.now (Kept s)) (λ s. IfEnded c.args.told.now (Inner s)) (λ s. IfEnded c.args.told.now (Outer s))
-        (λ s x y. IfEnded-both c.args.told.now (Kept s) (Inner s) (Outer s)
-            (λ r kept inner p a at up. returns g.O.Outside.goes old new q p n a down s r (c.as_slice.ensures.value ∙ c.in_ok-path.ensures p at ∙ whole_path c.args.tree.now p _ at) up kept (inner p a at up)) x y)
-        e c.in_ok-returns.ensures.told)
+    (λ s x y. IfEnded-both c.args.told.now (Kept s) (Inner s) (Outer s)
+    (λ r kept inner p a at up. returns g.O.Outside.goes old new q p n a down s r (c.as_slice.ensures.value ∙ c.in_ok-path.ensures p at ∙ whole_path c.args.tree.now p _ at) up kept (inner p a at up)) x y)
+    e c.in_ok-returns.ensures.told)
     c.call_returns.ensures
