@@ -132,23 +132,49 @@ fn entries_during_a_call_are_recorded(rt: HostRuntime) -> Result<(), Fail> {
     Ok(())
 }
 
+// An interpreter evaluates in the one so many levels up, or in the child of that one that has the name.
+fn crosses(
+    alloc: Global,
+    recorder: &mut Recorder<MemoryHost>,
+    tree: &Tree,
+    caller: Place,
+    up: usize,
+    name: Option<&str>,
+) -> Result<(), Fail> {
+    let mut down = Vec::new(alloc);
+    if let Some(name) = name {
+        down.push(text(alloc, name)?)?;
+    }
+    let entry = eval(alloc, "set x 1")?;
+    recorder.enters(alloc, tree, caller, up, down.as_slice(), &entry)?;
+    Ok(())
+}
+
+// Crossings between the root and `d`, and between `c` and `g`.
+fn crosses_elsewhere(
+    alloc: Global,
+    recorder: &mut Recorder<MemoryHost>,
+    tree: &Tree,
+    c: Place,
+    g: Place,
+) -> Result<(), Fail> {
+    let root = tree.root();
+    let d = child(alloc, tree, root, "d")?;
+    crosses(alloc, recorder, tree, root, 0, Some("d"))?;
+    crosses(alloc, recorder, tree, d, 1, None)?;
+    crosses(alloc, recorder, tree, c, 0, Some("g"))?;
+    crosses(alloc, recorder, tree, g, 1, None)
+}
+
 #[test]
 fn only_what_passes_the_boundary_is_recorded(rt: HostRuntime) -> Result<(), Fail> {
     let alloc = rt.alloc();
     let tree = family(alloc)?;
-    let root = tree.root();
-    let c = child(alloc, &tree, root, "c")?;
-    let d = child(alloc, &tree, root, "d")?;
+    let c = child(alloc, &tree, tree.root(), "c")?;
     let g = child(alloc, &tree, c, "g")?;
-    let down = one(alloc, "d")?;
-    let inner = one(alloc, "g")?;
     let mut recorder = watching(alloc, "c")?;
-    let entry = eval(alloc, "set x 1")?;
-    recorder.enters(alloc, &tree, root, 0, down.as_slice(), &entry)?;
-    recorder.enters(alloc, &tree, d, 1, &[], &entry)?;
-    recorder.enters(alloc, &tree, c, 0, inner.as_slice(), &entry)?;
-    recorder.enters(alloc, &tree, g, 1, &[], &entry)?;
-    recorder.enters(alloc, &tree, g, 2, down.as_slice(), &entry)?;
+    crosses_elsewhere(alloc, &mut recorder, &tree, c, g)?;
+    crosses(alloc, &mut recorder, &tree, g, 2, Some("d"))?;
     let shown = shown(alloc, recorder)?;
     assert_eq!(rt; shown.as_str(), "Out/g 1/d eval set x 1\n");
     Ok(())
@@ -241,16 +267,24 @@ fn a_stop_from_above_ends_an_entry_from_outside(rt: HostRuntime) -> Result<(), F
     Ok(())
 }
 
+// An entry of a run, which the recorder is told of by itself.
+fn runs(alloc: Global, recorder: &mut Recorder<MemoryHost>, path: &[Text]) -> Result<(), Fail> {
+    let entry = eval(alloc, "set x 1")?;
+    recorder.entry_begins(alloc, path, &entry)?;
+    let ended = Ok(value(alloc, "1")?);
+    recorder.entry_ends(alloc, path, &ended)?;
+    Ok(())
+}
+
 #[test]
 fn the_entry_of_a_run_is_recorded(rt: HostRuntime) -> Result<(), Fail> {
     let alloc = rt.alloc();
-    let path = [text(alloc, "c")?, text(alloc, "g")?];
-    let elsewhere = one(alloc, "d")?;
-    let entry = eval(alloc, "set x 1")?;
     let mut recorder = watching(alloc, "c")?;
-    recorder.entry_begins(alloc, &path, &entry)?;
-    recorder.entry_ends(alloc, &path, &Ok(value(alloc, "1")?))?;
-    recorder.entry_begins(alloc, elsewhere.as_slice(), &entry)?;
+    let mut path = one(alloc, "c")?;
+    path.push(text(alloc, "g")?)?;
+    runs(alloc, &mut recorder, path.as_slice())?;
+    let elsewhere = one(alloc, "d")?;
+    runs(alloc, &mut recorder, elsewhere.as_slice())?;
     let shown = shown(alloc, recorder)?;
     assert_eq!(rt; shown.as_str(), "In/g eval set x 1\nDone/g 0 1\n");
     Ok(())
