@@ -1,0 +1,6 @@
+pub mod Boundaries
+pub mod BoundaryLaws
+pub mod Lengths
+pub mod Notes
+pub mod Recorders
+pub mod Watched
