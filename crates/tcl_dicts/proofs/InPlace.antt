@@ -1,5 +1,5 @@
 -- Changes of a key's value in place.
-use Rattle.std.proofs.Common.{arith, refl, ap, subst, sym, ◌∙◌, ◌≡◌, ℕ, ◌≤◌, Bool, true, false, List, [], ◌∷◌, ◌++◌, length, Ok, Err, Option, Some, None}
+use Rattle.std.proofs.Common.{arith, refl, ap, subst, ◌∙◌, ◌≡◌, ℕ, Bool, true, false, List, [], ◌∷◌, ◌++◌, length, Ok, Err, Option, Some, None}
 use Rattle.std.specs.Prelude.{option_map}
 use Rattle.std.specs.Bool.{OnTrue}
 use Rattle.std.specs.declared.result.Result.{Result}
@@ -17,7 +17,7 @@ use Rattle.tcl_nested.proofs.Lengths.{value_longer}
 use Rattle.tcl_lists.specs.Lists.{Texts, list_value}
 use Rattle.tcl_lists.proofs.Lengths.{limited_within}
 use Rattle.tcl_dicts.specs.Dicts.{dict_or, dict_value}
-use Rattle.tcl_dicts.specs.Changing.{changed_of, lengthened, lappend_of, put_of, joined, appended, append_of}
+use Rattle.tcl_dicts.specs.Changing.{lengthened, lappend_of, put_of, joined, appended, append_of}
 
 same_some : (x y : List ℕ) → ◌≡◌ {A = Option (List ℕ)} (Some x) (Some y) → x ≡ y
 same_some x y e = cc
