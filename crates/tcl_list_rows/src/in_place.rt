@@ -163,11 +163,15 @@ fn list_of_a_key_grows_and_the_copy_stays(rt: HostRuntime) -> Result<(), Fail> {
     Ok(())
 }
 
-/// A value of so many letters.
+/// A value of so many letters: for each binary digit of the number what is there is doubled, and a one adds a letter.
 fn letters(alloc: Global, count: u32) -> Result<Value, Fail> {
     let mut text = String::new(alloc);
-    for _ in 0..count {
-        text.push('x')?;
+    for digit in 0..25 {
+        let again = String::from_str(alloc, text.as_str())?;
+        text.push_str(again.as_str())?;
+        if (count >> (24 - digit)) % 2 == 1 {
+            text.push('x')?;
+        }
     }
     Ok(Value::from_text(Text::from_string(alloc, text)?)?)
 }

@@ -7,11 +7,15 @@ use std::test::Fail;
 use tcl_text::text::Text;
 use tcl_value::value::Value;
 
-/// A value of so many letters.
+/// A value of so many letters: for each binary digit of the number what is there is doubled, and a one adds a letter.
 fn letters(alloc: Global, count: u32) -> Result<Value, Fail> {
     let mut text = String::new(alloc);
-    for _ in 0..count {
-        text.push('x')?;
+    for digit in 0..25 {
+        let again = String::from_str(alloc, text.as_str())?;
+        text.push_str(again.as_str())?;
+        if (count >> (24 - digit)) % 2 == 1 {
+            text.push('x')?;
+        }
     }
     Ok(Value::from_text(Text::from_string(alloc, text)?)?)
 }
