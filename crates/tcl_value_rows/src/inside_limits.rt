@@ -10,7 +10,7 @@ use tcl_value::value::Value;
 /// A value of so many letters: for each binary digit of the number what is there is doubled, and a one adds a letter.
 fn letters(alloc: Global, count: u32) -> Result<Value, Fail> {
     let mut text = String::new(alloc);
-    for digit in 0..25 {
+    for digit in 0..25u32 {
         let again = String::from_str(alloc, text.as_str())?;
         text.push_str(again.as_str())?;
         if (count >> (24 - digit)) % 2 == 1 {
