@@ -18,6 +18,9 @@ const CHANGES: u32 = 1_000_000;
 /// How many elements or keys stand in a list or dict whose parts are changed.
 const PARTS: usize = 1000;
 
+/// How many keys stand in an inner dict whose values are changed.
+const KEYS: u32 = 1000;
+
 /// What a number is after it was counted up so often.
 fn increments(times: u32) -> i64 {
     let mut value = Value::from_int(0);
@@ -99,17 +102,17 @@ fn one_key(alloc: Global, key: &Value, inner: Value) -> Value {
 }
 
 /// A dict of a dict of so many numbers as keys, whose values are 0.
-fn inner_dict(alloc: Global, parts: usize) -> Value {
+fn inner_dict(alloc: Global, parts: u32) -> Value {
     let mut inner = Value::empty();
     for i in 0..parts {
-        let key = Value::from_int(i as i64);
+        let key = Value::from_int(i64::from(i));
         let _ = inner.set_key(alloc, &key, Value::from_int(0));
     }
     one_key(alloc, &Value::from_int(0), inner)
 }
 
 /// How long the text of a dict is in which one stands whose values were changed in turn, so often.
-fn inner_entries(alloc: Global, parts: usize, times: u32) -> usize {
+fn inner_entries(alloc: Global, parts: u32, times: u32) -> usize {
     let mut value = inner_dict(alloc, parts);
     for i in 0..times {
         if let Ok(path) = place_inside(alloc, i % 1000) {
@@ -215,12 +218,12 @@ fn inside(rt: &HostRuntime) -> io::Result<()> {
     timed!(
         rt,
         "10,000 changes in an inner dict of 1,000",
-        inner_entries(alloc, PARTS, CHANGES / 100)
+        inner_entries(alloc, KEYS, CHANGES / 100)
     );
     timed!(
         rt,
         "10,000 changes in an inner dict of 10,000",
-        inner_entries(alloc, 10 * PARTS, CHANGES / 100)
+        inner_entries(alloc, 10 * KEYS, CHANGES / 100)
     );
     timed!(
         rt,
