@@ -92,7 +92,10 @@ fn value_inside_is_set_and_the_copy_stays(rt: HostRuntime) -> Result<(), Fail> {
     let copy = own.clone()?;
     put(alloc, &mut own, "b", "x", "{")?;
     put(alloc, &mut own, "c", "x", "")?;
-    assert!(rt; is(alloc, &own, "a {x 3} b {x \\{ {y z} 4} c {x {}}")?, "changed");
+    assert!(rt;
+        is(alloc, &own, "a {x 3} b {x \\{ {y z} 4} c {x {}}")?,
+        "changed"
+    );
     assert!(rt; is(alloc, &copy, "a {x 3} b {x 2 {y z} 4}")?, "the copy");
     Ok(())
 }
@@ -125,7 +128,10 @@ fn text_of_a_key_grows_and_the_copy_stays(rt: HostRuntime) -> Result<(), Fail> {
     append(alloc, &mut own, "\"", "é")?;
     assert!(rt; is(alloc, &own, "k 1 t {abc$[\"é}")?, "in braces");
     append(alloc, &mut own, "}", "\n")?;
-    assert!(rt; is(alloc, &own, "k 1 t abc\\$\\[\\\"é\\}\\n")?, "with backslashes");
+    assert!(rt;
+        is(alloc, &own, "k 1 t abc\\$\\[\\\"é\\}\\n")?,
+        "with backslashes"
+    );
     assert!(rt; is(alloc, &copy, "k 1 t abc")?, "the copy");
     Ok(())
 }
@@ -158,7 +164,10 @@ fn list_of_a_key_grows_and_the_copy_stays(rt: HostRuntime) -> Result<(), Fail> {
     lappend(alloc, &mut own, "", "d")?;
     let copy = own.clone()?;
     lappend(alloc, &mut own, "\\", "}")?;
-    assert!(rt; is(alloc, &own, "k 1 l {a {b c} {} d \\\\ \\}}")?, "changed");
+    assert!(rt;
+        is(alloc, &own, "k 1 l {a {b c} {} d \\\\ \\}}")?,
+        "changed"
+    );
     assert!(rt; is(alloc, &copy, "k 1 l {a {b c} {} d}")?, "the copy");
     Ok(())
 }
@@ -210,7 +219,10 @@ fn list_of_a_key_grows_to_the_limit(rt: HostRuntime) -> Result<(), Fail> {
     lappend(alloc, &mut own, "0", "1")?;
     lappend(alloc, &mut own, "2", "3")?;
     assert_eq!(rt; own.text_len(), 16_777_211);
-    assert!(rt; is_too_long(lappend(alloc, &mut own, "10", "11")), "six bytes");
+    assert!(rt;
+        is_too_long(lappend(alloc, &mut own, "10", "11")),
+        "six bytes"
+    );
     assert_eq!(rt; own.text_len(), 16_777_211);
     lappend(alloc, &mut own, "4", "10")?;
     assert_eq!(rt; own.text_len(), 16_777_216);
