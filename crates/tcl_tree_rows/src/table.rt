@@ -120,9 +120,13 @@ fn an_interpreter_in_use_stays(rt: HostRuntime) -> Result<(), Fail> {
     let mut tree = family(alloc)?;
     let c = text(alloc, "c")?;
     let g = text(alloc, "g")?;
-    let place = tree.nest(&[c.clone()?, g])?;
+    let path = [c.clone()?, g];
+    tree.nest(&path)?;
     assert!(rt; matches!(tree.delete(&[], &c), Err(Refusal::InUse)));
     assert_eq!(rt; tree.depth(&[]), Some(1));
+    let Some(place) = tree.place(&path) else {
+        return Err(Fail::from("it is gone"));
+    };
     tree.unnest(place);
     assert_eq!(rt; tree.depth(&[]), Some(0));
     tree.delete(&[], &c)?;
