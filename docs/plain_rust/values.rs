@@ -74,6 +74,16 @@ impl Value {
         }
     }
 
+    fn value_of(&mut self, key: &Value) -> Option<&mut Value> {
+        let key = key.key();
+        if let Value::Dict(dict) = self {
+            let dict = Rc::make_mut(dict);
+            let place = *dict.places.get(&key)?;
+            return dict.values.get_mut(place);
+        }
+        None
+    }
+
     fn len(&self) -> usize {
         match self {
             Value::Number(_) => 1,
@@ -135,6 +145,50 @@ fn inner_sets(parts: usize, times: u32) -> usize {
     value.len()
 }
 
+/// A dict of one key, whose value is this one.
+fn one_key(inner: Value) -> Value {
+    let mut value = Value::Dict(Rc::new(Dict::default()));
+    value.set_key(&Value::Number(0), inner);
+    value
+}
+
+fn inner_entries(parts: usize, times: u32) -> usize {
+    let mut inner = Value::Dict(Rc::new(Dict::default()));
+    for i in 0..parts {
+        inner.set_key(&Value::Number(i as i64), Value::Number(0));
+    }
+    let mut value = one_key(inner);
+    for i in 0..times {
+        if let Some(inner) = black_box(&mut value).value_of(&Value::Number(0)) {
+            inner.set_key(&Value::Number(i64::from(i % 1000)), Value::Number(i64::from(i)));
+        }
+    }
+    value.len()
+}
+
+fn inner_appends(times: u32) -> usize {
+    let key = Value::Number(0);
+    let mut value = one_key(Value::text(""));
+    for _ in 0..times {
+        let more = "abcd".to_string();
+        if let Some(inner) = black_box(&mut value).value_of(&key) {
+            inner.append(&more);
+        }
+    }
+    value.value_of(&key).map_or(0, |inner| inner.len())
+}
+
+fn inner_pushes(times: u32) -> usize {
+    let key = Value::Number(0);
+    let mut value = one_key(Value::List(Rc::new(vec![Value::Number(0), Value::Number(0)])));
+    for i in 0..times {
+        if let Some(inner) = black_box(&mut value).value_of(&key) {
+            inner.push(Value::Number(i64::from(i)));
+        }
+    }
+    value.value_of(&key).map_or(0, |inner| inner.len())
+}
+
 fn entries(keys: &[Value], times: u32) -> usize {
     let mut value = Value::Dict(Rc::new(Dict::default()));
     for i in 0..times {
@@ -180,6 +234,12 @@ fn main() {
     timed("1,000,000 changes of an element", || sets(CHANGES));
     timed("10,000 changes in an inner list of 1,000", || inner_sets(PARTS, CHANGES / 100));
     timed("10,000 changes in an inner list of 10,000", || inner_sets(10 * PARTS, CHANGES / 100));
+    timed("10,000 changes in an inner dict of 1,000", || inner_entries(PARTS, CHANGES / 100));
+    timed("10,000 changes in an inner dict of 10,000", || inner_entries(10 * PARTS, CHANGES / 100));
+    timed("100,000 appends to the text of a key", || inner_appends(CHANGES / 10));
+    timed("1,000,000 appends to the text of a key", || inner_appends(CHANGES));
+    timed("100,000 appends to the list of a key", || inner_pushes(CHANGES / 10));
+    timed("1,000,000 appends to the list of a key", || inner_pushes(CHANGES));
     timed("100,000 new keys", || keys_added(CHANGES / 10));
     timed("1,000,000 new keys", || keys_added(CHANGES));
     let keys: Vec<Value> = (0..PARTS).map(|i| Value::text(&format!("key{i}"))).collect();

@@ -56,6 +56,30 @@ proc longer_values {} {
     dict size $value
 }
 
+proc inner_sets {} {
+    set value {}
+    for {set i 0} {$i < 200000} {incr i} {lset value [expr {$i / 1000 % 10}] [expr {$i % 1000}] $i}
+    llength $value
+}
+
+proc inner_keys_set {} {
+    set value {}
+    for {set i 0} {$i < 200000} {incr i} {dict set value [expr {$i / 1000 % 10}] [expr {$i % 1000}] $i}
+    dict size $value
+}
+
+proc longer_value {} {
+    set value {}
+    for {set i 0} {$i < 200000} {incr i} {dict append value 0 abcd}
+    dict size $value
+}
+
+proc longer_list {} {
+    set value {}
+    for {set i 0} {$i < 200000} {incr i} {dict lappend value 0 $i}
+    dict size $value
+}
+
 order
 parts
 timed "200,000 times lappend" appends
@@ -63,3 +87,7 @@ timed "200,000 times lset" sets
 timed "200,000 times dict incr" counts
 timed "200,000 times dict set" keys_set
 timed "200,000 times dict append" longer_values
+timed "200,000 times lset inside" inner_sets
+timed "200,000 times dict set inside" inner_keys_set
+timed "200,000 times dict append to one key" longer_value
+timed "200,000 times dict lappend to one key" longer_list

@@ -5,7 +5,7 @@
 use std::alloc::Global;
 use std::io;
 use std::time::Instant;
-use tcl_dicts::changing::{append, incr, set};
+use tcl_dicts::changing::{append, incr, lappend as lappend_key, set};
 use tcl_list_texts::joining::join;
 use tcl_list_texts::splitting::split;
 use tcl_lists::changing::lset;
@@ -133,6 +133,51 @@ fn longer_values(alloc: Global, more: &Value) -> usize {
     value.text_len()
 }
 
+/// How long the text of a dict is to whose one value four bytes were added, so often.
+fn longer_value(alloc: Global, key: &Value, more: &Value) -> usize {
+    let mut value = Value::empty();
+    for _ in 0..MANY {
+        if let Ok(text) = more.clone() {
+            let _ = append(alloc, &mut value, key, &[text]);
+        }
+    }
+    value.text_len()
+}
+
+/// How long the text of a dict is to whose one list so many numbers were added.
+fn longer_list(alloc: Global, key: &Value) -> usize {
+    let mut value = Value::empty();
+    for i in 0..MANY {
+        let word = Value::from_int(i64::from(i));
+        let _ = lappend_key(alloc, &mut value, key, &[word]);
+    }
+    value.text_len()
+}
+
+/// How long the text of a list of ten lists is whose elements were set in turn, so often.
+fn inner_sets(alloc: Global) -> usize {
+    let mut value = Value::empty();
+    for i in 0..MANY {
+        let row = Value::from_int(i64::from(i / PARTS % 10));
+        let column = Value::from_int(i64::from(i % PARTS));
+        let new = Value::from_int(i64::from(i));
+        let _ = lset(alloc, Tcl8, &mut value, &[row, column], &new);
+    }
+    value.text_len()
+}
+
+/// How long the text of a dict of ten dicts is whose values were set in turn, so often.
+fn inner_keys_set(alloc: Global) -> usize {
+    let mut value = Value::empty();
+    for i in 0..MANY {
+        let row = Value::from_int(i64::from(i / PARTS % 10));
+        let column = Value::from_int(i64::from(i % PARTS));
+        let new = Value::from_int(i64::from(i));
+        let _ = set(alloc, &mut value, &[row, column], &new);
+    }
+    value.text_len()
+}
+
 /// Says on standard output what came of it, and on standard error how long it took.
 macro_rules! timed {
     ($rt:expr, $name:expr, $work:expr) => {
@@ -180,6 +225,27 @@ fn parts(rt: &HostRuntime) -> io::Result<()> {
     Ok(())
 }
 
+/// Changes what stands inside lists and dicts.
+fn inside(rt: &HostRuntime) -> io::Result<()> {
+    let alloc = rt.alloc();
+    timed!(rt, "200,000 times lset inside", inner_sets(alloc));
+    timed!(rt, "200,000 times dict set inside", inner_keys_set(alloc));
+    let key = Value::from_int(0);
+    if let Ok(more) = word(alloc, "abcd") {
+        timed!(
+            rt,
+            "200,000 times dict append to one key",
+            longer_value(alloc, &key, &more)
+        );
+    }
+    timed!(
+        rt,
+        "200,000 times dict lappend to one key",
+        longer_list(alloc, &key)
+    );
+    Ok(())
+}
+
 fn main(rt: HostRuntime) -> io::Result<()> {
     order(&rt)?;
     parts(&rt)?;
@@ -195,5 +261,5 @@ fn main(rt: HostRuntime) -> io::Result<()> {
             longer_values(alloc, &more)
         );
     }
-    Ok(())
+    inside(&rt)
 }

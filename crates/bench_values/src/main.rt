@@ -4,7 +4,7 @@
 use std::alloc::{AllocError, Global};
 use std::io;
 use std::time::Instant;
-use tcl_nested::changing::set_element;
+use tcl_nested::changing::{set_element, set_value};
 use tcl_text::integer::Integers;
 use tcl_text::text::Text;
 use tcl_value::value::{Value, ValueError};
@@ -17,6 +17,9 @@ const CHANGES: u32 = 1_000_000;
 
 /// How many elements or keys stand in a list or dict whose parts are changed.
 const PARTS: usize = 1000;
+
+/// How many keys stand in an inner dict whose values are changed.
+const KEYS: u32 = 1000;
 
 /// What a number is after it was counted up so often.
 fn increments(times: u32) -> i64 {
@@ -91,6 +94,60 @@ fn inner_sets(alloc: Global, parts: usize, times: u32) -> usize {
     value.text_len()
 }
 
+/// A dict of one key, whose value is this one.
+fn one_key(alloc: Global, key: &Value, inner: Value) -> Value {
+    let mut value = Value::empty();
+    let _ = value.set_key(alloc, key, inner);
+    value
+}
+
+/// A dict of a dict of so many numbers as keys, whose values are 0.
+fn inner_dict(alloc: Global, parts: u32) -> Value {
+    let mut inner = Value::empty();
+    for i in 0..parts {
+        let key = Value::from_int(i64::from(i));
+        let _ = inner.set_key(alloc, &key, Value::from_int(0));
+    }
+    one_key(alloc, &Value::from_int(0), inner)
+}
+
+/// How long the text of a dict is in which one stands whose values were changed in turn, so often.
+fn inner_entries(alloc: Global, parts: u32, times: u32) -> usize {
+    let mut value = inner_dict(alloc, parts);
+    for i in 0..times {
+        if let Ok(path) = place_inside(alloc, i % 1000) {
+            let new = Value::from_int(i64::from(i));
+            let _ = set_value(alloc, &mut value, &path, new);
+        }
+    }
+    value.text_len()
+}
+
+/// How long the text of a dict is to whose one value four bytes were added so often.
+fn inner_appends(alloc: Global, times: u32) -> usize {
+    let key = [Value::from_int(0)];
+    let mut value = one_key(alloc, &Value::from_int(0), Value::empty());
+    for _ in 0..times {
+        if let Ok(more) = Text::new(alloc, "abcd") {
+            value.append_inside(alloc, &key, more);
+        }
+    }
+    value.text_len()
+}
+
+/// How long the text of a dict is to whose one list so many numbers were added.
+fn inner_pushes(alloc: Global, times: u32) -> usize {
+    let key = [Value::from_int(0)];
+    let mut two = Value::empty();
+    let _ = two.push(alloc, Value::from_int(0));
+    let _ = two.push(alloc, Value::from_int(0));
+    let mut value = one_key(alloc, &Value::from_int(0), two);
+    for i in 0..times {
+        value.extend_inside(alloc, &key, &[Value::from_int(i64::from(i))]);
+    }
+    value.text_len()
+}
+
 /// How long the text of a dict is whose values were changed in turn, so often.
 fn entries(alloc: Global, keys: &[Value], times: u32) -> usize {
     let mut value = Value::empty();
@@ -155,6 +212,42 @@ macro_rules! timed {
     };
 }
 
+/// Changes of what stands inside a dict.
+fn inside(rt: &HostRuntime) -> io::Result<()> {
+    let alloc = rt.alloc();
+    timed!(
+        rt,
+        "10,000 changes in an inner dict of 1,000",
+        inner_entries(alloc, KEYS, CHANGES / 100)
+    );
+    timed!(
+        rt,
+        "10,000 changes in an inner dict of 10,000",
+        inner_entries(alloc, 10 * KEYS, CHANGES / 100)
+    );
+    timed!(
+        rt,
+        "100,000 appends to the text of a key",
+        inner_appends(alloc, CHANGES / 10)
+    );
+    timed!(
+        rt,
+        "1,000,000 appends to the text of a key",
+        inner_appends(alloc, CHANGES)
+    );
+    timed!(
+        rt,
+        "100,000 appends to the list of a key",
+        inner_pushes(alloc, CHANGES / 10)
+    );
+    timed!(
+        rt,
+        "1,000,000 appends to the list of a key",
+        inner_pushes(alloc, CHANGES)
+    );
+    Ok(())
+}
+
 fn main(rt: HostRuntime) -> io::Result<()> {
     let alloc = rt.alloc();
     timed!(&rt, "10,000,000 increments", increments(INCREMENTS));
@@ -186,6 +279,7 @@ fn main(rt: HostRuntime) -> io::Result<()> {
         "10,000 changes in an inner list of 10,000",
         inner_sets(alloc, 10 * PARTS, CHANGES / 100)
     );
+    inside(&rt)?;
     timed!(&rt, "100,000 new keys", keys_added(alloc, CHANGES / 10));
     timed!(&rt, "1,000,000 new keys", keys_added(alloc, CHANGES));
     if let Ok(keys) = keys(alloc) {

@@ -1,9 +1,10 @@
 //! The commands that words name, and ends as a caller in another interpreter sees them.
 use std::alloc::Global;
 use std::test::Fail;
-use tcl_calls::carrying::{carry, target_words};
+use tcl_calls::carrying::{come_back, target_words};
 use tcl_calls::lookup::{find_command, find_hidden};
 use tcl_flow::stop::{Stop, StopKind};
+use tcl_host::memory::MemoryHost;
 use tcl_run::interruption::Interruption;
 use tcl_text::text::Text;
 use tcl_tree::builtin::Builtin;
@@ -80,14 +81,16 @@ fn alias_words_come_first(rt: HostRuntime) -> Result<(), Fail> {
 /// What the root is told of a stop so many levels above a child that it called.
 fn told(alloc: Global, levels_up: usize) -> Result<Result<Value, Interruption>, Fail> {
     let tree = Tree::new(alloc)?;
+    let mut host = MemoryHost::new(alloc)?;
     let stop = Stop {
         levels_up,
         kind: StopKind::Count,
     };
     let down = [Text::new(alloc, "child")?];
-    Ok(carry(
+    Ok(come_back(
         &tree,
         alloc,
+        &mut host,
         tree.root(),
         0,
         &down,

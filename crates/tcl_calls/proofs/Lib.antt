@@ -1,6 +1,7 @@
 mod Binding
 mod Branching
 mod Closing
+mod Crossing
 mod Keeping
 mod Kept
 mod Levelling

@@ -1,21 +1,35 @@
 -- What contracts see of ends that are told to a caller in another interpreter.
 use Rattle.std.specs.Prelude.{◌≡◌, ℕ, List, Result, Ok, Err, Some}
-use Rattle.tcl_core.specs.Endings.{settle}
+use Rattle.tcl_core.specs.Endings.{Reply, ok, settle}
 use Rattle.tcl_core.specs.Endings.Reply.{Completed}
 use Rattle.tcl_core.specs.Paths.{Text, Path}
 use Rattle.tcl_core.specs.Runs.{carried}
-use Rattle.tcl_flow.specs.Stopping.{reply_of}
+use Rattle.tcl_core.specs.Trees.{Tree}
 use Rattle.tcl_flow.specs.View.{completion_of}
-use Rattle.tcl_run.specs.Ends.{IfEnded}
+use Rattle.tcl_run.specs.Ends.{IfEnded, Interrupts}
+use Rattle.tcl_run.specs.Outsides.{Going, Returns}
 use Rattle.tcl_run.specs.declared.interruption.Interruption.{Interruption}
 use Rattle.tcl_run.specs.declared.interruption.Interruption.TheVariants as interruption
+use Rattle.tcl_tree.specs.Own.{Own}
 
--- How the caller at p is told an end, whose call went so many levels up and then these names down: a stop as it is seen from there, and all else
--- as it is.
-abbrev pub Carries : Path → ℕ → Path → Result Text Interruption → Result Text Interruption → Type 0
-Carries p up down (Ok text) r = r ≡ Ok text
-Carries p up down (Err (interruption.Stopped s)) r = IfEnded r (λ e. e ≡ carried (Some up) p down (reply_of s))
-Carries p up down (Err i) r = r ≡ Err i
+-- it ended by this reply
+abbrev pub EndedBy : Result Text Interruption → Reply → Type 0
+EndedBy (Ok text) s = s ≡ Completed (ok text)
+EndedBy (Err interruption.Memory) s = Prim.⊥
+EndedBy (Err i) s = Interrupts i (λ r. s ≡ r)
+
+-- it ended otherwise than by a stop
+abbrev pub IsNoStop : Result Text Interruption → Type 0
+IsNoStop (Err (interruption.Stopped s)) = Prim.⊥
+IsNoStop r = Unit {0}
+
+-- The caller at p is told so of the end of its call, which went so many levels up, to a, and then these names down: a stop as it is seen from there, and all else
+-- as it is. The outside is told both.
+pub record ComesBack {S : Type 0} (goes : Going S) (T : Tree Own) (o : S) (p : Path) (up : ℕ) (a down : Path) (ended : Result Text Interruption) (told : Reply) (z : S) : Type 0 where
+  pub reply : Reply
+  pub ended_so : EndedBy ended reply
+  pub told_so : told ≡ carried (Some up) p down reply
+  pub returns : Returns goes T o p up a down reply told z
 
 -- what an end comes to where only ok and error may pass
 abbrev pub Settles : Result Text Interruption → Result Text Interruption → Type 0

@@ -1,19 +1,21 @@
 //! Calls that cross to another interpreter: their words, and how their ends are told to the caller.
-ghost use Rattle.std.specs.Prelude.{◌≡◌, ◌++◌, Some, IfOk};
+ghost use Rattle.std.specs.Prelude.{◌≡◌, ◌≤◌, ◌++◌, Some, Err, IfOk, IfSome, IfNone};
 ghost use Rattle.tcl_core.specs.Endings.Reply.{Completed};
-ghost use Rattle.tcl_core.specs.Paths.{Path};
+ghost use Rattle.tcl_core.specs.Paths.{Path, rise_to};
 ghost use Rattle.tcl_core.specs.Runs.{carried};
 ghost use Rattle.tcl_flow.specs.Stopping.{reply_of};
 ghost use Rattle.tcl_language.specs.Faults as faults;
 ghost use Rattle.tcl_language.specs.Table.{some_words};
-ghost use Rattle.tcl_run.specs.Ends.{Interrupts, failing};
-ghost use Rattle.tcl_tree.specs.TreeOf.{Names};
-ghost use Rattle.tcl_calls.specs.Carrying.{Carries, Settles};
+ghost use Rattle.tcl_run.specs.Ends.{IfEnded, Interrupts, failing};
+ghost use Rattle.tcl_tree.specs.TreeOf.{tree_of, Names};
+ghost use Rattle.tcl_run.specs.declared.interruption.Interruption.TheVariants.{Stopped};
+ghost use Rattle.tcl_calls.specs.Carrying.{ComesBack, IsNoStop, Settles};
 
 use std::alloc::{AllocError, Global};
 use tcl_flow::completion::settle;
 use tcl_flow::stop::Stop;
 use tcl_run::interruption::Interruption;
+use tcl_run::outside::Outside;
 use tcl_text::text::Text;
 use tcl_tree::alias::in_common;
 use tcl_tree::tree::{Place, Tree};
@@ -62,23 +64,62 @@ pub fn settled(alloc: Global, ended: Result<Value, Interruption>) -> Result<Valu
     }
 }
 
-/// How a caller is told the end of its call, which went so many levels up and then these names down.
+/// Tells the outside that a call came to its end, so many levels up and these names down from the caller, and gives how the caller is told it.
+///
+/// # Errors
+/// Every end but an ordinary one; want of memory.
 #[inline(never)]
-pub fn carry(
+pub fn come_back<O: Outside>(
     tree: &Tree,
     alloc: Global,
-    place: Place,
+    outside: &mut O,
+    caller: Place,
     up: usize,
     down: &[Text],
     ended: Result<Value, Interruption>,
 ) -> Result<Value, Interruption>
-    requires { (p : Path) × Names tree.now place p }
-    ensures { (p : Path) → Names tree.now place p → Carries p up down.now ended result }
+    requires { (p : Path) × Names tree.now caller p }
+    ensures comes { IfEnded result (λ r. (p a : Path) → Names tree.now caller p → rise_to (Some up) p ≡ Some a → ComesBack O.goes (tree_of tree.now) outside.old p up a down.now ended r outside.new) }
+    ensures left { O.entries_left outside.new ≤ O.entries_left outside.old }
+{
+    match stop_of(&ended) {
+        Some(stop) => stop_comes_back(tree, alloc, outside, caller, up, down, stop),
+        None => {
+            outside.returns(alloc, tree, caller, up, down, &ended, &ended)?;
+            ended
+        }
+    }
+}
+
+/// The stop that an end is.
+fn stop_of(ended: &Result<Value, Interruption>) -> Option<Stop>
+    ensures some { IfSome result (λ stop. ended.now ≡ Err (Stopped stop)) }
+    ensures none { IfNone result (IsNoStop ended.now) }
 {
     match ended {
-        Err(Interruption::Stopped(stop)) => Err(told_stop(tree, alloc, place, up, down, stop)),
-        other => other,
+        Err(Interruption::Stopped(stop)) => Some(*stop),
+        _ => None,
     }
+}
+
+/// Tells the outside that a call was ended by a stop, and gives the stop as the caller sees it.
+fn stop_comes_back<O: Outside>(
+    tree: &Tree,
+    alloc: Global,
+    outside: &mut O,
+    caller: Place,
+    up: usize,
+    down: &[Text],
+    stop: Stop,
+) -> Result<Value, Interruption>
+    requires { (p : Path) × Names tree.now caller p }
+    ensures comes { IfEnded result (λ r. (p a : Path) → Names tree.now caller p → rise_to (Some up) p ≡ Some a → ComesBack O.goes (tree_of tree.now) outside.old p up a down.now (Err (Stopped stop)) r outside.new) }
+    ensures left { O.entries_left outside.new ≤ O.entries_left outside.old }
+{
+    let ended = Err(Interruption::Stopped(stop));
+    let told = Err(told_stop(tree, alloc, caller, up, down, stop));
+    outside.returns(alloc, tree, caller, up, down, &ended, &told)?;
+    told
 }
 
 /// A stop as the caller sees it: where it doesn't stand below the interpreter that is full, an error.

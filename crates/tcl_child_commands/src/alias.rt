@@ -8,7 +8,7 @@ use crate::failure::wrong_child_args;
 use std::alloc::Global;
 use std::slice;
 use tcl_calls::carrying::target_words;
-use tcl_entries::entry::{OwnEntry, Question};
+use tcl_run::entry::{OwnEntry, Question};
 use tcl_entries::requests::{ask_at, ask_telling};
 use tcl_run::interruption::Interruption;
 use tcl_run::outside::Outside;
@@ -38,7 +38,7 @@ fn alias_of<O: Outside>(
         outside,
         place,
         slice::from_ref(name),
-        &OwnEntry::Ask(Question::AliasOf(source)),
+        OwnEntry::Ask(Question::AliasOf(source)),
     )
 }
 
@@ -63,7 +63,7 @@ fn clear_alias<O: Outside>(
         outside,
         place,
         slice::from_ref(name),
-        &OwnEntry::ClearAlias(source),
+        OwnEntry::ClearAlias(source),
     )
 }
 
@@ -97,7 +97,7 @@ fn set_alias<O: Outside>(
         outside,
         place,
         slice::from_ref(name),
-        &entry,
+        entry,
         told,
     )
 }

@@ -9,7 +9,7 @@ use crate::hiding::{expose, hide};
 use crate::limits::{limit, recursion_limit};
 use crate::questions::ask_child;
 use std::alloc::Global;
-use tcl_entries::entry::Question;
+use tcl_run::entry::Question;
 use tcl_entries::subcommand::ChildSubcommand;
 use tcl_run::interruption::Interruption;
 use tcl_run::outside::Outside;

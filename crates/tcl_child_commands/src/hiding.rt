@@ -7,13 +7,13 @@ ghost use Rattle.tcl_language.specs.Interpreters as interpreters;
 ghost use Rattle.tcl_run.specs.Ends.{Interrupts, failing};
 ghost use Rattle.tcl_run.specs.Runs.{Evaluates, IsRunning, IsSteady};
 ghost use Rattle.tcl_tree.specs.TreeOf.{Names};
-ghost use Rattle.tcl_entries.specs.Entering.{entry_of};
+ghost use Rattle.tcl_run.specs.Entering.{entry_of};
 ghost use Rattle.tcl_entries.specs.Looking.{Finds};
 
 use crate::failure::wrong_child_args;
 use std::alloc::Global;
 use std::slice;
-use tcl_entries::entry::OwnEntry;
+use tcl_run::entry::OwnEntry;
 use tcl_entries::looking::permit;
 use tcl_entries::requests::ask_at;
 use tcl_run::failure::no_interpreter;
@@ -62,10 +62,10 @@ fn ask_child_trusted<O: Outside>(
     outside: &mut O,
     place: Place,
     name: &Text,
-    entry: &OwnEntry,
+    entry: OwnEntry,
 ) -> Result<Value, Interruption>
     requires { IsRunning tree.old place }
-    ensures evaluates { Evaluates O.goes tree.old outside.old place (λ style. interpreters.asks_trusted (interpreters.child_path name.now) (entry_of entry.now)) tree.new outside.new result }
+    ensures evaluates { Evaluates O.goes tree.old outside.old place (λ style. interpreters.asks_trusted (interpreters.child_path name.now) (entry_of entry)) tree.new outside.new result }
     ensures steady { IsSteady tree.old tree.new }
     ensures left { O.entries_left outside.new ≤ O.entries_left outside.old }
 {
@@ -97,7 +97,7 @@ fn hide_as<O: Outside>(
         outside,
         place,
         name,
-        &OwnEntry::Hide {
+        OwnEntry::Hide {
             name: command,
             hidden,
         },
@@ -151,7 +151,7 @@ fn expose_as<O: Outside>(
         outside,
         place,
         name,
-        &OwnEntry::Expose {
+        OwnEntry::Expose {
             hidden,
             name: command,
         },

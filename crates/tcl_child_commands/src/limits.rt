@@ -7,7 +7,7 @@ ghost use Rattle.tcl_entries.specs.Telling.{limits_to, deepens_to};
 use crate::failure::wrong_child_args;
 use std::alloc::Global;
 use std::slice;
-use tcl_entries::entry::{OwnEntry, Question};
+use tcl_run::entry::{OwnEntry, Question};
 use tcl_entries::interp::{deepen_to, limit_to};
 use tcl_entries::looking::{commands_only, permit, value_only};
 use tcl_entries::requests::ask_at;
@@ -38,7 +38,7 @@ fn limit_of<O: Outside>(
         outside,
         place,
         slice::from_ref(name),
-        &OwnEntry::Ask(Question::CountLimitOf),
+        OwnEntry::Ask(Question::CountLimitOf),
     )
 }
 
@@ -148,7 +148,7 @@ pub fn recursion_limit<O: Outside>(
                 outside,
                 place,
                 slice::from_ref(name),
-                &OwnEntry::Ask(Question::DepthLimitOf),
+                OwnEntry::Ask(Question::DepthLimitOf),
             )
         }
         [value] => set_depth_limit(tree, alloc, outside, place, name, value),

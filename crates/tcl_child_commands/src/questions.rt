@@ -2,12 +2,12 @@
 ghost use Rattle.std.specs.Prelude.{◌≤◌};
 ghost use Rattle.tcl_language.specs.Interpreters as interpreters;
 ghost use Rattle.tcl_run.specs.Runs.{Evaluates, IsRunning, IsSteady};
-ghost use Rattle.tcl_entries.specs.Entering.{question_of};
+ghost use Rattle.tcl_run.specs.Entering.{question_of};
 
 use crate::failure::wrong_child_args;
 use std::alloc::Global;
 use std::slice;
-use tcl_entries::entry::{OwnEntry, Question};
+use tcl_run::entry::{OwnEntry, Question};
 use tcl_entries::requests::ask_at;
 use tcl_run::interruption::Interruption;
 use tcl_run::outside::Outside;
@@ -43,6 +43,6 @@ pub fn ask_child<O: Outside>(
         outside,
         place,
         slice::from_ref(name),
-        &OwnEntry::Ask(question),
+        OwnEntry::Ask(question),
     )
 }

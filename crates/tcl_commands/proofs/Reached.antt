@@ -15,6 +15,7 @@ use Rattle.tcl_language.specs.Instructions.{Instr, Program, at_node, change, loo
 use Rattle.tcl_language.specs.Variables.{chain_becomes, sets}
 use Rattle.tcl_run.specs.Ends.{IsFailure, failing}
 use Rattle.tcl_run.specs.Plain.{Does}
+use Rattle.tcl_run.specs.Outsides.{Going}
 use Rattle.tcl_run.specs.Runs.{Comes, Rechained}
 use Rattle.tcl_run.proofs.Leads.{sees_below}
 use Rattle.tcl_tree.specs.Own.{Own}
@@ -41,11 +42,11 @@ pub end_does : {p : Path} {x : Program} {T U : Tree Own} {r : Reply} → Reaches
 end_does {p} {x} {T} {U} {r} e = reaches_does U r e.way (subst (λ (y : Program). Does y U p U r) (sym e.end.is_over) (refl, e.end.ends))
 
 -- and what may come from there may come from here
-module _ {S : Type 0} {goes : S → Event Own → S → Type 0} {language : Table Own Instr} where
+module _ {S : Type 0} {goes : Going S} {language : Table Own Instr} where
   pub reaches_comes : {p : Path} {x y : Program} {T U V : Tree Own} {o z : S} {r : Reply} → Reaches p x T y U → Comes goes language U o p y V z r → Comes goes language T o p x V z r
   reaches_comes here t = t
   reaches_comes (looked g) t = sees_below (reaches_comes g t)
-  reaches_comes (changed {own = own} there g) t = acted (None, Changed own, On) (λ gs. ap (λ m. Some (changing own m)) there) tt refl (reaches_comes g t)
+  reaches_comes (changed {own = own} there g) t = acted (None, Changed own, On) (λ gs. ap (λ m. Some (changing own m)) there) tt (record { told = refl }) (reaches_comes g t)
 
 -- ## Steps
 

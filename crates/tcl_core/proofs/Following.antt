@@ -7,7 +7,7 @@ use Rattle.tcl_core.specs.Entries.Answer.{Replied, Heard}
 use Rattle.tcl_core.specs.Trees.{Tree, What, Event, Move, Grant, Grants, effect, asked, granted}
 use Rattle.tcl_core.specs.Trees.Grants.{Listed}
 use Rattle.tcl_core.specs.Trees.What.{Out, In, Done, Back}
-use Rattle.tcl_core.specs.Programs.{Deed, spot, Act, Wrap, Prog, Table, decide, opens, closes}
+use Rattle.tcl_core.specs.Programs.{Deed, Wait, spot, Act, Wrap, Prog, Table, decide, opens, closes}
 use Rattle.tcl_core.specs.Programs.Prog.{call}
 use Rattle.tcl_core.specs.Runs.{World, Step, Runs, carried, entering, height_of}
 use Rattle.tcl_core.specs.Rules.{Derives}
@@ -88,14 +88,14 @@ module _ {O : Type 0} where
   opened b T p x f τ z = ap (λ gs. opens b T p (granted (spot p x.0) x.1 gs)) (allowed_listed τ z.words).1 ∙ f (allowed_listed τ z.words).0
 
 module _ {O S : Type 0} where
-  pub chain-append : (step : S → Event O → S → Type 0) {o u z : S} {a b : List (Event O)} → Chain step o a u → Chain step u b z → Chain step o (a ++ b) z
+  pub chain-append : (step : Tree O → S → Wait → Event O → S → Type 0) {T U V : Tree O} {o u z : S} {a b : List (Event O)} → Chain step T o a U u → Chain step U u b V z → Chain step T o (a ++ b) V z
   chain-append step none k = k
   chain-append step (more g c) k = more g (chain-append step c k)
 
-module _ {O I S : Type 0} (step : S → Event O → S → Type 0) (prog : Table O I) where
+module _ {O I S : Type 0} (step : Tree O → S → Wait → Event O → S → Type 0) (prog : Table O I) where
   pub record Says (T : Tree O) (o : S) (p : Place) (x : Prog O I) (V : Tree O) (z : S) (r : Reply) : Type 0 where
     pub events : List (Event O)
-    pub chain : Chain step o events z
+    pub chain : Chain step T o events V z
     pub runs : (y : Rest O) → Derives prog (ahead T events y) p x (ahead V [] y) (Some r)
 
   -- a run, and what follows it
@@ -185,7 +185,7 @@ module _ {O I S : Type 0} (step : S → Event O → S → Type 0) (prog : Table 
       let tail : List (Event O) = event t (Done (Some (length down)) s) ∷ last in
       record {
         events = event p (Out h down i) ∷ event t (In (Some (length down)) i) ∷ (f.events ++ tail);
-        chain = more s1 (more s2 (chain-append step f.chain (more s3 (more (subst (λ l. step o4 (event p (Back h (Replied l))) o5) (sym so) s4) none))));
+        chain = more s1 (more s2 (chain-append step f.chain (more s3 (more (subst (λ l. step U o4 None (event p (Back h (Replied l))) o5) (sym so) s4) none))));
         runs = λ y. subst (λ l. Derives prog (ahead T (event p (Out h down i) ∷ event t (In (Some (length down)) i) ∷ (f.events ++ tail)) y) p (call h down i lost k) (ahead U [] y) (Some l)) so
             (Derives.called_passed _ p h down i lost k a t (ahead T (event t (In (Some (length down)) i) ∷ (f.events ++ tail)) y) (ahead T (f.events ++ tail) y) (ahead U tail y) (ahead U last y) (ahead U [] y) s e
             (next T p (Out h down i) (event t (In (Some (length down)) i) ∷ (f.events ++ tail)) y) there (next T t (In (Some (length down)) i) (f.events ++ tail) y)

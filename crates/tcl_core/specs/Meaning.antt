@@ -3,7 +3,7 @@ use Rattle.std.specs.Prelude.{◌≡◌, ◌↔◌, Bool, true}
 use Rattle.tcl_core.specs.Paths.{Place}
 use Rattle.tcl_core.specs.Endings.{Reply}
 use Rattle.tcl_core.specs.Trees.{Tree, Event}
-use Rattle.tcl_core.specs.Programs.{Prog, Table}
+use Rattle.tcl_core.specs.Programs.{Prog, Table, Wait}
 use Rattle.tcl_core.specs.Runs.{World, Ending, Unrolled, Runs}
 use Rattle.tcl_core.specs.Rules.{Derives}
 use Rattle.tcl_core.specs.Threads.{Threads, Makes}
@@ -17,9 +17,9 @@ Unrolling O I = (prog : Table O I) (w : World O) (p : Place) (x : Prog O I) (v :
 
 -- What code threads is a run over the tape of what happened, whatever the outside is told. (`proofs/Following.antt` has it for an outside
 -- whose steps are any relation; here they are those that a test lets through.)
-abbrev pub by_test : {O S : Type 0} → (S → Event O → S → Bool) → S → Event O → S → Type 0
-by_test goes o ev u = goes o ev u ≡ true
+abbrev pub by_test : {O S : Type 0} → (Tree O → S → Wait → Event O → S → Bool) → Tree O → S → Wait → Event O → S → Type 0
+by_test goes T o s ev u = goes T o s ev u ≡ true
 
 abbrev pub ThreadsAreRuns : Type 0 → Type 0 → Type 0 → Type 0
-ThreadsAreRuns O I S = (goes : S → Event O → S → Bool) (prog : Table O I) (T V : Tree O) (o z : S) (p : Place) (x : Prog O I) (r : Reply) →
+ThreadsAreRuns O I S = (goes : Tree O → S → Wait → Event O → S → Bool) (prog : Table O I) (T V : Tree O) (o z : S) (p : Place) (x : Prog O I) (r : Reply) →
     Threads (by_test goes) prog T o p x V z r → Makes (by_test goes) prog T o p x V z r

@@ -1,5 +1,5 @@
 -- Changes of a key's value in place.
-use Rattle.std.proofs.Common.{arith, refl, ap, sym, ◌∙◌, ◌≡◌, ℕ, ◌≤◌, Bool, true, false, List, [], ◌∷◌, ◌++◌, length, Ok, Err, Option, Some, None}
+use Rattle.std.proofs.Common.{arith, refl, ap, subst, ◌∙◌, ◌≡◌, ℕ, Bool, true, false, List, [], ◌∷◌, ◌++◌, length, Ok, Err, Option, Some, None}
 use Rattle.std.specs.Prelude.{option_map}
 use Rattle.std.specs.Bool.{OnTrue}
 use Rattle.std.specs.declared.result.Result.{Result}
@@ -17,7 +17,7 @@ use Rattle.tcl_nested.proofs.Lengths.{value_longer}
 use Rattle.tcl_lists.specs.Lists.{Texts, list_value}
 use Rattle.tcl_lists.proofs.Lengths.{limited_within}
 use Rattle.tcl_dicts.specs.Dicts.{dict_or, dict_value}
-use Rattle.tcl_dicts.specs.Changing.{changed_of, lengthened, lappend_of, put_of}
+use Rattle.tcl_dicts.specs.Changing.{lengthened, lappend_of, put_of, joined, appended, append_of}
 
 same_some : (x y : List ℕ) → ◌≡◌ {A = Option (List ℕ)} (Some x) (Some y) → x ≡ y
 same_some x y e = cc
@@ -44,3 +44,14 @@ longer_at words x (Err fault) e w = absurd (cc)
 pub longer_made : (b : Bool) (words : Texts) (k text now : List ℕ) → IsWithin now → OnTrue b (entry_made (k ∷ []) (elements_added words) text ≡ Some now) → OnTrue b (lappend_of text k words ≡ Ok now)
 longer_made true words k text now w e = made_in (elements_added words) (lengthened words) k text now (dict_of text) refl (λ found x h v. longer_at words x (list_of (value_or_empty found)) h v) e w
 longer_made false words k text now w e = tt
+
+-- a text behind the value of a key
+text_at : (words : Texts) (found : Option (List ℕ)) (x : List ℕ) → ◌≡◌ {A = Option (List ℕ)} (Some (value_or_empty found ++ joined words)) (Some x) → IsWithin x → appended words found ≡ Ok x
+text_at words found x e w = let same = same_some (value_or_empty found ++ joined words) x e in limited_within (value_or_empty found ++ joined words) (omega (arith, w, ap length same)) ∙ ap (λ z. Ok z) same
+
+appended_one : (words : Texts) (k text now : List ℕ) → IsWithin now → entry_made (k ∷ []) (λ x. Some (x ++ joined words)) text ≡ Some now → append_of text k words ≡ Ok now
+appended_one words k text now w e = made_in (λ x. Some (x ++ joined words)) (appended words) k text now (dict_of text) refl (λ found x h v. text_at words found x h v) e w
+
+pub appended_made : (b : Bool) (words : Texts) (more k text now : List ℕ) → more ≡ joined words → IsWithin now → OnTrue b (entry_made (k ∷ []) (λ x. Some (x ++ more)) text ≡ Some now) → OnTrue b (append_of text k words ≡ Ok now)
+appended_made true words more k text now m w e = appended_one words k text now w (subst (λ (z : List ℕ). entry_made (k ∷ []) (λ x. Some (x ++ z)) text ≡ Some now) m e)
+appended_made false words more k text now m w e = tt

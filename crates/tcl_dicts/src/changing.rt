@@ -9,7 +9,7 @@ ghost use Rattle.tcl_lists.specs.Lists.{Changes, two_and_rest, first_middle_last
 ghost use Rattle.tcl_dicts.specs.Changing.{with_keys, set_words_of, set_of, unset_of, found_of, put_of, incr_of, append_of, lappend_of};
 
 use crate::reading::{not_changed, own_dict};
-use crate::values::{appended, incremented, lengthened};
+use crate::values::{appended, incremented, joined, lengthened};
 use std::alloc::{AllocError, Global};
 use tcl_lists::reading::{first_middle_last, two_and_rest, two_or_three_words};
 use tcl_lists::refusing::nested_refusal;
@@ -156,12 +156,43 @@ pub fn append_words(alloc: Global, words: &[Value]) -> Result<(&Value, &Value, &
 }
 
 /// What `dict append varName key ?string ...?` makes of the variable's value: the value of the key, which is empty where it is
-/// missing, has the strings behind it. Where nobody shares the dict it is changed in place, but the key's value is copied. A
-/// refusal leaves the value as it was.
+/// missing, has the strings behind it. Where nobody shares the dict it is changed in place, and so is the key's value where it is
+/// kept as a text. A refusal leaves the value as it was.
 ///
 /// # Errors
 /// 101 to 104, 121, 122; want of memory.
 pub fn append(alloc: Global, old: &mut Value, key: &Value, words: &[Value]) -> Result<(), Refusal>
+    ensures { Changes result old.old old.new (append_of old.old key.now words.now) }
+{
+    if appended_in_place(alloc, old, key, words)? {
+        return Ok(());
+    }
+    append_anew(alloc, old, key, words)
+}
+
+/// Puts words behind a key's value, where it is kept as a text. Says whether it did; where it didn't, nothing is changed.
+fn appended_in_place(
+    alloc: Global,
+    old: &mut Value,
+    key: &Value,
+    words: &[Value],
+) -> Result<bool, AllocError>
+    ensures changed { IfOk result (λ done. OnTrue done (append_of old.old key.now words.now ≡ Ok old.new)) }
+    ensures within { IfOk result (λ done. OnTrue done (IsWithin old.new)) }
+    ensures unchanged { IfOk result (λ done. OnFalse done (old.new ≡ old.old)) }
+    ensures memory { OnErr result (old.new ≡ old.old) }
+{
+    let Ok(more) = joined(alloc, words) else {
+        return Ok(false);
+    };
+    let path = [key.clone()?];
+    let done = old.append_inside(alloc, &path, more);
+    let _within = old.text_len();
+    Ok(done)
+}
+
+/// What `dict append` makes of a value, where the key's value is copied.
+fn append_anew(alloc: Global, old: &mut Value, key: &Value, words: &[Value]) -> Result<(), Refusal>
     ensures { Changes result old.old old.new (append_of old.old key.now words.now) }
 {
     let found = found_in(alloc, old, key)?;

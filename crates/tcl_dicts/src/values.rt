@@ -1,5 +1,5 @@
 //! What becomes of a key's value.
-ghost use Rattle.std.specs.Prelude.{◌≡◌, ◌++◌, ◌+ℤ◌, ℕ, List, Err, pos};
+ghost use Rattle.std.specs.Prelude.{◌≡◌, ◌++◌, ◌+ℤ◌, ℕ, List, Err, pos, IfOk};
 ghost use Rattle.std.specs.Option.{option_copied};
 ghost use Rattle.tcl_words.specs.Outcomes.{Gives, Refuses};
 ghost use Rattle.tcl_words.specs.Limits.{limited};
@@ -102,6 +102,17 @@ fn with_texts(alloc: Global, value: Value, words: &[Value]) -> Result<Value, Ref
     }
     let _within = made.text_len();
     Ok(made)
+}
+
+/// The texts of words behind one another, where a value may have so long a text.
+pub(crate) fn joined(alloc: Global, words: &[Value]) -> Result<Text, Refusal>
+    ensures { IfOk result (λ text. text ≡ joined words.now) }
+{
+    if let [word] = words {
+        return Ok(word.text(alloc)?);
+    }
+    let made = with_texts(alloc, Value::empty(), words)?;
+    Ok(made.text(alloc)?)
 }
 
 /// A value, which is empty where there is none, with the texts of words behind its own.

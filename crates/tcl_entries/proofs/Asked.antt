@@ -1,22 +1,23 @@
 -- What comes of asking: one law for what an interpreter asks of itself and one for a call of another, for any entry and any run inside.
-use Rattle.std.proofs.Common.{◌≡◌, ℕ, suc, ◌+◌, ◌-◌, true, false, [], ◌∷◌, ◌++◌, length, Some, None, refl, sym, ◌∙◌, ap, subst, append-nil, arith}
-use Rattle.std.specs.Prelude.{nat_lt, nat_eq, is_some}
+use Rattle.std.proofs.Common.{◌≡◌, ℕ, suc, ◌+◌, ◌-◌, false, [], ◌∷◌, ◌++◌, length, Some, None, refl, sym, ◌∙◌, ap, subst, arith}
+use Rattle.std.specs.Prelude.{nat_lt, nat_eq}
 use Rattle.std.proofs.lemmas.Bool.Decides.{nat_tests}
-use Rattle.tcl_core.specs.Endings.{Completion, Reply, error}
+use Rattle.tcl_core.specs.Endings.{Completion, Reply}
 use Rattle.tcl_core.specs.Endings.Reply.{Completed, Stop, Exit, Cut}
 use Rattle.tcl_core.specs.Entries.{Entry}
 use Rattle.tcl_core.specs.Paths.{Path, Place, rise, rise_to, rejoined, falls, together}
 use Rattle.tcl_core.specs.Programs.Prog.{go, call}
 use Rattle.tcl_core.specs.Runs.{carried, lessened}
 use Rattle.tcl_core.specs.Threads.{passed}
-use Rattle.tcl_core.specs.Trees.{Tree, Node, Event}
+use Rattle.tcl_core.specs.Trees.{Tree, Node}
 use Rattle.tcl_language.specs.Instructions.{Instr}
 use Rattle.tcl_language.specs.Instructions.Instr.{Serve}
-use Rattle.tcl_language.specs.Interpreters.{asks_at, finished, no_interpreter}
+use Rattle.tcl_language.specs.Interpreters.{finished}
 use Rattle.tcl_language.specs.Language.{language}
 use Rattle.tcl_language.specs.Table.{program, serve}
+use Rattle.tcl_run.specs.Outsides.{Going, Enters, Returns, Misses}
 use Rattle.tcl_run.specs.Runs.{Comes}
-use Rattle.tcl_run.proofs.Leads.{at_prog, at_reply, goes_on, calls_on, calls_passed, finds_none_on}
+use Rattle.tcl_run.proofs.Leads.{at_prog, goes_on, calls_on, calls_passed, finds_none_on}
 use Rattle.tcl_text.specs.declared.integer.Integers.{Integers}
 use Rattle.tcl_tree.specs.Own.{Own}
 use Rattle.tcl_entries.specs.Asking.{GoesOn}
@@ -41,7 +42,7 @@ carried_here p (Stop n m) = by (together (falls 0 p) [])
 carried_here p (Exit n) = refl
 carried_here p (Cut c) = refl
 
-module _ {S : Type 0} (goes : S → Event Own → S → Type 0) (style : Integers) where
+module _ {S : Type 0} (goes : Going S) (style : Integers) where
   -- an instruction by itself
   pub inner_goes : {T U : Tree Own} {o u : S} {p : Place} (i : Instr) (e : Reply) → Comes goes (language style) T o p (program style i) U u e → GoesOn goes style T o p (go i) U u e
   inner_goes i (Completed c) t = λ k V z r s. goes_on {i = i} t s
@@ -54,30 +55,17 @@ module _ {S : Type 0} (goes : S → Event Own → S → Type 0) (style : Integer
   serve_goes entry e t = inner_goes (Serve entry) e t
 
   -- a call of the interpreter so many levels up and these names down, which was told the end that came of it
-  pub call_goes : {T U : Tree Own} {o u : S} {m : Node Own} {s : Reply} (p : Place) (n : ℕ) (down : Path) (i : Entry) (lost : Completion) (a : Place) (r : Reply) → rise_to (Some n) p ≡ Some a → T (a ++ down) ≡ Some m →
-      Comes goes (language style) T o (a ++ down) (serve style i) U u s → r ≡ carried (Some n) p down s → GoesOn goes style T o p (λ k. call (Some n) down i lost (finished k)) U u r
-  call_goes p n down i lost a (Completed c) e there t f = λ k V z r g. calls_on a e there t (sym f) g
-  call_goes p n down i lost a (Stop l k) e there t f = λ x. calls_passed a e there t (sym f) tt
-  call_goes p n down i lost a (Exit x) e there t f = λ k. calls_passed a e there t (sym f) tt
-  call_goes p n down i lost a (Cut x) e there t f = λ k. calls_passed a e there t (sym f) tt
+  pub call_goes : {T U : Tree Own} {o u v w : S} {m : Node Own} {s : Reply} (p : Place) (n : ℕ) (down : Path) (i : Entry) (lost : Completion) (a : Place) (r : Reply) → rise_to (Some n) p ≡ Some a → T (a ++ down) ≡ Some m →
+      Enters goes T o p n a down i u → Comes goes (language style) T u (a ++ down) (serve style i) U v s → r ≡ carried (Some n) p down s → Returns goes U v p n a down s r w → GoesOn goes style T o p (λ k. call (Some n) down i lost (finished k)) U w r
+  call_goes {U = U} {v = v} {w} {s = s} p n down i lost a (Completed c) e there x t f y = λ k V z r g. calls_on a e there x t (sym f) (subst (λ (l : Reply). Returns goes U v p n a down s l w) f y) g
+  call_goes p n down i lost a (Stop l k) e there x t f y = λ h. calls_passed a e there x t (sym f) tt y
+  call_goes p n down i lost a (Exit l) e there x t f y = λ k. calls_passed a e there x t (sym f) tt y
+  call_goes p n down i lost a (Cut l) e there x t f y = λ k. calls_passed a e there x t (sym f) tt y
 
   -- a call of one that isn't there
-  pub lost_goes : (T : Tree Own) (o : S) (p : Place) (n : ℕ) (down : Path) (i : Entry) (lost : Completion) (a : Place) (r : Reply) → rise_to (Some n) p ≡ Some a → T (a ++ down) ≡ None → r ≡ Completed lost →
-      GoesOn goes style T o p (λ k. call (Some n) down i lost (finished k)) T o r
-  lost_goes T o p n down i lost a (Completed c) e gone f = λ k V z r g. finds_none_on a e gone (let same : c ≡ lost = cc in at_prog (ap k (sym same)) g)
-  lost_goes T o p n down i lost a (Stop l m) e gone f = let x : Stop l m ≡ Completed lost = f in absurd cc
-  lost_goes T o p n down i lost a (Exit l) e gone f = let x : Exit l ≡ Completed lost = f in absurd cc
-  lost_goes T o p n down i lost a (Cut c) e gone f = let x : Cut c ≡ Completed lost = f in absurd cc
-
-  -- the interpreter at a path: itself at the empty one
-  pub asked_goes : {T U : Tree Own} {o u : S} {m : Node Own} {s : Reply} (p : Place) (path : Path) (entry : Entry) (e : Reply) → T (p ++ path) ≡ Some m →
-      Comes goes (language style) T o (p ++ path) (serve style entry) U u s → e ≡ carried (Some 0) p path s → GoesOn goes style T o p (asks_at path entry) U u e
-  asked_goes {T} {U} {o} {u} {m} {s} p [] entry e there t f =
-      serve_goes entry e (at_reply (f ∙ carried_here p s) (subst (λ (q : Place). Comes goes (language style) T o q (serve style entry) U u s) (append-nil p) t))
-  asked_goes p (x ∷ path) entry e there t f = call_goes p 0 (x ∷ path) entry (error (no_interpreter [])) p e (rise_zero p) there t f
-
-  -- where nobody stands, which isn't the interpreter itself
-  pub unasked_goes : (T : Tree Own) (o : S) (p : Place) (path : Path) (entry : Entry) (e : Reply) → is_some (T p) ≡ true → T (p ++ path) ≡ None → e ≡ Completed (error (no_interpreter [])) →
-      GoesOn goes style T o p (asks_at path entry) T o e
-  unasked_goes T o p [] entry e here gone f = let x : false ≡ true = sym (ap is_some (sym (ap T (append-nil p)) ∙ gone)) ∙ here in absurd cc
-  unasked_goes T o p (x ∷ path) entry e here gone f = lost_goes T o p 0 (x ∷ path) entry (error (no_interpreter [])) p e (rise_zero p) gone f
+  pub lost_goes : (T : Tree Own) (o u : S) (p : Place) (n : ℕ) (down : Path) (i : Entry) (lost : Completion) (a : Place) (r : Reply) → rise_to (Some n) p ≡ Some a → T (a ++ down) ≡ None → r ≡ Completed lost → Misses goes T o p n down i r u →
+      GoesOn goes style T o p (λ k. call (Some n) down i lost (finished k)) T u r
+  lost_goes T o u p n down i lost a (Completed c) e gone f y = λ k V z r g. finds_none_on a e gone (subst (λ (l : Reply). Misses goes T o p n down i l u) f y) (let same : c ≡ lost = cc in at_prog (ap k (sym same)) g)
+  lost_goes T o u p n down i lost a (Stop l m) e gone f y = let x : Stop l m ≡ Completed lost = f in absurd cc
+  lost_goes T o u p n down i lost a (Exit l) e gone f y = let x : Exit l ≡ Completed lost = f in absurd cc
+  lost_goes T o u p n down i lost a (Cut c) e gone f y = let x : Cut c ≡ Completed lost = f in absurd cc

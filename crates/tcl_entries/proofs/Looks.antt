@@ -11,14 +11,14 @@ use Rattle.tcl_core.specs.Programs.{Table}
 use Rattle.tcl_core.specs.Programs.Act.{Look}
 use Rattle.tcl_core.specs.Programs.Prog.{act}
 use Rattle.tcl_core.specs.Threads.{completed}
-use Rattle.tcl_core.specs.Trees.{Tree, Node, Event, at}
+use Rattle.tcl_core.specs.Trees.{Tree, Node, at}
 use Rattle.tcl_language.specs.Instructions.{Instr, Program, either, fails, look, at_node, or_fails}
 use Rattle.tcl_language.specs.Faults.{integer_message}
 use Rattle.tcl_language.specs.Interpreters as interpreters
 use Rattle.tcl_language.specs.Interpreters.{where_it_stands, no_interpreter}
 use Rattle.tcl_language.specs.Variables.{integer}
 use Rattle.tcl_run.specs.Ends.{Interrupts, IfEnded, IsFailure, failing}
-use Rattle.tcl_run.specs.Outsides.{Answering}
+use Rattle.tcl_run.specs.Outsides.{Going}
 use Rattle.tcl_run.specs.Runs.{Comes, Evaluates, IsAt, IsThere}
 use Rattle.tcl_run.specs.declared.interruption.Interruption.{Interruption}
 use Rattle.tcl_run.proofs.Endings.{Interrupts-more, IfEnded-more}
@@ -56,7 +56,7 @@ is_program T p x y e = looks_as T p x y y e here
 pub looks_here : (T : Tree Own) (p : Place) (n : Node Own) (k : Node Own → Program) (y : Program) → T p ≡ Some n → LooksTo T p (k n) y → LooksTo T p (look k) y
 looks_here T p n k y there f = looked (looks_as T p _ (k n) y (ap (at_node k) (ap T (append-nil p) ∙ there)) f)
 
-module _ {S : Type 0} {goes : S → Event Own → S → Type 0} {language : Table Own Instr} where
+module _ {S : Type 0} {goes : Going S} {language : Table Own Instr} where
   pub looks_come : {T V : Tree Own} {o z : S} {p : Place} {x y : Program} {r : Reply} → LooksTo T p x y → Comes goes language T o p y V z r → Comes goes language T o p x V z r
   looks_come here t = t
   looks_come (looked f) t = sees_below (looks_come f t)
@@ -66,7 +66,7 @@ module _ {S : Type 0} {goes : S → Event Own → S → Type 0} {language : Tabl
 there_at : (t : Table_of) (place : TablePlace) (p : Path) (style : Integers) → IsAt t place p style → IsThere t place p style
 there_at t place p style at = record { names = at.names; style_is = at.style_is }
 
-module _ {S : Type 0} (goes : Answering S) (t : Table_of) (o : S) (place : TablePlace) where
+module _ {S : Type 0} (goes : Going S) (t : Table_of) (o : S) (place : TablePlace) where
   pub gets_leads : (whole rest : Styled) → GetsTo t place whole rest → Leads goes t o place whole t o rest
   gets_leads whole rest f = λ V y r e p style at. looks_come (f p style (there_at t place p style at)) (e p style at)
 

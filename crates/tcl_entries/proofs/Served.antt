@@ -10,15 +10,16 @@ use Rattle.tcl_core.specs.Endings.{Reply, ok}
 use Rattle.tcl_core.specs.Endings.Reply.{Completed}
 use Rattle.tcl_core.specs.Paths.{Text, Path, strip}
 use Rattle.tcl_core.specs.Programs as programs
-use Rattle.tcl_core.specs.Programs.{Deed, spot, making, dropping, dropping_at}
-use Rattle.tcl_core.specs.Programs.Act.{Look, Make, Drop, Limit, LimitDepth}
+use Rattle.tcl_core.specs.Programs.{Deed, spot, making}
+use Rattle.tcl_core.specs.Programs.Act.{Look, Make, Limit, LimitDepth}
 use Rattle.tcl_core.specs.Programs.Next.{On}
 use Rattle.tcl_core.specs.Programs.Prog.{done, act}
+use Rattle.tcl_core.specs.Threads.{completed, event}
 use Rattle.tcl_core.specs.Trees.{Tree, Node, effect, at, at_end, with_own}
 use Rattle.tcl_core.specs.Trees.What.{Changed, Made, Dropped, Limited, DepthLimited}
 use Rattle.tcl_core.proofs.PathLaws.{strip_own}
 use Rattle.tcl_core.specs.Entries.{Question}
-use Rattle.tcl_language.specs.Instructions.{Program, either, fails, fits, gives, too_long, look, change, or_fails}
+use Rattle.tcl_language.specs.Instructions.{Instr, Program, either, fails, fits, gives, too_long, look, change, or_fails}
 use Rattle.tcl_language.specs.Interpreters as interpreters
 use Rattle.tcl_language.specs.Interpreters.{renaming, done_so, refused_text, refusal_text}
 use Rattle.tcl_language.specs.Naming as language
@@ -27,10 +28,12 @@ use Rattle.tcl_language.specs.Faults.{bad_name}
 use Rattle.tcl_language.specs.Names.{is_name}
 use Rattle.tcl_run.specs.Ends.{Interrupts, IsFailure, failing}
 use Rattle.tcl_run.specs.Plain.{Does, Acts}
-use Rattle.tcl_run.specs.Runs.{IsThere}
+use Rattle.tcl_run.specs.Outsides.{Going}
+use Rattle.tcl_run.specs.Runs.{Comes, EvaluatesAt, IsThere}
 use Rattle.tcl_run.specs.declared.interruption.Interruption.{Interruption}
 use Rattle.tcl_run.specs.declared.interruption.Interruption.TheVariants as interruption
 use Rattle.tcl_run.proofs.Endings.{Interrupts-more, IfEnded-more}
+use Rattle.tcl_run.proofs.Leads.{at_prog, at_reply, changes, drops, looks, sees_below}
 use Rattle.tcl_run.proofs.Plain.{does_look, does_read, does_fail, does_change, does_to}
 use Rattle.tcl_run.proofs.Steady.{stands}
 use Rattle.tcl_text.specs.declared.integer.Integers.{Integers}
@@ -303,24 +306,21 @@ module _ (t u : Table) (place : TablePlace) (name : Text) (safe : Bool) (absent 
 
 -- ## Deleting
 
-drops_child : (T U : Tree Own) (p : Path) (name : Text) (n c : Node Own) (r : Reply) → T p ≡ Some n → T (p ++ name ∷ []) ≡ Some c → c.depth ≡ 0 →
-    U ≡ effect (p ++ name ∷ []) Dropped (effect p (Changed (without_old_child name n.own)) T) → r ≡ Completed (ok []) → Does (interpreters.drops name n.own (T (p ++ name ∷ []))) T p U r
-drops_child T U p name n c r is child idle dropped e =
-    let V : Tree Own = effect p (Changed (without_old_child name n.own)) T in
-    let deed : dropping name (V (p ++ name ∷ [])) ≡ (Some name, Dropped, On) =
-    ap (dropping name) (changed_child T p name (without_old_child name n.own) ∙ child) ∙ ap (dropping_at {O = Own} name) idle in
-    let zero_drops : Does (interpreters.drops_at name n.own 0) T p U r = (n, is, (dropped ∙ sym (ap (λ (d : Deed Own). effect (spot p d.0) d.1 V) deed), e)) in
-    subst (λ (o : Option (Node Own)). Does (interpreters.drops name n.own o) T p U r) (sym child)
-    (subst (λ (k : ℕ). Does (interpreters.drops_at name n.own k) T p U r) (sym idle) zero_drops)
+drops_child : {S : Type 0} {goes : Going S} {language : programs.Table Own Instr} {T U : Tree Own} {o z : S} {p : Path} {name : Text} {n c : Node Own} {r : Reply} → T p ≡ Some n → T (p ++ name ∷ []) ≡ Some c → c.depth ≡ 0 →
+    U ≡ effect (p ++ name ∷ []) Dropped (effect p (Changed (without_old_child name n.own)) T) → ((X : Tree Own) → goes X o None (event (p ++ name ∷ []) Dropped) z) → r ≡ Completed (ok []) → Comes goes language T o p (interpreters.deletes name) U z r
+drops_child {T = T} {p = p} {name = name} {n = n} is child idle dropped told e =
+    looks {k = λ m. act Look (λ V. interpreters.drops name m.own (V (name ∷ [])))} is
+    (sees_below {k = λ V. interpreters.drops name n.own (V (name ∷ []))} (at_prog (ap (interpreters.drops name n.own) child ∙ ap (interpreters.drops_at name n.own) idle)
+    (changes is refl (drops {k = λ V. done (ok [])} (changed_child T p name (without_old_child name n.own) ∙ child) idle dropped (told _) (at_reply e completed)))))
 
-pub deleted : (t u : Table) (place : TablePlace) (name : Text) (text : Text) → text ≡ [] → ((p : Path) → Names t place p → IsSome (tree_of t (p ++ name ∷ []))) →
+-- a child is dropped, of which the outside is told
+pub deleted : {S : Type 0} (goes : Going S) (t u : Table) (o z : S) (place : TablePlace) (name : Text) (text : Text) → text ≡ [] → ((p : Path) → Names t place p → IsSome (tree_of t (p ++ name ∷ []))) →
     ((p : Path) → Names t place p → (v : Node Own) → tree_of t (p ++ name ∷ []) ≡ Some v → v.depth ≡ 0) → ((p : Path) → Names t place p → Drops (tree_of t) (tree_of u) p name) →
-    EndsAt t place (interpreters.deletes name) (tree_of u) (Completed (ok text))
-deleted t u place name text none stays idle drops = λ p style at.
+    ((p : Path) → Names t place p → Names u place p) → ((X : Tree Own) (p : Path) → Names u place p → goes X o None (event (p ++ name ∷ []) Dropped) z) → EvaluatesAt goes t o place (λ style. interpreters.deletes name) u z (Ok text)
+deleted goes t u o z place name text none stays idle drops kept told = λ p style at.
     let n = there t place p at.names in
     let c = stands (tree_of t (p ++ name ∷ [])) (some_there (tree_of t (p ++ name ∷ [])) (stays p at.names)) in
-    does_look (tree_of t) (tree_of u) p (Completed (ok text)) n.0 (λ m. act Look (λ U. interpreters.drops name m.own (U (name ∷ [])))) n.1
-    (drops_child (tree_of t) (tree_of u) p name n.0 c.0 (Completed (ok text)) n.1 c.1 (idle p at.names c.0 c.1) (drops p at.names n.0 n.1) (ap (λ (x : Text). Completed (ok x)) none))
+    drops_child n.1 c.1 (idle p at.names c.0 c.1) (drops p at.names n.0 n.1) (λ X. told X p (kept p at.names)) (ap (λ (x : Text). Completed (ok x)) none)
 
 pub delete_refused : (t u : Table) (place : TablePlace) (name : Text) (e : Refusal) (i : Interruption) → (p : Path) × Names t place p → ((p : Path) → Names t place p → RefusesDrop e (tree_of t) p name) → tree_of u ≡ tree_of t →
     Interrupts i (λ r. r ≡ Completed (failing (deleting_text e name))) → Interrupts i (EndsAt t place (interpreters.deletes name) (tree_of u))

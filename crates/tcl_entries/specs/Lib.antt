@@ -1,5 +1,4 @@
 pub mod Asking
-pub mod Entering
 pub mod Listing
 pub mod Looking
 pub mod Naming

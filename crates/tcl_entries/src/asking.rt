@@ -3,17 +3,18 @@ ghost use Rattle.std.specs.Prelude.{◌≡◌, ◌≤◌, ◌++◌, IfOk, IfErr,
 ghost use Rattle.tcl_core.specs.Paths.{Path};
 ghost use Rattle.tcl_language.specs.Interpreters as interpreters;
 ghost use Rattle.tcl_run.specs.Ends.{Interrupts, IsFailure};
-ghost use Rattle.tcl_run.specs.Runs.{IsRunning, IsSteady};
+ghost use Rattle.tcl_run.specs.Runs.{EvaluatesAt, IsRunning, IsSteady};
 ghost use Rattle.tcl_text.specs.Lists.{list_of};
 ghost use Rattle.tcl_text.specs.Writing.{fault_message};
 ghost use Rattle.tcl_tree.specs.TreeOf.{Names};
-ghost use Rattle.tcl_entries.specs.Asking.{Asks, Reads};
-ghost use Rattle.tcl_entries.specs.Entering.{entry_of};
+ghost use Rattle.tcl_entries.specs.Asking.{Asks, AsksBelow, Reads};
+ghost use Rattle.tcl_run.specs.Entering.{IsOwn, entry_of, whole_entry};
+ghost use Rattle.tcl_language.specs.Table as table;
 
-use crate::entry::OwnEntry;
 use crate::serving::serve;
 use std::alloc::Global;
-use tcl_calls::carrying::carry;
+use tcl_calls::carrying::come_back;
+use tcl_run::entry::{Entry, OwnEntry};
 use tcl_run::failure::no_interpreter;
 use tcl_run::interruption::Interruption;
 use tcl_run::outside::Outside;
@@ -34,22 +35,67 @@ pub fn ask<O: Outside>(
     outside: &mut O,
     place: Place,
     path: &[Text],
-    entry: &OwnEntry,
+    entry: OwnEntry,
 ) -> Result<Value, Interruption>
     requires { IsRunning tree.old place }
-    ensures asks { Asks O.goes tree.old outside.old place path.now (entry_of entry.now) tree.new outside.new result }
+    ensures asks { Asks O.goes tree.old outside.old place path.now (entry_of entry) tree.new outside.new result }
     ensures steady { IsSteady tree.old tree.new }
     ensures left { O.entries_left outside.new ≤ O.entries_left outside.old }
 {
-    let _outside = &*outside;
+    if path.is_empty() {
+        return serve(tree, alloc, outside, place, &entry);
+    }
+    ask_below(tree, alloc, outside, place, path, Entry::Own(entry))
+}
+
+/// Asks an interpreter below the one that the place names for something that evaluates nothing. The outside is told of it.
+fn ask_below<O: Outside>(
+    tree: &mut Tree,
+    alloc: Global,
+    outside: &mut O,
+    place: Place,
+    path: &[Text],
+    entry: Entry,
+) -> Result<Value, Interruption>
+    requires running { IsRunning tree.old place }
+    requires own { IsOwn entry }
+    ensures calls { AsksBelow O.goes tree.old outside.old place path.now (whole_entry entry) tree.new outside.new result }
+    ensures steady { IsSteady tree.old tree.new }
+    ensures left { O.entries_left outside.new ≤ O.entries_left outside.old }
+{
     match tree.reach(place, 0, path) {
         Reach::There(there) => {
-            let ended = serve(tree, alloc, there, entry);
-            carry(tree, alloc, place, 0, path, ended)
+            outside.enters(alloc, tree, place, 0, path, &entry)?;
+            let ended = serve_own(tree, alloc, outside, there, &entry);
+            come_back(tree, alloc, outside, place, 0, path, ended)
         }
-        Reach::Missing => Err(no_interpreter(alloc, "")),
+        Reach::Missing => {
+            let told = Err(no_interpreter(alloc, ""));
+            outside.misses(alloc, tree, place, 0, path, &entry, &told)?;
+            told
+        }
         Reach::Outside => unreachable!(),
     }
+}
+
+/// Does what the interpreter that the place names is asked for.
+fn serve_own<O: Outside>(
+    tree: &mut Tree,
+    alloc: Global,
+    outside: &mut O,
+    place: Place,
+    entry: &Entry,
+) -> Result<Value, Interruption>
+    requires own { IsOwn entry.now }
+    requires there { (p : Path) × Names tree.old place p }
+    ensures runs { EvaluatesAt O.goes tree.old outside.old place (λ style. table.serve style (whole_entry entry.now)) tree.new outside.new result }
+    ensures steady { IsSteady tree.old tree.new }
+    ensures left { O.entries_left outside.new ≤ O.entries_left outside.old }
+{
+    let Entry::Own(own) = entry else {
+        unreachable!();
+    };
+    serve(tree, alloc, outside, place, own)
 }
 
 /// A path that was read: the names from one interpreter downward, and the interpreter to which they lead.

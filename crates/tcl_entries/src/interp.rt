@@ -6,7 +6,6 @@ ghost use Rattle.tcl_run.specs.Runs.{Evaluates, IsRunning, IsSteady};
 ghost use Rattle.tcl_entries.specs.Telling.{limits_to, deepens_to, limits_below, deepens_there};
 
 use crate::asking::path_of;
-use crate::entry::{OwnEntry, Question};
 use crate::looking::{
     below_itself, commands_only, depth_value, limit_value, names_of, permit, stands, unless_root,
     value_only,
@@ -15,6 +14,7 @@ use crate::requests::{ask_at, ask_telling, ask_there, ask_trusted};
 use std::alloc::Global;
 use std::slice;
 use tcl_calls::carrying::target_words;
+use tcl_run::entry::{OwnEntry, Question};
 use tcl_run::failure::wrong_args;
 use tcl_run::interruption::Interruption;
 use tcl_run::outside::Outside;
@@ -46,7 +46,7 @@ fn hide_as<O: Outside>(
         outside,
         place,
         path,
-        &OwnEntry::Hide { name, hidden },
+        OwnEntry::Hide { name, hidden },
     )
 }
 
@@ -96,7 +96,7 @@ fn expose_as<O: Outside>(
         outside,
         place,
         path,
-        &OwnEntry::Expose { hidden, name },
+        OwnEntry::Expose { hidden, name },
     )
 }
 
@@ -144,7 +144,7 @@ pub fn limit_to<O: Outside>(
         outside,
         place,
         path,
-        &OwnEntry::SetCountLimit(limit),
+        OwnEntry::SetCountLimit(limit),
     )
 }
 
@@ -169,7 +169,7 @@ pub fn deepen_to<O: Outside>(
         outside,
         place,
         path,
-        &OwnEntry::SetDepthLimit(limit),
+        OwnEntry::SetDepthLimit(limit),
     )
 }
 
@@ -233,7 +233,7 @@ fn limit_of<O: Outside>(
         outside,
         place,
         path,
-        &OwnEntry::Ask(Question::CountLimitOf),
+        OwnEntry::Ask(Question::CountLimitOf),
     )
 }
 
@@ -346,7 +346,7 @@ pub fn recursion_limit<O: Outside>(
                 outside,
                 place,
                 path,
-                &OwnEntry::Ask(Question::DepthLimitOf),
+                OwnEntry::Ask(Question::DepthLimitOf),
             )
         }
         [word, value] => set_depth_limit(tree, alloc, outside, place, word, value),
@@ -384,7 +384,7 @@ fn set_alias<O: Outside>(
         outside,
         place,
         found.path.as_slice(),
-        &entry,
+        entry,
         told,
     )
 }
@@ -414,7 +414,7 @@ fn clear_alias<O: Outside>(
         outside,
         place,
         source,
-        &OwnEntry::ClearAlias(name),
+        OwnEntry::ClearAlias(name),
     )
 }
 
@@ -439,7 +439,7 @@ fn alias_of<O: Outside>(
         outside,
         place,
         source,
-        &OwnEntry::Ask(Question::AliasOf(name)),
+        OwnEntry::Ask(Question::AliasOf(name)),
     )
 }
 

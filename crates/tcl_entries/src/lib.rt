@@ -2,7 +2,6 @@
 #![tactic(auto)]
 
 pub mod asking;
-pub mod entry;
 pub mod failure;
 pub mod interp;
 pub mod looking;

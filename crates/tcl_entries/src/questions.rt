@@ -10,13 +10,13 @@ ghost use Rattle.tcl_text.specs.Writing.{written_list};
 ghost use Rattle.tcl_tree.specs.Nodes.{view_of};
 ghost use Rattle.tcl_tree.specs.Own.{Own};
 ghost use Rattle.tcl_tree.specs.TreeOf.{tree_of, Names};
-ghost use Rattle.tcl_entries.specs.Entering.{question_of};
+ghost use Rattle.tcl_run.specs.Entering.{question_of};
 ghost use Rattle.tcl_entries.specs.Listing.{first_of};
 
-use crate::entry::Question;
 use indexmap::IndexMap;
 use std::alloc::{AllocError, Global};
 use tcl_calls::words::within;
+use tcl_run::entry::Question;
 use tcl_run::interruption::Interruption;
 use tcl_text::list::write_list;
 use tcl_text::text::Text;

@@ -3,14 +3,14 @@ ghost use Rattle.std.specs.Prelude.{◌≤◌};
 ghost use Rattle.tcl_core.specs.Programs.Prog.{done};
 ghost use Rattle.tcl_language.specs.Interpreters as interpreters;
 ghost use Rattle.tcl_run.specs.Runs.{Evaluates, IsRunning, IsSteady};
-ghost use Rattle.tcl_entries.specs.Entering.{entry_of, question_of};
+ghost use Rattle.tcl_run.specs.Entering.{entry_of, question_of};
 ghost use Rattle.tcl_entries.specs.Telling.{TellsAs, asked_of};
 
 use crate::asking::{ask, path_of};
-use crate::entry::{OwnEntry, Question};
 use crate::looking::permit;
 use std::alloc::Global;
 use tcl_flow::completion::OK;
+use tcl_run::entry::{OwnEntry, Question};
 use tcl_run::failure::wrong_args;
 use tcl_run::interruption::Interruption;
 use tcl_run::outside::Outside;
@@ -25,10 +25,10 @@ pub fn ask_at<O: Outside>(
     outside: &mut O,
     place: Place,
     path: &[Text],
-    entry: &OwnEntry,
+    entry: OwnEntry,
 ) -> Result<Value, Interruption>
     requires { IsRunning tree.old place }
-    ensures evaluates { Evaluates O.goes tree.old outside.old place (λ style. interpreters.asks_at path.now (entry_of entry.now) done) tree.new outside.new result }
+    ensures evaluates { Evaluates O.goes tree.old outside.old place (λ style. interpreters.asks_at path.now (entry_of entry) done) tree.new outside.new result }
     ensures steady { IsSteady tree.old tree.new }
     ensures left { O.entries_left outside.new ≤ O.entries_left outside.old }
 {
@@ -59,11 +59,11 @@ pub fn ask_telling<O: Outside>(
     outside: &mut O,
     place: Place,
     path: &[Text],
-    entry: &OwnEntry,
+    entry: OwnEntry,
     value: Value,
 ) -> Result<Value, Interruption>
     requires { IsRunning tree.old place }
-    ensures evaluates { Evaluates O.goes tree.old outside.old place (λ style. interpreters.asks_at path.now (entry_of entry.now) (interpreters.with_text value)) tree.new outside.new result }
+    ensures evaluates { Evaluates O.goes tree.old outside.old place (λ style. interpreters.asks_at path.now (entry_of entry) (interpreters.with_text value)) tree.new outside.new result }
     ensures steady { IsSteady tree.old tree.new }
     ensures left { O.entries_left outside.new ≤ O.entries_left outside.old }
 {
@@ -77,10 +77,10 @@ pub fn ask_there<O: Outside>(
     outside: &mut O,
     place: Place,
     word: &Value,
-    entry: &OwnEntry,
+    entry: OwnEntry,
 ) -> Result<Value, Interruption>
     requires { IsRunning tree.old place }
-    ensures evaluates { Evaluates O.goes tree.old outside.old place (λ style. interpreters.asks word.now (entry_of entry.now)) tree.new outside.new result }
+    ensures evaluates { Evaluates O.goes tree.old outside.old place (λ style. interpreters.asks word.now (entry_of entry)) tree.new outside.new result }
     ensures steady { IsSteady tree.old tree.new }
     ensures left { O.entries_left outside.new ≤ O.entries_left outside.old }
 {
@@ -95,10 +95,10 @@ pub fn ask_trusted<O: Outside>(
     outside: &mut O,
     place: Place,
     word: &Value,
-    entry: &OwnEntry,
+    entry: OwnEntry,
 ) -> Result<Value, Interruption>
     requires { IsRunning tree.old place }
-    ensures evaluates { Evaluates O.goes tree.old outside.old place (λ style. interpreters.asks_trusted word.now (entry_of entry.now)) tree.new outside.new result }
+    ensures evaluates { Evaluates O.goes tree.old outside.old place (λ style. interpreters.asks_trusted word.now (entry_of entry)) tree.new outside.new result }
     ensures steady { IsSteady tree.old tree.new }
     ensures left { O.entries_left outside.new ≤ O.entries_left outside.old }
 {
@@ -113,11 +113,11 @@ fn ask_one<O: Outside>(
     outside: &mut O,
     place: Place,
     form: &str,
-    entry: &OwnEntry,
+    entry: OwnEntry,
     args: &[Value],
 ) -> Result<Value, Interruption>
     requires { IsRunning tree.old place }
-    ensures evaluates { Evaluates O.goes tree.old outside.old place (λ style. asked_of form.now (entry_of entry.now) args.now) tree.new outside.new result }
+    ensures evaluates { Evaluates O.goes tree.old outside.old place (λ style. asked_of form.now (entry_of entry) args.now) tree.new outside.new result }
     ensures steady { IsSteady tree.old tree.new }
     ensures left { O.entries_left outside.new ≤ O.entries_left outside.old }
 {
@@ -149,7 +149,7 @@ pub fn ask_about<O: Outside>(
         outside,
         place,
         form,
-        &OwnEntry::Ask(question),
+        OwnEntry::Ask(question),
         args,
     )
 }

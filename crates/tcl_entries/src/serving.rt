@@ -1,5 +1,5 @@
 //! What an interpreter does where it is asked for something that evaluates nothing.
-ghost use Rattle.std.specs.Prelude.{◌≡◌, ◌∷◌, [], IfOk, Some};
+ghost use Rattle.std.specs.Prelude.{◌≡◌, ◌≤◌, ◌∷◌, [], IfOk, Some};
 ghost use Rattle.tcl_core.specs.Endings.Reply.{Completed};
 ghost use Rattle.tcl_core.specs.Entries.Entry.{Create};
 ghost use Rattle.tcl_core.specs.Paths.{Path};
@@ -8,22 +8,23 @@ ghost use Rattle.tcl_language.specs.Interpreters as interpreters;
 ghost use Rattle.tcl_language.specs.Table as table;
 ghost use Rattle.tcl_run.specs.Ends.{Interrupts, failing};
 ghost use Rattle.tcl_run.specs.Plain.{Acts};
-ghost use Rattle.tcl_run.specs.Runs.{IsLevel, IsSteady};
+ghost use Rattle.tcl_run.specs.Runs.{EvaluatesAt, IsLevel, IsSteady};
 ghost use Rattle.tcl_text.specs.Writing.{written_list};
 ghost use Rattle.tcl_tree.specs.Own.{Own};
 ghost use Rattle.tcl_tree.specs.TreeOf.{tree_of, Names};
-ghost use Rattle.tcl_entries.specs.Entering.{entry_of};
+ghost use Rattle.tcl_run.specs.Entering.{entry_of};
 ghost use Rattle.tcl_entries.specs.Naming.{Tells, making_text, deleting_text};
 
-use crate::entry::OwnEntry;
 use crate::failure::{
     already_exists, bad_depth_limit, denied, hiding_failure, in_use, refusal_failure, too_many,
 };
 use crate::naming::{kept_name, names_child, names_hidden};
 use crate::questions::{answer, node, number_value};
 use std::alloc::{AllocError, Global};
+use tcl_run::entry::OwnEntry;
 use tcl_run::failure::{invalid_hidden, no_interpreter};
 use tcl_run::interruption::Interruption;
+use tcl_run::outside::Outside;
 use tcl_text::list::write_element;
 use tcl_text::text::Text;
 use tcl_tree::alias::Alias;
@@ -243,22 +244,27 @@ fn deleting_failure(alloc: Global, refusal: Refusal, name: &Text) -> Interruptio
     }
 }
 
-/// Deletes a child of the interpreter that the place names, with all below it.
+/// Deletes a child of the interpreter that the place names, with all below it. The outside is told of it.
 ///
 /// # Errors
 /// 301; 303 where an evaluation is in progress in it; want of memory.
-pub fn delete(
+pub fn delete<O: Outside>(
     tree: &mut Tree,
     alloc: Global,
+    outside: &mut O,
     place: Place,
     name: &Text,
 ) -> Result<Value, Interruption>
     requires { (p : Path) × Names tree.old place p }
-    ensures acts { Acts tree.old place (λ style. interpreters.deletes name.now) tree.new result }
+    ensures runs { EvaluatesAt O.goes tree.old outside.old place (λ style. interpreters.deletes name.now) tree.new outside.new result }
     ensures steady { IsSteady tree.old tree.new }
+    ensures left { O.entries_left outside.new ≤ O.entries_left outside.old }
 {
     match tree.delete_at(place, name) {
-        Ok(()) => Ok(Value::empty()),
+        Ok(()) => {
+            outside.drops(alloc, tree, place, name)?;
+            Ok(Value::empty())
+        }
         Err(refusal) => Err(deleting_failure(alloc, refusal, name)),
     }
 }
@@ -288,15 +294,17 @@ fn create_named(
 ///
 /// # Errors
 /// Those of each entry; want of memory.
-pub fn serve(
+pub fn serve<O: Outside>(
     tree: &mut Tree,
     alloc: Global,
+    outside: &mut O,
     place: Place,
     entry: &OwnEntry,
 ) -> Result<Value, Interruption>
     requires { (p : Path) × Names tree.old place p }
-    ensures acts { Acts tree.old place (λ style. table.serve style (entry_of entry.now)) tree.new result }
+    ensures runs { EvaluatesAt O.goes tree.old outside.old place (λ style. table.serve style (entry_of entry.now)) tree.new outside.new result }
     ensures steady { IsSteady tree.old tree.new }
+    ensures left { O.entries_left outside.new ≤ O.entries_left outside.old }
 {
     match entry {
         OwnEntry::SetAlias { name, alias } => set_alias(tree, alloc, place, name, alias),
@@ -306,7 +314,7 @@ pub fn serve(
         OwnEntry::SetCountLimit(limit) => limit_count(tree, alloc, place, *limit),
         OwnEntry::SetDepthLimit(limit) => limit_depth(tree, alloc, place, *limit),
         OwnEntry::Create { name, safe } => create_named(tree, alloc, place, name, *safe),
-        OwnEntry::Delete(name) => delete(tree, alloc, place, name),
+        OwnEntry::Delete(name) => delete(tree, alloc, outside, place, name),
         OwnEntry::Ask(question) => answer(tree, alloc, place, question),
     }
 }

@@ -1,4 +1,5 @@
 -- What calls of procedures come to.
+use Rattle.tcl_core.specs.Programs.{Wait}
 use Rattle.std.proofs.Common.{◌≡◌, ℕ, Bool, true, false, List, [], ◌∷◌, Option, Some, None, refl, sym, ◌∙◌, ap, subst}
 use Rattle.std.specs.Prelude.{Result, Ok, Err}
 use Rattle.tcl_core.specs.Paths.{Path}
@@ -15,6 +16,7 @@ use Rattle.tcl_language.specs.Instructions.{Program, either, too_long}
 use Rattle.tcl_language.specs.Instructions.Instr.{Script}
 use Rattle.tcl_language.specs.Language.{language}
 use Rattle.tcl_language.specs.Scripts.{script}
+use Rattle.tcl_run.specs.Outsides.{Going}
 use Rattle.tcl_run.specs.declared.interruption.Interruption.{Interruption}
 use Rattle.tcl_run.specs.declared.interruption.Interruption.TheVariants as interruption
 use Rattle.tcl_run.specs.Ends.{Interrupts, IfEnded, failing}
@@ -40,7 +42,7 @@ left_more (Err (interruption.Stopped s)) left P Q p l k = subst (λ (x : Result 
 left_more (Err (interruption.Exited n)) left P Q p l k = subst (λ (x : Result (List ℕ) Interruption). IfEnded x Q) (sym l) (k _ _ p refl)
 left_more (Err (interruption.Cut c)) left P Q p l k = subst (λ (x : Result (List ℕ) Interruption). IfEnded x Q) (sym l) (k _ _ p refl)
 
-module _ {S : Type 0} {goes : S → Event Own → S → Type 0} (style : Integers) where
+module _ {S : Type 0} {goes : Going S} (style : Integers) where
   pub call_too_long : {T : Tree Own} {o : S} {q : Path} (p : ProcedureView) (name : List ℕ) (args : List (List ℕ)) (e : Reply) → TooLongBound (bindings p.parameters args) e → Comes goes (language style) T o q (procedure p name args) T o e
   call_too_long {T} {o} {q} p name args e h = by (bindings p.parameters args) h
     where

@@ -1,4 +1,5 @@
 -- What eval and catch come to.
+use Rattle.tcl_core.specs.Programs.{Wait}
 use Rattle.std.proofs.Common.{◌≡◌, ℕ, ◌≤◌, ◌<◌, Bool, true, false, List, [], ◌∷◌, length, refl, sym, ◌∙◌, ap, subst, arith}
 use Rattle.std.specs.Prelude.{Result, Ok, Err, codes}
 use Rattle.tcl_core.specs.Paths.{Text, Path}
@@ -16,6 +17,7 @@ use Rattle.tcl_language.specs.Instructions.Instr.{Script}
 use Rattle.tcl_language.specs.Language.{language}
 use Rattle.tcl_language.specs.Scripts.{script}
 use Rattle.tcl_language.specs.Words.{concat}
+use Rattle.tcl_run.specs.Outsides.{Going}
 use Rattle.tcl_run.specs.declared.interruption.Interruption.{Interruption}
 use Rattle.tcl_run.specs.declared.interruption.Interruption.TheVariants as interruption
 use Rattle.tcl_run.specs.Ends.{Interrupts, IfEnded, failing}
@@ -52,7 +54,7 @@ caught_err (Err (interruption.Cut c)) r i P e h p = let same : Err (interruption
 abbrev pub told : List Text → core_completion → Program
 told names c = kept_in names c (done (ok (code_text c)))
 
-module _ {S : Type 0} {goes : S → Event Own → S → Type 0} (style : Integers) where
+module _ {S : Type 0} {goes : Going S} (style : Integers) where
   -- ## eval
 
   pub eval_runs : {T V : Tree Own} {o z : S} {p : Path} {r : Reply} (args : List Text) → 1 ≤ length args → fits (concat args) ≡ true →

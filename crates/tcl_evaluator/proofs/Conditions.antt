@@ -1,4 +1,5 @@
 -- What expressions, conditions and the commands with conditions come to.
+use Rattle.tcl_core.specs.Programs.{Wait}
 use Rattle.std.proofs.Common.{◌≡◌, ℕ, pos, ◌<◌, ◌≤◌, Bool, true, false, List, [], ◌∷◌, ◌++◌, length, get_or, Option, Some, None, refl, sym, ◌∙◌, ap, subst, arith}
 use Rattle.std.specs.Prelude.{Result, Ok, Err, MatchResult, codes}
 use Rattle.tcl_core.specs.Endings.{Completion, Reply, IsQuit, ok}
@@ -32,7 +33,7 @@ use Rattle.tcl_run.specs.Ends.{Gave, Interrupts, IfEnded, IsFailure, Stays, fail
 use Rattle.tcl_run.specs.Runs.{Comes, IsAt}
 use Rattle.tcl_run.proofs.Endings.{Interrupts-more, Interrupts-both}
 use Rattle.tcl_core.specs.Entries.{Answer}
-use Rattle.tcl_run.specs.Outsides.{Stage, staged}
+use Rattle.tcl_run.specs.Outsides.{Going}
 use Rattle.tcl_run.proofs.Leads.{at_prog, at_reply, goes_on, goes_done, grows, outgrows, reads_on, read_fails}
 use Rattle.tcl_text.specs.declared.integer.Integers.{Integers}
 use Rattle.tcl_tree.specs.Own.{Own}
@@ -78,7 +79,7 @@ misread_in s style text e same h = subst (λ (x : Integers). IsFailure (expressi
 pub misread_as : (s style : Integers) (t text : Text) (e : Reply) → s ≡ style → t ≡ text → IsFailure (expression_message t) (expression_of s t) e → IsFailure (expression_message text) (expression_of style text) e
 misread_as s style t text e same is h = subst (λ (x : Text). IsFailure (expression_message x) (expression_of style x) e) is (misread_in s style t e same h)
 
-module _ {S : Type 0} {goes : S → Event Own → S → Type 0} (style : Integers) where
+module _ {S : Type 0} {goes : Going S} (style : Integers) where
   -- ## Expressions
 
   pub part_stays : {T U : Tree Own} {o u : S} {p : Path} (part : WordRead) (next : Text → Computation) (k : Text → Program) (e : Reply) → Stays e →
@@ -196,14 +197,14 @@ turned after ended (Ok on) P Q R p h k l = k h.0 on (ended_in ended h.0 P h.1 p)
 turned after ended (Err i) P Q R p h k l = Interrupts-both i P (Leaves after) R l (subst (λ (x : Result Text Interruption). IfEnded x P) h.0 p) h.1
 
 -- a turn whose body ended so
-pub turn_ends : {S : Type 0} (goes : S → Event Own → Answer → S → Type 0) (old new : Table) (o z : S) (place : TablePlace) (kept : ExprTree) (body : Text) (c : Completion) (on : Bool) →
-    ((p : Path) (style : Integers) → IsAt old place p style → (text : Text) → IsKept style text kept → (k : Completion → Program) (V : Tree Own) (y : Stage S) (r : Reply) →
-    Comes (staged goes) (language style) (tree_of new) (z, None) p (k c) V y r → Comes (staged goes) (language style) (tree_of old) (o, None) p (turn style text body k) V y r) →
+pub turn_ends : {S : Type 0} (goes : Going S) (old new : Table) (o z : S) (place : TablePlace) (kept : ExprTree) (body : Text) (c : Completion) (on : Bool) →
+    ((p : Path) (style : Integers) → IsAt old place p style → (text : Text) → IsKept style text kept → (k : Completion → Program) (V : Tree Own) (y : S) (r : Reply) →
+    Comes goes (language style) (tree_of new) z p (k c) V y r → Comes goes (language style) (tree_of old) o p (turn style text body k) V y r) →
     Goes after_body c on → TurnGoes goes old o place kept body new z on
 turn_ends goes old new o z place kept body c true runs g = λ p style at text is more V y r t. runs p style at text is (λ d. after_body d.code d more) V y r (at_prog (g more) t)
-turn_ends goes old new o z place kept body c false runs g = λ p style at text is more. runs p style at text is (λ d. after_body d.code d more) (tree_of new) (z, None) (Completed (ok [])) (at_prog (g more) completed)
+turn_ends goes old new o z place kept body c false runs g = λ p style at text is more. runs p style at text is (λ d. after_body d.code d more) (tree_of new) z (Completed (ok [])) (at_prog (g more) completed)
 
-module _ {S : Type 0} {goes : S → Event Own → S → Type 0} where
+module _ {S : Type 0} {goes : Going S} where
   -- a body that ended the loop
   pub leaves_after : {T U : Tree Own} {o u : S} {p : Path} (style : Integers) (after : After) (body : Text) (more : Program) (e : Reply) → Leaves after e →
       Comes goes (language style) T o p (script body) U u e → Comes goes (language style) T o p (go (Script body) (λ c. after c.code c more)) U u e

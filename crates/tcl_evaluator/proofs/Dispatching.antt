@@ -9,7 +9,7 @@ use Rattle.tcl_language.specs.Instructions.{Program, fails, grown}
 use Rattle.tcl_language.specs.Interpreters.{interp, subcommand, invoke_hidden, invoke_form, invoked_as, child, child_eval, child_form, asks_at}
 use Rattle.tcl_language.specs.Language.{language}
 use Rattle.tcl_language.specs.Words.{concat}
-use Rattle.tcl_run.specs.Outsides.{Answering, staged}
+use Rattle.tcl_run.specs.Outsides.{Going}
 use Rattle.tcl_run.specs.Plain.{Acts, Does}
 use Rattle.tcl_run.specs.Runs.{Comes, Evaluates, IsAt, IsThere}
 use Rattle.tcl_run.specs.declared.interruption.Interruption.{Interruption}
@@ -26,10 +26,10 @@ use Rattle.tcl_child_commands.proofs.Named.{child_by_name}
 
 -- ## Commands that evaluate nothing
 
-pub acted : {S : Type 0} (goes : Answering S) (t u : Table) (o : S) (place : TablePlace) (program : Integers → Program) (r : Result Text Interruption) → Acts t place program u r → Evaluates goes t o place program u o r
+pub acted : {S : Type 0} (goes : Going S) (t u : Table) (o : S) (place : TablePlace) (program : Integers → Program) (r : Result Text Interruption) → Acts t place program u r → Evaluates goes t o place program u o r
 acted goes t u o place program r acts = IfEnded-more r (λ e. (p : Path) (style : Integers) → IsThere t place p style → Does (program style) (tree_of t) p (tree_of u) e)
-    (λ e. (p : Path) (style : Integers) → IsAt t place p style → Comes (staged goes) (language style) (tree_of t) (o, None) p (program style) (tree_of u) (o, None) e)
-    (λ e h p style at. does_comes (program style) (o, None) (h p style (record { names = at.names; style_is = at.style_is }))) acts
+    (λ e. (p : Path) (style : Integers) → IsAt t place p style → Comes goes (language style) (tree_of t) o p (program style) (tree_of u) o e)
+    (λ e h p style at. does_comes (program style) o (h p style (record { names = at.names; style_is = at.style_is }))) acts
 
 -- ## interp
 

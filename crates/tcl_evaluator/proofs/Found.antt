@@ -1,4 +1,5 @@
 -- What calls come to, by what the word that is called names.
+use Rattle.tcl_core.specs.Programs.{Wait}
 use Rattle.std.proofs.Common.{◌≡◌, List, ◌∷◌, Option, Some, None, ap, refl}
 use Rattle.std.specs.Prelude.{Result, Ok, Err}
 use Rattle.std.specs.Str.{bytes_eq}
@@ -12,6 +13,7 @@ use Rattle.tcl_language.specs.Instructions.{Program, fails}
 use Rattle.tcl_language.specs.Language.{language}
 use Rattle.tcl_language.specs.Naming.{command_name}
 use Rattle.tcl_language.specs.Table.{called, invoked, dispatch, kept_name}
+use Rattle.tcl_run.specs.Outsides.{Going}
 use Rattle.tcl_run.specs.Ends.{IsFailure, itself}
 use Rattle.tcl_run.specs.Runs.{Comes}
 use Rattle.tcl_run.proofs.Leads.{at_prog, at_reply, looks}
@@ -20,7 +22,7 @@ use Rattle.tcl_tree.specs.Own.{Own}
 use Rattle.tcl_tree.specs.declared.command.Command.{Command}
 use Rattle.tcl_calls.specs.Found.{found, hidden_found, or_missing, kept_as}
 
-module _ {S : Type 0} {goes : S → Event Own → S → Type 0} (style : Integers) where
+module _ {S : Type 0} {goes : Going S} (style : Integers) where
   pub call_found : {T V : Tree Own} {o z : S} {p : Path} {n : Node Own} {r : Reply} (word : Text) (args : List Text) (c : Command) → T p ≡ Some n → found n word ≡ Ok c →
       Comes goes (language style) T o p (dispatch style word args invalid_command (Some c)) V z r → Comes goes (language style) T o p (called style (word ∷ args)) V z r
   call_found {T} {V} {o} {z} {p} {n} {r} word args c there e t = by (command_name word) e

@@ -1,4 +1,5 @@
 -- What scripts at another level come to.
+use Rattle.tcl_core.specs.Programs.{Wait}
 use Rattle.std.proofs.Common.{◌≡◌, ℕ, Bool, true, false, List, [], ◌∷◌, Option, Some, None, refl, sym, ◌∙◌, ap, subst}
 use Rattle.std.specs.Prelude.{Result, Ok, Err, codes}
 use Rattle.tcl_core.specs.Endings.{Reply}
@@ -17,6 +18,7 @@ use Rattle.tcl_language.specs.Language.{language}
 use Rattle.tcl_language.specs.Scripts.{script}
 use Rattle.tcl_language.specs.Variables.{found_level, level, level_of}
 use Rattle.tcl_language.specs.Words.{concat, is_level}
+use Rattle.tcl_run.specs.Outsides.{Going}
 use Rattle.tcl_run.specs.Ends.{IsFailure, itself}
 use Rattle.tcl_run.specs.Runs.{Comes}
 use Rattle.tcl_run.proofs.Leads.{at_prog, at_reply, framed, framed_passed, grows, looks, outgrows}
@@ -24,7 +26,7 @@ use Rattle.tcl_text.specs.declared.integer.Integers.{Integers}
 use Rattle.tcl_tree.specs.Own.{Own}
 use Rattle.tcl_calls.specs.Levels.{level_at_node, levelled, or_bad, script_level, with_script}
 
-module _ {S : Type 0} {goes : S → Event Own → S → Type 0} (style : Integers) where
+module _ {S : Type 0} {goes : Going S} (style : Integers) where
   level_goes : {T V : Tree Own} {o z : S} {p : Path} {n : Node Own} {r : Reply} (word : Text) (words given : List Text) (m : ℕ) → T p ≡ Some n → with_script (level_at_node style n word) words ≡ Ok (m, given) →
       Comes goes (language style) T o p (script_at given m) V z r → Comes goes (language style) T o p (level style word (script_at words)) V z r
   level_goes {T} {V} {o} {z} {p} {n} {r} word words given m there e t = looks there (by (level_of style (current n.own.chain.frames) word) e)

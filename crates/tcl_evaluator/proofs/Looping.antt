@@ -1,4 +1,5 @@
 -- What loops come to.
+use Rattle.tcl_core.specs.Programs.{Wait}
 use Rattle.std.proofs.Common.{◌≡◌, ◌⊎◌, inl, inr, ℕ, zero, suc, pos, ◌<◌, ◌≤◌, Bool, true, false, List, [], ◌∷◌, length, get_or, Option, Some, None, refl, sym, ◌∙◌, ap, subst, arith}
 use Rattle.std.specs.Prelude.{codes}
 use Rattle.tcl_core.specs.Endings.{Completion, Reply, ok}
@@ -13,6 +14,7 @@ use Rattle.tcl_language.specs.Instructions.{Program}
 use Rattle.tcl_language.specs.Instructions.Instr.{Script, While, For}
 use Rattle.tcl_language.specs.Language.{language}
 use Rattle.tcl_language.specs.Scripts.{script}
+use Rattle.tcl_run.specs.Outsides.{Going}
 use Rattle.tcl_run.specs.Ends.{Stays, failing}
 use Rattle.tcl_run.specs.Runs.{Comes}
 use Rattle.tcl_run.proofs.Leads.{at_reply, goes_done}
@@ -30,7 +32,7 @@ item_at (y ∷ ys) (suc i) x h e = item_at ys i x (omega arith) e
 abbrev pub next_then : Text → Text → Text → Program
 next_then test next body = go (Script next) (λ d. after_next d.code d (go (For test next body) done))
 
-module _ {S : Type 0} {goes : S → Event Own → S → Type 0} (style : Integers) where
+module _ {S : Type 0} {goes : Going S} (style : Integers) where
   -- ## while
 
   pub while_begins : {T V : Tree Own} {o z : S} {p : Path} {r : Reply} (args : List Text) → 2 ≤ length args → length args < 3 →

@@ -8,10 +8,12 @@ use Rattle.tcl_tree.specs.TreeOf.{tree_of, marks_of}
 use Rattle.tcl_tree.specs.declared.tree.Tree.{Tree as Table}
 use Rattle.std.specs.Prelude.{Result, Ok, Err, IfOk}
 use Rattle.tcl_core.specs.Endings.{Reply}
+use Rattle.tcl_core.specs.Lives.{end_at}
 use Rattle.tcl_run.specs.declared.interruption.Interruption.{Interruption}
 use Rattle.tcl_run.specs.declared.interruption.Interruption.TheVariants as interruption
 use Rattle.tcl_run.specs.Ends.{IfEnded}
-use Rattle.tcl_evaluator.specs.Running.{first_of, unfit, root_count, most_steps, Tells, ending_by, ending_of}
+use Rattle.tcl_run.proofs.Endings.{IfEnded-both}
+use Rattle.tcl_evaluator.specs.Running.{first_of, unfit, root_count, most_steps, Tells, ending_of}
 use Rattle.tcl_evaluator.specs.declared.running.End.{End}
 use Rattle.tcl_evaluator.specs.declared.running.Refused.TheVariants as refused
 
@@ -31,12 +33,18 @@ is_fit t path script limit eb es h f = by_all t path script limit false true tru
 
 -- ## How it ended
 
-pub told_so : {E : Type 0} (depth : ℕ) (ended : Result Text Interruption) (result : Result End E) (P : Reply → Type 0) (Q : End → Type 0) → Tells depth ended result → IfEnded ended P →
-    ((e : End) (r : Reply) → P r → ending_by depth r ≡ Some (ending_of e) → Q e) → IfOk result Q
-told_so depth ended (Err e) P Q t p k = tt
-told_so depth (Ok text) (Ok e) P Q t p k = k e _ p t
-told_so depth (Err interruption.Memory) (Ok e) P Q t p k = elim t [ ]
-told_so depth (Err (interruption.Completed c)) (Ok e) P Q t p k = k e _ p t
-told_so depth (Err (interruption.Stopped s)) (Ok e) P Q t p k = k e _ p t
-told_so depth (Err (interruption.Exited n)) (Ok e) P Q t p k = k e _ p t
-told_so depth (Err (interruption.Cut c)) (Ok e) P Q t p k = k e _ p t
+pub told_so : {E : Type 0} (path : Path) (ended : Result Text Interruption) (result : Result End E) (P : Reply → Type 0) (Q : End → Type 0) → Tells path ended result → IfEnded ended P →
+    ((e : End) (r : Reply) → P r → end_at path r ≡ Some (ending_of e) → Q e) → IfOk result Q
+told_so path ended (Err e) P Q t p k = tt
+told_so path (Ok text) (Ok e) P Q t p k = k e _ p t
+told_so path (Err interruption.Memory) (Ok e) P Q t p k = elim t [ ]
+told_so path (Err (interruption.Completed c)) (Ok e) P Q t p k = k e _ p t
+told_so path (Err (interruption.Stopped s)) (Ok e) P Q t p k = k e _ p t
+told_so path (Err (interruption.Exited n)) (Ok e) P Q t p k = k e _ p t
+told_so path (Err (interruption.Cut c)) (Ok e) P Q t p k = k e _ p t
+
+-- and where the outside is told too
+pub told_all : {E : Type 0} (path : Path) (ended : Result Text Interruption) (result : Result End E) (P D : Reply → Type 0) (Q : End → Type 0) → Tells path ended result → IfEnded ended P → IfOk result (λ e. IfEnded ended D) →
+    ((e : End) (r : Reply) → P r → D r → end_at path r ≡ Some (ending_of e) → Q e) → IfOk result Q
+told_all path ended (Err e) P D Q t p d k = tt
+told_all {E} path ended (Ok e) P D Q t p d k = told_so {E = E} path ended (Ok e) (λ r. P r × D r) Q t (IfEnded-both ended P D (λ r. P r × D r) (λ r a b. (a, b)) p d) (λ x r h s. k x r h.0 h.1 s)

@@ -9,7 +9,7 @@ use Rattle.tcl_core.specs.Paths.{Path}
 use Rattle.tcl_core.specs.Endings.{Completion, Reply, ok}
 use Rattle.tcl_core.specs.Endings.Reply.{Completed, Stop, Exit, Cut}
 use Rattle.tcl_core.specs.Trees.{Tree, Node, Event}
-use Rattle.tcl_core.specs.Programs.{blocked, is_spent, is_deep}
+use Rattle.tcl_core.specs.Programs.{blocked, is_spent, is_deep, Wait}
 use Rattle.tcl_core.specs.Programs.Act.{Charge}
 use Rattle.tcl_core.specs.Programs.Prog.{done, go, act}
 use Rattle.tcl_core.specs.Trees.{effect}
@@ -31,13 +31,13 @@ use Rattle.tcl_run.specs.declared.interruption.Interruption.TheVariants as inter
 use Rattle.tcl_run.specs.Ends.{Interrupts, IfEnded, IsFailure, Stays, IsText, Gave, too_deep_at}
 use Rattle.tcl_language.specs.Table.{called}
 use Rattle.tcl_core.specs.Entries.{Answer}
-use Rattle.tcl_run.specs.Outsides.{staged}
-use Rattle.tcl_run.specs.Runs.{Comes, IsAt, IsThere, StopsCounting}
+use Rattle.tcl_run.specs.Outsides.{Going}
+use Rattle.tcl_run.specs.Runs.{Comes, Counts, IsAt, IsThere, RefusesStep}
 use Rattle.tcl_text.specs.Lists.{list_of}
 use Rattle.tcl_text.specs.Writing.{fault_message}
 use Rattle.tcl_text.specs.declared.list.ListFault.{ListFault}
 use Rattle.tcl_run.proofs.Endings.{Interrupts-more, Interrupts-both, IfEnded-more, of_text}
-use Rattle.tcl_run.proofs.Leads.{at_prog, at_reply, at_finish, looks, goes_on, goes_done, reads_on, read_fails, grows, outgrows, charges, charge_stops, nests_done, nest_refused}
+use Rattle.tcl_run.proofs.Leads.{at_prog, at_reply, at_finish, looks, goes_on, goes_done, reads_on, read_fails, grows, outgrows, charges, charge_refused, nests_done, nest_refused}
 use Rattle.tcl_text.specs.declared.integer.Integers.{Integers}
 use Rattle.tcl_tree.specs.Own.{Own}
 use Rattle.tcl_tree.specs.TreeOf.{tree_of, Names}
@@ -49,12 +49,12 @@ use Rattle.tcl_calls.specs.Words.{open_of, opens, words_of, AtOk, Closes, Closes
 use Rattle.tcl_evaluator.specs.View.{read_so}
 
 -- how a program ends that is run in an interpreter where an evaluation is in progress
-abbrev pub EndsFrom : {S : Type 0} → (S → Event Own → Answer → S → Type 0) → Table → S → TablePlace → (Integers → Program) → Table → S → Reply → Type 0
-EndsFrom goes old o place program new z r = (p : Path) (style : Integers) → IsAt old place p style → Comes (staged goes) (language style) (tree_of old) (o, None) p (program style) (tree_of new) (z, None) r
+abbrev pub EndsFrom : {S : Type 0} → Going S → Table → S → TablePlace → (Integers → Program) → Table → S → Reply → Type 0
+EndsFrom goes old o place program new z r = (p : Path) (style : Integers) → IsAt old place p style → Comes goes (language style) (tree_of old) o p (program style) (tree_of new) z r
 
 -- the same, wherever the interpreter is
-abbrev pub EndsAt : {S : Type 0} → (S → Event Own → Answer → S → Type 0) → Table → S → TablePlace → (Integers → Program) → Table → S → Reply → Type 0
-EndsAt goes old o place program new z r = (p : Path) (style : Integers) → IsThere old place p style → Comes (staged goes) (language style) (tree_of old) (o, None) p (program style) (tree_of new) (z, None) r
+abbrev pub EndsAt : {S : Type 0} → Going S → Table → S → TablePlace → (Integers → Program) → Table → S → Reply → Type 0
+EndsAt goes old o place program new z r = (p : Path) (style : Integers) → IsThere old place p style → Comes goes (language style) (tree_of old) o p (program style) (tree_of new) z r
 
 -- ## Lists by their items
 
@@ -138,7 +138,7 @@ some_words : (items : List (List ℕ)) → 1 ≤ length items → charged items 
 some_words [] h = absurd (omega arith)
 some_words (w ∷ ws) h = refl
 
-module _ {S : Type 0} {goes : S → Event Own → S → Type 0} (style : Integers) where
+module _ {S : Type 0} {goes : Going S} (style : Integers) where
   -- ## After an inner evaluation
 
   pub goes_stays : {T U : Tree Own} {o u : S} {p : Path} {i : Instr} (k : List ℕ → Program) (e : Reply) → Stays e →
@@ -262,12 +262,12 @@ module _ {S : Type 0} {goes : S → Event Own → S → Type 0} (style : Integer
   pub no_words : {T : Tree Own} {o : S} {p : Path} {r : Reply} (items : List (List ℕ)) → items ≡ [] → r ≡ Completed (ok []) → Comes goes (language style) T o p (words [] items) T o r
   no_words items e f = at_prog (ap charged e) (at_reply f completed)
 
-  pub charged_stops : {T U : Tree Own} {o : S} {p : Path} {r : Reply} (items : List (List ℕ)) → 1 ≤ length items → StopsCounting T p U r → Comes goes (language style) T o p (words [] items) U o r
-  charged_stops items h s = at_prog (some_words items h) (at_finish s.same (at_reply s.stop (charge_stops s.levels s.full)))
+  pub charged_stops : {T U : Tree Own} {o z : S} {p : Path} {r : Reply} (items : List (List ℕ)) → 1 ≤ length items → RefusesStep goes T o p U z r → Comes goes (language style) T o p (words [] items) U z r
+  charged_stops items h s = at_prog (some_words items h) (charge_refused s)
 
-  pub charged_calls : {T U V : Tree Own} {o z : S} {p : Path} {r : Reply} (items : List (List ℕ)) → 1 ≤ length items → blocked is_spent T p ≡ None → U ≡ effect p Charged T →
-      Comes goes (language style) U o p (called style items) V z r → Comes goes (language style) T o p (words [] items) V z r
-  charged_calls items h free e t = at_prog (some_words items h) (charges free e (goes_done {i = Call items} t))
+  pub charged_calls : {T U V : Tree Own} {o u z : S} {p : Path} {r : Reply} (items : List (List ℕ)) → 1 ≤ length items → Counts goes T o p U u →
+      Comes goes (language style) U u p (called style items) V z r → Comes goes (language style) T o p (words [] items) V z r
+  charged_calls items h counts t = at_prog (some_words items h) (charges counts (goes_done {i = Call items} t))
 
   -- ## Commands
 

@@ -5,7 +5,7 @@ use Rattle.std.proofs.Math.Seq.{drop-nil}
 use Rattle.tcl_core.specs.Endings.{Completion, Reply, ok, error}
 use Rattle.tcl_core.specs.Endings.Reply.{Completed, Stop, Exit, Cut}
 use Rattle.tcl_core.specs.Paths.{Text, Path}
-use Rattle.tcl_core.specs.Programs.{blocked, is_spent}
+use Rattle.tcl_core.specs.Programs.{blocked, is_spent, Wait}
 use Rattle.tcl_core.specs.Programs.Act.{Charge}
 use Rattle.tcl_core.specs.Programs.Prog.{done, act, go}
 use Rattle.tcl_core.specs.Threads.{completed}
@@ -18,10 +18,11 @@ use Rattle.tcl_language.specs.Instructions.{Program, Walk, at_node, change, eith
 use Rattle.tcl_language.specs.Instructions.Instr.{Script, Foreach}
 use Rattle.tcl_language.specs.Language.{language}
 use Rattle.tcl_language.specs.Variables.{chain_becomes, is_odd, sets}
+use Rattle.tcl_run.specs.Outsides.{Going}
 use Rattle.tcl_run.specs.Ends.{failing}
 use Rattle.tcl_run.specs.Plain.{Does}
-use Rattle.tcl_run.specs.Runs.{Comes, StopsCounting}
-use Rattle.tcl_run.proofs.Leads.{at_prog, at_reply, at_start, at_finish, changes, charges, charge_stops, goes_done, looks, reads_on}
+use Rattle.tcl_run.specs.Runs.{Comes, Counts, RefusesStep}
+use Rattle.tcl_run.proofs.Leads.{at_prog, at_reply, at_start, at_finish, changes, charges, charge_refused, goes_done, looks, reads_on}
 use Rattle.tcl_run.proofs.Plain.{does_comes}
 use Rattle.tcl_text.specs.declared.integer.Integers.{Integers}
 use Rattle.tcl_tree.specs.Own.{Own}
@@ -150,7 +151,7 @@ foreach_is args words body h = ap foreach h.0 ∙ by words h.1 h.2
 abbrev pub body_then : Text → List Walk → Program
 body_then body walks = go (Script body) (λ c. after_body c.code c (go (Foreach walks body) done))
 
-module _ {S : Type 0} {goes : S → Event Own → S → Type 0} (style : Integers) where
+module _ {S : Type 0} {goes : Going S} (style : Integers) where
   pub foreach_begins : {T V : Tree Own} {o z : S} {p : Path} {r : Reply} (args words : List Text) (body : Text) (ws : List read.Walk) → IsForeach args words body → ReadsWalks words ws →
       Comes goes (language style) T o p (foreach_turns (walks_at 0 ws) body) V z r → Comes goes (language style) T o p (foreach args) V z r
   foreach_begins args words body ws h read t =
@@ -180,22 +181,22 @@ module _ {S : Type 0} {goes : S → Event Own → S → Type 0} (style : Integer
 
   -- ## Turns
 
-  pub turn_begins : {T U M V : Tree Own} {o z : S} {p : Path} {r : Reply} (walks : List Walk) (body : Text) → is_over walks ≡ false → blocked is_spent T p ≡ None → U ≡ effect p Charged T → SetsWalks walks U M p →
-      Comes goes (language style) M o p (body_then body (map passed walks)) V z r → Comes goes (language style) T o p (foreach_turns walks body) V z r
-  turn_begins {U = U} walks body e free charged s t =
+  pub turn_begins : {T U M V : Tree Own} {o u z : S} {p : Path} {r : Reply} (walks : List Walk) (body : Text) → is_over walks ≡ false → Counts goes T o p U u → SetsWalks walks U M p →
+      Comes goes (language style) M u p (body_then body (map passed walks)) V z r → Comes goes (language style) T o p (foreach_turns walks body) V z r
+  turn_begins {U = U} walks body e counts s t =
       at_prog (ap (λ b. either b (done (ok [])) (act Charge (λ X. sets_walks walks (body_then body)))) e)
-      (charges free charged (at_prog (walks_pass walks (body_then body)) (walks_come walks U (body_then body (map passed walks)) s t)))
+      (charges counts (at_prog (walks_pass walks (body_then body)) (walks_come walks U (body_then body (map passed walks)) s t)))
 
   pub turn_over : {T : Tree Own} {o : S} {p : Path} {r : Reply} (walks : List Walk) (body : Text) → is_over walks ≡ true → r ≡ Completed (ok []) → Comes goes (language style) T o p (foreach_turns walks body) T o r
   turn_over walks body e f = at_prog (ap (λ b. either b (done (ok [])) (act Charge (λ X. sets_walks walks (body_then body)))) e) (at_reply f completed)
 
-  pub turn_stops : {T U : Tree Own} {o : S} {p : Path} {r : Reply} (walks : List Walk) (body : Text) → is_over walks ≡ false → StopsCounting T p U r → Comes goes (language style) T o p (foreach_turns walks body) U o r
+  pub turn_stops : {T U : Tree Own} {o z : S} {p : Path} {r : Reply} (walks : List Walk) (body : Text) → is_over walks ≡ false → RefusesStep goes T o p U z r → Comes goes (language style) T o p (foreach_turns walks body) U z r
   turn_stops walks body e s =
-      at_prog (ap (λ b. either b (done (ok [])) (act Charge (λ X. sets_walks walks (body_then body)))) e) (at_finish s.same (at_reply s.stop (charge_stops s.levels s.full)))
+      at_prog (ap (λ b. either b (done (ok [])) (act Charge (λ X. sets_walks walks (body_then body)))) e) (charge_refused s)
 
   -- a variable of the turn can't be set
-  pub turn_fails : {T U V : Tree Own} {o : S} {p : Path} {r : Reply} (walks : List Walk) (body : Text) → is_over walks ≡ false → blocked is_spent T p ≡ None → U ≡ effect p Charged T →
-      ((k : Program) → Does (sets_walks walks (λ more. k)) U p V r) → Comes goes (language style) T o p (foreach_turns walks body) V o r
-  turn_fails {o = o} walks body e free charged d =
+  pub turn_fails : {T U V : Tree Own} {o u : S} {p : Path} {r : Reply} (walks : List Walk) (body : Text) → is_over walks ≡ false → Counts goes T o p U u →
+      ((k : Program) → Does (sets_walks walks (λ more. k)) U p V r) → Comes goes (language style) T o p (foreach_turns walks body) V u r
+  turn_fails {u = u} walks body e counts d =
       at_prog (ap (λ b. either b (done (ok [])) (act Charge (λ X. sets_walks walks (body_then body)))) e)
-      (charges free charged (at_prog (walks_pass walks (body_then body)) (does_comes (sets_walks walks (λ more. body_then body (map passed walks))) o (d (body_then body (map passed walks))))))
+      (charges counts (at_prog (walks_pass walks (body_then body)) (does_comes (sets_walks walks (λ more. body_then body (map passed walks))) u (d (body_then body (map passed walks))))))

@@ -1,40 +1,66 @@
 -- What asking the host comes to.
-use Rattle.std.proofs.Common.{◌≡◌, ◌⊎◌, inl, inr, ◌<◌, ◌≤◌, List, [], ◌∷◌, length, get_or, Option, Some, None, refl, sym, ◌∙◌, ap, subst, arith}
-use Rattle.tcl_core.specs.Paths.{Text, Path}
-use Rattle.tcl_core.specs.Endings.{Reply}
-use Rattle.tcl_core.specs.Endings.Reply.{Completed, Stop, Exit, Cut}
-use Rattle.tcl_core.specs.Entries.{Answer}
-use Rattle.tcl_core.specs.Entries.Request.{Write}
-use Rattle.tcl_core.specs.Threads.{heard, answered_passed, called_out}
-use Rattle.tcl_core.specs.Trees.{Tree, Event}
-use Rattle.tcl_language.specs.Hosting.{puts, puts_form, writes, written}
-use Rattle.tcl_language.specs.Language.{language}
+use Rattle.std.proofs.Common.{◌≡◌, ◌⊎◌, inl, inr, ◌<◌, ◌≤◌, List, [], ◌∷◌, length, get_or, None, false, refl, sym, ◌∙◌, ap, subst, arith}
+use Rattle.std.specs.Prelude.{Result, Err}
 use Rattle.std.proofs.lemmas.Bool.Decides.{nat_tests}
-use Rattle.std.proofs.Common.{false}
+use Rattle.tcl_core.specs.Endings.{Completion, Reply, ok}
+use Rattle.tcl_core.specs.Endings.Reply.{Completed}
+use Rattle.tcl_core.specs.Entries.Entry.{AskHost}
+use Rattle.tcl_core.specs.Entries.Request.{Write}
+use Rattle.tcl_core.specs.Paths.{Text, Path}
+use Rattle.tcl_core.specs.Threads.{event, called_out, completed}
+use Rattle.tcl_core.specs.Trees.What.{Out}
+use Rattle.tcl_host.specs.declared.reply.HostReply.{HostReply as TheirReply}
+use Rattle.tcl_host.specs.declared.reply.HostReply.TheVariants as theirs
+use Rattle.tcl_language.specs.Hosting.{channel_message, heard, puts, puts_form, writes, written}
 use Rattle.tcl_language.specs.Instructions.{fits}
-use Rattle.tcl_value.specs.Limits.{IsPast}
-use Rattle.tcl_run.specs.declared.outside.Written.{Written}
-use Rattle.tcl_run.specs.declared.outside.Written.TheVariants as answer
-use Rattle.tcl_run.specs.Outsides.{IsHeard, IsEnded, Stage, answer_of, staged}
-use Rattle.tcl_run.specs.Runs.{Comes}
+use Rattle.tcl_language.specs.Language.{language}
+use Rattle.tcl_run.specs.Ends.{IfEnded, Interrupts, failing}
+use Rattle.tcl_run.specs.Outsides.{Going, number_of, reply_of}
+use Rattle.tcl_run.specs.Runs.{Comes, Evaluates, IsAt}
+use Rattle.tcl_run.specs.declared.interruption.Interruption.{Interruption}
+use Rattle.tcl_run.proofs.Endings.{IfEnded-more, ended_err}
+use Rattle.tcl_run.proofs.Leads.{at_reply}
 use Rattle.tcl_text.specs.declared.integer.Integers.{Integers}
-use Rattle.tcl_tree.specs.Own.{Own}
+use Rattle.tcl_tree.specs.TreeOf.{tree_of, Names}
+use Rattle.tcl_tree.specs.declared.tree.Tree.{Tree as Table}
+use Rattle.tcl_tree.specs.declared.tree.Place.{Place as TablePlace}
+use Rattle.tcl_value.specs.Limits.{IsPast}
+use Rattle.tcl_evaluator.specs.Waiting.{EndsWait, HearsSo, IsWritten, Wherever}
+use Rattle.tcl_evaluator.proofs.Awaited.{ends_out}
 
-module _ {S : Type 0} (goes : S → Event Own → Answer → S → Type 0) (style : Integers) where
-  pub write_heard : {T V : Tree Own} {o z : S} {y : Stage S} {p : Path} {r : Reply} (channel text : Text) (a : Written) → IsHeard goes o p (Write channel text) z (answer_of a) →
-      Comes (staged goes) (language style) T (z, None) p (written channel (answer_of a)) V y r → Comes (staged goes) (language style) T (o, None) p (writes channel text) V y r
-  write_heard channel text answer.Accepted g t = called_out refl (refl, refl) (heard refl refl (g, refl) t)
-  write_heard channel text (answer.Refused n) g t = called_out refl (refl, refl) (heard refl refl (g, refl) t)
+-- what a text that was to be written comes to, by the host's reply
+module _ {S : Type 0} (goes : Going S) (old new : Table) (o u z : S) (place : TablePlace) (channel text : Text) (result : Result Text Interruption)
+    (leaves : (p : Path) → Names old place p → goes (tree_of old) o None (event p (Out None [] (AskHost (Write channel text)))) u) where
+  over_by : (reply : TheirReply) (c : Completion) → ((style : Integers) (p : Path) (e : Reply) → e ≡ Completed c → Comes goes (language style) (tree_of new) z p (written channel (reply_of reply)) (tree_of new) z e) →
+      Wherever old place (λ p style. HearsSo goes style (tree_of old) u p None (AskHost (Write channel text)) (tree_of new) z (reply_of reply)) → IfEnded result (λ e. e ≡ Completed c) →
+      Evaluates goes old o place (λ style. writes channel text) new z result
+  over_by reply c ends hears told = IfEnded-more result (λ e. e ≡ Completed c) (λ e. (p : Path) (style : Integers) → IsAt old place p style → Comes goes (language style) (tree_of old) o p (writes channel text) (tree_of new) z e)
+      (λ e f p style at. called_out refl (record { told = leaves p at.names }) (hears p style at (heard (written channel)) _ _ _ (ends style p e f))) told
 
-  pub write_over : {T : Tree Own} {o z : S} {p : Path} (r : Reply) (channel text : Text) → IsEnded goes o p (Write channel text) z r → Comes (staged goes) (language style) T (o, None) p (writes channel text) T (z, None) r
-  write_over (Completed c) channel text g = elim g.0 [ ]
-  write_over (Stop n m) channel text g = elim g.0 [ ]
-  write_over (Exit n) channel text g = called_out refl (refl, refl) (answered_passed tt refl refl (g.1, refl))
-  write_over (Cut c) channel text g = called_out refl (refl, refl) (answered_passed tt refl refl (g.1, refl))
+  pub writes_heard : (reply : TheirReply) → Wherever old place (λ p style. HearsSo goes style (tree_of old) u p None (AskHost (Write channel text)) (tree_of new) z (reply_of reply)) → IsWritten channel reply result →
+      Evaluates goes old o place (λ style. writes channel text) new z result
+  writes_heard (theirs.Refused why) hears told = over_by (theirs.Refused why) (failing (channel_message (number_of why) channel)) (λ style p e f. at_reply f completed) hears told
+  writes_heard (theirs.Opened name) hears told = over_by (theirs.Opened name) (ok []) (λ style p e f. at_reply f completed) hears told
+  writes_heard (theirs.Line line) hears told = over_by (theirs.Line line) (ok []) (λ style p e f. at_reply f completed) hears told
+  writes_heard theirs.End hears told = over_by theirs.End (ok []) (λ style p e f. at_reply f completed) hears told
+  writes_heard (theirs.Rest bytes) hears told = over_by (theirs.Rest bytes) (ok []) (λ style p e f. at_reply f completed) hears told
+  writes_heard theirs.Done hears told = over_by theirs.Done (ok []) (λ style p e f. at_reply f completed) hears told
+  writes_heard (theirs.AtEnd ended) hears told = over_by (theirs.AtEnd ended) (ok []) (λ style p e f. at_reply f completed) hears told
 
--- the same request, told otherwise
-pub heard_as : (P : Path → Text → Type 0) (p q : Path) (text given : Text) → p ≡ q → text ≡ given → P p text → P q given
-heard_as P p q text given ep et h = subst (λ (x : Path). P x given) ep (subst (λ (x : Text). P p x) et h)
+-- the same text for the same channel, told otherwise
+pub writes_as : {S : Type 0} (goes : Going S) (old new : Table) (o z : S) (place : TablePlace) (channel text c t : Text) (result : Result Text Interruption) → c ≡ channel → t ≡ text →
+    Evaluates goes old o place (λ style. writes c t) new z result → Evaluates goes old o place (λ style. writes channel text) new z result
+writes_as goes old new o z place channel text c t result ec et h =
+    subst (λ (x : Text). Evaluates goes old o place (λ style. writes x text) new z result) ec (subst (λ (x : Text). Evaluates goes old o place (λ style. writes c x) new z result) et h)
+
+-- what is asked of the host ended otherwise than by its reply
+pub writes_over : {S : Type 0} (goes : Going S) (old new : Table) (o u z : S) (place : TablePlace) (channel text : Text) (result : Result Text Interruption) (i y : Interruption) →
+    ((p : Path) → Names old place p → goes (tree_of old) o None (event p (Out None [] (AskHost (Write channel text)))) u) → result ≡ Err y → y ≡ i → Interrupts i (EndsWait goes old u place None (AskHost (Write channel text)) new z) →
+    Evaluates goes old o place (λ style. writes channel text) new z result
+writes_over goes old new o u z place channel text result i y leaves is same ends =
+    ended_err result i y (λ x. (p : Path) (style : Integers) → IsAt old place p style → Comes goes (language style) (tree_of old) o p (writes channel text) (tree_of new) z (Completed (ok x)))
+    (EndsWait goes old u place None (AskHost (Write channel text)) new z) (λ e. (p : Path) (style : Integers) → IsAt old place p style → Comes goes (language style) (tree_of old) o p (writes channel text) (tree_of new) z e) is same ends
+    (λ e h p style at. ends_out goes style None [] (AskHost (Write channel text)) (ok []) (heard (written channel)) e (λ c. refl) refl (leaves p at.names) (h p style at))
 
 -- ## Words
 

@@ -11,7 +11,7 @@ use Rattle.tcl_language.specs.Instructions.{Program}
 use Rattle.tcl_language.specs.Language.{language}
 use Rattle.tcl_run.specs.Ends.{IfEnded}
 use Rattle.tcl_core.specs.Entries.{Answer}
-use Rattle.tcl_run.specs.Outsides.{Stage, staged}
+use Rattle.tcl_run.specs.Outsides.{Going}
 use Rattle.tcl_run.specs.Runs.{Comes, IsAt}
 use Rattle.tcl_run.specs.declared.interruption.Interruption.{Interruption}
 use Rattle.tcl_text.specs.declared.integer.Integers.{Integers}
@@ -22,35 +22,35 @@ use Rattle.tcl_tree.specs.declared.tree.Tree.{Tree as Table}
 use Rattle.tcl_calls.specs.Expressions.{IsKept}
 
 -- How an expression that was read ends: as each text does that it is.
-abbrev pub ComputesTo : {S : Type 0} → (S → Event Own → Answer → S → Type 0) → Table → S → Place → ExprTree → Table → S → Reply → Type 0
-ComputesTo goes old o place kept new z r = (p : Path) (style : Integers) → IsAt old place p style → (text : List ℕ) → IsKept style text kept → Comes (staged goes) (language style) (tree_of old) (o, None) p (expression style text) (tree_of new) (z, None) r
+abbrev pub ComputesTo : {S : Type 0} → Going S → Table → S → Place → ExprTree → Table → S → Reply → Type 0
+ComputesTo goes old o place kept new z r = (p : Path) (style : Integers) → IsAt old place p style → (text : List ℕ) → IsKept style text kept → Comes goes (language style) (tree_of old) o p (expression style text) (tree_of new) z r
 
 -- what came of it
-abbrev pub Computes : {S : Type 0} → (S → Event Own → Answer → S → Type 0) → Table → S → Place → ExprTree → Table → S → Result (List ℕ) Interruption → Type 0
+abbrev pub Computes : {S : Type 0} → Going S → Table → S → Place → ExprTree → Table → S → Result (List ℕ) Interruption → Type 0
 Computes goes old o place kept new z result = IfEnded result (ComputesTo goes old o place kept new z)
 
 -- A condition that was read holds, or doesn't: what comes behind goes on from there.
-abbrev pub TestGoes : {S : Type 0} → (S → Event Own → Answer → S → Type 0) → Table → S → Place → ExprTree → Table → S → Bool → Type 0
-TestGoes {S} goes old o place kept new z holds = (p : Path) (style : Integers) → IsAt old place p style → (text : List ℕ) → IsKept style text kept → (k : Bool → Program) (V : Tree Own) (y : Stage S) (r : Reply) →
-    Comes (staged goes) (language style) (tree_of new) (z, None) p (k holds) V y r → Comes (staged goes) (language style) (tree_of old) (o, None) p (condition style text k) V y r
+abbrev pub TestGoes : {S : Type 0} → Going S → Table → S → Place → ExprTree → Table → S → Bool → Type 0
+TestGoes {S} goes old o place kept new z holds = (p : Path) (style : Integers) → IsAt old place p style → (text : List ℕ) → IsKept style text kept → (k : Bool → Program) (V : Tree Own) (y : S) (r : Reply) →
+    Comes goes (language style) (tree_of new) z p (k holds) V y r → Comes goes (language style) (tree_of old) o p (condition style text k) V y r
 
 -- It ended what was to come behind.
-abbrev pub TestBreaks : {S : Type 0} → (S → Event Own → Answer → S → Type 0) → Table → S → Place → ExprTree → Table → S → Reply → Type 0
+abbrev pub TestBreaks : {S : Type 0} → Going S → Table → S → Place → ExprTree → Table → S → Reply → Type 0
 TestBreaks goes old o place kept new z r = (p : Path) (style : Integers) → IsAt old place p style → (text : List ℕ) → IsKept style text kept → (k : Bool → Program) →
-    Comes (staged goes) (language style) (tree_of old) (o, None) p (condition style text k) (tree_of new) (z, None) r
+    Comes goes (language style) (tree_of old) o p (condition style text k) (tree_of new) z r
 
 -- a turn, behind which that comes
 abbrev pub turn_then : Integers → List ℕ → List ℕ → Program → Program
 turn_then style test body more = turn style test body (λ c. after_body c.code c more)
 
 -- A turn of a loop went by, and what comes behind goes on from there; or the loop is over.
-abbrev pub TurnGoes : {S : Type 0} → (S → Event Own → Answer → S → Type 0) → Table → S → Place → ExprTree → List ℕ → Table → S → Bool → Type 0
-TurnGoes {S} goes old o place kept body new z true = (p : Path) (style : Integers) → IsAt old place p style → (test : List ℕ) → IsKept style test kept → (more : Program) (V : Tree Own) (y : Stage S) (r : Reply) →
-    Comes (staged goes) (language style) (tree_of new) (z, None) p more V y r → Comes (staged goes) (language style) (tree_of old) (o, None) p (turn_then style test body more) V y r
+abbrev pub TurnGoes : {S : Type 0} → Going S → Table → S → Place → ExprTree → List ℕ → Table → S → Bool → Type 0
+TurnGoes {S} goes old o place kept body new z true = (p : Path) (style : Integers) → IsAt old place p style → (test : List ℕ) → IsKept style test kept → (more : Program) (V : Tree Own) (y : S) (r : Reply) →
+    Comes goes (language style) (tree_of new) z p more V y r → Comes goes (language style) (tree_of old) o p (turn_then style test body more) V y r
 TurnGoes goes old o place kept body new z false = (p : Path) (style : Integers) → IsAt old place p style → (test : List ℕ) → IsKept style test kept → (more : Program) →
-    Comes (staged goes) (language style) (tree_of old) (o, None) p (turn_then style test body more) (tree_of new) (z, None) (Completed (ok []))
+    Comes goes (language style) (tree_of old) o p (turn_then style test body more) (tree_of new) z (Completed (ok []))
 
 -- It ended the loop.
-abbrev pub TurnBreaks : {S : Type 0} → (S → Event Own → Answer → S → Type 0) → Table → S → Place → ExprTree → List ℕ → Table → S → Reply → Type 0
+abbrev pub TurnBreaks : {S : Type 0} → Going S → Table → S → Place → ExprTree → List ℕ → Table → S → Reply → Type 0
 TurnBreaks goes old o place kept body new z r = (p : Path) (style : Integers) → IsAt old place p style → (test : List ℕ) → IsKept style test kept → (more : Program) →
-    Comes (staged goes) (language style) (tree_of old) (o, None) p (turn_then style test body more) (tree_of new) (z, None) r
+    Comes goes (language style) (tree_of old) o p (turn_then style test body more) (tree_of new) z r

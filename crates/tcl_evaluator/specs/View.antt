@@ -25,7 +25,7 @@ use Rattle.tcl_entries.specs.Asking.{GoesOn}
 use Rattle.tcl_tree.specs.declared.parameter.Parameter.{Parameter}
 use Rattle.tcl_parser.specs.declared.script.Part.{Part}
 use Rattle.tcl_core.specs.Entries.{Answer}
-use Rattle.tcl_run.specs.Outsides.{Stage, staged}
+use Rattle.tcl_run.specs.Outsides.{Going}
 use Rattle.tcl_run.specs.Runs.{Comes, IsAt, IsThere}
 use Rattle.tcl_text.specs.declared.integer.Integers.{Integers}
 use Rattle.tcl_tree.specs.Own.{Own}
@@ -54,23 +54,23 @@ abbrev pub invokes_at : Bool → List (List ℕ) → (Completion → Program) �
 invokes_at true words k = look (λ n. inside (Framed (at_level 0 n.own) level_over) (Invoke words) k)
 invokes_at false words k = go (Invoke words) k
 
-abbrev pub Invokes : {S : Type 0} → (S → Event Own → Answer → S → Type 0) → Table → S → Place → Bool → List (List ℕ) → Table → S → Result (List ℕ) Interruption → Type 0
+abbrev pub Invokes : {S : Type 0} → Going S → Table → S → Place → Bool → List (List ℕ) → Table → S → Result (List ℕ) Interruption → Type 0
 Invokes goes old o place is_global words new z result =
-    IfEnded result (λ e. (p : Path) (style : Integers) → IsThere old place p style → GoesOn (staged goes) style (tree_of old) (o, None) p (invokes_at is_global words) (tree_of new) (z, None) e)
+    IfEnded result (λ e. (p : Path) (style : Integers) → IsThere old place p style → GoesOn goes style (tree_of old) o p (invokes_at is_global words) (tree_of new) z e)
 
 -- One part of a word was substituted: the rest of its parts go on from there.
-abbrev pub PartGoes : {S : Type 0} → (S → Event Own → Answer → S → Type 0) → Table → S → Place → Part → List Open → List ℕ → Table → S → List Open → List ℕ → Type 0
-PartGoes {S} goes old o place part elements text new z next all = (p : Path) (style : Integers) → IsAt old place p style → (rest : List Part) (V : Tree Own) (y : Stage S) (r : Reply) →
-    Comes (staged goes) (language style) (tree_of new) (z, None) p (parts rest next all) V y r → Comes (staged goes) (language style) (tree_of old) (o, None) p (parts (part ∷ rest) elements text) V y r
+abbrev pub PartGoes : {S : Type 0} → Going S → Table → S → Place → Part → List Open → List ℕ → Table → S → List Open → List ℕ → Type 0
+PartGoes {S} goes old o place part elements text new z next all = (p : Path) (style : Integers) → IsAt old place p style → (rest : List Part) (V : Tree Own) (y : S) (r : Reply) →
+    Comes goes (language style) (tree_of new) z p (parts rest next all) V y r → Comes goes (language style) (tree_of old) o p (parts (part ∷ rest) elements text) V y r
 
 -- It ended the word, and what was to go on with it.
-abbrev pub PartBreaks : {S : Type 0} → (S → Event Own → Answer → S → Type 0) → Table → S → Place → Part → List Open → List ℕ → Table → S → Reply → Type 0
+abbrev pub PartBreaks : {S : Type 0} → Going S → Table → S → Place → Part → List Open → List ℕ → Table → S → Reply → Type 0
 PartBreaks goes old o place part elements text new z r = (p : Path) (style : Integers) → IsAt old place p style → (rest : List Part) →
-    Comes (staged goes) (language style) (tree_of old) (o, None) p (parts (part ∷ rest) elements text) (tree_of new) (z, None) r
+    Comes goes (language style) (tree_of old) o p (parts (part ∷ rest) elements text) (tree_of new) z r
 
 -- What may come from there may come from here.
-abbrev pub Leads : {S : Type 0} → (S → Event Own → Answer → S → Type 0) → Integers → Tree Own → S → Path → Program → Tree Own → S → Program → Type 0
-Leads {S} goes style T o p x U u y = (V : Tree Own) (z : Stage S) (r : Reply) → Comes (staged goes) (language style) U (u, None) p y V z r → Comes (staged goes) (language style) T (o, None) p x V z r
+abbrev pub Leads : {S : Type 0} → Going S → Integers → Tree Own → S → Path → Program → Tree Own → S → Program → Type 0
+Leads {S} goes style T o p x U u y = (V : Tree Own) (z : S) (r : Reply) → Comes goes (language style) U u p y V z r → Comes goes (language style) T o p x V z r
 
 -- the end of a procedure's call whose body ended so
 abbrev pub LeavesProc : Result (List ℕ) Interruption → Result (List ℕ) Interruption → Type 0

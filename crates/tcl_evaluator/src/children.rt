@@ -6,7 +6,7 @@ ghost use Rattle.tcl_language.specs.Table as table;
 ghost use Rattle.tcl_run.specs.Runs.{Evaluates, IsRunning, IsSteady};
 ghost use Rattle.tcl_entries.specs.Subcommands.{child_program_of};
 
-use crate::crossing::{ask_eval, ask_hidden};
+use crate::crossing::ask_entry;
 use std::alloc::{AllocError, Global};
 use std::slice;
 use tcl_calls::lookup::kept_name;
@@ -17,6 +17,7 @@ use tcl_child_commands::hidden::{HiddenCall, hidden_call};
 use tcl_child_commands::hiding::child_stands;
 use tcl_entries::looking::permit;
 use tcl_entries::subcommand::ChildSubcommand;
+use tcl_run::entry::Entry;
 use tcl_run::failure::unknown_subcommand;
 use tcl_run::interruption::Interruption;
 use tcl_run::outside::Outside;
@@ -112,14 +113,14 @@ fn child_eval<O: Outside>(
     if args.is_empty() {
         return Err(wrong_child_args(alloc, name, "eval arg ?arg ...?"));
     }
-    let mut script = script_of(alloc, args)?;
-    ask_eval(
+    let script = script_of(alloc, args)?;
+    ask_entry(
         tree,
         alloc,
         outside,
         place,
         slice::from_ref(name),
-        &mut script,
+        Entry::Eval(script),
     )
 }
 
@@ -147,13 +148,12 @@ fn child_invoke_hidden<O: Outside>(
     let HiddenCall { is_global, words } = call;
     permit(tree, alloc, place)?;
     child_stands(tree, alloc, place, name)?;
-    ask_hidden(
+    ask_entry(
         tree,
         alloc,
         outside,
         place,
         slice::from_ref(name),
-        is_global,
-        words,
+        Entry::InvokeHidden { is_global, words },
     )
 }

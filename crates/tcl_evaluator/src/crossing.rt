@@ -1,19 +1,30 @@
 //! Evaluations that others ask for: by an alias, by `interp`, or from outside of the tree.
-ghost use Rattle.std.specs.Prelude.{◌≡◌, ◌≤◌, ◌∷◌, IfOk};
-ghost use Rattle.tcl_core.specs.Paths.{Path};
+ghost use Rattle.std.specs.Prelude.{◌≡◌, ◌≤◌, Some, None, Err};
+ghost use Rattle.tcl_core.specs.Endings.Reply.{Completed};
 ghost use Rattle.tcl_core.specs.Entries.Entry.{Eval, CallWords, InvokeHidden};
+ghost use Rattle.tcl_core.specs.Paths.{Path, rise_to};
+ghost use Rattle.tcl_language.specs.Faults as faults;
 ghost use Rattle.tcl_language.specs.Interpreters.{call_alias as alias_program};
-ghost use Rattle.tcl_language.specs.Table.{serve};
+ghost use Rattle.tcl_language.specs.Table as table;
+ghost use Rattle.tcl_run.specs.Ends.{IfEnded, failing};
+ghost use Rattle.tcl_run.specs.Entering.{whole_entry};
 ghost use Rattle.tcl_run.specs.Runs.{Evaluates, EvaluatesAt, IsRunning, IsSteady};
+ghost use Rattle.tcl_tree.specs.Reaching.{Leads};
 ghost use Rattle.tcl_tree.specs.TreeOf.{Names};
-ghost use Rattle.tcl_entries.specs.Asking.{Asks};
+ghost use Rattle.tcl_tree.specs.declared.tree.places.Reach.TheVariants.{There};
+ghost use Rattle.tcl_calls.specs.Carrying.{EndedBy};
+ghost use Rattle.tcl_entries.specs.Asking.{Asks, AsksBelow};
 ghost use Rattle.tcl_evaluator.specs.View.{Invokes, targeted, unhidden};
+ghost use Rattle.tcl_evaluator.specs.Waiting.{CallsOut, CallsThere, FindsNobody};
 
 use crate::commands::{call, call_hidden};
 use crate::evaluation::eval_value;
+use crate::waiting::{Said, wait};
 use std::alloc::Global;
-use tcl_calls::carrying::{carry, settled, some_words, target_words};
+use tcl_calls::carrying::{come_back, settled, some_words, target_words};
 use tcl_calls::levels::{bring_back, set_aside};
+use tcl_entries::serving::serve;
+use tcl_run::entry::Entry;
 use tcl_run::failure::{lost_alias, no_interpreter, too_deep};
 use tcl_run::interruption::Interruption;
 use tcl_run::outside::Outside;
@@ -41,23 +52,132 @@ pub fn call_alias<O: Outside>(
     ensures steady { IsSteady tree.old tree.new }
     ensures left { O.entries_left outside.new ≤ O.entries_left outside.old }
 {
-    let words = target_words(alloc, alias.words(), args)?;
-    match tree.reach(place, alias.up(), alias.down()) {
-        Reach::There(target) => {
-            let ended = serve_call(tree, alloc, outside, target, words);
-            carry(tree, alloc, place, alias.up(), alias.down(), ended)
+    let entry = Entry::CallWords(target_words(alloc, alias.words(), args)?);
+    let up = alias.up();
+    let down = alias.down();
+    match tree.reach(place, up, down) {
+        Reach::There(target) => { call_there(tree, alloc, outside, place, up, down, target, entry) }
+        Reach::Missing => miss_alias(tree, alloc, outside, place, up, down, entry, word),
+        Reach::Outside => call_past_top(tree, alloc, outside, place, up, down, entry),
+    }
+}
+
+/// An alias whose target isn't there.
+#[inline(never)]
+fn miss_alias<O: Outside>(
+    tree: &Tree,
+    alloc: Global,
+    outside: &mut O,
+    place: Place,
+    up: usize,
+    down: &[Text],
+    entry: Entry,
+    word: &Value,
+) -> Result<Value, Interruption>
+    ensures told { IfEnded result (λ r. r ≡ Completed (failing (faults.lost_alias word.now))) }
+    ensures misses { FindsNobody O.goes tree.now outside.old place up down.now (whole_entry entry) outside.new result }
+    ensures left { O.entries_left outside.new ≤ O.entries_left outside.old }
+{
+    let lost = lost_alias(alloc, word.text(alloc)?.as_str());
+    find_nobody(tree, alloc, outside, place, up, down, entry, lost)
+}
+
+/// Tells the outside of a call that finds nobody, so many levels up and these names down from the caller, and ends it so.
+#[inline(never)]
+fn find_nobody<O: Outside>(
+    tree: &Tree,
+    alloc: Global,
+    outside: &mut O,
+    caller: Place,
+    up: usize,
+    down: &[Text],
+    entry: Entry,
+    lost: Interruption,
+) -> Result<Value, Interruption>
+    ensures told { IfEnded result (EndedBy (Err lost)) }
+    ensures misses { FindsNobody O.goes tree.now outside.old caller up down.now (whole_entry entry) outside.new result }
+    ensures left { O.entries_left outside.new ≤ O.entries_left outside.old }
+{
+    let told = Err(lost);
+    outside.misses(alloc, tree, caller, up, down, &entry, &told)?;
+    told
+}
+
+/// Calls the interpreter so many levels up and these names down from the caller, which is the target. The outside is told of it.
+#[cycle(eval)]
+#[inline(never)]
+fn call_there<O: Outside>(
+    tree: &mut Tree,
+    alloc: Global,
+    outside: &mut O,
+    caller: Place,
+    up: usize,
+    down: &[Text],
+    target: Place,
+    entry: Entry,
+) -> Result<Value, Interruption>
+    requires running { IsRunning tree.old caller }
+    requires leads { (p : Path) → Names tree.old caller p → Leads tree.old p up down.now (There target) }
+    ensures runs { CallsThere O.goes tree.old outside.old caller up down.now (whole_entry entry) tree.new outside.new result }
+    ensures steady { IsSteady tree.old tree.new }
+    ensures left { O.entries_left outside.new ≤ O.entries_left outside.old }
+{
+    outside.enters(alloc, tree, caller, up, down, &entry)?;
+    let ended = serve_entry(tree, alloc, outside, target, entry);
+    come_back(tree, alloc, outside, caller, up, down, ended)
+}
+
+/// Calls an interpreter above the tree, or below one that is, and waits for its answer.
+#[cycle(eval)]
+#[inline(never)]
+fn call_past_top<O: Outside>(
+    tree: &mut Tree,
+    alloc: Global,
+    outside: &mut O,
+    caller: Place,
+    up: usize,
+    down: &[Text],
+    entry: Entry,
+) -> Result<Value, Interruption>
+    requires running { IsRunning tree.old caller }
+    requires above { (p : Path) → Names tree.old caller p → rise_to (Some up) p ≡ None }
+    ensures runs { CallsOut O.goes tree.old outside.old caller (Some up) down.now (whole_entry entry) tree.new outside.new result }
+    ensures steady { IsSteady tree.old tree.new }
+    ensures left { O.entries_left outside.new ≤ O.entries_left outside.old }
+{
+    outside.passes_top(alloc, tree, caller, Some(up), down, &entry)?;
+    match wait(tree, alloc, outside, caller, Some(up), &entry)? {
+        Said::Completed(value) => Ok(value),
+        Said::Heard(_) => unreachable!(),
+    }
+}
+
+/// Does what the interpreter that the place names is asked for, by another one or from outside of the tree.
+///
+/// # Errors
+/// Those of each entry; want of memory.
+#[cycle(eval)]
+#[inline(never)]
+pub fn serve_entry<O: Outside>(
+    tree: &mut Tree,
+    alloc: Global,
+    outside: &mut O,
+    place: Place,
+    entry: Entry,
+) -> Result<Value, Interruption>
+    requires { (p : Path) × Names tree.old place p }
+    ensures runs { EvaluatesAt O.goes tree.old outside.old place (λ style. table.serve style (whole_entry entry)) tree.new outside.new result }
+    ensures steady { IsSteady tree.old tree.new }
+    ensures left { O.entries_left outside.new ≤ O.entries_left outside.old }
+{
+    match entry {
+        Entry::Eval(mut script) => serve_eval(tree, alloc, outside, place, &mut script),
+        Entry::CallWords(words) => serve_call(tree, alloc, outside, place, words),
+        Entry::InvokeHidden { is_global, words } => {
+            serve_hidden(tree, alloc, outside, place, is_global, words)
         }
-        Reach::Missing => Err(lost_alias(alloc, word.text(alloc)?.as_str())),
-        Reach::Outside => {
-            let caller = tree.last_names(alloc, place, usize::MAX)?;
-            outside.call_past_top(
-                alloc,
-                caller.as_slice(),
-                alias.up(),
-                alias.down(),
-                words.as_slice(),
-            )
-        }
+        Entry::Own(own) => serve(tree, alloc, outside, place, &own),
+        Entry::AskHost(_) => Ok(Value::empty()),
     }
 }
 
@@ -72,12 +192,12 @@ pub fn serve_call<O: Outside>(
     words: Vec<Value>,
 ) -> Result<Value, Interruption>
     requires { (p : Path) × Names tree.old place p }
-    ensures runs { EvaluatesAt O.goes tree.old outside.old place (λ style. serve style (CallWords words.items)) tree.new outside.new result }
+    ensures runs { EvaluatesAt O.goes tree.old outside.old place (λ style. table.serve style (CallWords words.items)) tree.new outside.new result }
     ensures steady { IsSteady tree.old tree.new }
     ensures left { O.entries_left outside.new ≤ O.entries_left outside.old }
 {
     let words = some_words(words)?;
-    charge(tree, place)?;
+    charge(tree, outside, place)?;
     call_target(tree, alloc, outside, place, words.as_slice())
 }
 
@@ -116,7 +236,7 @@ pub fn serve_eval<O: Outside>(
     script: &mut Value,
 ) -> Result<Value, Interruption>
     requires { (p : Path) × Names tree.old place p }
-    ensures runs { EvaluatesAt O.goes tree.old outside.old place (λ style. serve style (Eval script.old)) tree.new outside.new result }
+    ensures runs { EvaluatesAt O.goes tree.old outside.old place (λ style. table.serve style (Eval script.old)) tree.new outside.new result }
     ensures steady { IsSteady tree.old tree.new }
     ensures left { O.entries_left outside.new ≤ O.entries_left outside.old }
 {
@@ -137,12 +257,12 @@ pub fn serve_hidden<O: Outside>(
     words: Vec<Value>,
 ) -> Result<Value, Interruption>
     requires { (p : Path) × Names tree.old place p }
-    ensures runs { EvaluatesAt O.goes tree.old outside.old place (λ style. serve style (InvokeHidden is_global words.items)) tree.new outside.new result }
+    ensures runs { EvaluatesAt O.goes tree.old outside.old place (λ style. table.serve style (InvokeHidden is_global words.items)) tree.new outside.new result }
     ensures steady { IsSteady tree.old tree.new }
     ensures left { O.entries_left outside.new ≤ O.entries_left outside.old }
 {
     let words = some_words(words)?;
-    charge(tree, place)?;
+    charge(tree, outside, place)?;
     let ended = invoke_at(tree, alloc, outside, place, is_global, words.as_slice());
     settled(alloc, ended)
 }
@@ -197,55 +317,50 @@ fn invoke<O: Outside>(
     ended
 }
 
-/// Asks the interpreter at a path to evaluate a script.
+/// Asks the interpreter at a path, which begins at the one that the place names.
 #[cycle(eval)]
 #[inline(never)]
-pub fn ask_eval<O: Outside>(
+pub fn ask_entry<O: Outside>(
     tree: &mut Tree,
     alloc: Global,
     outside: &mut O,
     place: Place,
     path: &[Text],
-    script: &mut Value,
+    entry: Entry,
 ) -> Result<Value, Interruption>
     requires { IsRunning tree.old place }
-    ensures asks { Asks O.goes tree.old outside.old place path.now (Eval script.old) tree.new outside.new result }
+    ensures asks { Asks O.goes tree.old outside.old place path.now (whole_entry entry) tree.new outside.new result }
     ensures steady { IsSteady tree.old tree.new }
     ensures left { O.entries_left outside.new ≤ O.entries_left outside.old }
 {
-    match tree.reach(place, 0, path) {
-        Reach::There(target) => {
-            let ended = serve_eval(tree, alloc, outside, target, script);
-            carry(tree, alloc, place, 0, path, ended)
-        }
-        Reach::Missing => Err(no_interpreter(alloc, "")),
-        Reach::Outside => unreachable!(),
+    if path.is_empty() {
+        return serve_entry(tree, alloc, outside, place, entry);
     }
+    ask_below(tree, alloc, outside, place, path, entry)
 }
 
-/// Asks the interpreter at a path to call a hidden command.
+/// Asks an interpreter below the one that the place names. The outside is told of it.
 #[cycle(eval)]
 #[inline(never)]
-pub fn ask_hidden<O: Outside>(
+fn ask_below<O: Outside>(
     tree: &mut Tree,
     alloc: Global,
     outside: &mut O,
     place: Place,
     path: &[Text],
-    is_global: bool,
-    words: Vec<Value>,
+    entry: Entry,
 ) -> Result<Value, Interruption>
     requires { IsRunning tree.old place }
-    ensures asks { Asks O.goes tree.old outside.old place path.now (InvokeHidden is_global words.items) tree.new outside.new result }
+    ensures asks { AsksBelow O.goes tree.old outside.old place path.now (whole_entry entry) tree.new outside.new result }
     ensures steady { IsSteady tree.old tree.new }
     ensures left { O.entries_left outside.new ≤ O.entries_left outside.old }
 {
     match tree.reach(place, 0, path) {
-        Reach::There(target) => {
-            let ended = serve_hidden(tree, alloc, outside, target, is_global, words);
-            carry(tree, alloc, place, 0, path, ended)
+        Reach::There(target) => { call_there(tree, alloc, outside, place, 0, path, target, entry) }
+        Reach::Missing => {
+            let lost = no_interpreter(alloc, "");
+            find_nobody(tree, alloc, outside, place, 0, path, entry, lost)
         }
-        Reach::Missing => Err(no_interpreter(alloc, "")),
         Reach::Outside => unreachable!(),
     }
 }

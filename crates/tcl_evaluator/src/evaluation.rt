@@ -143,7 +143,7 @@ fn eval_command<O: Outside>(
     if words.is_empty() {
         return Ok(Value::empty());
     }
-    charge(tree, place)?;
+    charge(tree, outside, place)?;
     call(tree, alloc, outside, place, words.as_slice())
 }
 

@@ -162,7 +162,7 @@ fn turn<O: Outside>(
     if !condition(tree, alloc, outside, place, evaluation, test)? {
         return Ok(false);
     }
-    charge(tree, place)?;
+    charge(tree, outside, place)?;
     goes_on(eval_value(tree, alloc, outside, place, body))
 }
 

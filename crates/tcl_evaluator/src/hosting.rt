@@ -4,12 +4,18 @@ ghost use Rattle.std.specs.Str.{bytes_eq};
 ghost use Rattle.tcl_core.specs.Endings.Reply.{Completed};
 ghost use Rattle.tcl_language.specs.Hosting as hosting;
 ghost use Rattle.tcl_run.specs.Ends.{Interrupts, failing};
-ghost use Rattle.tcl_run.specs.Runs.{Evaluates, IsRunning};
+ghost use Rattle.tcl_run.specs.Outsides.{number_of};
+ghost use Rattle.tcl_run.specs.Runs.{Evaluates, IsRunning, IsSteady};
+ghost use Rattle.tcl_evaluator.specs.Waiting.{IsWritten};
 
+use crate::waiting::{Said, wait};
 use std::alloc::{AllocError, Global};
+use tcl_host::reply::{HostReply, Refusal};
+use tcl_host::request::Request;
+use tcl_run::entry::Entry;
 use tcl_run::failure::{failure, too_long, wrong_args};
 use tcl_run::interruption::Interruption;
-use tcl_run::outside::{Outside, Written};
+use tcl_run::outside::Outside;
 use tcl_text::text::Text;
 use tcl_tree::tree::{Place, Tree};
 use tcl_value::value::{Value, ValueError};
@@ -18,15 +24,18 @@ use tcl_value::value::{Value, ValueError};
 ///
 /// # Errors
 /// 241; 122 of the line; 261 and 262 of the host; want of memory.
+#[cycle(eval)]
+#[inline(never)]
 pub fn puts<O: Outside>(
-    tree: &Tree,
+    tree: &mut Tree,
     alloc: Global,
     outside: &mut O,
     place: Place,
     args: &[Value],
 ) -> Result<Value, Interruption>
-    requires { IsRunning tree.now place }
-    ensures runs { Evaluates O.goes tree.now outside.old place (λ style. hosting.puts args.now) tree.now outside.new result }
+    requires { IsRunning tree.old place }
+    ensures runs { Evaluates O.goes tree.old outside.old place (λ style. hosting.puts args.now) tree.new outside.new result }
+    ensures steady { IsSteady tree.old tree.new }
     ensures left { O.entries_left outside.new ≤ O.entries_left outside.old }
 {
     match args {
@@ -62,16 +71,19 @@ fn stdout(alloc: Global) -> Result<Text, AllocError>
 }
 
 /// Writes a text with a newline behind it.
+#[cycle(eval)]
+#[inline(never)]
 fn put_line<O: Outside>(
-    tree: &Tree,
+    tree: &mut Tree,
     alloc: Global,
     outside: &mut O,
     place: Place,
     channel: &Text,
     text: &Value,
 ) -> Result<Value, Interruption>
-    requires { IsRunning tree.now place }
-    ensures runs { Evaluates O.goes tree.now outside.old place (λ style. hosting.puts_line channel.now text.now) tree.now outside.new result }
+    requires { IsRunning tree.old place }
+    ensures runs { Evaluates O.goes tree.old outside.old place (λ style. hosting.puts_line channel.now text.now) tree.new outside.new result }
+    ensures steady { IsSteady tree.old tree.new }
     ensures left { O.entries_left outside.new ≤ O.entries_left outside.old }
 {
     let mut line = text.clone()?;
@@ -83,43 +95,59 @@ fn put_line<O: Outside>(
 }
 
 /// Writes a text.
+#[cycle(eval)]
+#[inline(never)]
 fn write<O: Outside>(
-    tree: &Tree,
+    tree: &mut Tree,
     alloc: Global,
     outside: &mut O,
     place: Place,
     channel: &Text,
     text: &Value,
 ) -> Result<Value, Interruption>
-    requires { IsRunning tree.now place }
-    ensures runs { Evaluates O.goes tree.now outside.old place (λ style. hosting.writes channel.now text.now) tree.now outside.new result }
+    requires { IsRunning tree.old place }
+    ensures runs { Evaluates O.goes tree.old outside.old place (λ style. hosting.writes channel.now text.now) tree.new outside.new result }
+    ensures steady { IsSteady tree.old tree.new }
     ensures left { O.entries_left outside.new ≤ O.entries_left outside.old }
 {
-    let caller = tree.last_names(alloc, place, usize::MAX)?;
-    match outside.ask_to_write(alloc, caller.as_slice(), channel, &text.text(alloc)?)? {
-        Written::Accepted => Ok(Value::empty()),
-        Written::Refused(number) => Err(channel_failure(alloc, number, channel.as_str())),
+    let entry = Entry::AskHost(Request::Write(channel.clone()?, text.text(alloc)?));
+    outside.passes_top(alloc, tree, place, None, &[], &entry)?;
+    match wait(tree, alloc, outside, place, None, &entry)? {
+        Said::Heard(reply) => written(alloc, channel.as_str(), &reply),
+        Said::Completed(_) => unreachable!(),
     }
 }
 
-/// The error that a refusal of the host is, by its number.
-fn channel_failure(alloc: Global, number: u64, channel: &str) -> Interruption
-    ensures { Interrupts result (λ e. e ≡ Completed (failing (hosting.channel_message number channel.now))) }
+/// What the host's reply to a text that was to be written is to the script.
+///
+/// # Errors
+/// 261 and 262 of the host; want of memory.
+fn written(alloc: Global, channel: &str, reply: &HostReply) -> Result<Value, Interruption>
+    ensures { IsWritten channel.now reply.now result }
 {
-    match channel_message(alloc, number, channel) {
+    match reply {
+        HostReply::Refused(why) => Err(channel_failure(alloc, *why, channel)),
+        _ => Ok(Value::empty()),
+    }
+}
+
+/// The error that a refusal of the host is.
+fn channel_failure(alloc: Global, why: Refusal, channel: &str) -> Interruption
+    ensures { Interrupts result (λ e. e ≡ Completed (failing (hosting.channel_message (number_of why) channel.now))) }
+{
+    match channel_message(alloc, why, channel) {
         Ok(message) => failure(alloc, message),
         Err(_) => Interruption::Memory,
     }
 }
 
 /// What a refusal of the host says of a channel.
-fn channel_message(alloc: Global, number: u64, channel: &str) -> Result<Text, AllocError>
-    ensures { IfOk result (λ text. text ≡ hosting.channel_message number channel.now) }
+fn channel_message(alloc: Global, why: Refusal, channel: &str) -> Result<Text, AllocError>
+    ensures { IfOk result (λ text. text ≡ hosting.channel_message (number_of why) channel.now) }
 {
-    let front = if number == 262 {
-        "device fault on \""
-    } else {
-        "can not find channel named \""
+    let front = match why {
+        Refusal::DeviceFault => "device fault on \"",
+        Refusal::NoChannel | Refusal::NotOpened => "can not find channel named \"",
     };
     let mut text = String::from_str(alloc, front)?;
     text.push_str(channel)?;

@@ -4,7 +4,7 @@ ghost use Rattle.tcl_language.specs.Interpreters as interpreters;
 ghost use Rattle.tcl_run.specs.Runs.{Evaluates, IsRunning, IsSteady};
 ghost use Rattle.tcl_entries.specs.Subcommands.{program_of};
 
-use crate::crossing::{ask_eval, ask_hidden};
+use crate::crossing::ask_entry;
 use std::alloc::Global;
 use tcl_calls::scripts::script_of;
 use tcl_child_commands::hidden::{HiddenCall, hidden_call};
@@ -12,6 +12,7 @@ use tcl_entries::asking::path_of;
 use tcl_entries::looking::permit;
 use tcl_entries::subcommand::Subcommand;
 use tcl_interp_commands::dispatch::{interp_own, subcommand_named};
+use tcl_run::entry::Entry;
 use tcl_run::failure::{unknown_subcommand, wrong_args};
 use tcl_run::interruption::Interruption;
 use tcl_run::outside::Outside;
@@ -97,14 +98,14 @@ fn interp_eval<O: Outside>(
         return Err(wrong_args(alloc, EVAL));
     }
     let found = path_of(tree, alloc, outside, place, path)?;
-    let mut script = script_of(alloc, words)?;
-    ask_eval(
+    let script = script_of(alloc, words)?;
+    ask_entry(
         tree,
         alloc,
         outside,
         place,
         found.path.as_slice(),
-        &mut script,
+        Entry::Eval(script),
     )
 }
 
@@ -136,13 +137,12 @@ fn interp_invoke_hidden<O: Outside>(
     let HiddenCall { is_global, words } = call;
     permit(tree, alloc, place)?;
     let found = path_of(tree, alloc, outside, place, path)?;
-    ask_hidden(
+    ask_entry(
         tree,
         alloc,
         outside,
         place,
         found.path.as_slice(),
-        is_global,
-        words,
+        Entry::InvokeHidden { is_global, words },
     )
 }

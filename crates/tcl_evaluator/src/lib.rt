@@ -11,3 +11,4 @@ mod hosting;
 mod interpreters;
 mod loops;
 pub mod running;
+pub mod waiting;

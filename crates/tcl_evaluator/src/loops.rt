@@ -43,7 +43,7 @@ pub fn foreach<O: Outside>(
         if is_over(walks.as_slice(), turns) {
             return Ok(Value::empty());
         }
-        charge(tree, place)?;
+        charge(tree, outside, place)?;
         set_walks(tree, alloc, place, walks.as_slice(), turns)?;
         if !goes_on(eval_value(tree, alloc, outside, place, &mut body))? {
             return Ok(Value::empty());

@@ -4,8 +4,12 @@ ghost use Rattle.tcl_core.specs.Paths.{Path};
 ghost use Rattle.tcl_language.specs.Instructions.{fits};
 ghost use Rattle.tcl_flow.specs.Stopping.{reply_of};
 ghost use Rattle.tcl_run.specs.Outsides.{hosted};
-ghost use Rattle.tcl_tree.specs.TreeOf.{marks_of, Names};
-ghost use Rattle.tcl_evaluator.specs.Running.{IsRun, Tells, ending_by, ending_of, unfit, root_count, root_limit};
+ghost use Rattle.tcl_core.specs.Threads.{event};
+ghost use Rattle.tcl_core.specs.Trees as core;
+ghost use Rattle.tcl_run.specs.Ends.{IfEnded};
+ghost use Rattle.tcl_tree.specs.TreeOf.{marks_of, tree_of, Names};
+ghost use Rattle.tcl_core.specs.Lives.{end_at};
+ghost use Rattle.tcl_evaluator.specs.Running.{IsOpenRun, IsRun, IsWhole, Tells, ending_of, unfit, root_count, root_limit};
 ghost use Rattle.tcl_evaluator.specs.declared.running.Refused.TheVariants.{Memory};
 
 use crate::crossing::serve_eval;
@@ -15,6 +19,7 @@ use tcl_flow::completion::Completion;
 use tcl_flow::stop::{Stop, StopKind};
 use tcl_host::host::Host;
 use tcl_run::interruption::Interruption;
+use tcl_run::outside::Outside;
 use tcl_text::text::Text;
 use tcl_tree::node::MOST_STEPS;
 use tcl_tree::tree::{Place, Tree};
@@ -74,14 +79,46 @@ pub fn eval<H: Host>(
     ensures begun { IfNone (unfit tree.old path.now script.now limit) (IfErr result (λ e. e ≡ Memory)) }
     ensures broken { IsErrOf result Memory → (marks_of tree.new).broken ≡ true }
     ensures runs { IfOk result (λ end. IsRun (hosted H.step) tree.old host.old path.now script.now (root_count tree.old + limit) tree.new host.new end) }
+    ensures whole { IfOk result (λ end. IsWhole H.step tree.old host.old path.now script.now limit tree.new host.new end) }
+{
+    open_run(tree, alloc, host, path, script, limit)
+}
+
+/// The same over any outside, which was told that the script comes in, and is told how the entry ends.
+///
+/// # Errors
+/// Those of `eval`.
+pub fn open_run<O: Outside>(
+    tree: &mut Tree,
+    alloc: Global,
+    outside: &mut O,
+    path: &[Text],
+    script: &str,
+    limit: u64,
+) -> Result<End, Refused>
+    ensures refused { IfSome (unfit tree.old path.now script.now limit) (λ e. result ≡ Err e) }
+    ensures unchanged { IfSome (unfit tree.old path.now script.now limit) (λ _. (tree.new ≡ tree.old) × (outside.new ≡ outside.old)) }
+    ensures begun { IfNone (unfit tree.old path.now script.now limit) (IfErr result (λ e. e ≡ Memory)) }
+    ensures broken { IsErrOf result Memory → (marks_of tree.new).broken ≡ true }
+    ensures runs { IfOk result (λ end. IsOpenRun O.goes tree.old outside.old path.now script.now (root_count tree.old + limit) tree.new outside.new end) }
 {
     let start = start_of(tree, path, script, limit)?;
-    match run(tree, alloc, host, start, path.len(), script) {
+    match run(tree, alloc, outside, start, path, script) {
         Ok(end) => Ok(end),
         Err(_) => {
             tree.mark_broken();
             Err(Refused::Memory)
         }
+    }
+}
+
+/// Why a run would be refused, want of memory aside. This takes no memory.
+pub fn refusal(tree: &Tree, path: &[Text], script: &str, limit: u64) -> Option<Refused>
+    ensures { result ≡ unfit tree.now path.now script.now limit }
+{
+    match start_of(tree, path, script, limit) {
+        Ok(_) => None,
+        Err(refused) => Some(refused),
     }
 }
 
@@ -133,47 +170,63 @@ fn most_of(count: u64, limit: u64) -> Option<u64>
     Some(most)
 }
 
-/// Evaluates the script, while the root has the limit of the run.
-fn run<H: Host>(
+/// Evaluates the script, while the root has the limit of the run, and tells the outside how that ended.
+fn run<O: Outside>(
     tree: &mut Tree,
     alloc: Global,
-    host: &mut H,
+    outside: &mut O,
     start: Start,
-    depth: usize,
+    path: &[Text],
     script: &str,
 ) -> Result<End, AllocError>
     requires short { fits script.now ≡ true }
-    requires place { (p : Path) × Names tree.old start.place p }
+    requires place { Names tree.old start.place path.now }
     requires own { start.own ≡ root_limit tree.old }
-    ensures { IfOk result (λ end. (p : Path) → Names tree.old start.place p → length p ≡ depth → IsRun (hosted H.step) tree.old host.old p script.now start.most tree.new host.new end) }
+    ensures { IfOk result (λ end. IsOpenRun O.goes tree.old outside.old path.now script.now start.most tree.new outside.new end) }
 {
     let mut script = Value::from_short_text(Text::new(alloc, script)?);
     tree.set_run_limit(Some(start.most));
-    let ended = serve_eval(tree, alloc, host, start.place, &mut script);
+    let ended = serve_eval(tree, alloc, outside, start.place, &mut script);
+    let told = leave(tree, alloc, outside, path, ended);
     tree.set_run_limit(start.own);
-    told(alloc, depth, ended)
+    told
 }
 
-/// How a run ended whose entry, so many levels below the root, ended so.
-fn told(alloc: Global, depth: usize, ended: Result<Value, Interruption>) -> Result<End, AllocError>
-    ensures { Tells depth ended result }
+/// Tells the outside how the entry into the interpreter at the path ended, and whoever began the run.
+fn leave<O: Outside>(
+    tree: &Tree,
+    alloc: Global,
+    outside: &mut O,
+    path: &[Text],
+    ended: Result<Value, Interruption>,
+) -> Result<End, AllocError>
+    ensures tells { Tells path.now ended result }
+    ensures told { IfOk result (λ _. IfEnded ended (λ r. O.goes (tree_of tree.now) outside.old None (event path.now (core.What.Done None r)) outside.new)) }
+{
+    outside.entry_leaves(alloc, tree, path, &ended)?;
+    told(alloc, path, ended)
+}
+
+/// How a run ended whose entry into the interpreter at the path ended so.
+fn told(alloc: Global, path: &[Text], ended: Result<Value, Interruption>) -> Result<End, AllocError>
+    ensures { Tells path.now ended result }
 {
     match ended {
         Ok(text) => Ok(End::Done(ordinary(alloc, text)?)),
         Err(Interruption::Completed(completion)) => Ok(End::Done(completion)),
-        Err(Interruption::Stopped(stop)) => stopped(alloc, depth, stop),
+        Err(Interruption::Stopped(stop)) => stopped(alloc, path, stop),
         Err(Interruption::Exited(status)) => Ok(End::Exit(status)),
         Err(Interruption::Memory) => Err(AllocError),
         Err(Interruption::Cut(_)) => Err(AllocError),
     }
 }
 
-/// What a stop is to whoever began the run: where it names the root the run's end, and else an error.
-fn stopped(alloc: Global, depth: usize, stop: Stop) -> Result<End, AllocError>
-    ensures { IfOk result (λ end. ending_by depth (reply_of stop) ≡ Some (ending_of end)) }
+/// What a stop is to whoever began the run: an error where it names an interpreter below the root, and else the run's end.
+fn stopped(alloc: Global, path: &[Text], stop: Stop) -> Result<End, AllocError>
+    ensures { IfOk result (λ end. end_at path.now (reply_of stop) ≡ Some (ending_of end)) }
 {
-    if stop.levels_up == depth {
-        return Ok(End::Stopped(stop.kind));
+    if stop.levels_up < path.len() {
+        return Ok(End::Done(stop.kind.error(alloc)?));
     }
-    Ok(End::Done(stop.kind.error(alloc)?))
+    Ok(End::Stopped(stop.kind))
 }

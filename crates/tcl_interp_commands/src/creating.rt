@@ -14,7 +14,7 @@ ghost use Rattle.tcl_value.specs.Limits.{IsWithin};
 ghost use Rattle.tcl_interp_commands.specs.Failing.{FailsSo};
 
 use std::alloc::{AllocError, Global};
-use tcl_entries::entry::OwnEntry;
+use tcl_run::entry::OwnEntry;
 use tcl_entries::failure::bad_option;
 use tcl_entries::looking::{names_of, stands};
 use tcl_entries::questions::node;
@@ -47,7 +47,7 @@ fn create_below<O: Outside>(
     let told = word.clone()?;
     let name = Some(name.clone()?);
     let entry = OwnEntry::Create { name, safe };
-    ask_telling(tree, alloc, outside, place, above, &entry, told)
+    ask_telling(tree, alloc, outside, place, above, entry, told)
 }
 
 /// Makes the interpreter at a path, whose last name is the child's.
@@ -116,7 +116,7 @@ fn create_unnamed<O: Outside>(
     let told = Value::from_short_text(name.clone()?);
     let name = Some(name);
     let entry = OwnEntry::Create { name, safe };
-    ask_telling(tree, alloc, outside, place, &[], &entry, told)
+    ask_telling(tree, alloc, outside, place, &[], entry, told)
 }
 
 /// Makes the interpreter that the words behind the options name.

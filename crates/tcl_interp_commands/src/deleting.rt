@@ -8,7 +8,7 @@ ghost use Rattle.tcl_interp_commands.specs.Deleting.{Deletes};
 
 use std::alloc::Global;
 use tcl_entries::asking::{ask, path_at};
-use tcl_entries::entry::OwnEntry;
+use tcl_run::entry::OwnEntry;
 use tcl_entries::failure::in_use;
 use tcl_flow::completion::OK;
 use tcl_run::interruption::Interruption;
@@ -54,7 +54,7 @@ fn delete_below<O: Outside>(
     ensures left { O.entries_left outside.new ≤ O.entries_left outside.old }
 {
     let entry = OwnEntry::Delete(name.clone()?);
-    let ended = ask(tree, alloc, outside, place, above, &entry);
+    let ended = ask(tree, alloc, outside, place, above, entry);
     deleted(alloc, text, ended)
 }
 

@@ -6,7 +6,7 @@ ghost use Rattle.tcl_language.specs.Interpreters as interpreters;
 ghost use Rattle.tcl_run.specs.Runs.{Evaluates, IsRunning, IsSteady};
 
 use std::alloc::Global;
-use tcl_entries::entry::{OwnEntry, Question};
+use tcl_run::entry::{OwnEntry, Question};
 use tcl_entries::looking::names_of;
 use tcl_entries::requests::{ask_about, ask_at};
 use tcl_run::interruption::Interruption;
@@ -32,7 +32,7 @@ fn exists_at<O: Outside>(
     match tree.reach(place, 0, path) {
         Reach::There(_) => {
             let entry = OwnEntry::Ask(Question::Exists);
-            ask_at(tree, alloc, outside, place, path, &entry)
+            ask_at(tree, alloc, outside, place, path, entry)
         }
         Reach::Missing => Ok(Value::from_int(0)),
         Reach::Outside => unreachable!(),

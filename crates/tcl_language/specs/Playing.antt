@@ -12,7 +12,7 @@ use Rattle.tcl_core.specs.Threads.{Threads}
 use Rattle.tcl_core.specs.Trees.{Tree, Event, effect, at}
 use Rattle.tcl_core.specs.Trees.Move.{Come}
 use Rattle.tcl_core.specs.Trees.Grants.{Budget}
-use Rattle.tcl_core.specs.Programs.{Deed, Prog, Table, spot, decide, opens, closes}
+use Rattle.tcl_core.specs.Programs.{Deed, Wait, Prog, Table, spot, decide, opens, closes}
 use Rattle.tcl_core.specs.Programs.Next.{On, TooDeep, Off}
 use Rattle.tcl_core.specs.Programs.Prog.{done, exit, act, go, inside, call, wait}
 use Rattle.tcl_core.specs.Runs.{carried, reached, entering, fits}
@@ -81,8 +81,8 @@ ends None = None
 ends (Some x) = Some x.1
 
 -- an outside of which nothing is said
-abbrev pub Any : {O : Type 0} → Unit {0} → Event O → Unit {0} → Type 0
-Any o ev u = Unit {0}
+abbrev pub Any : {O : Type 0} → Tree O → Unit {0} → Wait → Event O → Unit {0} → Type 0
+Any T o s ev u = Unit {0}
 
 -- What is played is a run.
 abbrev pub PlayIsRun : Type 0 → Type 0 → Type 0

@@ -4,6 +4,8 @@
 #[cfg(test)]
 mod command_rows;
 #[cfg(test)]
+mod in_place;
+#[cfg(test)]
 mod list_search;
 #[cfg(test)]
 mod lists;

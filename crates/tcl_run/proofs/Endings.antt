@@ -39,6 +39,15 @@ Interrupts-more (interruption.Stopped s) P Q f p = f _ p
 Interrupts-more (interruption.Exited n) P Q f p = f _ p
 Interrupts-more (interruption.Cut c) P Q f p = f _ p
 
+-- what holds of every end holds of the one that there is
+pub IfEnded-all : (r : Result (List ℕ) Interruption) (P : Reply → Type 0) → ((e : Reply) → P e) → IfEnded r P
+IfEnded-all (Ok text) P f = f _
+IfEnded-all (Err interruption.Memory) P f = tt
+IfEnded-all (Err (interruption.Completed c)) P f = f _
+IfEnded-all (Err (interruption.Stopped s)) P f = f _
+IfEnded-all (Err (interruption.Exited n)) P f = f _
+IfEnded-all (Err (interruption.Cut c)) P f = f _
+
 pub IfEnded-more : (r : Result (List ℕ) Interruption) (P Q : Reply → Type 0) → ((e : Reply) → P e → Q e) → IfEnded r P → IfEnded r Q
 IfEnded-more (Ok text) P Q f p = f _ p
 IfEnded-more (Err i) P Q f p = Interrupts-more i P Q f p
@@ -73,6 +82,10 @@ Interrupts-both (interruption.Completed c) P Q R f p q = f _ p q
 Interrupts-both (interruption.Stopped s) P Q R f p q = f _ p q
 Interrupts-both (interruption.Exited n) P Q R f p q = f _ p q
 Interrupts-both (interruption.Cut c) P Q R f p q = f _ p q
+
+pub IfEnded-both : (r : Result (List ℕ) Interruption) (P Q R : Reply → Type 0) → ((e : Reply) → P e → Q e → R e) → IfEnded r P → IfEnded r Q → IfEnded r R
+IfEnded-both (Ok text) P Q R f p q = f _ p q
+IfEnded-both (Err i) P Q R f p q = Interrupts-both i P Q R f p q
 
 -- what holds of an interruption wherever the place is
 pub Interrupts-at : (i : Interruption) (t : Table) (place : TablePlace) (P : Node Own → Reply → Type 0) →

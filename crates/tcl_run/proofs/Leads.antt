@@ -1,34 +1,31 @@
 -- One law for each thing that code does on its way: what may come from there may come from here.
-use Rattle.std.proofs.Common.{◌≡◌, ℕ, zero, suc, true, false, List, ◌++◌, Option, Some, None, refl, sym, ◌∙◌, ap, subst, append-nil, length}
+use Rattle.std.proofs.Common.{◌≡◌, ℕ, zero, suc, true, false, List, [], ◌∷◌, ◌++◌, Option, Some, None, refl, sym, ◌∙◌, ap, subst, append-nil, length}
 use Rattle.std.specs.Prelude.{Result, Ok, Err}
 use Rattle.tcl_core.specs.Paths.{Path, Place, rise_to}
 use Rattle.tcl_core.specs.Endings.{Completion, Reply, IsQuit}
 use Rattle.tcl_core.specs.Endings.Meter.{Count, Depth}
+use Rattle.tcl_core.specs.Endings.Cause.{Above}
 use Rattle.tcl_core.specs.Endings.Reply.{Completed, Stop, Exit, Cut}
 use Rattle.tcl_core.specs.Entries.{Entry}
-use Rattle.tcl_core.specs.Entries.Answer.{Replied}
 use Rattle.tcl_core.specs.Trees.{Tree, Node, What, Event, effect, at, allowing, granted}
 use Rattle.tcl_core.specs.Trees.Grants.{Listed}
-use Rattle.tcl_core.specs.Trees.What.{Seen, Charged, Nested, Unnested, Changed, Refused, Out, In, Done, Back}
-use Rattle.tcl_core.specs.Programs.{Table, metered, blocked, is_spent, is_deep, changing, brought_back}
-use Rattle.tcl_core.specs.Programs.Act.{Look, Charge}
+use Rattle.tcl_core.specs.Trees.What.{Seen, Charged, Nested, Unnested, Changed, Dropped, Refused}
+use Rattle.tcl_core.specs.Programs.{Table, Wait, metered, blocked, is_deep, changing, dropping, dropping_at, brought_back}
+use Rattle.tcl_core.specs.Programs.Act.{Look, Charge, Drop}
 use Rattle.tcl_core.specs.Programs.Wrap.{Deeper, Framed}
 use Rattle.tcl_core.specs.Programs.Next.{On, Off, TooDeep}
 use Rattle.tcl_core.specs.Programs.Prog.{done, act, go, inside, call}
-use Rattle.tcl_core.specs.Runs.{carried, reached, entering, where_stands}
-use Rattle.tcl_core.specs.Threads.{Crossings, passing, event, completed, acted, refused, went, passed, wrapped, wrapped_passed, too_deep, shut, called, called_passed, unreached}
-use Rattle.tcl_core.proofs.PathLaws.{rise_back}
+use Rattle.tcl_core.specs.Runs.{carried, entering, where_stands}
+use Rattle.tcl_core.specs.Threads.{Crossings, event, completed, acted, refused, went, passed, wrapped, wrapped_passed, too_deep, shut, called, called_passed, unreached}
 use Rattle.tcl_tree.specs.Own.{Own}
 use Rattle.tcl_language.specs.Instructions.{Instr, Program, look, change, at_node, or_fails, grown, either, fits, too_long as too_long_error}
 use Rattle.tcl_language.specs.Interpreters.{finished}
 use Rattle.tcl_run.specs.Ends.{IsFailure, too_deep_at}
-use Rattle.tcl_run.specs.Runs.{Comes}
+use Rattle.tcl_run.specs.Outsides.{Going, Enters, Returns, Misses}
+use Rattle.tcl_run.specs.Runs.{Comes, Counts, RefusesStep}
+use Rattle.tcl_run.specs.Runs.RefusesStep.{by_limit, from_outside}
 
--- within a tree the outside is told nothing
-within : {S : Type 0} (goes : S → Event Own → S → Type 0) (y : S) (w : Event Own) {h : Option Place} {b : Place} → h ≡ Some b → passing h goes y w y
-within goes y w {h} {b} g = subst (λ (x : Option Place). passing x goes y w y) (sym g) refl
-
-module _ {S : Type 0} {goes : S → Event Own → S → Type 0} {language : Table Own Instr} where
+module _ {S : Type 0} {goes : Going S} {language : Table Own Instr} where
   -- ## Along equations
 
   pub at_prog : {T V : Tree Own} {o z : S} {p : Place} {x y : Program} {r : Reply} → x ≡ y → Comes goes language T o p y V z r → Comes goes language T o p x V z r
@@ -48,23 +45,30 @@ module _ {S : Type 0} {goes : S → Event Own → S → Type 0} {language : Tabl
   pub looks : {T V : Tree Own} {o z : S} {p : Place} {n : Node Own} {k : Node Own → Program} {r : Reply} → T p ≡ Some n →
       Comes goes language T o p (k n) V z r → Comes goes language T o p (look k) V z r
   looks {T} {p = p} {n = n} {k = k} there t =
-      acted (None, Seen, On) (λ gs. refl) tt refl (at_prog (ap (λ (q : Place). at_node k (T q)) (append-nil p) ∙ ap (at_node k) there) t)
+      acted (None, Seen, On) (λ gs. refl) tt (record { told = refl }) (at_prog (ap (λ (q : Place). at_node k (T q)) (append-nil p) ∙ ap (at_node k) there) t)
 
   pub sees_below : {T V : Tree Own} {o z : S} {p : Place} {k : Tree Own → Program} {r : Reply} →
       Comes goes language T o p (k (at T p)) V z r → Comes goes language T o p (act Look k) V z r
-  sees_below t = acted (None, Seen, On) (λ gs. refl) tt refl t
+  sees_below t = acted (None, Seen, On) (λ gs. refl) tt (record { told = refl }) t
 
   pub changes : {T U V : Tree Own} {o z : S} {p : Place} {n : Node Own} {own : Own} {k : Program} {r : Reply} → T p ≡ Some n → U ≡ effect p (Changed own) T →
       Comes goes language U o p k V z r → Comes goes language T o p (change own k) V z r
-  changes {own = own} there u t = acted (None, Changed own, On) (λ gs. ap (λ m. Some (changing own m)) there) tt refl (at_start u t)
+  changes {own = own} there u t = acted (None, Changed own, On) (λ gs. ap (λ m. Some (changing own m)) there) tt (record { told = refl }) (at_start u t)
 
-  pub charges : {T U V : Tree Own} {o z : S} {p : Place} {k : Tree Own → Program} {r : Reply} → blocked is_spent T p ≡ None → U ≡ effect p Charged T →
-      Comes goes language U o p (k (at T p)) V z r → Comes goes language T o p (act Charge k) V z r
-  charges e u t = acted (None, Charged, On) (λ gs. ap (λ b. metered Count Charged b (allowing Count (Listed gs))) e) tt refl (at_start u t)
+  pub charges : {T U V : Tree Own} {o u z : S} {p : Place} {k : Tree Own → Program} {r : Reply} → Counts goes T o p U u →
+      Comes goes language U u p (k (at T p)) V z r → Comes goes language T o p (act Charge k) V z r
+  charges s t = acted (None, Charged, On) (λ gs. ap (λ b. metered Count Charged b (allowing Count (Listed gs))) s.free) tt (record { told = s.told }) (at_start s.counted t)
 
-  pub charge_stops : {T : Tree Own} {o : S} {p : Place} {k : Tree Own → Program} (n : ℕ) → blocked is_spent T p ≡ Some n →
-      Comes goes language T o p (act Charge k) T o (Stop n Count)
-  charge_stops {p = p} n e = refused (None, Refused Count (Some n), Off (Stop n Count)) (λ gs. ap (λ b. metered Count Charged b (granted {O = Own} p (Refused Count (Some n)) (Listed gs))) e) refl refl
+  pub charge_refused : {T U : Tree Own} {o z : S} {p : Place} {k : Tree Own → Program} {r : Reply} → RefusesStep goes T o p U z r → Comes goes language T o p (act Charge k) U z r
+  charge_refused {p = p} (by_limit n full same) =
+      at_finish same (refused (None, Refused Count (Some n), Off (Stop n Count)) (λ gs. ap (λ b. metered Count Charged b (granted {O = Own} p (Refused Count (Some n)) (Listed gs))) full) refl (record { told = refl }))
+  charge_refused {p = p} (from_outside free same told) =
+      at_finish same (refused (None, Refused Count None, Off (Cut Above)) (λ gs. ap (λ b. metered Count Charged b (granted {O = Own} p (Refused Count None) (Listed gs))) free) refl (record { told = told }))
+
+  -- a child is dropped in which no evaluation is in progress
+  pub drops : {T U V : Tree Own} {o u z : S} {p : Place} {name : List ℕ} {n : Node Own} {k : Tree Own → Program} {r : Reply} → T (p ++ name ∷ []) ≡ Some n → n.depth ≡ 0 →
+      U ≡ effect (p ++ name ∷ []) Dropped T → goes T o None (event (p ++ name ∷ []) Dropped) u → Comes goes language U u p (k (at T p)) V z r → Comes goes language T o p (act (Drop name) k) V z r
+  drops {name = name} there idle e g t = acted (Some name, Dropped, On) (λ gs. ap (λ m. Some (dropping name m)) there ∙ ap (λ d. Some (dropping_at {O = Own} name d)) idle) tt (record { told = g }) (at_start e t)
 
   -- ## Inner evaluations
 
@@ -81,39 +85,39 @@ module _ {S : Type 0} {goes : S → Event Own → S → Type 0} {language : Tabl
 
   pub nests_done : {T U V W : Tree Own} {o z : S} {p : Place} {i : Instr} {r : Reply} → blocked is_deep T p ≡ None → U ≡ effect p Nested T → W ≡ effect p Unnested V →
       Comes goes language U o p (language.program i) V z r → Comes goes language T o p (inside Deeper i done) W z r
-  nests_done {r = Completed c} e u v t = at_finish v (wrapped (None, Nested, On) (λ gs. ap (λ b. metered Depth Nested b (allowing Depth (Listed gs))) e) refl refl (at_start u t) refl completed)
-  nests_done {r = Stop n m} e u v t = at_finish v (wrapped_passed (None, Nested, On) tt (λ gs. ap (λ b. metered Depth Nested b (allowing Depth (Listed gs))) e) refl refl (at_start u t) refl)
-  nests_done {r = Exit n} e u v t = at_finish v (wrapped_passed (None, Nested, On) tt (λ gs. ap (λ b. metered Depth Nested b (allowing Depth (Listed gs))) e) refl refl (at_start u t) refl)
-  nests_done {r = Cut c} e u v t = at_finish v (wrapped_passed (None, Nested, On) tt (λ gs. ap (λ b. metered Depth Nested b (allowing Depth (Listed gs))) e) refl refl (at_start u t) refl)
+  nests_done {r = Completed c} e u v t = at_finish v (wrapped (None, Nested, On) (λ gs. ap (λ b. metered Depth Nested b (allowing Depth (Listed gs))) e) refl (record { told = refl }) (at_start u t) (record { told = refl }) completed)
+  nests_done {r = Stop n m} e u v t = at_finish v (wrapped_passed (None, Nested, On) tt (λ gs. ap (λ b. metered Depth Nested b (allowing Depth (Listed gs))) e) refl (record { told = refl }) (at_start u t) (record { told = refl }))
+  nests_done {r = Exit n} e u v t = at_finish v (wrapped_passed (None, Nested, On) tt (λ gs. ap (λ b. metered Depth Nested b (allowing Depth (Listed gs))) e) refl (record { told = refl }) (at_start u t) (record { told = refl }))
+  nests_done {r = Cut c} e u v t = at_finish v (wrapped_passed (None, Nested, On) tt (λ gs. ap (λ b. metered Depth Nested b (allowing Depth (Listed gs))) e) refl (record { told = refl }) (at_start u t) (record { told = refl }))
 
   -- the limit of the interpreter so many levels up refuses: its own is an error, and another one's a stop
   pub nest_refused : {T : Tree Own} {o : S} {p : Place} {i : Instr} (n : ℕ) → blocked is_deep T p ≡ Some n → Comes goes language T o p (inside Deeper i done) T o (too_deep_at n)
-  nest_refused {p = p} zero e = too_deep (None, Refused Depth (Some 0), TooDeep) (λ gs. ap (λ b. metered Depth Nested b (granted {O = Own} p (Refused Depth (Some 0)) (Listed gs))) e) refl refl completed
-  nest_refused {p = p} (suc n) e = shut (None, Refused Depth (Some (suc n)), Off (Stop (suc n) Depth)) (λ gs. ap (λ b. metered Depth Nested b (granted {O = Own} p (Refused Depth (Some (suc n))) (Listed gs))) e) refl refl
+  nest_refused {p = p} zero e = too_deep (None, Refused Depth (Some 0), TooDeep) (λ gs. ap (λ b. metered Depth Nested b (granted {O = Own} p (Refused Depth (Some 0)) (Listed gs))) e) refl (record { told = refl }) completed
+  nest_refused {p = p} (suc n) e = shut (None, Refused Depth (Some (suc n)), Off (Stop (suc n) Depth)) (λ gs. ap (λ b. metered Depth Nested b (granted {O = Own} p (Refused Depth (Some (suc n))) (Listed gs))) e) refl (record { told = refl })
 
   -- with other frames, which are put back however it ends
   pub framed : {T U V W X : Tree Own} {o u z : S} {p : Place} {n m : Node Own} {own : Own} {back : Own → Own} {i : Instr} {k : Completion → Program} {c : Completion} {r : Reply} →
       T p ≡ Some n → U ≡ effect p (Changed own) T → V p ≡ Some m → W ≡ effect p (Changed (back m.own)) V →
       Comes goes language U o p (language.program i) V u (Completed c) → Comes goes language W u p (k c) X z r → Comes goes language T o p (inside (Framed own back) i k) X z r
   framed {T} {U} {V} {W} {X} {o} {u} {z} {p} {n} {m} {own} {back} {i} {k} {c} {r} there a stands b t s =
-      wrapped (None, Changed own, On) (λ gs. ap (λ x. Some (changing own x)) there) refl refl (at_start a t) (closing there_is)
+      wrapped (None, Changed own, On) (λ gs. ap (λ x. Some (changing own x)) there) refl (record { told = refl }) (at_start a t) (closing there_is)
       (at_start (b ∙ ap (λ (x : Option (Node Own)). effect p (brought_back back x) V) (sym stands)) s)
     where
       there_is : brought_back back (V p) ≡ Changed (back m.own)
       there_is = ap (brought_back back) stands
 
-      closing : brought_back back (V p) ≡ Changed (back m.own) → Crossings goes u (event p (brought_back back (V p))) u
-      closing e = subst (λ (x : What Own). Crossings goes u (event p x) u) (sym e) refl
+      closing : brought_back back (V p) ≡ Changed (back m.own) → Crossings goes V u None (event p (brought_back back (V p))) u
+      closing e = subst (λ (x : What Own). Crossings goes V u None (event p x) u) (sym e) (record { told = refl })
 
   pub framed_passed : {T U V W : Tree Own} {o u : S} {p : Place} {n m : Node Own} {own : Own} {back : Own → Own} {i : Instr} {k : Completion → Program} {r : Reply} → IsQuit r →
       T p ≡ Some n → U ≡ effect p (Changed own) T → V p ≡ Some m → W ≡ effect p (Changed (back m.own)) V →
       Comes goes language U o p (language.program i) V u r → Comes goes language T o p (inside (Framed own back) i k) W u r
   framed_passed {T} {U} {V} {W} {o} {u} {p} {n} {m} {own} {back} {i} {k} {r} quit there a stands b t =
       at_finish (b ∙ ap (λ (x : Option (Node Own)). effect p (brought_back back x) V) (sym stands))
-      (wrapped_passed (None, Changed own, On) quit (λ gs. ap (λ x. Some (changing own x)) there) refl refl (at_start a t) closing)
+      (wrapped_passed (None, Changed own, On) quit (λ gs. ap (λ x. Some (changing own x)) there) refl (record { told = refl }) (at_start a t) closing)
     where
-      closing : Crossings goes u (event p (brought_back back (V p))) u
-      closing = subst (λ (x : What Own). Crossings goes u (event p x) u) (sym (ap (brought_back back) stands)) refl
+      closing : Crossings goes V u None (event p (brought_back back (V p))) u
+      closing = subst (λ (x : What Own). Crossings goes V u None (event p x) u) (sym (ap (brought_back back) stands)) (record { told = refl })
 
   -- ## What was read, and what has grown
 
@@ -141,42 +145,34 @@ module _ {S : Type 0} {goes : S → Event Own → S → Type 0} {language : Tabl
   entry_runs i there t = at_prog (ap (λ x. entering language x i) there) t
 
   -- the caller goes on where its call was answered by a completion
-  pub calls_on : {T U V : Tree Own} {o u z : S} {p : Place} {n : ℕ} {down : Path} {i : Entry} {lost : Completion} {k : Completion → Program} {m : Node Own} {s r : Reply} {c : Completion} (a : Place) → rise_to (Some n) p ≡ Some a → T (a ++ down) ≡ Some m →
-      Comes goes language T o (a ++ down) (language.entry i) U u s → carried (Some n) p down s ≡ Completed c → Comes goes language U u p (k c) V z r →
+  pub calls_on : {T U V : Tree Own} {o u v w z : S} {p : Place} {n : ℕ} {down : Path} {i : Entry} {lost : Completion} {k : Completion → Program} {m : Node Own} {s r : Reply} {c : Completion} (a : Place) → rise_to (Some n) p ≡ Some a → T (a ++ down) ≡ Some m →
+      Enters goes T o p n a down i u → Comes goes language T u (a ++ down) (language.entry i) U v s → carried (Some n) p down s ≡ Completed c → Returns goes U v p n a down s (carried (Some n) p down s) w → Comes goes language U w p (k c) V z r →
       Comes goes language T o p (call (Some n) down i lost (finished k)) V z r
-  calls_on {T} {o = o} {u = u} {p = p} {n = n} {down = down} {i = i} {s = s} a e there t f g =
-      called {o1 = o} {o2 = o} {o3 = u} {o4 = u} {o5 = u} a (a ++ down) e (ap (λ x. where_stands x (a ++ down)) there)
-      (within goes o (event p (Out (Some n) down i)) e) (within goes o (event (a ++ down) (In (Some (length down)) i)) (rise_back a down)) (entry_runs i there t)
-      (within goes u (event (a ++ down) (Done (Some (length down)) s)) (rise_back a down)) f (within goes u (event p (Back (Some n) (Replied (carried (Some n) p down s)))) e) g
+  calls_on {down = down} {i = i} a e there x t f y g = called a (a ++ down) e (ap (λ x. where_stands x (a ++ down)) there) (record { told = x.leaves }) (record { told = x.enters }) (entry_runs i there t) (record { told = y.leaves }) f (record { told = y.returns }) g
 
   -- what is no completion ends the caller too
-  pub calls_passed : {T U : Tree Own} {o u : S} {p : Place} {n : ℕ} {down : Path} {i : Entry} {lost : Completion} {k : Completion → Program} {m : Node Own} {s r : Reply} (a : Place) → rise_to (Some n) p ≡ Some a → T (a ++ down) ≡ Some m →
-      Comes goes language T o (a ++ down) (language.entry i) U u s → carried (Some n) p down s ≡ r → IsQuit r →
-      Comes goes language T o p (call (Some n) down i lost (finished k)) U u r
-  calls_passed {T} {o = o} {u = u} {p = p} {n = n} {down = down} {i = i} {s = s} {r = r} a e there t f quit =
-      called_passed {o1 = o} {o2 = o} {o3 = u} {o4 = u} {o5 = u} a (a ++ down) e (ap (λ x. where_stands x (a ++ down)) there)
-      (within goes o (event p (Out (Some n) down i)) e) (within goes o (event (a ++ down) (In (Some (length down)) i)) (rise_back a down)) (entry_runs i there t)
-      (within goes u (event (a ++ down) (Done (Some (length down)) s)) (rise_back a down)) f quit (within goes u (event p (Back (Some n) (Replied r))) e)
+  pub calls_passed : {T U : Tree Own} {o u v w : S} {p : Place} {n : ℕ} {down : Path} {i : Entry} {lost : Completion} {k : Completion → Program} {m : Node Own} {s r : Reply} (a : Place) → rise_to (Some n) p ≡ Some a → T (a ++ down) ≡ Some m →
+      Enters goes T o p n a down i u → Comes goes language T u (a ++ down) (language.entry i) U v s → carried (Some n) p down s ≡ r → IsQuit r → Returns goes U v p n a down s r w →
+      Comes goes language T o p (call (Some n) down i lost (finished k)) U w r
+  calls_passed {down = down} {i = i} a e there x t f quit y = called_passed a (a ++ down) e (ap (λ x. where_stands x (a ++ down)) there) (record { told = x.leaves }) (record { told = x.enters }) (entry_runs i there t) (record { told = y.leaves }) f quit (record { told = y.returns })
 
-  calls_as : {T U : Tree Own} {o u : S} {p : Place} {n : ℕ} {down : Path} {i : Entry} {lost : Completion} {m : Node Own} {s : Reply} (a : Place) (r : Reply) → rise_to (Some n) p ≡ Some a → T (a ++ down) ≡ Some m →
-      Comes goes language T o (a ++ down) (language.entry i) U u s → carried (Some n) p down s ≡ r → Comes goes language T o p (call (Some n) down i lost (finished done)) U u r
-  calls_as a (Completed c) e there t f = calls_on a e there t f completed
-  calls_as a (Stop l k) e there t f = calls_passed a e there t f tt
-  calls_as a (Exit x) e there t f = calls_passed a e there t f tt
-  calls_as a (Cut x) e there t f = calls_passed a e there t f tt
+  calls_as : {T U : Tree Own} {o u v w : S} {p : Place} {n : ℕ} {down : Path} {i : Entry} {lost : Completion} {m : Node Own} {s : Reply} (a : Place) (r : Reply) → rise_to (Some n) p ≡ Some a → T (a ++ down) ≡ Some m →
+      Enters goes T o p n a down i u → Comes goes language T u (a ++ down) (language.entry i) U v s → r ≡ carried (Some n) p down s → Returns goes U v p n a down s r w → Comes goes language T o p (call (Some n) down i lost (finished done)) U w r
+  calls_as {U = U} {v = v} {w} {p} {n} {down} {s = s} a (Completed c) e there x t f y = calls_on a e there x t (sym f) (subst (λ (l : Reply). Returns goes U v p n a down s l w) f y) completed
+  calls_as a (Stop l k) e there x t f y = calls_passed a e there x t (sym f) tt y
+  calls_as a (Exit l) e there x t f y = calls_passed a e there x t (sym f) tt y
+  calls_as a (Cut l) e there x t f y = calls_passed a e there x t (sym f) tt y
 
   -- a call that is all that is left ends as it was answered
-  pub calls_in : {T U : Tree Own} {o u : S} {p : Place} {n : ℕ} {down : Path} {i : Entry} {lost : Completion} {m : Node Own} {s r : Reply} (a : Place) → rise_to (Some n) p ≡ Some a → T (a ++ down) ≡ Some m →
-      Comes goes language T o (a ++ down) (language.entry i) U u s → r ≡ carried (Some n) p down s → Comes goes language T o p (call (Some n) down i lost (finished done)) U u r
-  calls_in {r = r} a e there t f = calls_as a r e there t (sym f)
+  pub calls_in : {T U : Tree Own} {o u v w : S} {p : Place} {n : ℕ} {down : Path} {i : Entry} {lost : Completion} {m : Node Own} {s r : Reply} (a : Place) → rise_to (Some n) p ≡ Some a → T (a ++ down) ≡ Some m →
+      Enters goes T o p n a down i u → Comes goes language T u (a ++ down) (language.entry i) U v s → r ≡ carried (Some n) p down s → Returns goes U v p n a down s r w → Comes goes language T o p (call (Some n) down i lost (finished done)) U w r
+  calls_in {r = r} a e there x t f y = calls_as a r e there x t f y
 
   -- the caller goes on with `lost` where nobody stands
-  pub finds_none_on : {T V : Tree Own} {o z : S} {p : Place} {n : ℕ} {down : Path} {i : Entry} {lost : Completion} {k : Completion → Program} {r : Reply} (a : Place) → rise_to (Some n) p ≡ Some a → T (a ++ down) ≡ None →
-      Comes goes language T o p (k lost) V z r → Comes goes language T o p (call (Some n) down i lost (finished k)) V z r
-  finds_none_on {o = o} {p = p} {n = n} {down = down} {i = i} {lost = lost} a e gone t =
-      unreached {o1 = o} {o2 = o} a e (ap (λ x. where_stands x (a ++ down)) gone)
-      (within goes o (event p (Out (Some n) down i)) e) (within goes o (event p (Back (Some n) (Replied (Completed lost)))) e) t
+  pub finds_none_on : {T V : Tree Own} {o u z : S} {p : Place} {n : ℕ} {down : Path} {i : Entry} {lost : Completion} {k : Completion → Program} {r : Reply} (a : Place) → rise_to (Some n) p ≡ Some a → T (a ++ down) ≡ None →
+      Misses goes T o p n down i (Completed lost) u → Comes goes language T u p (k lost) V z r → Comes goes language T o p (call (Some n) down i lost (finished k)) V z r
+  finds_none_on {down = down} a e gone x t = unreached a e (ap (λ x. where_stands x (a ++ down)) gone) (record { told = x.leaves }) (record { told = x.returns }) t
 
-  pub finds_none : {T : Tree Own} {o : S} {p : Place} {n : ℕ} {down : Path} {i : Entry} {lost : Completion} {r : Reply} (a : Place) → rise_to (Some n) p ≡ Some a → T (a ++ down) ≡ None → r ≡ Completed lost →
-      Comes goes language T o p (call (Some n) down i lost (finished done)) T o r
-  finds_none a e gone f = at_reply f (finds_none_on a e gone completed)
+  pub finds_none : {T : Tree Own} {o u : S} {p : Place} {n : ℕ} {down : Path} {i : Entry} {lost : Completion} {r : Reply} (a : Place) → rise_to (Some n) p ≡ Some a → T (a ++ down) ≡ None → Misses goes T o p n down i (Completed lost) u → r ≡ Completed lost →
+      Comes goes language T o p (call (Some n) down i lost (finished done)) T u r
+  finds_none a e gone x f = at_reply f (finds_none_on a e gone x completed)

@@ -2,3 +2,4 @@ pub mod Leads
 pub mod Endings
 pub mod Steady
 pub mod Plain
+pub mod Hosting

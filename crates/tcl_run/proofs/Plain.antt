@@ -14,7 +14,7 @@ use Rattle.tcl_tree.specs.declared.tree.Place.{Place as ThePlace}
 use Rattle.tcl_variables.specs.declared.fault.FrameFault.{FrameFault}
 use Rattle.tcl_core.specs.Paths.{Place}
 use Rattle.tcl_core.specs.Endings.{Reply}
-use Rattle.tcl_core.specs.Programs.{Table, changing, making, dropping, dropping_at}
+use Rattle.tcl_core.specs.Programs.{Table, Wait, changing, making}
 use Rattle.tcl_core.specs.Programs.Act.{Look, Change, Charge, Limit, LimitDepth, Make, Drop}
 use Rattle.tcl_core.specs.Programs.Next.{On}
 use Rattle.tcl_core.specs.Programs.Prog.{done, exit, act, go, inside, call, wait}
@@ -26,52 +26,35 @@ use Rattle.tcl_language.specs.Instructions.{Instr, Program, look, change, with_c
 use Rattle.tcl_tree.specs.Own.{Own}
 use Rattle.tcl_run.specs.Ends.{IsFailure, Interrupts}
 use Rattle.tcl_run.specs.Plain.{Does, Steps}
+use Rattle.tcl_run.specs.Outsides.{Going}
 use Rattle.tcl_run.specs.Runs.{Comes, Rechained}
 use Rattle.tcl_run.proofs.Leads.{at_finish, at_reply}
 
--- making and dropping go on, whatever they come to
+-- making goes on, whatever it comes to
 makes_on : (name : List ℕ) (o : Own) (s : Bool) (a b : Option (Node Own)) → (making name o s a b).2 ≡ On
 makes_on name o s None b = refl
 makes_on name o s (Some p) None = refl
 makes_on name o s (Some p) (Some n) = refl
 
-drops_at_on : (name : List ℕ) (d : ℕ) → (dropping_at {O = Own} name d).2 ≡ On
-drops_at_on name zero = refl
-drops_at_on name (suc d) = refl
+made_unseen : (S : Type 0) (goes : Going S) (q : Place) (name : List ℕ) (own : Own) (s : Bool) (a b : Option (Node Own)) (T : Tree Own) (o : S) → Crossings goes T o None (event q (making name own s a b).1) o
+made_unseen S goes q name own s None b T o = record { told = refl }
+made_unseen S goes q name own s (Some p) None T o = record { told = refl }
+made_unseen S goes q name own s (Some p) (Some n) T o = record { told = refl }
 
-drops_on : (name : List ℕ) (a : Option (Node Own)) → (dropping name a).2 ≡ On
-drops_on name None = refl
-drops_on name (Some n) = drops_at_on name n.depth
-
-made_unseen : (S : Type 0) (goes : S → Event Own → S → Type 0) (q : Place) (name : List ℕ) (own : Own) (s : Bool) (a b : Option (Node Own)) (o : S) → Crossings goes o (event q (making name own s a b).1) o
-made_unseen S goes q name own s None b o = refl
-made_unseen S goes q name own s (Some p) None o = refl
-made_unseen S goes q name own s (Some p) (Some n) o = refl
-
-dropped_at_unseen : (S : Type 0) (goes : S → Event Own → S → Type 0) (q : Place) (name : List ℕ) (d : ℕ) (o : S) → Crossings goes o (event q (dropping_at {O = Own} name d).1) o
-dropped_at_unseen S goes q name zero o = refl
-dropped_at_unseen S goes q name (suc d) o = refl
-
-dropped_unseen : (S : Type 0) (goes : S → Event Own → S → Type 0) (q : Place) (name : List ℕ) (a : Option (Node Own)) (o : S) → Crossings goes o (event q (dropping name a).1) o
-dropped_unseen S goes q name None o = refl
-dropped_unseen S goes q name (Some n) o = dropped_at_unseen S goes q name n.depth o
-
-module _ {S : Type 0} {goes : S → Event Own → S → Type 0} {language : Table Own Instr} where
+module _ {S : Type 0} {goes : Going S} {language : Table Own Instr} where
   -- what is done so comes, and the outside isn't told
   pub does_comes : (x : Program) {T V : Tree Own} {p : Place} {r : Reply} (o : S) → Does x T p V r → Comes goes language T o p x V o r
   does_comes (done c) o e = at_finish e.0 (at_reply e.1 completed)
   does_comes (exit n) o e = at_finish e.0 (at_reply e.1 exited)
-  does_comes (act Look k) {T} {p = p} o e = acted (None, Seen, On) (λ gs. refl) tt refl (does_comes (k (at T p)) o e)
-  does_comes (act (Change own) k) {T} {p = p} o e = acted (None, Changed own, On) (λ gs. ap (λ m. Some (changing own m)) e.1) tt refl (does_comes (k (at T p)) o e.2)
+  does_comes (act Look k) {T} {p = p} o e = acted (None, Seen, On) (λ gs. refl) tt (record { told = refl }) (does_comes (k (at T p)) o e)
+  does_comes (act (Change own) k) {T} {p = p} o e = acted (None, Changed own, On) (λ gs. ap (λ m. Some (changing own m)) e.1) tt (record { told = refl }) (does_comes (k (at T p)) o e.2)
   does_comes (act Charge k) o e = elim e [ ]
-  does_comes (act (Limit l) k) {T} {p = p} o e = acted (None, Limited l, On) (λ gs. refl) tt refl (does_comes (k (at T p)) o e)
-  does_comes (act (LimitDepth l) k) {T} {p = p} o e = acted (None, DepthLimited l, On) (λ gs. refl) tt refl (does_comes (k (at T p)) o e)
+  does_comes (act (Limit l) k) {T} {p = p} o e = acted (None, Limited l, On) (λ gs. refl) tt (record { told = refl }) (does_comes (k (at T p)) o e)
+  does_comes (act (LimitDepth l) k) {T} {p = p} o e = acted (None, DepthLimited l, On) (λ gs. refl) tt (record { told = refl }) (does_comes (k (at T p)) o e)
   does_comes (act (Make name own safe) k) {T} {p = p} o e =
       acted (making name own safe (T p) (T (p ++ name ∷ []))) (λ gs. refl) (subst IsOn (sym (makes_on name own safe (T p) (T (p ++ name ∷ [])))) tt)
-      (made_unseen S goes _ name own safe (T p) (T (p ++ name ∷ [])) o) (does_comes (k (at T p)) o e)
-  does_comes (act (Drop name) k) {T} {p = p} o e =
-      acted (dropping name (T (p ++ name ∷ []))) (λ gs. refl) (subst IsOn (sym (drops_on name (T (p ++ name ∷ [])))) tt)
-      (dropped_unseen S goes _ name (T (p ++ name ∷ [])) o) (does_comes (k (at T p)) o e)
+      (made_unseen S goes _ name own safe (T p) (T (p ++ name ∷ [])) T o) (does_comes (k (at T p)) o e)
+  does_comes (act (Drop name) k) o e = elim e [ ]
   does_comes (go i k) o e = elim e [ ]
   does_comes (inside b i k) o e = elim e [ ]
   does_comes (call h down i lost k) o e = elim e [ ]

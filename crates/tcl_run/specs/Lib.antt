@@ -1,3 +1,4 @@
+pub mod Entering
 pub mod Ends
 pub mod Runs
 pub mod Plain

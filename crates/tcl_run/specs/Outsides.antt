@@ -1,108 +1,68 @@
--- What contracts see of what passes the top of a tree.
-use Rattle.std.specs.Prelude.{◌≡◌, ℕ, List, [], Option, Some, None, Result, MatchResult, codes}
-use Rattle.tcl_core.specs.Endings.{Reply, error}
-use Rattle.tcl_core.specs.Endings.Reply.{Completed, Stop, Exit, Cut}
-use Rattle.tcl_core.specs.Entries.{Answer, Entry, HostReply, Request}
+-- What contracts see of what stands outside of a tree.
+use Rattle.std.specs.Prelude.{◌≡◌, ℕ, true, List, [], ◌++◌, length, Option, Some, None, Result, Ok, Err}
+use Rattle.tcl_core.specs.Endings.{Reply, error, ok}
+use Rattle.tcl_core.specs.Endings.Reply.{Completed}
+use Rattle.tcl_core.specs.Entries.{Answer, Entry, HostReply}
 use Rattle.tcl_core.specs.Entries.Answer.{Replied, Heard}
-use Rattle.tcl_core.specs.Entries.Entry.{CallWords, AskHost}
+use Rattle.tcl_core.specs.Entries.Entry.{AskHost}
 use Rattle.tcl_core.specs.Entries.HostReply.{Opened, Bytes, TheEnd, Accepted, Is, Fails}
-use Rattle.tcl_core.specs.Entries.Request.{Open, ReadLine, ReadAll, Write, Flush, Close, AtEnd}
-use Rattle.tcl_core.specs.Paths.{Text, Path, Height}
-use Rattle.tcl_core.specs.Threads.{event}
-use Rattle.tcl_core.specs.Trees.{Event, What}
-use Rattle.tcl_core.specs.Trees.What.{Out, Back}
-use Rattle.tcl_host.specs.declared.open_mode.OpenMode.{OpenMode}
-use Rattle.tcl_host.specs.declared.open_mode.OpenMode.TheVariants as mode
+use Rattle.tcl_core.specs.Paths.{Text, Path, Place, Height}
+use Rattle.tcl_core.specs.Programs.{Wait}
+use Rattle.tcl_core.specs.Runs.{is_own}
+use Rattle.tcl_core.specs.Threads.{event, past_top}
+use Rattle.tcl_core.specs.Trees.{Event, Tree, What}
+use Rattle.tcl_core.specs.Trees.What.{Out, In, Done, Back, Refused}
 use Rattle.tcl_host.specs.declared.reply.HostReply.{HostReply as TheirReply}
 use Rattle.tcl_host.specs.declared.reply.HostReply.TheVariants as theirs
 use Rattle.tcl_host.specs.declared.reply.Refusal.{Refusal}
 use Rattle.tcl_host.specs.declared.reply.Refusal.TheVariants as refusal
 use Rattle.tcl_host.specs.declared.request.Request.{Request as TheirRequest}
-use Rattle.tcl_host.specs.declared.request.Request.TheVariants as asked
 use Rattle.tcl_language.specs.Interpreters.{no_interpreter}
-use Rattle.tcl_run.specs.Ends.{IfEnded, Interrupts}
+use Rattle.tcl_run.specs.Ends.{Interrupts}
+use Rattle.tcl_run.specs.Entering.{request_of, whole_entry}
 use Rattle.tcl_run.specs.declared.interruption.Interruption.{Interruption}
-use Rattle.tcl_run.specs.declared.outside.Written.{Written}
-use Rattle.tcl_run.specs.declared.outside.Written.TheVariants as written
+use Rattle.tcl_run.specs.declared.outside.Turn.{Turn}
+use Rattle.tcl_run.specs.declared.outside.Turn.TheVariants as turn
 use Rattle.tcl_tree.specs.Own.{Own}
 
--- How an outside goes from one state to the next: by a call that passes the top, and the answer to it.
-abbrev pub Answering : Type 0 → Type 1
-Answering S = S → Event Own → Answer → S → Type 0
+-- How an outside goes from one state to the next by what it is told: a call that goes out, an entry that comes in, the reply to it, the answer that comes back, a step,
+-- an interpreter that is dropped; the tree being what it then is. An answer from past the top of the tree comes with the call that it answers.
+abbrev pub Going : Type 0 → Type 1
+Going S = Tree Own → S → Wait → Event Own → S → Type 0
 
--- An outside as a run sees it: between a call and its answer the call is open.
-abbrev pub Stage : Type 0 → Type 0
-Stage S = S × Option (Event Own)
+-- ## Calls within the tree
 
-abbrev pub opens : {S : Type 0} → S → Event Own → What Own → Stage S → Type 0
-opens o ev (Out h down i) t = (t.0 ≡ o) × (t.1 ≡ Some ev)
-opens o ev _ t = Prim.⊥
+-- A call goes out from the interpreter at p, n levels up to the one at a and these names down, and comes in there.
+pub record Enters {S : Type 0} (goes : Going S) (T : Tree Own) (o : S) (p : Place) (n : ℕ) (a : Place) (down : Path) (i : Entry) (z : S) : Type 0 where
+  pub between : S
+  pub leaves : goes T o None (event p (Out (Some n) down i)) between
+  pub enters : goes T between None (event (a ++ down) (In (Some (length down)) i)) z
 
-abbrev pub closes : {S : Type 0} → Answering S → S → Event Own → What Own → Stage S → Type 0
-closes goes o call (Back h a) t = goes o call a t.0 × (t.1 ≡ None)
-closes goes o call _ t = Prim.⊥
+-- It is done there by one reply, and answered by another.
+pub record Returns {S : Type 0} (goes : Going S) (T : Tree Own) (o : S) (p : Place) (n : ℕ) (a : Place) (down : Path) (s r : Reply) (z : S) : Type 0 where
+  pub between : S
+  pub leaves : goes T o None (event (a ++ down) (Done (Some (length down)) s)) between
+  pub returns : goes T between None (event p (Back (Some n) (Replied r))) z
 
-abbrev pub at_stage : {S : Type 0} → Answering S → S → Option (Event Own) → Event Own → Stage S → Type 0
-at_stage goes o None ev t = opens o ev ev.what t
-at_stage goes o (Some call) ev t = closes goes o call ev.what t
+-- A call finds nobody, and is answered by that.
+pub record Misses {S : Type 0} (goes : Going S) (T : Tree Own) (o : S) (p : Place) (n : ℕ) (down : Path) (i : Entry) (r : Reply) (z : S) : Type 0 where
+  pub between : S
+  pub leaves : goes T o None (event p (Out (Some n) down i)) between
+  pub returns : goes T between None (event p (Back (Some n) (Replied r))) z
 
--- by what passes the top of the tree
-abbrev pub staged : {S : Type 0} → Answering S → Stage S → Event Own → Stage S → Type 0
-staged goes s ev t = at_stage goes s.0 s.1 ev t
+-- ## Calls that pass the top
 
--- ## What is told of calls
+-- the call from p, so high up and for this, is answered so
+abbrev pub Answers : {S : Type 0} → Going S → Tree Own → S → Path → Height → Entry → S → Answer → Type 0
+Answers goes T o p h i z a = goes T o (Some (h, i)) (event p (Back h a)) z × (is_own h i a ≡ true)
 
--- The interpreter at p calls words, so many levels up and these names down; and is told this.
-abbrev pub IsCalled : {S : Type 0} → Answering S → S → Path → ℕ → Path → List Text → S → Reply → Type 0
-IsCalled goes o p up down words z r = goes o (event p (Out (Some up) down (CallWords words))) (Replied r) z
-
-abbrev pub Calls : {S : Type 0} → Answering S → S → Path → ℕ → Path → List Text → S → Result Text Interruption → Type 0
-Calls goes o p up down words z result = IfEnded result (IsCalled goes o p up down words z)
-
-abbrev pub answer_of : Written → HostReply
-answer_of written.Accepted = Accepted
-answer_of (written.Refused n) = Fails n
-
--- a run's end, which alone can stand in place of the host's answer
-abbrev pub IsOver : Reply → Type 0
-IsOver (Exit n) = Unit {0}
-IsOver (Cut c) = Unit {0}
-IsOver r = Prim.⊥
-
--- The interpreter at p asks the host, and hears its answer; or the run ended instead.
-abbrev pub IsHeard : {S : Type 0} → Answering S → S → Path → Request → S → HostReply → Type 0
-IsHeard goes o p request z a = goes o (event p (Out None [] (AskHost request))) (Heard a) z
-
-abbrev pub IsEnded : {S : Type 0} → Answering S → S → Path → Request → S → Reply → Type 0
-IsEnded goes o p request z r = IsOver r × goes o (event p (Out None [] (AskHost request))) (Replied r) z
-
-abbrev pub Writes : {S : Type 0} → Answering S → S → Path → Text → Text → S → Result Written Interruption → Type 0
-Writes goes o p channel text z result = MatchResult result (λ a. IsHeard goes o p (Write channel text) z (answer_of a)) (λ i. Interrupts i (IsEnded goes o p (Write channel text) z))
-
--- ## A host as the outside
-
--- the number of a refusal
+-- the numbers of a host's refusals
 abbrev pub number_of : Refusal → ℕ
 number_of refusal.NoChannel = 261
 number_of refusal.DeviceFault = 262
 number_of refusal.NotOpened = 267
 
--- the word for a mode in which a file is opened
-abbrev pub mode_text : OpenMode → Text
-mode_text mode.Read = codes "r"
-mode_text mode.Write = codes "w"
-mode_text mode.Append = codes "a"
-
--- a request of a host, and its reply, in the words of the core
-abbrev pub request_of : TheirRequest → Request
-request_of (asked.Open name mode) = Open name (mode_text mode)
-request_of (asked.ReadLine channel) = ReadLine channel
-request_of (asked.ReadAll channel) = ReadAll channel
-request_of (asked.Write channel text) = Write channel text
-request_of (asked.Flush channel) = Flush channel
-request_of (asked.Close channel) = Close channel
-request_of (asked.Eof channel) = AtEnd channel
-
+-- the reply of a host, in the words of the core
 abbrev pub reply_of : TheirReply → HostReply
 reply_of (theirs.Opened channel) = Opened channel
 reply_of (theirs.Line line) = Bytes line
@@ -112,11 +72,41 @@ reply_of theirs.Done = Accepted
 reply_of (theirs.AtEnd ended) = Is ended
 reply_of (theirs.Refused why) = Fails (number_of why)
 
--- The host makes a step by each request and its reply. Above the tree no interpreter is.
-abbrev pub hosted_by : {S : Type 0} → (S → TheirRequest → TheirReply → S → Type 0) → S → What Own → Answer → S → Type 0
-hosted_by step o (Out None down (AskHost request)) (Heard a) u = (q : TheirRequest) × (reply : TheirReply) × (request_of q ≡ request) × (reply_of reply ≡ a) × step o q reply u
-hosted_by step o (Out (Some up) down i) (Replied r) u = (u ≡ o) × (r ≡ Completed (error (no_interpreter [])))
-hosted_by step o _ a u = Prim.⊥
+-- the host is asked for requests alone
+abbrev pub IsAsked : Height → Entry → Type 0
+IsAsked None (AskHost request) = Unit {0}
+IsAsked None i = Prim.⊥
+IsAsked (Some n) i = Unit {0}
 
-abbrev pub hosted : {S : Type 0} → (S → TheirRequest → TheirReply → S → Type 0) → S → Event Own → Answer → S → Type 0
-hosted step o ev a u = hosted_by step o ev.what a u
+-- What comes next while the call is open: an entry, where this outside hands in any; or the call's answer.
+abbrev pub ComesNext : {S : Type 0} → Going S → Type 0 → Tree Own → S → Path → Height → Entry → S → Result Turn Interruption → Type 0
+ComesNext goes hands_in T o p h i z (Ok (turn.Entry target entry)) = goes T o None (event target.items (In None (whole_entry entry))) z × hands_in
+ComesNext goes hands_in T o p h i z (Ok (turn.Completed text)) = Answers goes T o p h i z (Replied (Completed (ok text)))
+ComesNext goes hands_in T o p h i z (Ok (turn.Heard reply)) = Answers goes T o p h i z (Heard (reply_of reply))
+ComesNext goes hands_in T o p h i z (Err e) = Interrupts e (λ r. Answers goes T o p h i z (Replied r))
+
+-- what is said where an entry comes next
+abbrev pub OnEntry : Result Turn Interruption → Type 0 → Type 0
+OnEntry (Ok (turn.Entry target entry)) P = P
+OnEntry r P = Unit {0}
+
+-- ## A host as the outside
+
+-- The host makes a step for each request by its reply. It hands in nothing, and above the tree no interpreter is.
+abbrev pub hosted_by : {S : Type 0} → (S → TheirRequest → TheirReply → S → Type 0) → S → Wait → What Own → S → Type 0
+hosted_by step o (Some (None, AskHost request)) (Back h (Heard a)) u = (q : TheirRequest) × (reply : TheirReply) × (request_of q ≡ request) × (reply_of reply ≡ a) × step o q reply u
+hosted_by step o (Some (Some up, i)) (Back h (Replied r)) u = (u ≡ o) × (r ≡ Completed (error (no_interpreter [])))
+hosted_by step o s (Out h down i) u = u ≡ o
+hosted_by step o s (Done h r) u = u ≡ o
+hosted_by step o s _ u = Prim.⊥
+
+abbrev pub hosted_at : {S : Type 0} → (S → TheirRequest → TheirReply → S → Type 0) → Going S
+hosted_at step T o s ev u = hosted_by step o s ev.what u
+
+-- and it refuses no step
+abbrev pub unrefused : What Own → Type 0 → Type 0
+unrefused (Refused m None) P = Prim.⊥
+unrefused x P = P
+
+abbrev pub hosted : {S : Type 0} → (S → TheirRequest → TheirReply → S → Type 0) → Going S
+hosted step T o s ev u = unrefused ev.what (past_top (hosted_at step) T o s ev u)

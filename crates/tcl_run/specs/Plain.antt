@@ -1,9 +1,9 @@
--- What a program does that runs nothing inside, calls nobody and counts no step: it looks, changes, and is over.
+-- What a program does that runs nothing inside, calls nobody, counts no step and drops no child: it looks, changes, and is over.
 use Rattle.std.specs.Prelude.{◌≡◌, ℕ, List, [], ◌∷◌, ◌++◌, Option, Some, Result, MatchResult}
 use Rattle.tcl_core.specs.Paths.{Place, Path}
 use Rattle.tcl_core.specs.Endings.{Reply}
 use Rattle.tcl_core.specs.Endings.Reply.{Completed, Exit}
-use Rattle.tcl_core.specs.Programs.{spot, making, dropping}
+use Rattle.tcl_core.specs.Programs.{spot, making}
 use Rattle.tcl_core.specs.Programs.Act.{Look, Change, Charge, Limit, LimitDepth, Make, Drop}
 use Rattle.tcl_core.specs.Programs.Prog.{done, exit, act, go, inside, call, wait}
 use Rattle.tcl_core.specs.Trees.{Tree, Node, effect, at}
@@ -28,7 +28,7 @@ Does (act (Limit l) k) T p V r = Does (k (at T p)) (effect p (Limited l) T) p V 
 Does (act (LimitDepth l) k) T p V r = Does (k (at T p)) (effect p (DepthLimited l) T) p V r
 Does (act Charge k) T p V r = Prim.⊥
 Does (act (Make name own safe) k) T p V r = Does (k (at T p)) (effect (spot p (making name own safe (T p) (T (p ++ name ∷ []))).0) (making name own safe (T p) (T (p ++ name ∷ []))).1 T) p V r
-Does (act (Drop name) k) T p V r = Does (k (at T p)) (effect (spot p (dropping name (T (p ++ name ∷ []))).0) (dropping name (T (p ++ name ∷ []))).1 T) p V r
+Does (act (Drop name) k) T p V r = Prim.⊥
 Does (go i k) T p V r = Prim.⊥
 Does (inside b i k) T p V r = Prim.⊥
 Does (call h down i lost k) T p V r = Prim.⊥

@@ -3,13 +3,14 @@ use Rattle.std.specs.Prelude.{◌≡◌, ℕ, ◌<◌, ◌≤◌, ◌-◌, ◌++
 use Rattle.std.specs.Option.{option_map}
 use Rattle.tcl_core.specs.Paths.{Place, Path}
 use Rattle.tcl_core.specs.Endings.{Reply}
-use Rattle.tcl_core.specs.Endings.Reply.{Stop}
+use Rattle.tcl_core.specs.Endings.Cause.{Above}
+use Rattle.tcl_core.specs.Endings.Reply.{Stop, Cut}
 use Rattle.tcl_core.specs.Endings.Meter.{Count}
 use Rattle.tcl_core.specs.Programs.{blocked, is_spent}
 use Rattle.tcl_core.specs.Programs as programs
-use Rattle.tcl_core.specs.Threads.{Threads, Crossings}
-use Rattle.tcl_core.specs.Trees.{Tree, Node, Event, effect}
-use Rattle.tcl_core.specs.Trees.What.{Changed}
+use Rattle.tcl_core.specs.Threads.{Threads, Crossings, event}
+use Rattle.tcl_core.specs.Trees.{Tree, Node, effect}
+use Rattle.tcl_core.specs.Trees.What.{Changed, Charged, Refused}
 use Rattle.tcl_frames.specs.Chain.{Chain}
 use Rattle.tcl_variables.specs.declared.fault.FrameFault.{FrameFault}
 use Rattle.tcl_tree.specs.Own.{Own}
@@ -19,13 +20,12 @@ use Rattle.tcl_tree.specs.declared.tree.Place as table_place
 use Rattle.tcl_text.specs.declared.integer.Integers.{Integers}
 use Rattle.tcl_language.specs.Instructions.{Instr, Program, with_chain}
 use Rattle.tcl_language.specs.Language.{language}
-use Rattle.tcl_core.specs.Entries.{Answer}
 use Rattle.tcl_run.specs.Ends.{IfEnded}
-use Rattle.tcl_run.specs.Outsides.{staged}
+use Rattle.tcl_run.specs.Outsides.{Going}
 use Rattle.tcl_run.specs.declared.interruption.Interruption.{Interruption}
 
 -- From a tree and a state of the outside the program at the place may end so, with these left.
-abbrev pub Comes : {S : Type 0} → (S → Event Own → S → Type 0) → programs.Table Own Instr → Tree Own → S → Place → Program → Tree Own → S → Reply → Type 0
+abbrev pub Comes : {S : Type 0} → Going S → programs.Table Own Instr → Tree Own → S → Place → Program → Tree Own → S → Reply → Type 0
 Comes goes language T o p x V z r = Threads (Crossings goes) language T o p x V z r
 
 -- how many evaluations are in progress in an interpreter, and how many there may be
@@ -73,12 +73,16 @@ pub record IsLevel (old new : table.Tree) : Type 0 where
 abbrev pub IsRunning : table.Tree → table_place.Place → Type 0
 IsRunning t place = (p : Path) × Names t place p × InUse (tree_of t) p
 
--- a step at p is refused by the limit of an interpreter, and nothing changes
-pub record StopsCounting (T : Tree Own) (p : Place) (U : Tree Own) (e : Reply) : Type 0 where
-  pub levels : ℕ
-  pub full : blocked is_spent T p ≡ Some levels
-  pub same : U ≡ T
-  pub stop : e ≡ Stop levels Count
+-- a step at p is counted, and the outside is told of it
+pub record Counts {S : Type 0} (goes : Going S) (T : Tree Own) (o : S) (p : Place) (U : Tree Own) (z : S) : Type 0 where
+  pub free : blocked is_spent T p ≡ None
+  pub counted : U ≡ effect p Charged T
+  pub told : goes T o None (event p Charged) z
+
+-- a step at p is refused by the limit of an interpreter, or, where no limit refuses it, by the outside; and no interpreter changes
+pub data RefusesStep {S : Type 0} (goes : Going S) (T : Tree Own) (o : S) (p : Place) (U : Tree Own) : S → Reply → Type 0 where
+  by_limit : (levels : ℕ) → blocked is_spent T p ≡ Some levels → U ≡ T → RefusesStep goes T o p U o (Stop levels Count)
+  from_outside : {z : S} → blocked is_spent T p ≡ None → U ≡ T → goes T o None (event p (Refused Count None)) z → RefusesStep goes T o p U z (Cut Above)
 
 -- the place names the interpreter at p, in a tree of that style of integers
 pub record IsThere (t : table.Tree) (place : table_place.Place) (p : Path) (style : Integers) : Type 0 where
@@ -92,14 +96,14 @@ pub record IsAt (t : table.Tree) (place : table_place.Place) (p : Path) (style :
   pub running : InUse (tree_of t) p
 
 -- What came of a program in the interpreter that the place names, where an evaluation is in progress.
-abbrev pub Evaluates : {S : Type 0} → (S → Event Own → Answer → S → Type 0) → table.Tree → S → table_place.Place → (Integers → Program) → table.Tree → S → Result (List ℕ) Interruption → Type 0
+abbrev pub Evaluates : {S : Type 0} → Going S → table.Tree → S → table_place.Place → (Integers → Program) → table.Tree → S → Result (List ℕ) Interruption → Type 0
 Evaluates goes old o place program new z result =
-    IfEnded result (λ r. (p : Path) (style : Integers) → IsAt old place p style → Comes (staged goes) (language style) (tree_of old) (o, None) p (program style) (tree_of new) (z, None) r)
+    IfEnded result (λ r. (p : Path) (style : Integers) → IsAt old place p style → Comes goes (language style) (tree_of old) o p (program style) (tree_of new) z r)
 
 -- the same, wherever the place is
-abbrev pub EvaluatesAt : {S : Type 0} → (S → Event Own → Answer → S → Type 0) → table.Tree → S → table_place.Place → (Integers → Program) → table.Tree → S → Result (List ℕ) Interruption → Type 0
+abbrev pub EvaluatesAt : {S : Type 0} → Going S → table.Tree → S → table_place.Place → (Integers → Program) → table.Tree → S → Result (List ℕ) Interruption → Type 0
 EvaluatesAt goes old o place program new z result =
-    IfEnded result (λ r. (p : Path) (style : Integers) → IsThere old place p style → Comes (staged goes) (language style) (tree_of old) (o, None) p (program style) (tree_of new) (z, None) r)
+    IfEnded result (λ r. (p : Path) (style : Integers) → IsThere old place p style → Comes goes (language style) (tree_of old) o p (program style) (tree_of new) z r)
 
 -- the own part at p has another chain, where there is one
 abbrev pub Rechained : Tree Own → Place → Own → Result Chain FrameFault → Tree Own → Type 0

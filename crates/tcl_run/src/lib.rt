@@ -1,6 +1,7 @@
 //! How evaluations end, and the steps that they are put together from.
 #![tactic(auto)]
 
+pub mod entry;
 pub mod failure;
 pub mod interruption;
 pub mod outside;

@@ -1,15 +1,14 @@
 //! The steps that evaluations are put together from.
-ghost use Rattle.std.specs.Prelude.{◌≡◌, true, Some, None, Err, IfOk, IfErr, OnOk, OnErr};
+ghost use Rattle.std.specs.Prelude.{◌≡◌, ◌≤◌, true, false, Some, None, Err, IfOk, IfErr, OnOk, OnErr};
 ghost use Rattle.std.specs.Option.{option_copied, option_map};
 ghost use Rattle.tcl_core.specs.Paths.{Path};
 ghost use Rattle.tcl_core.specs.Trees as core;
 ghost use Rattle.tcl_frames.specs.Chain.{read, after_set};
 ghost use Rattle.tcl_language.specs.Faults.{frame_message};
 ghost use Rattle.tcl_language.specs.Instructions.{fits};
-ghost use Rattle.tcl_core.specs.Programs.{blocked, is_spent};
-ghost use Rattle.tcl_core.specs.Trees.{effect};
-ghost use Rattle.tcl_core.specs.Trees.What.{Charged};
-ghost use Rattle.tcl_run.specs.Runs.{IsLevel, StopsCounting, Rechained};
+ghost use Rattle.tcl_core.specs.Endings.Meter.{Count};
+ghost use Rattle.tcl_core.specs.Endings as endings;
+ghost use Rattle.tcl_run.specs.Runs.{Counts, IsLevel, RefusesStep, Rechained};
 ghost use Rattle.tcl_tree.specs.Own.{Own};
 ghost use Rattle.tcl_tree.specs.TreeOf.{tree_of, Names};
 ghost use Rattle.tcl_run.specs.Ends.{Interrupts, Gave, Stays, IsText, Tells, ListTells, IsFailure};
@@ -17,7 +16,8 @@ ghost use Rattle.tcl_text.specs.Lists.{list_of};
 ghost use Rattle.tcl_text.specs.Writing.{fault_message};
 
 use crate::failure::failure;
-use crate::interruption::Interruption;
+use crate::interruption::{Cause, Interruption};
+use crate::outside::Outside;
 use std::alloc::Global;
 use tcl_flow::completion::OK;
 use tcl_flow::stop::{Stop, StopKind};
@@ -126,18 +126,55 @@ pub fn on_ok(ended: Result<Value, Interruption>) -> Result<Value, Interruption>
 }
 
 /// Counts a step in the interpreter and in all above it.
-pub fn charge(tree: &mut Tree, place: Place) -> Result<(), Interruption>
+///
+/// # Errors
+/// 308, as a stop, of the nearest interpreter whose limit of steps would be passed, itself first; and where none would be, that the outside grants no step more.
+pub fn charge<O: Outside>(
+    tree: &mut Tree,
+    outside: &mut O,
+    place: Place,
+) -> Result<(), Interruption>
     requires { (p : Path) × Names tree.old place p }
-    ensures charged { OnOk result ((p : Path) → Names tree.old place p → (blocked is_spent (tree_of tree.old) p ≡ None) × (tree_of tree.new ≡ effect p Charged (tree_of tree.old))) }
-    ensures stopped { IfErr result (λ i. Interrupts i (λ e. (p : Path) → Names tree.old place p → StopsCounting (tree_of tree.old) p (tree_of tree.new) e)) }
+    ensures counted { OnOk result ((p : Path) → Names tree.old place p → Counts O.goes (tree_of tree.old) outside.old p (tree_of tree.new) outside.new) }
+    ensures refused { IfErr result (λ i. Interrupts i (λ e. (p : Path) → Names tree.old place p → RefusesStep O.goes (tree_of tree.old) outside.old p (tree_of tree.new) outside.new e)) }
     ensures level { IsLevel tree.old tree.new }
+    ensures left { O.entries_left outside.new ≤ O.entries_left outside.old }
 {
+    if !outside.grants_step() {
+        return Err(refusal(tree, outside, place));
+    }
     match tree.charge_at(place) {
-        Ok(()) => Ok(()),
-        Err(levels) => Err(Interruption::Stopped(Stop {
-            levels_up: levels,
-            kind: StopKind::Count,
-        })),
+        Ok(()) => {
+            outside.makes_step();
+            Ok(())
+        }
+        Err(levels) => Err(past_limit(levels)),
+    }
+}
+
+/// The stop of the interpreter so many levels up, whose limit of steps would be passed.
+fn past_limit(levels: usize) -> Interruption
+    ensures { Interrupts result (λ e. e ≡ endings.Reply.Stop levels Count) }
+{
+    Interruption::Stopped(Stop {
+        levels_up: levels,
+        kind: StopKind::Count,
+    })
+}
+
+/// How a step is refused that the outside doesn't grant: by a limit that it would pass, or else by the outside.
+fn refusal<O: Outside>(tree: &Tree, outside: &mut O, place: Place) -> Interruption
+    requires place { (p : Path) × Names tree.now place p }
+    requires refuses { O.has_steps outside.old ≡ false }
+    ensures refused { Interrupts result (λ e. (p : Path) → Names tree.now place p → RefusesStep O.goes (tree_of tree.now) outside.old p (tree_of tree.now) outside.new e) }
+    ensures left { O.entries_left outside.new ≤ O.entries_left outside.old }
+{
+    match tree.spent_at(place) {
+        Some(levels) => past_limit(levels),
+        None => {
+            outside.refuses_step();
+            Interruption::Cut(Cause::Above)
+        }
     }
 }
 

@@ -7,7 +7,7 @@ use Rattle.std.proofs.lemmas.Bool.Decides.{nat_tests}
 use Rattle.tcl_text.specs.declared.list.Braces.{Braces}
 use Rattle.tcl_text.specs.Lists.{braces, none_open, count, count_all, with_byte, next_brace, close_brace}
 
-and_then_some : (o : Option Braces) → option_and_then (λ n. Some n) o ≡ o
+pub and_then_some : (o : Option Braces) → option_and_then (λ n. Some n) o ≡ o
 and_then_some None = refl
 and_then_some (Some n) = refl
 

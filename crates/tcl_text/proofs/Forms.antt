@@ -11,11 +11,11 @@ last_next : (xs : List ℕ) (p c : ℕ) → last_byte p (xs ++ c ∷ []) ≡ c
 last_next [] p c = refl
 last_next (b ∷ xs) p c = last_next xs b c
 
-or_false : (t : Bool) → (t || false) ≡ t
+pub or_false : (t : Bool) → (t || false) ≡ t
 or_false true = refl
 or_false false = refl
 
-or_assoc : (s t u : Bool) → (s || (t || u)) ≡ ((s || t) || u)
+pub or_assoc : (s t u : Bool) → (s || (t || u)) ≡ ((s || t) || u)
 or_assoc true t u = refl
 or_assoc false t u = refl
 

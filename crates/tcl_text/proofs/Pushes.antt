@@ -89,7 +89,7 @@ pub escaped_bytes : (old one mark x t : List ℕ) → one ≡ old ++ mark → t 
 escaped_bytes old one mark x t a e = ap (λ z. z ++ x) a ∙ append_assoc old mark x ∙ ap (λ z. old ++ z) (sym e)
 
 -- lengths
-count_cons : (b : ℕ) (s : List ℕ) → count_by is_special (b ∷ s) ≡ cond (is_special b) 1 0 + count_by is_special s
+pub count_cons : (b : ℕ) (s : List ℕ) → count_by is_special (b ∷ s) ≡ cond (is_special b) 1 0 + count_by is_special s
 count_cons b s = sum_by-cons (λ x. cond (is_special x) 1 0) b s
 
 one_or_two : (t : Bool) (b l : ℕ) → length (cond t (92 ∷ l ∷ []) (b ∷ [])) ≡ 1 + cond t 1 0

@@ -6,3 +6,4 @@ pub mod Lists
 pub mod Reading
 pub mod NumberForms
 pub mod Writing
+pub mod Measuring

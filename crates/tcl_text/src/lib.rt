@@ -9,4 +9,5 @@ pub mod integer;
 pub mod list;
 pub mod list_comparing;
 pub mod list_writing;
+pub mod measured;
 pub mod text;

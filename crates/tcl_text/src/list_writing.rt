@@ -42,7 +42,7 @@ pub(crate) fn is_comment(element: &str, first: bool) -> bool
 }
 
 /// Whether these are a backslash and a newline.
-fn joins_lines(last: u8, byte: u8) -> bool
+pub(crate) fn joins_lines(last: u8, byte: u8) -> bool
     ensures { result ≡ ((last == 92) && (byte == 10)) }
 {
     last == b'\\' && byte == b'\n'
@@ -168,7 +168,7 @@ pub fn write_element(out: &mut String, element: &str, first: bool) -> Result<(),
     added
 }
 
-fn hash_mark_len(comment: bool) -> usize
+pub(crate) fn hash_mark_len(comment: bool) -> usize
     ensures { result ≡ length (hash_mark comment) }
 {
     if comment { 1 } else { 0 }

@@ -1,6 +1,6 @@
 -- What the table does, in the words of the core.
 use Rattle.std.proofs.Common.{◌≡◌, ◌⊎◌, ℕ, zero, suc, ◌-◌, ◌<◌, ◌≤◌, Bool, true, false, cond, [], ◌∷◌, ◌++◌, length, take, refl, sym, ◌∙◌, ap, inl, inr, arith, Option, Some, None, ◌&&◌}
-use Rattle.std.specs.Prelude.{◌≢◌, nat_eq, is_some, Result, Ok, Err, OnOk, OnErr, IfErr}
+use Rattle.std.specs.Prelude.{◌≢◌, nat_eq, is_some, Result, Ok, Err, OnOk, OnErr, IfErr, IfSome, IfNone}
 use Rattle.std.proofs.lemmas.Bool.Decides.{nat_tests}
 use Rattle.std.specs.Option.{option_map, option_map_or}
 use Rattle.std.specs.Str.{bytes_eq}
@@ -116,6 +116,12 @@ near_blocked full (x ∷ xs) f n h = by (near_blocked full xs (λ q. f (x ∷ q)
         let here : programs.full_at full (f []) ≡ true = full_at_is full (f []) ∙ sym (up_top full f (x ∷ xs) n z) ∙ h.here in
         let rest : blocked full (λ q. f (x ∷ q)) xs ≡ None = none_blocked full xs (λ q. f (x ∷ q)) (λ m k. sym (up_more full f x xs m k) ∙ h.below m (omega arith)) in
         (λ i. nearer (rest i) (here i) (suc (length xs))) ∙ ap Some (sym z)
+
+-- what an answer says that is the nearest full node, or none, whatever the path
+pub level_blocked : (full : NodeView → Bool) (f : Path → Option NodeView) (P : Path → Type 0) (r : Option ℕ) →
+    IfNone r ((p : Path) → P p → NoneFull full f p) → IfSome r (λ n. (p : Path) → P p → IsNearestFull full f p n) → (p : Path) → P p → r ≡ blocked full f p
+level_blocked full f P None none some p at = sym (none_blocked full p f (none p at))
+level_blocked full f P (Some n) none some p at = sym (near_blocked full p f n (some p at))
 
 pub on_both : {T E P Q S : Type 0} (r : Result T E) → OnOk r P → OnOk r Q → (P → Q → S) → OnOk r S
 on_both (Ok x) p q f = f p q

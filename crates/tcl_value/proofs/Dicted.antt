@@ -1,5 +1,5 @@
 -- Changes of a dict that a value keeps.
-use Rattle.std.proofs.Common.{◌≡◌, ℕ, ◌*◌, List, [], false, cond, Result, Ok, Err, sym, ◌∙◌, ap, subst, length, arith, OnOk, IfErr}
+use Rattle.std.proofs.Common.{◌≡◌, ℕ, List, [], false, cond, Result, Ok, Err, sym, ◌∙◌, ap, subst, length, arith, OnOk, IfErr}
 use Rattle.std.specs.Prelude.{◌%◌, ◌==◌}
 use Rattle.tcl_value.specs.Limits.{IsWithin, IsPast}
 use Rattle.tcl_value.specs.Writing.{write}

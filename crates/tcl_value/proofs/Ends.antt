@@ -1,5 +1,5 @@
 -- Elements that end in a backslash.
-use Rattle.std.proofs.Common.{◌≡◌, ℕ, ℤ, false, List, sym, ◌∙◌, ap, subst, ◌⊎◌, inl, inr, Global, FitsSigned, w64}
+use Rattle.std.proofs.Common.{◌≡◌, ℤ, false, sym, ◌∙◌, ap, subst, ◌⊎◌, inl, inr, Global}
 use Rattle.std.specs.declared.rc.Rc.{Rc}
 use Rattle.tcl_value.specs.Texts.{element_text, ends_in_backslash, IsElement}
 use Rattle.tcl_value.specs.declared.element.Element.{Element}

@@ -1,10 +1,10 @@
 -- Dicts whose values are elements.
-use Rattle.std.proofs.Common.{◌≡◌, ℕ, ◌+◌, ◌*◌, ◌<◌, ◌≤◌, ◌^◌, suc, zero, Bool, true, false, List, [], ◌∷◌, ◌++◌, length, refl, sym, ◌∙◌, ap, subst, arith, get_or, set, Option, Some, None, Result, Ok, Err, OnOk}
+use Rattle.std.proofs.Common.{◌≡◌, ℕ, ◌+◌, ◌*◌, ◌<◌, ◌≤◌, ◌^◌, suc, zero, Bool, true, false, List, [], ◌∷◌, ◌++◌, length, refl, sym, ◌∙◌, ap, arith, get_or, set, Option, Some, None, Result, Ok, Err, OnOk}
 use Rattle.std.specs.Prelude.{◌==◌, position, MatchOption}
 use Rattle.std.specs.Str.{bytes_eq}
 use Rattle.std.specs.List.{list_any, position_or_len}
 use Rattle.tcl_value.specs.Limits.{IsWithin}
-use Rattle.tcl_value.specs.Texts.{flat, pairs, weight_from, weight, element_text, texts, IsElement, AreElements, AllWithin, AreDistinct, IsEntries}
+use Rattle.tcl_value.specs.Texts.{flat, pairs, weight_from, weight, element_text, texts, IsElement, AreElements, AllWithin, IsEntries}
 use Rattle.tcl_value.specs.Dicts.{Pairs, put, place_of, value_set}
 use Rattle.tcl_value.specs.declared.value.ValueError.{ValueError}
 use Rattle.tcl_value.specs.declared.element.Element.{Element}

@@ -6,7 +6,7 @@ use Rattle.std.proofs.lemmas.Slice.Eq.{bytes_eq-Decides}
 use Rattle.tcl_value.specs.Writing.{write_element, write, write_from}
 use Rattle.tcl_value.specs.Texts.{flat, element_text, IsElement}
 use Rattle.tcl_value.specs.declared.element.Element.{Element}
-use Rattle.tcl_value.specs.declared.element.Element.TheVariants.{Text, Number, List as Inner, Dict}
+use Rattle.tcl_value.specs.declared.element.Element.TheVariants.{Text, Grown, Number, List as Inner, Dict}
 use Rattle.tcl_value.specs.declared.entries.Entries.TheDeep.{deep-Element}
 use Rattle.tcl_value.proofs.Laws.{list_of-write}
 use Rattle.tcl_value.proofs.Writes.{length-flat}
@@ -16,12 +16,14 @@ use Rattle.tcl_value.specs.Reading.{list_of}
 -- what is written of an element is no shorter than all that stands in it
 deep_written : (x : Element) → IsElement x → deep-Element x ≤ length (write_element false (element_text x))
 deep_written (Text t) h = omega arith
+deep_written (Grown t) h = omega arith
 deep_written (Number m) h = omega arith
 deep_written (Inner l) h = omega (arith, ap length (h.0.braced false), length-append (write l.value) (125 ∷ []))
 deep_written (Dict l) h = omega (arith, ap length (h.braced false), length-append (write (flat l.value)) (125 ∷ []))
 
 deep_first : (x : Element) → IsElement x → deep-Element x ≤ length (write_element true (element_text x))
 deep_first (Text t) h = omega arith
+deep_first (Grown t) h = omega arith
 deep_first (Number m) h = omega arith
 deep_first (Inner l) h = omega (arith, ap length (h.0.braced true), length-append (write l.value) (125 ∷ []))
 deep_first (Dict l) h = omega (arith, ap length (h.braced true), length-append (write (flat l.value)) (125 ∷ []))

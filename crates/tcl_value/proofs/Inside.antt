@@ -1,13 +1,11 @@
 -- Changes inside lists that stand in one another.
-use Rattle.std.proofs.Common.{◌≡◌, ℕ, ◌+◌, ◌-◌, ◌<◌, ◌≤◌, zero, suc, Bool, true, false, List, [], ◌∷◌, ◌++◌, length, refl, sym, ◌∙◌, ap, subst, arith, get_or, get_or-set_same, set, length-append, Option, Some, None, Result, Ok, Err, OnOk}
+use Rattle.std.proofs.Common.{◌≡◌, ℕ, ◌+◌, ◌-◌, ◌<◌, ◌≤◌, zero, suc, Bool, true, false, List, [], ◌∷◌, ◌++◌, length, refl, sym, ◌∙◌, ap, subst, arith, get_or, get_or-set_same, set, length-append, Option, Some, Result, Ok, Err, OnOk}
 use Rattle.std.proofs.lemmas.List.{length-set}
 use Rattle.std.specs.Prelude.{◌==◌}
 use Rattle.std.specs.Prelude.{is_ok, option_map}
 use Rattle.std.specs.Bool.{OnTrue, OnFalse}
-use Rattle.tcl_text.specs.Lists.{list_of}
-use Rattle.tcl_value.specs.Limits.{IsWithin}
 use Rattle.tcl_value.specs.Writing.{write_element, write}
-use Rattle.tcl_value.specs.Texts.{element_text, texts, weight, weight_from, IsElement, IsInner, AreElements, IsItems, ends_in_backslash}
+use Rattle.tcl_value.specs.Texts.{element_text, texts, weight, weight_from, IsElement, IsInner, IsItems, ends_in_backslash}
 use Rattle.tcl_value.specs.Inside.{element_at, with_element, at_list, element_put, ListPut, InnerChange}
 use Rattle.tcl_value.specs.declared.value.ValueError.{ValueError}
 use Rattle.tcl_value.specs.declared.element.Element.{Element}

@@ -1,22 +1,20 @@
 -- Changes inside dicts that stand in one another, and of what stands at the end of a path of keys.
-use Rattle.std.proofs.Common.{◌≡◌, ℕ, ◌+◌, ◌-◌, ◌*◌, ◌<◌, ◌≤◌, zero, suc, Bool, true, false, List, [], ◌∷◌, ◌++◌, length, refl, sym, ◌∙◌, ap, subst, arith, get_or, set, length-append, ◌⊎◌, inl, inr, Option, Some, None, Result, Ok, Err, OnOk, OnErr}
+use Rattle.std.proofs.Common.{◌≡◌, ℕ, ◌+◌, ◌-◌, ◌*◌, ◌<◌, ◌≤◌, zero, suc, Bool, true, false, List, [], ◌∷◌, ◌++◌, length, refl, sym, ◌∙◌, ap, subst, arith, get_or, set, length-append, ◌⊎◌, inl, inr, Option, Some, Result, Ok, Err, OnOk}
 use Rattle.std.specs.Prelude.{is_ok, option_map}
 use Rattle.std.specs.Bool.{OnTrue, OnFalse}
 use Rattle.tcl_text.specs.Lists.{list_of}
 use Rattle.tcl_value.specs.Limits.{IsWithin}
 use Rattle.tcl_value.specs.Writing.{write_element, write}
-use Rattle.tcl_value.specs.Texts.{element_text, texts, flat, pairs, weight, IsElement, IsInner, AreElements, IsEntries, ends_in_backslash}
-use Rattle.tcl_value.specs.Dicts.{Pairs, put, put_all, value_of, dict_of, place_of, value_set}
+use Rattle.tcl_value.specs.Texts.{element_text, texts, flat, pairs, weight, IsElement, IsInner, IsEntries, ends_in_backslash}
+use Rattle.tcl_value.specs.Dicts.{Pairs, put, put_all, value_of, place_of, value_set}
 use Rattle.tcl_value.specs.Inside.{at_list, at_dict, value_or_empty, changed_by, entry_changed, IsChange, InnerChange, DictChange}
 use Rattle.tcl_value.specs.declared.value.ValueError.{ValueError}
 use Rattle.tcl_value.specs.declared.element.Element.{Element}
 use Rattle.tcl_value.specs.declared.element.Change.{Change}
-use Rattle.tcl_value.specs.declared.element.Change.TheVariants.{Value, Elements, Text}
+use Rattle.tcl_value.specs.declared.element.Change.TheVariants.{Value}
 use Rattle.tcl_value.proofs.Laws.{list_of-write}
 use Rattle.tcl_value.proofs.Dicted.{dict_of-write}
-use Rattle.tcl_value.proofs.Longer.{written_longer}
-use Rattle.tcl_value.proofs.Written.{size_at_most}
-use Rattle.tcl_value.proofs.Weights.{size, length-write}
+use Rattle.tcl_value.proofs.Weights.{size}
 use Rattle.tcl_value.proofs.Writes.{length-flat}
 use Rattle.tcl_value.proofs.Puts.{put_found, put_new, value_found, length-value_set, weight-value_set}
 use Rattle.tcl_value.proofs.Falling.{get_value}
@@ -153,19 +151,17 @@ unchanged_text true xs now h = tt
 unchanged_text false xs now h = ap write h
 
 -- a text behind a text
-pub appended_change : {U E : Type 0} (r : Result U E) (b : Bool) (after : Option (List ℕ)) (t now more : List ℕ) (room : ℕ) → b ≡ is_ok r → Some (t ++ more) ≡ after → (1 ≤ length more) × (ends_in_backslash more ≡ false) → length t + 2 * length more + 2 ≤ room → OnOk r (now ≡ t ++ more) → OnTrue b (InnerChange after room t now)
-appended_change (Ok u) b after t now more room e a c w s =
-    subst (λ z. OnTrue z (InnerChange after room t now)) (sym e)
-    record {
-      changed = sym a ∙ ap (λ z. Some z) (sym s);
-      ends = ap ends_in_backslash s ∙ ends_append t more (omega (arith, c.0)) ∙ c.1;
-      light = λ first. omega (arith, size_at_most first now, written_longer first t, ap length s, length-append t more, w);
-    }
-appended_change (Err u) b after t now more room e a c w s = subst (λ z. OnTrue z (InnerChange after room t now)) (sym e) tt
+pub appended_change : (b : Bool) (after : Option (List ℕ)) (t now more : List ℕ) (room : ℕ) → Some (t ++ more) ≡ after → (1 ≤ length more) × (ends_in_backslash more ≡ false) → OnTrue b (now ≡ t ++ more) → OnTrue b ((first : Bool) → length (write_element first now) ≤ length (write_element first t) + room) → OnTrue b (InnerChange after room t now)
+appended_change true after t now more room a c s w = record {
+  changed = sym a ∙ ap (λ z. Some z) (sym s);
+  ends = ap ends_in_backslash s ∙ ends_append t more (omega (arith, c.0)) ∙ c.1;
+  light = w;
+}
+appended_change false after t now more room a c s w = tt
 
-pub appended_within : {U E : Type 0} (r : Result U E) (t now more : List ℕ) (room : ℕ) → length t + room ≤ 16777216 → length more ≤ room → OnOk r (now ≡ t ++ more) → OnErr r (now ≡ t) → IsWithin now
-appended_within (Ok u) t now more room w k s f = omega (arith, w, k, ap length s, length-append t more)
-appended_within (Err u) t now more room w k s f = omega (arith, w, ap length f)
+pub appended_within : (b : Bool) (t now more : List ℕ) (room : ℕ) → length t + room ≤ 16777216 → length more ≤ room → OnTrue b (now ≡ t ++ more) → OnFalse b (now ≡ t) → IsWithin now
+appended_within true t now more room w k s f = omega (arith, w, k, ap length s, length-append t more)
+appended_within false t now more room w k s f = omega (arith, w, ap length f)
 
 pub extended_done : {U : Type 0} (r : Result U ValueError) (b : Bool) (kept room most : ℕ) (ts xs ys now : List (List ℕ)) → b ≡ is_ok r → kept ≡ weight ts → ts ≡ xs → most ≡ kept + room → OnOk r (now ≡ xs ++ ys) → OnOk r (weight now ≤ most) → OnTrue b ((now ≡ xs ++ ys) × (length (write now) ≤ length (write xs) + room))
 extended_done (Ok u) b kept room most ts xs ys now e k v m s w = subst (λ z. OnTrue z ((now ≡ xs ++ ys) × (length (write now) ≤ length (write xs) + room))) (sym e) (s, lighter xs now room (omega (arith, k, ap weight v, m, w)))

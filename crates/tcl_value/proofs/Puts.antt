@@ -1,13 +1,12 @@
 -- Dicts by the places of their keys.
-use Rattle.std.proofs.Common.{◌≡◌, ℕ, ◌+◌, ◌-◌, ◌*◌, ◌<◌, ◌≤◌, suc, zero, Bool, true, false, cond, not, ◌||◌, List, [], ◌∷◌, ◌++◌, length, refl, sym, ◌∙◌, ap, subst, arith, get_or, set, take, drop, Option, Some, None, IsTrue}
+use Rattle.std.proofs.Common.{◌≡◌, ℕ, ◌+◌, ◌<◌, ◌≤◌, suc, zero, Bool, true, false, cond, not, ◌||◌, List, [], ◌∷◌, ◌++◌, length, refl, sym, ap, arith, get_or, set, Option, Some, None, IsTrue}
 use Rattle.std.specs.Prelude.{◌==◌, nat_lt, position, remove}
 use Rattle.std.specs.Str.{bytes_eq}
-use Rattle.std.specs.List.{list_any, prefix_len, position_or_len}
+use Rattle.std.specs.List.{list_any, position_or_len}
 use Rattle.std.specs.Cmp.Lexicographic.{bytes_decides}
 use Rattle.std.proofs.lemmas.Bool.Decides.{nat_tests}
-use Rattle.tcl_value.specs.Writing.{write_element, write}
 use Rattle.tcl_value.specs.Texts.{flat, pairs, weight_from, weight, AreDistinct}
-use Rattle.tcl_value.specs.Dicts.{Pairs, put, without, value_of, place_of, value_set, entry_dropped, put_all}
+use Rattle.tcl_value.specs.Dicts.{Pairs, put, without, value_of, place_of, value_set, entry_dropped}
 use Rattle.tcl_value.proofs.Weights.{size, starts, weight-push}
 use Rattle.tcl_value.proofs.Writes.{flat-push}
 

@@ -1,16 +1,16 @@
 -- Dicts that lose an entry, dicts within the limit, and dicts that are read from lists.
-use Rattle.std.proofs.Common.{◌≡◌, ℕ, ◌+◌, ◌*◌, ◌-◌, ◌<◌, ◌≤◌, suc, zero, Bool, true, false, cond, List, [], ◌∷◌, ◌++◌, length, refl, sym, ◌∙◌, ap, subst, arith, get_or, take, Option, Some, None, Result, Ok, Err, OnOk, append_assoc, IfOk, IsTrue, ◌⊎◌, inl, inr}
-use Rattle.std.specs.Prelude.{◌==◌, ◌/◌, ◌||◌, remove, option_map, IsSome}
+use Rattle.std.proofs.Common.{◌≡◌, ℕ, ◌+◌, ◌*◌, ◌<◌, ◌≤◌, suc, zero, Bool, true, false, cond, List, [], ◌∷◌, ◌++◌, length, refl, sym, ◌∙◌, ap, subst, arith, get_or, take, Some, None, Result, Ok, Err, OnOk, append_assoc, IfOk, IsTrue, ◌⊎◌, inl, inr}
+use Rattle.std.specs.Prelude.{◌==◌, ◌||◌, remove}
 use Rattle.std.proofs.lemmas.Bool.Decides.{nat_tests}
 use Rattle.std.specs.Str.{bytes_eq}
 use Rattle.std.specs.List.{list_any}
 use Rattle.tcl_value.specs.Limits.{IsWithin, IsPast}
 use Rattle.tcl_value.specs.Writing.{write}
-use Rattle.tcl_value.specs.Texts.{flat, pairs, weight_from, weight, element_text, texts, IsElement, AreElements, AllWithin, AreDistinct, IsEntries}
+use Rattle.tcl_value.specs.Texts.{flat, pairs, weight_from, weight, element_text, texts, AreElements, AllWithin, AreDistinct, IsEntries}
 use Rattle.tcl_value.specs.Dicts.{Pairs, put, put_all, without, value_of, place_of, entry_dropped}
 use Rattle.tcl_value.specs.declared.element.Element.{Element}
 use Rattle.tcl_value.specs.declared.value.ValueError.{ValueError}
-use Rattle.tcl_value.proofs.Weights.{size, length-write, length-texts}
+use Rattle.tcl_value.proofs.Weights.{size, length-write}
 use Rattle.tcl_value.proofs.Puts.{put_new, value_found, value_none, without_found, without_none, pairs_drop, AreDistinct-drop, turned}
 use Rattle.tcl_value.proofs.Entered.{text_many}
 

@@ -7,7 +7,7 @@ use Rattle.std.proofs.lemmas.Bool.Decides.{nat_tests}
 use Rattle.tcl_value.specs.Writing.{write_element, write_rest, write}
 use Rattle.tcl_value.specs.Texts.{weight_from, weight, element_text, texts, IsElement, AreElements, IsSame}
 use Rattle.tcl_value.specs.declared.element.Element.{Element}
-use Rattle.tcl_value.specs.declared.element.Element.TheVariants.{Text, Number, List as Inner, Dict}
+use Rattle.tcl_value.specs.declared.element.Element.TheVariants.{Text, Grown, Number, List as Inner, Dict}
 use Rattle.tcl_value.proofs.Numbers.{digits_at_most}
 use Rattle.tcl_value.proofs.Written.{size_at_most}
 
@@ -48,6 +48,7 @@ length-write (x ∷ xs) = omega (arith, length-append (write_element true x) (wr
 -- no element is longer than a value
 pub element_within : (x : Element) → IsElement x → length (element_text x) ≤ 16777216
 element_within (Text text) h = h
+element_within (Grown text) h = h
 element_within (Number n) h = omega (arith, digits_at_most n h)
 element_within (Inner items) h = h.0.within
 element_within (Dict entries) h = h.within

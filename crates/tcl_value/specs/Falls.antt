@@ -5,7 +5,7 @@ use denote.Param.Weighed.{most, at_most}
 use Rattle.tcl_value.specs.Writing.{write_element, write_rest, write}
 use Rattle.tcl_value.specs.Texts.{flat, texts, pairs, AreElements, IsElement, IsItems, IsEntries, element_text}
 use Rattle.tcl_value.specs.declared.element.Element.{Element}
-use Rattle.tcl_value.specs.declared.element.Element.TheVariants.{Text, Number, List as Inner, Dict}
+use Rattle.tcl_value.specs.declared.element.Element.TheVariants.{Text, Grown, Number, List as Inner, Dict}
 use Rattle.tcl_value.specs.declared.entries.Entries.TheDeep.{deep-Element}
 
 braced_length : (x : List ℕ) → length (123 ∷ x ++ 125 ∷ []) ≡ length x + 2
@@ -13,6 +13,7 @@ braced_length x = omega (arith, length-append x (125 ∷ []))
 
 element_falls : (first : Bool) (x : Element) → IsElement x → deep-Element x ≤ length (write_element first (element_text x))
 element_falls first (Text t) h = omega arith
+element_falls first (Grown t) h = omega arith
 element_falls first (Number m) h = omega arith
 element_falls first (Inner l) h = omega (arith, ap length (h.0.braced first), braced_length (write l.value))
 element_falls first (Dict l) h = omega (arith, ap length (h.braced first), braced_length (write (flat l.value)))

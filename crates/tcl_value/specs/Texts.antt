@@ -7,7 +7,7 @@ use Rattle.std.proofs.Common.{FitsSigned, w64, Bor}
 use Rattle.tcl_value.specs.Limits.{IsWithin}
 use Rattle.tcl_value.specs.Writing.{write_element, write}
 use Rattle.tcl_value.specs.declared.element.Element.{Element}
-use Rattle.tcl_value.specs.declared.element.Element.TheVariants.{Text, Number, List as Inner, Dict}
+use Rattle.tcl_value.specs.declared.element.Element.TheVariants.{Text, Grown, Number, List as Inner, Dict}
 
 -- keys and values in turn
 abbrev pub flat : List (List ℕ × List ℕ) → List (List ℕ)
@@ -17,6 +17,7 @@ flat (e ∷ es) = e.0 ∷ e.1 ∷ flat es
 -- the text of an element
 abbrev pub element_text : Element → List ℕ
 element_text (Text text) = text
+element_text (Grown grown) = grown.value
 element_text (Number n) = signed_decimal n
 element_text (Inner items) = write items.value
 element_text (Dict entries) = write (flat entries.value)
@@ -55,6 +56,7 @@ pub record IsInner (x : List ℕ) : Type 0 where
 -- what an element keeps is short enough, and an inner list or dict is one that is written in braces
 abbrev pub IsElement : Element → Type 0
 IsElement (Text text) = IsWithin text
+IsElement (Grown grown) = IsWithin grown.value
 IsElement (Number n) = FitsSigned w64 n
 IsElement (Inner items) = IsInner (write items.value) × (2 ≤ length items.value)
 IsElement (Dict entries) = IsInner (write (flat entries.value))

@@ -1,5 +1,5 @@
 //! The elements of lists and the values of dicts.
-ghost use Rattle.std.specs.Prelude.{◌≡◌, ◌≢◌, ◌≤◌, ◌+◌, false, ◌++◌, ◌∷◌, ◌↔◌, [], length, OnOk, OnErr, IfOk, IsTrue, MatchOption};
+ghost use Rattle.std.specs.Prelude.{◌≡◌, ◌≢◌, ◌≤◌, ◌+◌, false, ◌++◌, ◌∷◌, ◌↔◌, [], length, OnOk, OnErr, IfOk, IsTrue, MatchOption, Bool};
 ghost use Rattle.std.specs.Bool.{OnTrue, OnFalse};
 ghost use Rattle.std.specs.String.{string_bytes};
 ghost use Rattle.std.specs.Fmt.{signed_decimal};
@@ -18,16 +18,19 @@ use std::rc::Rc;
 use tcl_text::integer::{int_len, push_int, write_int};
 use tcl_text::list::{write_element, written_len};
 use tcl_text::list_comparing::{is_int, is_written};
+use tcl_text::measured::Measured;
 use tcl_text::text::Text;
 
 /// How deep lists and dicts may stand in one another without a text: what writes, drops or copies them goes down as deep.
 pub(crate) const MOST_DEPTH: u32 = 100;
 
-/// An element, which may be kept as the number, the list or the dict that its text writes.
+/// An element, which may be kept as the number, the list or the dict that its text writes. A text that was added to in place is kept
+/// with what it takes to know how many bytes write it.
 #[cycle(element)]
 #[derive(Drop)]
 pub(crate) enum Element {
     Text(Text),
+    Grown(Rc<Measured>),
     Number(i64),
     List(Rc<Items>),
     Dict(Rc<Entries>),
@@ -56,6 +59,7 @@ impl Element {
     {
         match self {
             Element::Text(text) => text.clone(),
+            Element::Grown(grown) => grown.text().clone(),
             Element::Number(n) => Text::from_string(alloc, write_int(alloc, *n)?),
             Element::List(items) => Text::from_string(alloc, items.write(alloc)?),
             Element::Dict(entries) => Text::from_string(alloc, entries.write(alloc)?),
@@ -70,6 +74,7 @@ impl Element {
     {
         match self {
             Element::Text(text) => written_len(text.as_str(), first),
+            Element::Grown(grown) => grown.written_len(first),
             Element::Number(n) => number_len(*n, first),
             Element::List(items) => items.written_len() + 2,
             Element::Dict(entries) => entries.written_len() + 2,
@@ -83,6 +88,7 @@ impl Element {
     {
         match self {
             Element::Text(text) => has_backslash_end(text.as_str().as_bytes()),
+            Element::Grown(grown) => has_backslash_end(grown.text().as_str().as_bytes()),
             Element::Number(_) | Element::List(_) | Element::Dict(_) => false,
         }
     }
@@ -99,6 +105,7 @@ impl Element {
     {
         match self {
             Element::Text(text) => write_element(out, text.as_str(), first),
+            Element::Grown(grown) => write_element(out, grown.text().as_str(), first),
             Element::Number(n) => write_number_to(*n, first, out),
             Element::List(items) => {
                 out.push('{')?;
@@ -121,6 +128,7 @@ impl Element {
     {
         match self {
             Element::Text(own) => is_written(text, own.as_str(), first),
+            Element::Grown(own) => is_written(text, own.text().as_str(), first),
             Element::Number(n) => is_written_number(text, *n, first),
             Element::List(items) => match inside_braces(text) {
                 Some(inside) => items.is_text(inside),
@@ -155,6 +163,7 @@ impl Element {
     {
         match self {
             Element::Text(own) => text == own.as_str().as_bytes(),
+            Element::Grown(own) => text == own.text().as_str().as_bytes(),
             Element::Number(n) => is_int(text, *n),
             Element::List(items) => items.is_text(text),
             Element::Dict(entries) => entries.is_text(text),
@@ -179,6 +188,8 @@ impl Element {
         match (self, other) {
             (Element::Text(own), other) => other.is_text(own.as_str().as_bytes()),
             (own, Element::Text(text)) => own.is_text(text.as_str().as_bytes()),
+            (Element::Grown(own), other) => other.is_text(own.text().as_str().as_bytes()),
+            (own, Element::Grown(grown)) => own.is_text(grown.text().as_str().as_bytes()),
             (Element::Number(n), other) => other.is_number(*n),
             (own, Element::Number(n)) => own.is_number(*n),
             (Element::List(own), Element::List(items)) => own.same(items),
@@ -202,7 +213,7 @@ impl Element {
     {
         match self {
             Element::List(items) => put_inner(items, path, element, room),
-            Element::Text(_) | Element::Number(_) | Element::Dict(_) => false,
+            Element::Text(_) | Element::Grown(_) | Element::Number(_) | Element::Dict(_) => false,
         }
     }
 
@@ -225,17 +236,17 @@ impl Element {
         ensures unchanged { OnFalse result (element_text self.new ≡ element_text self.old) }
     {
         if path.is_empty() {
-            return self.change_itself(change, room);
+            return self.change_itself(alloc, change, room);
         }
         match self {
             Element::Dict(entries) => change_shared(entries, alloc, path, change, room),
-            Element::Text(_) | Element::Number(_) | Element::List(_) => false,
+            Element::Text(_) | Element::Grown(_) | Element::Number(_) | Element::List(_) => false,
         }
     }
 
     /// Changes it, where it is kept in the form that the change asks for, and what is written of it is then longer by at most so many
     /// bytes. What isn't shared is changed in place. Says whether it did; where it didn't, nothing is changed.
-    fn change_itself(&mut self, change: Change, room: usize) -> bool
+    fn change_itself(&mut self, alloc: Global, change: Change, room: usize) -> bool
         requires own { IsElement self.old }
         requires change { IsChange change }
         requires room { length (element_text self.old) + room ≤ 16777216 }
@@ -245,15 +256,36 @@ impl Element {
     {
         match self {
             Element::List(items) => extend_by(items, change, room),
-            Element::Text(text) => append_by(text, change, room),
+            Element::Grown(grown) => append_by(grown, change, room),
+            Element::Text(text) => match measured(alloc, text) {
+                Ok(grown) => self.append_first(grown, change, room),
+                Err(_) => false,
+            },
             Element::Number(_) | Element::Dict(_) => false,
         }
+    }
+
+    /// Takes a text in its place that is the same, and adds to it, where that is the change and what is written of it is then longer by
+    /// at most so many bytes. Says whether it did; where it didn't, nothing is changed.
+    fn append_first(&mut self, grown: Rc<Measured>, change: Change, room: usize) -> bool
+        requires own { IsElement self.old }
+        requires same { grown.value ≡ element_text self.old }
+        requires change { IsChange change }
+        requires room { length (element_text self.old) + room ≤ 16777216 }
+        ensures change { OnTrue result (InnerChange (changed_by change (element_text self.old)) room (element_text self.old) (element_text self.new)) }
+        ensures element { IsElement self.new }
+        ensures unchanged { OnFalse result (element_text self.new ≡ element_text self.old) }
+    {
+        let mut grown = grown;
+        let done = append_by(&mut grown, change, room);
+        *self = Element::Grown(grown);
+        done
     }
 
     /// How deep lists and dicts stand in it, at most.
     pub(crate) fn depth(&self) -> u32 {
         match self {
-            Element::Text(_) | Element::Number(_) => 0,
+            Element::Text(_) | Element::Grown(_) | Element::Number(_) => 0,
             Element::List(items) => items.depth().saturating_add(1),
             Element::Dict(entries) => entries.depth().saturating_add(1),
         }
@@ -329,27 +361,44 @@ fn extend_shared(items: &mut Rc<Items>, elements: Vec<Element>, room: usize) -> 
     }
 }
 
+/// A text as one that is added to.
+fn measured(alloc: Global, text: &Text) -> Result<Rc<Measured>, AllocError>
+    ensures { IfOk result (λ made. made.value ≡ text.now) }
+{
+    let grown = Rc::new(alloc, Measured::new(text.clone()?))?;
+    Ok(grown)
+}
+
 /// Adds to the end of a text, where that is the change and what is written of the text is then longer by at most so many bytes: in
 /// place where it isn't shared. Says whether it did; where it didn't, nothing is changed.
-fn append_by(text: &mut Text, change: Change, room: usize) -> bool
-    requires own { IsWithin text.old }
+fn append_by(grown: &mut Rc<Measured>, change: Change, room: usize) -> bool
+    requires own { IsWithin grown.old.value }
     requires change { IsChange change }
-    requires room { length text.old + room ≤ 16777216 }
-    ensures change { OnTrue result (InnerChange (changed_by change text.old) room text.old text.new) }
-    ensures within { IsWithin text.new }
-    ensures unchanged { OnFalse result (text.new ≡ text.old) }
+    requires room { length grown.old.value + room ≤ 16777216 }
+    ensures change { OnTrue result (InnerChange (changed_by change grown.old.value) room grown.old.value grown.new.value) }
+    ensures within { IsWithin grown.new.value }
+    ensures unchanged { OnFalse result (grown.new.value ≡ grown.old.value) }
 {
     let Change::Text(more) = change else {
         return false;
     };
-    // What is written of a text has at most twice its bytes and two more.
     if more.len() > room {
         return false;
     }
-    if text.len() + 2 * more.len() + 2 > room {
-        return false;
+    append_shared(grown, &more, room)
+}
+
+/// Adds to the end of a text, where what is written of it is then longer by at most so many bytes: in place where it isn't shared.
+/// Says whether it did; where it didn't, nothing is changed.
+fn append_shared(grown: &mut Rc<Measured>, more: &Text, room: usize) -> bool
+    ensures appended { OnTrue result (grown.new.value ≡ grown.old.value ++ more.now) }
+    ensures light { OnTrue result ((first : Bool) → length (write_element first grown.new.value) ≤ length (write_element first grown.old.value) + room) }
+    ensures unchanged { OnFalse result (grown.new.value ≡ grown.old.value) }
+{
+    match Rc::make_mut(grown) {
+        Ok(own) => own.append_within(more.as_str(), room),
+        Err(_) => false,
     }
-    text.append(more.as_str()).is_ok()
 }
 
 /// Whether the last byte is a backslash.
@@ -453,6 +502,7 @@ impl Clone for Element {
     fn clone(&self) -> Result<Element, AllocError> {
         match self {
             Element::Text(text) => Ok(Element::Text(text.clone()?)),
+            Element::Grown(grown) => Ok(Element::Grown(grown.clone()?)),
             Element::Number(n) => Ok(Element::Number(*n)),
             Element::List(items) => Ok(Element::List(items.clone()?)),
             Element::Dict(entries) => Ok(Element::Dict(entries.clone()?)),

@@ -217,6 +217,7 @@ impl Value {
     {
         let form = match element {
             Element::Text(text) => Form::Text(text.clone()?),
+            Element::Grown(grown) => Form::Text(grown.text().clone()?),
             Element::Number(n) => Form::Number(*n),
             Element::List(items) => Form::List(items.clone()?),
             Element::Dict(entries) => Form::Dict(entries.clone()?),

@@ -6,6 +6,10 @@ mod changes;
 #[cfg(test)]
 mod dict_values;
 #[cfg(test)]
+mod inside;
+#[cfg(test)]
+mod inside_limits;
+#[cfg(test)]
 mod limits;
 #[cfg(test)]
 mod nested;

@@ -36,7 +36,7 @@ fn doubled(alloc: Global, depth: u32) -> Result<Value, ValueError> {
 }
 
 /// A list whose text has 16,777,216 bytes.
-fn full(alloc: Global) -> Result<Value, ChangeError> {
+pub(crate) fn full(alloc: Global) -> Result<Value, ChangeError> {
     let mut list = doubled(alloc, 14)?;
     list.push(alloc, Value::from_int(1234))?;
     Ok(list)

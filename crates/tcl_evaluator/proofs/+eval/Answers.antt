@@ -21,7 +21,7 @@ use Rattle.tcl_parser.specs.Words.{WordRead}
 use Rattle.tcl_language.specs.Instructions.{fits, Open}
 use Rattle.tcl_run.proofs.Endings.{IfEnded-more, IfEnded-at, Interrupts-more, Interrupts-at, ended_err, of_text}
 use Rattle.tcl_run.proofs.Leads.{at_prog, at_reply}
-use Rattle.tcl_run.proofs.Steady.{still_at, still_running, steady-refl, steady-trans, level_steady, nested_steady, begun_at, less_room}
+use Rattle.tcl_run.proofs.Steady.{still_at, still_in_use, still_running, steady-refl, steady-trans, level_steady, nested_steady, begun_at, less_room}
 use Rattle.tcl_evaluator.proofs.Steps
 use Rattle.tcl_evaluator.proofs.Steps.{item_on, none_on, no_item, stays_of, EndsFrom, TextEnds, text_ends, VariableEnds, variable_ends, EndsAt, appended, forgets, both, stands}
 use Rattle.std.proofs.Common.{true, None}
@@ -49,18 +49,17 @@ use Rattle.tcl_evaluator.proofs.Catching.{caught_ok, caught_err, eval_runs, eval
 use Rattle.tcl_evaluator.specs.View.{targeted, unhidden, invokes_at}
 use Rattle.std.proofs.Common.{Bool, false}
 use Rattle.std.specs.Prelude.{Err}
-use Rattle.tcl_run.specs.Outsides.{staged}
 use Rattle.tcl_run.specs.Runs.{IsThere}
 use Rattle.tcl_text.specs.declared.integer.Integers.{Integers}
 use Rattle.tcl_entries.specs.Asking.{GoesOn}
-use Rattle.tcl_entries.proofs.Carried.{asks_nobody}
+use Rattle.tcl_entries.proofs.Carried.{asks_another, asks_nobody}
 use Rattle.tcl_entries.proofs.Reached.{never_outside}
 use Rattle.tcl_core.specs.Programs.Prog.{done}
 use Rattle.tcl_language.specs.Interpreters.{asks_at, eval as interp_evals}
 use Rattle.tcl_language.specs.Words.{concat}
 use Rattle.tcl_run.specs.Runs.{IsAt}
 use Rattle.tcl_run.proofs.Leads.{grows, outgrows}
-use Rattle.tcl_evaluator.proofs.Entered.{entered, evals, eval_is, eval_few, done_on, hidden_stops, hidden_settles, invokes_here, invokes_global}
+use Rattle.tcl_evaluator.proofs.Entered.{asks_here, evals, eval_is, eval_few, hidden_stops, hidden_settles, invokes_here, invokes_global}
 use Rattle.tcl_core.specs.Entries.Entry.{Eval, InvokeHidden}
 use Rattle.tcl_language.specs.Table.{invoked}
 use Rattle.tcl_calls.specs.Found.{hidden_found}
@@ -69,12 +68,9 @@ use Rattle.tcl_core.specs.Entries.Entry.{CallWords}
 use Rattle.tcl_language.specs.Interpreters.{call_alias as alias_program}
 use Rattle.tcl_language.specs.Table.{serve}
 use Rattle.tcl_tree.specs.declared.command.Command.{Command}
-use Rattle.tcl_evaluator.proofs.Reaching.{whole_path, leads_on}
-use Rattle.tcl_core.specs.Runs.{carried}
 use Rattle.tcl_language.specs.Faults.{lost_alias}
-use Rattle.tcl_run.specs.Outsides.{IsCalled}
 use Rattle.tcl_run.specs.Runs.{InUse}
-use Rattle.tcl_evaluator.proofs.Targets.{carried_ends, settled_more, target_ends, target_refused, entry_stops, entry_calls, entry_evaluates, unhidden_ends, unhidden_refused, same_dispatch, alias_goes, alias_missing, alias_leaves, called_as}
+use Rattle.tcl_evaluator.proofs.Targets.{settled_more, target_ends, target_refused, entry_stops, entry_calls, entry_evaluates, unhidden_ends, unhidden_refused, same_dispatch, evaluates_there, alias_is, done_on, evaluates_same, calls_there, calls_end, calls_below, calls_nobody, calls_past, lost_so}
 -- (of expressions and the commands with conditions)
 use Rattle.std.proofs.Common.{◌⊎◌, inl, inr, ◌<◌, get_or}
 use Rattle.std.specs.Option.{option_copied}
@@ -88,7 +84,7 @@ use Rattle.tcl_core.specs.Programs.Prog.{go}
 use Rattle.tcl_language.specs.Instructions.Instr.{Script, While, For}
 use Rattle.tcl_operators.specs.Apply.{truth}
 use Rattle.tcl_operators.specs.Messages.{message_of as operator_message}
-use Rattle.tcl_run.proofs.Leads.{at_finish, charges, charge_stops, goes_done, goes_on}
+use Rattle.tcl_run.proofs.Leads.{charges, charge_refused, goes_done, goes_on}
 use Rattle.tcl_calls.specs.BranchesRead.{seen, tests_of}
 use Rattle.tcl_calls.specs.declared.branches.Branch.{Branch}
 use Rattle.tcl_calls.specs.Expressions.{IsRefused, settles}
@@ -121,6 +117,27 @@ use Rattle.tcl_entries.specs.Subcommands.{program_of, child_subcommand_of, child
 use Rattle.tcl_entries.proofs.Looks.{gets_evaluates, passes_evaluates}
 use Rattle.tcl_entries.proofs.Telling.{asks_last, evaluates_as, leads_evaluates, passes}
 use Rattle.tcl_evaluator.proofs.Dispatching.{acted, interp_known, interp_unknown, invoke_is, child_known, child_unknown, child_eval_none, child_eval_some}
+-- (of what reaches the host)
+use Rattle.std.specs.Str.{bytes_eq}
+use Rattle.tcl_core.specs.Paths.{Text}
+use Rattle.tcl_language.specs.Hosting as hosting
+use Rattle.tcl_language.specs.Instructions.{either}
+use Rattle.tcl_value.specs.Limits.{IsPast}
+use Rattle.tcl_evaluator.proofs.Steps.{one_item, two_items}
+use Rattle.tcl_evaluator.proofs.Awaited
+use Rattle.tcl_evaluator.proofs.Writing.{three_items, not_put, past_long, writes_as, writes_heard, writes_over}
+use Rattle.std.proofs.Common.{FitsSigned, w64, ℤ}
+use Rattle.std.proofs.lemmas.Int.{to_z-of_z}
+use Rattle.std.specs.Prelude.{Ok}
+use Rattle.tcl_core.specs.Entries.Entry.{AskHost}
+use Rattle.tcl_core.specs.Entries.Request.{Write}
+use Rattle.tcl_run.specs.Entering.{entry_of, whole_entry}
+use Rattle.tcl_run.specs.Outsides.{OnEntry, reply_of}
+use Rattle.tcl_run.specs.Runs.{room}
+use Rattle.tcl_run.specs.declared.outside.Turn.{Turn}
+use Rattle.tcl_language.specs.Interpreters.{no_interpreter}
+use Rattle.tcl_evaluator.specs.Waiting.{IsWritten, SaysOn, calls}
+use Rattle.tcl_evaluator.proofs.+eval.Goals.{hosting::puts-in_default-via-then-args-lt1, hosting::puts-in_default-via-else-args-lt1+else-args-lt2+else-args-lt3+else-args-lt4}
 use Rattle.tcl_evaluator.proofs.+eval.Goals as goal
 
 -- the words of a command
@@ -167,7 +184,7 @@ evaluation::eval_command-returns-in_err-charge-clause-runs g t c =
     let some : 1 ≤ length c.words.words.items = omega (arith, more, c.words.words.ok.0) in
     let none = none_on c.deref-word-items.result.now c.words.word-index c.words-test.false in
     let p = err_from_is_err_and c.from_residual-in_err-charge.result c.from_residual-in_err-charge.ensures.1 in
-    ended_err c.from_residual-in_err-charge.result c.in_err-charge.field-0.0 p.0 _ _ _ p.1 p.2 c.in_err-charge.ensures.stopped
+    ended_err c.from_residual-in_err-charge.result c.in_err-charge.field-0.0 p.0 _ _ _ p.1 p.2 c.in_err-charge.ensures.refused
     (λ e h q style at. c.words.invariant.leads q style at _ _ _ (at_prog (ap (λ (ws : List WordRead). words ws c.words.words.items) none)
     (Steps.charged_stops style c.words.words.items some (h q (still_at _ _ c.args.place q style c.words.invariant.steady at).names))))
 
@@ -176,12 +193,12 @@ evaluation::eval_command-returns-clause-runs g t c =
     let more = Steps.some_is (vec_len c.words.words) c.is_empty.result c.is_empty.ensures c.if-is_empty.false in
     let some : 1 ≤ length c.words.words.items = omega (arith, more, c.words.words.ok.0) in
     let none = none_on c.deref-word-items.result.now c.words.word-index c.words-test.false in
-    IfEnded-more c.call.result (EndsFrom g.O.Outside.goes c.charge.new.tree c.words.outside c.args.place (λ style. called style c.as_slice.result.now) c.call.new.tree c.call.new.outside)
+    IfEnded-more c.call.result (EndsFrom g.O.Outside.goes c.charge.new.tree c.charge.new.outside c.args.place (λ style. called style c.as_slice.result.now) c.call.new.tree c.call.new.outside)
     (EndsFrom g.O.Outside.goes c.args.tree.now c.args.outside.now c.args.place (λ style. words c.args.command.now []) c.call.new.tree c.call.new.outside) (λ e h q style at.
     let here = still_at _ _ c.args.place q style c.words.invariant.steady at in
-    let free = c.in_ok-charge.ensures.charged q here.names in
+    let counts = c.in_ok-charge.ensures.counted q here.names in
     c.words.invariant.leads q style at _ _ _ (at_prog (ap (λ (ws : List WordRead). words ws c.words.words.items) none)
-    (Steps.charged_calls style c.words.words.items some free.0 free.1 (at_prog (ap (called style) (sym c.as_slice.ensures.value)) (h q style (still_at _ _ c.args.place q style (level_steady _ _ c.charge.ensures.level) here)))))) c.call.ensures.runs
+    (Steps.charged_calls style c.words.words.items some counts (at_prog (ap (called style) (sym c.as_slice.ensures.value)) (h q style (still_at _ _ c.args.place q style (level_steady _ _ c.charge.ensures.level) here)))))) c.call.ensures.runs
 
 -- the commands of a script
 
@@ -498,7 +515,7 @@ control::catch-returns-in_err-keep_caught-clause-runs g t c =
     at_prog (ap control_catch (split_first c.args.args.now c.script-item.result c.in-len1-up.len_at_least c.script-item.is))
     (catch_goes style c.script-item.result _ (completion_of c.in_ok-completion.completion) (omega (arith, few))
     (at_prog (ap script (sym c.in_ok-script.ensures.cases)) (caught q style (record { names = at.names; style_is = at.style_is })))
-    (does_comes _ (c.eval_value.new.outside, None) (h q after.names _))))
+    (does_comes _ c.eval_value.new.outside (h q after.names _))))
 
 pub control::catch-returns-clause-runs : goal.control::catch-returns-clause-runs
 control::catch-returns-clause-runs g t c = λ q style at.
@@ -510,7 +527,7 @@ control::catch-returns-clause-runs g t c = λ q style at.
     at_prog (ap control_catch (split_first c.args.args.now c.script-item.result c.in-len1-up.len_at_least c.script-item.is))
     (catch_goes style c.script-item.result _ (completion_of c.in_ok-completion.completion) (omega (arith, few))
     (at_prog (ap script (sym c.in_ok-script.ensures.cases)) (caught q style (record { names = at.names; style_is = at.style_is })))
-    (does_comes _ (c.eval_value.new.outside, None) (c.in_ok-keep_caught.ensures.kept q after.names _ (tree_of c.keep_caught.new.tree) _ (refl, ap (λ (x : List ℕ). Completed (ok x)) code))))
+    (does_comes _ c.eval_value.new.outside (c.in_ok-keep_caught.ensures.kept q after.names _ (tree_of c.keep_caught.new.tree) _ (refl, ap (λ (x : List ℕ). Completed (ok x)) code))))
 
 pub control::catch-returns-clause-steady : goal.control::catch-returns-clause-steady
 control::catch-returns-clause-steady g t c = steady-trans _ _ _ c.eval_value.ensures.steady (level_steady _ _ c.keep_caught.ensures.level)
@@ -618,55 +635,18 @@ commands::call_command-returns-in-Alias-clause-runs g t c =
 pub crossing::serve_call-returns-in_err-charge-clause-runs : goal.crossing::serve_call-returns-in_err-charge-clause-runs
 crossing::serve_call-returns-in_err-charge-clause-runs g t c =
     let p = err_from_is_err_and c.from_residual-in_err-charge.result c.from_residual-in_err-charge.ensures.1 in
-    ended_err c.from_residual-in_err-charge.result c.in_err-charge.field-0.0 p.0 _ _ _ p.1 p.2 c.in_err-charge.ensures.stopped
+    ended_err c.from_residual-in_err-charge.result c.in_err-charge.field-0.0 p.0 _ _ _ p.1 p.2 c.in_err-charge.ensures.refused
     (λ e h q style at. entry_stops style c.args.words.items (h q at.names))
 
 pub crossing::serve_call-returns-clause-runs : goal.crossing::serve_call-returns-clause-runs
 crossing::serve_call-returns-clause-runs g t c =
     IfEnded-more c.call_target.result
-    (EndsAt g.O.Outside.goes c.charge.new.tree c.args.outside.now c.args.place (λ style. targeted c.as_slice.result.now) c.call_target.new.tree c.call_target.new.outside)
+    (EndsAt g.O.Outside.goes c.charge.new.tree c.charge.new.outside c.args.place (λ style. targeted c.as_slice.result.now) c.call_target.new.tree c.call_target.new.outside)
     (EndsAt g.O.Outside.goes c.args.tree.now c.args.outside.now c.args.place (λ style. serve style (CallWords c.args.words.items)) c.call_target.new.tree c.call_target.new.outside)
     (λ e h q style at.
-    let free = c.in_ok-charge.ensures.charged q at.names in
-    entry_calls style c.args.words.items c.as_slice.result.now (search rules) free.0 free.1
+    let counts = c.in_ok-charge.ensures.counted q at.names in
+    entry_calls style c.args.words.items c.as_slice.result.now (search rules) counts
     (h q style (record { names = c.charge.ensures.level.keys q ∙ at.names; style_is = ap (λ m. m.integers) c.charge.ensures.level.marks ∙ at.style_is }))) c.call_target.ensures.runs
-
-pub crossing::call_alias-returns-in-There-clause-runs : goal.crossing::call_alias-returns-in-There-clause-runs
-crossing::call_alias-returns-in-There-clause-runs g t c =
-    let up : c.up.result ≡ c.args.alias.now.up = search rules in
-    let back : c.up-in-There.result ≡ c.args.alias.now.up = search rules in
-    let p = c.requires in
-    carried_ends (λ (q : Path). Names c.args.tree.now c.args.place q × InUse (tree_of c.args.tree.now) q) p.0 (p.1, p.2) c.up-in-There.result c.down-in-There.result.now c.serve_call-ended.result c.carry.result
-    (EndsAt g.O.Outside.goes c.args.tree.now c.args.outside.now c.in-There.target (λ style. serve style (CallWords c.in_ok-words.words.items)) c.serve_call-ended.new.tree c.serve_call-ended.new.outside)
-    (EndsFrom g.O.Outside.goes c.args.tree.now c.args.outside.now c.args.place (λ style. alias_program c.args.alias.now c.args.word.now c.args.args.now) c.serve_call-ended.new.tree c.serve_call-ended.new.outside)
-    c.serve_call-ended.ensures.runs
-    (λ q a. c.carry.ensures q (c.serve_call-ended.ensures.steady.keys q _ a.0 a.1))
-    (λ e r h f q style at.
-    let w = leads_on c.args.tree.now q _ c.args.alias.now.up _ c.args.alias.now.down _ _ up c.down.ensures c.in-There.is (c.reach.ensures q at.names) in
-    let m = stands (tree_of c.args.tree.now (w.0 ++ c.args.alias.now.down)) (tree_there c.args.tree.now (w.0 ++ c.args.alias.now.down) _ w.2) in
-    alias_goes style c.args.alias.now c.args.word.now c.args.args.now c.in_ok-words.words.items w.0 (c.in_ok-words.ensures ∙ ap (λ (ws : List (List ℕ)). ws ++ c.args.args.now) c.words.ensures) w.1 m.1
-    (h (w.0 ++ c.args.alias.now.down) style (record { names = w.2; style_is = at.style_is }))
-    (f q (at.names, at.running) ∙ ap (λ (u : ℕ). carried (Some u) q c.down-in-There.result.now e) back ∙ ap (λ (d : Path). carried (Some c.args.alias.now.up) q d e) c.down-in-There.ensures))
-
-pub crossing::call_alias-returns-in_ok-text-in-Missing-clause-runs : goal.crossing::call_alias-returns-in_ok-text-in-Missing-clause-runs
-crossing::call_alias-returns-in_ok-text-in-Missing-clause-runs g t c =
-    let up : c.up.result ≡ c.args.alias.now.up = search rules in
-    let word : c.as_str-in-Missing.result.now ≡ c.args.word.now = search rules in
-    Interrupts-more c.lost_alias.result _ _ (λ e h q style at.
-    let w = leads_on c.args.tree.now q _ c.args.alias.now.up _ c.args.alias.now.down _ _ up c.down.ensures c.in-Missing.is (c.reach.ensures q at.names) in
-    alias_missing style c.args.alias.now c.args.word.now c.args.args.now w.0 w.1 w.2 (h ∙ ap (λ (x : List ℕ). Completed (failing (lost_alias x))) word)) c.lost_alias.ensures
-
-pub crossing::call_alias-returns-in_ok-caller-in-Outside-clause-runs : goal.crossing::call_alias-returns-in_ok-caller-in-Outside-clause-runs
-crossing::call_alias-returns-in_ok-caller-in-Outside-clause-runs g t c =
-    let up : c.up.result ≡ c.args.alias.now.up = search rules in
-    let out : c.up-in-Outside.result ≡ c.args.alias.now.up = search rules in
-    IfEnded-more c.call_past_top.result (IsCalled g.O.Outside.goes c.args.outside.now c.as_slice.result.now c.up-in-Outside.result c.down-in-Outside.result.now c.as_slice-in-Outside.result.now c.call_past_top.new.self)
-    (EndsFrom g.O.Outside.goes c.args.tree.now c.args.outside.now c.args.place (λ style. alias_program c.args.alias.now c.args.word.now c.args.args.now) c.args.tree.now c.call_past_top.new.self)
-    (λ e h q style at.
-    let w = leads_on c.args.tree.now q _ c.args.alias.now.up _ c.args.alias.now.down _ _ up c.down.ensures c.in-Outside.is (c.reach.ensures q at.names) in
-    alias_leaves g.O.Outside.goes style c.args.alias.now c.args.word.now c.args.args.now c.in_ok-words.words.items (c.in_ok-words.ensures ∙ ap (λ (ws : List (List ℕ)). ws ++ c.args.args.now) c.words.ensures) w
-    (called_as g.O.Outside.goes c.args.outside.now c.call_past_top.new.self e _ q _ c.args.alias.now.up _ c.args.alias.now.down _ c.in_ok-words.words.items
-    (c.as_slice.ensures.value ∙ c.in_ok-caller-in-Outside.ensures q at.names ∙ whole_path c.args.tree.now q _ at.names) out c.down-in-Outside.ensures c.as_slice-in-Outside.ensures.value h)) c.call_past_top.ensures.called
 
 pub crossing::serve_eval-returns-clause-runs : goal.crossing::serve_eval-returns-clause-runs
 crossing::serve_eval-returns-clause-runs g t c =
@@ -749,32 +729,32 @@ commands::call_hidden-returns-clause-runs g t c =
 pub crossing::serve_hidden-returns-in_err-charge-clause-runs : goal.crossing::serve_hidden-returns-in_err-charge-clause-runs
 crossing::serve_hidden-returns-in_err-charge-clause-runs g t c =
     let p = err_from_is_err_and c.from_residual-in_err-charge.result c.from_residual-in_err-charge.ensures.1 in
-    ended_err c.from_residual-in_err-charge.result c.in_err-charge.field-0.0 p.0 _ _ _ p.1 p.2 c.in_err-charge.ensures.stopped
+    ended_err c.from_residual-in_err-charge.result c.in_err-charge.field-0.0 p.0 _ _ _ p.1 p.2 c.in_err-charge.ensures.refused
     (λ e h q style at. hidden_stops style c.args.is_global c.args.words.items (h q at.names))
 
 pub crossing::serve_hidden-returns-clause-runs : goal.crossing::serve_hidden-returns-clause-runs
 crossing::serve_hidden-returns-clause-runs g t c =
     settled_more c.invoke_at-ended.result c.settled.result
-    (λ e. (p : Path) (style : Integers) → IsThere c.charge.new.tree c.args.place p style → GoesOn (staged g.O.Outside.goes) style (tree_of c.charge.new.tree) (c.args.outside.now, None) p (invokes_at c.args.is_global c.as_slice.result.now) (tree_of c.invoke_at-ended.new.tree) (c.invoke_at-ended.new.outside, None) e)
+    (λ e. (p : Path) (style : Integers) → IsThere c.charge.new.tree c.args.place p style → GoesOn g.O.Outside.goes style (tree_of c.charge.new.tree) c.charge.new.outside p (invokes_at c.args.is_global c.as_slice.result.now) (tree_of c.invoke_at-ended.new.tree) c.invoke_at-ended.new.outside e)
     (EndsAt g.O.Outside.goes c.args.tree.now c.args.outside.now c.args.place (λ style. serve style (InvokeHidden c.args.is_global c.args.words.items)) c.invoke_at-ended.new.tree c.invoke_at-ended.new.outside)
     c.invoke_at-ended.ensures.runs c.settled.ensures
     (λ e f h l q style at.
-    let free = c.in_ok-charge.ensures.charged q at.names in
-    hidden_settles style c.args.is_global c.args.words.items c.as_slice.result.now e f (search rules) free.0 free.1 l
+    let counts = c.in_ok-charge.ensures.counted q at.names in
+    hidden_settles style c.args.is_global c.args.words.items c.as_slice.result.now e f (search rules) counts l
     (h q style (record { names = c.charge.ensures.level.keys q ∙ at.names; style_is = ap (λ m. m.integers) c.charge.ensures.level.marks ∙ at.style_is })))
 
 pub crossing::invoke_at-returns-then-not-is_global-clause-runs : goal.crossing::invoke_at-returns-then-not-is_global-clause-runs
 crossing::invoke_at-returns-then-not-is_global-clause-runs g t c =
     let here : c.args.is_global ≡ false = search rules in
     IfEnded-more c.invoke.result (EndsAt g.O.Outside.goes c.args.tree.now c.args.outside.now c.args.place (λ style. unhidden c.args.words.now) c.invoke.new.tree c.invoke.new.outside)
-    (λ e. (p : Path) (style : Integers) → IsThere c.args.tree.now c.args.place p style → GoesOn (staged g.O.Outside.goes) style (tree_of c.args.tree.now) (c.args.outside.now, None) p (invokes_at c.args.is_global c.args.words.now) (tree_of c.invoke.new.tree) (c.invoke.new.outside, None) e)
+    (λ e. (p : Path) (style : Integers) → IsThere c.args.tree.now c.args.place p style → GoesOn g.O.Outside.goes style (tree_of c.args.tree.now) c.args.outside.now p (invokes_at c.args.is_global c.args.words.now) (tree_of c.invoke.new.tree) c.invoke.new.outside e)
     (λ e h q style at. invokes_here style c.args.is_global c.args.words.now e here (h q style at)) c.invoke.ensures.runs
 
 pub crossing::invoke_at-returns-clause-runs : goal.crossing::invoke_at-returns-clause-runs
 crossing::invoke_at-returns-clause-runs g t c =
     let yes : c.args.is_global ≡ true = search rules in
     IfEnded-more c.invoke-ended.result (EndsAt g.O.Outside.goes c.set_aside.new.tree c.args.outside.now c.args.place (λ style. unhidden c.args.words.now) c.invoke-ended.new.tree c.invoke-ended.new.outside)
-    (λ e. (p : Path) (style : Integers) → IsThere c.args.tree.now c.args.place p style → GoesOn (staged g.O.Outside.goes) style (tree_of c.args.tree.now) (c.args.outside.now, None) p (invokes_at c.args.is_global c.args.words.now) (tree_of c.bring_back.new.tree) (c.invoke-ended.new.outside, None) e)
+    (λ e. (p : Path) (style : Integers) → IsThere c.args.tree.now c.args.place p style → GoesOn g.O.Outside.goes style (tree_of c.args.tree.now) c.args.outside.now p (invokes_at c.args.is_global c.args.words.now) (tree_of c.bring_back.new.tree) c.invoke-ended.new.outside e)
     (λ e h q style at.
     let n = stands (tree_of c.args.tree.now q) (tree_there c.args.tree.now q _ at.names) in
     let names = c.set_aside.ensures.level.keys q ∙ at.names in
@@ -782,32 +762,6 @@ crossing::invoke_at-returns-clause-runs g t c =
     let m = stands (tree_of c.invoke-ended.new.tree q) (tree_there c.invoke-ended.new.tree q _ after) in
     invokes_global style (tree_of c.args.tree.now) c.args.is_global c.args.words.now e yes n.1 (c.in_ok-set_aside.ensures.aside q n.0 at.names n.1) m.1 (c.bring_back.ensures.back q m.0 after m.1)
     (h q style (record { names = names; style_is = ap (λ m. m.integers) c.set_aside.ensures.level.marks ∙ at.style_is }))) c.invoke-ended.ensures.runs
-
-pub crossing::ask_eval-unreachable-requires : goal.crossing::ask_eval-unreachable-requires
-crossing::ask_eval-unreachable-requires g t c = never_outside c.args.tree.now c.args.place c.args.path.now (λ p at. c.in-Outside.ensures p at) c.requires.0 c.requires.1
-
-pub crossing::ask_eval-returns-in-There-clause-asks : goal.crossing::ask_eval-returns-in-There-clause-asks
-crossing::ask_eval-returns-in-There-clause-asks g t c =
-    entered g.O.Outside.goes c.args.tree.now c.serve_eval-ended.new.tree c.args.outside.now c.serve_eval-ended.new.outside c.args.place c.args.path.now (Eval c.args.script.now) c.carry.result c.in-There.target c.serve_eval-ended.result
-    (λ p at. c.in-There.ensures p at) c.serve_eval-ended.ensures.runs c.carry.ensures c.serve_eval-ended.ensures.steady
-
-pub crossing::ask_eval-returns-in-Missing-clause-asks : goal.crossing::ask_eval-returns-in-Missing-clause-asks
-crossing::ask_eval-returns-in-Missing-clause-asks g t c =
-    asks_nobody g.O.Outside.goes c.args.tree.now c.args.tree.now c.args.outside.now c.args.place c.args.path.now (Eval c.args.script.now) (Err c.no_interpreter.result)
-    (λ p at. c.in-Missing.ensures p at) refl c.no_interpreter.ensures
-
-pub crossing::ask_hidden-unreachable-requires : goal.crossing::ask_hidden-unreachable-requires
-crossing::ask_hidden-unreachable-requires g t c = never_outside c.args.tree.now c.args.place c.args.path.now (λ p at. c.in-Outside.ensures p at) c.requires.0 c.requires.1
-
-pub crossing::ask_hidden-returns-in-There-clause-asks : goal.crossing::ask_hidden-returns-in-There-clause-asks
-crossing::ask_hidden-returns-in-There-clause-asks g t c =
-    entered g.O.Outside.goes c.args.tree.now c.serve_hidden-ended.new.tree c.args.outside.now c.serve_hidden-ended.new.outside c.args.place c.args.path.now (InvokeHidden c.args.is_global c.args.words.items) c.carry.result c.in-There.target c.serve_hidden-ended.result
-    (λ p at. c.in-There.ensures p at) c.serve_hidden-ended.ensures.runs c.carry.ensures c.serve_hidden-ended.ensures.steady
-
-pub crossing::ask_hidden-returns-in-Missing-clause-asks : goal.crossing::ask_hidden-returns-in-Missing-clause-asks
-crossing::ask_hidden-returns-in-Missing-clause-asks g t c =
-    asks_nobody g.O.Outside.goes c.args.tree.now c.args.tree.now c.args.outside.now c.args.place c.args.path.now (InvokeHidden c.args.is_global c.args.words.items) (Err c.no_interpreter.result)
-    (λ p at. c.in-Missing.ensures p at) refl c.no_interpreter.ensures
 
 -- interp eval
 
@@ -845,13 +799,13 @@ interpreters::interp_eval-returns-clause-runs g t c =
     let words = take (length c.args.args.now - 1) (drop 1 c.args.args.now) in
     let some = Steps.some_is (length words) c.is_empty.result c.is_empty.ensures c.if-is_empty.false in
     let is = eval_is c.args.args.now c.path-item.result words (split_first c.args.args.now c.path-item.result c.in-len1-up.len_at_least c.path-item.is) some in
-    IfEnded-more c.ask_eval.result
-    (λ e. (p : Path) (style : Integers) → IsAt c.args.tree.now c.args.place p style → GoesOn (staged g.O.Outside.goes) style (tree_of c.args.tree.now) (c.args.outside.now, None) p (asks_at c.as_slice.result.now (Eval c.in_ok-script.script)) (tree_of c.ask_eval.new.tree) (c.ask_eval.new.outside, None) e)
-    (EndsFrom g.O.Outside.goes c.args.tree.now c.args.outside.now c.args.place (λ style. interp_evals c.args.args.now) c.ask_eval.new.tree c.ask_eval.new.outside)
-    (λ e h q style at. at_prog is (c.in_ok-found.ensures.read (evals words) (tree_of c.ask_eval.new.tree) c.ask_eval.new.outside e
+    IfEnded-more c.ask_entry.result
+    (λ e. (p : Path) (style : Integers) → IsAt c.args.tree.now c.args.place p style → GoesOn g.O.Outside.goes style (tree_of c.args.tree.now) c.args.outside.now p (asks_at c.as_slice.result.now (Eval c.in_ok-script.script)) (tree_of c.ask_entry.new.tree) c.ask_entry.new.outside e)
+    (EndsFrom g.O.Outside.goes c.args.tree.now c.args.outside.now c.args.place (λ style. interp_evals c.args.args.now) c.ask_entry.new.tree c.ask_entry.new.outside)
+    (λ e h q style at. at_prog is (c.in_ok-found.ensures.read (evals words) (tree_of c.ask_entry.new.tree) c.ask_entry.new.outside e
     (λ r integers here. grows (concat words) (λ script. asks_at c.in_ok-found.found.path.items (Eval script) done) c.in_ok-script.ensures.whole.1
     (at_prog (ap (λ (x : Path). asks_at x (Eval (concat words)) done) (sym c.as_slice.ensures.value) ∙ ap (λ (x : List ℕ). asks_at c.as_slice.result.now (Eval x) done) (sym c.in_ok-script.ensures.whole.0))
-    (done_on integers (asks_at c.as_slice.result.now (Eval c.in_ok-script.script)) e (h r integers here)))) q style at)) c.ask_eval.ensures.asks
+    (done_on g.O.Outside.goes integers (asks_at c.as_slice.result.now (Eval c.in_ok-script.script)) e (h r integers here)))) q style at)) c.ask_entry.ensures.asks
 
 -- # Expressions, and the commands with conditions
 
@@ -1057,28 +1011,27 @@ pub expressions::turn-returns-in_err-charge-clause-runs : goal.expressions::turn
 expressions::turn-returns-in_err-charge-clause-runs g t c =
     let holds = subst (TestGoes g.O.Outside.goes c.args.tree.now c.args.outside.now c.args.place c.args.test.now c.condition.new.tree c.condition.new.outside) c.if-not-branch.false c.in_ok-condition.ensures.runs in
     let p = err_from_is_err_and c.from_residual-in_err-charge.result c.from_residual-in_err-charge.ensures.1 in
-    ended_err c.from_residual-in_err-charge.result c.in_err-charge.field-0.0 p.0 _ _ _ p.1 p.2 c.in_err-charge.ensures.stopped
+    ended_err c.from_residual-in_err-charge.result c.in_err-charge.field-0.0 p.0 _ _ _ p.1 p.2 c.in_err-charge.ensures.refused
     (λ e h q style at text is more.
-    let s = h q (still_at _ _ c.args.place q style c.condition.ensures.steady at).names in
-    holds q style at text is _ _ _ _ (at_finish s.same (at_reply s.stop (charge_stops s.levels s.full))))
+    holds q style at text is _ _ _ _ (charge_refused (h q (still_at _ _ c.args.place q style c.condition.ensures.steady at).names)))
 
 pub expressions::turn-returns-clause-runs : goal.expressions::turn-returns-clause-runs
 expressions::turn-returns-clause-runs g t c =
     let holds = subst (TestGoes g.O.Outside.goes c.args.tree.now c.args.outside.now c.args.place c.args.test.now c.condition.new.tree c.condition.new.outside) c.if-not-branch.false c.in_ok-condition.ensures.runs in
     Conditions.turned after_body c.eval_value.result c.goes_on.result
-    (EndsAt g.O.Outside.goes c.charge.new.tree c.condition.new.outside c.args.place (λ style. script c.args.body.now) c.eval_value.new.tree c.eval_value.new.outside) _ _ c.eval_value.ensures.runs c.goes_on.ensures
+    (EndsAt g.O.Outside.goes c.charge.new.tree c.charge.new.outside c.args.place (λ style. script c.args.body.now) c.eval_value.new.tree c.eval_value.new.outside) _ _ c.eval_value.ensures.runs c.goes_on.ensures
     (λ d on h goes.
     Conditions.turn_ends g.O.Outside.goes c.args.tree.now c.eval_value.new.tree c.args.outside.now c.eval_value.new.outside c.args.place c.args.test.now c.args.body.now d on
     (λ q style at text is k V y r run.
     let here = still_at _ _ c.args.place q style c.condition.ensures.steady at in
     let after = still_at _ _ c.args.place q style (level_steady _ _ c.charge.ensures.level) here in
-    let free = c.in_ok-charge.ensures.charged q here.names in
-    holds q style at text is _ V y r (charges free.0 free.1 (goes_on {i = Script c.args.body.now} (h q style (record { names = after.names; style_is = after.style_is })) run))) goes)
+    let counts = c.in_ok-charge.ensures.counted q here.names in
+    holds q style at text is _ V y r (charges counts (goes_on {i = Script c.args.body.now} (h q style (record { names = after.names; style_is = after.style_is })) run))) goes)
     (λ e h l q style at text is more.
     let here = still_at _ _ c.args.place q style c.condition.ensures.steady at in
     let after = still_at _ _ c.args.place q style (level_steady _ _ c.charge.ensures.level) here in
-    let free = c.in_ok-charge.ensures.charged q here.names in
-    holds q style at text is _ _ _ _ (charges free.0 free.1 (Conditions.leaves_after style after_body c.args.body.now more e l (h q style (record { names = after.names; style_is = after.style_is })))))
+    let counts = c.in_ok-charge.ensures.counted q here.names in
+    holds q style at text is _ _ _ _ (charges counts (Conditions.leaves_after style after_body c.args.body.now more e l (h q style (record { names = after.names; style_is = after.style_is })))))
 
 -- while
 
@@ -1329,7 +1282,7 @@ pub loops::foreach-returns-in_err-charge-clause-runs : goal.loops::foreach-retur
 loops::foreach-returns-in_err-charge-clause-runs g t c =
     let more = ap (λ (ws : List Walk). is_over (walks_at c.turns.turns ws)) (sym c.as_slice.ensures.value) ∙ sym c.is_over.ensures ∙ c.if-is_over.false in
     let p = err_from_is_err_and c.from_residual-in_err-charge.result c.from_residual-in_err-charge.ensures.1 in
-    ended_err c.from_residual-in_err-charge.result c.in_err-charge.field-0.0 p.0 _ _ _ p.1 p.2 c.in_err-charge.ensures.stopped
+    ended_err c.from_residual-in_err-charge.result c.in_err-charge.field-0.0 p.0 _ _ _ p.1 p.2 c.in_err-charge.ensures.refused
     (λ e h q style at. c.turns.invariant.leads q style at _ _ _
     (Walking.turn_stops style (walks_at c.turns.turns c.in_ok-walks.walks.items) c.in_ok-body.body more (h q (still_at _ _ c.args.place q style c.turns.invariant.steady at).names)))
 
@@ -1341,9 +1294,9 @@ loops::foreach-returns-in_err-set_walks-clause-runs g t c =
     (λ e h q style at.
     let here = still_at _ _ c.args.place q style c.turns.invariant.steady at in
     let after = still_at _ _ c.args.place q style (level_steady _ _ c.charge.ensures.level) here in
-    let free = c.in_ok-charge.ensures.charged q here.names in
+    let counts = c.in_ok-charge.ensures.counted q here.names in
     c.turns.invariant.leads q style at _ _ _
-    (Walking.turn_fails style (walks_at c.turns.turns c.in_ok-walks.walks.items) c.in_ok-body.body more free.0 free.1
+    (Walking.turn_fails style (walks_at c.turns.turns c.in_ok-walks.walks.items) c.in_ok-body.body more counts
     (λ k. subst (λ (ws : List Walk). Does (sets_walks (walks_at c.turns.turns ws) (λ rest. k)) (tree_of c.charge.new.tree) q (tree_of c.set_walks.new.tree) e) c.as_slice-in-turns.ensures.value (h q after.names k))))
 
 pub loops::foreach-returns-in_err-goes_on-clause-runs : goal.loops::foreach-returns-in_err-goes_on-clause-runs
@@ -1352,14 +1305,14 @@ loops::foreach-returns-in_err-goes_on-clause-runs g t c =
     let p = err_from_is_err_and c.from_residual-in_err-goes_on.result c.from_residual-in_err-goes_on.ensures.1 in
     ended_err c.from_residual-in_err-goes_on.result c.in_err-goes_on.field-0.0 p.0 _ _ _ p.1 p.2
     (Conditions.turned_err after_body c.eval_value.result c.in_err-goes_on.field-0.0
-    (EndsAt g.O.Outside.goes c.set_walks.new.tree c.turns.outside c.args.place (λ style. script c.turns.body) c.eval_value.new.tree c.eval_value.new.outside) c.in_err-goes_on.ensures c.eval_value.ensures.runs)
+    (EndsAt g.O.Outside.goes c.set_walks.new.tree c.charge.new.outside c.args.place (λ style. script c.turns.body) c.eval_value.new.tree c.eval_value.new.outside) c.in_err-goes_on.ensures c.eval_value.ensures.runs)
     (λ e h q style at.
     let here = still_at _ _ c.args.place q style c.turns.invariant.steady at in
     let after = still_at _ _ c.args.place q style (level_steady _ _ c.charge.ensures.level) here in
     let set = still_at _ _ c.args.place q style (level_steady _ _ c.set_walks.ensures.level) after in
-    let free = c.in_ok-charge.ensures.charged q here.names in
+    let counts = c.in_ok-charge.ensures.counted q here.names in
     c.turns.invariant.leads q style at _ _ _
-    (Walking.turn_begins style (walks_at c.turns.turns c.in_ok-walks.walks.items) c.in_ok-body.body more free.0 free.1
+    (Walking.turn_begins style (walks_at c.turns.turns c.in_ok-walks.walks.items) c.in_ok-body.body more counts
     (Walking.walks_set (walks_at c.turns.turns c.in_ok-walks.walks.items) (tree_of c.charge.new.tree) (tree_of c.set_walks.new.tree) q
     (λ k V r d. subst (λ (ws : List Walk). Does (sets_walks (walks_at c.turns.turns ws) (λ rest. k)) (tree_of c.charge.new.tree) q V r) c.as_slice-in-turns.ensures.value (c.in_ok-set_walks.ensures.set q after.names k V r d)))
     (Conditions.leaves_after style after_body c.in_ok-body.body _ e h.1 (at_prog (ap script (sym c.turns.invariant.body)) (h.0 q style (record { names = set.names; style_is = set.style_is }))))))
@@ -1368,13 +1321,13 @@ pub loops::foreach-returns-then-not-branch-clause-runs : goal.loops::foreach-ret
 loops::foreach-returns-then-not-branch-clause-runs g t c = λ q style at.
     let more = ap (λ (ws : List Walk). is_over (walks_at c.turns.turns ws)) (sym c.as_slice.ensures.value) ∙ sym c.is_over.ensures ∙ c.if-is_over.false in
     let x = Conditions.turned_ok after_body c.eval_value.result c.in_ok-goes_on.field-0 false
-    (EndsAt g.O.Outside.goes c.set_walks.new.tree c.turns.outside c.args.place (λ style. script c.turns.body) c.eval_value.new.tree c.eval_value.new.outside) c.in_ok-goes_on.ensures c.if-not-branch.true c.eval_value.ensures.runs in
+    (EndsAt g.O.Outside.goes c.set_walks.new.tree c.charge.new.outside c.args.place (λ style. script c.turns.body) c.eval_value.new.tree c.eval_value.new.outside) c.in_ok-goes_on.ensures c.if-not-branch.true c.eval_value.ensures.runs in
     let here = still_at _ _ c.args.place q style c.turns.invariant.steady at in
     let after = still_at _ _ c.args.place q style (level_steady _ _ c.charge.ensures.level) here in
     let set = still_at _ _ c.args.place q style (level_steady _ _ c.set_walks.ensures.level) after in
-    let free = c.in_ok-charge.ensures.charged q here.names in
+    let counts = c.in_ok-charge.ensures.counted q here.names in
     c.turns.invariant.leads q style at _ _ _
-    (Walking.turn_begins style (walks_at c.turns.turns c.in_ok-walks.walks.items) c.in_ok-body.body more free.0 free.1
+    (Walking.turn_begins style (walks_at c.turns.turns c.in_ok-walks.walks.items) c.in_ok-body.body more counts
     (Walking.walks_set (walks_at c.turns.turns c.in_ok-walks.walks.items) (tree_of c.charge.new.tree) (tree_of c.set_walks.new.tree) q
     (λ k V r d. subst (λ (ws : List Walk). Does (sets_walks (walks_at c.turns.turns ws) (λ rest. k)) (tree_of c.charge.new.tree) q V r) c.as_slice-in-turns.ensures.value (c.in_ok-set_walks.ensures.set q after.names k V r d)))
     (goes_on {i = Script c.in_ok-body.body} (at_prog (ap script (sym c.turns.invariant.body)) (x.1 q style (record { names = set.names; style_is = set.style_is })))
@@ -1384,15 +1337,15 @@ pub loops::foreach-turns-preserved : goal.loops::foreach-turns-preserved
 loops::foreach-turns-preserved g t c =
     let more = ap (λ (ws : List Walk). is_over (walks_at c.turns.turns ws)) (sym c.as_slice.ensures.value) ∙ sym c.is_over.ensures ∙ c.if-is_over.false in
     let x = Conditions.turned_ok after_body c.eval_value.result c.in_ok-goes_on.field-0 true
-    (EndsAt g.O.Outside.goes c.set_walks.new.tree c.turns.outside c.args.place (λ style. script c.turns.body) c.eval_value.new.tree c.eval_value.new.outside) c.in_ok-goes_on.ensures c.if-not-branch.false c.eval_value.ensures.runs in
+    (EndsAt g.O.Outside.goes c.set_walks.new.tree c.charge.new.outside c.args.place (λ style. script c.turns.body) c.eval_value.new.tree c.eval_value.new.outside) c.in_ok-goes_on.ensures c.if-not-branch.false c.eval_value.ensures.runs in
     record {
       leads = λ q style at V z r run.
           let here = still_at _ _ c.args.place q style c.turns.invariant.steady at in
           let after = still_at _ _ c.args.place q style (level_steady _ _ c.charge.ensures.level) here in
           let set = still_at _ _ c.args.place q style (level_steady _ _ c.set_walks.ensures.level) after in
-          let free = c.in_ok-charge.ensures.charged q here.names in
+          let counts = c.in_ok-charge.ensures.counted q here.names in
           c.turns.invariant.leads q style at _ _ _
-          (Walking.turn_begins style (walks_at c.turns.turns c.in_ok-walks.walks.items) c.in_ok-body.body more free.0 free.1
+          (Walking.turn_begins style (walks_at c.turns.turns c.in_ok-walks.walks.items) c.in_ok-body.body more counts
           (Walking.walks_set (walks_at c.turns.turns c.in_ok-walks.walks.items) (tree_of c.charge.new.tree) (tree_of c.set_walks.new.tree) q
           (λ k V r d. subst (λ (ws : List Walk). Does (sets_walks (walks_at c.turns.turns ws) (λ rest. k)) (tree_of c.charge.new.tree) q V r) c.as_slice-in-turns.ensures.value (c.in_ok-set_walks.ensures.set q after.names k V r d)))
           (goes_on {i = Script c.in_ok-body.body} (at_prog (ap script (sym c.turns.invariant.body)) (x.1 q style (record { names = set.names; style_is = set.style_is })))
@@ -1525,11 +1478,11 @@ interpreters::interp_invoke_hidden-returns-in_err-found-clause-runs g t c =
 pub interpreters::interp_invoke_hidden-returns-clause-runs : goal.interpreters::interp_invoke_hidden-returns-clause-runs
 interpreters::interp_invoke_hidden-returns-clause-runs g t c =
     let is = invoke_is c.args.args.now c.path-item.result (take (length c.args.args.now - 1) (drop 1 c.args.args.now)) (split_first c.args.args.now c.path-item.result c.in-len1-up.len_at_least c.path-item.is) in
-    evaluates_as g.O.Outside.goes c.args.tree.now c.ask_hidden.new.tree c.args.outside.now c.ask_hidden.new.outside c.args.place (λ style. invoke_hidden_program c.args.args.now) (λ style. asks_trusted c.path-item.result (InvokeHidden c.in_ok-call.call.is_global c.in_ok-call.call.words.items)) c.ask_hidden.result (λ style. is ∙ c.in_ok-call.ensures.called c.path-item.result)
-    (gets_evaluates g.O.Outside.goes c.args.tree.now c.args.outside.now c.args.place (λ style. asks_trusted c.path-item.result (InvokeHidden c.in_ok-call.call.is_global c.in_ok-call.call.words.items)) (λ style. asks c.path-item.result (InvokeHidden c.in_ok-call.call.is_global c.in_ok-call.call.words.items)) c.ask_hidden.new.tree c.ask_hidden.new.outside c.ask_hidden.result (c.in_ok-permit.ensures (λ style. asks c.path-item.result (InvokeHidden c.in_ok-call.call.is_global c.in_ok-call.call.words.items)))
-    (leads_evaluates g.O.Outside.goes c.args.tree.now c.ask_hidden.new.tree c.args.outside.now c.ask_hidden.new.outside c.args.place (λ style. asks c.path-item.result (InvokeHidden c.in_ok-call.call.is_global c.in_ok-call.call.words.items)) (λ style. asks_at c.in_ok-found.found.path.items (InvokeHidden c.in_ok-call.call.is_global c.in_ok-call.call.words.items) done) c.ask_hidden.result (c.in_ok-found.ensures.read (λ path style. asks_at path (InvokeHidden c.in_ok-call.call.is_global c.in_ok-call.call.words.items) done))
-    (asks_last g.O.Outside.goes c.args.tree.now c.ask_hidden.new.tree c.args.outside.now c.ask_hidden.new.outside c.args.place c.in_ok-found.found.path.items (InvokeHidden c.in_ok-call.call.is_global c.in_ok-call.call.words.items) c.ask_hidden.result
-    (subst (λ (x : Path). Asks g.O.Outside.goes c.args.tree.now c.args.outside.now c.args.place x (InvokeHidden c.in_ok-call.call.is_global c.in_ok-call.call.words.items) c.ask_hidden.new.tree c.ask_hidden.new.outside c.ask_hidden.result) c.as_slice.ensures.value c.ask_hidden.ensures.asks))))
+    evaluates_as g.O.Outside.goes c.args.tree.now c.ask_entry.new.tree c.args.outside.now c.ask_entry.new.outside c.args.place (λ style. invoke_hidden_program c.args.args.now) (λ style. asks_trusted c.path-item.result (InvokeHidden c.in_ok-call.call.is_global c.in_ok-call.call.words.items)) c.ask_entry.result (λ style. is ∙ c.in_ok-call.ensures.called c.path-item.result)
+    (gets_evaluates g.O.Outside.goes c.args.tree.now c.args.outside.now c.args.place (λ style. asks_trusted c.path-item.result (InvokeHidden c.in_ok-call.call.is_global c.in_ok-call.call.words.items)) (λ style. asks c.path-item.result (InvokeHidden c.in_ok-call.call.is_global c.in_ok-call.call.words.items)) c.ask_entry.new.tree c.ask_entry.new.outside c.ask_entry.result (c.in_ok-permit.ensures (λ style. asks c.path-item.result (InvokeHidden c.in_ok-call.call.is_global c.in_ok-call.call.words.items)))
+    (leads_evaluates g.O.Outside.goes c.args.tree.now c.ask_entry.new.tree c.args.outside.now c.ask_entry.new.outside c.args.place (λ style. asks c.path-item.result (InvokeHidden c.in_ok-call.call.is_global c.in_ok-call.call.words.items)) (λ style. asks_at c.in_ok-found.found.path.items (InvokeHidden c.in_ok-call.call.is_global c.in_ok-call.call.words.items) done) c.ask_entry.result (c.in_ok-found.ensures.read (λ path style. asks_at path (InvokeHidden c.in_ok-call.call.is_global c.in_ok-call.call.words.items) done))
+    (asks_last g.O.Outside.goes c.args.tree.now c.ask_entry.new.tree c.args.outside.now c.ask_entry.new.outside c.args.place c.in_ok-found.found.path.items (InvokeHidden c.in_ok-call.call.is_global c.in_ok-call.call.words.items) c.ask_entry.result
+    (subst (λ (x : Path). Asks g.O.Outside.goes c.args.tree.now c.args.outside.now c.args.place x (InvokeHidden c.in_ok-call.call.is_global c.in_ok-call.call.words.items) c.ask_entry.new.tree c.ask_entry.new.outside c.ask_entry.result) c.as_slice.ensures.value c.ask_entry.ensures.asks))))
 
 pub children::child-returns-in_default-clause-runs : goal.children::child-returns-in_default-clause-runs
 children::child-returns-in_default-clause-runs g t c =
@@ -1568,12 +1521,12 @@ children::child_eval-returns-in_err-script-clause-runs g t c =
 pub children::child_eval-returns-clause-runs : goal.children::child_eval-returns-clause-runs
 children::child_eval-returns-clause-runs g t c =
     let some = Steps.some_is (length c.args.args.now) c.is_empty.result c.is_empty.ensures c.if-is_empty.false in
-    IfEnded-more c.ask_eval.result (EndsFrom g.O.Outside.goes c.args.tree.now c.args.outside.now c.args.place (λ style. asks_at (c.args.name.now ∷ []) (Eval c.in_ok-script.script) done) c.ask_eval.new.tree c.ask_eval.new.outside)
-    (EndsFrom g.O.Outside.goes c.args.tree.now c.args.outside.now c.args.place (λ style. child_evals c.args.name.now c.args.args.now) c.ask_eval.new.tree c.ask_eval.new.outside)
+    IfEnded-more c.ask_entry.result (EndsFrom g.O.Outside.goes c.args.tree.now c.args.outside.now c.args.place (λ style. asks_at (c.args.name.now ∷ []) (Eval c.in_ok-script.script) done) c.ask_entry.new.tree c.ask_entry.new.outside)
+    (EndsFrom g.O.Outside.goes c.args.tree.now c.args.outside.now c.args.place (λ style. child_evals c.args.name.now c.args.args.now) c.ask_entry.new.tree c.ask_entry.new.outside)
     (λ e h q style at. at_prog (child_eval_some c.args.name.now c.args.args.now some) (grows (concat c.args.args.now) (λ script. asks_at (c.args.name.now ∷ []) (Eval script) done) c.in_ok-script.ensures.whole.1
     (at_prog (ap (λ (x : List ℕ). asks_at (c.args.name.now ∷ []) (Eval x) done) (sym c.in_ok-script.ensures.whole.0)) (h q style at))))
-    (asks_last g.O.Outside.goes c.args.tree.now c.ask_eval.new.tree c.args.outside.now c.ask_eval.new.outside c.args.place (c.args.name.now ∷ []) (Eval c.in_ok-script.script) c.ask_eval.result
-    (subst (λ (x : Path). Asks g.O.Outside.goes c.args.tree.now c.args.outside.now c.args.place x (Eval c.in_ok-script.script) c.ask_eval.new.tree c.ask_eval.new.outside c.ask_eval.result) c.from_ref.ensures.value c.ask_eval.ensures.asks))
+    (asks_last g.O.Outside.goes c.args.tree.now c.ask_entry.new.tree c.args.outside.now c.ask_entry.new.outside c.args.place (c.args.name.now ∷ []) (Eval c.in_ok-script.script) c.ask_entry.result
+    (subst (λ (x : Path). Asks g.O.Outside.goes c.args.tree.now c.args.outside.now c.args.place x (Eval c.in_ok-script.script) c.ask_entry.new.tree c.ask_entry.new.outside c.ask_entry.result) c.from_ref.ensures.value c.ask_entry.ensures.asks))
 
 pub children::child_invoke_hidden-returns-in_err-call-clause-runs : goal.children::child_invoke_hidden-returns-in_err-call-clause-runs
 children::child_invoke_hidden-returns-in_err-call-clause-runs g t c =
@@ -1602,11 +1555,11 @@ children::child_invoke_hidden-returns-in_err-child_stands-clause-runs g t c =
 pub children::child_invoke_hidden-returns-clause-runs : goal.children::child_invoke_hidden-returns-clause-runs
 children::child_invoke_hidden-returns-clause-runs g t c =
     let form : c.as_str.result.now ≡ child_form c.args.name.now (codes "invokehidden ?-global? hiddenName ?arg ...?") = c.as_str.ensures.value ∙ c.in_ok-form.ensures in
-    evaluates_as g.O.Outside.goes c.args.tree.now c.ask_hidden.new.tree c.args.outside.now c.ask_hidden.new.outside c.args.place (λ style. child_invokes c.args.name.now c.args.args.now) (λ style. asks_trusted (child_path c.args.name.now) (InvokeHidden c.in_ok-call.call.is_global c.in_ok-call.call.words.items)) c.ask_hidden.result (λ style. ap (λ (x : List ℕ). invoked_as (child_path c.args.name.now) x false c.args.args.now) (sym form) ∙ c.in_ok-call.ensures.called (child_path c.args.name.now))
-    (gets_evaluates g.O.Outside.goes c.args.tree.now c.args.outside.now c.args.place (λ style. asks_trusted (child_path c.args.name.now) (InvokeHidden c.in_ok-call.call.is_global c.in_ok-call.call.words.items)) (λ style. asks (child_path c.args.name.now) (InvokeHidden c.in_ok-call.call.is_global c.in_ok-call.call.words.items)) c.ask_hidden.new.tree c.ask_hidden.new.outside c.ask_hidden.result (c.in_ok-permit.ensures (λ style. asks (child_path c.args.name.now) (InvokeHidden c.in_ok-call.call.is_global c.in_ok-call.call.words.items)))
-    (gets_evaluates g.O.Outside.goes c.args.tree.now c.args.outside.now c.args.place (λ style. asks (child_path c.args.name.now) (InvokeHidden c.in_ok-call.call.is_global c.in_ok-call.call.words.items)) (λ style. asks_at (c.args.name.now ∷ []) (InvokeHidden c.in_ok-call.call.is_global c.in_ok-call.call.words.items) done) c.ask_hidden.new.tree c.ask_hidden.new.outside c.ask_hidden.result (c.in_ok-child_stands.ensures (λ path style. asks_at path (InvokeHidden c.in_ok-call.call.is_global c.in_ok-call.call.words.items) done))
-    (asks_last g.O.Outside.goes c.args.tree.now c.ask_hidden.new.tree c.args.outside.now c.ask_hidden.new.outside c.args.place (c.args.name.now ∷ []) (InvokeHidden c.in_ok-call.call.is_global c.in_ok-call.call.words.items) c.ask_hidden.result
-    (subst (λ (x : Path). Asks g.O.Outside.goes c.args.tree.now c.args.outside.now c.args.place x (InvokeHidden c.in_ok-call.call.is_global c.in_ok-call.call.words.items) c.ask_hidden.new.tree c.ask_hidden.new.outside c.ask_hidden.result) c.from_ref.ensures.value c.ask_hidden.ensures.asks))))
+    evaluates_as g.O.Outside.goes c.args.tree.now c.ask_entry.new.tree c.args.outside.now c.ask_entry.new.outside c.args.place (λ style. child_invokes c.args.name.now c.args.args.now) (λ style. asks_trusted (child_path c.args.name.now) (InvokeHidden c.in_ok-call.call.is_global c.in_ok-call.call.words.items)) c.ask_entry.result (λ style. ap (λ (x : List ℕ). invoked_as (child_path c.args.name.now) x false c.args.args.now) (sym form) ∙ c.in_ok-call.ensures.called (child_path c.args.name.now))
+    (gets_evaluates g.O.Outside.goes c.args.tree.now c.args.outside.now c.args.place (λ style. asks_trusted (child_path c.args.name.now) (InvokeHidden c.in_ok-call.call.is_global c.in_ok-call.call.words.items)) (λ style. asks (child_path c.args.name.now) (InvokeHidden c.in_ok-call.call.is_global c.in_ok-call.call.words.items)) c.ask_entry.new.tree c.ask_entry.new.outside c.ask_entry.result (c.in_ok-permit.ensures (λ style. asks (child_path c.args.name.now) (InvokeHidden c.in_ok-call.call.is_global c.in_ok-call.call.words.items)))
+    (gets_evaluates g.O.Outside.goes c.args.tree.now c.args.outside.now c.args.place (λ style. asks (child_path c.args.name.now) (InvokeHidden c.in_ok-call.call.is_global c.in_ok-call.call.words.items)) (λ style. asks_at (c.args.name.now ∷ []) (InvokeHidden c.in_ok-call.call.is_global c.in_ok-call.call.words.items) done) c.ask_entry.new.tree c.ask_entry.new.outside c.ask_entry.result (c.in_ok-child_stands.ensures (λ path style. asks_at path (InvokeHidden c.in_ok-call.call.is_global c.in_ok-call.call.words.items) done))
+    (asks_last g.O.Outside.goes c.args.tree.now c.ask_entry.new.tree c.args.outside.now c.ask_entry.new.outside c.args.place (c.args.name.now ∷ []) (InvokeHidden c.in_ok-call.call.is_global c.in_ok-call.call.words.items) c.ask_entry.result
+    (subst (λ (x : Path). Asks g.O.Outside.goes c.args.tree.now c.args.outside.now c.args.place x (InvokeHidden c.in_ok-call.call.is_global c.in_ok-call.call.words.items) c.ask_entry.new.tree c.ask_entry.new.outside c.ask_entry.result) c.from_ref.ensures.value c.ask_entry.ensures.asks))))
 
 pub commands::call_command-returns-in-Child-clause-runs : goal.commands::call_command-returns-in-Child-clause-runs
 commands::call_command-returns-in-Child-clause-runs g t c =
@@ -1621,3 +1574,255 @@ commands::call_builtin-returns-in_default g t c = record {
   steady = level_steady _ _ c.call_plain.ensures.level;
   left = omega arith;
 }
+
+-- # What reaches the host
+
+pub hosting::put_line-returns-in-Ok-clause-runs : goal.hosting::put_line-returns-in-Ok-clause-runs
+hosting::put_line-returns-in-Ok-clause-runs g t c =
+    let line : c.append.new.self ≡ c.args.text.now ++ hosting.newline = search rules in
+    let short : fits (c.args.text.now ++ hosting.newline) ≡ true = search rules in
+    IfEnded-more c.write.result (EndsFrom g.O.Outside.goes c.args.tree.now c.args.outside.now c.args.place (λ style. hosting.writes c.args.channel.now c.append.new.self) c.write.new.tree c.write.new.outside)
+    (EndsFrom g.O.Outside.goes c.args.tree.now c.args.outside.now c.args.place (λ style. hosting.puts_line c.args.channel.now c.args.text.now) c.write.new.tree c.write.new.outside)
+    (λ e h q style at. grows (c.args.text.now ++ hosting.newline) (hosting.writes c.args.channel.now) short (at_prog (ap (hosting.writes c.args.channel.now) (sym line)) (h q style at))) c.write.ensures.runs
+
+pub hosting::put_line-returns-in-Err-TooLong-clause-runs : goal.hosting::put_line-returns-in-Err-TooLong-clause-runs
+hosting::put_line-returns-in-Err-TooLong-clause-runs g t c =
+    let same : c.in_ok-line.line ≡ c.args.text.now = search rules in
+    let long = past_long (c.args.text.now ++ hosting.newline) (subst (λ (x : Text). IsPast (x ++ hosting.newline)) same (c.in-Err-TooLong.ensures.refused.0 (ap (λ x. Err x) c.in-Err-TooLong.field-0-is))) in
+    Interrupts-more c.too_long.result _ _ (λ e h q style at. outgrows (c.args.text.now ++ hosting.newline) (hosting.writes c.args.channel.now) long h) c.too_long.ensures
+
+pub hosting::puts-returns-then-eq-clause-runs : goal.hosting::puts-returns-then-eq-clause-runs
+hosting::puts-returns-then-eq-clause-runs g t c =
+    let is = two_items c.args.args.now c.word-item.result c.text-item-then-args-lt3.result c.in-len2.len_at_least c.in-len2.len_below c.word-item.is c.text-item-then-args-lt3.is in
+    let yes : bytes_eq c.word-item.result (codes "-nonewline") ≡ true = search rules in
+    IfEnded-more c.write-then-eq.result (EndsFrom g.O.Outside.goes c.args.tree.now c.args.outside.now c.args.place (λ style. hosting.writes c.in_ok-stdout-in-len2.field-0 c.text-item-then-args-lt3.result) c.write-then-eq.new.tree c.write-then-eq.new.outside)
+    (EndsFrom g.O.Outside.goes c.args.tree.now c.args.outside.now c.args.place (λ style. hosting.puts c.args.args.now) c.write-then-eq.new.tree c.write-then-eq.new.outside)
+    (λ e h q style at. at_prog (ap hosting.puts is ∙ ap (λ b. either b (hosting.writes hosting.stdout c.text-item-then-args-lt3.result) (hosting.puts_line c.word-item.result c.text-item-then-args-lt3.result)) yes
+    ∙ ap (λ (x : Text). hosting.writes x c.text-item-then-args-lt3.result) (sym c.in_ok-stdout-in-len2.ensures)) (h q style at)) c.write-then-eq.ensures.runs
+
+pub hosting::puts-returns-then-eq-2-clause-runs : goal.hosting::puts-returns-then-eq-2-clause-runs
+hosting::puts-returns-then-eq-2-clause-runs g t c =
+    let is = three_items c.args.args.now c.word-item-then-args-lt4.result c.channel-item.result c.text-item-then-args-lt4.result c.in-len3.len_at_least c.in-len3.len_below c.word-item-then-args-lt4.is c.channel-item.is c.text-item-then-args-lt4.is in
+    let yes : bytes_eq c.word-item-then-args-lt4.result (codes "-nonewline") ≡ true = search rules in
+    IfEnded-more c.write-then-eq-2-2.result (EndsFrom g.O.Outside.goes c.args.tree.now c.args.outside.now c.args.place (λ style. hosting.writes c.in_ok-text-in-len3-2.field-0 c.text-item-then-args-lt4.result) c.write-then-eq-2-2.new.tree c.write-then-eq-2-2.new.outside)
+    (EndsFrom g.O.Outside.goes c.args.tree.now c.args.outside.now c.args.place (λ style. hosting.puts c.args.args.now) c.write-then-eq-2-2.new.tree c.write-then-eq-2-2.new.outside)
+    (λ e h q style at. at_prog (ap hosting.puts is ∙ ap (λ b. either b (hosting.writes c.channel-item.result c.text-item-then-args-lt4.result) hosting.puts_form) yes
+    ∙ ap (λ (x : Text). hosting.writes x c.text-item-then-args-lt4.result) (sym c.in_ok-text-in-len3-2.ensures)) (h q style at)) c.write-then-eq-2-2.ensures.runs
+
+pub hosting::puts-returns-in_ok-stdout-in-len1-clause-runs : goal.hosting::puts-returns-in_ok-stdout-in-len1-clause-runs
+hosting::puts-returns-in_ok-stdout-in-len1-clause-runs g t c =
+    let is = one_item c.args.args.now c.text-item.result c.in-len1.len_at_least c.in-len1.len_below c.text-item.is in
+    IfEnded-more c.put_line-in-len1.result (EndsFrom g.O.Outside.goes c.args.tree.now c.args.outside.now c.args.place (λ style. hosting.puts_line c.in_ok-stdout-in-len1.field-0 c.text-item.result) c.put_line-in-len1.new.tree c.put_line-in-len1.new.outside)
+    (EndsFrom g.O.Outside.goes c.args.tree.now c.args.outside.now c.args.place (λ style. hosting.puts c.args.args.now) c.put_line-in-len1.new.tree c.put_line-in-len1.new.outside)
+    (λ e h q style at. at_prog (ap hosting.puts is ∙ ap (λ (x : Text). hosting.puts_line x c.text-item.result) (sym c.in_ok-stdout-in-len1.ensures)) (h q style at)) c.put_line-in-len1.ensures.runs
+
+pub hosting::puts-returns-else-eq-clause-runs : goal.hosting::puts-returns-else-eq-clause-runs
+hosting::puts-returns-else-eq-clause-runs g t c =
+    let is = two_items c.args.args.now c.word-item.result c.text-item-then-args-lt3.result c.in-len2.len_at_least c.in-len2.len_below c.word-item.is c.text-item-then-args-lt3.is in
+    let no : bytes_eq c.word-item.result (codes "-nonewline") ≡ false = search rules in
+    IfEnded-more c.put_line-in-len2.result (EndsFrom g.O.Outside.goes c.args.tree.now c.args.outside.now c.args.place (λ style. hosting.puts_line c.in_ok-word-in-len2.word c.text-item-then-args-lt3.result) c.put_line-in-len2.new.tree c.put_line-in-len2.new.outside)
+    (EndsFrom g.O.Outside.goes c.args.tree.now c.args.outside.now c.args.place (λ style. hosting.puts c.args.args.now) c.put_line-in-len2.new.tree c.put_line-in-len2.new.outside)
+    (λ e h q style at. at_prog (ap hosting.puts is ∙ ap (λ b. either b (hosting.writes hosting.stdout c.text-item-then-args-lt3.result) (hosting.puts_line c.word-item.result c.text-item-then-args-lt3.result)) no
+    ∙ ap (λ (x : Text). hosting.puts_line x c.text-item-then-args-lt3.result) (sym c.in_ok-word-in-len2.ensures)) (h q style at)) c.put_line-in-len2.ensures.runs
+
+pub hosting::puts-returns-else-eq-2-clause-runs : goal.hosting::puts-returns-else-eq-2-clause-runs
+hosting::puts-returns-else-eq-2-clause-runs g t c =
+    let is = three_items c.args.args.now c.word-item-then-args-lt4.result c.channel-item.result c.text-item-then-args-lt4.result c.in-len3.len_at_least c.in-len3.len_below c.word-item-then-args-lt4.is c.channel-item.is c.text-item-then-args-lt4.is in
+    let no : bytes_eq c.word-item-then-args-lt4.result (codes "-nonewline") ≡ false = search rules in
+    Interrupts-more c.wrong_args.result _ _ (λ e h q style at.
+    at_prog (ap hosting.puts is ∙ ap (λ b. either b (hosting.writes c.channel-item.result c.text-item-then-args-lt4.result) hosting.puts_form) no) (at_reply h completed)) c.wrong_args.ensures
+
+pub hosting::puts-returns-in_default-clause-runs : goal.hosting::puts-returns-in_default-clause-runs
+hosting::puts-returns-in_default-clause-runs g t c =
+    let other : hosting.puts c.args.args.now ≡ hosting.puts_form = elim c.in_default.branch [
+      | hosting::puts-in_default-via-then-args-lt1 w ↦ not_put c.args.args.now (inl (search rules))
+      | hosting::puts-in_default-via-else-args-lt1+else-args-lt2+else-args-lt3+else-args-lt4 w ↦ not_put c.args.args.now (inr (search rules))
+    ] in
+    Interrupts-more c.wrong_args-in_default.result _ _ (λ e h q style at. at_prog other (at_reply h completed)) c.wrong_args-in_default.ensures
+
+pub hosting::write-returns-in_err-reply-clause-runs : goal.hosting::write-returns-in_err-reply-clause-runs
+hosting::write-returns-in_err-reply-clause-runs g t c =
+    let channel : c.in_ok-clone.field-0 ≡ c.args.channel.now = search rules in
+    let p = err_from_is_err_and c.from_residual-in_err-reply.result c.from_residual-in_err-reply.ensures.1 in
+    writes_as g.O.Outside.goes c.args.tree.now c.wait.new.tree c.args.outside.now c.wait.new.outside c.args.place c.args.channel.now c.args.text.now c.in_ok-clone.field-0 c.in_ok-text.field-0 c.from_residual-in_err-reply.result
+    channel c.in_ok-text.ensures
+    (writes_over g.O.Outside.goes c.args.tree.now c.wait.new.tree c.args.outside.now c.passes_top.new.self c.wait.new.outside c.args.place c.in_ok-clone.field-0 c.in_ok-text.field-0 c.from_residual-in_err-reply.result
+    c.in_err-reply.field-0.0 p.0 (λ q at. c.in_ok-passes_top.ensures.told q at refl) p.1 p.2 c.in_err-reply.ensures.runs)
+
+pub hosting::write-returns-clause-runs : goal.hosting::write-returns-clause-runs
+hosting::write-returns-clause-runs g t c =
+    let channel : c.in_ok-clone.field-0 ≡ c.args.channel.now = search rules in
+    let named : c.as_str.result.now ≡ c.args.channel.now = search rules in
+    writes_as g.O.Outside.goes c.args.tree.now c.wait.new.tree c.args.outside.now c.wait.new.outside c.args.place c.args.channel.now c.args.text.now c.in_ok-clone.field-0 c.in_ok-text.field-0 c.written.result
+    channel c.in_ok-text.ensures
+    (writes_heard g.O.Outside.goes c.args.tree.now c.wait.new.tree c.args.outside.now c.passes_top.new.self c.wait.new.outside c.args.place c.in_ok-clone.field-0 c.in_ok-text.field-0 c.written.result
+    (λ q at. c.in_ok-passes_top.ensures.told q at refl) c.in-Heard.reply
+    (subst (SaysOn g.O.Outside.goes c.args.tree.now c.passes_top.new.self c.args.place None (AskHost (Write c.in_ok-clone.field-0 c.in_ok-text.field-0)) c.wait.new.tree c.wait.new.outside) c.in-Heard.is c.in_ok-reply.ensures.runs)
+    (subst (λ (x : Text). IsWritten x c.in-Heard.reply c.written.result) (named ∙ sym channel) c.written.ensures))
+
+-- # Calls between interpreters
+
+pub crossing::ask_below-unreachable-requires : goal.crossing::ask_below-unreachable-requires
+crossing::ask_below-unreachable-requires g t c = never_outside c.args.tree.now c.args.place c.args.path.now (λ p at. c.in-Outside.ensures p at) c.requires.0 c.requires.1
+
+pub crossing::ask_below-returns-in-There-clause-asks : goal.crossing::ask_below-returns-in-There-clause-asks
+crossing::ask_below-returns-in-There-clause-asks g t c =
+    calls_below g.O.Outside.goes c.args.tree.now c.call_there.new.tree c.args.outside.now c.args.place 0 c.args.path.now (whole_entry c.args.entry) c.call_there.result c.call_there.new.outside refl c.call_there.ensures.runs
+
+pub crossing::ask_below-returns-in-Missing-clause-asks : goal.crossing::ask_below-returns-in-Missing-clause-asks
+crossing::ask_below-returns-in-Missing-clause-asks g t c =
+    asks_nobody g.O.Outside.goes c.args.tree.now c.args.tree.now c.args.outside.now c.args.place c.args.path.now (whole_entry c.args.entry) c.find_nobody.result c.find_nobody.new.outside
+    (λ p at. c.in-Missing.ensures p at) refl
+    (lost_so c.no_interpreter-lost.result c.find_nobody.result (λ (e : Reply). e ≡ Completed (failing (no_interpreter []))) c.no_interpreter-lost.ensures c.find_nobody.ensures.told) c.find_nobody.ensures.misses
+
+pub crossing::ask_entry-returns-then-is_empty-clause-asks : goal.crossing::ask_entry-returns-then-is_empty-clause-asks
+crossing::ask_entry-returns-then-is_empty-clause-asks g t c =
+    let zero = Steps.zero_is (length c.args.path.now) c.is_empty.result c.is_empty.ensures c.if-is_empty.true in
+    asks_here g.O.Outside.goes c.args.tree.now c.serve_entry.new.tree c.args.outside.now c.serve_entry.new.outside c.args.place c.args.path.now (whole_entry c.args.entry) c.serve_entry.result
+    (no_item c.args.path.now (omega (arith, zero))) c.serve_entry.ensures.runs
+
+pub crossing::ask_entry-returns-clause-asks : goal.crossing::ask_entry-returns-clause-asks
+crossing::ask_entry-returns-clause-asks g t c =
+    let some = Steps.some_is (length c.args.path.now) c.is_empty.result c.is_empty.ensures c.if-is_empty.false in
+    asks_another g.O.Outside.goes c.args.tree.now c.ask_below.new.tree c.args.outside.now c.ask_below.new.outside c.args.place c.args.path.now (whole_entry c.args.entry) c.ask_below.result some c.ask_below.ensures.asks
+
+pub crossing::call_alias-returns-in-There-clause-runs : goal.crossing::call_alias-returns-in-There-clause-runs
+crossing::call_alias-returns-in-There-clause-runs g t c =
+    let up : c.up-up.result ≡ c.args.alias.now.up = search rules in
+    let same = alias_is c.args.alias.now c.args.word.now c.args.args.now c.up-up.result c.down-down.result.now c.in_ok-target_words.field-0.items up c.down-down.ensures
+    (c.in_ok-target_words.ensures ∙ ap (λ (ws : List (List ℕ)). ws ++ c.args.args.now) c.words.ensures) in
+    evaluates_same g.O.Outside.goes c.args.tree.now c.call_there.new.tree c.args.outside.now c.call_there.new.outside c.args.place (alias_program c.args.alias.now c.args.word.now c.args.args.now) _ c.call_there.result same
+    (calls_end g.O.Outside.goes c.args.tree.now c.call_there.new.tree c.args.outside.now c.args.place c.up-up.result c.down-down.result.now (CallWords c.in_ok-target_words.field-0.items) c.call_there.result
+    c.call_there.new.outside (failing (lost_alias c.args.word.now)) c.call_there.ensures.runs)
+
+pub crossing::call_alias-returns-in-Missing-clause-runs : goal.crossing::call_alias-returns-in-Missing-clause-runs
+crossing::call_alias-returns-in-Missing-clause-runs g t c =
+    let up : c.up-up.result ≡ c.args.alias.now.up = search rules in
+    let same = alias_is c.args.alias.now c.args.word.now c.args.args.now c.up-up.result c.down-down.result.now c.in_ok-target_words.field-0.items up c.down-down.ensures
+    (c.in_ok-target_words.ensures ∙ ap (λ (ws : List (List ℕ)). ws ++ c.args.args.now) c.words.ensures) in
+    evaluates_same g.O.Outside.goes c.args.tree.now c.args.tree.now c.args.outside.now c.miss_alias.new.outside c.args.place (alias_program c.args.alias.now c.args.word.now c.args.args.now) _ c.miss_alias.result same
+    (calls_nobody g.O.Outside.goes c.args.tree.now c.args.outside.now c.miss_alias.new.outside c.args.place c.up-up.result c.down-down.result.now (CallWords c.in_ok-target_words.field-0.items) c.miss_alias.result
+    (failing (lost_alias c.args.word.now)) (λ p at. c.in-Missing.ensures p at) c.miss_alias.ensures.told c.miss_alias.ensures.misses)
+
+pub crossing::call_alias-returns-in-Outside-clause-runs : goal.crossing::call_alias-returns-in-Outside-clause-runs
+crossing::call_alias-returns-in-Outside-clause-runs g t c =
+    let up : c.up-up.result ≡ c.args.alias.now.up = search rules in
+    let same = alias_is c.args.alias.now c.args.word.now c.args.args.now c.up-up.result c.down-down.result.now c.in_ok-target_words.field-0.items up c.down-down.ensures
+    (c.in_ok-target_words.ensures ∙ ap (λ (ws : List (List ℕ)). ws ++ c.args.args.now) c.words.ensures) in
+    evaluates_same g.O.Outside.goes c.args.tree.now c.call_past_top.new.tree c.args.outside.now c.call_past_top.new.outside c.args.place (alias_program c.args.alias.now c.args.word.now c.args.args.now) _ c.call_past_top.result same
+    (calls_past g.O.Outside.goes c.args.tree.now c.call_past_top.new.tree c.args.outside.now c.call_past_top.new.outside c.args.place c.up-up.result c.down-down.result.now (CallWords c.in_ok-target_words.field-0.items)
+    c.call_past_top.result (failing (lost_alias c.args.word.now)) c.call_past_top.ensures.runs)
+
+pub crossing::call_past_top-returns-in_err-value-clause-runs : goal.crossing::call_past_top-returns-in_err-value-clause-runs
+crossing::call_past_top-returns-in_err-value-clause-runs g t c =
+    let p = err_from_is_err_and c.from_residual-in_err-value.result c.from_residual-in_err-value.ensures.1 in
+    Awaited.calls_out_over g.O.Outside.goes c.args.tree.now c.wait.new.tree c.args.outside.now c.passes_top.new.self c.wait.new.outside c.args.caller (Some c.args.up) c.args.down.now (whole_entry c.args.entry)
+    (λ q at e. c.in_ok-passes_top.ensures.told q at e) c.requires.above c.from_residual-in_err-value.result c.in_err-value.field-0.0 p.0 p.1 p.2 c.in_err-value.ensures.runs
+
+pub crossing::call_past_top-returns-clause-runs : goal.crossing::call_past_top-returns-clause-runs
+crossing::call_past_top-returns-clause-runs g t c =
+    Awaited.calls_out_on g.O.Outside.goes c.args.tree.now c.wait.new.tree c.args.outside.now c.passes_top.new.self c.wait.new.outside c.args.caller (Some c.args.up) c.args.down.now (whole_entry c.args.entry)
+    (λ q at e. c.in_ok-passes_top.ensures.told q at e) c.requires.above c.in-Completed.value
+    (subst (SaysOn g.O.Outside.goes c.args.tree.now c.passes_top.new.self c.args.caller (Some c.args.up) (whole_entry c.args.entry) c.wait.new.tree c.wait.new.outside) c.in-Completed.is c.in_ok-value.ensures.runs)
+
+pub crossing::call_there-come_back-requires : goal.crossing::call_there-come_back-requires
+crossing::call_there-come_back-requires g t c =
+    let p = c.requires.running.0 in
+    (p, c.serve_entry-ended.ensures.steady.keys p _ c.requires.running.1 c.requires.running.2)
+
+pub crossing::call_there-returns-clause-runs : goal.crossing::call_there-returns-clause-runs
+crossing::call_there-returns-clause-runs g t c =
+    calls_there g.O.Outside.goes c.args.tree.now c.serve_entry-ended.new.tree c.args.outside.now c.args.caller c.args.up c.args.down.now (whole_entry c.args.entry) c.come_back.result
+    c.enters.new.self c.serve_entry-ended.new.outside c.come_back.new.outside c.args.target c.serve_entry-ended.result c.requires.leads (λ p a at e. c.in_ok-enters.ensures.told p a at e)
+    c.serve_entry-ended.ensures.runs c.come_back.ensures.comes c.serve_entry-ended.ensures.steady
+
+pub crossing::serve_entry-returns-in-Own-clause-runs : goal.crossing::serve_entry-returns-in-Own-clause-runs
+crossing::serve_entry-returns-in-Own-clause-runs g t c =
+    evaluates_there g.O.Outside.goes c.args.tree.now c.serve.new.tree c.args.outside.now c.serve.new.outside c.args.place (whole_entry c.args.entry) (entry_of c.in-Own.own) c.serve.result (ap whole_entry c.in-Own.is) c.serve.ensures.runs
+
+pub crossing::serve_entry-returns-clause-runs : goal.crossing::serve_entry-returns-clause-runs
+crossing::serve_entry-returns-clause-runs g t c =
+    λ p style at. at_prog (ap (λ i. serve style (whole_entry i)) c.in-AskHost.is) (at_reply (ap (λ (x : List ℕ). Completed (ok x)) c.empty.ensures) completed)
+
+-- # Calls that pass the top of the tree, and what is handed in
+
+pub waiting::enter-returns-in-Some-clause-runs : goal.waiting::enter-returns-in-Some-clause-runs
+waiting::enter-returns-in-Some-clause-runs g t c =
+    Awaited.enters_there g.O.Outside.goes c.args.tree.now c.serve_entry.new.tree c.args.outside.now c.serve_entry.new.outside c.in-Some.place c.args.target.now (whole_entry c.args.entry) c.serve_entry.result
+    c.in-Some.ensures.there c.serve_entry.ensures.runs
+
+pub waiting::enter-returns-in-None-clause-runs : goal.waiting::enter-returns-in-None-clause-runs
+waiting::enter-returns-in-None-clause-runs g t c =
+    Awaited.enters_nobody g.O.Outside.goes c.args.tree.now c.args.outside.now c.args.target.now (whole_entry c.args.entry) c.no_interpreter.result c.in-None.ensures.missing c.no_interpreter.ensures
+
+pub waiting::hand_in-returns-in_default-clause-runs : goal.waiting::hand_in-returns-in_default-clause-runs
+waiting::hand_in-returns-in_default-clause-runs g t c =
+    Awaited.handed_on g.O.Outside.goes c.args.tree.now c.enter-ended.new.tree c.args.outside.now c.enter-ended.new.outside c.args.place c.args.up (whole_entry c.args.entry.now) c.as_slice-path.result.now c.args.target.items
+    (whole_entry c.args.inner) c.enter-ended.result c.entry_leaves.new.self c.in_ok-status.field-0 c.in_default.is c.as_slice-path.ensures.value c.enter-ended.ensures.runs c.in_ok-entry_leaves.ensures.told c.in_ok-status.ensures
+
+pub waiting::hand_in-returns-clause-runs : goal.waiting::hand_in-returns-clause-runs
+waiting::hand_in-returns-clause-runs g t c =
+    let fits_it : FitsSigned w64 c.in-Some.status = search rules in
+    let same = to_z-of_z w64 c.in-Some.status fits_it in
+    Awaited.handed_out g.O.Outside.goes c.args.tree.now c.enter-ended.new.tree c.args.outside.now c.enter-ended.new.outside c.args.place c.args.up (whole_entry c.args.entry.now) c.as_slice-path.result.now c.args.target.items
+    (whole_entry c.args.inner) c.enter-ended.result c.entry_leaves.new.self c.exit_comes_back.new.self _ c.in_ok-status.field-0 (c.in-Some.is ∙ ap (λ (n : ℤ). Some n) (sym same)) c.as_slice-path.ensures.value
+    c.enter-ended.ensures.runs c.in_ok-entry_leaves.ensures.told c.in_ok-status.ensures (λ p at e. c.in_ok-exit_comes_back.ensures.told p at e) c.enter-ended.ensures.steady
+
+pub waiting::wait-returns-in_err-target-clause-runs : goal.waiting::wait-returns-in_err-target-clause-runs
+waiting::wait-returns-in_err-target-clause-runs g t c =
+    let p = err_from_is_err_and c.from_residual.result c.from_residual.ensures.1 in
+    ended_err c.from_residual.result c.in_err-target.field-0.0 p.0 _ _ _ p.1 p.2
+    (Awaited.ends_wait g.O.Outside.goes c.args.tree.now c.turns.tree c.args.outside.now c.turns.outside c.next.new.self c.args.place c.args.up (whole_entry c.args.entry.now) c.in_err-target.field-0.0
+    c.turns.invariant.leads c.turns.invariant.steady c.requires.above (λ q at e. c.in_err-target.ensures.comes q at e)) (λ e h. h)
+
+pub waiting::wait-hand_in-requires : goal.waiting::wait-hand_in-requires
+waiting::wait-hand_in-requires g t c =
+    let p = c.requires.running.0 in
+    let named = c.turns.invariant.steady.keys p _ c.requires.running.1 c.requires.running.2 in
+    let comes = Awaited.turned g.O.Outside.goes g.O.Outside.hands_in (tree_of c.turns.tree) c.turns.outside c.next.new.self p c.args.up (whole_entry c.args.entry.now) c.in_ok-target.field-0 _ c.in-Entry.is
+    (c.in_ok-target.ensures.comes p named (c.requires.above p c.requires.running.1)) in
+    let fewer = subst (λ (x : Turn). OnEntry (Ok x) (g.O.Outside.entries_left c.next.new.self < g.O.Outside.entries_left c.turns.outside)) c.in-Entry.is c.in_ok-target.ensures.fewer in
+    let left = c.turns.invariant.left in
+    let most : room (tree_of c.turns.tree) ≤ 1000 = omega arith in
+    λ κs h. (search rules, (search rules, ((p, named, still_in_use c.args.tree.now c.turns.tree p c.turns.invariant.steady c.requires.running.2), comes.1)))
+
+pub waiting::wait-turns-preserved : goal.waiting::wait-turns-preserved
+waiting::wait-turns-preserved g t c = record {
+  leads = Awaited.waits_on g.O.Outside.goes c.args.tree.now c.turns.tree c.hand_in.new.tree c.args.outside.now c.turns.outside c.next.new.self c.hand_in.new.outside c.args.place c.args.up (whole_entry c.args.entry.now)
+      c.in-Entry.target.items (whole_entry c.in-Entry.inner) c.turns.invariant.leads c.turns.invariant.steady c.requires.above
+      (λ p at e. (Awaited.turned g.O.Outside.goes g.O.Outside.hands_in (tree_of c.turns.tree) c.turns.outside c.next.new.self p c.args.up (whole_entry c.args.entry.now) c.in_ok-target.field-0 _ c.in-Entry.is (c.in_ok-target.ensures.comes p at e)).0)
+      c.in_ok-hand_in-in-Entry.ensures.runs;
+  steady = steady-trans _ _ _ c.turns.invariant.steady c.hand_in.ensures.steady;
+  left = let a = c.hand_in.ensures.left in let b = c.turns.invariant.left in let d = c.next.ensures.left in omega arith;
+}
+
+pub waiting::wait-returns-in_err-hand_in-in-Entry-clause-runs : goal.waiting::wait-returns-in_err-hand_in-in-Entry-clause-runs
+waiting::wait-returns-in_err-hand_in-in-Entry-clause-runs g t c =
+    let p = err_from_is_err_and c.from_residual-in_err-hand_in-in-Entry.result c.from_residual-in_err-hand_in-in-Entry.ensures.1 in
+    ended_err c.from_residual-in_err-hand_in-in-Entry.result c.in_err-hand_in-in-Entry.field-0.0 p.0 _ _ _ p.1 p.2
+    (Awaited.waits_out g.O.Outside.goes c.args.tree.now c.turns.tree c.hand_in.new.tree c.args.outside.now c.turns.outside c.next.new.self c.hand_in.new.outside c.args.place c.args.up (whole_entry c.args.entry.now)
+    c.in-Entry.target.items (whole_entry c.in-Entry.inner) c.in_err-hand_in-in-Entry.field-0.0 c.turns.invariant.leads c.turns.invariant.steady c.requires.above
+    (λ q at e. (Awaited.turned g.O.Outside.goes g.O.Outside.hands_in (tree_of c.turns.tree) c.turns.outside c.next.new.self q c.args.up (whole_entry c.args.entry.now) c.in_ok-target.field-0 _ c.in-Entry.is (c.in_ok-target.ensures.comes q at e)).0)
+    c.in_err-hand_in-in-Entry.ensures.runs) (λ e h. h)
+
+pub waiting::wait-returns-in_err-hand_in-in-Entry-clause-steady : goal.waiting::wait-returns-in_err-hand_in-in-Entry-clause-steady
+waiting::wait-returns-in_err-hand_in-in-Entry-clause-steady g t c = steady-trans _ _ _ c.turns.invariant.steady c.hand_in.ensures.steady
+
+pub waiting::wait-returns-in-Completed-clause-runs : goal.waiting::wait-returns-in-Completed-clause-runs
+waiting::wait-returns-in-Completed-clause-runs g t c =
+    Awaited.completes_wait g.O.Outside.goes c.args.tree.now c.turns.tree c.args.outside.now c.turns.outside c.next.new.self c.args.place c.args.up (whole_entry c.args.entry.now) c.in-Completed.value
+    c.turns.invariant.leads c.turns.invariant.steady c.requires.above
+    (λ p at e. Awaited.turned g.O.Outside.goes g.O.Outside.hands_in (tree_of c.turns.tree) c.turns.outside c.next.new.self p c.args.up (whole_entry c.args.entry.now) c.in_ok-target.field-0 _ c.in-Completed.is (c.in_ok-target.ensures.comes p at e))
+
+pub waiting::wait-returns-in-Heard-clause-runs : goal.waiting::wait-returns-in-Heard-clause-runs
+waiting::wait-returns-in-Heard-clause-runs g t c =
+    Awaited.hears_wait g.O.Outside.goes c.args.tree.now c.turns.tree c.args.outside.now c.turns.outside c.next.new.self c.args.place c.args.up (whole_entry c.args.entry.now) (reply_of c.in-Heard.reply)
+    c.turns.invariant.leads c.turns.invariant.steady c.requires.above
+    (λ p at e. Awaited.turned g.O.Outside.goes g.O.Outside.hands_in (tree_of c.turns.tree) c.turns.outside c.next.new.self p c.args.up (whole_entry c.args.entry.now) c.in_ok-target.field-0 _ c.in-Heard.is (c.in_ok-target.ensures.comes p at e))
+
+pub waiting::wait-returns-in-Heard-clause-own : goal.waiting::wait-returns-in-Heard-clause-own
+waiting::wait-returns-in-Heard-clause-own g t c =
+    let p = c.requires.running.0 in
+    let named = c.turns.invariant.steady.keys p _ c.requires.running.1 c.requires.running.2 in
+    (Awaited.turned g.O.Outside.goes g.O.Outside.hands_in (tree_of c.turns.tree) c.turns.outside c.next.new.self p c.args.up (whole_entry c.args.entry.now) c.in_ok-target.field-0 _ c.in-Heard.is
+    (c.in_ok-target.ensures.comes p named (c.requires.above p c.requires.running.1))).1

@@ -3,6 +3,7 @@ use Rattle.std.specs.Option.{option_copied}
 use Rattle.std.specs.String.{string_bytes}
 use Rattle.tcl_core.specs.Paths.{Path}
 use Rattle.tcl_language.specs.Scripts.{commands, words, parts}
+use Rattle.tcl_run.specs.Entering.{whole_entry}
 use Rattle.tcl_run.specs.Runs.{IsAt, IsSteady, room}
 use Rattle.tcl_text.specs.declared.integer.Integers.{Integers}
 use Rattle.tcl_tree.specs.TreeOf.{tree_of}
@@ -14,6 +15,7 @@ use Rattle.tcl_calls.specs.BranchesRead.{tests_of}
 use Rattle.tcl_calls.specs.Expressions.{IsKept, settles}
 use Rattle.tcl_calls.specs.Walks.{walks_at}
 use Rattle.tcl_evaluator.specs.View.{Leads}
+use Rattle.tcl_evaluator.proofs.Awaited.{WaitsFrom}
 use Rattle.tcl_evaluator.proofs.+eval.Given as goal
 
 abbrev pub decreases-evaluation::eval_script : goal.decreases-evaluation::eval_script
@@ -68,7 +70,7 @@ abbrev pub decreases-crossing::serve_call : goal.decreases-crossing::serve_call
 decreases-crossing::serve_call g l = 16016 * g.O.Outside.entries_left l.outside.now + 16 * room (tree_of l.tree.now) + 1
 
 abbrev pub decreases-crossing::call_alias : goal.decreases-crossing::call_alias
-decreases-crossing::call_alias g l = 16016 * g.O.Outside.entries_left l.outside.now + 16 * room (tree_of l.tree.now) + 2
+decreases-crossing::call_alias g l = 16016 * g.O.Outside.entries_left l.outside.now + 16 * room (tree_of l.tree.now) + 5
 
 abbrev pub decreases-crossing::invoke : goal.decreases-crossing::invoke
 decreases-crossing::invoke g l = 16016 * g.O.Outside.entries_left l.outside.now + 16 * room (tree_of l.tree.now) + 0
@@ -82,35 +84,29 @@ decreases-crossing::serve_hidden g l = 16016 * g.O.Outside.entries_left l.outsid
 abbrev pub decreases-crossing::serve_eval : goal.decreases-crossing::serve_eval
 decreases-crossing::serve_eval g l = 16016 * g.O.Outside.entries_left l.outside.now + 16 * room (tree_of l.tree.now) + 2
 
-abbrev pub decreases-crossing::ask_eval : goal.decreases-crossing::ask_eval
-decreases-crossing::ask_eval g l = 16016 * g.O.Outside.entries_left l.outside.now + 16 * room (tree_of l.tree.now) + 3
-
-abbrev pub decreases-crossing::ask_hidden : goal.decreases-crossing::ask_hidden
-decreases-crossing::ask_hidden g l = 16016 * g.O.Outside.entries_left l.outside.now + 16 * room (tree_of l.tree.now) + 3
-
 abbrev pub decreases-commands::call_hidden : goal.decreases-commands::call_hidden
 decreases-commands::call_hidden g l = 16016 * g.O.Outside.entries_left l.outside.now + 16 * room (tree_of l.tree.now) + 12
 
 abbrev pub decreases-interpreters::interp_eval : goal.decreases-interpreters::interp_eval
-decreases-interpreters::interp_eval g l = 16016 * g.O.Outside.entries_left l.outside.now + 16 * room (tree_of l.tree.now) + 4
+decreases-interpreters::interp_eval g l = 16016 * g.O.Outside.entries_left l.outside.now + 16 * room (tree_of l.tree.now) + 7
 
 abbrev pub decreases-interpreters::interp : goal.decreases-interpreters::interp
 decreases-interpreters::interp g l = 16016 * g.O.Outside.entries_left l.outside.now + 16 * room (tree_of l.tree.now) + 9
 
 abbrev pub decreases-interpreters::interp_invoke_hidden : goal.decreases-interpreters::interp_invoke_hidden
-decreases-interpreters::interp_invoke_hidden g l = 16016 * g.O.Outside.entries_left l.outside.now + 16 * room (tree_of l.tree.now) + 4
+decreases-interpreters::interp_invoke_hidden g l = 16016 * g.O.Outside.entries_left l.outside.now + 16 * room (tree_of l.tree.now) + 7
 
 abbrev pub decreases-interpreters::call_subcommand : goal.decreases-interpreters::call_subcommand
-decreases-interpreters::call_subcommand g l = 16016 * g.O.Outside.entries_left l.outside.now + 16 * room (tree_of l.tree.now) + 5
+decreases-interpreters::call_subcommand g l = 16016 * g.O.Outside.entries_left l.outside.now + 16 * room (tree_of l.tree.now) + 8
 
 abbrev pub decreases-children::child_eval : goal.decreases-children::child_eval
-decreases-children::child_eval g l = 16016 * g.O.Outside.entries_left l.outside.now + 16 * room (tree_of l.tree.now) + 4
+decreases-children::child_eval g l = 16016 * g.O.Outside.entries_left l.outside.now + 16 * room (tree_of l.tree.now) + 7
 
 abbrev pub decreases-children::child_invoke_hidden : goal.decreases-children::child_invoke_hidden
-decreases-children::child_invoke_hidden g l = 16016 * g.O.Outside.entries_left l.outside.now + 16 * room (tree_of l.tree.now) + 4
+decreases-children::child_invoke_hidden g l = 16016 * g.O.Outside.entries_left l.outside.now + 16 * room (tree_of l.tree.now) + 7
 
 abbrev pub decreases-children::call_subcommand : goal.decreases-children::call_subcommand
-decreases-children::call_subcommand g l = 16016 * g.O.Outside.entries_left l.outside.now + 16 * room (tree_of l.tree.now) + 5
+decreases-children::call_subcommand g l = 16016 * g.O.Outside.entries_left l.outside.now + 16 * room (tree_of l.tree.now) + 8
 
 abbrev pub decreases-children::child : goal.decreases-children::child
 decreases-children::child g l = 16016 * g.O.Outside.entries_left l.outside.now + 16 * room (tree_of l.tree.now) + 9
@@ -214,6 +210,51 @@ invariant-loops::foreach-turns g l = record {
   leads : (p : Path) (style : Integers) → IsAt l.fn.tree l.place p style →
       Leads g.O.Outside.goes style (tree_of l.fn.tree) l.fn.outside p (foreach l.fn.args) (tree_of l.tree) l.outside (foreach_turns (walks_at l.turns l.walks.items) l.initial.body);
   body : l.body ≡ l.initial.body;
+  steady : IsSteady l.fn.tree l.tree;
+  left : g.O.Outside.entries_left l.outside ≤ g.O.Outside.entries_left l.fn.outside;
+}
+
+-- Crossings, and what stands outside of the tree.
+
+abbrev pub decreases-crossing::serve_entry : goal.decreases-crossing::serve_entry
+decreases-crossing::serve_entry g l = 16016 * g.O.Outside.entries_left l.outside.now + 16 * room (tree_of l.tree.now) + 3
+
+abbrev pub decreases-crossing::call_there : goal.decreases-crossing::call_there
+decreases-crossing::call_there g l = 16016 * g.O.Outside.entries_left l.outside.now + 16 * room (tree_of l.tree.now) + 4
+
+abbrev pub decreases-crossing::call_past_top : goal.decreases-crossing::call_past_top
+decreases-crossing::call_past_top g l = 16016 * g.O.Outside.entries_left l.outside.now + 16 * room (tree_of l.tree.now) + 1
+
+abbrev pub decreases-crossing::ask_below : goal.decreases-crossing::ask_below
+decreases-crossing::ask_below g l = 16016 * g.O.Outside.entries_left l.outside.now + 16 * room (tree_of l.tree.now) + 5
+
+abbrev pub decreases-crossing::ask_entry : goal.decreases-crossing::ask_entry
+decreases-crossing::ask_entry g l = 16016 * g.O.Outside.entries_left l.outside.now + 16 * room (tree_of l.tree.now) + 6
+
+abbrev pub decreases-waiting::wait : goal.decreases-waiting::wait
+decreases-waiting::wait g l = 16016 * g.O.Outside.entries_left l.outside.now + 16 * room (tree_of l.tree.now) + 0
+
+abbrev pub decreases-waiting::hand_in : goal.decreases-waiting::hand_in
+decreases-waiting::hand_in g l = 16016 * g.O.Outside.entries_left l.outside.now + 16 * room (tree_of l.tree.now) + 5
+
+abbrev pub decreases-waiting::enter : goal.decreases-waiting::enter
+decreases-waiting::enter g l = 16016 * g.O.Outside.entries_left l.outside.now + 16 * room (tree_of l.tree.now) + 4
+
+abbrev pub decreases-hosting::write : goal.decreases-hosting::write
+decreases-hosting::write g l = 16016 * g.O.Outside.entries_left l.outside.now + 16 * room (tree_of l.tree.now) + 1
+
+abbrev pub decreases-hosting::put_line : goal.decreases-hosting::put_line
+decreases-hosting::put_line g l = 16016 * g.O.Outside.entries_left l.outside.now + 16 * room (tree_of l.tree.now) + 2
+
+abbrev pub decreases-hosting::puts : goal.decreases-hosting::puts
+decreases-hosting::puts g l = 16016 * g.O.Outside.entries_left l.outside.now + 16 * room (tree_of l.tree.now) + 3
+
+abbrev pub decreases-waiting::wait-turns : goal.decreases-waiting::wait-turns
+decreases-waiting::wait-turns g l = g.O.Outside.entries_left l.outside
+
+abbrev pub invariant-waiting::wait-turns : goal.invariant-waiting::wait-turns
+invariant-waiting::wait-turns g l = record {
+  leads : WaitsFrom g.O.Outside.goes l.fn.tree l.fn.outside l.place l.up (whole_entry l.entry) l.tree l.outside;
   steady : IsSteady l.fn.tree l.tree;
   left : g.O.Outside.entries_left l.outside ≤ g.O.Outside.entries_left l.fn.outside;
 }

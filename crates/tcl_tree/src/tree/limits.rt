@@ -48,6 +48,15 @@ impl Tree {
         self.move_at(place.key, Meter::Steps)
     }
 
+    /// How many levels up the nearest interpreter is whose limit of steps one more step would pass, itself first; none where a step can be
+    /// counted. This takes no memory.
+    pub fn spent_at(&self, place: Place) -> Option<usize>
+        requires { (p : List (List ℕ)) × Names self.now place p }
+        ensures { (p : List (List ℕ)) → Names self.now place p → result ≡ blocked is_spent (tree_of self.now) p }
+    {
+        self.full_level(place.key, Meter::Steps)
+    }
+
     /// Begins an evaluation in the interpreter, so that it and all above it are one level deeper. This takes no memory.
     ///
     /// # Errors

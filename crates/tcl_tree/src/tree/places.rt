@@ -83,7 +83,6 @@ impl Tree {
         place: Place,
         most: usize,
     ) -> Result<Vec<Text>, AllocError>
-        requires { (p : List (List ℕ)) × Names self.now place p }
         ensures { IfOk result (λ names. (p : List (List ℕ)) → Names self.now place p → names.items ≡ falls most p) }
     {
         let mut names = Vec::new(alloc);

@@ -1,8 +1,8 @@
-use Rattle.std.proofs.Common.{arith, ◌≡◌, ℕ, List, ◌∷◌, [], ◌+◌, ◌<◌, ◌≤◌, ◌^◌, ◌∙◌, sym, ap, subst, length, get_or, refl}
+use Rattle.std.proofs.Common.{arith, ℕ, List, ◌∷◌, ◌<◌, ◌^◌, sym, ap, subst, length, refl}
 use Rattle.std.specs.Bool.{OnTrue}
 use Rattle.tcl_value.specs.Writing.{write}
-use Rattle.tcl_value.specs.Texts.{element_text, texts, flat, pairs, IsElement}
-use Rattle.tcl_value.specs.Dicts.{Pairs, value_set}
+use Rattle.tcl_value.specs.Texts.{element_text, flat, IsElement}
+use Rattle.tcl_value.specs.Dicts.{Pairs}
 use Rattle.tcl_value.specs.declared.element.Element.TheVariants.{Dict}
 use Rattle.tcl_value.specs.Inside.{entry_changed, InnerChange, DictChange}
 use Rattle.tcl_value.proofs.Weights.{AreElements-get}

@@ -1,11 +1,11 @@
-use Rattle.std.proofs.Common.{arith, ◌≡◌, ℕ, List, ◌∷◌, ◌+◌, ◌<◌, ◌≤◌, ◌^◌, ◌∙◌, sym, ap, subst, length, get_or, get_or-set_same, set, refl}
+use Rattle.std.proofs.Common.{arith, ◌≡◌, ℕ, List, ◌∷◌, ◌<◌, ◌^◌, ◌∙◌, sym, ap, subst, length, get_or, set, refl}
 use Rattle.std.specs.Prelude.{◌==◌}
 use Rattle.std.specs.Bool.{OnTrue}
-use Rattle.tcl_value.specs.Writing.{write, write_element}
-use Rattle.tcl_value.specs.Texts.{element_text, texts, IsElement, weight}
+use Rattle.tcl_value.specs.Writing.{write}
+use Rattle.tcl_value.specs.Texts.{element_text, texts, IsElement}
 use Rattle.tcl_value.specs.declared.element.Element.TheVariants.{List as Inner}
 use Rattle.tcl_value.specs.Inside.{element_put, InnerChange, ListPut}
-use Rattle.tcl_value.proofs.Weights.{kept_few, length-texts, texts-get, texts-set, AreElements-get, AreElements-set}
+use Rattle.tcl_value.proofs.Weights.{kept_few, length-texts, texts-get, texts-set, AreElements-get}
 use Rattle.tcl_value.proofs.Inside.{part_within, items_kept, texts_kept, deeper_weight, put_inside, items_changed, text_kept, change_true, inner_put, inner_stays}
 use Rattle.tcl_value.proofs.+put.Goals as goal
 

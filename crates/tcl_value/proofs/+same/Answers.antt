@@ -7,10 +7,10 @@ use Rattle.tcl_value.proofs.+same.Goals as goal
 
 pub element::Element::same-returns-in-List-List : goal.element::Element::same-returns-in-List-List
 element::Element::same-returns-in-List-List t c =
-    let a = c.deref.result.now in
-    let b = c.deref-in-List-List.result.now in
+    let a = c.deref-in-List-List.result.now in
+    let b = c.deref-in-List-List-2.result.now in
     between (write a) (write b) (element_text c.args.self.now) (element_text c.args.other.now) (write_same a b c.same.ensures)
-    (ap element_text c.in-List-List.is-0 ∙ ap write (sym c.deref.ensures)) (ap element_text c.in-List-List.is-1 ∙ ap write (sym c.deref-in-List-List.ensures))
+    (ap element_text c.in-List-List.is-0 ∙ ap write (sym c.deref-in-List-List.ensures)) (ap element_text c.in-List-List.is-1 ∙ ap write (sym c.deref-in-List-List-2.ensures))
 
 pub element::Element::same-returns-in-List-Dict : goal.element::Element::same-returns-in-List-Dict
 element::Element::same-returns-in-List-Dict t c =

@@ -1,17 +1,12 @@
-use Rattle.std.proofs.Common.{refl}
-use Rattle.std.specs.Prelude.{Err}
-use Rattle.tcl_entries.specs.Entering.{entry_of}
-use Rattle.tcl_entries.proofs.Carried.{asks_there, asks_nobody}
-use Rattle.tcl_entries.proofs.Reached.{never_outside}
+use Rattle.std.proofs.Common.{sym, ◌∙◌}
+use Rattle.tcl_run.specs.Entering.{entry_of}
+use Rattle.tcl_entries.proofs.Carried.{asks_another, asks_itself, is_empty_path, is_some_path}
 use Rattle.tcl_entries.proofs.asking.ask.Goals as goal
 
-pub unreachable-requires : goal.unreachable-requires
-unreachable-requires g c = never_outside c.args.tree.now c.args.place c.args.path.now (λ p at. c.in-Outside.ensures p at) c.requires.0 c.requires.1
+pub returns-then-is_empty-clause-asks : goal.returns-then-is_empty-clause-asks
+returns-then-is_empty-clause-asks g c = asks_itself g.O.Outside.goes c.args.tree.now c.serve.new.tree c.args.outside.now c.serve.new.outside c.args.place c.args.path.now (entry_of c.args.entry) c.serve.result
+    (is_empty_path c.args.path.now (sym c.is_empty.ensures ∙ c.if-is_empty.true)) c.serve.ensures.runs
 
-pub returns-in-There-clause-asks : goal.returns-in-There-clause-asks
-returns-in-There-clause-asks g c = asks_there g.O.Outside.goes c.args.tree.now c.serve-ended.new.tree c.args.outside.now c.args.place c.args.path.now (entry_of c.args.entry.now) c.carry.result c.in-There.there c.serve-ended.result
-    (λ p at. c.in-There.ensures p at) c.serve-ended.ensures.acts c.carry.ensures c.serve-ended.ensures.steady
-
-pub returns-in-Missing-clause-asks : goal.returns-in-Missing-clause-asks
-returns-in-Missing-clause-asks g c = asks_nobody g.O.Outside.goes c.args.tree.now c.args.tree.now c.args.outside.now c.args.place c.args.path.now (entry_of c.args.entry.now) (Err c.no_interpreter.result)
-    (λ p at. c.in-Missing.ensures p at) refl c.no_interpreter.ensures
+pub returns-clause-asks : goal.returns-clause-asks
+returns-clause-asks g c = asks_another g.O.Outside.goes c.args.tree.now c.ask_below.new.tree c.args.outside.now c.ask_below.new.outside c.args.place c.args.path.now (entry_of c.args.entry) c.ask_below.result
+    (is_some_path c.args.path.now (sym c.is_empty.ensures ∙ c.if-is_empty.false)) c.ask_below.ensures.calls

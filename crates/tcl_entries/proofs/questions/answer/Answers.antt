@@ -1,6 +1,6 @@
 use Rattle.std.proofs.Common.{◌∙◌, ap}
 use Rattle.tcl_language.specs.Interpreters.{answer}
-use Rattle.tcl_entries.specs.Entering.{question_of}
+use Rattle.tcl_run.specs.Entering.{question_of}
 use Rattle.tcl_entries.proofs.Served.{answered}
 use Rattle.tcl_entries.proofs.questions.answer.Goals as goal
 

@@ -1,7 +1,7 @@
 use Rattle.tcl_language.specs.Interpreters as interpreters
 use Rattle.tcl_language.specs.Interpreters.{asks_at}
 use Rattle.tcl_core.specs.Entries.Entry.{Ask}
-use Rattle.tcl_entries.specs.Entering.{question_of}
+use Rattle.tcl_run.specs.Entering.{question_of}
 use Rattle.tcl_entries.specs.Telling.{asked_of}
 use Rattle.tcl_entries.proofs.Telling.{evaluates_as, question_is}
 use Rattle.tcl_entries.proofs.requests.ask_about.Goals as goal

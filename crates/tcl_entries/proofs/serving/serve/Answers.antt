@@ -1,24 +1,34 @@
 use Rattle.std.proofs.Common.{sym, subst}
-use Rattle.tcl_entries.specs.declared.entry.OwnEntry.{OwnEntry}
-use Rattle.tcl_entries.specs.Entering.{entry_of}
+use Rattle.tcl_run.specs.declared.entry.OwnEntry.{OwnEntry}
+use Rattle.tcl_run.specs.Entering.{entry_of}
+use Rattle.tcl_run.specs.Runs.{EvaluatesAt}
 use Rattle.tcl_language.specs.Table.{serve}
-use Rattle.tcl_run.specs.Plain.{Acts}
+use Rattle.tcl_entries.proofs.Carried.{serves}
 use Rattle.tcl_entries.proofs.serving.serve.Goals as goal
 
-pub returns-in-SetAlias-clause-acts : goal.returns-in-SetAlias-clause-acts
-returns-in-SetAlias-clause-acts c = subst (λ (e : OwnEntry). Acts c.args.tree.now c.args.place (λ style. serve style (entry_of e)) c.set_alias.new.tree c.set_alias.result) (sym c.in-SetAlias.is) c.set_alias.ensures.acts
+pub returns-in-SetAlias-clause-runs : goal.returns-in-SetAlias-clause-runs
+returns-in-SetAlias-clause-runs g c = serves g.O.Outside.goes c.args.tree.now c.set_alias.new.tree c.args.outside.now c.args.place c.args.entry.now _ c.set_alias.result c.in-SetAlias.is c.set_alias.ensures.acts
 
-pub returns-in-Hide-clause-acts : goal.returns-in-Hide-clause-acts
-returns-in-Hide-clause-acts c = subst (λ (e : OwnEntry). Acts c.args.tree.now c.args.place (λ style. serve style (entry_of e)) c.hide.new.tree c.hide.result) (sym c.in-Hide.is) c.hide.ensures.acts
+pub returns-in-ClearAlias-clause-runs : goal.returns-in-ClearAlias-clause-runs
+returns-in-ClearAlias-clause-runs g c = serves g.O.Outside.goes c.args.tree.now c.clear_alias.new.tree c.args.outside.now c.args.place c.args.entry.now _ c.clear_alias.result c.in-ClearAlias.is c.clear_alias.ensures.acts
 
-pub returns-in-Expose-clause-acts : goal.returns-in-Expose-clause-acts
-returns-in-Expose-clause-acts c = subst (λ (e : OwnEntry). Acts c.args.tree.now c.args.place (λ style. serve style (entry_of e)) c.expose.new.tree c.expose.result) (sym c.in-Expose.is) c.expose.ensures.acts
+pub returns-in-Hide-clause-runs : goal.returns-in-Hide-clause-runs
+returns-in-Hide-clause-runs g c = serves g.O.Outside.goes c.args.tree.now c.hide.new.tree c.args.outside.now c.args.place c.args.entry.now _ c.hide.result c.in-Hide.is c.hide.ensures.acts
 
-pub returns-in-SetDepthLimit-clause-acts : goal.returns-in-SetDepthLimit-clause-acts
-returns-in-SetDepthLimit-clause-acts c = subst (λ (e : OwnEntry). Acts c.args.tree.now c.args.place (λ style. serve style (entry_of e)) c.limit_depth.new.tree c.limit_depth.result) (sym c.in-SetDepthLimit.is) c.limit_depth.ensures.acts
+pub returns-in-Expose-clause-runs : goal.returns-in-Expose-clause-runs
+returns-in-Expose-clause-runs g c = serves g.O.Outside.goes c.args.tree.now c.expose.new.tree c.args.outside.now c.args.place c.args.entry.now _ c.expose.result c.in-Expose.is c.expose.ensures.acts
 
-pub returns-in-Create-clause-acts : goal.returns-in-Create-clause-acts
-returns-in-Create-clause-acts c = subst (λ (e : OwnEntry). Acts c.args.tree.now c.args.place (λ style. serve style (entry_of e)) c.create_named.new.tree c.create_named.result) (sym c.in-Create.is) c.create_named.ensures.acts
+pub returns-in-SetCountLimit-clause-runs : goal.returns-in-SetCountLimit-clause-runs
+returns-in-SetCountLimit-clause-runs g c = serves g.O.Outside.goes c.args.tree.now c.limit_count.new.tree c.args.outside.now c.args.place c.args.entry.now _ c.limit_count.result c.in-SetCountLimit.is c.limit_count.ensures.acts
 
-pub returns-in-Delete-clause-acts : goal.returns-in-Delete-clause-acts
-returns-in-Delete-clause-acts c = subst (λ (e : OwnEntry). Acts c.args.tree.now c.args.place (λ style. serve style (entry_of e)) c.delete.new.tree c.delete.result) (sym c.in-Delete.is) c.delete.ensures.acts
+pub returns-in-SetDepthLimit-clause-runs : goal.returns-in-SetDepthLimit-clause-runs
+returns-in-SetDepthLimit-clause-runs g c = serves g.O.Outside.goes c.args.tree.now c.limit_depth.new.tree c.args.outside.now c.args.place c.args.entry.now _ c.limit_depth.result c.in-SetDepthLimit.is c.limit_depth.ensures.acts
+
+pub returns-in-Create-clause-runs : goal.returns-in-Create-clause-runs
+returns-in-Create-clause-runs g c = serves g.O.Outside.goes c.args.tree.now c.create_named.new.tree c.args.outside.now c.args.place c.args.entry.now _ c.create_named.result c.in-Create.is c.create_named.ensures.acts
+
+pub returns-in-Ask-clause-runs : goal.returns-in-Ask-clause-runs
+returns-in-Ask-clause-runs g c = serves g.O.Outside.goes c.args.tree.now c.args.tree.now c.args.outside.now c.args.place c.args.entry.now _ c.answer.result c.in-Ask.is c.answer.ensures
+
+pub returns-in-Delete-clause-runs : goal.returns-in-Delete-clause-runs
+returns-in-Delete-clause-runs g c = subst (λ (e : OwnEntry). EvaluatesAt g.O.Outside.goes c.args.tree.now c.args.outside.now c.args.place (λ style. serve style (entry_of e)) c.delete.new.tree c.delete.new.outside c.delete.result) (sym c.in-Delete.is) c.delete.ensures.runs

@@ -1,5 +1,5 @@
-use Rattle.std.proofs.Common.{◌≡◌, ◌++◌, ◌∷◌, [], ◌∙◌, sym, ap, flat_map}
-use Rattle.tcl_text.specs.Writing.{escaped_byte, hash_mark, is_comment, written}
+use Rattle.std.proofs.Common.{◌++◌, ◌∷◌, [], ◌∙◌, sym, ap, flat_map}
+use Rattle.tcl_text.specs.Writing.{escaped_byte, hash_mark, written}
 use Rattle.tcl_text.proofs.Pushes.{written_plain, written_braced, written_escaped}
 use Rattle.tcl_text.proofs.Comparing.{eq_means, means_same, behind_means, never_means}
 use Rattle.tcl_text.proofs.list_comparing.is_written.Goals as goal

@@ -1,4 +1,4 @@
-use Rattle.std.proofs.Common.{ap, subst, refl, sym}
+use Rattle.std.proofs.Common.{ap, subst, sym}
 use Rattle.tcl_value.specs.Writing.{write}
 use Rattle.tcl_value.specs.Inside.{IsChange, changed_by}
 use Rattle.tcl_value.specs.declared.element.Change.TheVariants.{Elements}

@@ -1,4 +1,4 @@
-use Rattle.std.proofs.Common.{sym, arith, refl}
+use Rattle.std.proofs.Common.{sym, arith}
 use Rattle.tcl_value.proofs.Laws.{last_byte, byte_default}
 use Rattle.tcl_value.proofs.element.has_backslash_end.Goals as goal
 

@@ -1,4 +1,4 @@
-use Rattle.std.proofs.Common.{◌≡◌, ◌∙◌, ap, sym, subst, arith, length, ◌<◌, ◌-◌, get_or}
+use Rattle.std.proofs.Common.{◌≡◌, ◌∙◌, ap, sym, subst, arith, length, ◌-◌, get_or}
 use Rattle.tcl_value.specs.Texts.{IsElement, element_text, texts, ends_in_backslash}
 use Rattle.tcl_value.proofs.Weights.{AreElements-get, texts-get, length-texts}
 use Rattle.tcl_value.proofs.Inner.{ends_write}

@@ -1,7 +1,7 @@
-use Rattle.std.proofs.Common.{arith, ap, ◌≡◌, ◌∙◌, sym, subst, length, ◌++◌, ◌∷◌, [], false, cond, List, ℕ}
+use Rattle.std.proofs.Common.{arith, ap, ◌≡◌, ◌∙◌, sym, subst, ◌++◌, ◌∷◌, [], false, cond, List, ℕ}
 use Rattle.std.specs.Str.{bytes_eq}
 use Rattle.std.specs.List.{list_any}
-use Rattle.tcl_value.specs.Texts.{element_text, texts, pairs, flat, weight, IsEntries}
+use Rattle.tcl_value.specs.Texts.{texts, pairs, flat, weight, IsEntries}
 use Rattle.tcl_value.proofs.Entered.{key_absent, entries_add, IsEntries-add}
 use Rattle.tcl_value.proofs.entries.Entries.add.Goals as goal
 

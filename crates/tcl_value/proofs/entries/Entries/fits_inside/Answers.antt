@@ -1,5 +1,5 @@
-use Rattle.std.proofs.Common.{◌≡◌, ◌∙◌, ap, sym, subst, arith, length, ◌<◌, ◌≤◌, ◌-◌, get_or, List, ℕ}
-use Rattle.tcl_value.specs.Texts.{IsElement, IsInner, element_text, texts, flat, pairs}
+use Rattle.std.proofs.Common.{◌≡◌, ◌∙◌, ap, sym, subst, arith, length, ◌-◌, get_or, List}
+use Rattle.tcl_value.specs.Texts.{IsElement, element_text, texts, flat}
 use Rattle.tcl_value.specs.declared.element.Element.{Element}
 use Rattle.tcl_value.proofs.Weights.{AreElements-get, texts-get, length-texts}
 use Rattle.tcl_value.proofs.Writes.{length-pairs, flat_last, length-flat}

@@ -1,5 +1,4 @@
 use Rattle.std.proofs.Common.{◌∙◌}
-use Rattle.tcl_value.specs.Texts.{texts}
 use Rattle.tcl_value.proofs.Entered.{entry_many}
 use Rattle.tcl_value.proofs.entries.Entries.len.Goals as goal
 

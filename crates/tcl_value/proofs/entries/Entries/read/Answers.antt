@@ -1,4 +1,4 @@
-use Rattle.std.proofs.Common.{arith, ap, ◌≡◌, ◌∙◌, sym, ◌*◌, ◌+◌, get_or}
+use Rattle.std.proofs.Common.{arith, ap, ◌∙◌, sym, ◌*◌, ◌+◌, get_or}
 use Rattle.tcl_value.specs.Texts.{element_text}
 use Rattle.tcl_value.proofs.Removed.{put_take, put_whole}
 use Rattle.tcl_value.proofs.entries.Entries.read.Goals as goal

@@ -1,4 +1,4 @@
-use Rattle.std.proofs.Common.{arith, ap, ◌≡◌, ◌∙◌, sym, subst, List, ℕ, ◌<◌, length}
+use Rattle.std.proofs.Common.{arith, ap, ◌∙◌, sym, subst, List, ℕ, ◌<◌, length}
 use Rattle.std.specs.Prelude.{remove}
 use Rattle.tcl_value.specs.Texts.{texts, pairs, flat, weight, IsEntries}
 use Rattle.tcl_value.proofs.Entered.{entry_many}

@@ -1,4 +1,4 @@
-use Rattle.std.proofs.Common.{arith, ap, ◌≡◌}
+use Rattle.std.proofs.Common.{arith, ap}
 use Rattle.tcl_value.specs.Texts.{weight, flat}
 use Rattle.tcl_value.proofs.Entered.{entry_many, entries_set, IsEntries-set}
 use Rattle.tcl_value.proofs.entries.Entries.set_at.Goals as goal

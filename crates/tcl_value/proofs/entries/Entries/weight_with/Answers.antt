@@ -1,5 +1,4 @@
-use Rattle.std.proofs.Common.{arith, ap, ◌≡◌, ◌∙◌, sym, subst, length, ◌<◌, ◌≤◌, ◌^◌}
-use Rattle.tcl_value.specs.Limits.{IsWithin}
+use Rattle.std.proofs.Common.{arith, ap, ◌≡◌, ◌∙◌, length, ◌<◌, ◌≤◌, ◌^◌}
 use Rattle.tcl_value.specs.Writing.{write_element}
 use Rattle.tcl_value.specs.Texts.{element_text, flat, weight}
 use Rattle.tcl_value.proofs.Written.{size_at_most}

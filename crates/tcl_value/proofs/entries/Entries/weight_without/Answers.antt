@@ -1,7 +1,6 @@
-use Rattle.std.proofs.Common.{arith, ap, ◌≡◌, ◌∙◌, ◌+◌, ◌<◌, ◌≤◌, ◌^◌, length, refl}
+use Rattle.std.proofs.Common.{arith, ap, ◌≡◌, ◌∙◌, ◌+◌, ◌<◌, ◌≤◌, ◌^◌, refl}
 use Rattle.std.specs.Prelude.{◌==◌, true, false}
 use Rattle.std.proofs.lemmas.Bool.Decides.{nat_tests}
-use Rattle.tcl_value.specs.Writing.{write_element}
 use Rattle.tcl_value.specs.Texts.{element_text, flat, weight}
 use Rattle.tcl_value.specs.Dicts.{entry_dropped}
 use Rattle.tcl_value.proofs.Weights.{size}

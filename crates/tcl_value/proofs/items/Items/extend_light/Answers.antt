@@ -1,4 +1,4 @@
-use Rattle.std.proofs.Common.{arith, ◌≡◌, ◌<◌, ◌^◌, ap, ◌∙◌, sym, subst, length, ◌++◌, refl}
+use Rattle.std.proofs.Common.{arith, ◌≡◌, ◌<◌, ◌^◌, ap, ◌∙◌, sym, subst, ◌++◌, refl}
 use Rattle.tcl_value.specs.Texts.{weight, weight_from, texts, AreElements}
 use Rattle.tcl_value.proofs.Weights.{length-texts, kept_few}
 use Rattle.tcl_value.proofs.Extended.{texts-append, AreElements-append, extended_weight}

@@ -1,8 +1,6 @@
-use Rattle.std.proofs.Common.{arith, ◌≡◌, ap, ◌∙◌, sym, subst, length, ◌++◌, ◌∷◌, [], refl}
-use Rattle.tcl_value.specs.Writing.{write}
+use Rattle.std.proofs.Common.{arith, ◌≡◌, ap, ◌∙◌, sym, subst, ◌++◌, ◌∷◌, []}
 use Rattle.tcl_value.specs.Texts.{weight, texts, element_text, AreElements}
-use Rattle.tcl_value.proofs.Weights.{length-write, texts-push, AreElements-push}
-use Rattle.tcl_value.proofs.Errors.{memory_alone}
+use Rattle.tcl_value.proofs.Weights.{texts-push, AreElements-push}
 use Rattle.tcl_value.proofs.items.Items.push_light.Goals as goal
 
 texts_now : (c : goal.After-self-2-1) → texts c.push.new.self.items ≡ c.args.self.now ++ element_text c.args.element ∷ []

@@ -1,7 +1,6 @@
-use Rattle.std.proofs.Common.{arith, ◌≡◌, ap, ◌∙◌, sym, length, refl, set}
-use Rattle.tcl_value.specs.Writing.{write}
+use Rattle.std.proofs.Common.{arith, ◌≡◌, ap, ◌∙◌, sym, length, set}
 use Rattle.tcl_value.specs.Texts.{weight, texts, element_text}
-use Rattle.tcl_value.proofs.Weights.{length-write, length-texts, texts-set, AreElements-set}
+use Rattle.tcl_value.proofs.Weights.{length-texts, texts-set, AreElements-set}
 use Rattle.tcl_value.proofs.items.Items.set_light.Goals as goal
 
 pub index_mut-requires : goal.index_mut-requires

@@ -1,4 +1,4 @@
-use Rattle.std.proofs.Common.{ap, sym, ◌∙◌, ◌≡◌, Ok}
+use Rattle.std.proofs.Common.{ap, sym, ◌∙◌}
 use Rattle.tcl_value.specs.Reading.{list_of}
 use Rattle.tcl_value.specs.Forms.{form_text}
 use Rattle.tcl_value.proofs.Laws.{list_of-write}

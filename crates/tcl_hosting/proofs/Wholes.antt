@@ -1,0 +1,131 @@
+-- What comes of a script with a host is its whole evaluation.
+use Rattle.std.proofs.Common.{◌≡◌, refl, sym, ◌∙◌, ap, subst, arith, ℕ, Bool, ◌+◌, ◌-◌, ◌≤◌, List, [], ◌∷◌, ◌++◌, Some, None}
+use Rattle.tcl_core.specs.Endings.{Reply}
+use Rattle.tcl_core.specs.Endings.Reply.{Completed, Stop, Exit, Cut}
+use Rattle.tcl_core.specs.Entries.Entry.{Eval}
+use Rattle.tcl_core.specs.Laws.{KeepsTop}
+use Rattle.tcl_core.specs.Lives.{End, Whole, alone, comes, count_at, end_at, limit_at, limited, outs_of, unlimited}
+use Rattle.tcl_core.specs.Paths.{Path, Text}
+use Rattle.tcl_core.specs.Programs.{Prog, Table}
+use Rattle.tcl_core.specs.Rules.{Derives}
+use Rattle.tcl_core.specs.Runs.{Runs, Visits, entering}
+use Rattle.tcl_core.specs.Threads.{Chain, Crossings, Threads, event, more, none}
+use Rattle.tcl_core.specs.Trees.{Event, Node, Tree, with_limit}
+use Rattle.tcl_core.specs.Trees.Grants.{Budget}
+use Rattle.tcl_core.specs.Trees.What.{In, Done}
+use Rattle.tcl_core.specs.Trees.Move.{Enter}
+use Rattle.tcl_core.specs.Views.{steps_of}
+use Rattle.tcl_core.proofs.Budgets.{budgeted, derived_budget}
+use Rattle.tcl_core.proofs.Following.{Rest, ahead, chain-append, follows, handed, handed-all, handed-append}
+use Rattle.tcl_core.proofs.RuleLaws.{derived_runs}
+use Rattle.tcl_core.proofs.Unended.{NotCut}
+use Rattle.tcl_hosting.specs.Laws.{WholeRun}
+use Rattle.tcl_hosting.specs.Limits.{HasTop, KeepTops}
+use Rattle.tcl_host.specs.declared.reply.HostReply.{HostReply as TheirReply}
+use Rattle.tcl_host.specs.declared.request.Request.{Request as TheirRequest}
+use Rattle.tcl_run.specs.Outsides.{hosted}
+use Rattle.tcl_tree.specs.Own.{Own}
+use Rattle.tcl_hosting.proofs.Counted.{comes_keeps, steps_within}
+use Rattle.tcl_hosting.proofs.Holding.{Hosts, ends, holding, hosts, keeps_call}
+use Rattle.tcl_hosting.proofs.Hosted.{Held, calm, entering_calls, entering_limits, fit, held}
+use Rattle.tcl_hosting.proofs.Limiting.{language_keeps_tops}
+use Rattle.tcl_hosting.proofs.Nearness.{limited_top}
+use Rattle.tcl_hosting.specs.Language.{leaves_steps}
+use Rattle.tcl_language.specs.Language.{language}
+use Rattle.tcl_language.specs.Table.{serve}
+use Rattle.tcl_text.specs.declared.integer.Integers.{Integers}
+
+-- an end that is none from outside is one of the whole
+ending_at : (p : Path) (r : Reply) → NotCut r → (e : End) × (end_at p r ≡ Some e)
+ending_at p (Completed c) f = (_, refl)
+ending_at p (Stop n m) f = (_, refl)
+ending_at p (Exit n) f = (_, refl)
+ending_at p (Cut c) f = absurd f
+
+module _ {I S : Type 0} (step : S → TheirRequest → TheirReply → S → Type 0) (fine : I → Bool) (prog : Table Own I) (T V : Tree Own) (o z : S) (p : Path) (s : Text) (n : ℕ) (r : Reply) where
+  abbrev script : Prog Own I
+  script = entering prog (limited n T p) (Eval s)
+
+  abbrev last : Event Own
+  last = event p (Done None r)
+
+  -- what is left when the entry has come to its end
+  abbrev leaving : Rest Own
+  leaving = record { moves = []; words = []; tape = last ∷ [] }
+
+  -- all that happens in the entry, and its end, belongs to the host
+  belonging : NotCut r → (τ : List (Event Own)) → Chain (keeps_call step) (limited n T) (holding o None) τ V (holding z None) → Hosts step (holding o None) (τ ++ last ∷ []) z
+  belonging f τ c = hosts step (limited n T) V (holding o None) (holding z None) (τ ++ last ∷ []) (chain-append (keeps_call step) c (more {s = None} (ends None r refl refl f refl refl) none)) refl
+
+  module _ (τ : List (Event Own)) (d : Derives prog (ahead (limited n T) τ leaving) p script (ahead V [] leaving) (Some r)) (h : Hosts step (holding o None) (τ ++ last ∷ []) z) where
+    handed_in : handed τ [] ≡ comes h.replies
+    handed_in = sym (handed-append τ (last ∷ []) []) ∙ handed-all (τ ++ last ∷ []) ∙ h.moves
+
+    few : HasTop T → steps_of (τ ++ last ∷ []) ≤ n
+    few root = steps_within prog T n p script (ahead (limited n T) τ leaving) (ahead V [] leaving) r root refl (subst KeepsTop (sym handed_in) (comes_keeps Own h.replies)) h.spared h.lowering (derived_runs prog d) refl
+
+    abbrev more_steps : ℕ
+    more_steps = n - steps_of (τ ++ last ∷ [])
+
+    -- as the budget is read
+    within_budget : HasTop T → Runs prog (alone (limited n T) (comes h.replies) n (τ ++ last ∷ [])) p script (budgeted more_steps (ahead V [] leaving)) (Some r)
+    within_budget root =
+        let le : steps_of (τ ++ last ∷ []) ≤ n = few root in
+        let sum : steps_of (τ ++ last ∷ []) + more_steps ≡ n = omega (arith, le) in
+        let same : budgeted more_steps (ahead (limited n T) τ leaving) ≡ alone (limited n T) (comes h.replies) n (τ ++ last ∷ []) =
+        (λ i. record { tree = limited n T; moves = handed_in i; grants = Budget (sum i); tape = τ ++ last ∷ [] }) in
+        subst (λ w. Runs prog w p script (budgeted more_steps (ahead V [] leaving)) (Some r)) same (derived_runs prog (derived_budget prog more_steps d h.uncut r refl))
+
+    visit : HasTop T → Visits prog (Runs prog) (alone (limited n T) (Enter p (Eval s) ∷ comes h.replies) n (event p (In None (Eval s)) ∷ (τ ++ last ∷ []))) None p (Eval s)
+        (record { tree = V; moves = []; grants = Budget (steps_of (last ∷ []) + more_steps); tape = [] }) (Some r)
+    visit root = record {
+      entered = alone (limited n T) (comes h.replies) n (τ ++ last ∷ []);
+      left = budgeted more_steps (ahead V [] leaving);
+      entry = record { tape = refl; tree = refl; moves = refl; grants = refl };
+      run = within_budget root;
+      leaving = record { tape = refl; tree = refl; moves = refl; grants = refl };
+    }
+
+    whole : HasTop T → (e : End) → end_at p r ≡ Some e → Whole prog T p s n h.replies e (outs_of (τ ++ last ∷ [])) (unlimited T V)
+    whole root e is = record {
+      tape = event p (In None (Eval s)) ∷ (τ ++ last ∷ []);
+      last = record { tree = V; moves = []; grants = Budget (steps_of (last ∷ []) + more_steps); tape = [] };
+      reply = r;
+      run = visit root;
+      all_read = refl;
+      all_done = refl;
+      ends = is;
+      told = refl;
+      left = refl;
+    }
+
+  pub whole_run : KeepTops fine prog → HasTop T → Threads (Crossings (hosted step)) prog (limited n T) o p script V z r → WholeRun step prog T p s n o V z r
+  whole_run keep top t =
+      let calls = entering_calls prog (limited n T p) (Eval s) in
+      let g : Held step fine prog keep (limited n T) o None p script V z r =
+      calm step fine prog keep (limited n T) o p script V z r calls
+      (held step fine prog keep t (fit script calls) (entering_limits fine prog keep (limited n T p) (Eval s) p (λ e. refl)) (limited_top [] (Some (count_at (T []) + n)) T top)) in
+      let f = follows (keeps_call step) prog g.threads in
+      let h : Hosts step (holding o None) (f.events ++ last ∷ []) z = belonging g.uncut f.events f.chain in
+      let e : (e : End) × (end_at p r ≡ Some e) = ending_at p r g.uncut in
+      record {
+        replies = h.replies;
+        outs = outs_of (f.events ++ last ∷ []);
+        ending = e.0;
+        whole = whole f.events (f.runs leaving) h top e.0 e.1;
+        belongs = h.belongs;
+        ends = e.1;
+        stands = limited_top [] (limit_at (T [])) V g.top;
+      }
+
+module _ {S : Type 0} (step : S → TheirRequest → TheirReply → S → Type 0) (style : Integers) (T V : Tree Own) (o z : S) (p : Path) (s : Text) (n : ℕ) (r : Reply) (there : Node Own) where
+  -- whoever stands, does with the limit too
+  limited_there : (q : Path) → T q ≡ Some there → (m : Node Own) × (limited n T q ≡ Some m)
+  limited_there [] e = (_, ap (with_limit (Some (count_at (T []) + n))) e)
+  limited_there (x ∷ q) e = (there, e)
+
+  pub whole_script : HasTop T → T p ≡ Some there → Threads (Crossings (hosted step)) (language style) (limited n T) o p (serve style (Eval s)) V z r → WholeRun step (language style) T p s n o V z r
+  whole_script top e t =
+      let m = limited_there p e in
+      whole_run step leaves_steps (language style) T V o z p s n r (language_keeps_tops style) top
+      (subst (λ a. Threads (Crossings (hosted step)) (language style) (limited n T) o p (entering (language style) a (Eval s)) V z r) (sym m.1) t)

@@ -1,0 +1,4 @@
+pub mod Limits
+pub mod Language
+pub mod Replies
+pub mod Laws

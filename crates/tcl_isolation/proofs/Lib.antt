@@ -1,0 +1,11 @@
+pub mod Comparing
+pub mod Entering
+pub mod Hosts
+pub mod Limited
+pub mod Lowering
+pub mod Records
+pub mod Safe
+pub mod Tracking
+pub mod Turning
+pub mod Untouching
+pub mod Watching

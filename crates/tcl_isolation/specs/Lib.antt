@@ -1,0 +1,4 @@
+pub mod Visits
+pub mod Limits
+pub mod Laws
+pub mod Scripts

@@ -1,0 +1,11 @@
+pub mod Ways
+pub mod Leads
+pub mod Deeds
+pub mod Turns
+pub mod Plays
+pub mod Crossed
+pub mod Waited
+pub mod Played
+pub mod Reacted
+pub mod Free
+pub mod Worked

@@ -1,0 +1,163 @@
+-- The worked playings, step by step.
+use Rattle.std.proofs.Common.{ℕ, List, [], ◌∷◌, Some, None, refl}
+use Rattle.std.specs.Prelude.{pos}
+use Rattle.tcl_core.specs.Endings.{Reply, ok}
+use Rattle.tcl_core.specs.Endings.Cause.{Above, Over}
+use Rattle.tcl_core.specs.Endings.Meter.{Count}
+use Rattle.tcl_core.specs.Endings.Reply.{Completed, Cut, Exit}
+use Rattle.tcl_core.specs.Entries.Answer.{Replied, Heard}
+use Rattle.tcl_core.specs.Entries.Entry.{Eval}
+use Rattle.tcl_core.specs.Entries.HostReply.{TheEnd}
+use Rattle.tcl_core.specs.Example.{Script, an_answer, child_alone, commands, finish, one_entry}
+use Rattle.tcl_core.specs.Lives.Outcome.{Finished, Waiting, Ended, Exited, Spent, Misfit}
+use Rattle.tcl_core.specs.Programs.{Deed, Prog, Table}
+use Rattle.tcl_core.specs.Programs.Next.{On, Off}
+use Rattle.tcl_core.specs.Programs.Prog.{wait}
+use Rattle.tcl_core.specs.Threads.{Crossings, Threads, event}
+use Rattle.tcl_core.specs.Threads.Threads.{completed, exited, acted, refused, wrapped, wrapped_passed, called_out, answered, answered_passed}
+use Rattle.tcl_core.specs.Trees.{Move, Tree, effect}
+use Rattle.tcl_core.specs.Trees.Move.{Come}
+use Rattle.tcl_core.specs.Trees.What.{Changed, Charged, Nested, Refused, Unnested, Done}
+use Rattle.tcl_reactions.specs.Example.{Comes_to, WorkedPlayings, asked, asking, done_so, leaving, one_entry_and, one_entry_heard}
+use Rattle.tcl_reactions.specs.Playing.{Lived, Player, beginner, plays, stopping, telling}
+use Rattle.tcl_reactions.specs.Playing.Answers.{reads, ends, waits, unfits}
+use Rattle.tcl_reactions.specs.Playing.Fate.{Waits, Unfits, EndsAbove, Spends}
+
+abbrev Runs : Table ℕ Script → Tree ℕ → Player ℕ → Prog ℕ Script → Tree ℕ → Player ℕ → Reply → Type 0
+Runs prog T o x V z r = Threads (Crossings plays) prog T o [] x V z r
+
+-- AN ENTRY THAT IS PASSED ON
+-- after the entry was read, and after the call went out
+abbrev entered : List (Move ℕ) → Player ℕ
+entered ms = record { left = ms; steps = 1; outs = []; fate = None }
+
+abbrev called : List (Move ℕ) → Player ℕ
+called ms = telling (entered ms) asked
+
+asks : (ms : List (Move ℕ)) (z : Player ℕ) (r : Reply) → Runs asking child_alone (called ms) (wait (Some (Some 1, Eval [])) finish) child_alone z r → Runs asking child_alone (entered ms) (asking.entry (Eval [])) child_alone z r
+asks ms z r t = called_out {u = called ms} refl (record { told = refl }) t
+
+waiting : Comes_to asking one_entry 1 Waiting (asked ∷ [])
+waiting =
+    let z : Player ℕ = stopping (called []) (Waits child_alone) in
+    record {
+      last = child_alone;
+      player = z;
+      playing = Lived.entered {U = child_alone} {V = child_alone} {u = beginner one_entry 1} {w = entered []} {v = z} {z = z} [] (Eval []) (Cut Over) Lived.begun refl refl (refl, refl, refl)
+          (asks [] z (Cut Over) (answered_passed tt refl refl (record { told = waits refl refl tt refl }))) refl;
+      is_over = tt;
+      outcome = refl;
+      told = refl;
+    }
+
+answered_so : Comes_to asking (one_entry_and (Completed (ok []))) 1 Finished (asked ∷ done_so ∷ [])
+answered_so =
+    let ms : List (Move ℕ) = Come (Replied (Completed (ok []))) ∷ [] in
+    let y : Player ℕ = called [] in
+    let z : Player ℕ = telling y done_so in
+    record {
+      last = child_alone;
+      player = z;
+      playing = Lived.entered {U = child_alone} {V = child_alone} {u = beginner (one_entry_and (Completed (ok []))) 1} {w = entered ms} {v = y} {z = z} [] (Eval []) (Completed (ok [])) Lived.begun refl refl (refl, refl, refl)
+          (asks ms y (Completed (ok [])) (answered {u = y} refl refl (record { told = reads [] refl refl refl tt refl }) completed)) refl;
+      is_over = tt;
+      outcome = refl;
+      told = refl;
+    }
+
+ended_so : Comes_to asking (one_entry_and (Cut Above)) 1 Ended (asked ∷ [])
+ended_so =
+    let ms : List (Move ℕ) = Come (Replied (Cut Above)) ∷ [] in
+    let z : Player ℕ = stopping (called []) EndsAbove in
+    record {
+      last = child_alone;
+      player = z;
+      playing = Lived.entered {U = child_alone} {V = child_alone} {u = beginner (one_entry_and (Cut Above)) 1} {w = entered ms} {v = z} {z = z} [] (Eval []) (Cut Above) Lived.begun refl refl (refl, refl, refl)
+          (asks ms z (Cut Above) (answered_passed tt refl refl (record { told = ends (Replied (Cut Above)) [] refl refl refl tt tt refl }))) refl;
+      is_over = tt;
+      outcome = refl;
+      told = refl;
+    }
+
+unfit : Comes_to asking one_entry_heard 1 Misfit (asked ∷ [])
+unfit =
+    let ms : List (Move ℕ) = Come (Heard TheEnd) ∷ [] in
+    let z : Player ℕ = stopping (called ms) Unfits in
+    record {
+      last = child_alone;
+      player = z;
+      playing = Lived.entered {U = child_alone} {V = child_alone} {u = beginner one_entry_heard 1} {w = entered ms} {v = z} {z = z} [] (Eval []) (Cut Over) Lived.begun refl refl (refl, refl, refl)
+          (asks ms z (Cut Over) (answered_passed tt refl refl (record { told = unfits (Come (Heard TheEnd)) [] refl refl refl tt refl }))) refl;
+      is_over = tt;
+      outcome = refl;
+      told = refl;
+    }
+
+-- AN EXIT, AND AN ANSWER TO NO CALL
+leaves : Comes_to leaving one_entry 1 (Exited (pos 3)) (event [] (Done None (Exit (pos 3))) ∷ [])
+leaves =
+    let z : Player ℕ = telling (entered []) (event [] (Done None (Exit (pos 3)))) in
+    record {
+      last = child_alone;
+      player = z;
+      playing = Lived.entered {U = child_alone} {V = child_alone} {u = beginner one_entry 1} {w = entered []} {v = entered []} {z = z} [] (Eval []) (Exit (pos 3)) Lived.begun refl refl (refl, refl, refl) exited refl;
+      is_over = tt;
+      outcome = refl;
+      told = refl;
+    }
+
+uncalled : Comes_to commands an_answer 1 Misfit []
+uncalled = record { last = child_alone; player = beginner an_answer 1; playing = Lived.begun; is_over = tt; outcome = refl; told = refl }
+
+-- A COMMAND, with so many steps
+abbrev at_work : ℕ → Player ℕ
+at_work n = record { left = []; steps = n; outs = []; fate = None }
+
+abbrev nested : Deed ℕ
+nested = (None, Nested, On)
+
+abbrev inside_it : Tree ℕ
+inside_it = effect [] Nested child_alone
+
+abbrev counted : Tree ℕ
+counted = effect [] Charged inside_it
+
+abbrev changed : Tree ℕ
+changed = effect [] (Changed 7) counted
+
+sets : Runs commands inside_it (at_work 1) (commands.program Script.SetSeven) changed (at_work 0) (Completed (ok []))
+sets =
+    acted {u = at_work 0} (None, Charged, On) (λ gs. refl) tt (record { told = (refl, refl, refl) })
+    (acted {u = at_work 0} (None, Changed 7, On) (λ gs. refl) tt (record { told = refl }) completed)
+
+served : Comes_to commands one_entry 1 Finished (done_so ∷ [])
+served =
+    let V : Tree ℕ = effect [] Unnested changed in
+    let z : Player ℕ = telling (at_work 0) done_so in
+    record {
+      last = V;
+      player = z;
+      playing = Lived.entered {U = child_alone} {V = V} {u = beginner one_entry 1} {w = at_work 1} {v = at_work 0} {z = z} [] (Eval []) (Completed (ok [])) Lived.begun refl refl (refl, refl, refl)
+          (wrapped {U = changed} {o1 = at_work 1} {o2 = at_work 0} {o3 = at_work 0} nested (λ gs. refl) refl (record { told = refl }) sets (record { told = refl }) completed) refl;
+      is_over = tt;
+      outcome = refl;
+      told = refl;
+    }
+
+spent : Comes_to commands one_entry 0 Spent []
+spent =
+    let V : Tree ℕ = effect [] Unnested inside_it in
+    let z : Player ℕ = stopping (at_work 0) Spends in
+    record {
+      last = V;
+      player = z;
+      playing = Lived.entered {U = child_alone} {V = V} {u = beginner one_entry 0} {w = at_work 0} {v = z} {z = z} [] (Eval []) (Cut Above) Lived.begun refl refl (refl, refl, refl)
+          (wrapped_passed {U = inside_it} {o1 = at_work 0} {o2 = z} {o3 = z} nested tt (λ gs. refl) refl (record { told = refl })
+          (refused {u = z} (None, Refused Count None, Off (Cut Above)) (λ gs. refl) refl (record { told = (refl, refl) })) (record { told = refl })) refl;
+      is_over = tt;
+      outcome = refl;
+      told = refl;
+    }
+
+pub worked_playings : WorkedPlayings
+worked_playings = record { served = served; spent = spent; uncalled = uncalled; answered = answered_so; waiting = waiting; ended = ended_so; unfit = unfit; exited = leaves }

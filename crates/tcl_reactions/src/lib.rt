@@ -1,0 +1,21 @@
+//! What a tree does to which a list of moves is played. The definitions stand in `specs/`, and each function here is a law.
+//! `O` is the own part of an interpreter, `I` what can be going on in one; each law holds for every table of commands.
+#![tactic(auto)]
+
+ghost use Rattle.tcl_reactions.specs.Example.{WorkedPlayings};
+ghost use Rattle.tcl_reactions.specs.Laws.{NeverStuck, PlayedIsReact};
+
+/// What comes of playing moves to a tree is what that tree does by itself with them.
+pub fn played_is_react<O, I>()
+    ensures { PlayedIsReact O I }
+{}
+
+/// Who plays entries and answers is never at a loss.
+pub fn never_stuck<O>()
+    ensures { NeverStuck O }
+{}
+
+/// Worked playings: one of each outcome.
+pub fn worked_playings()
+    ensures { WorkedPlayings }
+{}

@@ -1,0 +1,8 @@
+pub mod Boundaries
+pub mod BoundaryLaws
+pub mod Fates
+pub mod Lengths
+pub mod Notes
+pub mod Recorders
+pub mod Visits
+pub mod Watched

@@ -1,0 +1,5 @@
+pub mod Boundary
+pub mod Crossings
+pub mod Records
+pub mod Recording
+pub mod Laws
