@@ -8,9 +8,9 @@ ghost use Rattle.tcl_interp_commands.specs.Deleting.{Deletes};
 
 use std::alloc::Global;
 use tcl_entries::asking::{ask, path_at};
-use tcl_run::entry::OwnEntry;
 use tcl_entries::failure::in_use;
 use tcl_flow::completion::OK;
+use tcl_run::entry::OwnEntry;
 use tcl_run::interruption::Interruption;
 use tcl_run::outside::Outside;
 use tcl_text::text::Text;

@@ -6,9 +6,9 @@ ghost use Rattle.tcl_language.specs.Interpreters as interpreters;
 ghost use Rattle.tcl_run.specs.Runs.{Evaluates, IsRunning, IsSteady};
 
 use std::alloc::Global;
-use tcl_run::entry::{OwnEntry, Question};
 use tcl_entries::looking::names_of;
 use tcl_entries::requests::{ask_about, ask_at};
+use tcl_run::entry::{OwnEntry, Question};
 use tcl_run::interruption::Interruption;
 use tcl_run::outside::Outside;
 use tcl_text::text::Text;

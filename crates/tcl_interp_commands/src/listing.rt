@@ -5,8 +5,8 @@ ghost use Rattle.tcl_language.specs.Interpreters as interpreters;
 ghost use Rattle.tcl_run.specs.Runs.{Evaluates, IsRunning, IsSteady};
 
 use std::alloc::Global;
-use tcl_run::entry::Question;
 use tcl_entries::requests::ask_about;
+use tcl_run::entry::Question;
 use tcl_run::interruption::Interruption;
 use tcl_run::outside::Outside;
 use tcl_tree::tree::{Place, Tree};
