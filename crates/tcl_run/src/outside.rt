@@ -61,10 +61,9 @@ pub trait Outside {
         ensures told { (T : core.Tree Own) (p : Path) → goes T self.old None (event p Charged) self.new }
         ensures left { entries_left self.new ≤ entries_left self.old };
 
-    /// It refuses a step.
+    /// It refuses a step, having none left.
     fn refuses_step(&mut self)
-        requires { has_steps self.old ≡ false }
-        ensures told { (T : core.Tree Own) (p : Path) → goes T self.old None (event p (Refused Count None)) self.new }
+        ensures told { has_steps self.old ≡ false → (T : core.Tree Own) (p : Path) → goes T self.old None (event p (Refused Count None)) self.new }
         ensures left { entries_left self.new ≤ entries_left self.old };
 
     /// The child of this name was dropped, with all below it.
@@ -178,7 +177,7 @@ pub trait Outside {
         ensures told { OnOk result (IfEnded ended.now (λ r. goes (tree_of tree.now) self.old None (event target.now (Done None r)) self.new)) }
         ensures left { entries_left self.new ≤ entries_left self.old };
 
-    /// The caller's call, in which an entry ended by this exit, ends by it too.
+    /// The caller's call, in which an entry that was handed in ended by this exit, ends by it too.
     ///
     /// # Errors
     /// Want of memory.
@@ -191,8 +190,7 @@ pub trait Outside {
         entry: &Entry,
         status: i64,
     ) -> Result<(), AllocError>
-        requires hands_in { hands_in }
-        ensures told { OnOk result ((p : Path) → Names tree.now caller p → rise_to up p ≡ None → goes (tree_of tree.now) self.old (Some (up, whole_entry entry.now)) (event p (Back up (Replied (Exit status)))) self.new) }
+        ensures told { OnOk result (hands_in → (p : Path) → Names tree.now caller p → rise_to up p ≡ None → goes (tree_of tree.now) self.old (Some (up, whole_entry entry.now)) (event p (Back up (Replied (Exit status)))) self.new) }
         ensures left { entries_left self.new ≤ entries_left self.old };
 }
 

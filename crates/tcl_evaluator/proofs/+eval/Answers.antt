@@ -1766,7 +1766,7 @@ waiting::hand_in-returns-clause-runs g t c =
     let same = to_z-of_z w64 c.in-Some.status fits_it in
     Awaited.handed_out g.O.Outside.goes c.args.tree.now c.enter-ended.new.tree c.args.outside.now c.enter-ended.new.outside c.args.place c.args.up (whole_entry c.args.entry.now) c.as_slice-path.result.now c.args.target.items
     (whole_entry c.args.inner) c.enter-ended.result c.entry_leaves.new.self c.exit_comes_back.new.self _ c.in_ok-status.field-0 (c.in-Some.is ∙ ap (λ (n : ℤ). Some n) (sym same)) c.as_slice-path.ensures.value
-    c.enter-ended.ensures.runs c.in_ok-entry_leaves.ensures.told c.in_ok-status.ensures (λ p at e. c.in_ok-exit_comes_back.ensures.told p at e) c.enter-ended.ensures.steady
+    c.enter-ended.ensures.runs c.in_ok-entry_leaves.ensures.told c.in_ok-status.ensures (λ p at e. c.in_ok-exit_comes_back.ensures.told c.requires.handed p at e) c.enter-ended.ensures.steady
 
 pub waiting::wait-returns-in_err-target-clause-runs : goal.waiting::wait-returns-in_err-target-clause-runs
 waiting::wait-returns-in_err-target-clause-runs g t c =

@@ -14,4 +14,4 @@ returns-in-Some-clause-refused g c =
     (λ e same p at. subst (Refuses p) (sym same) (by_limit c.in-Some.levels (sym (c.spent_at.ensures p at) ∙ c.in-Some.is) refl)) c.past_limit.ensures
 
 pub returns-in-None-clause-refused : goal.returns-in-None-clause-refused
-returns-in-None-clause-refused g c = λ p at. from_outside (sym (c.spent_at.ensures p at) ∙ c.in-None.is) refl (c.refuses_step.ensures.told (tree_of c.args.tree.now) p)
+returns-in-None-clause-refused g c = λ p at. from_outside (sym (c.spent_at.ensures p at) ∙ c.in-None.is) refl (c.refuses_step.ensures.told c.requires.refuses (tree_of c.args.tree.now) p)
