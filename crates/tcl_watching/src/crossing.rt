@@ -85,7 +85,7 @@ impl Crossing {
 }
 
 /// How a completion is told again. Its values share what they keep.
-fn copy_completion(completion: &Completion) -> Result<Completion, AllocError>
+pub fn copy_completion(completion: &Completion) -> Result<Completion, AllocError>
     ensures { IfOk result (λ made. completion_of made ≡ completion_of completion.now) }
 {
     Ok(Completion {
@@ -115,7 +115,7 @@ fn ordinary(alloc: Global, value: &Value) -> Result<Completion, AllocError>
 }
 
 /// The same reply of a host again.
-pub(crate) fn copy_heard(reply: &HostReply) -> Result<HostReply, AllocError>
+pub fn copy_heard(reply: &HostReply) -> Result<HostReply, AllocError>
     ensures { IfOk result (λ made. made ≡ reply.now) }
 {
     match reply {
@@ -136,7 +136,7 @@ impl Reply {
     ///
     /// # Errors
     /// Want of memory.
-    pub(crate) fn of_value(alloc: Global, value: &Value) -> Result<Reply, AllocError>
+    pub fn of_value(alloc: Global, value: &Value) -> Result<Reply, AllocError>
         ensures { IfOk result (λ told. reply_of told ≡ core.Reply.Completed (ok value.now)) }
     {
         Ok(Reply::Completed(ordinary(alloc, value)?))
