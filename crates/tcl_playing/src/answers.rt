@@ -2,7 +2,7 @@
 ghost use Rattle.std.specs.Prelude.{◌≡◌, Some, IfOk};
 ghost use Rattle.tcl_core.specs.Entries.{answers};
 ghost use Rattle.tcl_core.specs.Runs.{is_exit, is_own};
-ghost use Rattle.tcl_playing.specs.Players.{IsTold, is_cut};
+ghost use Rattle.tcl_playing.specs.Answering.{IsTold, is_cut};
 ghost use Rattle.tcl_run.specs.Entering.{request_of, whole_entry};
 ghost use Rattle.tcl_run.specs.Outsides.{reply_of};
 ghost use Rattle.tcl_watching.specs.Crossings.{answer_of};

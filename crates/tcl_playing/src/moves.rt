@@ -1,5 +1,5 @@
 //! What is handed to an interpreter from outside of it.
-ghost use Rattle.std.specs.Prelude.{◌≡◌, ◌∷◌, ◌↔◌, [], IfOk, IsSome, IsTrue};
+ghost use Rattle.std.specs.Prelude.{◌≡◌, ◌∷◌, [], IfOk, is_some};
 ghost use Rattle.tcl_core.specs.Paths.{rise_to};
 ghost use Rattle.tcl_core.specs.Views as views;
 ghost use Rattle.tcl_playing.specs.Moves.{listed, moves_in};
@@ -56,7 +56,7 @@ fn move_of(alloc: Global, crossing: &Crossing) -> Result<Option<Move>, AllocErro
 
 /// Whether a way so many levels up from a path ends at its top or below.
 fn stays_within(path: &[Text], up: Option<usize>) -> bool
-    ensures { IsTrue result ↔ IsSome (rise_to up path.now) }
+    ensures { result ≡ is_some (rise_to up path.now) }
 {
     match up {
         Some(levels) => levels <= path.len(),

@@ -2,11 +2,12 @@
 ghost use Rattle.std.specs.Prelude.{◌≡◌, ◌<◌, ◌≤◌, length, None, Some, IfNone, IfOk, IfSome, OnOk};
 ghost use Rattle.tcl_core.specs.Endings.Reply.{Exit};
 ghost use Rattle.tcl_core.specs.Entries.Answer.{Replied};
-ghost use Rattle.tcl_core.specs.Lives as lives;
+ghost use Rattle.tcl_core.specs.Lives.{outcome_of};
+ghost use Rattle.tcl_core.specs.Lives.Outcome.{Finished};
 ghost use Rattle.tcl_core.specs.Threads.{event};
 ghost use Rattle.tcl_core.specs.Trees.What.{Out, Done};
-ghost use Rattle.tcl_playing.specs.Moves.{move_of, moves_in};
-ghost use Rattle.tcl_playing.specs.Players.{Begins, GoesOn, IsAtEnd, IsLast, IsOverBy, Stands, cuts_off, outcome_of, pays_on, player_of};
+ghost use Rattle.tcl_playing.specs.Moves.{move_of};
+ghost use Rattle.tcl_playing.specs.Answering.{cuts_off, last_outcome};
 ghost use Rattle.tcl_reactions.specs.Playing.{suits};
 ghost use Rattle.tcl_reactions.specs.Playing as playing;
 ghost use Rattle.tcl_run.specs.Entering.{whole_entry};
@@ -64,7 +65,7 @@ pub struct Player<'a> {
     /// The status of the exit by which the last entry ended, if it did.
     exited: Option<i64>,
     fate: Option<Fate>,
-    ghost last: { IsLast exited (lives.outcome_of (events_of outs.items) lives.Outcome.Finished) },
+    ghost last: { outcome_of (events_of outs.items) Finished ≡ last_outcome exited },
 }
 
 /// The same tree again.
@@ -79,7 +80,7 @@ fn copy_of(tree: &Tree) -> Result<Tree, AllocError>
 
 /// Whether a move suits the call that goes so many levels up, or to the host, where the last entry ended by this exit or otherwise.
 fn suits(exited: Option<i64>, up: Option<usize>, entry: &Entry, next: &Move) -> bool
-    ensures { (x : lives.Outcome) → IsLast exited x → result ≡ suits x (Some (up, whole_entry entry.now)) (move_of next.now) }
+    ensures { result ≡ suits (last_outcome exited) (Some (up, whole_entry entry.now)) (move_of next.now) }
 {
     match next {
         Move::Enter { .. } => exited.is_none(),
@@ -101,6 +102,9 @@ fn ends_above(next: &Move) -> bool
 }
 
 impl<'a> Player<'a> {
+    ghost use Rattle.tcl_playing.specs.Moves.{moves_in};
+    ghost use Rattle.tcl_playing.specs.Players.{Begins, GoesOn, IsAtEnd, IsOverBy, Stands, player_of, result_of};
+
     /// Who is to play these moves, with so many counted steps.
     pub fn new(alloc: Global, moves: &'a [Move], steps: u64) -> Player<'a>
         ensures { player_of result ≡ playing.beginner (moves_in moves.now) steps }
@@ -141,7 +145,7 @@ impl<'a> Player<'a> {
 
     /// What came of the moves, once no entry comes next.
     pub fn outcome(&self) -> Outcome
-        ensures { outcome_of result ≡ playing.outcome (player_of self.now) }
+        ensures { result_of result ≡ playing.outcome (player_of self.now) }
     {
         match &self.fate {
             Some(Fate::Waits(_)) => Outcome::Waiting,
@@ -158,8 +162,8 @@ impl<'a> Player<'a> {
 
     /// What the tree told, in order, and the tree as it stood at the open call, where the playing waits at one.
     pub fn into_parts(self) -> (Vec<Crossing>, Option<Tree>)
-        ensures outs { events_of result.0.items ≡ (player_of self).outs }
-        ensures stands { Stands result.1 (player_of self).fate }
+        ensures outs { events_of result.0.items ≡ (player_of self.entry).outs }
+        ensures stands { Stands result.1 (player_of self.entry).fate }
     {
         let Player { outs, fate, .. } = self;
         match fate {
@@ -205,7 +209,10 @@ impl<'a> Player<'a> {
 }
 
 impl<'a> Outside for Player<'a> {
-    ghost goes = { λ T o s ev z. playing.plays T (player_of o) s ev (player_of z) };
+    ghost use Rattle.tcl_playing.specs.Answering.{pays_on};
+    ghost use Rattle.tcl_playing.specs.Players.{played, player_of};
+
+    ghost goes = { λ T o s ev z. played T o s ev z };
 
     ghost entries_left = { λ o. length (player_of o).left };
 

@@ -1,6 +1,6 @@
 //! How the end of an evaluation is told to the outside, as it is.
 ghost use Rattle.std.specs.Prelude.{◌≡◌, IfOk};
-ghost use Rattle.tcl_playing.specs.Players.{IsExitOf};
+ghost use Rattle.tcl_playing.specs.Answering.{IsExitOf};
 ghost use Rattle.tcl_run.specs.Ends.{IfEnded, Interrupts};
 ghost use Rattle.tcl_watching.specs.Crossings.{reply_of};
 
