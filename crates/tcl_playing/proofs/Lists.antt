@@ -1,12 +1,19 @@
 -- Lists of crossings, and what was told by them.
-use Rattle.std.proofs.Common.{◌≡◌, ℕ, List, [], ◌∷◌, ◌++◌, refl, sym, ap, ◌∙◌}
+use Rattle.std.proofs.Common.{◌≡◌, ℕ, ℤ, Bool, true, false, List, [], ◌∷◌, ◌++◌, Option, refl, sym, ap, ◌∙◌}
+use Rattle.std.specs.Prelude.{if◌then◌else◌}
 use Rattle.tcl_core.specs.Endings.{Reply}
-use Rattle.tcl_core.specs.Lives.{Outcome, outcome_of}
+use Rattle.tcl_core.specs.Entries.{Entry}
+use Rattle.tcl_core.specs.Lives.{Outcome, ending_of, outcome_of}
+use Rattle.tcl_core.specs.Lives.Outcome.{Finished}
+use Rattle.tcl_core.specs.Paths.{Height, Path}
+use Rattle.tcl_core.specs.Threads.{event}
+use Rattle.tcl_core.specs.Trees.What.{Out}
 use Rattle.tcl_core.specs.Trees.{Event}
 use Rattle.tcl_core.specs.Views.{moves_of}
 use Rattle.tcl_core.proofs.Lending.{moves_append}
 use Rattle.tcl_reactions.proofs.Ways.{outcome_append}
 use Rattle.tcl_tree.specs.Own.{Own}
+use Rattle.tcl_playing.specs.Answering.{last_outcome}
 use Rattle.tcl_watching.specs.Crossings.{event_of, events_of}
 use Rattle.tcl_watching.specs.declared.crossing.Crossing.{Crossing}
 
@@ -19,3 +26,22 @@ outcome_more xs x y = ap (λ es. outcome_of es y) (events_more xs x) ∙ outcome
 
 pub moves_more : (xs : List Crossing) (x : Crossing) → moves_of (events_of (xs ++ x ∷ [])) ≡ moves_of (events_of xs) ++ moves_of (event_of x ∷ [])
 moves_more xs x = ap moves_of (events_more xs x) ∙ moves_append (events_of xs) (event_of x ∷ [])
+
+-- ## What is told
+
+-- it is told, or memory was wanted: how the last entry ended stays, if this tells no end
+pub same_last : (b : Bool) (new old : List Crossing) (x : Crossing) (e : Option ℤ) → new ≡ (if b then old ++ x ∷ [] else old) → outcome_of (events_of old) Finished ≡ last_outcome e →
+    ((y : Outcome) → outcome_of (event_of x ∷ []) y ≡ y) → outcome_of (events_of new) Finished ≡ last_outcome e
+same_last true new old x e g last no_end = ap (λ xs. outcome_of (events_of xs) Finished) g ∙ outcome_more old x Finished ∙ no_end _ ∙ last
+same_last false new old x e g last no_end = ap (λ xs. outcome_of (events_of xs) Finished) g ∙ last
+
+-- an end is told
+pub new_last : (new old : List Crossing) (x : Crossing) (r : Reply) (e : Option ℤ) → new ≡ old ++ x ∷ [] → ((y : Outcome) → outcome_of (event_of x ∷ []) y ≡ ending_of r) → ending_of r ≡ last_outcome e →
+    outcome_of (events_of new) Finished ≡ last_outcome e
+new_last new old x r e g is_end last = ap (λ xs. outcome_of (events_of xs) Finished) g ∙ outcome_more old x Finished ∙ is_end _ ∙ last
+
+pub told_more : (new old : List Crossing) (x : Crossing) (ev : Event Own) → new ≡ old ++ x ∷ [] → event_of x ≡ ev → events_of new ≡ events_of old ++ ev ∷ []
+told_more new old x ev g e = ap events_of g ∙ events_more old x ∙ ap (λ y. events_of old ++ y ∷ []) e
+
+pub same_out : (h : Height) (q p : Path) (d d2 : Path) (i i2 : Entry) → q ≡ p → d ≡ d2 → i ≡ i2 → event {O = Own} q (Out h d i) ≡ event p (Out h d2 i2)
+same_out h q p d d2 i i2 a b c = ap (λ x. event x (Out h d i)) a ∙ ap (λ x. event p (Out h x i)) b ∙ ap (λ x. event p (Out h d2 x)) c

@@ -18,7 +18,7 @@ use Rattle.tcl_core.specs.Trees.{Event, Move, Tree}
 use Rattle.tcl_core.specs.Trees.Move.{Enter, Come, Born, Fall}
 use Rattle.tcl_core.specs.Trees.What.{Back}
 use Rattle.tcl_core.proofs.PathLaws.{rise_back}
-use Rattle.tcl_reactions.specs.Playing.{Answers, Fate, IsCut, IsEnd, IsNoCut, Player, last_end, past, reading, stopping, suits}
+use Rattle.tcl_reactions.specs.Playing.{Answers, Fate, IsCut, IsEnd, IsNoCut, Player, last_end, past, reading, stopping, suits, telling, Tells}
 use Rattle.tcl_reactions.specs.Playing.Answers.{reads, ends, unfits, passes}
 use Rattle.tcl_reactions.specs.Playing.Fate.{Unfits, EndsAbove}
 use Rattle.tcl_run.specs.Outsides as outsides
@@ -28,6 +28,8 @@ use Rattle.tcl_run.specs.declared.interruption.Interruption.TheVariants as inter
 use Rattle.tcl_run.specs.declared.outside.Turn.{Turn}
 use Rattle.tcl_run.specs.declared.outside.Turn.TheVariants as turn
 use Rattle.tcl_tree.specs.Own.{Own}
+use Rattle.tcl_watching.specs.Crossings.{answer_of}
+use Rattle.tcl_watching.specs.declared.crossing.Answer as crossing_answer
 use Rattle.tcl_playing.specs.Answering.{IsExitOf, IsTold, cuts_off, is_cut, last_outcome}
 use Rattle.tcl_playing.specs.Moves.{move_of}
 use Rattle.tcl_playing.specs.Players.{GoesOn, IsOverBy, fate_of, played, player_of}
@@ -117,12 +119,12 @@ module _ (T : Tree Own) (o : Player Own) (h : Height) (i : Entry) (x : Outcome) 
   pub is_ended : (m : Move Own) → o.left ≡ m ∷ ms → suits x (Some (h, i)) m ≡ true → cuts_off m ≡ true → IsOverBy T o h i (stopping (reading o ms) EndsAbove)
   is_ended m e f c a y =
       let d = cut_is m c in
-      ends d.0 ms on (e ∙ ap (λ n. n ∷ ms) d.1.0) (subst (λ n. suits (last_end o) (Some (h, i)) n ≡ true) d.1.0 (suits_so m true f)) d.1.1 y refl
+      ends d.0 ms on (e ∙ ap (λ n. n ∷ ms) d.1) (subst (λ n. suits (last_end o) (Some (h, i)) n ≡ true) d.1 (suits_so m true f)) d.2 y refl
 
   -- it is read
   pub is_read : (m : kept.Move) → o.left ≡ move_of m ∷ ms → suits x (Some (h, i)) (move_of m) ≡ true → cuts_off (move_of m) ≡ false → GoesOn T o h i (move_of m) (reading o ms)
   is_read (moving.Enter target entry) e f c = (on, e, refl)
-  is_read (moving.Come answer) e f c = (reads ms on e (suits_so _ true f) (no_cut _ c) refl, own x h i _ f)
+  is_read (moving.Come answer) e f c = (reads ms on e (suits_so (Come (answer_of answer)) true f) (no_cut (answer_of answer) c) refl, own x h i (answer_of answer) f)
 
 -- how the last entry ended
 pub ends_by : (r : Reply) (e : Option ℤ) → IsExitOf r e → ending_of r ≡ last_outcome e
@@ -149,3 +151,20 @@ module _ (T : Tree Own) (o z : declared.Player) (p : Path) (h : Height) (i : Ent
 
   pub is_over : IsOverBy T (player_of o) h i (player_of z) → outsides.Answers played T o p h i z (Replied (Cut Over))
   is_over over = comes_by (Replied (Cut Over)) (over (Replied (Cut Over)) tt) (own_cut h i)
+
+-- ## What was read for an open call
+
+pub over_at : {A : Type 0} (r : Option A) (P : Type 0) → r ≡ None → IfNone r P → P
+over_at r P e g = subst (λ x. IfNone x P) e g
+
+pub read_at : {A : Type 0} (r : Option A) (x : A) (P : A → Type 0) → r ≡ Some x → IfSome r P → P x
+read_at r x P e g = subst (λ y. IfSome y P) e g
+
+-- an answer
+pub answered : (T : Tree Own) (o z : Player Own) (h : Height) (i : Entry) (m : kept.Move) (answer : crossing_answer.Answer) → m ≡ moving.Come answer → GoesOn T o h i (move_of m) z →
+    Answers T o (Some (h, i)) (answer_of answer) z × (is_own h i (answer_of answer) ≡ true)
+answered T o z h i m answer e g = subst (λ n. GoesOn T o h i (move_of n) z) e g
+
+pub told_on : (f : Option kept_fate.Fate) (o z : Player Own) (ev : Event Own) → is_some f ≡ false → z ≡ telling o ev → Tells (option_map fate_of f) o ev z
+told_on None o z ev e g = g
+told_on (Some x) o z ev e g = let clash : true ≡ false = e in absurd cc
