@@ -1,6 +1,7 @@
 -- Lists of crossings, and what was told by them.
-use Rattle.std.proofs.Common.{◌≡◌, ℕ, ℤ, Bool, true, false, List, [], ◌∷◌, ◌++◌, Option, refl, sym, ap, ◌∙◌}
+use Rattle.std.proofs.Common.{◌≡◌, ℕ, ℤ, Bool, true, false, ◌+◌, ◌<◌, List, [], ◌∷◌, ◌++◌, length, take, get_or, Option, Some, None, refl, sym, ap, ◌∙◌}
 use Rattle.std.specs.Prelude.{if◌then◌else◌}
+use Rattle.std.proofs.lemmas.List.{take_more}
 use Rattle.tcl_core.specs.Endings.{Reply}
 use Rattle.tcl_core.specs.Entries.{Entry}
 use Rattle.tcl_core.specs.Lives.{Outcome, ending_of, outcome_of}
@@ -8,12 +9,15 @@ use Rattle.tcl_core.specs.Lives.Outcome.{Finished}
 use Rattle.tcl_core.specs.Paths.{Height, Path}
 use Rattle.tcl_core.specs.Threads.{event}
 use Rattle.tcl_core.specs.Trees.What.{Out}
+use Rattle.tcl_core.specs.Trees as core
 use Rattle.tcl_core.specs.Trees.{Event}
 use Rattle.tcl_core.specs.Views.{moves_of}
 use Rattle.tcl_core.proofs.Lending.{moves_append}
 use Rattle.tcl_reactions.proofs.Ways.{outcome_append}
 use Rattle.tcl_tree.specs.Own.{Own}
 use Rattle.tcl_playing.specs.Answering.{last_outcome}
+use Rattle.tcl_playing.specs.Moves.{listed, move_of, moves_in}
+use Rattle.tcl_playing.specs.declared.moves.Move.{Move}
 use Rattle.tcl_watching.specs.Crossings.{event_of, events_of}
 use Rattle.tcl_watching.specs.declared.crossing.Crossing.{Crossing}
 
@@ -45,3 +49,23 @@ told_more new old x ev g e = ap events_of g ∙ events_more old x ∙ ap (λ y. 
 
 pub same_out : (h : Height) (q p : Path) (d d2 : Path) (i i2 : Entry) → q ≡ p → d ≡ d2 → i ≡ i2 → event {O = Own} q (Out h d i) ≡ event p (Out h d2 i2)
 same_out h q p d d2 i i2 a b c = ap (λ x. event x (Out h d i)) a ∙ ap (λ x. event p (Out h x i)) b ∙ ap (λ x. event p (Out h d2 x)) c
+
+-- ## Moves among crossings
+
+pub next_crossing : (xs : List Crossing) (i : ℕ) (x : Crossing) → i < length xs → x ≡ get_or xs i x → moves_of (events_of (take (i + 1) xs)) ≡ moves_of (events_of (take i xs)) ++ moves_of (event_of x ∷ [])
+next_crossing xs i x l e = ap (λ ys. moves_of (events_of ys)) (take_more xs i x l ∙ ap (λ y. take i xs ++ y ∷ []) (sym e)) ∙ moves_more (take i xs) x
+
+moves_in_more : (xs : List Move) (m : Move) → moves_in (xs ++ m ∷ []) ≡ moves_in xs ++ move_of m ∷ []
+moves_in_more [] m = refl
+moves_in_more (x ∷ xs) m = ap (λ ms. move_of x ∷ ms) (moves_in_more xs m)
+
+nothing_more : {A : Type 0} (xs : List A) → xs ++ [] ≡ xs
+nothing_more [] = refl
+nothing_more (x ∷ xs) = ap (λ ys. x ∷ ys) (nothing_more xs)
+
+module _ (new old : List Move) (o : Option Move) (before later one : List (core.Move Own)) (kept : moves_in old ≡ before) (more : later ≡ before ++ one) (is : listed o ≡ one) where
+  pub one_more : (m : Move) → o ≡ Some m → new ≡ old ++ m ∷ [] → moves_in new ≡ later
+  one_more m e g = ap moves_in g ∙ moves_in_more old m ∙ ap (λ ms. ms ++ move_of m ∷ []) kept ∙ ap (λ ms. before ++ ms) (ap listed (sym e) ∙ is) ∙ sym more
+
+  pub none_more : o ≡ None → new ≡ old → moves_in new ≡ later
+  none_more e g = ap moves_in g ∙ kept ∙ sym (nothing_more before) ∙ ap (λ ms. before ++ ms) (ap listed (sym e) ∙ is) ∙ sym more

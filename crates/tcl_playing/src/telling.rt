@@ -30,7 +30,10 @@ fn interruption_told(interruption: &Interruption) -> Result<Reply, AllocError>
 ///
 /// # Errors
 /// Those of an interruption.
-pub(crate) fn end_told(alloc: Global, ended: &Result<Value, Interruption>) -> Result<Reply, AllocError>
+pub(crate) fn end_told(
+    alloc: Global,
+    ended: &Result<Value, Interruption>,
+) -> Result<Reply, AllocError>
     ensures { IfOk result (λ told. IfEnded ended.now (λ e. reply_of told ≡ e)) }
 {
     match ended {
