@@ -1,5 +1,5 @@
 -- What a player's calls come to.
-use Rattle.std.proofs.Common.{◌≡◌, ℕ, ℤ, Bool, true, false, List, [], ◌∷◌, ◌++◌, length, Option, Some, None, refl, sym, ap, subst, ◌∙◌, arith}
+use Rattle.std.proofs.Common.{◌≡◌, ℕ, ℤ, Bool, true, false, List, ◌∷◌, ◌++◌, length, Option, Some, None, refl, sym, ap, subst, ◌∙◌, arith}
 use Rattle.std.specs.Option.{option_map}
 use Rattle.std.specs.Prelude.{is_some, IfNone, IfSome, Result, Ok, Err}
 use Rattle.std.proofs.lemmas.Bool.Decides.{Decides-int_eq}
@@ -9,16 +9,13 @@ use Rattle.tcl_core.specs.Endings.Reply.{Completed, Stop, Exit, Cut}
 use Rattle.tcl_core.specs.Entries.{Answer, Entry}
 use Rattle.tcl_core.specs.Entries.Answer.{Replied, Heard}
 use Rattle.tcl_core.specs.Lives.{Outcome, ending_of}
-use Rattle.tcl_core.specs.Lives.Outcome.{Finished, Exited}
+use Rattle.tcl_core.specs.Lives.Outcome.{Exited}
 use Rattle.tcl_core.specs.Paths.{Path, Place, Height, rise, rise_to}
-use Rattle.tcl_core.specs.Programs.{Wait}
 use Rattle.tcl_core.specs.Runs.{is_exit, is_own}
-use Rattle.tcl_core.specs.Threads.{event}
 use Rattle.tcl_core.specs.Trees.{Event, Move, Tree}
 use Rattle.tcl_core.specs.Trees.Move.{Enter, Come, Born, Fall}
-use Rattle.tcl_core.specs.Trees.What.{Back}
 use Rattle.tcl_core.proofs.PathLaws.{rise_back}
-use Rattle.tcl_reactions.specs.Playing.{Answers, Fate, IsCut, IsEnd, IsNoCut, Player, last_end, past, reading, stopping, suits, telling, Tells}
+use Rattle.tcl_reactions.specs.Playing.{Answers, IsCut, IsNoCut, Player, last_end, past, reading, stopping, suits, telling, Tells}
 use Rattle.tcl_reactions.specs.Playing.Answers.{reads, ends, unfits, passes}
 use Rattle.tcl_reactions.specs.Playing.Fate.{Unfits, EndsAbove}
 use Rattle.tcl_run.specs.Outsides as outsides

@@ -1,4 +1,4 @@
-use Rattle.std.proofs.Common.{◌≡◌, ◌∷◌, refl, sym, ap, ◌∙◌}
+use Rattle.std.proofs.Common.{sym, ap, ◌∙◌}
 use Rattle.tcl_run.specs.Entering.{whole_entry}
 use Rattle.tcl_tree.specs.TreeOf.{tree_of}
 use Rattle.tcl_playing.specs.Answering.{last_outcome}

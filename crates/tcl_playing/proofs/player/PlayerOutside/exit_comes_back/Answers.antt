@@ -1,4 +1,4 @@
-use Rattle.std.proofs.Common.{◌≡◌, ℤ, true, sym, subst, ◌∙◌, w64}
+use Rattle.std.proofs.Common.{◌≡◌, true, sym, subst, ◌∙◌, w64}
 use Rattle.std.proofs.lemmas.Int.{to_z-of_z}
 use Rattle.tcl_core.specs.Endings.Reply.{Exit}
 use Rattle.tcl_core.specs.Entries.Answer.{Replied}

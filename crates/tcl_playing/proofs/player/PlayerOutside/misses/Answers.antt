@@ -1,5 +1,4 @@
 use Rattle.std.proofs.Common.{◌≡◌, Some}
-use Rattle.tcl_core.specs.Endings.{Reply}
 use Rattle.tcl_core.specs.Paths.{Path, rise_to}
 use Rattle.tcl_run.proofs.Endings.{IfEnded-all}
 use Rattle.tcl_run.specs.Entering.{whole_entry}

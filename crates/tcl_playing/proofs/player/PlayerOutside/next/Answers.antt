@@ -1,4 +1,3 @@
-use Rattle.std.proofs.Common.{Some}
 use Rattle.tcl_run.specs.Entering.{whole_entry}
 use Rattle.tcl_tree.specs.TreeOf.{tree_of}
 use Rattle.tcl_watching.specs.Crossings.{answer_of}

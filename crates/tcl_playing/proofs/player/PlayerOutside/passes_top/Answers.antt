@@ -1,6 +1,6 @@
 use Rattle.std.proofs.Common.{◌≡◌, refl, sym, ap, ◌∙◌}
 use Rattle.std.specs.Prelude.{is_ok}
-use Rattle.tcl_core.specs.Paths.{Path, rise_to}
+use Rattle.tcl_core.specs.Paths.{rise_to}
 use Rattle.tcl_core.specs.Threads.{event}
 use Rattle.tcl_core.specs.Trees.What.{Out}
 use Rattle.tcl_run.specs.Entering.{whole_entry}
