@@ -1,0 +1,154 @@
+-- What an evaluation that is watched answers.
+use Rattle.std.proofs.Common.{◌≡◌, ◌∙◌, ℕ, ◌+◌, Bool, true, false, List, None, Some, refl, sym, ap, subst}
+use Rattle.std.specs.Prelude.{Result, Ok, Err, IfOk, IfErr, IsErrOf, is_some, ◌&&◌, nat_le}
+use Rattle.tcl_core.specs.Entries.Entry.{Eval}
+use Rattle.tcl_core.specs.Paths.{Path, Text}
+use Rattle.tcl_core.specs.Trees.{Event}
+use Rattle.tcl_evaluator.specs.Running.{IsRun, IsWhole, first_of, most_steps, root_count, unfit}
+use Rattle.tcl_evaluator.specs.declared.running.End.{End}
+use Rattle.tcl_evaluator.specs.declared.running.Refused.{Refused}
+use Rattle.tcl_evaluator.specs.declared.running.Refused.TheVariants as refused
+use Rattle.tcl_host.specs.declared.reply.HostReply.{HostReply}
+use Rattle.tcl_host.specs.declared.request.Request.{Request}
+use Rattle.tcl_isolation.specs.Visits.{visit}
+use Rattle.tcl_language.specs.Instructions.{fits}
+use Rattle.tcl_run.specs.Outsides.{hosted}
+use Rattle.tcl_tree.specs.Own.{Own}
+use Rattle.tcl_tree.specs.TreeOf.{marks_of, tree_of}
+use Rattle.tcl_tree.specs.declared.tree.Tree.{Tree as Table}
+use Rattle.tcl_watching.specs.Records.{RecordView}
+use Rattle.tcl_watching.specs.declared.recorder.Recorder.{Recorder}
+use Rattle.tcl_watching.proofs.Fates as fates
+use Rattle.tcl_replay.specs.Watched.{IfDeleted, IfEnds, IfRefused, IsDeletion, IsEntryRun, IsRecord, IsRecorded, Watches, answer_if, answer_of, recorder_of, unwatchable}
+use Rattle.tcl_replay.specs.declared.watching.Unwatched.{Unwatched}
+use Rattle.tcl_replay.specs.declared.watching.Unwatched.TheVariants as unwatched
+use Rattle.tcl_replay.proofs.Entered.{is_whole, stands}
+
+-- ## Before it
+
+first_both : (b p w c s : Bool) → first_of b (p && w) c s ≡ None → (p ≡ true) × (w ≡ true)
+first_both true p w c s e = let x : Some refused.Broken ≡ None = e in absurd cc
+first_both false true true c s e = (refl, refl)
+first_both false true false c s e = let x : Some refused.NoInterpreter ≡ None = e in absurd cc
+first_both false false w c s e = let x : Some refused.NoInterpreter ≡ None = e in absurd cc
+
+pub both_there : (t : Table) (path : Path) (script : Text) (limit : ℕ) (watched : Path) → unwatchable t path script limit watched ≡ None → (is_some (tree_of t path) ≡ true) × (is_some (tree_of t watched) ≡ true)
+both_there t path script limit watched e = first_both (marks_of t).broken (is_some (tree_of t path)) (is_some (tree_of t watched)) (nat_le (root_count t + limit) most_steps) (fits script) e
+
+-- where the tree is broken, that is told of both; and where it isn't and somebody stands where it is watched, what is told of the run is
+same_if : (b p w c s : Bool) → (b ≡ true) → first_of b p c s ≡ first_of b (p && w) c s
+same_if true p w c s e = refl
+same_if false p w c s e = let x : false ≡ true = e in absurd cc
+
+pub same_broken : (t : Table) (path : Path) (script : Text) (limit : ℕ) (watched : Path) → (marks_of t).broken ≡ true → unfit t path script limit ≡ unwatchable t path script limit watched
+same_broken t path script limit watched e = same_if (marks_of t).broken (is_some (tree_of t path)) (is_some (tree_of t watched)) (nat_le (root_count t + limit) most_steps) (fits script) e
+
+same_where : (b p w c s : Bool) → (w ≡ true) → first_of b p c s ≡ first_of b (p && w) c s
+same_where b true true c s e = refl
+same_where b false w c s e = refl
+same_where b true false c s e = let x : false ≡ true = e in absurd cc
+
+pub same_there : (t : Table) (path : Path) (script : Text) (limit : ℕ) (watched : Path) → is_some (tree_of t watched) ≡ true → unfit t path script limit ≡ unwatchable t path script limit watched
+same_there t path script limit watched e = same_where (marks_of t).broken (is_some (tree_of t path)) (is_some (tree_of t watched)) (nat_le (root_count t + limit) most_steps) (fits script) e
+
+nobody_so : (b p w c s : Bool) → b ≡ false → w ≡ false → Some refused.NoInterpreter ≡ first_of b (p && w) c s
+nobody_so false true false c s e f = refl
+nobody_so false false w c s e f = refl
+nobody_so true p w c s e f = let x : true ≡ false = e in absurd cc
+nobody_so b p true c s e f = let x : true ≡ false = f in absurd cc
+
+pub nobody : (t : Table) (path : Path) (script : Text) (limit : ℕ) (watched : Path) → (marks_of t).broken ≡ false → tree_of t watched ≡ None → Some refused.NoInterpreter ≡ unwatchable t path script limit watched
+nobody t path script limit watched e f = nobody_so (marks_of t).broken (is_some (tree_of t path)) (is_some (tree_of t watched)) (nat_le (root_count t + limit) most_steps) (fits script) e (ap is_some f)
+
+-- ## The answer
+
+module _ {S : Type 0} (step : S → Request → HostReply → S → Type 0) (old : Table) (o : S) (path : Path) (script : Text) (limit : ℕ) (watched : Path) (new : Table) (z : S) where
+  abbrev ended_with : RecordView → Bool → Recorder S
+  ended_with kept deleted = record { outside = z; kept = kept; deleted = deleted }
+
+  abbrev Ran : RecordView → Bool → End → Type 0
+  Ran kept deleted e = IsEntryRun (hosted step) old (recorder_of o watched) path script limit new (ended_with kept deleted) e
+
+  no_refusal : (deleted : Bool) (e : End) (kept : RecordView) → IfRefused (answer_if deleted e kept) (λ f. (f ≡ refused.Memory) × ((marks_of new).broken ≡ true))
+  no_refusal true e kept = tt
+  no_refusal false e kept = tt
+
+  ended_so : (deleted : Bool) (e : End) (kept : RecordView) → Ran kept deleted e → IfEnds (answer_if deleted e kept) (λ x. (k : RecordView) × (d : Bool) × (answer_if deleted e kept ≡ answer_if d x k) × Ran k d x)
+  ended_so true e kept run = (kept, true, refl, run)
+  ended_so false e kept run = (kept, false, refl, run)
+
+  pub watches : (ended : Result End Refused) (kept : RecordView) (deleted : Bool) → IfErr ended (λ f. f ≡ refused.Memory) → (IsErrOf ended refused.Memory → (marks_of new).broken ≡ true) → IfOk ended (Ran kept deleted) →
+      Watches (hosted step) old o path script limit watched new z (answer_of ended kept deleted)
+  watches (Ok e) kept deleted m b run = record { memory = no_refusal deleted e kept; made = ended_so deleted e kept run }
+  watches (Err f) kept deleted m b run = record { memory = (m, b (ap (λ (x : Refused). Err x) m)); made = tt }
+
+  pub runs : (result : Result (End × RecordView) Unwatched) → Watches (hosted step) old o path script limit watched new z result → IfEnds result (IsRun (hosted step) old o path script (root_count old + limit) new z)
+  runs (Ok r) w = w.made.3.run
+  runs (Err (unwatched.Deleted e)) w = w.made.3.run
+  runs (Err (unwatched.Refused f)) w = tt
+
+  pub wholes : (result : Result (End × RecordView) Unwatched) → is_some (tree_of old path) ≡ true → IfEnds result (IsRun (hosted step) old o path script (root_count old + limit) new z) → IfEnds result (IsWhole step old o path script limit new z)
+  wholes (Ok r) there run = is_whole step old o path script limit new z r.0 there run
+  wholes (Err (unwatched.Deleted e)) there run = is_whole step old o path script limit new z e there run
+  wholes (Err (unwatched.Refused f)) there run = tt
+
+  abbrev Recorded : List (Event Own) → End → Type 0
+  Recorded crossings e = IsRecorded (hosted step) old o path script limit watched crossings new z e
+
+  one_run : (kept : RecordView) (deleted : Bool) (e : End) → is_some (tree_of old watched) ≡ true → Ran kept deleted e → Recorded kept.crossings e
+  one_run kept deleted e there run =
+      let n = stands (tree_of old watched) there in
+      record {
+        during = run.during;
+        reply = run.reply;
+        events = run.entry.events;
+        visits = run.entry.visits;
+        outside = run.entry.outside;
+        recorded = ap (λ (k : RecordView). k.crossings) run.entry.kept;
+        node = n.0;
+        stood = n.1;
+        after = run.after;
+        ends = run.ends;
+      }
+
+  its_record : (kept : RecordView) (deleted : Bool) (e : End) → is_some (tree_of old watched) ≡ true → Ran kept deleted e → deleted ≡ false → IsRecord (hosted step) old o path script limit watched kept new z e
+  unfolding one_run
+  its_record kept deleted e there run f = (
+    ap (λ (k : RecordView). k.watched) run.entry.kept,
+    (one_run kept deleted e there run, fates.spared watched (visit path (Eval script) run.entry.events run.reply) (sym run.entry.fate ∙ f), tt),
+  )
+
+  its_deletion : (kept : RecordView) (deleted : Bool) (e : End) → is_some (tree_of old watched) ≡ true → Ran kept deleted e → deleted ≡ true → IsDeletion (hosted step) old o path script limit watched new z e
+  unfolding one_run
+  its_deletion kept deleted e there run f = (
+    kept.crossings,
+    one_run kept deleted e there run,
+    λ spared. let both : true ≡ false = sym f ∙ run.entry.fate ∙ fates.stands watched (visit path (Eval script) run.entry.events run.reply) spared in absurd cc,
+  )
+
+  ok_is : (r : End × RecordView) (kept : RecordView) (deleted : Bool) → ◌≡◌ {A = Result (End × RecordView) Unwatched} (Ok r) (answer_if deleted r.0 kept) → (deleted ≡ false) × (kept ≡ r.1)
+  ok_is r kept true e = absurd cc
+  ok_is r kept false e = let f : r ≡ (r.0, kept) = cc in (refl, sym (ap (λ (x : End × RecordView). x.1) f))
+
+  deleted_is : (x : End) (kept : RecordView) (deleted : Bool) → ◌≡◌ {A = Result (End × RecordView) Unwatched} (Err (unwatched.Deleted x)) (answer_if deleted x kept) → deleted ≡ true
+  deleted_is x kept true e = refl
+  deleted_is x kept false e = absurd cc
+
+  pub records : (result : Result (End × RecordView) Unwatched) → is_some (tree_of old watched) ≡ true → Watches (hosted step) old o path script limit watched new z result →
+      IfOk result (λ r. IsRecord (hosted step) old o path script limit watched r.1 new z r.0)
+  records (Ok r) there w =
+      let is = ok_is r w.made.0 w.made.1 w.made.2 in
+      subst (λ (k : RecordView). IsRecord (hosted step) old o path script limit watched k new z r.0) is.1 (its_record w.made.0 w.made.1 r.0 there w.made.3 is.0)
+  records (Err f) there w = tt
+
+  pub deletions : (result : Result (End × RecordView) Unwatched) → is_some (tree_of old watched) ≡ true → Watches (hosted step) old o path script limit watched new z result →
+      IfDeleted result (IsDeletion (hosted step) old o path script limit watched new z)
+  deletions (Ok r) there w = tt
+  deletions (Err (unwatched.Deleted x)) there w = its_deletion w.made.0 w.made.1 x there w.made.3 (deleted_is x w.made.0 w.made.1 w.made.2)
+  deletions (Err (unwatched.Refused f)) there w = tt
+
+  -- what follows of a record
+  pub follows : (P : RecordView → End → Type 0) (result : Result (End × RecordView) Unwatched) → IfOk result (λ r. IsRecord (hosted step) old o path script limit watched r.1 new z r.0) →
+      ((r : RecordView) (e : End) → IsRecord (hosted step) old o path script limit watched r new z e → P r e) → IfOk result (λ r. P r.1 r.0)
+  follows P (Ok r) w k = k r.1 r.0 w
+  follows P (Err f) w k = tt

@@ -1,0 +1,121 @@
+-- What an entry of a playing comes to, and how playings go on.
+use Rattle.std.proofs.Common.{◌≡◌, ◌<◌, ◌≤◌, ℕ, true, false, List, Some, None, Result, Ok, Err, refl, sym, ◌∙◌, ap, subst}
+use Rattle.std.specs.Prelude.{IfNone, IfSome, Option, OnOk, is_some}
+use Rattle.tcl_core.specs.Endings.{Reply, ok}
+use Rattle.tcl_core.specs.Endings.Reply.{Completed, Exit, Cut}
+use Rattle.tcl_core.specs.Entries.{Entry}
+use Rattle.tcl_core.specs.Lives.{Outcome, React}
+use Rattle.tcl_core.specs.Paths.{Path, Place, Text}
+use Rattle.tcl_core.specs.Programs.{Wait}
+use Rattle.tcl_core.specs.Runs.{entering}
+use Rattle.tcl_core.specs.Threads.{Crossings, event, hears}
+use Rattle.tcl_core.specs.Trees.{Event, Move, Tree, What}
+use Rattle.tcl_core.specs.Trees.What.{Charged, Refused, Dropped, Out, In, Done, Back}
+use Rattle.tcl_evaluator.specs.Waiting.{EndsEntry}
+use Rattle.tcl_flow.specs.View.{completion_of}
+use Rattle.tcl_flow.specs.Stopping as stopping
+use Rattle.tcl_language.specs.Language.{language}
+use Rattle.tcl_playing.specs.Players.{Begins, player_of}
+use Rattle.tcl_playing.specs.declared.player.Player as declared
+use Rattle.tcl_reactions.specs.Playing.{IsOver, Lived, Player, beginner, outcome, plays, tree_left}
+use Rattle.tcl_reactions.specs.Playing.Lived.{entered}
+use Rattle.tcl_reactions.proofs.Reacted.{played_is_react}
+use Rattle.tcl_replay.specs.Replaying.{Serves, wants_memory}
+use Rattle.tcl_run.specs.Ends.{IfEnded, cause_of}
+use Rattle.tcl_run.specs.Outsides.{Going}
+use Rattle.tcl_run.specs.Runs.{Comes}
+use Rattle.tcl_run.specs.declared.interruption.Interruption.{Interruption}
+use Rattle.tcl_run.specs.declared.interruption.Interruption.TheVariants as interruption
+use Rattle.tcl_text.specs.declared.integer.Integers.{Integers}
+use Rattle.tcl_tree.specs.Own.{Own}
+use Rattle.tcl_tree.specs.TreeOf.{marks_of, tree_of}
+use Rattle.tcl_tree.specs.declared.tree.Tree as table
+use Rattle.tcl_watching.proofs.Watched.{comes_along}
+
+-- a player as it is kept goes as the player that is seen
+abbrev pub going : Going declared.Player
+going T o s ev z = plays T (player_of o) s ev (player_of z)
+
+seen : (T : Tree Own) (o : declared.Player) (s : Wait) (p : Place) (x : What Own) (u : declared.Player) → hears going T o s p x u → hears plays T (player_of o) s p x (player_of u)
+seen T o s p (Out h down i) u t = t
+seen T o s p (Back h a) u t = t
+seen T o s p (In h i) u t = t
+seen T o s p (Done h r) u t = t
+seen T o s p Charged u t = t
+seen T o s p (Refused m None) u t = t
+seen T o s p Dropped u t = t
+seen T o s p x u t = ap player_of t
+
+along : (T : Tree Own) (o : declared.Player) (s : Wait) (ev : Event Own) (u : declared.Player) → Crossings going T o s ev u → Crossings plays T (player_of o) s ev (player_of u)
+along T o s ev u t = record { told = seen T o s ev.place ev.what u t.told }
+
+-- an evaluation that didn't end for want of memory ended by some reply
+ended_so : (A B : Reply → Type 0) (ended : Result Text Interruption) → wants_memory ended ≡ false → IfEnded ended A → IfEnded ended B → (r : Reply) × A r × B r
+ended_so A B (Ok text) m a b = (Completed (ok text), a, b)
+ended_so A B (Err (interruption.Completed c)) m a b = (Completed (completion_of c), a, b)
+ended_so A B (Err (interruption.Stopped s)) m a b = (stopping.reply_of s, a, b)
+ended_so A B (Err (interruption.Exited n)) m a b = (Exit n, a, b)
+ended_so A B (Err (interruption.Cut c)) m a b = (Cut (cause_of c), a, b)
+ended_so A B (Err interruption.Memory) m a b = absurd (cc m)
+
+module _ (old new : table.Tree) (o u z : declared.Player) (p target : Path) (i : Entry) (ended : Result Text Interruption) where
+  runs_of : (e : Result Text Interruption) → EndsEntry going old o p i new u e →
+      IfEnded e (λ r. Comes going (language (marks_of old).integers) (tree_of old) o p (entering (language (marks_of old).integers) (tree_of old p) i) (tree_of new) u r)
+  runs_of (Ok text) f = f (marks_of old).integers refl
+  runs_of (Err (interruption.Completed c)) f = f (marks_of old).integers refl
+  runs_of (Err (interruption.Stopped s)) f = f (marks_of old).integers refl
+  runs_of (Err (interruption.Exited n)) f = f (marks_of old).integers refl
+  runs_of (Err (interruption.Cut c)) f = f (marks_of old).integers refl
+  runs_of (Err interruption.Memory) f = tt
+
+  served : p ≡ target → wants_memory ended ≡ false → EndsEntry going old o p i new u ended → IfEnded ended (λ r. going (tree_of new) u None (event p (Done None r)) z) →
+      Serves (marks_of old).integers (tree_of old) (player_of o) target i (tree_of new) (player_of z)
+  served e m a b =
+      let x = ended_so
+      (λ r. Comes going (language (marks_of old).integers) (tree_of old) o p (entering (language (marks_of old).integers) (tree_of old p) i) (tree_of new) u r)
+      (λ r. going (tree_of new) u None (event p (Done None r)) z)
+      ended m (runs_of ended a) b in
+      subst (λ t. Serves (marks_of old).integers (tree_of old) (player_of o) t i (tree_of new) (player_of z)) e
+      (record {
+        between = player_of u;
+        reply = x.0;
+        runs = comes_along (Crossings going) (Crossings plays) player_of along (language (marks_of old).integers) x.1;
+        told = x.2;
+      })
+
+  pub serves : {E : Type 0} (left : Result (Unit {0}) E) → p ≡ target → wants_memory ended ≡ false → EndsEntry going old o p i new u ended →
+      OnOk left (IfEnded ended (λ r. going (tree_of new) u None (event p (Done None r)) z)) →
+      OnOk left (Serves (marks_of old).integers (tree_of old) (player_of o) target i (tree_of new) (player_of z))
+  serves (Ok l) e m a b = served e m a b
+  serves (Err x) e m a b = tt
+
+-- one entry more was played
+pub goes_on : (style : Integers) (S V : Tree Own) (t : table.Tree) (o u w z : Player Own) (target : Path) (i : Entry) →
+    (marks_of t).integers ≡ style → Lived (language style) S o (tree_of t) u → Begins u target i w → Serves (marks_of t).integers (tree_of t) w target i V z → Lived (language style) S o V z
+goes_on style S V t o u w z target i e l b s =
+    let r = subst (λ k. Serves k (tree_of t) w target i V z) e s in
+    entered target i r.reply l b.0 b.1 (b.2 (tree_of t)) r.runs r.told
+
+-- what is said where there is something, or nothing
+pub where_some : {A : Type 0} (P : A → Type 0) (o : Option A) (a : A) → o ≡ Some a → IfSome o P → P a
+where_some P o a e h = subst (λ q. IfSome q P) e h
+
+pub where_none : {A : Type 0} (P : Type 0) (o : Option A) → o ≡ None → IfNone o P → P
+where_none P o e h = subst (λ q. IfNone q P) e h
+
+-- a playing that is over is what the tree does by itself
+pub reacts : (style kept : Integers) (S T V W : Tree Own) (o z : Player Own) (ms : List (Move Own)) (n : ℕ) (x : Outcome) (outs : List (Event Own)) →
+    kept ≡ style → T ≡ S → o ≡ beginner ms n → Lived (language kept) T o V z → IsOver z → x ≡ outcome z → outs ≡ z.outs → W ≡ tree_left z V → React (language style) S ms n x outs W
+reacts style kept S T V W o z ms n x outs a b c l d e f g =
+    let l1 = subst (λ k. Lived (language k) T o V z) a l in
+    let l2 = subst (λ R. Lived (language style) R o V z) b l1 in
+    let l3 = subst (λ q. Lived (language style) S q V z) c l2 in
+    let r1 = played_is_react (language style) S V ms n z l3 d in
+    let r2 = subst (λ y. React (language style) S ms n y z.outs (tree_left z V)) (sym e) r1 in
+    let r3 = subst (λ y. React (language style) S ms n x y (tree_left z V)) (sym f) r2 in
+    subst (λ R. React (language style) S ms n x outs R) (sym g) r3
+
+-- an interpreter that there is
+pub some_or_none : {A : Type 0} (o : Option A) → is_some o ≡ true → o ≡ None → Prim.⊥
+some_or_none None e f = cc
+some_or_none (Some a) e f = cc

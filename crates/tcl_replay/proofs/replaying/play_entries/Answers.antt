@@ -1,0 +1,25 @@
+use Rattle.std.proofs.Common.{refl, sym, ◌∙◌, ap, subst}
+use Rattle.tcl_language.specs.Language.{language}
+use Rattle.tcl_playing.specs.Players.{Begins, IsAtEnd, player_of}
+use Rattle.tcl_reactions.specs.Playing.{Lived}
+use Rattle.tcl_reactions.specs.Playing.Lived.{begun}
+use Rattle.tcl_run.specs.Entering.{whole_entry}
+use Rattle.tcl_tree.specs.TreeOf.{Marks, marks_of, tree_of}
+use Rattle.tcl_replay.proofs.Serving.{goes_on, where_none, where_some}
+use Rattle.tcl_replay.proofs.replaying.play_entries.Goals as goal
+
+pub entries-init : goal.entries-init
+entries-init c = (begun, refl)
+
+pub entries-preserved : goal.entries-preserved
+entries-preserved c =
+    let begins = where_some (λ x. Begins (player_of c.entries.player) x.0.items (whole_entry x.1) (player_of c.next_entry.new.self)) c.in_ok-target.field-0 _ c.in-Some.is c.in_ok-target.ensures.begins in (
+      goes_on c.args.tree.now.integers (tree_of c.args.tree.now) (tree_of c.play_entry.new.tree) c.entries.tree (player_of c.args.player.now) (player_of c.entries.player) (player_of c.next_entry.new.self) (player_of c.play_entry.new.player) _ _
+          (ap (λ (m : Marks). m.integers) c.entries.invariant.1) c.entries.invariant.0 begins c.in_ok-play_entry-in-Some.ensures.serves,
+      c.in_ok-play_entry-in-Some.ensures.marks ∙ c.entries.invariant.1,
+    )
+
+pub returns-in-None-clause-lived : goal.returns-in-None-clause-lived
+returns-in-None-clause-lived c =
+    let ends = where_none (IsAtEnd (player_of c.entries.player) (player_of c.next_entry.new.self)) c.in_ok-target.field-0 c.in-None.is c.in_ok-target.ensures.ends in
+    subst (λ z. Lived (language c.args.tree.now.integers) (tree_of c.args.tree.now) (player_of c.args.player.now) (tree_of c.entries.tree) z) (sym ends.1) c.entries.invariant.0

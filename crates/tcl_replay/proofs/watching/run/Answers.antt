@@ -1,0 +1,14 @@
+use Rattle.std.proofs.Common.{subst, ◌+◌}
+use Rattle.std.specs.Prelude.{IfOk}
+use Rattle.tcl_evaluator.specs.Running.{IsOpenRun, root_count}
+use Rattle.tcl_run.specs.Outsides.{hosted}
+use Rattle.tcl_watching.specs.Recording.{recorded}
+use Rattle.tcl_watching.specs.declared.recorder.Recorder.{Recorder}
+use Rattle.tcl_replay.proofs.Entered.{if_entry}
+use Rattle.tcl_replay.proofs.watching.run.Goals as goal
+
+pub returns-in-Ok-clause-runs : goal.returns-in-Ok-clause-runs
+returns-in-Ok-clause-runs g c =
+    if_entry g.H.Host.step c.args.tree.now c.args.recorder.now c.args.path.now c.args.script.now c.args.limit c.open_run.new.tree c.open_run.new.outside c.open_run.result c.requires.fit
+    (subst (λ (r : Recorder g.row.H.Denot). IfOk c.open_run.result (λ end. IsOpenRun (recorded (hosted g.H.Host.step)) c.args.tree.now r c.args.path.now c.args.script.now (root_count c.args.tree.now + c.args.limit) c.open_run.new.tree c.open_run.new.outside end))
+    c.in-Ok.ensures c.open_run.ensures.runs)

@@ -1,0 +1,52 @@
+-- What contracts see of a replay.
+use Rattle.std.specs.Prelude.{◌≡◌, ℕ, ◌+◌, Bool, true, false, nat_le, Option, Some, None, List, [], Result, Ok, Err}
+use Rattle.tcl_core.specs.Endings.{Reply}
+use Rattle.tcl_core.specs.Entries.{Entry}
+use Rattle.tcl_core.specs.Lives.{Outcome, count_at}
+use Rattle.tcl_core.specs.Lives.Outcome.{Waiting}
+use Rattle.tcl_core.specs.Paths.{Path}
+use Rattle.tcl_core.specs.Runs.{entering}
+use Rattle.tcl_core.specs.Threads.{event}
+use Rattle.tcl_core.specs.Trees.{Tree}
+use Rattle.tcl_core.specs.Trees.What.{Done}
+use Rattle.tcl_evaluator.specs.Running.{most_steps}
+use Rattle.tcl_language.specs.Language.{language}
+use Rattle.tcl_reactions.specs.Playing.{Player, plays}
+use Rattle.tcl_run.specs.Runs.{Comes}
+use Rattle.tcl_run.specs.declared.interruption.Interruption.{Interruption}
+use Rattle.tcl_run.specs.declared.interruption.Interruption.TheVariants as interruption
+use Rattle.tcl_text.specs.declared.integer.Integers.{Integers}
+use Rattle.tcl_tree.specs.Own.{Own}
+use Rattle.tcl_replay.specs.Saved.{SavedView}
+use Rattle.tcl_replay.specs.declared.replaying.Unplayed.{Unplayed}
+use Rattle.tcl_replay.specs.declared.replaying.Unplayed.TheVariants as unplayed
+
+-- ## Before a replay
+
+-- the first of these is why there is no replay: it waits, or its steps can't be counted so far
+abbrev pub first_of : Bool → Bool → Option Unplayed
+first_of true counts = Some unplayed.Waits
+first_of false false = Some unplayed.CountTooLarge
+first_of false true = None
+
+abbrev pub unfit : SavedView → ℕ → Option Unplayed
+unfit s limit = first_of s.waits (nat_le (count_at (s.tree []) + limit) most_steps)
+
+-- ## What comes of it
+
+-- it is left at an open call
+abbrev pub is_waiting : Outcome → Bool
+is_waiting Waiting = true
+is_waiting x = false
+
+-- An entry that was handed in to the tree U ran there, and the player was told how it ended.
+pub record Serves (style : Integers) (U : Tree Own) (w : Player Own) (target : Path) (i : Entry) (V : Tree Own) (z : Player Own) : Type 0 where
+  pub between : Player Own
+  pub reply : Reply
+  pub runs : Comes plays (language style) U w target (entering (language style) (U target) i) V between reply
+  pub told : plays V between None (event target (Done None reply)) z
+
+-- the evaluation ended for want of memory
+abbrev pub wants_memory : Result (List ℕ) Interruption → Bool
+wants_memory (Err interruption.Memory) = true
+wants_memory r = false

@@ -1,0 +1,186 @@
+-- What contracts see of an evaluation that is watched.
+use Rattle.std.specs.Prelude.{◌≡◌, ℕ, ◌≤◌, ◌+◌, ◌&&◌, Bool, true, false, List, [], ◌++◌, nat_le, Option, Some, None, is_some, Result, Ok, Err}
+use Rattle.tcl_core.specs.Endings.{Reply}
+use Rattle.tcl_core.specs.Entries.Entry.{Eval}
+use Rattle.tcl_core.specs.Laws.{AreFree, ArePlain, AsLimited, AsksNothing, IsLowering, IsSafeAt, IsSpared, IsStanding, IsUnended, Unasked, rest}
+use Rattle.tcl_core.specs.Lives.{Outcome, React, count_at, end_at, limit_at, limited, outcome_of, outs_of}
+use Rattle.tcl_core.specs.Lives.Outcome.{Finished}
+use Rattle.tcl_core.specs.Paths.{Path, Text}
+use Rattle.tcl_core.specs.Runs.{Runs, Visits}
+use Rattle.tcl_core.specs.Tables.{exposes}
+use Rattle.tcl_core.specs.Threads.{Chain, Crossings, before}
+use Rattle.tcl_core.specs.Trees.{Event, Node, Tree, at, effect}
+use Rattle.tcl_core.specs.Trees.What.{Limited}
+use Rattle.tcl_core.specs.Views.{moves_of, steps_of, view}
+use Rattle.tcl_evaluator.specs.Running.{IsRun, ending_of, first_of, most_steps, root_count, root_limit}
+use Rattle.tcl_evaluator.specs.declared.running.End.{End}
+use Rattle.tcl_evaluator.specs.declared.running.Refused.{Refused}
+use Rattle.tcl_evaluator.specs.declared.running.Refused.TheVariants as refused
+use Rattle.tcl_isolation.specs.Laws.{IsWithin, Suffices}
+use Rattle.tcl_isolation.specs.Limits.{AreLowering}
+use Rattle.tcl_isolation.specs.Visits.{CallsNobody, IsBelowTheTop, visit}
+use Rattle.tcl_language.specs.Instructions.{fits}
+use Rattle.tcl_language.specs.Language.{language}
+use Rattle.tcl_language.specs.Safety.{plain}
+use Rattle.tcl_run.specs.Outsides.{Going}
+use Rattle.tcl_tree.specs.Own.{Own}
+use Rattle.tcl_tree.specs.TreeOf.{marks_of, tree_of}
+use Rattle.tcl_tree.specs.declared.tree.Tree.{Tree as Table}
+use Rattle.tcl_watching.specs.Boundary.{boundary}
+use Rattle.tcl_watching.specs.Laws.{WatchedEntry}
+use Rattle.tcl_watching.specs.Records.{RecordView}
+use Rattle.tcl_watching.specs.declared.recorder.Recorder.{Recorder}
+use Rattle.tcl_replay.specs.declared.watching.Unwatched.{Unwatched}
+use Rattle.tcl_replay.specs.declared.watching.Unwatched.TheVariants as unwatched
+
+-- ## Before it
+
+-- The first of these that doesn't hold is why there is none: the tree isn't broken, interpreters stand at the path and where it is watched, the steps
+-- can be counted, and the script is short enough.
+abbrev pub unwatchable : Table → Path → Text → ℕ → Path → Option Refused
+unwatchable t path script limit watched = first_of (marks_of t).broken (is_some (tree_of t path) && is_some (tree_of t watched)) (nat_le (root_count t + limit) most_steps) (fits script)
+
+-- ## What it answers
+
+-- what is answered where the run ended so, with this record, and the watched interpreter was deleted or not
+abbrev pub answer_if : Bool → End → RecordView → Result (End × RecordView) Unwatched
+answer_if true e r = Err (unwatched.Deleted e)
+answer_if false e r = Ok (e, r)
+
+abbrev pub answer_of : Result End Refused → RecordView → Bool → Result (End × RecordView) Unwatched
+answer_of (Ok e) r deleted = answer_if deleted e r
+answer_of (Err f) r deleted = Err (unwatched.Refused f)
+
+-- what is said of the end of a run that came to its end
+abbrev pub IfEnds : Result (End × RecordView) Unwatched → (End → Type 0) → Type 0
+IfEnds (Ok r) P = P r.0
+IfEnds (Err (unwatched.Deleted e)) P = P e
+IfEnds (Err (unwatched.Refused f)) P = Unit {0}
+
+-- where the watched interpreter was deleted in it
+abbrev pub IfDeleted : Result (End × RecordView) Unwatched → (End → Type 0) → Type 0
+IfDeleted (Ok r) P = Unit {0}
+IfDeleted (Err (unwatched.Deleted e)) P = P e
+IfDeleted (Err (unwatched.Refused f)) P = Unit {0}
+
+-- of the refusal where there was none
+abbrev pub IfRefused : Result (End × RecordView) Unwatched → (Refused → Type 0) → Type 0
+IfRefused (Ok r) P = Unit {0}
+IfRefused (Err (unwatched.Deleted e)) P = Unit {0}
+IfRefused (Err (unwatched.Refused f)) P = P f
+
+-- ## The run and its record
+
+-- A run of the script is one entry into the interpreter at the path, in the tree whose root may be counted so many steps more; then the root has its own limit
+-- again. This happens in it, it takes the outside from one state to the other, and the crossings are those of the boundary of the interpreter at `watched`,
+-- which stood there at first.
+pub record IsRecorded {S : Type 0} (goes : Going S) (old : Table) (o : S) (path : Path) (script : Text) (limit : ℕ) (watched : Path) (crossings : List (Event Own)) (new : Table) (z : S) (e : End) : Type 0 where
+  pub during : Tree Own
+  pub reply : Reply
+  pub events : List (Event Own)
+  pub visits : Visits (language (marks_of old).integers) (Runs (language (marks_of old).integers)) (before (limited limit (tree_of old)) (visit path (Eval script) events reply)) None path (Eval script) (before during []) (Some reply)
+  pub outside : Chain (Crossings goes) (limited limit (tree_of old)) o events during z
+  pub recorded : crossings ≡ boundary watched (visit path (Eval script) events reply)
+  pub node : Node Own
+  pub stood : tree_of old watched ≡ Some node
+  pub after : tree_of new ≡ effect [] (Limited (root_limit old)) during
+  pub ends : end_at path reply ≡ Some (ending_of e)
+
+module _ {S : Type 0} (goes : Going S) (old : Table) (o : S) (path : Path) (script : Text) (limit : ℕ) (watched : Path) where
+  -- all that happened in it, from the entry to its end
+  abbrev pub happened : (crossings : List (Event Own)) (new : Table) (z : S) (e : End) → IsRecorded goes old o path script limit watched crossings new z e → List (Event Own)
+  happened crossings new z e w = visit path (Eval script) w.events w.reply
+
+  -- There is such a run in which the watched interpreter isn't dropped, and of which this is so.
+  abbrev pub IsRecordWith : (crossings : List (Event Own)) (new : Table) (z : S) (e : End) → (List (Event Own) → Type 0) → Type 0
+  IsRecordWith crossings new z e P = (w : IsRecorded goes old o path script limit watched crossings new z e) × IsSpared watched (happened crossings new z e w) × P (happened crossings new z e w)
+
+  -- The record has the crossings of the watched interpreter's boundary in the run, in which that one isn't dropped.
+  abbrev pub IsRecord : RecordView → Table → S → End → Type 0
+  IsRecord r new z e = (r.watched ≡ watched) × IsRecordWith r.crossings new z e (λ τ. Unit {0})
+
+  -- There is such a run in which the watched interpreter is dropped.
+  abbrev pub IsDeletion : Table → S → End → Type 0
+  IsDeletion new z e = (crossings : List (Event Own)) × (w : IsRecorded goes old o path script limit watched crossings new z e) × (IsSpared watched (happened crossings new z e w) → Prim.⊥)
+
+-- ## What the watched interpreter does by itself
+
+-- Below the top, where no entry was ended from outside, the subtree by itself does with the moves of the record what the record tells of it, and leaves the
+-- subtree that stands there afterwards: with every budget that isn't less than the rise of its top's count.
+abbrev pub Reacts : Table → Path → List (Event Own) → Table → Type 0
+Reacts old c crossings new = IsBelowTheTop c → IsUnended crossings → (m : ℕ) → Suffices m (tree_of old c) (tree_of new c) →
+    React (language (marks_of old).integers) (at (tree_of old) c) (moves_of crossings) m (outcome_of crossings Finished) (outs_of crossings) (at (tree_of new) c)
+
+-- And it does nothing else with them.
+abbrev pub ReactsSo : Table → Path → List (Event Own) → Table → Type 0
+ReactsSo old c crossings new = IsBelowTheTop c → IsUnended crossings → (m : ℕ) → Suffices m (tree_of old c) (tree_of new c) → (x : Outcome) (told : List (Event Own)) (W : Tree Own) →
+    React (language (marks_of old).integers) (at (tree_of old) c) (moves_of crossings) m x told W → (x ≡ outcome_of crossings Finished) × (told ≡ outs_of crossings) × (W ≡ at (tree_of new) c)
+
+-- What the record tells up to some place before the first end from outside is a beginning of what the subtree by itself does with the moves up to there.
+abbrev pub ReactsUntil : Table → Path → List (Event Own) → Table → Type 0
+ReactsUntil old c crossings new = IsBelowTheTop c → (early late : List (Event Own)) → crossings ≡ early ++ late → IsUnended early → (m : ℕ) → Suffices m (tree_of old c) (tree_of new c) →
+    (x : Outcome) (told : List (Event Own)) (W : Tree Own) → React (language (marks_of old).integers) (at (tree_of old) c) (moves_of early) m x told W → (more : List (Event Own)) × (told ≡ outs_of early ++ more)
+
+-- ## What is outside of it
+
+-- Where the script was evaluated in the watched subtree and nobody there called outside it, all outside it, counts and depths above it aside, is afterwards
+-- what it was; and so is the host.
+abbrev pub LeavesTheOutside : {S : Type 0} → Table → S → Path → Path → List (Event Own) → Table → S → Type 0
+LeavesTheOutside old o path c crossings new z = (u : Path) → path ≡ c ++ u → CallsNobody crossings → (rest (tree_of new) c ≡ rest (tree_of old) c) × (z ≡ o)
+
+-- Where the watched interpreter is safe, in its subtree nobody has a host command, and no entry of the record exposes one or invokes a hidden one, the record
+-- has no request of the host.
+abbrev pub AsksTheHostNothing : Table → Path → List (Event Own) → Type 0
+AsksTheHostNothing old c crossings = IsBelowTheTop c → IsSafeAt (tree_of old) c → ArePlain plain (at (tree_of old) c) → AreFree exposes (moves_of crossings) → AsksNothing crossings
+
+-- ## Counted steps
+
+module _ {S : Type 0} (goes : Going S) (old : Table) (o : S) (path : Path) (script : Text) (limit : ℕ) (c : Path) where
+  -- The watched interpreter's count rises by the steps that were made in its subtree.
+  abbrev pub Counts : RecordView → Table → S → End → Type 0
+  Counts r new z e = IsBelowTheTop c → IsRecordWith goes old o path script limit c r.crossings new z e (λ τ. count_at (tree_of new c) ≡ count_at (tree_of old c) + steps_of (view c τ))
+
+  -- With a count limit that nothing in the run raises or takes away, it is counted at most to the greater of the limit and the count before: to each number
+  -- that both are at most.
+  abbrev pub CountStaysWithin : RecordView → Table → S → End → Type 0
+  CountStaysWithin r new z e = IsBelowTheTop c → IsRecordWith goes old o path script limit c r.crossings new z e
+      (λ τ. (l b : ℕ) → limit_at (tree_of old c) ≡ Some l → IsLowering l c τ → l ≤ b → count_at (tree_of old c) ≤ b → IsWithin (tree_of new c) l b)
+
+  -- an interpreter that stands has the limits that it had
+  abbrev pub KeepsLimits : Option (Node Own) → Option (Node Own) → Type 0
+  KeepsLimits was is = (n : Node Own) → was ≡ Some n → (m : Node Own) × (is ≡ Some m) × (m.limit ≡ n.limit) × (m.depth_limit ≡ n.depth_limit)
+
+  -- No script in a safe watched interpreter changes a limit. The interpreter at q below it, for which no entry of the record asks a limit, has the limits that
+  -- it had, or is new and has those of a new one; and the ones that it had where it is neither made nor dropped, as the watched interpreter itself is not.
+  abbrev pub LimitsStay : RecordView → Table → S → End → Type 0
+  LimitsStay r new z e = IsBelowTheTop c → IsSafeAt (tree_of old) c →
+      (Unasked [] (moves_of r.crossings) → KeepsLimits (tree_of old c) (tree_of new c)) ×
+      IsRecordWith goes old o path script limit c r.crossings new z e
+      (λ τ. (q : Path) → Unasked q (moves_of r.crossings) → AsLimited (tree_of old (c ++ q)) (tree_of new (c ++ q)) × (IsStanding (c ++ q) τ → KeepsLimits (tree_of old (c ++ q)) (tree_of new (c ++ q))))
+
+-- With a count limit that no entry of the record raises or takes away, a safe watched interpreter is counted at most to the greater of the limit and the count
+-- before.
+abbrev pub ScriptsStayWithin : Table → Path → List (Event Own) → Table → Type 0
+ScriptsStayWithin old c crossings new = IsBelowTheTop c → IsSafeAt (tree_of old) c → (l b : ℕ) → limit_at (tree_of old c) ≡ Some l → AreLowering l (moves_of crossings) → l ≤ b → count_at (tree_of old c) ≤ b →
+    IsWithin (tree_of new c) l b
+
+-- ## One fact of the run, from which the rest follows
+
+-- The run with a recorder, which is told of its entry and of its end.
+pub record IsEntryRun {S : Type 0} (goes : Going S) (old : Table) (o : Recorder S) (path : Path) (script : Text) (limit : ℕ) (new : Table) (z : Recorder S) (e : End) : Type 0 where
+  pub during : Tree Own
+  pub reply : Reply
+  pub entry : WatchedEntry goes (language (marks_of old).integers) (limited limit (tree_of old)) o path (Eval script) during z reply
+  pub run : IsRun goes old o.outside path script (root_count old + limit) new z.outside e
+  pub after : tree_of new ≡ effect [] (Limited (root_limit old)) during
+  pub ends : end_at path reply ≡ Some (ending_of e)
+
+-- the run with a recorder of the interpreter at a path, which holds the outside and has no crossing yet
+abbrev pub recorder_of : {S : Type 0} → S → Path → Recorder S
+recorder_of o watched = record { outside = o; kept = record { watched = watched; crossings = [] }; deleted = false }
+
+-- what an evaluation answers that was recorded: memory was wanted, or there was such a run
+pub record Watches {S : Type 0} (goes : Going S) (old : Table) (o : S) (path : Path) (script : Text) (limit : ℕ) (watched : Path) (new : Table) (z : S) (result : Result (End × RecordView) Unwatched) : Type 0 where
+  pub memory : IfRefused result (λ f. (f ≡ refused.Memory) × ((marks_of new).broken ≡ true))
+  pub made : IfEnds result (λ e. (kept : RecordView) × (deleted : Bool) × (result ≡ answer_if deleted e kept) ×
+      IsEntryRun goes old (recorder_of o watched) path script limit new (record { outside = z; kept = kept; deleted = deleted }) e)
