@@ -1,8 +1,8 @@
-mod Agreeing
-mod Answers
-mod Below
 mod Entered
-mod Recorded
 mod Safety
+mod Below
+mod Recorded
+mod Answers
+mod Agreeing
 mod Savable
 mod Serving

@@ -15,14 +15,13 @@ use Rattle.tcl_evaluator.specs.Waiting.{EndsEntry}
 use Rattle.tcl_flow.specs.View.{completion_of}
 use Rattle.tcl_flow.specs.Stopping as stopping
 use Rattle.tcl_language.specs.Language.{language}
-use Rattle.tcl_playing.specs.Players.{Begins, player_of}
+use Rattle.tcl_playing.specs.Players.{Begins, played, player_of}
 use Rattle.tcl_playing.specs.declared.player.Player as declared
 use Rattle.tcl_reactions.specs.Playing.{IsOver, Lived, Player, beginner, outcome, plays, tree_left}
 use Rattle.tcl_reactions.specs.Playing.Lived.{entered}
 use Rattle.tcl_reactions.proofs.Reacted.{played_is_react}
 use Rattle.tcl_replay.specs.Replaying.{Serves, wants_memory}
 use Rattle.tcl_run.specs.Ends.{IfEnded, cause_of}
-use Rattle.tcl_run.specs.Outsides.{Going}
 use Rattle.tcl_run.specs.Runs.{Comes}
 use Rattle.tcl_run.specs.declared.interruption.Interruption.{Interruption}
 use Rattle.tcl_run.specs.declared.interruption.Interruption.TheVariants as interruption
@@ -32,11 +31,8 @@ use Rattle.tcl_tree.specs.TreeOf.{marks_of, tree_of}
 use Rattle.tcl_tree.specs.declared.tree.Tree as table
 use Rattle.tcl_watching.proofs.Watched.{comes_along}
 
--- a player as it is kept goes as the player that is seen
-abbrev pub going : Going declared.Player
-going T o s ev z = plays T (player_of o) s ev (player_of z)
-
-seen : (T : Tree Own) (o : declared.Player) (s : Wait) (p : Place) (x : What Own) (u : declared.Player) → hears going T o s p x u → hears plays T (player_of o) s p x (player_of u)
+-- what a player as it is kept is told is told the player that is seen
+seen : (T : Tree Own) (o : declared.Player) (s : Wait) (p : Place) (x : What Own) (u : declared.Player) → hears played T o s p x u → hears plays T (player_of o) s p x (player_of u)
 seen T o s p (Out h down i) u t = t
 seen T o s p (Back h a) u t = t
 seen T o s p (In h i) u t = t
@@ -46,7 +42,7 @@ seen T o s p (Refused m None) u t = t
 seen T o s p Dropped u t = t
 seen T o s p x u t = ap player_of t
 
-along : (T : Tree Own) (o : declared.Player) (s : Wait) (ev : Event Own) (u : declared.Player) → Crossings going T o s ev u → Crossings plays T (player_of o) s ev (player_of u)
+along : (T : Tree Own) (o : declared.Player) (s : Wait) (ev : Event Own) (u : declared.Player) → Crossings played T o s ev u → Crossings plays T (player_of o) s ev (player_of u)
 along T o s ev u t = record { told = seen T o s ev.place ev.what u t.told }
 
 -- an evaluation that didn't end for want of memory ended by some reply
@@ -59,8 +55,8 @@ ended_so A B (Err (interruption.Cut c)) m a b = (Cut (cause_of c), a, b)
 ended_so A B (Err interruption.Memory) m a b = absurd (cc m)
 
 module _ (old new : table.Tree) (o u z : declared.Player) (p target : Path) (i : Entry) (ended : Result Text Interruption) where
-  runs_of : (e : Result Text Interruption) → EndsEntry going old o p i new u e →
-      IfEnded e (λ r. Comes going (language (marks_of old).integers) (tree_of old) o p (entering (language (marks_of old).integers) (tree_of old p) i) (tree_of new) u r)
+  runs_of : (e : Result Text Interruption) → EndsEntry played old o p i new u e →
+      IfEnded e (λ r. Comes played (language (marks_of old).integers) (tree_of old) o p (entering (language (marks_of old).integers) (tree_of old p) i) (tree_of new) u r)
   runs_of (Ok text) f = f (marks_of old).integers refl
   runs_of (Err (interruption.Completed c)) f = f (marks_of old).integers refl
   runs_of (Err (interruption.Stopped s)) f = f (marks_of old).integers refl
@@ -68,23 +64,23 @@ module _ (old new : table.Tree) (o u z : declared.Player) (p target : Path) (i :
   runs_of (Err (interruption.Cut c)) f = f (marks_of old).integers refl
   runs_of (Err interruption.Memory) f = tt
 
-  served : p ≡ target → wants_memory ended ≡ false → EndsEntry going old o p i new u ended → IfEnded ended (λ r. going (tree_of new) u None (event p (Done None r)) z) →
+  served : p ≡ target → wants_memory ended ≡ false → EndsEntry played old o p i new u ended → IfEnded ended (λ r. played (tree_of new) u None (event p (Done None r)) z) →
       Serves (marks_of old).integers (tree_of old) (player_of o) target i (tree_of new) (player_of z)
   served e m a b =
       let x = ended_so
-      (λ r. Comes going (language (marks_of old).integers) (tree_of old) o p (entering (language (marks_of old).integers) (tree_of old p) i) (tree_of new) u r)
-      (λ r. going (tree_of new) u None (event p (Done None r)) z)
+      (λ r. Comes played (language (marks_of old).integers) (tree_of old) o p (entering (language (marks_of old).integers) (tree_of old p) i) (tree_of new) u r)
+      (λ r. played (tree_of new) u None (event p (Done None r)) z)
       ended m (runs_of ended a) b in
       subst (λ t. Serves (marks_of old).integers (tree_of old) (player_of o) t i (tree_of new) (player_of z)) e
       (record {
         between = player_of u;
         reply = x.0;
-        runs = comes_along (Crossings going) (Crossings plays) player_of along (language (marks_of old).integers) x.1;
+        runs = comes_along (Crossings played) (Crossings plays) player_of along (language (marks_of old).integers) x.1;
         told = x.2;
       })
 
-  pub serves : {E : Type 0} (left : Result (Unit {0}) E) → p ≡ target → wants_memory ended ≡ false → EndsEntry going old o p i new u ended →
-      OnOk left (IfEnded ended (λ r. going (tree_of new) u None (event p (Done None r)) z)) →
+  pub serves : {E : Type 0} (left : Result (Unit {0}) E) → p ≡ target → wants_memory ended ≡ false → EndsEntry played old o p i new u ended →
+      OnOk left (IfEnded ended (λ r. played (tree_of new) u None (event p (Done None r)) z)) →
       OnOk left (Serves (marks_of old).integers (tree_of old) (player_of o) target i (tree_of new) (player_of z))
   serves (Ok l) e m a b = served e m a b
   serves (Err x) e m a b = tt

@@ -1,4 +1,4 @@
 pub mod Saved
-pub mod Replaying
 pub mod Watched
 pub mod Worlds
+pub mod Replaying

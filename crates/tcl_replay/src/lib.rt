@@ -1,4 +1,4 @@
-//! Watched evaluations, and interpreters that are saved by themselves and replayed.
+//! Watched evaluations, and interpreters that are saved by themselves and played to.
 #![tactic(auto)]
 
 pub mod laws;
