@@ -25,8 +25,9 @@ fn the_root_is_entered_once(rt: HostRuntime) -> Result<(), Fail> {
 fn worlds_with_other_secrets_agree(rt: HostRuntime) -> Result<(), Fail> {
     let alloc = rt.alloc();
     let (mut one, first) = asking_after(alloc, "set secret 1")?.watch(alloc, ASKED, "c")?;
-    let (mut two, second) =
-        asking_after(alloc, "set secret 2; interp create other")?.watch(alloc, ASKED, "c")?;
+    let (mut two, second) = asking_after(alloc, "set secret 2; interp create other")?.watch(
+        alloc, ASKED, "c",
+    )?;
     see(first.record(alloc)?.as_str(), RECORD)?;
     see(second.record(alloc)?.as_str(), RECORD)?;
     if !one.saved(alloc, "c")?.same(&two.saved(alloc, "c")?) {
@@ -57,8 +58,7 @@ fn requests_of_the_host_cross(rt: HostRuntime) -> Result<(), Fail> {
     let alloc = rt.alloc();
     let mut world = World::new(alloc)?;
     world.see(alloc, "interp create -safe c", "c")?;
-    let (world, watched) =
-        world.watch(alloc, "interp expose c puts; c eval {puts hi}", "c")?;
+    let (world, watched) = world.watch(alloc, "interp expose c puts; c eval {puts hi}", "c")?;
     see(
         watched.record(alloc)?.as_str(),
         "In expose puts puts\nDone \nIn eval puts hi\nOut host write stdout hi\n\nBack host done\nDone \n",
@@ -88,4 +88,20 @@ fn what_ends_a_child_from_outside_is_recorded_so(rt: HostRuntime) -> Result<(), 
         watched.record(alloc)?.as_str(),
         "In eval set a 1; set b 2\nDone ended\n",
     )
+}
+
+#[test]
+fn want_of_memory_breaks_the_tree(rt: HostRuntime) -> Result<(), Fail> {
+    let alloc = rt.alloc();
+    let (world, watched) = asking_after(alloc, "")?.watch(alloc, ASKED, "c")?;
+    if watched.ending.as_str() != "Memory" {
+        return see(watched.record(alloc)?.as_str(), RECORD);
+    }
+    let mut world = world;
+    world.see(alloc, "set a", "Broken")?;
+    if world.saved(alloc, "c").is_ok() {
+        return Err(Fail::from("saved"));
+    }
+    let (_, again) = world.watch(alloc, ASKED, "c")?;
+    see(again.ending.as_str(), "Broken")
 }

@@ -53,7 +53,12 @@ fn nothing_is_saved_of_a_broken_tree_or_of_nothing(rt: HostRuntime) -> Result<()
 #[test]
 fn a_run_that_is_watched_keeps_its_limit(rt: HostRuntime) -> Result<(), Fail> {
     let alloc = rt.alloc();
-    let (world, watched) = asking_after(alloc, "")?.watch_within(alloc, "set x 1; set y 2", 1, "c")?;
+    let (world, watched) = asking_after(alloc, "")?.watch_within(
+        alloc,
+        "set x 1; set y 2",
+        1,
+        "c",
+    )?;
     see(watched.ending.as_str(), "stopped")?;
     let (_, watched) = world.watch_within(alloc, "info exists x", STEPS, "c")?;
     see(watched.ending.as_str(), "1")

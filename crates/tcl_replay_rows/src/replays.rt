@@ -95,10 +95,7 @@ const PLAYED: [(&str, &str); 10] = [
         "in catch {ask q}\nexit 3\nin set a 1",
         "Exited(3)\nOut 1 call answer q\nDone exit 3\n",
     ),
-    (
-        "in set a 1\nin set a",
-        "Finished\nDone 1\nDone 1\n",
-    ),
+    ("in set a 1\nin set a", "Finished\nDone 1\nDone 1\n"),
 ];
 
 #[test]

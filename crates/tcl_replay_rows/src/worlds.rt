@@ -110,7 +110,15 @@ impl World {
     ) -> Result<(World, Watched), AllocError> {
         let World { mut tree, host } = self;
         let path = path_to(alloc, name)?;
-        let (host, given) = eval_watched(&mut tree, alloc, host, &[], script, limit, path.as_slice());
+        let (host, given) = eval_watched(
+            &mut tree,
+            alloc,
+            host,
+            &[],
+            script,
+            limit,
+            path.as_slice(),
+        );
         Ok((World { tree, host }, watched_so(alloc, given)?))
     }
 
@@ -135,13 +143,15 @@ impl World {
 }
 
 /// A safe child `c` with an alias `ask`, whose target evaluates a script in `c`.
-pub(crate) const ASKING: &str = "interp create -safe c; proc answer k {interp eval c [list set seen $k]; return yes}; interp alias c ask {} answer";
+pub(crate) const ASKING: &str =
+    "interp create -safe c; proc answer k {interp eval c [list set seen $k]; return yes}; interp alias c ask {} answer";
 
 /// It asks.
 pub(crate) const ASKED: &str = "c eval {list [ask q] $seen}";
 
 /// What crosses the boundary of `c` by that.
-pub(crate) const RECORD: &str = "In eval list [ask q] $seen\nOut 1 call answer q\nIn eval set seen q\nDone q\nBack yes\nDone yes q\n";
+pub(crate) const RECORD: &str =
+    "In eval list [ask q] $seen\nOut 1 call answer q\nIn eval set seen q\nDone q\nBack yes\nDone yes q\n";
 
 /// A world in which this was run before a child `c` with its alias was made.
 pub(crate) fn asking_after(alloc: Global, script: &str) -> Result<World, Fail> {

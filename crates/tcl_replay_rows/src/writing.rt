@@ -35,7 +35,11 @@ fn words(alloc: Global, values: &[Value]) -> Result<String, AllocError> {
 fn request(alloc: Global, request: &Request) -> Result<String, AllocError> {
     match request {
         Request::Write(channel, text) => {
-            format!(in alloc; "host write {channel} {text}", channel = channel.as_str(), text = text.as_str())
+            format!(in alloc;
+                "host write {channel} {text}",
+                channel = channel.as_str(),
+                text = text.as_str()
+            )
         }
         _ => String::from_str(alloc, "host"),
     }
@@ -57,7 +61,11 @@ fn entry(alloc: Global, entry: &Entry) -> Result<String, AllocError> {
             format!(in alloc; "invoke{words}", words = words.as_str())
         }
         Entry::Own(OwnEntry::Expose { hidden, name }) => {
-            format!(in alloc; "expose {hidden} {name}", hidden = hidden.as_str(), name = name.as_str())
+            format!(in alloc;
+                "expose {hidden} {name}",
+                hidden = hidden.as_str(),
+                name = name.as_str()
+            )
         }
         Entry::Own(_) => String::from_str(alloc, "own"),
         Entry::AskHost(asked) => request(alloc, asked),
@@ -111,7 +119,10 @@ pub(crate) fn crossing(alloc: Global, crossing: &Crossing) -> Result<String, All
                 None => format!(in alloc; "Out {asked}", asked = asked.as_str()),
             }
         }
-        Crossing::Back { answer: answered, .. } => {
+        Crossing::Back {
+            answer: answered,
+            ..
+        } => {
             let answered = answer(alloc, answered)?;
             format!(in alloc; "Back {answered}", answered = answered.as_str())
         }
