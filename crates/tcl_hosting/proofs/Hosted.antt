@@ -1,5 +1,5 @@
--- What comes with a host comes with the host and the call that is open to it: one proof over how runs come.
-use Rattle.std.proofs.Common.{◌≡◌, refl, sym, ◌∙◌, ap, subst, ℕ, Bool, true, false, ◌+◌, ◌-◌, nat_lt, [], ◌∷◌, ◌++◌, Option, Some, None, length}
+-- What comes with an outside that goes as a host does comes with the host and the call that is open to it, and the same happens: one proof over how runs come.
+use Rattle.std.proofs.Common.{◌≡◌, refl, sym, ◌∙◌, ap, subst, ℕ, Bool, true, false, ◌+◌, ◌-◌, nat_lt, List, [], ◌∷◌, ◌++◌, Option, Some, None, length}
 use Rattle.tcl_core.specs.Endings.{Completion, Meter, Reply, IsQuit, error}
 use Rattle.tcl_core.specs.Endings.Reply.{Completed, Stop, Exit, Cut}
 use Rattle.tcl_core.specs.Entries.{Answer, Entry, Said}
@@ -12,9 +12,9 @@ use Rattle.tcl_core.specs.Programs.Act.{Look, Change, Charge, Limit, LimitDepth,
 use Rattle.tcl_core.specs.Programs.Next.{Off}
 use Rattle.tcl_core.specs.Programs.Prog.{done, exit, act, go, inside, call, wait}
 use Rattle.tcl_core.specs.Runs.{carried, entering, fits, height_of, lessened, reached, where_stands}
-use Rattle.tcl_core.specs.Threads.{Crossings, Threads, event, passing}
+use Rattle.tcl_core.specs.Threads.{Threads, event, passing}
 use Rattle.tcl_core.specs.Threads.Threads.{completed, exited, acted, refused, went, passed, wrapped, wrapped_passed, too_deep, shut, called, called_passed, unreached, called_out, answered, heard, answered_passed, entered, entered_exiting}
-use Rattle.tcl_core.specs.Trees.{Node, Tree, What, at}
+use Rattle.tcl_core.specs.Trees.{Event, Node, Tree, What, at}
 use Rattle.tcl_core.specs.Trees.What.{Out, In, Done, Back}
 use Rattle.tcl_core.specs.Trees.Move.{Come}
 use Rattle.tcl_core.proofs.PathLaws.{not_both, Some-inj, rise_back}
@@ -23,11 +23,12 @@ use Rattle.tcl_hosting.specs.Limits.{AsksBelow, HasTop, KeepTops, LimitsBelow, s
 use Rattle.tcl_host.specs.declared.reply.HostReply.{HostReply as TheirReply}
 use Rattle.tcl_host.specs.declared.request.Request.{Request as TheirRequest}
 use Rattle.tcl_language.specs.Interpreters.{no_interpreter}
-use Rattle.tcl_run.specs.Outsides.{hosted, hosted_at, hosted_by}
+use Rattle.tcl_run.specs.Outsides.{Going, hosted_at, hosted_by}
 use Rattle.tcl_tree.specs.Own.{Own}
 use Rattle.tcl_hosting.proofs.Nearness.{Inside, Near, top_near}
-use Rattle.tcl_hosting.proofs.Holding.{Goes, holding, keeps_call, within, asks, hears, misses}
+use Rattle.tcl_hosting.proofs.Holding.{Goes, Holding, holding, keeps_call, within, asks, hears, misses}
 use Rattle.tcl_hosting.proofs.Deeds.{Goes_so, SetsNone, closes_near, decides_near, opens_near, unheard}
+use Rattle.tcl_hosting.proofs.Taping.{Taped}
 
 no_true : {A : Type 0} → false ≡ true → A
 no_true e = absurd (bad e)
@@ -155,21 +156,38 @@ reached_at (Some n) t p e = sym (Some-inj p e)
 comes_within : {O : Type 0} (T : Tree O) (a t : Place) (down : Path) → reached T a down ≡ Some t → Inside (Some (length down)) t
 comes_within T a t down e = (a, ap (rise_to (Some (length down))) (reached_at (T (a ++ down)) t (a ++ down) e) ∙ rise_back a down)
 
-module _ {I S : Type 0} (step : S → TheirRequest → TheirReply → S → Type 0) (fine : I → Bool) (prog : Table Own I) (keep : KeepTops fine prog) where
+-- An outside `goes` by steps each of which is one of the host that it holds; what happens is written down.
+module _ {I S R : Type 0} (step : S → TheirRequest → TheirReply → S → Type 0) (goes : Going R) (host_of : R → S)
+    (as_host : (T : Tree Own) (o : R) (s : Wait) (ev : Event Own) (u : R) → goes T o s ev u → Goes_so step T (host_of o) s ev (host_of u)) (fine : I → Bool) (prog : Table Own I) (keep : KeepTops fine prog) where
+  -- the outside, and what is written
+  abbrev State : Type 0
+  State = R × List (Event Own)
+
+  -- the host that it holds with the open call, and what is written
+  abbrev keeping : State → Wait → Holding S × List (Event Own)
+  keeping o c = (holding (host_of o.0) c, o.1)
+
+  so : (T : Tree Own) (o : State) (s : Wait) (ev : Event Own) (u : State) → Taped goes T o s ev u → Goes_so step T (host_of o.0) s ev (host_of u.0)
+  so T o s ev u g = as_host T o.0 s ev u.0 g.goes
+
   -- within the tree the open call stays as it is
-  stays : (T : Tree Own) (o u : S) (c s : Wait) (p : Place) (x : What Own) → Near p x → Goes_so step T o s (event p x) u → Goes step (holding o c) p x (holding u c)
-  stays T o u c s p x f g = within f (ap (λ z. holding z c) (unheard step T o s p x u f g))
+  stays : (T : Tree Own) (o u : State) (c s : Wait) (p : Place) (x : What Own) → Near p x → Taped goes T o s (event p x) u → Taped (keeps_call step) T (keeping o c) s (event p x) (keeping u c)
+  stays T o u c s p x f g = record {
+    goes = within f (ap (λ z. holding z c) (unheard step T (host_of o.0) s p x (host_of u.0) f (so T o s (event p x) u g)));
+    written = g.written;
+  }
 
   -- a call past the top
-  leaves : (T : Tree Own) (o u : S) (p : Place) (h : Height) (down : Path) (i : Entry) → rise_to h p ≡ None → Goes_so step T o None (event p (Out h down i)) u →
-      Goes step (holding o None) p (Out h down i) (holding u (Some (h, i)))
+  leaves : (T : Tree Own) (o u : State) (p : Place) (h : Height) (down : Path) (i : Entry) → rise_to h p ≡ None → Taped goes T o None (event p (Out h down i)) u →
+      Taped (keeps_call step) T (keeping o None) None (event p (Out h down i)) (keeping u (Some (h, i)))
   leaves T o u p h down i past g =
-      let same : u ≡ o = subst (λ b. passing b (hosted_at step) T o None (event p (Out h down i)) u) past g.told in
-      asks h down i refl past refl (ap (λ z. holding z (Some (h, i))) same)
+      let told = (so T o None (event p (Out h down i)) u g).told in
+      let same : host_of u.0 ≡ host_of o.0 = subst (λ b. passing b (hosted_at step) T (host_of o.0) None (event p (Out h down i)) (host_of u.0)) past told in
+      record { goes = asks h down i refl past refl (ap (λ z. holding z (Some (h, i))) same); written = g.written }
 
   -- no entry comes in
-  enters_not : {A : Type 0} (T : Tree Own) (o u : S) (t : Place) (i : Entry) → Goes_so step T o None (event t (In None i)) u → A
-  enters_not T o u t i g = absurd g.told
+  enters_not : {A : Type 0} (T : Tree Own) (o u : State) (t : Place) (i : Entry) → Taped goes T o None (event t (In None i)) u → A
+  enters_not T o u t i g = absurd (so T o None (event t (In None i)) u g).told
 
   -- how a call past the top is answered
   by_host : (o u : S) (p : Place) (s : Wait) (a : Answer) → rise_to (height_of s) p ≡ None → fits {O = Own} s (Come a) ≡ true → hosted_by step o s (Back (height_of s) a) u →
@@ -182,9 +200,14 @@ module _ {I S : Type 0} (step : S → TheirRequest → TheirReply → S → Type
   by_host o u p (Some (Some n, i)) (Heard a) past f g = no_true f
   by_host o u p (Some (Some n, i)) (Replied r) past f (same, is) = misses n i (ap (λ z. Back (Some n) (Replied z)) is) past refl (ap (λ z. holding z None) same)
 
-  comes_back : (T : Tree Own) (o u : S) (p : Place) (s : Wait) (a : Answer) → rise_to (height_of s) p ≡ None → fits {O = Own} s (Come a) ≡ true → Goes_so step T o s (event p (Back (height_of s) a)) u →
-      Goes step (holding o s) p (Back (height_of s) a) (holding u None)
-  comes_back T o u p s a past f g = by_host o u p s a past f (subst (λ b. passing b (hosted_at step) T o s (event p (Back (height_of s) a)) u) past g.told)
+  comes_back : (T : Tree Own) (o u : State) (p : Place) (s : Wait) (a : Answer) → rise_to (height_of s) p ≡ None → fits {O = Own} s (Come a) ≡ true → Taped goes T o s (event p (Back (height_of s) a)) u →
+      Taped (keeps_call step) T (keeping o s) s (event p (Back (height_of s) a)) (keeping u None)
+  comes_back T o u p s a past f g =
+      let told = (so T o s (event p (Back (height_of s) a)) u g).told in
+      record {
+        goes = by_host (host_of o.0) (host_of u.0) p s a past f (subst (λ b. passing b (hosted_at step) T (host_of o.0) s (event p (Back (height_of s) a)) (host_of u.0)) past told);
+        written = g.written;
+      }
 
   -- and by no end
   quits_not : {A : Type 0} (o u : S) (p : Place) (s : Wait) (r : Reply) → IsQuit r → fits {O = Own} s (Come (Replied r)) ≡ true → hosted_by step o s (Back (height_of s) (Replied r)) u → A
@@ -194,23 +217,23 @@ module _ {I S : Type 0} (step : S → TheirRequest → TheirReply → S → Type
   quits_not o u p (Some (Some n, i)) r q f (same, is) = not_quit (error (no_interpreter [])) r is q
 
   -- What comes so, with the call that is open; the top still stands; and the end is none from outside.
-  pub record Held (T : Tree Own) (o : S) (c : Wait) (p : Place) (x : Prog Own I) (V : Tree Own) (z : S) (r : Reply) : Type 0 where
-    pub threads : Threads (keeps_call step) prog T (holding o c) p x V (holding z None) r
+  pub record Held (T : Tree Own) (o : State) (c : Wait) (p : Place) (x : Prog Own I) (V : Tree Own) (z : State) (r : Reply) : Type 0 where
+    pub threads : Threads (Taped (keeps_call step)) prog T (keeping o c) p x V (keeping z None) r
     pub top : HasTop V
     pub uncut : NotCut r
 
-  pub calm : (T : Tree Own) (o : S) (p : Place) (x : Prog Own I) (V : Tree Own) (z : S) (r : Reply) → Calls_only x → Held T o (waits_for x) p x V z r → Held T o None p x V z r
+  pub calm : (T : Tree Own) (o : State) (p : Place) (x : Prog Own I) (V : Tree Own) (z : State) (r : Reply) → Calls_only x → Held T o (waits_for x) p x V z r → Held T o None p x V z r
   calm T o p x V z r f h = subst (λ c. Held T o c p x V z r) (no_wait x f) h
 
-  pub held : {T V : Tree Own} {o z : S} {p : Place} {x : Prog Own I} {r : Reply} → Threads (Crossings (hosted step)) prog T o p x V z r → Fits x → LimitsBelow fine (is_below p) x → HasTop T → Held T o (waits_for x) p x V z r
+  pub held : {T V : Tree Own} {o z : State} {p : Place} {x : Prog Own I} {r : Reply} → Threads (Taped goes) prog T o p x V z r → Fits x → LimitsBelow fine (is_below p) x → HasTop T → Held T o (waits_for x) p x V z r
   held completed f l top = record { threads = completed; top = top; uncut = tt }
   held exited f l top = record { threads = exited; top = top; uncut = tt }
   held (acted {T} {V} {o} {u} {z} {p} {d} {k} {r} x is_so on s t) f l top =
-      let g = decides_near step d T o p u x (none_at fine p d k l) is_so s in
+      let g = decides_near step d T (host_of o.0) p (host_of u.0) x (none_at fine p d k l) is_so (so T o None (event (spot p x.0) x.1) u s) in
       let h = calm _ u p (k (at T p)) V z r (f (at T p)) (held t (fit (k (at T p)) (f (at T p))) (after_act fine (is_below p) d k (at T p) l) (top_near (spot p x.0) x.1 T g.near top)) in
       record { threads = acted x is_so on (stays T o u None None (spot p x.0) x.1 g.near s) h.threads; top = h.top; uncut = h.uncut }
   held (refused {T} {o} {u} {p} {d} {k} {r} x is_so off s) f l top =
-      let g = decides_near step d T o p u x (none_at fine p d k l) is_so s in
+      let g = decides_near step d T (host_of o.0) p (host_of u.0) x (none_at fine p d k l) is_so (so T o None (event (spot p x.0) x.1) u s) in
       record { threads = refused x is_so off (stays T o u None None (spot p x.0) x.1 g.near s); top = top_near (spot p x.0) x.1 T g.near top; uncut = off_uncut x.2 r off g.uncut }
   held (went {T} {U} {V} {o} {u} {z} {p} {i} {k} {c} {r} a b) f l top =
       let g = calm T o p (prog.program i) U u (Completed c) (prog.programs_call i) (held a (fit (prog.program i) (prog.programs_call i)) (at_place fine p (prog.program i) (keep.programs i l.0)) top) in
@@ -220,22 +243,22 @@ module _ {I S : Type 0} (step : S → TheirRequest → TheirReply → S → Type
       let g = calm T o p (prog.program i) U u r (prog.programs_call i) (held a (fit (prog.program i) (prog.programs_call i)) (at_place fine p (prog.program i) (keep.programs i l.0)) top) in
       record { threads = passed q g.threads; top = g.top; uncut = g.uncut }
   held (wrapped {T} {U} {V} {o} {o1} {o2} {o3} {z} {p} {b} {i} {k} {c} {r} x is_so on s1 a s2 t) f l top =
-      let n = opens_near step b T o p o1 x is_so s1 in
+      let n = opens_near step b T (host_of o.0) p (host_of o1.0) x is_so (so T o None (event (spot p x.0) x.1) o1 s1) in
       let m = closes_near step p b (U p) in
       let g = calm _ o1 p (prog.program i) U o2 (Completed c) (prog.programs_call i) (held a (fit (prog.program i) (prog.programs_call i)) (at_place fine p (prog.program i) (keep.programs i l.0)) (top_near (spot p x.0) x.1 T n.near top)) in
       let h = calm _ o3 p (k c) V z r (f c) (held t (fit (k c) (f c)) (l.1 c) (top_near p (closes b (U p)) U m g.top)) in
       record { threads = wrapped x is_so on (stays T o o1 None None (spot p x.0) x.1 n.near s1) g.threads (stays U o2 o3 None None p (closes b (U p)) m s2) h.threads; top = h.top; uncut = h.uncut }
   held (wrapped_passed {T} {U} {o} {o1} {o2} {o3} {p} {b} {i} {k} {r} x q is_so on s1 a s2) f l top =
-      let n = opens_near step b T o p o1 x is_so s1 in
+      let n = opens_near step b T (host_of o.0) p (host_of o1.0) x is_so (so T o None (event (spot p x.0) x.1) o1 s1) in
       let m = closes_near step p b (U p) in
       let g = calm _ o1 p (prog.program i) U o2 r (prog.programs_call i) (held a (fit (prog.program i) (prog.programs_call i)) (at_place fine p (prog.program i) (keep.programs i l.0)) (top_near (spot p x.0) x.1 T n.near top)) in
       record { threads = wrapped_passed x q is_so on (stays T o o1 None None (spot p x.0) x.1 n.near s1) g.threads (stays U o2 o3 None None p (closes b (U p)) m s2); top = top_near p (closes b (U p)) U m g.top; uncut = g.uncut }
   held (too_deep {T} {V} {o} {u} {z} {p} {b} {i} {k} {r} x is_so deep s t) f l top =
-      let n = opens_near step b T o p u x is_so s in
+      let n = opens_near step b T (host_of o.0) p (host_of u.0) x is_so (so T o None (event (spot p x.0) x.1) u s) in
       let h = calm _ u p (k _) V z r (f _) (held t (fit (k _) (f _)) (l.1 _) (top_near (spot p x.0) x.1 T n.near top)) in
       record { threads = too_deep x is_so deep (stays T o u None None (spot p x.0) x.1 n.near s) h.threads; top = h.top; uncut = h.uncut }
   held (shut {T} {o} {u} {p} {b} {i} {k} {r} x is_so off s) f l top =
-      let n = opens_near step b T o p u x is_so s in
+      let n = opens_near step b T (host_of o.0) p (host_of u.0) x is_so (so T o None (event (spot p x.0) x.1) u s) in
       record { threads = shut x is_so off (stays T o u None None (spot p x.0) x.1 n.near s); top = top_near (spot p x.0) x.1 T n.near top; uncut = off_uncut x.2 r off n.uncut }
   held (called {T} {U} {V} {o} {o1} {o2} {o3} {o4} {o5} {z} {p} {h} {down} {i} {lost} {k} {s} {r} {c} a t e there s1 s2 m s3 so s4 n) f l top =
       let y : Inside (Some (length down)) t = comes_within T a t down there in
@@ -273,6 +296,7 @@ module _ {I S : Type 0} (step : S → TheirRequest → TheirReply → S → Type
       let g = calm T u p (k (told_so a)) V z r (f (told_so a)) (held t (fit (k (told_so a)) (f (told_so a))) (l (told_so a)) top) in
       record { threads = heard e is_fit (comes_back T o u p s (Heard a) e is_fit j) g.threads; top = g.top; uncut = g.uncut }
   held (answered_passed {T} {o} {u} {p} {s} {k} {r} q e is_fit j) f l top =
-      quits_not o u p s r q is_fit (subst (λ b. passing b (hosted_at step) T o s (event p (Back (height_of s) (Replied r))) u) e j.told)
+      let told = (so T o s (event p (Back (height_of s) (Replied r))) u j).told in
+      quits_not (host_of o.0) (host_of u.0) p s r q is_fit (subst (λ b. passing b (hosted_at step) T (host_of o.0) s (event p (Back (height_of s) (Replied r))) (host_of u.0)) e told)
   held (entered {T} {U} {V} {o} {o1} {o2} {o3} {z} {p} {s} {k} {y} {r} t i e s1 m s2 no_exit n) f l top = enters_not T o o1 t i s1
   held (entered_exiting {T} {U} {o} {o1} {o2} {o3} {o4} {p} {c} {k} {n} t i e s1 m s2 s3) f l top = enters_not T o o1 t i s1

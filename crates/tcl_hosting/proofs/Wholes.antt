@@ -6,7 +6,7 @@ use Rattle.tcl_core.specs.Entries.Entry.{Eval}
 use Rattle.tcl_core.specs.Laws.{KeepsTop}
 use Rattle.tcl_core.specs.Lives.{End, Whole, alone, comes, count_at, end_at, limit_at, limited, outs_of, unlimited}
 use Rattle.tcl_core.specs.Paths.{Path, Text}
-use Rattle.tcl_core.specs.Programs.{Prog, Table}
+use Rattle.tcl_core.specs.Programs.{Prog, Table, Wait}
 use Rattle.tcl_core.specs.Rules.{Derives}
 use Rattle.tcl_core.specs.Runs.{Runs, Visits, entering}
 use Rattle.tcl_core.specs.Threads.{Chain, Crossings, Threads, event, more, none}
@@ -16,20 +16,21 @@ use Rattle.tcl_core.specs.Trees.What.{In, Done}
 use Rattle.tcl_core.specs.Trees.Move.{Enter}
 use Rattle.tcl_core.specs.Views.{steps_of}
 use Rattle.tcl_core.proofs.Budgets.{budgeted, derived_budget}
-use Rattle.tcl_core.proofs.Following.{Rest, ahead, chain-append, follows, handed, handed-all, handed-append}
+use Rattle.tcl_core.proofs.Following.{Rest, Says, ahead, chain-append, follows, handed, handed-all, handed-append}
 use Rattle.tcl_core.proofs.RuleLaws.{derived_runs}
 use Rattle.tcl_core.proofs.Unended.{NotCut}
 use Rattle.tcl_hosting.specs.Laws.{WholeRun}
 use Rattle.tcl_hosting.specs.Limits.{HasTop, KeepTops}
 use Rattle.tcl_host.specs.declared.reply.HostReply.{HostReply as TheirReply}
 use Rattle.tcl_host.specs.declared.request.Request.{Request as TheirRequest}
-use Rattle.tcl_run.specs.Outsides.{hosted}
+use Rattle.tcl_run.specs.Outsides.{Going, hosted}
 use Rattle.tcl_tree.specs.Own.{Own}
 use Rattle.tcl_hosting.proofs.Counted.{comes_keeps, steps_within}
 use Rattle.tcl_hosting.proofs.Holding.{Hosts, ends, holding, hosts, keeps_call}
 use Rattle.tcl_hosting.proofs.Hosted.{Held, calm, entering_calls, entering_limits, fit, held}
 use Rattle.tcl_hosting.proofs.Limiting.{language_keeps_tops}
 use Rattle.tcl_hosting.proofs.Nearness.{limited_top}
+use Rattle.tcl_hosting.proofs.Taping.{Taped, all_written, tapes, unwritten}
 use Rattle.tcl_hosting.specs.Language.{leaves_steps}
 use Rattle.tcl_language.specs.Language.{language}
 use Rattle.tcl_language.specs.Table.{serve}
@@ -99,24 +100,52 @@ module _ {I S : Type 0} (step : S → TheirRequest → TheirReply → S → Type
       left = refl;
     }
 
-  pub whole_run : KeepTops fine prog → HasTop T → Threads (Crossings (hosted step)) prog (limited n T) o p script V z r → WholeRun step prog T p s n o V z r
-  whole_run keep top t =
+-- The run, and the whole evaluation with the same tape: what happens in the entry takes the outside from one state to the other.
+pub record WholeTape {I S R : Type 0} (step : S → TheirRequest → TheirReply → S → Type 0) (goes : Going R) (host_of : R → S) (prog : Table Own I) (T : Tree Own) (p : Path) (s : Text) (n : ℕ) (o : R) (V : Tree Own) (z : R) (r : Reply) : Type 0 where
+  pub tape : List (Event Own)
+  pub says : Says (Taped goes) prog (limited n T) (o, []) p (entering prog (limited n T p) (Eval s)) V (z, tape) r
+  pub outside : Chain goes (limited n T) o says.events V z
+  pub whole : WholeRun step prog T p s n (host_of o) V (host_of z) r
+  pub taped : whole.whole.tape ≡ event p (In None (Eval s)) ∷ (says.events ++ event p (Done None r) ∷ [])
+
+module _ {I S R : Type 0} (step : S → TheirRequest → TheirReply → S → Type 0) (goes : Going R) (host_of : R → S)
+    (as_host : (T : Tree Own) (o : R) (s : Wait) (ev : Event Own) (u : R) → goes T o s ev u → Crossings (hosted step) T (host_of o) s ev (host_of u)) (fine : I → Bool) (prog : Table Own I)
+    (T V : Tree Own) (o z : R) (p : Path) (s : Text) (n : ℕ) (r : Reply) where
+  pub whole_tape : KeepTops fine prog → HasTop T → Threads goes prog (limited n T) o p (entering prog (limited n T p) (Eval s)) V z r → WholeTape step goes host_of prog T p s n o V z r
+  unfolding whole
+  whole_tape keep top t =
+      let x : Prog Own I = entering prog (limited n T p) (Eval s) in
       let calls = entering_calls prog (limited n T p) (Eval s) in
-      let g : Held step fine prog keep (limited n T) o None p script V z r =
-      calm step fine prog keep (limited n T) o p script V z r calls
-      (held step fine prog keep t (fit script calls) (entering_limits fine prog keep (limited n T p) (Eval s) p (λ e. refl)) (limited_top [] (Some (count_at (T []) + n)) T top)) in
-      let f = follows (keeps_call step) prog g.threads in
-      let h : Hosts step (holding o None) (f.events ++ last ∷ []) z = belonging g.uncut f.events f.chain in
+      let k = tapes goes prog t [] in
+      let g : Held step goes host_of as_host fine prog keep (limited n T) (o, []) None p x V (z, k.tape) r =
+      calm step goes host_of as_host fine prog keep (limited n T) (o, []) p x V (z, k.tape) r calls
+      (held step goes host_of as_host fine prog keep k.threads (fit x calls) (entering_limits fine prog keep (limited n T p) (Eval s) p (λ e. refl)) (limited_top [] (Some (count_at (T []) + n)) T top)) in
+      let f = follows (Taped (keeps_call step)) prog g.threads in
+      let d = follows (Taped goes) prog k.threads in
+      let same : f.events ≡ d.events = sym (all_written (keeps_call step) f.chain) ∙ all_written goes d.chain in
+      let h : Hosts step (holding (host_of o) None) (f.events ++ event p (Done None r) ∷ []) (host_of z) =
+      belonging step fine prog T V (host_of o) (host_of z) p s n r g.uncut f.events (unwritten (keeps_call step) f.chain) in
       let e : (e : End) × (end_at p r ≡ Some e) = ending_at p r g.uncut in
       record {
-        replies = h.replies;
-        outs = outs_of (f.events ++ last ∷ []);
-        ending = e.0;
-        whole = whole f.events (f.runs leaving) h top e.0 e.1;
-        belongs = h.belongs;
-        ends = e.1;
-        stands = limited_top [] (limit_at (T [])) V g.top;
+        tape = k.tape;
+        says = d;
+        outside = unwritten goes d.chain;
+        whole = record {
+          replies = h.replies;
+          outs = outs_of (f.events ++ event p (Done None r) ∷ []);
+          ending = e.0;
+          whole = whole step fine prog T V (host_of o) (host_of z) p s n r f.events (f.runs (leaving step fine prog T V (host_of o) (host_of z) p s n r)) h top e.0 e.1;
+          belongs = h.belongs;
+          ends = e.1;
+          stands = limited_top [] (limit_at (T [])) V g.top;
+        };
+        taped = ap (λ τ. event p (In None (Eval s)) ∷ (τ ++ event p (Done None r) ∷ [])) same;
       }
+
+-- the same of the host by itself
+module _ {I S : Type 0} (step : S → TheirRequest → TheirReply → S → Type 0) (fine : I → Bool) (prog : Table Own I) (T V : Tree Own) (o z : S) (p : Path) (s : Text) (n : ℕ) (r : Reply) where
+  pub whole_run : KeepTops fine prog → HasTop T → Threads (Crossings (hosted step)) prog (limited n T) o p (entering prog (limited n T p) (Eval s)) V z r → WholeRun step prog T p s n o V z r
+  whole_run keep top t = (whole_tape step (Crossings (hosted step)) (λ u. u) (λ U a w ev u g. g) fine prog T V o z p s n r keep top t).whole
 
 module _ {S : Type 0} (step : S → TheirRequest → TheirReply → S → Type 0) (style : Integers) (T V : Tree Own) (o z : S) (p : Path) (s : Text) (n : ℕ) (r : Reply) (there : Node Own) where
   -- whoever stands, does with the limit too

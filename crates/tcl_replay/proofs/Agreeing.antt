@@ -20,7 +20,7 @@ use Rattle.tcl_watching.specs.Records.{RecordView}
 use Rattle.tcl_replay.specs.Worlds.{World}
 use Rattle.tcl_replay.proofs.Recorded.{at_first, at_last, run_of, stood, visited}
 
-module _ {S R : Type 0} (step : S → Request → HostReply → S → Type 0) (step2 : R → Request → HostReply → R → Type 0) (old new old2 new2 : Table) (c d : Path) (r r2 : RecordView) (w : World (hosted step) old c r new) (y : World (hosted step2) old2 d r2 new2)
+module _ {S R : Type 0} (step : S → Request → HostReply → S → Type 0) (step2 : R → Request → HostReply → R → Type 0) (old new old2 new2 : Table) (c d : Path) (r r2 : RecordView) (w : World step old c r new) (y : World step2 old2 d r2 new2)
     (style : (marks_of old).integers ≡ (marks_of old2).integers) (same : at (tree_of old) c ≡ at (tree_of old2) d) where
   abbrev first_run : Type 0
   first_run = WatchedVisit (hosted step) (language (marks_of old).integers) (limited w.limit (tree_of old)) w.before w.path (Eval w.script) c r.crossings

@@ -4,6 +4,7 @@ use Rattle.std.specs.Prelude.{Result, Ok, Err, IfOk, IfErr, IsErrOf, is_some, �
 use Rattle.tcl_core.specs.Entries.Entry.{Eval}
 use Rattle.tcl_core.specs.Paths.{Path, Text}
 use Rattle.tcl_core.specs.Trees.{Event}
+use Rattle.tcl_core.proofs.Stops.{stopping}
 use Rattle.tcl_evaluator.specs.Running.{IsRun, IsWhole, first_of, most_steps, root_count, unfit}
 use Rattle.tcl_evaluator.specs.declared.running.End.{End}
 use Rattle.tcl_evaluator.specs.declared.running.Refused.{Refused}
@@ -12,6 +13,7 @@ use Rattle.tcl_host.specs.declared.reply.HostReply.{HostReply}
 use Rattle.tcl_host.specs.declared.request.Request.{Request}
 use Rattle.tcl_isolation.specs.Visits.{visit}
 use Rattle.tcl_language.specs.Instructions.{fits}
+use Rattle.tcl_language.specs.Language.{language}
 use Rattle.tcl_run.specs.Outsides.{hosted}
 use Rattle.tcl_tree.specs.Own.{Own}
 use Rattle.tcl_tree.specs.TreeOf.{marks_of, tree_of}
@@ -19,10 +21,11 @@ use Rattle.tcl_tree.specs.declared.tree.Tree.{Tree as Table}
 use Rattle.tcl_watching.specs.Records.{RecordView}
 use Rattle.tcl_watching.specs.declared.recorder.Recorder.{Recorder}
 use Rattle.tcl_watching.proofs.Fates as fates
-use Rattle.tcl_replay.specs.Watched.{IfDeleted, IfEnds, IfRefused, IsDeletion, IsEntryRun, IsRecord, IsRecorded, Watches, answer_if, answer_of, recorder_of, unwatchable}
+use Rattle.tcl_replay.specs.Watched.{IfDeleted, IfEnds, IfRefused, IsDeletion, IsEntryRun, IsRecord, IsRecorded, Stops, Watches, answer_if, answer_of, recorder_of, unwatchable}
 use Rattle.tcl_replay.specs.declared.watching.Unwatched.{Unwatched}
 use Rattle.tcl_replay.specs.declared.watching.Unwatched.TheVariants as unwatched
-use Rattle.tcl_replay.proofs.Entered.{is_whole, stands}
+use Rattle.tcl_replay.proofs.Entered.{stands}
+use Rattle.tcl_replay.proofs.Stopped.{obeys_entry}
 
 -- ## Before it
 
@@ -67,7 +70,7 @@ module _ {S : Type 0} (step : S → Request → HostReply → S → Type 0) (old
   ended_with kept deleted = record { outside = z; kept = kept; deleted = deleted }
 
   abbrev Ran : RecordView → Bool → End → Type 0
-  Ran kept deleted e = IsEntryRun (hosted step) old (recorder_of o watched) path script limit new (ended_with kept deleted) e
+  Ran kept deleted e = IsEntryRun step old (recorder_of o watched) path script limit new (ended_with kept deleted) e
 
   no_refusal : (deleted : Bool) (e : End) (kept : RecordView) → IfRefused (answer_if deleted e kept) (λ f. (f ≡ refused.Memory) × ((marks_of new).broken ≡ true))
   no_refusal true e kept = tt
@@ -78,22 +81,22 @@ module _ {S : Type 0} (step : S → Request → HostReply → S → Type 0) (old
   ended_so false e kept run = (kept, false, refl, run)
 
   pub watches : (ended : Result End Refused) (kept : RecordView) (deleted : Bool) → IfErr ended (λ f. f ≡ refused.Memory) → (IsErrOf ended refused.Memory → (marks_of new).broken ≡ true) → IfOk ended (Ran kept deleted) →
-      Watches (hosted step) old o path script limit watched new z (answer_of ended kept deleted)
+      Watches step old o path script limit watched new z (answer_of ended kept deleted)
   watches (Ok e) kept deleted m b run = record { memory = no_refusal deleted e kept; made = ended_so deleted e kept run }
   watches (Err f) kept deleted m b run = record { memory = (m, b (ap (λ (x : Refused). Err x) m)); made = tt }
 
-  pub runs : (result : Result (End × RecordView) Unwatched) → Watches (hosted step) old o path script limit watched new z result → IfEnds result (IsRun (hosted step) old o path script (root_count old + limit) new z)
+  pub runs : (result : Result (End × RecordView) Unwatched) → Watches step old o path script limit watched new z result → IfEnds result (IsRun (hosted step) old o path script (root_count old + limit) new z)
   runs (Ok r) w = w.made.3.run
   runs (Err (unwatched.Deleted e)) w = w.made.3.run
   runs (Err (unwatched.Refused f)) w = tt
 
-  pub wholes : (result : Result (End × RecordView) Unwatched) → is_some (tree_of old path) ≡ true → IfEnds result (IsRun (hosted step) old o path script (root_count old + limit) new z) → IfEnds result (IsWhole step old o path script limit new z)
-  wholes (Ok r) there run = is_whole step old o path script limit new z r.0 there run
-  wholes (Err (unwatched.Deleted e)) there run = is_whole step old o path script limit new z e there run
-  wholes (Err (unwatched.Refused f)) there run = tt
+  pub wholes : (result : Result (End × RecordView) Unwatched) → Watches step old o path script limit watched new z result → IfEnds result (IsWhole step old o path script limit new z)
+  wholes (Ok r) w = w.made.3.whole
+  wholes (Err (unwatched.Deleted e)) w = w.made.3.whole
+  wholes (Err (unwatched.Refused f)) w = tt
 
   abbrev Recorded : List (Event Own) → End → Type 0
-  Recorded crossings e = IsRecorded (hosted step) old o path script limit watched crossings new z e
+  Recorded crossings e = IsRecorded step old o path script limit watched crossings new z e
 
   one_run : (kept : RecordView) (deleted : Bool) (e : End) → is_some (tree_of old watched) ≡ true → Ran kept deleted e → Recorded kept.crossings e
   one_run kept deleted e there run =
@@ -109,16 +112,26 @@ module _ {S : Type 0} (step : S → Request → HostReply → S → Type 0) (old
         stood = n.1;
         after = run.after;
         ends = run.ends;
+        whole = run.whole;
+        taped = run.taped;
       }
 
-  its_record : (kept : RecordView) (deleted : Bool) (e : End) → is_some (tree_of old watched) ≡ true → Ran kept deleted e → deleted ≡ false → IsRecord (hosted step) old o path script limit watched kept new z e
+  its_record : (kept : RecordView) (deleted : Bool) (e : End) → is_some (tree_of old watched) ≡ true → Ran kept deleted e → deleted ≡ false → IsRecord step old o path script limit watched kept new z e
   unfolding one_run
   its_record kept deleted e there run f = (
     ap (λ (k : RecordView). k.watched) run.entry.kept,
     (one_run kept deleted e there run, fates.spared watched (visit path (Eval script) run.entry.events run.reply) (sym run.entry.fate ∙ f), tt),
   )
 
-  its_deletion : (kept : RecordView) (deleted : Bool) (e : End) → is_some (tree_of old watched) ≡ true → Ran kept deleted e → deleted ≡ true → IsDeletion (hosted step) old o path script limit watched new z e
+  its_stops : (kept : RecordView) (deleted : Bool) (e : End) → is_some (tree_of old watched) ≡ true → Ran kept deleted e → deleted ≡ false → Stops step old o path script limit watched kept new z e
+  unfolding one_run
+  its_stops kept deleted e there run f = (
+    one_run kept deleted e there run,
+    fates.spared watched (visit path (Eval script) run.entry.events run.reply) (sym run.entry.fate ∙ f),
+    obeys_entry Own watched run.entry.events path path None None (Eval script) run.reply (stopping (language (marks_of old).integers) watched path _ _ _ _ run.runs refl),
+  )
+
+  its_deletion : (kept : RecordView) (deleted : Bool) (e : End) → is_some (tree_of old watched) ≡ true → Ran kept deleted e → deleted ≡ true → IsDeletion step old o path script limit watched new z e
   unfolding one_run
   its_deletion kept deleted e there run f = (
     kept.crossings,
@@ -134,21 +147,28 @@ module _ {S : Type 0} (step : S → Request → HostReply → S → Type 0) (old
   deleted_is x kept true e = refl
   deleted_is x kept false e = absurd cc
 
-  pub records : (result : Result (End × RecordView) Unwatched) → is_some (tree_of old watched) ≡ true → Watches (hosted step) old o path script limit watched new z result →
-      IfOk result (λ r. IsRecord (hosted step) old o path script limit watched r.1 new z r.0)
+  pub records : (result : Result (End × RecordView) Unwatched) → is_some (tree_of old watched) ≡ true → Watches step old o path script limit watched new z result →
+      IfOk result (λ r. IsRecord step old o path script limit watched r.1 new z r.0)
   records (Ok r) there w =
       let is = ok_is r w.made.0 w.made.1 w.made.2 in
-      subst (λ (k : RecordView). IsRecord (hosted step) old o path script limit watched k new z r.0) is.1 (its_record w.made.0 w.made.1 r.0 there w.made.3 is.0)
+      subst (λ (k : RecordView). IsRecord step old o path script limit watched k new z r.0) is.1 (its_record w.made.0 w.made.1 r.0 there w.made.3 is.0)
   records (Err f) there w = tt
 
-  pub deletions : (result : Result (End × RecordView) Unwatched) → is_some (tree_of old watched) ≡ true → Watches (hosted step) old o path script limit watched new z result →
-      IfDeleted result (IsDeletion (hosted step) old o path script limit watched new z)
+  pub stops : (result : Result (End × RecordView) Unwatched) → is_some (tree_of old watched) ≡ true → Watches step old o path script limit watched new z result →
+      IfOk result (λ r. Stops step old o path script limit watched r.1 new z r.0)
+  stops (Ok r) there w =
+      let is = ok_is r w.made.0 w.made.1 w.made.2 in
+      subst (λ (k : RecordView). Stops step old o path script limit watched k new z r.0) is.1 (its_stops w.made.0 w.made.1 r.0 there w.made.3 is.0)
+  stops (Err f) there w = tt
+
+  pub deletions : (result : Result (End × RecordView) Unwatched) → is_some (tree_of old watched) ≡ true → Watches step old o path script limit watched new z result →
+      IfDeleted result (IsDeletion step old o path script limit watched new z)
   deletions (Ok r) there w = tt
   deletions (Err (unwatched.Deleted x)) there w = its_deletion w.made.0 w.made.1 x there w.made.3 (deleted_is x w.made.0 w.made.1 w.made.2)
   deletions (Err (unwatched.Refused f)) there w = tt
 
   -- what follows of a record
-  pub follows : (P : RecordView → End → Type 0) (result : Result (End × RecordView) Unwatched) → IfOk result (λ r. IsRecord (hosted step) old o path script limit watched r.1 new z r.0) →
-      ((r : RecordView) (e : End) → IsRecord (hosted step) old o path script limit watched r new z e → P r e) → IfOk result (λ r. P r.1 r.0)
+  pub follows : (P : RecordView → End → Type 0) (result : Result (End × RecordView) Unwatched) → IfOk result (λ r. IsRecord step old o path script limit watched r.1 new z r.0) →
+      ((r : RecordView) (e : End) → IsRecord step old o path script limit watched r new z e → P r e) → IfOk result (λ r. P r.1 r.0)
   follows P (Ok r) w k = k r.1 r.0 w
   follows P (Err f) w k = tt

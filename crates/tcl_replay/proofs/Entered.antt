@@ -1,20 +1,25 @@
 -- A run with a recorder, and the run without it.
-use Rattle.std.proofs.Common.{◌≡◌, ◌∙◌, ℕ, ◌+◌, Bool, true, false, [], ◌∷◌, Option, None, Some, refl, sym, ap, subst}
+use Rattle.std.proofs.Common.{◌≡◌, ◌∙◌, ℕ, ◌+◌, Bool, true, false, List, [], ◌∷◌, ◌++◌, Option, None, Some, refl, sym, ap, subst}
 use Rattle.std.specs.Prelude.{Result, Ok, Err, IfOk, is_some, nat_le}
+use Rattle.tcl_core.specs.Endings.{Reply}
 use Rattle.tcl_core.specs.Entries.Entry.{Eval}
-use Rattle.tcl_core.specs.Lives.{End as Ending, Whole, limited, unlimited}
+use Rattle.tcl_core.specs.Lives.{End as Ending, limited}
 use Rattle.tcl_core.specs.Paths.{Path, Text}
-use Rattle.tcl_core.specs.Runs.{entering}
-use Rattle.tcl_core.specs.Threads.{event}
-use Rattle.tcl_core.specs.Trees.{Tree, Node, effect, with_limit}
+use Rattle.tcl_core.specs.Runs.{Runs, entering}
+use Rattle.tcl_core.specs.Programs.{Wait}
+use Rattle.tcl_core.specs.Threads.{Chain, Crossings, before, event}
+use Rattle.tcl_core.specs.Trees.{Event, Tree, Node, effect, with_limit}
 use Rattle.tcl_core.specs.Trees.What.{Limited, In, Done}
+use Rattle.tcl_core.proofs.Following.{ahead-all, nothing}
 use Rattle.tcl_core.proofs.PathLaws.{Some-inj}
+use Rattle.tcl_core.proofs.RuleLaws.{derived_runs}
 use Rattle.tcl_host.specs.declared.reply.HostReply.{HostReply}
 use Rattle.tcl_host.specs.declared.request.Request.{Request}
 use Rattle.tcl_hosting.specs.Language.{leaves_steps}
-use Rattle.tcl_hosting.specs.Laws.{WholeRun}
+use Rattle.tcl_hosting.specs.Replies.{Belongs}
 use Rattle.tcl_hosting.proofs.Limiting.{language_keeps_tops}
-use Rattle.tcl_hosting.proofs.Wholes.{whole_run}
+use Rattle.tcl_hosting.proofs.Taping.{Taped}
+use Rattle.tcl_hosting.proofs.Wholes.{WholeTape, whole_tape}
 use Rattle.tcl_language.specs.Instructions.{fits}
 use Rattle.tcl_language.specs.Language.{language}
 use Rattle.tcl_language.specs.Table.{serve}
@@ -26,15 +31,16 @@ use Rattle.tcl_tree.specs.Own.{Own}
 use Rattle.tcl_tree.specs.TreeOf.{tree_of, marks_of}
 use Rattle.tcl_tree.specs.declared.tree.Tree.{Tree as Table}
 use Rattle.tcl_tree.proofs.CoreLemmas.{top_there}
-use Rattle.tcl_evaluator.specs.Running.{IsOpenRun, IsRun, IsWhole, ending_of, first_of, most_steps, root_count, unfit}
+use Rattle.tcl_evaluator.specs.Running.{IsOpenRun, ending_of, first_of, most_steps, root_count, unfit}
 use Rattle.tcl_evaluator.specs.declared.running.End.{End}
 use Rattle.tcl_evaluator.specs.declared.running.Refused.{Refused}
 use Rattle.tcl_evaluator.specs.declared.running.Refused.TheVariants as refused
-use Rattle.tcl_watching.specs.Laws.{WatchedEntry}
-use Rattle.tcl_watching.specs.Recording.{noted, recorded}
+use Rattle.tcl_watching.specs.Laws.{IsWatched}
+use Rattle.tcl_watching.specs.Recording.{crossed, noted, recorded}
 use Rattle.tcl_watching.specs.declared.recorder.Recorder.{Recorder}
-use Rattle.tcl_watching.proofs.Visits.{watched_entry}
-use Rattle.tcl_watching.proofs.Watched.{unwatched}
+use Rattle.tcl_watching.proofs.Fates.{fate_parts}
+use Rattle.tcl_watching.proofs.Visits.{after_parts, visits}
+use Rattle.tcl_watching.proofs.Watched.{after_one, step as recorder_step, unwatched, watched}
 use Rattle.tcl_replay.specs.Watched.{IsEntryRun}
 
 pub stands : {A : Type 0} (o : Option A) → is_some o ≡ true → (a : A) × (o ≡ Some a)
@@ -55,56 +61,92 @@ first_there false false c s e = let x : Some refused.NoInterpreter ≡ None = e 
 pub fit_there : (t : Table) (path : Path) (script : Text) (limit : ℕ) → unfit t path script limit ≡ None → is_some (tree_of t path) ≡ true
 fit_there t path script limit e = first_there (marks_of t).broken (is_some (tree_of t path)) (nat_le (root_count t + limit) most_steps) (fits script) e
 
+-- a recorder goes by steps of the host that it holds
+along : {S : Type 0} (step : S → Request → HostReply → S → Type 0) (T : Tree Own) (o : Recorder S) (s : Wait) (ev : Event Own) (u : Recorder S) → Crossings (recorded (hosted step)) T o s ev u → Crossings (hosted step) T o.outside s ev u.outside
+along step T o s ev u g = (recorder_step (hosted step) T o s ev u g).outside
+
 module _ {S : Type 0} (step : S → Request → HostReply → S → Type 0) (old : Table) (o : Recorder S) (path : Path) (script : Text) (limit : ℕ) (new : Table) (z : Recorder S) where
-  entry_run : (e : End) → is_some (tree_of old path) ≡ true →
-      IsOpenRun (recorded (hosted step)) old (noted o (event path (In None (Eval script)))) path script (root_count old + limit) new z e → IsEntryRun (hosted step) old o path script limit new z e
-  entry_run e there run =
-      let style : Integers = (marks_of old).integers in
+  abbrev style : Integers
+  style = (marks_of old).integers
+
+  -- the tree with the limit of the run
+  abbrev T0 : Tree Own
+  T0 = limited limit (tree_of old)
+
+  abbrev first : Event Own
+  first = event path (In None (Eval script))
+
+  abbrev last : Reply → Event Own
+  last r = event path (Done None r)
+
+  abbrev Opened : End → Type 0
+  Opened e = IsOpenRun (recorded (hosted step)) old (noted o first) path script (root_count old + limit) new z e
+
+  -- the run from its entry on
+  entered : (e : End) → is_some (tree_of old path) ≡ true → (run : Opened e) → Comes (recorded (hosted step)) (language style) T0 (noted o first) path (entering (language style) (T0 path) (Eval script)) run.during run.between run.reply
+  entered e there run =
       let n : (n : Node Own) × (tree_of old path ≡ Some n) = stands (tree_of old path) there in
-      let m : (m : Node Own) × (limited limit (tree_of old) path ≡ Some m) = still_stands (tree_of old) (Some (root_count old + limit)) path n.0 n.1 in
-      let entered : Comes (recorded (hosted step)) (language style) (limited limit (tree_of old)) (noted o (event path (In None (Eval script)))) path (entering (language style) (limited limit (tree_of old) path) (Eval script)) run.during run.between run.reply =
-      at_prog (ap (λ x. entering (language style) x (Eval script)) m.1) run.runs in
-      let w : WatchedEntry (hosted step) (language style) (limited limit (tree_of old)) o path (Eval script) run.during (noted run.between (event path (Done None run.reply))) run.reply =
-      watched_entry (hosted step) (language style) (limited limit (tree_of old)) run.during o run.between path (Eval script) run.reply entered in
-      let stays : z.outside ≡ run.between.outside = run.told.outside in
-      let same : z ≡ noted run.between (event path (Done None run.reply)) = (λ i. record { outside = stays i; kept = run.told.kept i; deleted = run.told.fate i }) in
-      let plain : Comes (hosted step) (language style) (limited limit (tree_of old)) o.outside path (serve style (Eval script)) run.during run.between.outside run.reply =
-      unwatched (hosted step) (language style) (limited limit (tree_of old)) run.during (noted o (event path (In None (Eval script)))) run.between path (serve style (Eval script)) run.reply run.runs in
+      let m : (m : Node Own) × (T0 path ≡ Some m) = still_stands (tree_of old) (Some (root_count old + limit)) path n.0 n.1 in
+      at_prog (ap (λ x. entering (language style) x (Eval script)) m.1) run.runs
+
+  -- the whole evaluation with the same tape
+  abbrev Wholly : (e : End) → Opened e → Type 0
+  Wholly e run = WholeTape step (Crossings (recorded (hosted step))) (λ (u : Recorder S). u.outside) (language style) (tree_of old) path script limit (noted o first) run.during run.between run.reply
+
+  wholly : (e : End) → is_some (tree_of old path) ≡ true → (run : Opened e) → Wholly e run
+  wholly e there run =
+      whole_tape step (Crossings (recorded (hosted step))) (λ (u : Recorder S). u.outside) (along step) leaves_steps (language style) (tree_of old) run.during (noted o first) run.between path script limit run.reply
+      (language_keeps_tops style) (stands (tree_of old []) (top_there old)) (entered e there run)
+
+  -- what is recorded over that tape
+  watched_so : (e : End) (run : Opened e) (w : Wholly e run) → IsWatched (hosted step) T0 (noted o first) w.says.events run.during run.between
+  watched_so e run w = watched (hosted step) T0 run.during (noted o first) run.between w.says.events w.outside
+
+  plain : (e : End) (run : Opened e) → Comes (hosted step) (language style) T0 o.outside path (serve style (Eval script)) run.during z.outside run.reply
+  plain e run =
+      subst (λ (u : S). Comes (hosted step) (language style) T0 o.outside path (serve style (Eval script)) run.during u run.reply) (sym run.told.outside)
+      (unwatched (hosted step) (language style) T0 run.during (noted o first) run.between path (serve style (Eval script)) run.reply run.runs)
+
+  entry_run : (e : End) → is_some (tree_of old path) ≡ true → Opened e → IsEntryRun step old o path script limit new z e
+  entry_run e there run =
+      let w = wholly e there run in
+      let all = watched_so e run w in
+      let τ : List (Event Own) = w.says.events in
+      let same : w.whole.ending ≡ ending_of e = Some-inj w.whole.ending (sym w.whole.ends ∙ run.ends) in
       record {
         during = run.during;
         reply = run.reply;
-        entry = subst (λ (u : Recorder S). WatchedEntry (hosted step) (language style) (limited limit (tree_of old)) o path (Eval script) run.during u run.reply) (sym same) w;
-        run = record {
-          during = run.during;
-          reply = run.reply;
-          runs = subst (λ (u : S). Comes (hosted step) (language style) (limited limit (tree_of old)) o.outside path (serve style (Eval script)) run.during u run.reply) (sym stays) plain;
-          after = run.after;
-          ends = run.ends;
+        entry = record {
+          events = τ;
+          visits = visits (Taped (Crossings (recorded (hosted step)))) (language style) path (Eval script) w.says;
+          outside = subst (λ (u : S). Chain (Crossings (hosted step)) T0 o.outside τ run.during u) (sym run.told.outside) all.outside;
+          kept = run.told.kept ∙ ap (λ k. crossed k (last run.reply)) all.kept ∙ after_parts (crossed o.kept first) τ (last run.reply ∷ []) ∙ after_one o.kept first (τ ++ last run.reply ∷ []);
+          fate = run.told.fate ∙ all.fate ∙ sym (fate_parts o.deleted o.kept.watched τ (last run.reply ∷ []));
         };
+        runs = subst (λ v. Runs (language style) v path (entering (language style) (T0 path) (Eval script)) (before run.during []) (Some run.reply)) (ahead-all T0 τ) (derived_runs (language style) (w.says.runs nothing));
+        run = record { during = run.during; reply = run.reply; runs = plain e run; after = run.after; ends = run.ends };
         after = run.after;
         ends = run.ends;
+        whole = record {
+          replies = w.whole.replies;
+          outs = w.whole.outs;
+          whole = record {
+            tape = w.whole.whole.tape;
+            last = w.whole.whole.last;
+            reply = w.whole.whole.reply;
+            run = w.whole.whole.run;
+            all_read = w.whole.whole.all_read;
+            all_done = w.whole.whole.all_done;
+            ends = w.whole.whole.ends ∙ ap (λ (x : Ending). Some x) same;
+            told = w.whole.whole.told;
+            left = run.after ∙ w.whole.whole.left;
+          };
+          belongs = subst (λ (u : S). Belongs step o.outside w.whole.outs w.whole.replies u) (sym run.told.outside) w.whole.belongs;
+        };
+        taped = w.taped;
       }
 
   pub if_entry : (r : Result End Refused) → unfit old path script limit ≡ None → IfOk r (IsOpenRun (recorded (hosted step)) old (noted o (event path (In None (Eval script)))) path script (root_count old + limit) new z) →
-      IfOk r (IsEntryRun (hosted step) old o path script limit new z)
+      IfOk r (IsEntryRun step old o path script limit new z)
   if_entry (Ok e) fit run = entry_run e (fit_there old path script limit fit) run
   if_entry (Err f) fit run = tt
-
-module _ {S : Type 0} (step : S → Request → HostReply → S → Type 0) (old : Table) (o : S) (path : Path) (script : Text) (limit : ℕ) (new : Table) (z : S) where
-  pub is_whole : (e : End) → is_some (tree_of old path) ≡ true → IsRun (hosted step) old o path script (root_count old + limit) new z e → IsWhole step old o path script limit new z e
-  is_whole e there run =
-      let style : Integers = (marks_of old).integers in
-      let n : (n : Node Own) × (tree_of old path ≡ Some n) = stands (tree_of old path) there in
-      let m : (m : Node Own) × (limited limit (tree_of old) path ≡ Some m) = still_stands (tree_of old) (Some (root_count old + limit)) path n.0 n.1 in
-      let entered : Comes (hosted step) (language style) (limited limit (tree_of old)) o path (entering (language style) (limited limit (tree_of old) path) (Eval script)) run.during z run.reply =
-      at_prog (ap (λ x. entering (language style) x (Eval script)) m.1) run.runs in
-      let w : WholeRun step (language style) (tree_of old) path script limit o run.during z run.reply =
-      whole_run step leaves_steps (language style) (tree_of old) run.during o z path script limit run.reply (language_keeps_tops style) (stands (tree_of old []) (top_there old)) entered in
-      let same : w.ending ≡ ending_of e = Some-inj w.ending (sym w.ends ∙ run.ends) in
-      record {
-        replies = w.replies;
-        outs = w.outs;
-        whole = subst (λ (T : Tree Own). Whole (language style) (tree_of old) path script limit w.replies (ending_of e) w.outs T) (sym run.after)
-            (subst (λ (x : Ending). Whole (language style) (tree_of old) path script limit w.replies x w.outs (unlimited (tree_of old) run.during)) same w.whole);
-        belongs = w.belongs;
-      }

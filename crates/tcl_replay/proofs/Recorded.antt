@@ -32,7 +32,7 @@ use Rattle.tcl_replay.proofs.Safety.{safe_below, safe_limited}
 
 module _ {S : Type 0} (step : S → Request → HostReply → S → Type 0) (old : Table) (o : S) (path : Path) (script : Text) (limit : ℕ) (c : Path) (r : RecordView) (new : Table) (z : S) (e : End) where
   abbrev pub One : Type 0
-  One = IsRecord (hosted step) old o path script limit c r new z e
+  One = IsRecord step old o path script limit c r new z e
 
   abbrev style : Integers
   style = (marks_of old).integers
@@ -41,7 +41,7 @@ module _ {S : Type 0} (step : S → Request → HostReply → S → Type 0) (old
   abbrev T0 : Tree Own
   T0 = limited limit (tree_of old)
 
-  abbrev pub run_of : One → IsRecorded (hosted step) old o path script limit c r.crossings new z e
+  abbrev pub run_of : One → IsRecorded step old o path script limit c r.crossings new z e
   run_of w = w.1.0
 
   pub visited : (w : One) → WatchedVisit (hosted step) (language style) T0 o path (Eval script) c r.crossings (run_of w).during z (run_of w).reply
@@ -103,7 +103,7 @@ module _ {S : Type 0} (step : S → Request → HostReply → S → Type 0) (old
   asks_nothing law w f a p m =
       law style T0 (run_of w).during o z path (Eval script) c r.crossings (run_of w).reply (visited w) f safe_trees (safe_first f a) (subst (ArePlain plain) (sym (at_first f)) p) m
 
-  pub counts : One → Counts (hosted step) old o path script limit c r new z e
+  pub counts : One → Counts step old o path script limit c r new z e
   unfolding visited
   counts w f =
       let h : count_at ((run_of w).during c) ≡ (run_of w).node.count + steps_of (view c (visit path (Eval script) (run_of w).events (run_of w).reply)) =
@@ -119,7 +119,7 @@ module _ {S : Type 0} (step : S → Request → HostReply → S → Type 0) (old
   finally : (w : One) (l b : ℕ) → IsBelowTheTop c → IsWithin ((run_of w).during c) l b → IsWithin (tree_of new c) l b
   finally w l b f h = subst (λ (x : Option (Node Own)). IsWithin x l b) (sym (same_last w f)) h
 
-  pub stays_within : One → CountStaysWithin (hosted step) old o path script limit c r new z e
+  pub stays_within : One → CountStaysWithin step old o path script limit c r new z e
   unfolding visited
   stays_within w f = (
     run_of w,
@@ -139,7 +139,7 @@ module _ {S : Type 0} (step : S → Request → HostReply → S → Type 0) (old
   last_below : (w : One) → IsBelowTheTop c → (q : Path) → tree_of new (c ++ q) ≡ (run_of w).during (c ++ q)
   last_below w f q = ap (λ (U : Tree Own). U q) (at_last w f)
 
-  pub limits_stay : laws.LimitsStay (hosted step) → One → LimitsStay (hosted step) old o path script limit c r new z e
+  pub limits_stay : laws.LimitsStay (hosted step) → One → LimitsStay step old o path script limit c r new z e
   unfolding visited
   limits_stay law w f a = (
     λ u n is.

@@ -2,27 +2,29 @@
 use Rattle.std.specs.Prelude.{◌≡◌, ℕ, ◌≤◌, ◌+◌, ◌&&◌, Bool, true, false, List, [], ◌++◌, nat_le, Option, Some, None, is_some, Result, Ok, Err}
 use Rattle.tcl_core.specs.Endings.{Reply}
 use Rattle.tcl_core.specs.Entries.Entry.{Eval}
-use Rattle.tcl_core.specs.Laws.{AreFree, ArePlain, AsLimited, AsksNothing, IsLowering, IsSafeAt, IsSpared, IsStanding, IsUnended, Unasked, rest}
+use Rattle.tcl_core.specs.Laws.{AreFree, ArePlain, AsLimited, AsksNothing, IsLowering, IsSafeAt, IsSpared, IsStanding, IsUnended, Obeys, Unasked, rest}
 use Rattle.tcl_core.specs.Lives.{Outcome, React, count_at, end_at, limit_at, limited, outcome_of, outs_of}
 use Rattle.tcl_core.specs.Lives.Outcome.{Finished}
 use Rattle.tcl_core.specs.Paths.{Path, Text}
-use Rattle.tcl_core.specs.Runs.{Runs, Visits}
+use Rattle.tcl_core.specs.Runs.{Runs, Visits, entering}
 use Rattle.tcl_core.specs.Tables.{exposes}
 use Rattle.tcl_core.specs.Threads.{Chain, Crossings, before}
 use Rattle.tcl_core.specs.Trees.{Event, Node, Tree, at, effect}
 use Rattle.tcl_core.specs.Trees.What.{Limited}
 use Rattle.tcl_core.specs.Views.{moves_of, steps_of, view}
-use Rattle.tcl_evaluator.specs.Running.{IsRun, ending_of, first_of, most_steps, root_count, root_limit}
+use Rattle.tcl_evaluator.specs.Running.{IsRun, IsWhole, ending_of, first_of, most_steps, root_count, root_limit}
 use Rattle.tcl_evaluator.specs.declared.running.End.{End}
 use Rattle.tcl_evaluator.specs.declared.running.Refused.{Refused}
 use Rattle.tcl_evaluator.specs.declared.running.Refused.TheVariants as refused
+use Rattle.tcl_host.specs.declared.reply.HostReply.{HostReply}
+use Rattle.tcl_host.specs.declared.request.Request.{Request}
 use Rattle.tcl_isolation.specs.Laws.{IsWithin, Suffices}
 use Rattle.tcl_isolation.specs.Limits.{AreLowering}
 use Rattle.tcl_isolation.specs.Visits.{CallsNobody, IsBelowTheTop, visit}
 use Rattle.tcl_language.specs.Instructions.{fits}
 use Rattle.tcl_language.specs.Language.{language}
 use Rattle.tcl_language.specs.Safety.{plain}
-use Rattle.tcl_run.specs.Outsides.{Going}
+use Rattle.tcl_run.specs.Outsides.{hosted}
 use Rattle.tcl_tree.specs.Own.{Own}
 use Rattle.tcl_tree.specs.TreeOf.{marks_of, tree_of}
 use Rattle.tcl_tree.specs.declared.tree.Tree.{Tree as Table}
@@ -72,28 +74,30 @@ IfRefused (Err (unwatched.Refused f)) P = P f
 -- ## The run and its record
 
 -- A run of the script is one entry into the interpreter at the path, in the tree whose root may be counted so many steps more; then the root has its own limit
--- again. This happens in it, it takes the outside from one state to the other, and the crossings are those of the boundary of the interpreter at `watched`,
--- which stood there at first.
-pub record IsRecorded {S : Type 0} (goes : Going S) (old : Table) (o : S) (path : Path) (script : Text) (limit : ℕ) (watched : Path) (crossings : List (Event Own)) (new : Table) (z : S) (e : End) : Type 0 where
+-- again. This happens in it, it takes the host from one state to the other, and the crossings are those of the boundary of the interpreter at `watched`,
+-- which stood there at first. Just this is what happens in the whole evaluation of the script, with replies that belong to the host.
+pub record IsRecorded {S : Type 0} (step : S → Request → HostReply → S → Type 0) (old : Table) (o : S) (path : Path) (script : Text) (limit : ℕ) (watched : Path) (crossings : List (Event Own)) (new : Table) (z : S) (e : End) : Type 0 where
   pub during : Tree Own
   pub reply : Reply
   pub events : List (Event Own)
   pub visits : Visits (language (marks_of old).integers) (Runs (language (marks_of old).integers)) (before (limited limit (tree_of old)) (visit path (Eval script) events reply)) None path (Eval script) (before during []) (Some reply)
-  pub outside : Chain (Crossings goes) (limited limit (tree_of old)) o events during z
+  pub outside : Chain (Crossings (hosted step)) (limited limit (tree_of old)) o events during z
   pub recorded : crossings ≡ boundary watched (visit path (Eval script) events reply)
   pub node : Node Own
   pub stood : tree_of old watched ≡ Some node
   pub after : tree_of new ≡ effect [] (Limited (root_limit old)) during
   pub ends : end_at path reply ≡ Some (ending_of e)
+  pub whole : IsWhole step old o path script limit new z e
+  pub taped : whole.whole.tape ≡ visit path (Eval script) events reply
 
-module _ {S : Type 0} (goes : Going S) (old : Table) (o : S) (path : Path) (script : Text) (limit : ℕ) (watched : Path) where
+module _ {S : Type 0} (step : S → Request → HostReply → S → Type 0) (old : Table) (o : S) (path : Path) (script : Text) (limit : ℕ) (watched : Path) where
   -- all that happened in it, from the entry to its end
-  abbrev pub happened : (crossings : List (Event Own)) (new : Table) (z : S) (e : End) → IsRecorded goes old o path script limit watched crossings new z e → List (Event Own)
+  abbrev pub happened : (crossings : List (Event Own)) (new : Table) (z : S) (e : End) → IsRecorded step old o path script limit watched crossings new z e → List (Event Own)
   happened crossings new z e w = visit path (Eval script) w.events w.reply
 
   -- There is such a run in which the watched interpreter isn't dropped, and of which this is so.
   abbrev pub IsRecordWith : (crossings : List (Event Own)) (new : Table) (z : S) (e : End) → (List (Event Own) → Type 0) → Type 0
-  IsRecordWith crossings new z e P = (w : IsRecorded goes old o path script limit watched crossings new z e) × IsSpared watched (happened crossings new z e w) × P (happened crossings new z e w)
+  IsRecordWith crossings new z e P = (w : IsRecorded step old o path script limit watched crossings new z e) × IsSpared watched (happened crossings new z e w) × P (happened crossings new z e w)
 
   -- The record has the crossings of the watched interpreter's boundary in the run, in which that one isn't dropped.
   abbrev pub IsRecord : RecordView → Table → S → End → Type 0
@@ -101,7 +105,7 @@ module _ {S : Type 0} (goes : Going S) (old : Table) (o : S) (path : Path) (scri
 
   -- There is such a run in which the watched interpreter is dropped.
   abbrev pub IsDeletion : Table → S → End → Type 0
-  IsDeletion new z e = (crossings : List (Event Own)) × (w : IsRecorded goes old o path script limit watched crossings new z e) × (IsSpared watched (happened crossings new z e w) → Prim.⊥)
+  IsDeletion new z e = (crossings : List (Event Own)) × (w : IsRecorded step old o path script limit watched crossings new z e) × (IsSpared watched (happened crossings new z e w) → Prim.⊥)
 
 -- ## What the watched interpreter does by itself
 
@@ -135,15 +139,20 @@ AsksTheHostNothing old c crossings = IsBelowTheTop c → IsSafeAt (tree_of old) 
 
 -- ## Counted steps
 
-module _ {S : Type 0} (goes : Going S) (old : Table) (o : S) (path : Path) (script : Text) (limit : ℕ) (c : Path) where
+module _ {S : Type 0} (step : S → Request → HostReply → S → Type 0) (old : Table) (o : S) (path : Path) (script : Text) (limit : ℕ) (c : Path) where
   -- The watched interpreter's count rises by the steps that were made in its subtree.
   abbrev pub Counts : RecordView → Table → S → End → Type 0
-  Counts r new z e = IsBelowTheTop c → IsRecordWith goes old o path script limit c r.crossings new z e (λ τ. count_at (tree_of new c) ≡ count_at (tree_of old c) + steps_of (view c τ))
+  Counts r new z e = IsBelowTheTop c → IsRecordWith step old o path script limit c r.crossings new z e (λ τ. count_at (tree_of new c) ≡ count_at (tree_of old c) + steps_of (view c τ))
+
+  -- Once a stop that names the watched interpreter or one above it is raised in its subtree, or comes into it as an answer, no step is made there before the
+  -- stop has left it.
+  abbrev pub Stops : RecordView → Table → S → End → Type 0
+  Stops r new z e = IsRecordWith step old o path script limit c r.crossings new z e (λ τ. Obeys c τ)
 
   -- With a count limit that nothing in the run raises or takes away, it is counted at most to the greater of the limit and the count before: to each number
   -- that both are at most.
   abbrev pub CountStaysWithin : RecordView → Table → S → End → Type 0
-  CountStaysWithin r new z e = IsBelowTheTop c → IsRecordWith goes old o path script limit c r.crossings new z e
+  CountStaysWithin r new z e = IsBelowTheTop c → IsRecordWith step old o path script limit c r.crossings new z e
       (λ τ. (l b : ℕ) → limit_at (tree_of old c) ≡ Some l → IsLowering l c τ → l ≤ b → count_at (tree_of old c) ≤ b → IsWithin (tree_of new c) l b)
 
   -- an interpreter that stands has the limits that it had
@@ -155,7 +164,7 @@ module _ {S : Type 0} (goes : Going S) (old : Table) (o : S) (path : Path) (scri
   abbrev pub LimitsStay : RecordView → Table → S → End → Type 0
   LimitsStay r new z e = IsBelowTheTop c → IsSafeAt (tree_of old) c →
       (Unasked [] (moves_of r.crossings) → KeepsLimits (tree_of old c) (tree_of new c)) ×
-      IsRecordWith goes old o path script limit c r.crossings new z e
+      IsRecordWith step old o path script limit c r.crossings new z e
       (λ τ. (q : Path) → Unasked q (moves_of r.crossings) → AsLimited (tree_of old (c ++ q)) (tree_of new (c ++ q)) × (IsStanding (c ++ q) τ → KeepsLimits (tree_of old (c ++ q)) (tree_of new (c ++ q))))
 
 -- With a count limit that no entry of the record raises or takes away, a safe watched interpreter is counted at most to the greater of the limit and the count
@@ -166,21 +175,24 @@ ScriptsStayWithin old c crossings new = IsBelowTheTop c → IsSafeAt (tree_of ol
 
 -- ## One fact of the run, from which the rest follows
 
--- The run with a recorder, which is told of its entry and of its end.
-pub record IsEntryRun {S : Type 0} (goes : Going S) (old : Table) (o : Recorder S) (path : Path) (script : Text) (limit : ℕ) (new : Table) (z : Recorder S) (e : End) : Type 0 where
+-- The run with a recorder, which is told of its entry and of its end; and the whole evaluation in which the same happens.
+pub record IsEntryRun {S : Type 0} (step : S → Request → HostReply → S → Type 0) (old : Table) (o : Recorder S) (path : Path) (script : Text) (limit : ℕ) (new : Table) (z : Recorder S) (e : End) : Type 0 where
   pub during : Tree Own
   pub reply : Reply
-  pub entry : WatchedEntry goes (language (marks_of old).integers) (limited limit (tree_of old)) o path (Eval script) during z reply
-  pub run : IsRun goes old o.outside path script (root_count old + limit) new z.outside e
+  pub entry : WatchedEntry (hosted step) (language (marks_of old).integers) (limited limit (tree_of old)) o path (Eval script) during z reply
+  pub runs : Runs (language (marks_of old).integers) (before (limited limit (tree_of old)) entry.events) path (entering (language (marks_of old).integers) (limited limit (tree_of old) path) (Eval script)) (before during []) (Some reply)
+  pub run : IsRun (hosted step) old o.outside path script (root_count old + limit) new z.outside e
   pub after : tree_of new ≡ effect [] (Limited (root_limit old)) during
   pub ends : end_at path reply ≡ Some (ending_of e)
+  pub whole : IsWhole step old o.outside path script limit new z.outside e
+  pub taped : whole.whole.tape ≡ visit path (Eval script) entry.events reply
 
 -- the run with a recorder of the interpreter at a path, which holds the outside and has no crossing yet
 abbrev pub recorder_of : {S : Type 0} → S → Path → Recorder S
 recorder_of o watched = record { outside = o; kept = record { watched = watched; crossings = [] }; deleted = false }
 
 -- what an evaluation answers that was recorded: memory was wanted, or there was such a run
-pub record Watches {S : Type 0} (goes : Going S) (old : Table) (o : S) (path : Path) (script : Text) (limit : ℕ) (watched : Path) (new : Table) (z : S) (result : Result (End × RecordView) Unwatched) : Type 0 where
+pub record Watches {S : Type 0} (step : S → Request → HostReply → S → Type 0) (old : Table) (o : S) (path : Path) (script : Text) (limit : ℕ) (watched : Path) (new : Table) (z : S) (result : Result (End × RecordView) Unwatched) : Type 0 where
   pub memory : IfRefused result (λ f. (f ≡ refused.Memory) × ((marks_of new).broken ≡ true))
   pub made : IfEnds result (λ e. (kept : RecordView) × (deleted : Bool) × (result ≡ answer_if deleted e kept) ×
-      IsEntryRun goes old (recorder_of o watched) path script limit new (record { outside = z; kept = kept; deleted = deleted }) e)
+      IsEntryRun step old (recorder_of o watched) path script limit new (record { outside = z; kept = kept; deleted = deleted }) e)

@@ -9,7 +9,7 @@ ghost use Rattle.tcl_language.specs.Instructions.{fits};
 ghost use Rattle.tcl_run.specs.Outsides.{hosted};
 ghost use Rattle.tcl_tree.specs.TreeOf.{marks_of, tree_of};
 ghost use Rattle.tcl_watching.specs.Recording.{noted};
-ghost use Rattle.tcl_replay.specs.Watched.{AsksTheHostNothing, Counts, CountStaysWithin, IfDeleted, IfEnds, IfRefused, IsDeletion, IsEntryRun, IsRecord, LeavesTheOutside, LimitsStay, Reacts, ReactsSo, ReactsUntil, ScriptsStayWithin, Watches, answer_of, unwatchable};
+ghost use Rattle.tcl_replay.specs.Watched.{AsksTheHostNothing, Counts, CountStaysWithin, IfDeleted, IfEnds, IfRefused, IsDeletion, IsEntryRun, IsRecord, LeavesTheOutside, LimitsStay, Reacts, ReactsSo, ReactsUntil, ScriptsStayWithin, Stops, Watches, answer_of, unwatchable};
 ghost use Rattle.tcl_replay.specs.declared.watching.Unwatched.TheVariants as unwatched;
 
 use std::alloc::{AllocError, Global};
@@ -53,17 +53,18 @@ pub fn eval_watched<H: Host>(
     ensures broken { IfRefused result.1 (λ e. e ≡ Memory → (marks_of tree.new).broken ≡ true) }
     ensures runs { IfEnds result.1 (λ end. IsRun (hosted H.step) tree.old host path.now script.now (root_count tree.old + limit) tree.new result.0 end) }
     ensures whole { IfEnds result.1 (λ end. IsWhole H.step tree.old host path.now script.now limit tree.new result.0 end) }
-    ensures recorded { IfOk result.1 (λ r. IsRecord (hosted H.step) tree.old host path.now script.now limit watched.now r.1 tree.new result.0 r.0) }
-    ensures deleted { IfDeleted result.1 (λ end. IsDeletion (hosted H.step) tree.old host path.now script.now limit watched.now tree.new result.0 end) }
+    ensures recorded { IfOk result.1 (λ r. IsRecord H.step tree.old host path.now script.now limit watched.now r.1 tree.new result.0 r.0) }
+    ensures deleted { IfDeleted result.1 (λ end. IsDeletion H.step tree.old host path.now script.now limit watched.now tree.new result.0 end) }
     ensures reacts { IfOk result.1 (λ r. Reacts tree.old watched.now r.1.crossings tree.new) }
     ensures reacts_so { IfOk result.1 (λ r. ReactsSo tree.old watched.now r.1.crossings tree.new) }
     ensures reacts_until { IfOk result.1 (λ r. ReactsUntil tree.old watched.now r.1.crossings tree.new) }
     ensures leaves_the_outside { IfOk result.1 (λ r. LeavesTheOutside tree.old host path.now watched.now r.1.crossings tree.new result.0) }
     ensures asks_nothing { IfOk result.1 (λ r. AsksTheHostNothing tree.old watched.now r.1.crossings) }
-    ensures counts { IfOk result.1 (λ r. Counts (hosted H.step) tree.old host path.now script.now limit watched.now r.1 tree.new result.0 r.0) }
-    ensures count_stays_within { IfOk result.1 (λ r. CountStaysWithin (hosted H.step) tree.old host path.now script.now limit watched.now r.1 tree.new result.0 r.0) }
+    ensures counts { IfOk result.1 (λ r. Counts H.step tree.old host path.now script.now limit watched.now r.1 tree.new result.0 r.0) }
+    ensures stops { IfOk result.1 (λ r. Stops H.step tree.old host path.now script.now limit watched.now r.1 tree.new result.0 r.0) }
+    ensures count_stays_within { IfOk result.1 (λ r. CountStaysWithin H.step tree.old host path.now script.now limit watched.now r.1 tree.new result.0 r.0) }
     ensures scripts_stay_within { IfOk result.1 (λ r. ScriptsStayWithin tree.old watched.now r.1.crossings tree.new) }
-    ensures limits_stay { IfOk result.1 (λ r. LimitsStay (hosted H.step) tree.old host path.now script.now limit watched.now r.1 tree.new result.0 r.0) }
+    ensures limits_stay { IfOk result.1 (λ r. LimitsStay H.step tree.old host path.now script.now limit watched.now r.1 tree.new result.0 r.0) }
 {
     asks_the_host_nothing::<H>();
     limits_stay::<H>();
@@ -105,7 +106,7 @@ fn watch<H: Host>(
     watched: &[Text],
 ) -> (H, Result<(End, Record), Unwatched>)
     requires fit { unfit tree.old path.now script.now limit ≡ None }
-    ensures { Watches (hosted H.step) tree.old host path.now script.now limit watched.now tree.new result.0 result.1 }
+    ensures { Watches H.step tree.old host path.now script.now limit watched.now tree.new result.0 result.1 }
 {
     let names = match Vec::from_clones(alloc, watched) {
         Ok(names) => names,
@@ -132,7 +133,7 @@ fn run<H: Host>(
     requires fit { unfit tree.old path.now script.now limit ≡ None }
     ensures memory { IfErr result (λ e. e ≡ Memory) }
     ensures broken { IsErrOf result Memory → (marks_of tree.new).broken ≡ true }
-    ensures runs { IfOk result (λ end. IsEntryRun (hosted H.step) tree.old recorder.old path.now script.now limit tree.new recorder.new end) }
+    ensures runs { IfOk result (λ end. IsEntryRun H.step tree.old recorder.old path.now script.now limit tree.new recorder.new end) }
 {
     match begin(alloc, recorder, path, script) {
         Ok(()) => open_run(tree, alloc, recorder, path, script, limit),

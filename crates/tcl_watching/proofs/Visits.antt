@@ -34,7 +34,7 @@ runs_before step prog {T} {V} {o} {z} {p} {x} {r} h tail =
     derived_runs prog over
 
 -- So its entry is a visit.
-visits : {I S : Type 0} (step : Tree Own → S → Wait → Event Own → S → Type 0) (prog : Table Own I) {T V : Tree Own} {o z : S} (t : Place) (i : Entry) {r : Reply} (h : Says step prog T o t (entering prog (T t) i) V z r) →
+pub visits : {I S : Type 0} (step : Tree Own → S → Wait → Event Own → S → Type 0) (prog : Table Own I) {T V : Tree Own} {o z : S} (t : Place) (i : Entry) {r : Reply} (h : Says step prog T o t (entering prog (T t) i) V z r) →
     Visits prog (Runs prog) (before T (visit t i h.events r)) None t i (before V []) (Some r)
 visits step prog {T} {V} {o} {z} t i {r} h = record {
   entered = before T (h.events ++ event t (Done None r) ∷ []);
@@ -44,7 +44,7 @@ visits step prog {T} {V} {o} {z} t i {r} h = record {
   leaving = record { tape = refl; tree = refl; moves = refl; grants = refl };
 }
 
-after_parts : (r : RecordView) (σ τ : List (Event Own)) → after (after r σ) τ ≡ after r (σ ++ τ)
+pub after_parts : (r : RecordView) (σ τ : List (Event Own)) → after (after r σ) τ ≡ after r (σ ++ τ)
 after_parts r σ τ = ap (λ (xs : List (Event Own)). record { watched = r.watched; crossings = xs })
     (append_assoc r.crossings (boundary r.watched σ) (boundary r.watched τ) ∙ ap (λ xs. r.crossings ++ xs) (sym (boundary_append r.watched σ τ)))
 

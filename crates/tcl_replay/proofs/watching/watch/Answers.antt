@@ -14,8 +14,8 @@ returns g c =
     let parts = sym c.into_parts-host.ensures in
     let last : c.run-ended.new.recorder ≡ record { outside = c.into_parts-host.result.0; kept = c.into_parts-host.result.1; deleted = c.into_parts-host.result.2 } =
     (λ i. record { outside = (parts i).0; kept = (parts i).1; deleted = (parts i).2 }) in
-    subst (λ x. Watches (hosted g.H.Host.step) c.args.tree.now c.args.host c.args.path.now c.args.script.now c.args.limit c.args.watched.now c.run-ended.new.tree c.into_parts-host.result.0 x) (sym c.told.ensures)
+    subst (λ x. Watches g.H.Host.step c.args.tree.now c.args.host c.args.path.now c.args.script.now c.args.limit c.args.watched.now c.run-ended.new.tree c.into_parts-host.result.0 x) (sym c.told.ensures)
     (watches g.H.Host.step c.args.tree.now c.args.host c.args.path.now c.args.script.now c.args.limit c.args.watched.now c.run-ended.new.tree c.into_parts-host.result.0 c.run-ended.result c.into_parts-host.result.1 c.into_parts-host.result.2
     c.run-ended.ensures.memory c.run-ended.ensures.broken
-    (subst (λ (z : Recorder g.row.H.Denot). IfOk c.run-ended.result (λ end. IsEntryRun (hosted g.H.Host.step) c.args.tree.now (recorder_of c.args.host c.args.watched.now) c.args.path.now c.args.script.now c.args.limit c.run-ended.new.tree z end)) last
-    (subst (λ (r : Recorder g.row.H.Denot). IfOk c.run-ended.result (λ end. IsEntryRun (hosted g.H.Host.step) c.args.tree.now r c.args.path.now c.args.script.now c.args.limit c.run-ended.new.tree c.run-ended.new.recorder end)) first c.run-ended.ensures.runs)))
+    (subst (λ (z : Recorder g.row.H.Denot). IfOk c.run-ended.result (λ end. IsEntryRun g.H.Host.step c.args.tree.now (recorder_of c.args.host c.args.watched.now) c.args.path.now c.args.script.now c.args.limit c.run-ended.new.tree z end)) last
+    (subst (λ (r : Recorder g.row.H.Denot). IfOk c.run-ended.result (λ end. IsEntryRun g.H.Host.step c.args.tree.now r c.args.path.now c.args.script.now c.args.limit c.run-ended.new.tree c.run-ended.new.recorder end)) first c.run-ended.ensures.runs)))

@@ -1,0 +1,128 @@
+-- A run, with all that happens in it written down.
+use Rattle.std.proofs.Common.{◌≡◌, refl, sym, ◌∙◌, ap, List, [], ◌∷◌, ◌++◌, Some, None, length, append-nil, append_assoc}
+use Rattle.tcl_core.specs.Endings.{Reply}
+use Rattle.tcl_core.specs.Endings.Reply.{Completed, Exit}
+use Rattle.tcl_core.specs.Entries.Answer.{Replied, Heard}
+use Rattle.tcl_core.specs.Paths.{Place}
+use Rattle.tcl_core.specs.Programs.{Prog, Table, Wait, closes, spot}
+use Rattle.tcl_core.specs.Runs.{carried, height_of}
+use Rattle.tcl_core.specs.Threads.{Chain, Threads, event, more, none}
+use Rattle.tcl_core.specs.Threads.Threads.{completed, exited, acted, refused, went, passed, wrapped, wrapped_passed, too_deep, shut, called, called_passed, unreached, called_out, answered, heard, answered_passed, entered, entered_exiting}
+use Rattle.tcl_core.specs.Trees.{Event, Tree}
+use Rattle.tcl_core.specs.Trees.What.{Out, In, Done, Back}
+
+-- an outside goes so, and what happens is written behind what happened before
+pub record Taped {O S : Type 0} (step : Tree O → S → Wait → Event O → S → Type 0) (T : Tree O) (o : S × List (Event O)) (s : Wait) (ev : Event O) (u : S × List (Event O)) : Type 0 where
+  pub goes : step T o.0 s ev u.0
+  pub written : u.1 ≡ o.1 ++ ev ∷ []
+
+module _ {O S : Type 0} (step : Tree O → S → Wait → Event O → S → Type 0) where
+  -- what an outside goes through is what is written
+  pub all_written : {T V : Tree O} {o z : S × List (Event O)} {τ : List (Event O)} → Chain (Taped step) T o τ V z → z.1 ≡ o.1 ++ τ
+  all_written (none {o = o}) = sym (append-nil o.1)
+  all_written (more {o = o} {ev = ev} {τ = τ} a rest) = all_written rest ∙ ap (λ xs. xs ++ τ) a.written ∙ append_assoc o.1 (ev ∷ []) τ
+
+  pub unwritten : {T V : Tree O} {o z : S × List (Event O)} {τ : List (Event O)} → Chain (Taped step) T o τ V z → Chain step T o.0 τ V z.0
+  unwritten none = none
+  unwritten (more a rest) = more a.goes (unwritten rest)
+
+module _ {O I S : Type 0} (step : Tree O → S → Wait → Event O → S → Type 0) (prog : Table O I) where
+  -- the run with all that happens in it behind what was written
+  pub record Tapes (T : Tree O) (o : S) (before : List (Event O)) (p : Place) (x : Prog O I) (V : Tree O) (z : S) (r : Reply) : Type 0 where
+    pub tape : List (Event O)
+    pub threads : Threads (Taped step) prog T (o, before) p x V (z, tape) r
+
+  one : {T : Tree O} {o u : S} {s : Wait} (ev : Event O) (a : List (Event O)) → step T o s ev u → Taped step T (o, a) s ev (u, a ++ ev ∷ [])
+  one ev a g = record { goes = g; written = refl }
+
+  pub tapes : {T V : Tree O} {o z : S} {p : Place} {x : Prog O I} {r : Reply} → Threads step prog T o p x V z r → (a : List (Event O)) → Tapes T o a p x V z r
+  tapes completed a = record { tape = a; threads = completed }
+  tapes exited a = record { tape = a; threads = exited }
+  tapes (acted {T} {V} {o} {u} {z} {p} {d} {k} {r} x is_so on s t) a =
+      let e = event (spot p x.0) x.1 in
+      let g = tapes t (a ++ e ∷ []) in
+      record { tape = g.tape; threads = acted x is_so on (one e a s) g.threads }
+  tapes (refused {T} {o} {u} {p} {d} {k} {r} x is_so off s) a =
+      let e = event (spot p x.0) x.1 in
+      record { tape = a ++ e ∷ []; threads = refused x is_so off (one e a s) }
+  tapes (went m n) a =
+      let h = tapes m a in
+      let g = tapes n h.tape in
+      record { tape = g.tape; threads = went h.threads g.threads }
+  tapes (passed q m) a =
+      let h = tapes m a in
+      record { tape = h.tape; threads = passed q h.threads }
+  tapes (wrapped {T} {U} {V} {o} {o1} {o2} {o3} {z} {p} {b} {i} {k} {c} {r} x is_so on s1 m s2 n) a =
+      let first = event (spot p x.0) x.1 in
+      let last = event p (closes b (U p)) in
+      let h = tapes m (a ++ first ∷ []) in
+      let g = tapes n (h.tape ++ last ∷ []) in
+      record { tape = g.tape; threads = wrapped x is_so on (one first a s1) h.threads (one last h.tape s2) g.threads }
+  tapes (wrapped_passed {T} {U} {o} {o1} {o2} {o3} {p} {b} {i} {k} {r} x q is_so on s1 m s2) a =
+      let first = event (spot p x.0) x.1 in
+      let last = event p (closes b (U p)) in
+      let h = tapes m (a ++ first ∷ []) in
+      record { tape = h.tape ++ last ∷ []; threads = wrapped_passed x q is_so on (one first a s1) h.threads (one last h.tape s2) }
+  tapes (too_deep {T} {V} {o} {u} {z} {p} {b} {i} {k} {r} x is_so deep s t) a =
+      let e = event (spot p x.0) x.1 in
+      let g = tapes t (a ++ e ∷ []) in
+      record { tape = g.tape; threads = too_deep x is_so deep (one e a s) g.threads }
+  tapes (shut {T} {o} {u} {p} {b} {i} {k} {r} x is_so off s) a =
+      let e = event (spot p x.0) x.1 in
+      record { tape = a ++ e ∷ []; threads = shut x is_so off (one e a s) }
+  tapes (called {T} {U} {V} {o} {o1} {o2} {o3} {o4} {o5} {z} {p} {h} {down} {i} {lost} {k} {s} {r} {c} up t e there s1 s2 m s3 so s4 n) a =
+      let out = event p (Out h down i) in
+      let in_there = event t (In (Some (length down)) i) in
+      let done_there = event t (Done (Some (length down)) s) in
+      let back = event p (Back h (Replied (carried h p down s))) in
+      let f = tapes m ((a ++ out ∷ []) ++ in_there ∷ []) in
+      let g = tapes n ((f.tape ++ done_there ∷ []) ++ back ∷ []) in
+      record {
+        tape = g.tape;
+        threads = called up t e there (one out a s1) (one in_there (a ++ out ∷ []) s2) f.threads (one done_there f.tape s3) so (one back (f.tape ++ done_there ∷ []) s4) g.threads;
+      }
+  tapes (called_passed {T} {U} {o} {o1} {o2} {o3} {o4} {o5} {p} {h} {down} {i} {lost} {k} {s} {r} up t e there s1 s2 m s3 so q s4) a =
+      let out = event p (Out h down i) in
+      let in_there = event t (In (Some (length down)) i) in
+      let done_there = event t (Done (Some (length down)) s) in
+      let back = event p (Back h (Replied r)) in
+      let f = tapes m ((a ++ out ∷ []) ++ in_there ∷ []) in
+      record {
+        tape = (f.tape ++ done_there ∷ []) ++ back ∷ [];
+        threads = called_passed up t e there (one out a s1) (one in_there (a ++ out ∷ []) s2) f.threads (one done_there f.tape s3) so q (one back (f.tape ++ done_there ∷ []) s4);
+      }
+  tapes (unreached {T} {V} {o} {o1} {o2} {z} {p} {h} {down} {i} {lost} {k} {r} up e there s1 s2 t) a =
+      let out = event p (Out h down i) in
+      let back = event p (Back h (Replied (Completed lost))) in
+      let g = tapes t ((a ++ out ∷ []) ++ back ∷ []) in
+      record { tape = g.tape; threads = unreached up e there (one out a s1) (one back (a ++ out ∷ []) s2) g.threads }
+  tapes (called_out {T} {V} {o} {u} {z} {p} {h} {down} {i} {lost} {k} {r} e s t) a =
+      let out = event p (Out h down i) in
+      let g = tapes t (a ++ out ∷ []) in
+      record { tape = g.tape; threads = called_out e (one out a s) g.threads }
+  tapes (answered {T} {V} {o} {u} {z} {p} {s} {k} {c} {r} e is_fit j t) a =
+      let back = event p (Back (height_of s) (Replied (Completed c))) in
+      let g = tapes t (a ++ back ∷ []) in
+      record { tape = g.tape; threads = answered e is_fit (one back a j) g.threads }
+  tapes (heard {T} {V} {o} {u} {z} {p} {s} {k} {a = y} {r} e is_fit j t) a =
+      let back = event p (Back (height_of s) (Heard y)) in
+      let g = tapes t (a ++ back ∷ []) in
+      record { tape = g.tape; threads = heard e is_fit (one back a j) g.threads }
+  tapes (answered_passed {T} {o} {u} {p} {s} {k} {r} q e is_fit j) a =
+      let back = event p (Back (height_of s) (Replied r)) in
+      record { tape = a ++ back ∷ []; threads = answered_passed q e is_fit (one back a j) }
+  tapes (entered {T} {U} {V} {o} {o1} {o2} {o3} {z} {p} {s} {k} {y = j} {r} t i e s1 m s2 calm n) a =
+      let in_there = event t (In None i) in
+      let done_there = event t (Done None j) in
+      let f = tapes m (a ++ in_there ∷ []) in
+      let g = tapes n (f.tape ++ done_there ∷ []) in
+      record { tape = g.tape; threads = entered t i e (one in_there a s1) f.threads (one done_there f.tape s2) calm g.threads }
+  tapes (entered_exiting {T} {U} {o} {o1} {o2} {o3} {o4} {p} {c} {k} {n} t i e s1 m s2 s3) a =
+      let in_there = event t (In None i) in
+      let done_there = event t (Done None (Exit n)) in
+      let back = event p (Back c.0 (Replied (Exit n))) in
+      let f = tapes m (a ++ in_there ∷ []) in
+      record {
+        tape = (f.tape ++ done_there ∷ []) ++ back ∷ [];
+        threads = entered_exiting t i e (one in_there a s1) f.threads (one done_there f.tape s2) (one back (f.tape ++ done_there ∷ []) s3);
+      }
