@@ -74,6 +74,22 @@ impl Value {
         }
     }
 
+    fn remove_key(&mut self, key: &Value) {
+        let key = key.key();
+        if let Value::Dict(dict) = self {
+            let Dict { places, keys, values } = Rc::make_mut(dict);
+            if let Some(place) = places.remove(&key) {
+                keys.remove(place);
+                values.remove(place);
+                for later in &keys[place..] {
+                    if let Some(at) = places.get_mut(later) {
+                        *at -= 1;
+                    }
+                }
+            }
+        }
+    }
+
     fn value_of(&mut self, key: &Value) -> Option<&mut Value> {
         let key = key.key();
         if let Value::Dict(dict) = self {
@@ -152,15 +168,34 @@ fn one_key(inner: Value) -> Value {
     value
 }
 
-fn inner_entries(parts: usize, times: u32) -> usize {
+/// A dict of a dict of so many numbers as keys, whose values are 0.
+fn inner_dict(parts: usize) -> Value {
     let mut inner = Value::Dict(Rc::new(Dict::default()));
     for i in 0..parts {
         inner.set_key(&Value::Number(i as i64), Value::Number(0));
     }
-    let mut value = one_key(inner);
+    one_key(inner)
+}
+
+fn inner_entries(parts: usize, times: u32) -> usize {
+    let mut value = inner_dict(parts);
     for i in 0..times {
         if let Some(inner) = black_box(&mut value).value_of(&Value::Number(0)) {
             inner.set_key(&Value::Number(i64::from(i % 1000)), Value::Number(i64::from(i)));
+        }
+    }
+    value.len()
+}
+
+fn inner_removals(parts: usize, times: u32) -> usize {
+    let mut value = inner_dict(parts);
+    for _ in 0..times {
+        let key = Value::Number(parts as i64);
+        if let Some(inner) = black_box(&mut value).value_of(&Value::Number(0)) {
+            inner.set_key(&key, Value::Number(0));
+        }
+        if let Some(inner) = black_box(&mut value).value_of(&Value::Number(0)) {
+            inner.remove_key(&key);
         }
     }
     value.len()
@@ -236,6 +271,8 @@ fn main() {
     timed("10,000 changes in an inner list of 10,000", || inner_sets(10 * PARTS, CHANGES / 100));
     timed("10,000 changes in an inner dict of 1,000", || inner_entries(PARTS, CHANGES / 100));
     timed("10,000 changes in an inner dict of 10,000", || inner_entries(10 * PARTS, CHANGES / 100));
+    timed("10,000 removals from an inner dict of 1,000", || inner_removals(PARTS, CHANGES / 100));
+    timed("10,000 removals from an inner dict of 10,000", || inner_removals(10 * PARTS, CHANGES / 100));
     timed("100,000 appends to the text of a key", || inner_appends(CHANGES / 10));
     timed("1,000,000 appends to the text of a key", || inner_appends(CHANGES));
     timed("100,000 appends to the list of a key", || inner_pushes(CHANGES / 10));

@@ -68,6 +68,18 @@ proc inner_keys_set {} {
     dict size $value
 }
 
+proc ten_dicts {} {
+    set value {}
+    for {set i 0} {$i < 200000} {incr i} {dict set value [expr {$i % 10}] [expr {$i / 10}] {}}
+    return $value
+}
+
+proc inner_keys_unset {} {
+    global dicts
+    for {set i 199999} {$i >= 0} {incr i -1} {dict unset dicts [expr {$i % 10}] [expr {$i / 10}]}
+    dict size $dicts
+}
+
 proc longer_value {} {
     set value {}
     for {set i 0} {$i < 200000} {incr i} {dict append value 0 abcd}
@@ -89,5 +101,7 @@ timed "200,000 times dict set" keys_set
 timed "200,000 times dict append" longer_values
 timed "200,000 times lset inside" inner_sets
 timed "200,000 times dict set inside" inner_keys_set
+set dicts [ten_dicts]
+timed "200,000 times dict unset of a nested key" inner_keys_unset
 timed "200,000 times dict append to one key" longer_value
 timed "200,000 times dict lappend to one key" longer_list

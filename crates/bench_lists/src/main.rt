@@ -5,7 +5,7 @@
 use std::alloc::Global;
 use std::io;
 use std::time::Instant;
-use tcl_dicts::changing::{append, incr, lappend as lappend_key, set};
+use tcl_dicts::changing::{append, incr, lappend as lappend_key, set, unset};
 use tcl_list_texts::joining::join;
 use tcl_list_texts::splitting::split;
 use tcl_lists::changing::lset;
@@ -178,6 +178,29 @@ fn inner_keys_set(alloc: Global) -> usize {
     value.text_len()
 }
 
+/// A dict of ten dicts that have so many keys together.
+fn ten_dicts(alloc: Global) -> Value {
+    let mut value = Value::empty();
+    for i in 0..MANY {
+        let row = Value::from_int(i64::from(i % 10));
+        let column = Value::from_int(i64::from(i / 10));
+        let _ = set(alloc, &mut value, &[row, column], &Value::empty());
+    }
+    value
+}
+
+/// How long the text of that dict is whose keys were unset in turn, of each dict the last first.
+fn inner_keys_unset(alloc: Global, dicts: Value) -> usize {
+    let mut value = dicts;
+    for i in 0..MANY {
+        let last = MANY - 1 - i;
+        let row = Value::from_int(i64::from(last % 10));
+        let column = Value::from_int(i64::from(last / 10));
+        let _ = unset(alloc, &mut value, &[row], &column);
+    }
+    value.text_len()
+}
+
 /// Says on standard output what came of it, and on standard error how long it took.
 macro_rules! timed {
     ($rt:expr, $name:expr, $work:expr) => {
@@ -230,6 +253,12 @@ fn inside(rt: &HostRuntime) -> io::Result<()> {
     let alloc = rt.alloc();
     timed!(rt, "200,000 times lset inside", inner_sets(alloc));
     timed!(rt, "200,000 times dict set inside", inner_keys_set(alloc));
+    let dicts = ten_dicts(alloc);
+    timed!(
+        rt,
+        "200,000 times dict unset of a nested key",
+        inner_keys_unset(alloc, dicts)
+    );
     let key = Value::from_int(0);
     if let Ok(more) = word(alloc, "abcd") {
         timed!(

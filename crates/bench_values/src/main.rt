@@ -4,7 +4,7 @@
 use std::alloc::{AllocError, Global};
 use std::io;
 use std::time::Instant;
-use tcl_nested::changing::{set_element, set_value};
+use tcl_nested::changing::{remove_key, set_element, set_value};
 use tcl_text::integer::Integers;
 use tcl_text::text::Text;
 use tcl_value::value::{Value, ValueError};
@@ -123,6 +123,20 @@ fn inner_entries(alloc: Global, parts: u32, times: u32) -> usize {
     value.text_len()
 }
 
+/// How long the text of a dict is in which one stands that got a key behind its own and lost it again, so often.
+fn inner_removals(alloc: Global, parts: u32, times: u32) -> usize {
+    let mut value = inner_dict(alloc, parts);
+    for _ in 0..times {
+        if let Ok(path) = place_inside(alloc, parts) {
+            let row = [Value::from_int(0)];
+            let key = Value::from_int(i64::from(parts));
+            let _ = set_value(alloc, &mut value, &path, Value::from_int(0));
+            let _ = remove_key(alloc, &mut value, &row, &key);
+        }
+    }
+    value.text_len()
+}
+
 /// How long the text of a dict is to whose one value four bytes were added so often.
 fn inner_appends(alloc: Global, times: u32) -> usize {
     let key = [Value::from_int(0)];
@@ -224,6 +238,16 @@ fn inside(rt: &HostRuntime) -> io::Result<()> {
         rt,
         "10,000 changes in an inner dict of 10,000",
         inner_entries(alloc, 10 * KEYS, CHANGES / 100)
+    );
+    timed!(
+        rt,
+        "10,000 removals from an inner dict of 1,000",
+        inner_removals(alloc, KEYS, CHANGES / 100)
+    );
+    timed!(
+        rt,
+        "10,000 removals from an inner dict of 10,000",
+        inner_removals(alloc, 10 * KEYS, CHANGES / 100)
     );
     timed!(
         rt,

@@ -47,8 +47,8 @@ pub fn set_words(alloc: Global, words: &[Value]) -> Result<(&Value, &[Value], &V
 }
 
 /// What `dict set varName key ?key ...? value` makes of the variable's value: the first key is one of its dict, the next one
-/// of the dict that is its value, and so on; a key that is missing is new. Where nobody shares the outermost dict it is
-/// changed in place. A refusal leaves the value as it was.
+/// of the dict that is its value, and so on; a key that is missing is new. A dict on the way that is kept as one and that nobody
+/// shares is changed in place. A refusal leaves the value as it was.
 ///
 /// # Errors
 /// 101 to 104 and 121 where a value on the way is no dict; 122; want of memory.
@@ -76,7 +76,8 @@ pub fn unset_words(alloc: Global, words: &[Value]) -> Result<(&Value, &[Value], 
 }
 
 /// What `dict unset varName key ?key ...?` makes of the variable's value: the dict to which the keys before the last one lead is
-/// without the last. Where nobody shares the outermost dict it is changed in place. A refusal leaves the value as it was.
+/// without the last. A dict on the way that is kept as one and that nobody shares is changed in place. A refusal leaves the value
+/// as it was.
 ///
 /// # Errors
 /// 101 to 104 and 121 where a value on the way is no dict, 242 where a key on the way is missing; 122; want of memory.

@@ -100,6 +100,52 @@ fn value_inside_is_set_and_the_copy_stays(rt: HostRuntime) -> Result<(), Fail> {
     Ok(())
 }
 
+/// What `dict unset` makes of a dict by two keys.
+fn unset(alloc: Global, own: &mut Value, key: &str, inner: &str) -> Result<(), Refusal> {
+    let path = [short(alloc, key)?];
+    changing::unset(alloc, own, &path, &short(alloc, inner)?)
+}
+
+/// What `tclsh` makes of it too. A key that begins with a number sign stands in braces where it is the first.
+#[test]
+fn key_inside_is_unset_and_the_copy_stays(rt: HostRuntime) -> Result<(), Fail> {
+    let alloc = rt.alloc();
+    let mut own = word(alloc, "a {x 1 y 2 # 3} b {x 4}")?;
+    unset(alloc, &mut own, "a", "y")?;
+    unset(alloc, &mut own, "b", "y")?;
+    assert!(rt; is(alloc, &own, "a {x 1 # 3} b {x 4}")?, "first changes");
+    let copy = own.clone()?;
+    unset(alloc, &mut own, "a", "x")?;
+    unset(alloc, &mut own, "b", "x")?;
+    assert!(rt; is(alloc, &own, "a {{#} 3} b {}")?, "in place");
+    unset(alloc, &mut own, "a", "x")?;
+    unset(alloc, &mut own, "b", "x")?;
+    assert!(rt; is(alloc, &own, "a {{#} 3} b {}")?, "no such keys");
+    put(alloc, &mut own, "b", "y", "5")?;
+    assert!(rt; is(alloc, &own, "a {{#} 3} b {y 5}")?, "a new key");
+    assert!(rt; is(alloc, &copy, "a {x 1 # 3} b {x 4}")?, "the copy");
+    Ok(())
+}
+
+/// Whether a change was refused, since a key of the path is missing.
+fn is_unknown(done: Result<(), Refusal>) -> bool {
+    match done {
+        Err(Refusal::Fault(text)) => text.as_str() == "key \"c\" not known in dictionary",
+        Err(Refusal::Memory) | Ok(()) => false,
+    }
+}
+
+#[test]
+fn no_key_is_unset_where_there_is_no_way_to_it(rt: HostRuntime) -> Result<(), Fail> {
+    let alloc = rt.alloc();
+    let mut own = word(alloc, "a {x 1 y 2} b 3")?;
+    unset(alloc, &mut own, "a", "y")?;
+    assert!(rt; is_unknown(unset(alloc, &mut own, "c", "x")), "no such key");
+    assert!(rt; unset(alloc, &mut own, "b", "x").is_err(), "no dict");
+    assert!(rt; is(alloc, &own, "a {x 1} b 3")?, "as it was");
+    Ok(())
+}
+
 /// What `dict append` makes of a dict with two strings.
 fn append(alloc: Global, own: &mut Value, a: &str, b: &str) -> Result<(), Refusal> {
     let words = [short(alloc, a)?, short(alloc, b)?];

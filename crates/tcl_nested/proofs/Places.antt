@@ -9,13 +9,14 @@ use Rattle.tcl_text.specs.Lists.{list_of}
 use Rattle.tcl_value.specs.declared.dict_fault.DictFault.{DictFault}
 use Rattle.tcl_value.specs.Writing.{write}
 use Rattle.tcl_value.specs.Texts.{flat}
-use Rattle.tcl_value.specs.Dicts.{Pairs, put, value_of, dict_of}
+use Rattle.tcl_value.specs.Dicts.{Pairs, put, without, value_of, dict_of}
 use Rattle.tcl_value.specs.Changes.{AtList}
-use Rattle.tcl_value.specs.Inside.{at_list, at_dict, element_put, entry_made, element_at, with_element, value_or_empty}
-use Rattle.tcl_nested.specs.Nested.{Texts, Outcome, next, dict_or, place_in, element_changed, value_changed}
+use Rattle.tcl_value.specs.Inside.{at_list, at_dict, element_put, entry_made, text_without, key_dropped, element_at, with_element, value_or_empty}
+use Rattle.tcl_nested.specs.Nested.{Texts, Outcome, next, dict_or, place_in, element_changed, value_changed, known, key_removed}
 use Rattle.tcl_nested.specs.Steps.{above, Leads}
 use Rattle.tcl_nested.specs.declared.step.Step.TheVariants.{Element}
 use Rattle.tcl_nested.specs.declared.fault.NestedFault.{NestedFault}
+use Rattle.tcl_value.proofs.Dicted.{dict_of-write}
 use Rattle.tcl_nested.proofs.Levels.{element_down}
 
 append_nil : (l : List ℕ) → l ++ [] ≡ l
@@ -68,6 +69,34 @@ made_changed (k ∷ path) new text now e = made_in k path new now (dict_of text)
 pub made_true : (b : Bool) (path : Texts) (new text now : List ℕ) → OnTrue b (entry_made path (λ _. Some new) text ≡ Some now) → OnTrue b (value_changed path new text ≡ Ok now)
 made_true true path new text now h = made_changed path new text now h
 made_true false path new text now h = tt
+
+-- a removal at a path of keys, each of which is there
+nowhere : (path : Texts) (key : List ℕ) → entry_made path (key_dropped key) [] ≡ None
+nowhere [] key = ap (λ r. at_dict r (λ es. text_without es key)) (dict_of-write [] refl)
+nowhere (k ∷ path) key =
+    ap (λ r. at_dict r (λ es. option_map (λ x. write (flat (put es k x))) (entry_made path (key_dropped key) (value_or_empty (value_of es k))))) (dict_of-write [] refl)
+    ∙ ap (λ o. option_map (λ x. write (flat (put [] k x))) o) (nowhere path key)
+
+dropped_in : (key now : List ℕ) (r : Result Pairs DictFault) → at_dict r (λ es. text_without es key) ≡ Some now → next {Y = List ℕ} (dict_or r) (λ es. Ok (write (flat (without es key)))) ≡ Ok now
+dropped_in key now (Ok []) e = absurd (cc)
+dropped_in key now (Ok (x ∷ es)) e = ap (λ z. Ok z) (same_some (write (flat (without (x ∷ es) key))) now e)
+dropped_in key now (Err fault) e = absurd (cc)
+
+led_on : (k : List ℕ) (path : Texts) (key now : List ℕ) (es : Pairs) (found : Option (List ℕ)) → ((text x : List ℕ) → entry_made path (key_dropped key) text ≡ Some x → key_removed path key text ≡ Ok x) → option_map (λ x. write (flat (put es k x))) (entry_made path (key_dropped key) (value_or_empty found)) ≡ Some now → next {Y = List ℕ} (known k found) (λ inner. next {Y = List ℕ} (key_removed path key inner) (λ x. Ok (write (flat (put es k x))))) ≡ Ok now
+led_on k path key now es (Some v) f e = made_up (entry_made path (key_dropped key) v) (key_removed path key v) es k now (f v) e
+led_on k path key now es None f e = absurd (let none = ap (λ o. option_map (λ x. write (flat (put es k x))) o) (nowhere path key) in cc)
+
+led_in : (k : List ℕ) (path : Texts) (key now : List ℕ) (r : Result Pairs DictFault) → ((text x : List ℕ) → entry_made path (key_dropped key) text ≡ Some x → key_removed path key text ≡ Ok x) → at_dict r (λ es. option_map (λ x. write (flat (put es k x))) (entry_made path (key_dropped key) (value_or_empty (value_of es k)))) ≡ Some now → next {Y = List ℕ} (dict_or r) (λ es. next {Y = List ℕ} (known k (value_of es k)) (λ inner. next {Y = List ℕ} (key_removed path key inner) (λ x. Ok (write (flat (put es k x)))))) ≡ Ok now
+led_in k path key now (Ok es) f e = led_on k path key now es (value_of es k) f e
+led_in k path key now (Err fault) f e = absurd (cc)
+
+entry_led : (path : Texts) (key text now : List ℕ) → entry_made path (key_dropped key) text ≡ Some now → key_removed path key text ≡ Ok now
+entry_led [] key text now e = dropped_in key now (dict_of text) e
+entry_led (k ∷ path) key text now e = led_in k path key now (dict_of text) (entry_led path key) e
+
+pub led_true : (b : Bool) (path : Texts) (key text now : List ℕ) → OnTrue b (entry_made path (key_dropped key) text ≡ Some now) → OnTrue b (key_removed path key text ≡ Ok now)
+led_true true path key text now h = entry_led path key text now h
+led_true false path key text now h = tt
 
 pub placed_found : (f b : Bool) (style : Integers) (path : Texts) (before places given : List ℕ) (new text mid now : List ℕ) → f ≡ true → before ≡ [] → OnTrue f (Leads style path before places text) → given ≡ places → mid ≡ text → OnTrue b (element_put given new mid ≡ Some now) → OnTrue b (element_changed style path new text ≡ Ok now)
 placed_found f b style path before places given new text mid now e z h g m p =

@@ -177,14 +177,40 @@ fn set_value_anew(
     }
 }
 
-/// Removes a key from the dict to which a path of other keys leads, if it is there. A dict that is changed is written anew.
-/// Where nobody shares the outermost dict it is changed in place; the dicts inside are copied.
+/// Removes a key from the dict to which a path of other keys leads, if it is there. A dict that is changed is written anew. A dict
+/// that is kept as one and that nobody shares is changed in place.
 ///
 /// # Errors
 /// [`NestedError::Fault`], the first from the left: 101 to 104 and 121 where there is no dict, 242 where a key of the path is
 /// missing. [`NestedError::TooLong`] exactly where the changed text would be too long (122); want of memory. Any leaves the
 /// value as it was.
 pub fn remove_key(
+    alloc: Global,
+    own: &mut Value,
+    path: &[Value],
+    key: &Value,
+) -> Result<(), NestedError>
+    ensures changed { OnOk result (key_removed path.now key.now own.old ≡ Ok own.new) }
+    ensures refused { IfErr result (λ e. RefusesText e (key_removed path.now key.now own.old)) }
+    ensures unchanged { OnErr result (own.new ≡ own.old) }
+{
+    if !path.is_empty() && remove_in_place(alloc, own, path, key) {
+        return Ok(());
+    }
+    remove_key_anew(alloc, own, path, key)
+}
+
+/// Removes a key from the dict to which a path of other keys leads, where that dict and each on the way is kept as one. Says whether
+/// it did; where it didn't, nothing is changed.
+fn remove_in_place(alloc: Global, own: &mut Value, path: &[Value], key: &Value) -> bool
+    ensures changed { OnTrue result (key_removed path.now key.now own.old ≡ Ok own.new) }
+    ensures unchanged { OnFalse result (own.new ≡ own.old) }
+{
+    own.remove_inside(alloc, path, key)
+}
+
+/// Removes a key from the dict to which a path of other keys leads, where the dicts inside the outermost one are copied.
+fn remove_key_anew(
     alloc: Global,
     own: &mut Value,
     path: &[Value],

@@ -105,6 +105,11 @@ inner_list [] last many at ends within = absurd (omega arith)
 inner_list (x ∷ []) last many at ends within = absurd (omega arith)
 inner_list (x ∷ y ∷ xs) last many at ends within = inner_several x y xs (ends_from true x (y ∷ xs) last at ∙ ends) within
 
+-- an empty list is written in braces as well
+pub inner_empty : IsInner []
+unfolding written
+inner_empty = record { braced = λ first. refl; ends = refl; within = omega arith }
+
 -- whatever stands for an element that there is, it is the same
 pub there : {A : Type 0} (xs : List A) (i : ℕ) (d e : A) → i < length xs → get_or xs i d ≡ get_or xs i e
 there [] i d e h = absurd (omega arith)

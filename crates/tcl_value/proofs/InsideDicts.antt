@@ -6,21 +6,24 @@ use Rattle.tcl_text.specs.Lists.{list_of}
 use Rattle.tcl_value.specs.Limits.{IsWithin}
 use Rattle.tcl_value.specs.Writing.{write_element, write}
 use Rattle.tcl_value.specs.Texts.{element_text, texts, flat, pairs, weight, IsElement, IsInner, IsEntries, ends_in_backslash}
-use Rattle.tcl_value.specs.Dicts.{Pairs, put, put_all, value_of, place_of, value_set}
-use Rattle.tcl_value.specs.Inside.{at_list, at_dict, value_or_empty, changed_by, entry_changed, IsChange, InnerChange, DictChange}
+use Rattle.tcl_value.specs.Dicts.{Pairs, put, put_all, without, value_of, place_of, value_set, entry_dropped}
+use Rattle.tcl_value.specs.Inside.{at_list, at_dict, value_or_empty, changed_by, entry_changed, text_without, IsChange, InnerChange, DictChange}
 use Rattle.tcl_value.specs.declared.value.ValueError.{ValueError}
 use Rattle.tcl_value.specs.declared.element.Element.{Element}
 use Rattle.tcl_value.specs.declared.element.Change.{Change}
-use Rattle.tcl_value.specs.declared.element.Change.TheVariants.{Value}
+use Rattle.tcl_value.specs.declared.element.Change.TheVariants.{Value, Without}
 use Rattle.tcl_value.proofs.Laws.{list_of-write}
 use Rattle.tcl_value.proofs.Dicted.{dict_of-write}
 use Rattle.tcl_value.proofs.Weights.{size}
 use Rattle.tcl_value.proofs.Writes.{length-flat}
-use Rattle.tcl_value.proofs.Puts.{put_found, put_new, value_found, length-value_set, weight-value_set}
+use Rattle.tcl_value.proofs.Puts.{put_found, put_new, value_found, without_found, without_none, weight-value_set}
 use Rattle.tcl_value.proofs.Falling.{get_value}
 use Rattle.tcl_value.proofs.Entered.{set_entry_weight, entries_set, IsEntries-set, value_at}
-use Rattle.tcl_value.proofs.Inner.{there, ends_set, ends_push, ends_append, ends_append_list, inner_of}
+use Rattle.tcl_value.proofs.Inner.{there, ends_set, ends_push, ends_append, ends_append_list, ends_write, inner_of, inner_empty}
 use Rattle.tcl_value.proofs.Inside.{lighter, braced_light, part_within}
+
+abbrev pub text_of : List ℕ × List ℕ → List ℕ
+text_of e = e.1
 
 -- the list of a dict's keys and values
 flat-set : (es : Pairs) (i : ℕ) (v : List ℕ) → flat (value_set es i v) ≡ set (flat es) (2 * i + 1) v
@@ -45,14 +48,6 @@ ends_put es k v e f =
       | inr h ↦ ap (λ z. ends_in_backslash (write (flat z))) (put_new es k v h) ∙ ap (λ z. ends_in_backslash (write z)) (flat-push es k v) ∙ ends_push (flat es ++ k ∷ []) v ∙ f
     ]
 
-some_put : (es : Pairs) (k v : List ℕ) → 1 ≤ length (put es k v)
-some_put es k v =
-    let two : (place_of es k < length es) ⊎ (length es ≤ place_of es k) = grind arith in
-    elim two [
-      | inl h ↦ omega (arith, h, ap length (put_found es k v h), length-value_set es (place_of es k) v)
-      | inr h ↦ omega (arith, ap length (put_new es k v h), length-append es ((k, v) ∷ []))
-    ]
-
 -- a text one level up
 entry_up : (k : List ℕ) (path : List (List ℕ)) (change : Change) (v x : List ℕ) (es : Pairs) → put_all [] (flat es) ≡ es → value_or_empty (value_of es k) ≡ v → entry_changed path change v ≡ Some x → entry_changed (k ∷ path) change (write (flat es)) ≡ Some (write (flat (put es k x)))
 entry_up k path change v x es h e f =
@@ -68,7 +63,6 @@ key_put : (k : List ℕ) (change : Change) (v : List ℕ) (room : ℕ) (es now :
 key_put k change v room es now h f g s w = record {
   changed = entry_up k [] change (value_or_empty (value_of es k)) v es h refl f ∙ ap (λ z. Some (write (flat z))) (sym s);
   ends = λ e. ap (λ z. ends_in_backslash (write (flat z))) s ∙ ends_put es k v e g;
-  some = omega (arith, ap length s, some_put es k v);
   light = lighter (flat es) (flat now) room w;
 }
 
@@ -80,6 +74,75 @@ key_done (Ok u) b k change value kept room most own es now e h c i n o m s w =
     (key_put k (Value value) (element_text value) room es now h refl is.1 s (by_weight kept room most own es now n o m w)))
 key_done (Err u) b k change value kept room most own es now e h c i n o m s w = subst (λ z. OnTrue z (DictChange (k ∷ []) change room es now)) (sym e) tt
 
+-- a key that was removed
+without_text : (es : Pairs) (k : List ℕ) → 1 ≤ length es → text_without es k ≡ Some (write (flat (without es k)))
+without_text [] k h = absurd (omega arith)
+without_text (e ∷ es) k h = refl
+
+key_lost : (k : List ℕ) (room : ℕ) (es now : Pairs) → put_all [] (flat es) ≡ es → 1 ≤ length es → now ≡ without es k → (ends_in_backslash (write (flat es)) ≡ false → ends_in_backslash (write (flat now)) ≡ false) → weight (flat now) ≤ weight (flat es) + room → DictChange [] (Without k) room es now
+key_lost k room es now h some s e w = record {
+  changed = ap (λ r. at_dict r (λ m. text_without m k)) (dict_of-write es h) ∙ without_text es k some ∙ ap (λ z. Some (write (flat z))) (sym s);
+  ends = e;
+  light = lighter (flat es) (flat now) room w;
+}
+
+pub lost_done : {U : Type 0} (r : Result U ValueError) (b : Bool) (k : List ℕ) (change : Change) (kept room most i : ℕ) (own : List (List ℕ)) (es now : Pairs) → b ≡ is_ok r → put_all [] (flat es) ≡ es → change ≡ Without k → kept ≡ weight own → own ≡ flat es → most ≡ kept + room → (place_of es k ≡ i) × (i < length es) → ends_in_backslash (write (flat (entry_dropped es i))) ≡ false → OnOk r (now ≡ entry_dropped es i) → OnOk r (weight (flat now) ≤ most) → OnTrue b (DictChange [] change room es now)
+lost_done (Ok u) b k change kept room most i own es now e h c n o m f g s w =
+    let same : now ≡ without es k = s ∙ ap (entry_dropped es) (sym f.0) ∙ sym (without_found es k (omega (arith, f.0, f.1))) in
+    subst (λ z. OnTrue z (DictChange [] change room es now)) (sym e)
+    (subst (λ z. DictChange [] z room es now) (sym c)
+    (key_lost k room es now h (omega (arith, f.1)) same (λ _. ap (λ z. ends_in_backslash (write (flat z))) s ∙ g) (by_weight kept room most own es now n o m w)))
+lost_done (Err u) b k change kept room most i own es now e h c n o m f g s w = subst (λ z. OnTrue z (DictChange [] change room es now)) (sym e) tt
+
+-- a key that isn't there to be removed
+pub lost_none : (b : Bool) (k : List ℕ) (change : Change) (room : ℕ) (es : Pairs) → put_all [] (flat es) ≡ es → change ≡ Without k → place_of es k ≡ length es → (b ≡ true → 1 ≤ length es) → OnTrue b (DictChange [] change room es es)
+lost_none true k change room es h c f some =
+    subst (λ z. DictChange [] z room es es) (sym c) (key_lost k room es es h (some refl) (sym (without_none es k (omega (arith, f)))) (λ g. g) (omega arith))
+lost_none false k change room es h c f some = tt
+
+-- how the text of a dict ends without an entry
+ends_flat : (es : Pairs) (d : List ℕ) → 1 ≤ length es → ends_in_backslash (write (flat es)) ≡ ends_in_backslash (get_or es (length es - 1) ([], d)).1
+ends_flat es d h =
+    let last : length (flat es) - 1 ≡ 2 * (length es - 1) + 1 = omega (arith, length-flat es) in
+    ends_write (flat es) d (omega (arith, length-flat es)) ∙ ap (λ n. ends_in_backslash (get_or (flat es) n d)) last ∙ ap ends_in_backslash (get_value es (length es - 1) d)
+
+length-dropped : (es : Pairs) (i : ℕ) → i < length es → length (entry_dropped es i) + 1 ≡ length es
+length-dropped [] i h = absurd (omega arith)
+length-dropped (e ∷ es) zero h = omega arith
+length-dropped (e ∷ es) (suc i) h = omega (arith, length-dropped es i (omega arith))
+
+before_dropped : (es : Pairs) (i j : ℕ) (d : List ℕ × List ℕ) → j < i → get_or (entry_dropped es i) j d ≡ get_or es j d
+before_dropped [] i j d h = refl
+before_dropped (e ∷ es) zero j d h = absurd (omega arith)
+before_dropped (e ∷ es) (suc i) zero d h = refl
+before_dropped (e ∷ es) (suc i) (suc j) d h = before_dropped es i j d (omega arith)
+
+behind_dropped : (es : Pairs) (i j : ℕ) (d : List ℕ × List ℕ) → i ≤ j → get_or (entry_dropped es i) j d ≡ get_or es (suc j) d
+behind_dropped [] i j d h = refl
+behind_dropped (e ∷ es) zero j d h = refl
+behind_dropped (e ∷ es) (suc i) zero d h = absurd (omega arith)
+behind_dropped (e ∷ es) (suc i) (suc j) d h = behind_dropped es i j d (omega arith)
+
+pub ends_last : (es : Pairs) (i : ℕ) (v : List ℕ) → suc i < length es → v ≡ (get_or es (length es - 1) ([], v)).1 → ends_in_backslash v ≡ ends_in_backslash (write (flat (entry_dropped es i)))
+ends_last es i v h e =
+    let left = entry_dropped es i in
+    let many = length-dropped es i (omega arith) in
+    let at : suc (length left - 1) ≡ length es - 1 = omega (arith, many, h) in
+    ap ends_in_backslash (e ∙ ap (λ n. text_of (get_or es n ([], v))) (sym at) ∙ sym (ap text_of (behind_dropped es i (length left - 1) ([], v) (omega (arith, many, h))))) ∙ sym (ends_flat left v (omega (arith, many, h)))
+
+pub ends_before : (es : Pairs) (i : ℕ) (v : List ℕ) → suc i ≡ length es → 0 < i → v ≡ (get_or es (i - 1) ([], v)).1 → ends_in_backslash v ≡ ends_in_backslash (write (flat (entry_dropped es i)))
+ends_before es i v h p e =
+    let left = entry_dropped es i in
+    let many = length-dropped es i (omega arith) in
+    let at : length left - 1 ≡ i - 1 = omega (arith, many, h) in
+    ap ends_in_backslash (e ∙ ap (λ n. text_of (get_or es n ([], v))) (sym at) ∙ sym (ap text_of (before_dropped es i (length left - 1) ([], v) (omega (arith, many, h, p))))) ∙ sym (ends_flat left v (omega (arith, many, h, p)))
+
+pub ends_alone : (es : Pairs) (i : ℕ) → i < length es → length es ≡ 1 → false ≡ ends_in_backslash (write (flat (entry_dropped es i)))
+ends_alone [] i h e = absurd (omega arith)
+ends_alone (x ∷ []) zero h e = refl
+ends_alone (x ∷ []) (suc i) h e = absurd (omega arith)
+ends_alone (x ∷ y ∷ es) i h e = absurd (omega arith)
+
 -- a value that was changed inside
 pub change_inside : (k : List ℕ) (path : List (List ℕ)) (change : Change) (x y : List ℕ) (room i : ℕ) (es : Pairs) → put_all [] (flat es) ≡ es → (place_of es k ≡ i) × (i < length es) → x ≡ (get_or es i ([], x)).1 → InnerChange (entry_changed path change x) room x y → DictChange (k ∷ path) change room es (value_set es i y)
 change_inside k path change x y room i es h f e p =
@@ -89,7 +152,6 @@ change_inside k path change x y room i es h f e p =
     record {
       changed = entry_up k path change x y es h (ap value_or_empty found) p.changed ∙ ap (λ z. Some (write (flat z))) (put_found es k y here ∙ ap (λ n. value_set es n y) f.0);
       ends = λ g. ends_value es i y f.1 g p.ends;
-      some = omega (arith, length-value_set es i y, f.1);
       light = lighter (flat es) (flat (value_set es i y)) room (omega (arith, weight-value_set true es i y ([], x) f.1, p.light false));
     }
 
@@ -113,8 +175,12 @@ dict_kept kept ks xs es i x y h e l g s w =
     IsEntries-set ks xs es i y kept kept h e w (h.weighs ∙ ap (λ z. weight (flat z)) (e ∙ sym (ap (value_set es i) s ∙ set_there es i (element_text x) ([], element_text x) l (value_at ks xs es i x h.same e g))))
 
 -- what stands inside, changed
+inner_flat : (es : Pairs) → ends_in_backslash (write (flat es)) ≡ false → IsWithin (write (flat es)) → IsInner (write (flat es))
+inner_flat [] e w = inner_empty
+inner_flat (x ∷ es) e w = inner_of (flat (x ∷ es)) (omega arith) e w
+
 pub inner_dict : (old now : Pairs) (path : List (List ℕ)) (change : Change) (room : ℕ) → IsInner (write (flat old)) → length (write (flat old)) + room ≤ 16777216 → DictChange path change room old now → IsInner (write (flat now))
-inner_dict old now path change room h w p = inner_of (flat now) (omega (arith, p.some, length-flat now)) (p.ends h.ends) (omega (arith, p.light, w))
+inner_dict old now path change room h w p = inner_flat now (p.ends h.ends) (omega (arith, p.light, w))
 
 pub inner_change : (b : Bool) (old now : Pairs) (path : List (List ℕ)) (change : Change) (room : ℕ) → IsInner (write (flat old)) → length (write (flat old)) + room ≤ 16777216 → OnTrue b (DictChange path change room old now) → OnTrue b (InnerChange (entry_changed path change (write (flat old))) room (write (flat old)) (write (flat now)))
 inner_change true old now path change room h w p =
@@ -166,9 +232,6 @@ appended_within false t now more room w k s f = omega (arith, w, ap length f)
 pub extended_done : {U : Type 0} (r : Result U ValueError) (b : Bool) (kept room most : ℕ) (ts xs ys now : List (List ℕ)) → b ≡ is_ok r → kept ≡ weight ts → ts ≡ xs → most ≡ kept + room → OnOk r (now ≡ xs ++ ys) → OnOk r (weight now ≤ most) → OnTrue b ((now ≡ xs ++ ys) × (length (write now) ≤ length (write xs) + room))
 extended_done (Ok u) b kept room most ts xs ys now e k v m s w = subst (λ z. OnTrue z ((now ≡ xs ++ ys) × (length (write now) ≤ length (write xs) + room))) (sym e) (s, lighter xs now room (omega (arith, k, ap weight v, m, w)))
 extended_done (Err u) b kept room most ts xs ys now e k v m s w = subst (λ z. OnTrue z ((now ≡ xs ++ ys) × (length (write now) ≤ length (write xs) + room))) (sym e) tt
-
-abbrev text_of : List ℕ × List ℕ → List ℕ
-text_of e = e.1
 
 same_value : (es : Pairs) (i : ℕ) (a b : List ℕ) → i < length es → a ≡ (get_or es i ([], a)).1 → b ≡ (get_or es i ([], b)).1 → a ≡ b
 same_value es i a b h e f = e ∙ ap text_of (there es i ([], a) ([], b) h) ∙ sym f

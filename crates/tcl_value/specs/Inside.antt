@@ -7,10 +7,10 @@ use Rattle.tcl_text.specs.declared.list.ListFault.{ListFault}
 use Rattle.tcl_text.specs.Lists.{list_of}
 use Rattle.tcl_value.specs.Writing.{write_element, write}
 use Rattle.tcl_value.specs.Texts.{element_text, texts, flat, ends_in_backslash, IsElement, AreElements}
-use Rattle.tcl_value.specs.Dicts.{Pairs, put, value_of, dict_of}
+use Rattle.tcl_value.specs.Dicts.{Pairs, put, without, value_of, dict_of}
 use Rattle.tcl_value.specs.declared.dict_fault.DictFault.{DictFault}
 use Rattle.tcl_value.specs.declared.element.Change.{Change}
-use Rattle.tcl_value.specs.declared.element.Change.TheVariants.{Value, Elements, Text}
+use Rattle.tcl_value.specs.declared.element.Change.TheVariants.{Value, Elements, Text, Without}
 
 -- the element at a place, which is empty where there is none yet
 abbrev pub element_at : ℕ → List (List ℕ) → List ℕ
@@ -60,11 +60,21 @@ at_dict (Err fault) go = None
 abbrev pub elements_added : List (List ℕ) → List ℕ → Option (List ℕ)
 elements_added more text = at_list (list_of text) (λ l. Some (write (l ++ more)))
 
--- the text after a change: another one in its place, others behind the elements of its list, or one behind it
+-- the text of some entries without a key
+abbrev pub text_without : Pairs → List ℕ → Option (List ℕ)
+text_without [] key = None
+text_without (e ∷ es) key = Some (write (flat (without (e ∷ es) key)))
+
+-- The dict of a text without a key, which may be missing. An empty dict has nothing to lose, so none is made where a key of the path is missing.
+abbrev pub key_dropped : List ℕ → List ℕ → Option (List ℕ)
+key_dropped key text = at_dict (dict_of text) (λ es. text_without es key)
+
+-- the text after a change: another one in its place, others behind the elements of its list, one behind it, or its dict without a key
 abbrev pub changed_by : Change → List ℕ → Option (List ℕ)
 changed_by (Value element) text = Some (element_text element)
 changed_by (Elements elements) text = elements_added (texts elements.items) text
 changed_by (Text more) text = Some (text ++ more)
+changed_by (Without key) text = key_dropped key text
 
 -- The text after what becomes of the one at the end of a path of keys: the first key is one of its dict, and the rest lead on in its value. A key that is missing
 -- has an empty value. A dict that is changed is written anew.
@@ -75,15 +85,15 @@ entry_made (k ∷ path) make text = at_dict (dict_of text) (λ es. option_map (�
 abbrev pub entry_changed : List (List ℕ) → Change → List ℕ → Option (List ℕ)
 entry_changed path change text = entry_made path (changed_by change) text
 
--- a change after which no text ends in a backslash
+-- a change that puts nothing at the end that ends in a backslash
 abbrev pub IsChange : Change → Type 0
 IsChange (Value element) = IsElement element × (ends_in_backslash (element_text element) ≡ false)
 IsChange (Elements elements) = AreElements elements.items × (1 ≤ length elements.items) × (ends_in_backslash (write (texts elements.items)) ≡ false)
 IsChange (Text more) = (1 ≤ length more) × (ends_in_backslash more ≡ false)
+IsChange (Without key) = Unit {0}
 
 -- a dict before and after a change at the end of a path of keys: its text is longer by no more than there is room for, and ends in no backslash
 pub record DictChange (path : List (List ℕ)) (change : Change) (room : ℕ) (old now : Pairs) : Type 0 where
   pub changed : entry_changed path change (write (flat old)) ≡ Some (write (flat now))
   pub ends : ends_in_backslash (write (flat old)) ≡ false → ends_in_backslash (write (flat now)) ≡ false
-  pub some : 1 ≤ length now
   pub light : length (write (flat now)) ≤ length (write (flat old)) + room

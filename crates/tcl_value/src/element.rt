@@ -45,6 +45,8 @@ pub(crate) enum Change {
     Elements(Vec<Element>),
     /// This comes behind its text.
     Text(Text),
+    /// Its dict loses this key.
+    Without(Text),
 }
 
 impl Element {
@@ -235,13 +237,10 @@ impl Element {
         ensures element { IsElement self.new }
         ensures unchanged { OnFalse result (element_text self.new ≡ element_text self.old) }
     {
-        if path.is_empty() {
-            return self.change_itself(alloc, change, room);
+        if let Element::Dict(entries) = self {
+            return change_shared(entries, alloc, path, change, room);
         }
-        match self {
-            Element::Dict(entries) => change_shared(entries, alloc, path, change, room),
-            Element::Text(_) | Element::Grown(_) | Element::Number(_) | Element::List(_) => false,
-        }
+        path.is_empty() && self.change_itself(alloc, change, room)
     }
 
     /// Changes it, where it is kept in the form that the change asks for, and what is written of it is then longer by at most so many

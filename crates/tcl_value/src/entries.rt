@@ -5,7 +5,7 @@ ghost use Rattle.std.specs.String.{string_bytes};
 ghost use Rattle.tcl_text.specs.Writing.{Extends};
 ghost use Rattle.tcl_value.specs.Limits.{IsWithin, IsPast};
 ghost use Rattle.tcl_value.specs.Writing.{write, write_element};
-ghost use Rattle.tcl_value.specs.Texts.{texts, flat, element_text, IsElement, IsInner, AreElements, weight, element_shown};
+ghost use Rattle.tcl_value.specs.Texts.{texts, flat, element_text, IsElement, IsInner, AreElements, weight, element_shown, ends_in_backslash};
 ghost use Rattle.tcl_value.specs.Dicts.{put, without, value_of, put_all, place_of, value_set, entry_dropped};
 ghost use Rattle.tcl_value.specs.Inside.{DictChange, IsChange};
 
@@ -323,6 +323,38 @@ impl Entries {
         self.put(key, value, most).is_ok()
     }
 
+    /// Whether its text ends in a backslash without the entry at a place.
+    fn ends_in_backslash_without(&self, index: usize) -> bool
+        requires { index < length self.now }
+        ensures { result ≡ ends_in_backslash (write (flat (entry_dropped self.now index))) }
+    {
+        let last = self.len() - 1;
+        if index < last {
+            return self.value(last).ends_in_backslash();
+        }
+        last > 0 && self.value(last - 1).ends_in_backslash()
+    }
+
+    /// Removes a key, if it is there, where that is the change, and the text then ends in no backslash and is longer by at most so
+    /// many bytes. Says whether it did; where it didn't, nothing is changed.
+    fn remove_by(&mut self, change: Change, room: usize) -> bool
+        ensures change { OnTrue result (DictChange [] change room self.old self.new) }
+        ensures unchanged { OnFalse result (self.new ≡ self.old) }
+    {
+        let Change::Without(key) = change else {
+            return false;
+        };
+        self.reads_back();
+        let Some(index) = self.find(&key) else {
+            return self.len() > 0;
+        };
+        if self.ends_in_backslash_without(index) {
+            return false;
+        }
+        let most = self.weight + room as u128;
+        self.remove_at(index, most).is_ok()
+    }
+
     /// Changes what stands at the end of a path of keys in the value of a key, where the text is then longer by at most so many bytes.
     /// Says whether it did; where it didn't, nothing is changed.
     #[cycle(change)]
@@ -372,7 +404,7 @@ impl Entries {
         ensures unchanged { OnFalse result (self.new ≡ self.old) }
     {
         let [key, rest @ ..] = path else {
-            return false;
+            return self.remove_by(change, room);
         };
         let Ok(key) = key.key_text(alloc) else {
             return false;

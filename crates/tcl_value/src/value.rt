@@ -6,7 +6,7 @@ ghost use Rattle.std.specs.String.{string_bytes};
 ghost use Rattle.tcl_value.specs.Limits.{Bytes, IsWithin, IsPast};
 ghost use Rattle.tcl_value.specs.Writing.{write};
 ghost use Rattle.tcl_value.specs.Texts.{element_text, texts, flat, ends_in_backslash, IsElement, AreElements};
-ghost use Rattle.tcl_value.specs.Inside.{element_put, entry_changed, entry_made, elements_added, IsChange};
+ghost use Rattle.tcl_value.specs.Inside.{element_put, entry_changed, entry_made, elements_added, key_dropped, IsChange};
 ghost use Rattle.tcl_value.specs.Reading.{int_of, list_of};
 ghost use Rattle.tcl_text.specs.Reading.{Gives};
 ghost use Rattle.tcl_text.specs.Writing.{Extends};
@@ -717,6 +717,19 @@ impl Value {
             return false;
         }
         self.change_entry(alloc, path, Change::Elements(elements))
+    }
+
+    /// Removes a key, if it is there, from the dict at the end of a path of keys, where that dict and those on the way are kept as
+    /// dicts: in place where they aren't shared. Says whether it did; where it didn't, nothing is changed, and the change is one
+    /// to be made otherwise.
+    pub fn remove_inside(&mut self, alloc: Global, path: &[Value], key: &Value) -> bool
+        ensures removed { OnTrue result (entry_made path.now (key_dropped key.now) self.old ≡ Some self.new) }
+        ensures unchanged { OnFalse result (self.new ≡ self.old) }
+    {
+        match key.text(alloc) {
+            Ok(key) => self.change_entry(alloc, path, Change::Without(key)),
+            Err(_) => false,
+        }
     }
 
     /// The script that its text is, which is kept. Faults of the text are part of the script.

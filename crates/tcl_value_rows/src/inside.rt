@@ -161,3 +161,69 @@ fn list_grows_inside_and_the_copy_stays(rt: HostRuntime) -> Result<(), Fail> {
     assert!(rt; is(alloc, &copy, "a {x b l {0 1 2}} c 3")?, "the copy");
     Ok(())
 }
+
+/// Whether a key was removed from the dict at the end of a path of keys, or wasn't there.
+fn remove(alloc: Global, own: &mut Value, path: &[&str], key: &str) -> Result<bool, ValueError> {
+    let key = value(alloc, key)?;
+    Ok(own.remove_inside(alloc, &keys(alloc, path)?, &key))
+}
+
+/// A dict that has lost its last key takes another.
+#[test]
+fn key_is_removed_inside_and_the_copy_stays(rt: HostRuntime) -> Result<(), Fail> {
+    let alloc = rt.alloc();
+    let mut own = nest(alloc)?;
+    let copy = own.clone()?;
+    assert!(rt; remove(alloc, &mut own, &["a"], "x")?, "the first key");
+    assert!(rt; is(alloc, &own, "a {l {0 1 2}} c 3")?, "the first key");
+    assert!(rt; remove(alloc, &mut own, &["a"], "x")?, "no such key");
+    assert!(rt; is(alloc, &own, "a {l {0 1 2}} c 3")?, "no such key");
+    assert!(rt; remove(alloc, &mut own, &["a"], "l")?, "the last key");
+    assert!(rt; is(alloc, &own, "a {} c 3")?, "the last key");
+    assert!(rt; set(alloc, &mut own, &["a", "y"], "1")?, "a new key");
+    assert!(rt; remove(alloc, &mut own, &[], "c")?, "of the outermost");
+    assert!(rt; is(alloc, &own, "a {y 1}")?, "of the outermost");
+    assert!(rt; is(alloc, &copy, "a {x b l {0 1 2}} c 3")?, "the copy");
+    Ok(())
+}
+
+/// A key that begins with a number sign stands in braces where it is the first.
+#[test]
+fn key_that_comes_first_is_written_anew(rt: HostRuntime) -> Result<(), Fail> {
+    let alloc = rt.alloc();
+    let mut own = nest(alloc)?;
+    assert!(rt; set(alloc, &mut own, &["a", "#"], "1")?, "a third");
+    assert!(rt; remove(alloc, &mut own, &["a"], "l")?, "the second");
+    assert!(rt; is(alloc, &own, "a {x b # 1} c 3")?, "the second");
+    assert!(rt; remove(alloc, &mut own, &["a"], "x")?, "the first");
+    assert!(rt; is(alloc, &own, "a {{#} 1} c 3")?, "the first");
+    Ok(())
+}
+
+#[test]
+fn no_key_is_removed_where_no_dict_is_kept(rt: HostRuntime) -> Result<(), Fail> {
+    let alloc = rt.alloc();
+    let mut own = nest(alloc)?;
+    assert!(rt; !remove(alloc, &mut own, &["b"], "x")?, "no such dict");
+    assert!(rt; !remove(alloc, &mut own, &["b", "d"], "x")?, "no way to it");
+    assert!(rt; !remove(alloc, &mut own, &["c"], "x")?, "a number");
+    assert!(rt; !remove(alloc, &mut own, &["a", "x"], "b")?, "a text");
+    assert!(rt; !remove(alloc, &mut own, &["a", "l"], "0")?, "a list");
+    assert!(rt; is(alloc, &own, "a {x b l {0 1 2}} c 3")?, "as it was");
+    Ok(())
+}
+
+/// The dict `a {x \\ l {0 1 2}} c 3`, whose inner dict would end in a backslash without its last key.
+#[test]
+fn no_backslash_comes_last_inside(rt: HostRuntime) -> Result<(), Fail> {
+    let alloc = rt.alloc();
+    let mut inner = one_key(alloc, "x", value(alloc, "\\")?)?;
+    inner.set_key(alloc, &value(alloc, "l")?, three(alloc)?)?;
+    let mut own = one_key(alloc, "a", inner)?;
+    own.set_key(alloc, &value(alloc, "c")?, Value::from_int(3))?;
+    assert!(rt; !remove(alloc, &mut own, &["a"], "l")?, "the last key");
+    assert!(rt; is(alloc, &own, "a {x \\\\ l {0 1 2}} c 3")?, "as it was");
+    assert!(rt; remove(alloc, &mut own, &["a"], "x")?, "the first key");
+    assert!(rt; is(alloc, &own, "a {l {0 1 2}} c 3")?, "the first key");
+    Ok(())
+}

@@ -3,7 +3,7 @@ use Rattle.std.proofs.lemmas.Result.{err_from_is_err_and}
 use Rattle.tcl_nested.proofs.Placed.{given_on, first_and_rest}
 use Rattle.tcl_nested.specs.Nested.{key_removed, RefusesText}
 use Rattle.tcl_nested.proofs.Levels.{key_below, key_missing}
-use Rattle.tcl_nested.proofs.changing.remove_key.Goals as goal
+use Rattle.tcl_nested.proofs.changing.remove_key_anew.Goals as goal
 
 pub returns-in_err-inner-in-len1-up-clause-refused : goal.returns-in_err-inner-in-len1-up-clause-refused
 returns-in_err-inner-in-len1-up-clause-refused c =
