@@ -61,12 +61,6 @@ fn called(alloc: Global) -> Result<Watched, Fail> {
     Ok(watch(alloc, &mut tree, "c", CALLING)?)
 }
 
-/// What comes of the moves of the record.
-fn called_again(alloc: Global, limit: u64) -> Result<Replayed, Fail> {
-    let moves = called_moves(alloc)?;
-    replay(alloc, &caller(alloc)?, moves.as_slice(), limit)
-}
-
 /// The moves of the record.
 fn called_moves(alloc: Global) -> Result<Vec<Move>, Fail> {
     let called = called(alloc)?;
@@ -76,16 +70,23 @@ fn called_moves(alloc: Global) -> Result<Vec<Move>, Fail> {
     Ok(moves_of(alloc, called.crossings.as_slice())?)
 }
 
-#[test]
-fn ten_thousand_entries_are_recorded_and_replayed(rt: HostRuntime) -> Result<(), Fail> {
-    let alloc = rt.alloc();
-    let replayed = called_again(alloc, 10_000)?;
-    see_last(alloc, &replayed, Outcome::Finished, "Done y")
+/// Sees how the moves come out with so many steps.
+fn see_called(
+    alloc: Global,
+    caller: &Saved,
+    moves: &[Move],
+    limit: u64,
+    outcome: Outcome,
+) -> Result<(), Fail> {
+    let replayed = replay(alloc, caller, moves, limit)?;
+    see_last(alloc, &replayed, outcome, "Done y")
 }
 
 #[test]
-fn ten_thousand_entries_need_ten_thousand_steps(rt: HostRuntime) -> Result<(), Fail> {
+fn ten_thousand_entries_are_recorded_and_replayed(rt: HostRuntime) -> Result<(), Fail> {
     let alloc = rt.alloc();
-    let replayed = called_again(alloc, 9_999)?;
-    see_last(alloc, &replayed, Outcome::Spent, "Done y")
+    let moves = called_moves(alloc)?;
+    let caller = caller(alloc)?;
+    see_called(alloc, &caller, moves.as_slice(), 10_000, Outcome::Finished)?;
+    see_called(alloc, &caller, moves.as_slice(), 9_999, Outcome::Spent)
 }
