@@ -106,24 +106,25 @@ fn unset(alloc: Global, own: &mut Value, key: &str, inner: &str) -> Result<(), R
     changing::unset(alloc, own, &path, &short(alloc, inner)?)
 }
 
-/// What `tclsh` makes of it too. A key that begins with a number sign stands in braces where it is the first.
+/// Keys that are unset in the dicts of `a` and `b` one after another, there or not, and what is left. A key that begins with a number sign stands in braces
+/// where it is the first.
+const UNSET: [(&str, &str, &str); 4] = [
+    ("a", "y", "a {x 1 # 3} b {x 4}"),
+    ("b", "y", "a {x 1 # 3} b {x 4}"),
+    ("a", "x", "a {{#} 3} b {x 4}"),
+    ("b", "x", "a {{#} 3} b {}"),
+];
+
 #[test]
 fn key_inside_is_unset_and_the_copy_stays(rt: HostRuntime) -> Result<(), Fail> {
     let alloc = rt.alloc();
     let mut own = word(alloc, "a {x 1 y 2 # 3} b {x 4}")?;
-    unset(alloc, &mut own, "a", "y")?;
-    unset(alloc, &mut own, "b", "y")?;
-    assert!(rt; is(alloc, &own, "a {x 1 # 3} b {x 4}")?, "first changes");
     let copy = own.clone()?;
-    unset(alloc, &mut own, "a", "x")?;
-    unset(alloc, &mut own, "b", "x")?;
-    assert!(rt; is(alloc, &own, "a {{#} 3} b {}")?, "in place");
-    unset(alloc, &mut own, "a", "x")?;
-    unset(alloc, &mut own, "b", "x")?;
-    assert!(rt; is(alloc, &own, "a {{#} 3} b {}")?, "no such keys");
-    put(alloc, &mut own, "b", "y", "5")?;
-    assert!(rt; is(alloc, &own, "a {{#} 3} b {y 5}")?, "a new key");
-    assert!(rt; is(alloc, &copy, "a {x 1 # 3} b {x 4}")?, "the copy");
+    'keys: for (key, inner, left) in UNSET {
+        unset(alloc, &mut own, key, inner)?;
+        assert!(rt; is(alloc, &own, left)?, "{left}");
+    }
+    assert!(rt; is(alloc, &copy, "a {x 1 y 2 # 3} b {x 4}")?, "the copy");
     Ok(())
 }
 

@@ -168,21 +168,23 @@ fn remove(alloc: Global, own: &mut Value, path: &[&str], key: &str) -> Result<bo
     Ok(own.remove_inside(alloc, &keys(alloc, path)?, &key))
 }
 
-/// A dict that has lost its last key takes another.
+/// Keys that are removed from the inner dict one after another, there or not, and what is left of the whole. A dict that has lost its last key is empty.
+const REMOVED: [(&str, &str); 4] = [
+    ("x", "a {l {0 1 2}} c 3"),
+    ("x", "a {l {0 1 2}} c 3"),
+    ("l", "a {} c 3"),
+    ("l", "a {} c 3"),
+];
+
 #[test]
 fn key_is_removed_inside_and_the_copy_stays(rt: HostRuntime) -> Result<(), Fail> {
     let alloc = rt.alloc();
     let mut own = nest(alloc)?;
     let copy = own.clone()?;
-    assert!(rt; remove(alloc, &mut own, &["a"], "x")?, "the first key");
-    assert!(rt; is(alloc, &own, "a {l {0 1 2}} c 3")?, "the first key");
-    assert!(rt; remove(alloc, &mut own, &["a"], "x")?, "no such key");
-    assert!(rt; is(alloc, &own, "a {l {0 1 2}} c 3")?, "no such key");
-    assert!(rt; remove(alloc, &mut own, &["a"], "l")?, "the last key");
-    assert!(rt; is(alloc, &own, "a {} c 3")?, "the last key");
-    assert!(rt; set(alloc, &mut own, &["a", "y"], "1")?, "a new key");
-    assert!(rt; remove(alloc, &mut own, &[], "c")?, "of the outermost");
-    assert!(rt; is(alloc, &own, "a {y 1}")?, "of the outermost");
+    'keys: for (key, left) in REMOVED {
+        let _there = remove(alloc, &mut own, &["a"], key)?;
+        assert!(rt; is(alloc, &own, left)?, "{left}");
+    }
     assert!(rt; is(alloc, &copy, "a {x b l {0 1 2}} c 3")?, "the copy");
     Ok(())
 }
@@ -191,39 +193,44 @@ fn key_is_removed_inside_and_the_copy_stays(rt: HostRuntime) -> Result<(), Fail>
 #[test]
 fn key_that_comes_first_is_written_anew(rt: HostRuntime) -> Result<(), Fail> {
     let alloc = rt.alloc();
-    let mut own = nest(alloc)?;
-    assert!(rt; set(alloc, &mut own, &["a", "#"], "1")?, "a third");
-    assert!(rt; remove(alloc, &mut own, &["a"], "l")?, "the second");
-    assert!(rt; is(alloc, &own, "a {x b # 1} c 3")?, "the second");
+    let mut own = one_key(alloc, "a", one_key(alloc, "x", value(alloc, "b")?)?)?;
+    assert!(rt; set(alloc, &mut own, &["a", "#"], "1")?, "the second");
     assert!(rt; remove(alloc, &mut own, &["a"], "x")?, "the first");
-    assert!(rt; is(alloc, &own, "a {{#} 1} c 3")?, "the first");
+    assert!(rt; is(alloc, &own, "a {{#} 1}")?, "the first");
     Ok(())
 }
+
+/// Paths at whose end no dict is kept: nobody is there, a number, a text, and a list.
+const NO_DICTS: [(&str, &str); 4] = [("b", "d"), ("c", "d"), ("a", "x"), ("a", "l")];
 
 #[test]
 fn no_key_is_removed_where_no_dict_is_kept(rt: HostRuntime) -> Result<(), Fail> {
     let alloc = rt.alloc();
     let mut own = nest(alloc)?;
-    assert!(rt; !remove(alloc, &mut own, &["b"], "x")?, "no such dict");
-    assert!(rt; !remove(alloc, &mut own, &["b", "d"], "x")?, "no way to it");
-    assert!(rt; !remove(alloc, &mut own, &["c"], "x")?, "a number");
-    assert!(rt; !remove(alloc, &mut own, &["a", "x"], "b")?, "a text");
-    assert!(rt; !remove(alloc, &mut own, &["a", "l"], "0")?, "a list");
+    'paths: for (first, second) in NO_DICTS {
+        assert!(rt;
+            !remove(alloc, &mut own, &[first, second], "0")?,
+            "{first} {second}"
+        );
+    }
     assert!(rt; is(alloc, &own, "a {x b l {0 1 2}} c 3")?, "as it was");
     Ok(())
 }
 
-/// The dict `a {x \\ l {0 1 2}} c 3`, whose inner dict would end in a backslash without its last key.
+/// The dict `a {x \\ l 1}`, whose inner dict would end in a backslash without its last key, built.
+fn escaped(alloc: Global) -> Result<Value, EntryError> {
+    let mut inner = one_key(alloc, "x", value(alloc, "\\")?)?;
+    inner.set_key(alloc, &value(alloc, "l")?, Value::from_int(1))?;
+    one_key(alloc, "a", inner)
+}
+
 #[test]
 fn no_backslash_comes_last_inside(rt: HostRuntime) -> Result<(), Fail> {
     let alloc = rt.alloc();
-    let mut inner = one_key(alloc, "x", value(alloc, "\\")?)?;
-    inner.set_key(alloc, &value(alloc, "l")?, three(alloc)?)?;
-    let mut own = one_key(alloc, "a", inner)?;
-    own.set_key(alloc, &value(alloc, "c")?, Value::from_int(3))?;
+    let mut own = escaped(alloc)?;
     assert!(rt; !remove(alloc, &mut own, &["a"], "l")?, "the last key");
-    assert!(rt; is(alloc, &own, "a {x \\\\ l {0 1 2}} c 3")?, "as it was");
+    assert!(rt; is(alloc, &own, "a {x \\\\ l 1}")?, "as it was");
     assert!(rt; remove(alloc, &mut own, &["a"], "x")?, "the first key");
-    assert!(rt; is(alloc, &own, "a {l {0 1 2}} c 3")?, "the first key");
+    assert!(rt; is(alloc, &own, "a {l 1}")?, "the first key");
     Ok(())
 }
