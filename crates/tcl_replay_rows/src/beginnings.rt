@@ -2,7 +2,9 @@
 use crate::playing::replay;
 use crate::records::{COMING, NAMED, WRITING};
 use crate::sizes::{CALLING, FILLING};
-use crate::worlds::{ASKED, ASKING, STEPS, Watched, run, saved, see_same, watch, watch_inside};
+use crate::worlds::{
+    ASKED, ASKING, STEPS, Watched, saved, see_same, tree_after, watch, watch_inside,
+};
 use crate::writing::{crossings, see, told};
 use std::alloc::{AllocError, Global};
 use std::test::Fail;
@@ -29,20 +31,14 @@ fn see_reading(alloc: Global, script: &str) -> Result<(), Fail> {
     Ok(())
 }
 
-/// A tree in which this was run.
-fn tree_after(alloc: Global, before: &str) -> Result<Tree, AllocError> {
-    let mut tree = Tree::new(alloc)?;
-    let _before = run(alloc, &mut tree, before)?;
-    Ok(tree)
-}
-
 /// Sees that a script is run to an end while the root is watched.
 fn see_end(alloc: Global, before: &str, script: &str) -> Result<(), Fail> {
     see_reading(alloc, script)?;
     let mut tree = tree_after(alloc, before)?;
     let watched = watch(alloc, &mut tree, "", script)?;
     if watched.crossings.is_empty() {
-        return Err(Fail::new(format_args!("not watched: {script}")));
+        let ending = watched.ending.as_str();
+        return Err(Fail::new(format_args!("{ending} of {script}")));
     }
     Ok(())
 }
