@@ -2,7 +2,9 @@
 use crate::playing::replay;
 use crate::records::{COMING, NAMED, WRITING};
 use crate::sizes::{CALLING, FILLING};
-use crate::worlds::{ASKED, ASKING, STEPS, Watched, run, saved, see_same, watch, watch_inside};
+use crate::worlds::{
+    ASKED, ASKING, STEPS, Watched, saved, see_same, tree_after, watch, watch_inside,
+};
 use crate::writing::{crossings, see, told};
 use std::alloc::{AllocError, Global};
 use std::test::Fail;
@@ -29,20 +31,14 @@ fn see_reading(alloc: Global, script: &str) -> Result<(), Fail> {
     Ok(())
 }
 
-/// A tree in which this was run.
-fn tree_after(alloc: Global, before: &str) -> Result<Tree, AllocError> {
-    let mut tree = Tree::new(alloc)?;
-    let _before = run(alloc, &mut tree, before)?;
-    Ok(tree)
-}
-
 /// Sees that a script is run to an end while the root is watched.
 fn see_end(alloc: Global, before: &str, script: &str) -> Result<(), Fail> {
     see_reading(alloc, script)?;
     let mut tree = tree_after(alloc, before)?;
     let watched = watch(alloc, &mut tree, "", script)?;
     if watched.crossings.is_empty() {
-        return Err(Fail::new(format_args!("not watched: {script}")));
+        let ending = watched.ending.as_str();
+        return Err(Fail::new(format_args!("{ending} of {script}")));
     }
     Ok(())
 }
@@ -118,12 +114,32 @@ fn see_outside(alloc: Global, script: &str) -> Result<(), Fail> {
     see_again(alloc, &tree, &before, &watched)
 }
 
-/// The same of a script in the child.
+/// Sees so of every beginning of a script, and of all of it.
+fn see_each_outside(alloc: Global, script: &str) -> Result<(), Fail> {
+    'ends: for end in 0..=script.len() {
+        if let Some(beginning) = script.get(..end) {
+            see_outside(alloc, beginning)?;
+        }
+    }
+    Ok(())
+}
+
+/// Sees that of the child `c` by itself there comes what comes of it in a run of a script in it.
 fn see_inside(alloc: Global, script: &str) -> Result<(), Fail> {
     let mut tree = tree_after(alloc, ASKING)?;
     let before = saved(alloc, &tree, "c")?;
     let watched = watch_inside(alloc, &mut tree, "c", script)?;
     see_again(alloc, &tree, &before, &watched)
+}
+
+/// Sees so of every beginning of a script, and of all of it.
+fn see_each_inside(alloc: Global, script: &str) -> Result<(), Fail> {
+    'ends: for end in 0..=script.len() {
+        if let Some(beginning) = script.get(..end) {
+            see_inside(alloc, beginning)?;
+        }
+    }
+    Ok(())
 }
 
 /// Entries of many kinds into a child.
@@ -132,13 +148,7 @@ const ENTERING: &str =
 
 #[test]
 fn beginnings_of_entries_are_replayed(rt: HostRuntime) -> Result<(), Fail> {
-    let alloc = rt.alloc();
-    'ends: for end in 0..=ENTERING.len() {
-        if let Some(beginning) = ENTERING.get(..end) {
-            see_outside(alloc, beginning)?;
-        }
-    }
-    Ok(())
+    see_each_outside(rt.alloc(), ENTERING)
 }
 
 /// Calls and entries in turn.
@@ -147,11 +157,5 @@ const ASKING_TWICE: &str =
 
 #[test]
 fn beginnings_of_calls_are_replayed(rt: HostRuntime) -> Result<(), Fail> {
-    let alloc = rt.alloc();
-    'ends: for end in 0..=ASKING_TWICE.len() {
-        if let Some(beginning) = ASKING_TWICE.get(..end) {
-            see_inside(alloc, beginning)?;
-        }
-    }
-    Ok(())
+    see_each_inside(rt.alloc(), ASKING_TWICE)
 }

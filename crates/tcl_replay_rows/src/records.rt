@@ -1,7 +1,7 @@
 //! Records of one boundary.
 use crate::worlds::{
-    ASKED, RECORD, STEPS, asking, asking_after, run, saved, see_run, see_same, see_watched, watch,
-    watch_within,
+    ASKED, RECORD, STEPS, asking, asking_after, prepare, saved, see_run, see_same, see_watched,
+    watch, watch_within,
 };
 use crate::writing::see;
 use std::alloc::Global;
@@ -42,7 +42,7 @@ fn the_root_is_entered_once(rt: HostRuntime) -> Result<(), Fail> {
 /// The child `c` as it is left where it asks, which is recorded as ever; the scripts are run before it is made, and before it asks.
 fn asked_after(alloc: Global, before: &str, between: &str) -> Result<Saved, Fail> {
     let mut tree = asking_after(alloc, before)?;
-    let _between = run(alloc, &mut tree, between)?;
+    prepare(alloc, &mut tree, between)?;
     see_worked(alloc, &mut tree, "c", ASKED, "yes q", RECORD)?;
     let left = saved(alloc, &tree, "c")?;
     see_run(alloc, &mut tree, "c eval {info globals}", "seen")?;

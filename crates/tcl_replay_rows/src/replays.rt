@@ -45,14 +45,19 @@ const PLAYED: [(&str, &str); 11] = [
     ("in set a 1\nin set a", "Finished\nDone 1\nDone 1\n"),
 ];
 
+/// Sees what comes of the moves of each row.
+fn see_rows(alloc: Global, saved: &Saved, rows: &[(&str, &str)]) -> Result<(), Fail> {
+    'rows: for &(lines, wanted) in rows {
+        see_played(alloc, saved, lines, STEPS, wanted)?;
+    }
+    Ok(())
+}
+
 #[test]
 fn moves_come_to_what_they_must(rt: HostRuntime) -> Result<(), Fail> {
     let alloc = rt.alloc();
     let asker = asker(alloc)?;
-    'played: for (lines, wanted) in PLAYED {
-        see_played(alloc, &asker, lines, STEPS, wanted)?;
-    }
-    Ok(())
+    see_rows(alloc, &asker, &PLAYED)
 }
 
 /// The moves of the worked evaluation.

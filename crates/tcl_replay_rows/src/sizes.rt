@@ -1,6 +1,6 @@
 //! Long records, and large values.
 use crate::playing::{play, replay};
-use crate::worlds::{Watched, run, saved, see_run, watch};
+use crate::worlds::{Watched, saved, tree_after, watch};
 use crate::writing::{crossing, see};
 use std::alloc::Global;
 use std::test::Fail;
@@ -26,8 +26,7 @@ pub(crate) const FILLING: &str = "interp create c; c eval {set l [lrepeat 100000
 
 /// The child that has them.
 fn filled(alloc: Global) -> Result<Saved, Fail> {
-    let mut tree = Tree::new(alloc)?;
-    let _list = run(alloc, &mut tree, FILLING)?;
+    let tree = tree_after(alloc, FILLING)?;
     saved(alloc, &tree, "c")
 }
 
@@ -44,9 +43,7 @@ pub(crate) const CALLING: &str =
 
 /// A tree with a safe child.
 fn childish(alloc: Global) -> Result<Tree, Fail> {
-    let mut tree = Tree::new(alloc)?;
-    see_run(alloc, &mut tree, "interp create -safe c", "c")?;
-    Ok(tree)
+    tree_after(alloc, "interp create -safe c")
 }
 
 /// The child before that.

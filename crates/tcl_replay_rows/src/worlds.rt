@@ -35,6 +35,15 @@ pub(crate) fn run(alloc: Global, tree: &mut Tree, script: &str) -> Result<String
     }
 }
 
+/// Runs a script in the root, however that ends.
+pub(crate) fn prepare(alloc: Global, tree: &mut Tree, script: &str) -> Result<(), Fail> {
+    let mut host = MemoryHost::new(alloc)?;
+    match eval(tree, alloc, &mut host, &[], script, STEPS) {
+        Ok(_) => Ok(()),
+        Err(refused) => Err(Fail::new(format_args!("not run: {refused:?}"))),
+    }
+}
+
 /// Sees how a run of a script in the root ends.
 pub(crate) fn see_run(
     alloc: Global,
@@ -194,10 +203,16 @@ pub(crate) const ASKED: &str = "c eval {list [ask q] $seen}";
 pub(crate) const RECORD: &str =
     "In eval list [ask q] $seen\nOut 1 call answer q\nIn eval set seen q\nDone q\nBack yes\nDone yes q\n";
 
+/// A tree in which this was run.
+pub(crate) fn tree_after(alloc: Global, before: &str) -> Result<Tree, Fail> {
+    let mut tree = Tree::new(alloc)?;
+    prepare(alloc, &mut tree, before)?;
+    Ok(tree)
+}
+
 /// A tree in which this was run before the child `c` with its alias was made.
 pub(crate) fn asking_after(alloc: Global, before: &str) -> Result<Tree, Fail> {
-    let mut tree = Tree::new(alloc)?;
-    let _before = run(alloc, &mut tree, before)?;
+    let mut tree = tree_after(alloc, before)?;
     see_run(alloc, &mut tree, ASKING, "ask")?;
     Ok(tree)
 }
