@@ -16,7 +16,31 @@ unset -nocomplain -- a => ";
 fn integers_are_raised(rt: HostRuntime) -> Result<(), Fail> {
     let rows = "set x 010; incr x => 9
 set n 9223372036854775807; incr n => 1: integer overflow
-incr n -3 => -3";
+incr n -3 => -3
+incr x 5; incr x => 6
+set x { 010 }; incr x => 9
+set a(k) 4; incr a(k) 2; set a(k) => 6
+incr a(k); set a(k) => 1
+set u 5; upvar 0 u w; incr w; set u => 6
+upvar 0 u w; incr w; set u => 1";
+    assert_eq!(rt; first_wrong(rt.alloc(), rows)?, "");
+    Ok(())
+}
+
+#[test]
+fn refused_increments_leave_the_variable(rt: HostRuntime) -> Result<(), Fail> {
+    let rows = "set x abc; incr x nope => 1: expected integer but got \"abc\"
+set x 5; incr x nope => 1: expected integer but got \"nope\"
+set x 5; incr x nope; set x => 5
+incr x nope => 1: expected integer but got \"nope\"
+incr x nope; set x => 1: can't read \"x\": no such variable
+set x {}; incr x => 1: expected integer but got \"\"
+set n 9223372036854775807; incr n; set n => 9223372036854775807
+set n 010; incr n 9223372036854775807; set n => 010
+set a(k) 1; incr a => 1: can't read \"a\": variable is array
+set x 1; incr x(k) => 1: can't read \"x(k)\": variable isn't array
+incr => 1: wrong # args: should be \"incr varName ?increment?\"
+incr x 1 2 => 1: wrong # args: should be \"incr varName ?increment?\"";
     assert_eq!(rt; first_wrong(rt.alloc(), rows)?, "");
     Ok(())
 }

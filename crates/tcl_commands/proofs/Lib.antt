@@ -5,6 +5,7 @@ pub mod Chains
 pub mod Setting
 pub mod Ways
 pub mod Growths
+pub mod Raising
 pub mod Same
 pub mod Linking
 pub mod Reached

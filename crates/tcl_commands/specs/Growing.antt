@@ -1,5 +1,5 @@
 -- What adding to a variable comes to.
-use Rattle.std.specs.Prelude.{◌≡◌, List, ◌++◌, [], Result, Ok, Err, MatchResult}
+use Rattle.std.specs.Prelude.{◌≡◌, List, ◌++◌, Result, Ok, Err, MatchResult}
 use Rattle.tcl_core.specs.Endings.{Completion, ok}
 use Rattle.tcl_core.specs.Endings.Reply.{Completed}
 use Rattle.tcl_core.specs.Paths.{Text}
@@ -47,13 +47,14 @@ abbrev pub grown_from : Chain → Text → (Text → Growth) → Result Text Fra
 grown_from chain name grow (Ok old) = set_grown chain name (grow old)
 grown_from chain name grow (Err f) = Err (failing (frame_message f))
 
--- a variable grows, from the empty text where there is none
-abbrev pub grown : Chain → Text → (Text → Growth) → Grown
-grown chain name grow = grown_from chain name grow (or_missing [] (read chain.frames name))
+-- a variable grows, from the first text where there is none
+abbrev pub grown : Text → Chain → Text → (Text → Growth) → Grown
+grown first chain name grow = grown_from chain name grow (or_missing first (read chain.frames name))
 
 -- what a call returned and left of the chain is that, unless memory ran out
-abbrev pub Grows : Chain → Text → (Text → Growth) → Chain → Result Text Interruption → Type 0
-Grows old name grow new result = MatchResult result (λ text. grown old name grow ≡ Ok (text, new)) (λ i. Interrupts i (λ e. (c : Completion) × (new ≡ old) × (grown old name grow ≡ Err c) × (e ≡ Completed c)))
+abbrev pub Grows : Text → Chain → Text → (Text → Growth) → Chain → Result Text Interruption → Type 0
+Grows first old name grow new result =
+    MatchResult result (λ text. grown first old name grow ≡ Ok (text, new)) (λ i. Interrupts i (λ e. (c : Completion) × (new ≡ old) × (grown first old name grow ≡ Err c) × (e ≡ Completed c)))
 
 -- the same of a value
 abbrev pub GrowsTo : Text → (Text → Growth) → Text → Result Text Interruption → Type 0

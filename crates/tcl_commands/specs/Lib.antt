@@ -3,6 +3,7 @@ pub mod Endings
 pub mod Steps
 pub mod Reading
 pub mod Growing
+pub mod Sums
 pub mod GrowthKinds
 pub mod Calls
 pub mod Ending

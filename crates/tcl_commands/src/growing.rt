@@ -1,5 +1,5 @@
-//! The commands that add to variables: in place, where what a variable holds isn't shared.
-ghost use Rattle.std.specs.Prelude.{◌≡◌, ◌++◌, [], Ok, IfErr, OnOk, true};
+//! Adding to variables, and the commands that do it to texts and lists: in place, where what a variable holds isn't shared.
+ghost use Rattle.std.specs.Prelude.{◌≡◌, ◌++◌, Ok, IfErr, OnOk, true};
 ghost use Rattle.tcl_core.specs.Paths.{Path};
 ghost use Rattle.tcl_language.specs.Data as collections;
 ghost use Rattle.tcl_frames.specs.Chain.{read};
@@ -11,15 +11,17 @@ ghost use Rattle.tcl_run.specs.Runs.{IsLevel};
 ghost use Rattle.tcl_run.specs.declared.interruption.Interruption.TheVariants.{Memory};
 ghost use Rattle.tcl_tree.specs.TreeOf.{Names};
 ghost use Rattle.tcl_commands.specs.Growing.{appended, lengthened, grown, finishes, Grows, GrowsTo};
-ghost use Rattle.tcl_commands.specs.GrowthKinds.{grown_by};
+ghost use Rattle.tcl_commands.specs.GrowthKinds.{first_of, grown_by};
 
 use crate::steps::is_missing;
+use crate::sums::raise;
 use std::alloc::Global;
 use tcl_frames::frames::Frames;
 use tcl_lists::refusing::not_changed;
 use tcl_run::failure::{failure, too_long, wrong_args};
 use tcl_run::interruption::Interruption;
 use tcl_run::steps::{frame_failure, read_variable};
+use tcl_text::integer::Integers;
 use tcl_text::text::Text;
 use tcl_tree::tree::{Place, Tree};
 use tcl_value::value::{MOST_BYTES, Value};
@@ -58,11 +60,13 @@ fn append_all(alloc: Global, value: &mut Value, more: &[Value]) -> Result<(), In
 
 /// What a variable grows by.
 #[derive(Clone, Copy)]
-enum Growth {
+pub(crate) enum Growth {
     /// Texts behind its text.
     Texts,
     /// Elements behind those of its list.
     Elements,
+    /// What is added to its integer, in this style of integer texts: that of the first word, or 1 where there is none.
+    Sum(Integers),
 }
 
 /// Adds the texts of values to that of a value, and gives what it then is.
@@ -109,6 +113,18 @@ fn grow_value(
     match growth {
         Growth::Texts => append_texts(alloc, value, more),
         Growth::Elements => append_elements(alloc, value, more),
+        Growth::Sum(style) => raise(style, alloc, value, more),
+    }
+}
+
+/// What a variable grows from where there is none.
+fn first_value(growth: Growth) -> Value
+    ensures { result ≡ first_of growth }
+{
+    match growth {
+        Growth::Texts => Value::empty(),
+        Growth::Elements => Value::empty(),
+        Growth::Sum(_) => Value::from_int(0),
     }
 }
 
@@ -120,10 +136,10 @@ fn make_variable(
     growth: Growth,
     more: &[Value],
 ) -> Result<Value, Interruption>
-    requires { variables.or_missing [] (read frames.old.frames name.now) ≡ Ok [] }
-    ensures { Grows frames.old name.now (grown_by growth more.now) frames.new result }
+    requires { variables.or_missing (first_of growth) (read frames.old.frames name.now) ≡ Ok (first_of growth) }
+    ensures { Grows (first_of growth) frames.old name.now (grown_by growth more.now) frames.new result }
 {
-    let mut value = Value::empty();
+    let mut value = first_value(growth);
     let grown = grow_value(alloc, &mut value, growth, more)?;
     match frames.set(alloc, name, value) {
         Ok(()) => Ok(grown),
@@ -131,7 +147,7 @@ fn make_variable(
     }
 }
 
-/// Makes a variable grow, from the empty value where there is none.
+/// Makes a variable grow, from the first value of its kind where there is none.
 fn grow(
     frames: &mut Frames,
     alloc: Global,
@@ -139,7 +155,7 @@ fn grow(
     growth: Growth,
     more: &[Value],
 ) -> Result<Value, Interruption>
-    ensures { Grows frames.old name.now (grown_by growth more.now) frames.new result }
+    ensures { Grows (first_of growth) frames.old name.now (grown_by growth more.now) frames.new result }
 {
     match frames.get_mut(alloc, name) {
         Ok(value) => grow_value(alloc, value, growth, more),
@@ -153,7 +169,7 @@ fn grow(
 }
 
 /// Makes a variable of the interpreter that the place names grow.
-fn grow_variable(
+pub(crate) fn grow_variable(
     tree: &mut Tree,
     alloc: Global,
     place: Place,
@@ -162,7 +178,7 @@ fn grow_variable(
     more: &[Value],
 ) -> Result<Value, Interruption>
     requires { (p : Path) × Names tree.old place p }
-    ensures acts { Acts tree.old place (λ style. look (λ n. finishes n.own (grown n.own.chain name.now (grown_by growth more.now)))) tree.new result }
+    ensures acts { Acts tree.old place (λ style. look (λ n. finishes n.own (grown (first_of growth) n.own.chain name.now (grown_by growth more.now)))) tree.new result }
     ensures level { IsLevel tree.old tree.new }
 {
     match tree.frames_of(place) {

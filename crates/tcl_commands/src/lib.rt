@@ -11,6 +11,7 @@ pub mod links;
 pub mod lists;
 mod naming;
 pub mod steps;
+mod sums;
 pub mod texts;
 pub mod unsetting;
 pub mod variables;

@@ -6,21 +6,21 @@ ghost use Rattle.tcl_core.specs.Endings.Reply.{Completed};
 ghost use Rattle.tcl_frames.specs.Chain.{after_link, after_unset};
 ghost use Rattle.tcl_language.specs.Faults.{integer_message};
 ghost use Rattle.tcl_language.specs.Instructions.{look};
-ghost use Rattle.tcl_language.specs.Variables.{chain_becomes, reads_or, sets, unset_left};
+ghost use Rattle.tcl_language.specs.Variables.{chain_becomes, sets, unset_left};
 ghost use Rattle.tcl_run.specs.Ends.{Gave, Interrupts, failing};
 ghost use Rattle.tcl_run.specs.Runs.{IsLevel};
 ghost use Rattle.tcl_text.specs.Numbers.{in_64_bits, integer_of};
 ghost use Rattle.tcl_tree.specs.Own.{Own};
 ghost use Rattle.tcl_tree.specs.TreeOf.{tree_of, marks_of, Names};
 ghost use Rattle.tcl_commands.specs.Reading.{is_bad_name, is_missing, is_missing_fault, LeavesSet};
-ghost use Rattle.tcl_commands.specs.Steps.{Steps, Finds};
+ghost use Rattle.tcl_commands.specs.Steps.{Steps};
 
 use std::alloc::{AllocError, Global};
 use tcl_frames::frames::Frames;
 use tcl_run::failure::failure;
 use tcl_run::interruption::Interruption;
 use tcl_run::steps::{frame_failure, write_variable};
-use tcl_text::integer::{IntegerFault, not_integer_message, too_large_message};
+use tcl_text::integer::{IntegerFault, Integers, not_integer_message, too_large_message};
 use tcl_text::text::Text;
 use tcl_tree::tree::{Place, Tree};
 use tcl_value::value::Value;
@@ -152,28 +152,6 @@ pub(crate) fn is_missing(error: &FrameError) -> bool
     }
 }
 
-/// What a variable holds, or the other value where there is none.
-pub(crate) fn variable_or(
-    tree: &Tree,
-    alloc: Global,
-    place: Place,
-    name: &Text,
-    other: Value,
-) -> Result<Value, Interruption>
-    requires { (p : Path) × Names tree.now place p }
-    ensures { Finds tree.now place (λ rest style. reads_or name.now other (λ value. rest value style)) tree.now result }
-{
-    match frames_seen(tree, place).get(name) {
-        Ok(value) => Ok(value.clone()?),
-        Err(error) => {
-            if is_missing(&error) {
-                return Ok(other);
-            }
-            Err(frame_failure(alloc, error))
-        }
-    }
-}
-
 /// The message about a text that has no integer.
 fn integer_text(alloc: Global, value: &Value, fault: IntegerFault) -> Result<Text, AllocError>
     ensures { IfOk result (λ text. text ≡ integer_message value.now fault) }
@@ -194,12 +172,16 @@ fn integer_failure(alloc: Global, value: &Value, fault: IntegerFault) -> Interru
     }
 }
 
-/// The integer of a value.
-pub(crate) fn integer(tree: &Tree, alloc: Global, value: &mut Value) -> Result<i64, Interruption>
-    ensures read { Gave (integer_message value.old) (in_64_bits (integer_of (marks_of tree.now).integers value.old)) result }
+/// The integer of a value, which is kept with it.
+pub(crate) fn integer(
+    style: Integers,
+    alloc: Global,
+    value: &mut Value,
+) -> Result<i64, Interruption>
+    ensures read { Gave (integer_message value.old) (in_64_bits (integer_of style value.old)) result }
     ensures text { value.new ≡ value.old }
 {
-    match value.as_int(tree.integers()) {
+    match value.as_int(style) {
         Ok(n) => Ok(n),
         Err(fault) => Err(integer_failure(alloc, value, fault)),
     }
@@ -210,5 +192,5 @@ pub fn word_integer(tree: &Tree, alloc: Global, word: &Value) -> Result<i64, Int
     ensures { Gave (integer_message word.now) (in_64_bits (integer_of (marks_of tree.now).integers word.now)) result }
 {
     let mut own = word.clone()?;
-    integer(tree, alloc, &mut own)
+    integer(tree.integers(), alloc, &mut own)
 }

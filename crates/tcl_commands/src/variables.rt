@@ -1,21 +1,16 @@
 //! The commands that read and change variables.
-ghost use Rattle.std.specs.Prelude.{◌≡◌, ◌+ℤ◌, codes, IfOk, FitsSigned};
-ghost use Rattle.std.specs.Int.{w64};
-ghost use Rattle.tcl_core.specs.Endings.Reply.{Completed};
 ghost use Rattle.tcl_core.specs.Paths.{Path};
 ghost use Rattle.tcl_language.specs.Variables as variables;
-ghost use Rattle.tcl_run.specs.Ends.{Interrupts, failing};
 ghost use Rattle.tcl_run.specs.Plain.{Acts};
 ghost use Rattle.tcl_run.specs.Runs.{IsLevel};
 ghost use Rattle.tcl_tree.specs.TreeOf.{Names};
-ghost use Rattle.tcl_commands.specs.Steps.{Finds};
 
-use crate::steps::{integer, set_variable, variable_or, word_integer};
+use crate::growing::{Growth, grow_variable};
+use crate::steps::set_variable;
 use std::alloc::Global;
-use tcl_run::failure::{failure, wrong_args};
+use tcl_run::failure::wrong_args;
 use tcl_run::interruption::Interruption;
 use tcl_run::steps::read_variable;
-use tcl_text::text::Text;
 use tcl_tree::tree::{Place, Tree};
 use tcl_value::value::Value;
 
@@ -47,53 +42,6 @@ pub fn set(
     }
 }
 
-/// The error of a sum that takes more than 64 bits.
-fn overflow(alloc: Global) -> Interruption
-    ensures { Interrupts result (λ e. e ≡ Completed (failing variables.overflow)) }
-{
-    match Text::new(alloc, "integer overflow") {
-        Ok(message) => failure(alloc, message),
-        Err(_) => Interruption::Memory,
-    }
-}
-
-/// The integer of a variable, 0 where there is none.
-fn variable_integer(
-    tree: &Tree,
-    alloc: Global,
-    place: Place,
-    name: &Text,
-) -> Result<i64, Interruption>
-    requires { (p : Path) × Names tree.now place p }
-    ensures found { Finds tree.now place (λ rest style. variables.reads_or name.now (codes "0") (λ value. variables.integer style value (λ n. rest n style))) tree.now result }
-    ensures fits { IfOk result (λ n. FitsSigned w64 n) }
-{
-    let mut value = variable_or(tree, alloc, place, name, Value::from_int(0))?;
-    integer(tree, alloc, &mut value)
-}
-
-/// Makes a variable the sum of two integers.
-fn make_sum(
-    tree: &mut Tree,
-    alloc: Global,
-    place: Place,
-    name: &Text,
-    n: i64,
-    increment: i64,
-) -> Result<Value, Interruption>
-    requires { (p : Path) × Names tree.old place p }
-    ensures acts { Acts tree.old place (λ style. variables.becomes name.now (n +ℤ increment)) tree.new result }
-    ensures level { IsLevel tree.old tree.new }
-{
-    match n.checked_add(increment) {
-        Some(sum) => {
-            set_variable(tree, alloc, place, name, Value::from_int(sum))?;
-            Ok(Value::from_int(sum))
-        }
-        None => Err(overflow(alloc)),
-    }
-}
-
 /// `incr varName ?increment?`: adds to the integer of a variable, which is 0 where there is none.
 ///
 /// # Errors
@@ -109,16 +57,10 @@ pub fn incr(
     ensures level { IsLevel tree.old tree.new }
 {
     match args {
-        [name] => {
+        [name, words @ ..] if words.len() < 2 => {
             let name = name.text(alloc)?;
-            let n = variable_integer(tree, alloc, place, &name)?;
-            make_sum(tree, alloc, place, &name, n, 1)
-        }
-        [name, increment] => {
-            let name = name.text(alloc)?;
-            let n = variable_integer(tree, alloc, place, &name)?;
-            let increment = word_integer(tree, alloc, increment)?;
-            make_sum(tree, alloc, place, &name, n, increment)
+            let growth = Growth::Sum(tree.integers());
+            grow_variable(tree, alloc, place, &name, growth, words)
         }
         _ => Err(wrong_args(alloc, "incr varName ?increment?")),
     }

@@ -1,5 +1,5 @@
 //! Texts of several: `join` and `concat`.
-ghost use Rattle.std.specs.Prelude.{◌≡◌, ◌≤◌, ◌++◌, ℕ, List as Bytes, length, codes, unwrap_or, OnOk, IfErr, Ok};
+ghost use Rattle.std.specs.Prelude.{◌≡◌, ◌≤◌, ◌++◌, ◌∷◌, [], ℕ, List as Bytes, length, codes, unwrap_or, OnOk, IfOk, IfSome, IfErr, Ok};
 ghost use Rattle.std.specs.Option.{option_copied};
 ghost use Rattle.std.specs.Str.{chars};
 ghost use Rattle.std.specs.String.{string_bytes};
@@ -8,7 +8,7 @@ ghost use Rattle.tcl_words.specs.Limits.{limited};
 ghost use Rattle.tcl_strings.specs.Texts.{text_of, trim_start, trim_end};
 ghost use Rattle.tcl_list_texts.specs.Joining.{joined, join_of, trimmed, with_part, gap, onto, concat_of};
 
-use std::alloc::Global;
+use std::alloc::{AllocError, Global};
 use tcl_lists::indexes::elements_of;
 use tcl_lists::reading::{list_word, one_or_two_words};
 use tcl_strings::trimming::{trim_left, trim_right};
@@ -129,12 +129,19 @@ fn add_part(alloc: Global, made: &mut String, text: &str) -> Result<(), Refusal>
     add(alloc, made, separator, part)
 }
 
-/// `concat ?arg ...?`: the words without white space at their ends, those of which something is left, with a space between
-/// any two.
-///
-/// # Errors
-/// 122; want of memory.
-pub fn concat(alloc: Global, words: &[Value]) -> Result<Value, Refusal>
+/// What a single word is put together to, where that is the word itself: its text isn't copied.
+fn lone_word(alloc: Global, word: &Value) -> Result<Option<Value>, AllocError>
+    ensures { IfOk result (λ found. IfSome found (λ value. concat_of (word.now ∷ []) ≡ Ok value)) }
+{
+    let text = word.text(alloc)?;
+    if text.len() > MOST_BYTES || trimmed(text.as_str()) != text.as_str() {
+        return Ok(None);
+    }
+    Ok(Some(Value::from_short_text(text)))
+}
+
+/// What words are put together to, in a text of its own.
+fn concat_all(alloc: Global, words: &[Value]) -> Result<Value, Refusal>
     ensures { Gives (λ value. value) result (concat_of words.now) }
 {
     let mut made = String::new(alloc);
@@ -143,4 +150,21 @@ pub fn concat(alloc: Global, words: &[Value]) -> Result<Value, Refusal>
         add_part(alloc, &mut made, text.as_str())?;
     }
     text_value(alloc, made)
+}
+
+/// `concat ?arg ...?`: the words without white space at their ends, those of which something is left, with a space between
+/// any two. A single word without white space at its ends is handed on.
+///
+/// # Errors
+/// 122; want of memory.
+pub fn concat(alloc: Global, words: &[Value]) -> Result<Value, Refusal>
+    ensures { Gives (λ value. value) result (concat_of words.now) }
+{
+    match words {
+        [word] => match lone_word(alloc, word)? {
+            Some(value) => Ok(value),
+            None => concat_all(alloc, words),
+        },
+        _ => concat_all(alloc, words),
+    }
 }

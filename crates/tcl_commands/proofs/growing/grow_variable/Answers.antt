@@ -6,7 +6,7 @@ use Rattle.tcl_run.proofs.Steady.{stands}
 use Rattle.tcl_tree.specs.Own.{Own}
 use Rattle.tcl_tree.specs.TreeOf.{tree_of}
 use Rattle.tcl_tree.proofs.CoreLemmas.{tree_there}
-use Rattle.tcl_commands.specs.GrowthKinds.{grown_by}
+use Rattle.tcl_commands.specs.GrowthKinds.{first_of, grown_by}
 use Rattle.tcl_commands.proofs.Growths.{grow_acts}
 use Rattle.tcl_commands.proofs.growing.grow_variable.Goals as goal
 
@@ -19,6 +19,6 @@ unreachable-requires c =
 
 pub returns-clause-acts : goal.returns-clause-acts
 returns-clause-acts c =
-    grow_acts c.args.tree.now (c.frames_of.follows.lender c.grow.new.frames) c.args.place c.in-Some.frames.now c.grow.new.frames c.args.name.now (grown_by c.args.growth c.args.more.now) c.grow.result
+    grow_acts c.args.tree.now (c.frames_of.follows.lender c.grow.new.frames) c.args.place c.in-Some.frames.now c.grow.new.frames (first_of c.args.growth) c.args.name.now (grown_by c.args.growth c.args.more.now) c.grow.result
     (λ p at. c.frames_of.follows.holds c.grow.new.frames (search rules) p at)
     (λ p n at there. same_Some _ _ (c.in-Some.ensures.value p at ∙ ap (option_map (λ (m : Node Own). m.own.chain)) there)) c.grow.ensures

@@ -2,7 +2,7 @@ use Rattle.std.proofs.Common.{◌≡◌, ◌≤◌, length, drop}
 use Rattle.std.specs.Prelude.{codes}
 use Rattle.std.specs.String.{string_bytes}
 use Rattle.tcl_list_texts.specs.Joining.{joined, onto, filled}
-use Rattle.tcl_list_texts.proofs.joining.concat.Given as goal
+use Rattle.tcl_list_texts.proofs.joining.concat_all.Given as goal
 
 abbrev pub invariant-words : goal.invariant-words
 invariant-words l =

@@ -1,0 +1,67 @@
+//! Adding to the integer that a value is.
+ghost use Rattle.std.specs.Prelude.{◌≡◌, ◌+ℤ◌, IfOk, FitsSigned};
+ghost use Rattle.std.specs.Int.{w64};
+ghost use Rattle.tcl_core.specs.Endings.Reply.{Completed};
+ghost use Rattle.tcl_language.specs.Variables as variables;
+ghost use Rattle.tcl_run.specs.Ends.{Interrupts, failing};
+ghost use Rattle.tcl_commands.specs.Growing.{GrowsTo};
+ghost use Rattle.tcl_commands.specs.Sums.{Reads, increment, raised, sum_text};
+
+use crate::steps::integer;
+use std::alloc::Global;
+use tcl_run::failure::failure;
+use tcl_run::interruption::Interruption;
+use tcl_text::integer::Integers;
+use tcl_text::text::Text;
+use tcl_value::value::Value;
+
+/// The error of a sum that takes more than 64 bits.
+fn overflow(alloc: Global) -> Interruption
+    ensures { Interrupts result (λ e. e ≡ Completed (failing variables.overflow)) }
+{
+    match Text::new(alloc, "integer overflow") {
+        Ok(message) => failure(alloc, message),
+        Err(_) => Interruption::Memory,
+    }
+}
+
+/// What is added: 1, or the integer of the first word.
+fn increment(style: Integers, alloc: Global, words: &[Value]) -> Result<i64, Interruption>
+    ensures read { Reads (increment style words.now) result }
+    ensures fits { IfOk result (λ n. FitsSigned w64 n) }
+{
+    match words {
+        [] => Ok(1),
+        [word, ..] => {
+            let mut own = word.clone()?;
+            integer(style, alloc, &mut own)
+        }
+    }
+}
+
+/// Makes a value the sum of two integers, and gives what it then is.
+fn make_sum(alloc: Global, value: &mut Value, n: i64, increment: i64) -> Result<Value, Interruption>
+    ensures { GrowsTo value.old (λ _. sum_text (n +ℤ increment)) value.new result }
+{
+    match n.checked_add(increment) {
+        Some(sum) => {
+            value.set_int(sum);
+            Ok(Value::from_int(sum))
+        }
+        None => Err(overflow(alloc)),
+    }
+}
+
+/// Adds to the integer of a value, and gives what it then is.
+pub(crate) fn raise(
+    style: Integers,
+    alloc: Global,
+    value: &mut Value,
+    words: &[Value],
+) -> Result<Value, Interruption>
+    ensures { GrowsTo value.old (raised style words.now) value.new result }
+{
+    let n = integer(style, alloc, value)?;
+    let increment = increment(style, alloc, words)?;
+    make_sum(alloc, value, n, increment)
+}
