@@ -106,7 +106,7 @@ vacant_slots s e k = ap (λ l. slice_index_or l k None) e ∙ by k
     by (suc k) = refl
 
 -- a table with one node
-module _ (h : Heap) (root : ℕ) (node : Node) (is : h root ≡ Some node) (parent : node.parent ≡ None) (flat : node.level ≡ 0) (leaf : node.children.entries ≡ [])
+module _ (h : Heap) (root : ℕ) (node : Node) (is : h root ≡ Some node) (parent : node.parent ≡ None) (fits : node.level < 2 ^ 64) (leaf : node.children.entries ≡ [])
     (rest : (k : ℕ) → k ≢ root → h k ≡ None) where
   no-child : (k : ℕ) (n : Text) → child_in h k n ≡ None
   no-child k n = elim (cases_eq k root) [
@@ -136,7 +136,7 @@ module _ (h : Heap) (root : ℕ) (node : Node) (is : h root ≡ Some node) (pare
     ];
     levels = λ k n c e. let w = no-child k n in cc;
     fits = λ k. elim (cases_eq k root) [
-      | inl same ↦ let e = ap (level_in h) same ∙ level-at h root node is ∙ flat in omega arith
+      | inl same ↦ let e = ap (level_in h) same ∙ level-at h root node is in omega arith
       | inr other ↦ let e = level-none h k (rest k other) in omega arith
     ];
   }

@@ -9,9 +9,9 @@ use Rattle.tcl_tree.specs.Walking.{entries_in, sum_of, weight}
 use Rattle.tcl_tree.specs.declared.node.Node.{Node}
 
 -- a node that has what another has, but no children, and its own parent and name
-pub record IsBare (old made : Node) (parent : Option ℕ) (name : Text) : Type 0 where
-  pub parent : made.parent ≡ parent
-  pub name : made.name ≡ name
+pub record IsBare (old made : Node) (above : Option ℕ) (label : Text) : Type 0 where
+  pub parent : made.parent ≡ above
+  pub name : made.name ≡ label
   pub level : made.level ≡ old.level
   pub leaf : made.children.entries ≡ []
   pub state : (names : List Text) → state_view made.state names ≡ state_view old.state names
