@@ -2,6 +2,7 @@
 use Rattle.std.proofs.Common.{◌≡◌, ℕ, zero, suc, ◌+◌, ◌-◌, ◌^◌, ◌<◌, ◌≤◌, List, [], ◌∷◌, ◌++◌, true, cond, drop, take, length, length-append, refl, sym, ◌∙◌, ap, subst, inl, inr, arith, Option, Some, None}
 use Rattle.std.specs.Prelude.{◌≢◌, ◌⊎◌, is_some, slice_get}
 use Rattle.std.specs.Str.{bytes_eq}
+use Rattle.std.specs.List.{IsDistinct}
 use Rattle.std.specs.Map.{keys_of, lookup}
 use Rattle.std.specs.Option.{option_and_then, option_map, option_map_or}
 use Rattle.std.proofs.lemmas.Bool.{cases_eq}
@@ -17,11 +18,11 @@ use Rattle.tcl_tree.specs.Walking.{entries_in, sum_of, weight}
 use Rattle.tcl_tree.specs.declared.node.Node.{Node}
 use Rattle.tcl_tree.specs.declared.node.State.{State}
 use Rattle.tcl_tree.proofs.HeapLemmas.{Grows, follow-nil, then_child, one_path, clash, sound-grows, follow_grown, follow-shrinks}
-use Rattle.tcl_tree.proofs.StepLemmas.{child-at, child-none, level-at, safe-at, children-at, children-none, children-eq, follow_append, sound-single, guarded-single}
+use Rattle.tcl_tree.proofs.StepLemmas.{child-at, link-none, level-at, safe-at, children-at, children-none, children-eq, follow_append, sound-single, guarded-single}
 use Rattle.tcl_tree.proofs.MakeLemmas.{grows_joined, guarded_joined}
 use Rattle.tcl_tree.proofs.SameLemmas.{name_at, names_length}
 use Rattle.tcl_tree.proofs.ComparingLemmas.{top_at, below_child, below_none, missing, found}
-use Rattle.tcl_tree.proofs.WalkLemmas.{from_place, weight_step}
+use Rattle.tcl_tree.proofs.WalkLemmas.{from_place, weight_step, child_is, not_yet}
 
 -- ## Lists of keys
 
@@ -72,17 +73,47 @@ take_all (x ∷ xs) (suc i) l = ap (λ ys. x ∷ ys) (take_all xs i (omega arith
 entries_at : (h : Heap) (k : ℕ) (node : Node) → h k ≡ Some node → entries_in h k ≡ node.children.entries
 entries_at h k node is = ap (λ o. option_map_or (λ (x : Node). x.children.entries) o []) is
 
--- where no child comes next, all were copied
-pub whole_at_end : (h g : Heap) (k t : ℕ) (l : IsLike h g k t) → length l.this.children.entries ≤ length (keys l.that.children) → IsWhole h g k t
-whole_at_end h g k t l end =
-    let n = names_length l.this.children.entries in
-    record {
-      this = l.this;
-      is = l.is;
-      that = l.that;
-      twin = l.twin;
-      names = l.names ∙ take_all (keys l.this.children) (length (keys l.that.children)) (omega arith);
-    }
+nothing_at : {A : Type 0} (es : List A) (i : ℕ) → slice_get es i ≡ None → length es ≤ i
+nothing_at [] i e = omega arith
+nothing_at (x ∷ es) zero e = absurd (cc)
+nothing_at (x ∷ es) (suc i) e = let l = nothing_at es i e in omega arith
+
+-- what comes next of a node's children, by the number of those that its copy has
+module _ (h g : Heap) (k t : ℕ) (l : IsLike h g k t) (node copy : Node) (is : Some node ≡ h k) (twin : Some copy ≡ g t) where
+  this_is : l.this ≡ node
+  this_is = same_Some _ _ (sym l.is ∙ sym is)
+
+  that_is : l.that ≡ copy
+  that_is = same_Some _ _ (sym l.twin ∙ sym twin)
+
+  front : keys copy.children ≡ take (length (keys copy.children)) (keys node.children)
+  front = ap (λ (x : Node). keys x.children) (sym that_is) ∙ l.names ∙ (λ i. take (length (keys (that_is i).children)) (keys (this_is i).children))
+
+  pub whole_at_end : slice_get node.children.entries (length copy.children.entries) ≡ None → IsWhole h g k t
+  whole_at_end none =
+      let end = nothing_at node.children.entries (length copy.children.entries) none in
+      let n = names_length node.children.entries in
+      let m = names_length copy.children.entries in
+      record { this = node; is = sym is; that = copy; twin = sym twin; names = front ∙ take_all (keys node.children) (length (keys copy.children)) (omega arith) }
+
+  module _ (root : ℕ) (sound : IsSound h root) (distinct : IsDistinct bytes_eq (keys node.children)) (n : Text) (c : ℕ)
+      (here : slice_get node.children.entries (length copy.children.entries) ≡ Some (n, c)) where
+    pub next_child : child_in h k n ≡ Some c
+    next_child = child_is h root sound k node (sym is) distinct (length copy.children.entries) n c here
+
+    pub next_first : slice_get (entries_in h k) (children_in g t) ≡ Some (n, c)
+    next_first =
+        let count : children_in g t ≡ length copy.children.entries = children-at g t copy (sym twin) ∙ names_length copy.children.entries in
+        (λ i. slice_get (entries_at h k node (sym is) i) (count i)) ∙ here
+
+    pub next_absent : get bytes_eq copy.children n ≡ None
+    next_absent = not_yet node.children.entries copy.children.entries n c distinct front (ap (slice_get node.children.entries) (names_length copy.children.entries) ∙ here)
+
+    pub next_missing : child_in g t n ≡ None
+    next_missing = child-at g t n copy (sym twin) ∙ next_absent
+
+    pub next_there : h c ≢ None
+    next_there none = clash _ (sym (link-none h c none) ∙ sound.down k n c next_child)
 
 -- less is left behind more entries
 drop_less : (f : ℕ → ℕ) (es : List (Text × ℕ)) (i j : ℕ) → i ≤ j → sum_of f (drop j es) ≤ sum_of f (drop i es)

@@ -90,7 +90,7 @@ module _ (s t : Slab Node) (pk : ℕ) (label : Text) (node : Node) (key : ℕ) (
       ]
 
 -- what `attach` does is that, and the child's name is a command besides
-pub joined_of : (s t : Slab Node) (pk : ℕ) (label : Text) (node : Node) (a : Attached s t pk label node) → Joined s t pk label node a.key
+abbrev pub joined_of : (s t : Slab Node) (pk : ℕ) (label : Text) (node : Node) (a : Attached s t pk label node) → Joined s t pk label node a.key
 joined_of s t pk label node a = record {
   was = a.was;
   here = a.here;
