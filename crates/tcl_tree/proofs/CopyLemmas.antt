@@ -13,7 +13,7 @@ use Rattle.slab.specs.Slab as slab
 use Rattle.slab.specs.Slab.{Slab}
 use Rattle.tcl_tree.specs.Paths.{Text, Path}
 use Rattle.tcl_tree.specs.Nodes.{Heap, NodeView, state_view, view_of, child_in, follow, tree_in, level_in, safe_in, children_in, IsSound, IsGuarded}
-use Rattle.tcl_tree.specs.Copying.{IsBare, IsLike, IsWhole, Adds, IsPart, IsCopy, IsPair, IsListed, left_at, left_of}
+use Rattle.tcl_tree.specs.Copying.{IsBare, IsLike, IsWhole, Adds, IsPart, IsCopy, IsPair, IsListed, IsWalk, left_at, left_of}
 use Rattle.tcl_tree.specs.Walking.{entries_in, sum_of, weight}
 use Rattle.tcl_tree.specs.declared.node.Node.{Node}
 use Rattle.tcl_tree.specs.declared.node.State.{State}
@@ -44,7 +44,7 @@ listed_cases (x ∷ xs) ys k t (inr w) = elim (listed_cases xs ys k t w) [
 ]
 
 left_append : (h g : Heap) (xs ys : List (ℕ × ℕ)) → left_of h g (xs ++ ys) ≡ left_of h g xs + left_of h g ys
-left_append h g [] ys = refl
+left_append h g [] ys = omega arith
 left_append h g (x ∷ xs) ys = let e = left_append h g xs ys in omega (arith, e)
 
 -- one key less is listed
@@ -416,3 +416,49 @@ module _ (h g : Heap) (top root : ℕ) (part : IsPart h g top root) (each : (p :
 pub tree_along : (h : Heap) (root top : ℕ) (p q : Path) → follow h root p ≡ Some top → tree_in h root (p ++ q) ≡ tree_in h top q
 unfolding tree_in
 tree_along h root top p q e = ap (option_and_then (λ k. option_map view_of (h k))) (follow_append h p q root ∙ ap (option_and_then (λ c. follow h c q)) e)
+
+-- ## The walk
+
+pub walk_first : (h : Heap) (whole : ℕ) → IsSound h whole → (s : Slab Node) (top root : ℕ) (name : Text) (source made : Node) → h top ≡ Some source → slab.get s root ≡ Some made → ((j : ℕ) → j ≢ root → slab.get s j ≡ None)
+    → IsBare source made None name → IsWalk h (slab.get s) top root ((top, root) ∷ [])
+walk_first h whole sound s top root name source made is here others bare =
+    let fits : source.level < 2 ^ 64 = let f = sound.fits top in let e = level-at h top source is in omega (arith, f, e) in
+    record {
+      part = part_first h (slab.get s) top root name source made is here others bare fits;
+      pairs = pairs_first h (slab.get s) top root name source made is here others bare fits;
+      each = each_first h (slab.get s) top root name source made is here others bare fits;
+    }
+
+last_pair : (h g : Heap) (top root k t : ℕ) (xs : List (ℕ × ℕ)) → IsWalk h g top root (xs ++ (k, t) ∷ []) → IsPair h g top root k t
+last_pair h g top root k t xs w = w.pairs k t (listed_right xs ((k, t) ∷ []) k t (inl refl))
+
+pub walk_like : (h g : Heap) (top root k t : ℕ) (xs : List (ℕ × ℕ)) → IsWalk h g top root (xs ++ (k, t) ∷ []) → IsLike h g k t
+walk_like h g top root k t xs w = let p = last_pair h g top root k t xs w in w.part.like p.0 k t p.1 p.2
+
+pub walk_popped : (h g : Heap) (top root k t : ℕ) (xs : List (ℕ × ℕ)) → IsWalk h g top root (xs ++ (k, t) ∷ []) → IsWhole h g k t → IsWalk h g top root xs
+walk_popped h g top root k t xs w all = record {
+  part = w.part;
+  pairs = λ j u l. w.pairs j u (listed_left xs ((k, t) ∷ []) j u l);
+  each = each_popped h g top root k t xs all w.each;
+}
+
+module _ (h : Heap) (whole : ℕ) (sound : IsSound h whole) (guards : IsGuarded h) (s t : Slab Node) (top root k twin c d : ℕ) (xs : List (ℕ × ℕ))
+    (w : IsWalk h (slab.get s) top root (xs ++ (k, twin) ∷ [])) (a : Adds h s t k twin c d) where
+  pub walk_more : IsWalk h (slab.get t) top root ((xs ++ (k, twin) ∷ []) ++ (c, d) ∷ [])
+  walk_more =
+      let p = last_pair h (slab.get s) top root k twin xs w in
+      record {
+        part = part_step h whole sound guards s t top root w.part k twin c d p a;
+        pairs = pairs_step h whole sound guards s t top root w.part k twin c d p a (xs ++ (k, twin) ∷ []) w.pairs;
+        each = each_step h whole sound guards s t top root w.part k twin c d p a xs w.each;
+      }
+
+  pub walk_less : left_of h (slab.get t) ((xs ++ (k, twin) ∷ []) ++ (c, d) ∷ []) < left_of h (slab.get s) (xs ++ (k, twin) ∷ [])
+  walk_less = less_step h whole sound guards s t top root w.part k twin c d (last_pair h (slab.get s) top root k twin xs w) a xs
+
+pub walk_done : (h g : Heap) (top root : ℕ) (xs : List (ℕ × ℕ)) → length xs ≡ 0 → IsWalk h g top root xs → IsCopy h g top root
+walk_done h g top root [] none w = copied h g top root w.part (λ p j u e f. elim (w.each p j u e f) [
+  | inl x ↦ x
+  | inr x ↦ absurd x
+])
+walk_done h g top root (x ∷ xs) none w = absurd (omega arith)

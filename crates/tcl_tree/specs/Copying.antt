@@ -68,6 +68,12 @@ abbrev pub IsListed : List (ℕ × ℕ) → ℕ → ℕ → Type 0
 IsListed [] k t = Prim.⊥
 IsListed (x ∷ xs) k t = (x ≡ (k, t)) ⊎ IsListed xs k t
 
+-- A walk has come so far: what was copied is a part, names lead to what is listed, and what isn't whole is listed.
+pub record IsWalk (h g : Heap) (top root : ℕ) (open_keys : List (ℕ × ℕ)) : Type 0 where
+  pub part : IsPart h g top root
+  pub pairs : (k t : ℕ) → IsListed open_keys k t → IsPair h g top root k t
+  pub each : (p : Path) (k t : ℕ) → follow h top p ≡ Some k → follow g root p ≡ Some t → IsWhole h g k t ⊎ IsListed open_keys k t
+
 -- ## How much is left to be copied
 
 -- below one: one, and what is at the children that the copy lacks and below these
