@@ -171,15 +171,15 @@ module _ (h : Heap) (whole : ℕ) (sound : IsSound h whole) (guards : IsGuarded 
   guarded_step : IsGuarded (slab.get t)
   guarded_step = guarded_joined s t twin a.name a.made d a.joined a.bare.parent a.bare.name a.bare.leaf level absent fits root part.sound part.guarded
       (λ e.
-        let this_safe : safe_in h k ≡ true = safe-at h k like.this like.is ∙ ap (λ (v : NodeView). v.safe) (sym (like.state [])) ∙ ap (λ (n : Node). n.state.safe) (sym old_is) ∙ e in
-        ap (λ (v : NodeView). v.safe) (a.bare.state []) ∙ sym (safe-at h c a.source a.source_is) ∙ guards.safe k a.name c a.child this_safe)
+      let this_safe : safe_in h k ≡ true = safe-at h k like.this like.is ∙ ap (λ (v : NodeView). v.safe) (sym (like.state [])) ∙ ap (λ (n : Node). n.state.safe) (sym old_is) ∙ e in
+      ap (λ (v : NodeView). v.safe) (a.bare.state []) ∙ sym (safe-at h c a.source a.source_is) ∙ guards.safe k a.name c a.child this_safe)
       (
-        let x = slice_get_within like.this.children.entries (length (keys like.that.children)) (a.name, c) next in
-        let y = children-at h k like.this like.is in
-        let z = names_length like.this.children.entries in
-        let f = guards.few k in
-        let w = ap (λ (n : Node). length (keys n.children)) old_is in
-        omega (arith, x, y, z, f, w)
+      let x = slice_get_within like.this.children.entries (length (keys like.that.children)) (a.name, c) next in
+      let y = children-at h k like.this like.is in
+      let z = names_length like.this.children.entries in
+      let f = guards.few k in
+      let w = ap (λ (n : Node). length (keys n.children)) old_is in
+      omega (arith, x, y, z, f, w)
       )
 
   pub kept_step : (q : Path) (j : ℕ) → follow (slab.get s) root q ≡ Some j → follow (slab.get t) root q ≡ Some j
@@ -308,19 +308,19 @@ module _ (h : Heap) (whole : ℕ) (sound : IsSound h whole) (guards : IsGuarded 
       let f = sound.fits c in
       let deeper : 2 ^ 64 - suc (level_in h k) ≡ suc (2 ^ 64 - suc (level_in h c)) = omega (arith, l, f) in
       let below : weight (2 ^ 64 - suc (level_in h k)) h c ≡ 2 + sum_of (weight (2 ^ 64 - suc (level_in h c)) h) (entries_in h c) =
-          ap (λ m. weight m h c) deeper ∙ weight_step (2 ^ 64 - suc (level_in h c)) h c (entries_in h c) refl in
+      ap (λ m. weight m h c) deeper ∙ weight_step (2 ^ 64 - suc (level_in h c)) h c (entries_in h c) refl in
       let was : sum_of (weight (2 ^ 64 - suc (level_in h k)) h) (drop (children_in (slab.get s) twin) (entries_in h k))
-          ≡ weight (2 ^ 64 - suc (level_in h k)) h c + sum_of (weight (2 ^ 64 - suc (level_in h k)) h) (drop (suc (children_in (slab.get s) twin)) (entries_in h k)) =
-          ap (sum_of (weight (2 ^ 64 - suc (level_in h k)) h)) (from_place (entries_in h k) (children_in (slab.get s) twin) (a.name, c) a.first) in
+      ≡ weight (2 ^ 64 - suc (level_in h k)) h c + sum_of (weight (2 ^ 64 - suc (level_in h k)) h) (drop (suc (children_in (slab.get s) twin)) (entries_in h k)) =
+      ap (sum_of (weight (2 ^ 64 - suc (level_in h k)) h)) (from_place (entries_in h k) (children_in (slab.get s) twin) (a.name, c) a.first) in
       let count : children_in (slab.get t) twin ≡ suc (children_in (slab.get s) twin) =
-          let x = children-at (slab.get s) twin a.joined.old a.joined.old_is in
-          let y = children-at (slab.get t) twin a.joined.new a.joined.new_is in
-          let z = ap length a.joined.names ∙ length-append (keys a.joined.old.children) (a.name ∷ []) in
-          omega (arith, x, y, z) in
+      let x = children-at (slab.get s) twin a.joined.old a.joined.old_is in
+      let y = children-at (slab.get t) twin a.joined.new a.joined.new_is in
+      let z = ap length a.joined.names ∙ length-append (keys a.joined.old.children) (a.name ∷ []) in
+      omega (arith, x, y, z) in
       let now : sum_of (weight (2 ^ 64 - suc (level_in h k)) h) (drop (children_in (slab.get t) twin) (entries_in h k)) ≡ sum_of (weight (2 ^ 64 - suc (level_in h k)) h) (drop (suc (children_in (slab.get s) twin)) (entries_in h k)) =
-          ap (λ i. sum_of (weight (2 ^ 64 - suc (level_in h k)) h) (drop i (entries_in h k))) count in
+      ap (λ i. sum_of (weight (2 ^ 64 - suc (level_in h k)) h) (drop i (entries_in h k))) count in
       let new : sum_of (weight (2 ^ 64 - suc (level_in h c)) h) (drop (children_in (slab.get t) d) (entries_in h c)) ≡ sum_of (weight (2 ^ 64 - suc (level_in h c)) h) (entries_in h c) =
-          ap (λ i. sum_of (weight (2 ^ 64 - suc (level_in h c)) h) (drop i (entries_in h c))) (children-at (slab.get t) d a.made a.joined.here ∙ ap (λ es. length (keys_of es)) a.bare.leaf) in
+      ap (λ i. sum_of (weight (2 ^ 64 - suc (level_in h c)) h) (drop i (entries_in h c))) (children-at (slab.get t) d a.made a.joined.here ∙ ap (λ es. length (keys_of es)) a.bare.leaf) in
       omega (arith, A, B, C, G, below, was, now, new)
 
 -- a key whose children were all copied is listed no more

@@ -11,10 +11,10 @@ pub subtable-requires : goal.subtable-requires
 subtable-requires c = (c.args.path.now, sym c.in-Some.ensures)
 
 pub invariant_of-result : goal.invariant_of-result
-invariant_of-result c = record { sound = c.in_ok.ensures.sound; guarded = c.in_ok.ensures.guarded }
+invariant_of-result c = record { sound = c.in_ok-nodes.ensures.sound; guarded = c.in_ok-nodes.ensures.guarded }
 
 pub returns-clause-there : goal.returns-clause-there
 returns-clause-there c = tree_there c.args.self.now c.args.path.now _ (sym c.in-Some.ensures)
 
 pub returns-clause-tree : goal.returns-clause-tree
-returns-clause-tree c = λ i q. (c.in_ok.ensures.same q ∙ sym (tree_along _ _ _ c.args.path.now q (sym c.in-Some.ensures))) i
+returns-clause-tree c = λ i q. (c.in_ok-nodes.ensures.same q ∙ sym (tree_along _ _ _ c.args.path.now q (sym c.in-Some.ensures))) i

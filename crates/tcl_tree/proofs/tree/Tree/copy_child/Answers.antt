@@ -22,8 +22,8 @@ unreachable-requires-in_default-get-2 c = next_there (get c.args.self.now.nodes)
 pub join-requires-clause-absent : goal.join-requires-clause-absent
 join-requires-clause-absent c =
     let absent = next_absent (get c.args.self.now.nodes) (get c.args.nodes.now) c.args.key c.args.twin c.requires c.in-Some.node.now c.in-Some-get.copy.now c.in-Some.ensures c.in-Some-get.ensures
-        c.args.self.now.root c.args.self.now.sound c.as_slice-children.ensures.unique c.in-Some-get_index.name.now c.in-Some-get_index.child.now
-        (sym (λ i. slice_get (c.as_slice-children.ensures.entries i) (c.len.ensures.len i)) ∙ sym c.in-Some-get_index.ensures.entry) in
+    c.args.self.now.root c.args.self.now.sound c.as_slice-children.ensures.unique c.in-Some-get_index.name.now c.in-Some-get_index.child.now
+    (sym (λ i. slice_get (c.as_slice-children.ensures.entries i) (c.len.ensures.len i)) ∙ sym c.in-Some-get_index.ensures.entry) in
     subst (λ (o : Option Node). IfSome o (λ up. lookup (bytes_eq c.in_ok-clone-2.field-0) up.children.entries ≡ None)) c.in-Some-get.ensures
     (ap (λ (n : List ℕ). lookup (bytes_eq n) c.in-Some-get.copy.now.children.entries) c.in_ok-clone-2.ensures.cases ∙ absent)
 
