@@ -42,7 +42,7 @@ within (y ∷ xs) zero x e = omega arith
 within (y ∷ xs) (suc i) x e = let w = within xs i x e in omega arith
 
 module _ (h g : Heap) (k t : ℕ) (this that : Node) (is : h k ≡ Some this) (twin : g t ≡ Some that) where
-  missing : (keys this.children ≡ keys that.children) → (n : Text) → get bytes_eq this.children n ≡ None → get bytes_eq that.children n ≡ None
+  pub missing : (keys this.children ≡ keys that.children) → (n : Text) → get bytes_eq this.children n ≡ None → get bytes_eq that.children n ≡ None
   missing names n e = by (get bytes_eq that.children n) (is_some-lookup (bytes_eq n) that.children.entries ∙ ap (list_any (bytes_eq n)) (sym names) ∙ sym (is_some-lookup (bytes_eq n) this.children.entries) ∙ ap is_some e)
     where
       by : (o : Option ℕ) → is_some o ≡ false → o ≡ None

@@ -1,4 +1,5 @@
 -- What holds of the interpreters of every tree.
+use Rattle.std.specs.Prelude.{◌⊎◌}
 use Rattle.std.proofs.Common.{◌≡◌, ◌≤◌, ℕ, subst, refl, sym, ◌∙◌, inl, inr, ◌++◌, Option, Some, None}
 use Rattle.std.specs.Option.{option_map}
 use Rattle.std.proofs.lemmas.Option.{same_Some}
@@ -6,7 +7,9 @@ use Rattle.slab.specs.Slab.{get}
 use Rattle.tcl_tree.specs.Paths.{Path}
 use Rattle.tcl_tree.specs.Nodes.{Heap, NodeView, view_of, tree_in, follow}
 use Rattle.tcl_tree.specs.Changes.{most_depth, RefusesToDeepen, RefusesLimit, RefusesDepthLimit}
-use Rattle.tcl_tree.specs.Naming.{Untrusted}
+use Rattle.tcl_tree.specs.Naming.{Named, IsTrusted, Nowhere, RefusesAt, Untrusted}
+use Rattle.tcl_tree.specs.Order.{FirstOfLimit, FirstOfDepth, FirstOfDepthLimit, FirstOfAsked}
+use Rattle.tcl_tree.specs.Own.{Own}
 use Rattle.tcl_tree.specs.TreeOf.{tree_of}
 use Rattle.tcl_tree.specs.declared.node.Node.{Node}
 use Rattle.tcl_tree.specs.declared.refusal.Refusal.{Refusal}
@@ -67,3 +70,32 @@ untrusted_limit e f p down limit (inr w) = subst (λ (x : Refusal). RefusesLimit
 pub untrusted_depth : (e : Refusal) (f : Path → Option NodeView) (p down : Path) (limit : ℕ) → Untrusted e f p → RefusesDepthLimit e f p down limit
 untrusted_depth e f p down limit (inl w) = subst (λ (x : Refusal). RefusesDepthLimit x f p down limit) (sym w.0) (inl w.1)
 untrusted_depth e f p down limit (inr w) = subst (λ (x : Refusal). RefusesDepthLimit x f p down limit) (sym w.0) (inl (w.1, w.2, w.3))
+
+-- ## What comes first
+
+pub first_limit : (e : Refusal) (f : Path → Option NodeView) (p down : Path) (limit : Option ℕ) → Untrusted e f p → FirstOfLimit e f p down limit
+first_limit e f p down limit (inl w) = subst (λ (x : Refusal). FirstOfLimit x f p down limit) (sym w.0) (inl w.1)
+first_limit e f p down limit (inr w) = subst (λ (x : Refusal). FirstOfLimit x f p down limit) (sym w.0) (inl (w.1, w.2, w.3))
+
+pub first_depth : (e : Refusal) (f : Path → Option NodeView) (p down : Path) (limit : ℕ) → Untrusted e f p → FirstOfDepthLimit e f p down limit
+first_depth e f p down limit (inl w) = subst (λ (x : Refusal). FirstOfDepthLimit x f p down limit) (sym w.0) (inl w.1)
+first_depth e f p down limit (inr w) = subst (λ (x : Refusal). FirstOfDepthLimit x f p down limit) (sym w.0) (inl (w.1, w.2, w.3))
+
+pub first_asked : (e : Refusal) (f : Path → Option NodeView) (p down : Path) (change : Own → Named) → Untrusted e f p ⊎ (IsTrusted f p × Nowhere e f (p ++ down)) → FirstOfAsked e f p down change
+first_asked e f p down change (inl w) = inl w
+first_asked e f p down change (inr w) = inr (w.0, inl w.1)
+
+pub first_deepen : (e : Refusal) (f : Path → Option NodeView) (p down : Path) (limit : ℕ) → IsTrusted f p → FirstOfDepth e f (p ++ down) limit → FirstOfDepthLimit e f p down limit
+first_deepen Denied f p down limit t h = inr (t, h)
+first_deepen BadDepthLimit f p down limit t h = (t, h)
+first_deepen Memory f p down limit t h = absurd h
+first_deepen BadName f p down limit t h = absurd h
+first_deepen BadCount f p down limit t h = absurd h
+first_deepen NoInterpreter f p down limit t h = absurd h
+first_deepen Exists f p down limit t h = absurd h
+first_deepen InUse f p down limit t h = absurd h
+first_deepen NoCommand f p down limit t h = absurd h
+first_deepen NoHidden f p down limit t h = absurd h
+first_deepen TooMany f p down limit t h = absurd h
+first_deepen (CountLimit n) f p down limit t h = absurd h
+first_deepen (DepthLimit n) f p down limit t h = absurd h

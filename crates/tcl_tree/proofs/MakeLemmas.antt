@@ -16,7 +16,7 @@ use Rattle.indexmap.proofs.CallerLemmas.{insert_entry-new}
 use Rattle.slab.specs.Slab as slab
 use Rattle.slab.specs.Slab.{Slab}
 use Rattle.tcl_tree.specs.Paths.{Text, Path, is_above, with_node}
-use Rattle.tcl_tree.specs.Nodes.{Heap, NodeView, Shape, view_of, shape_of, with_child, without_child, Attached, Detached, SameTable, grown, pruned, deleted, child_in, follow, tree_in, link_in, level_in, safe_in, children_in, IsSound, IsGuarded}
+use Rattle.tcl_tree.specs.Nodes.{Heap, NodeView, Shape, view_of, shape_of, with_child, without_child, Attached, Joined, Detached, SameTable, grown, pruned, deleted, child_in, follow, tree_in, link_in, level_in, safe_in, children_in, IsSound, IsGuarded}
 use Rattle.tcl_tree.specs.declared.node.Node.{Node}
 use Rattle.tcl_tree.proofs.PathLemmas.{path_cases, text_cases, above_cases, above_self, above_append, not_above_front}
 use Rattle.tcl_tree.proofs.HeapLemmas.{same_link, last_step, then_child, one_path, tree-none, Grows, guarded-grows, guarded-shrinks, tree-grows, tree-shrinks, sound-grows, sound-shrinks, follow-shrinks, follow_grown, sound_kept, guarded_kept, follow_kept, tree_kept}
@@ -36,37 +36,83 @@ pub keys_pushed : {S : Type 0} (m n : IndexMap Text ℕ S) (label : Text) (key :
 keys_pushed m n label key e absent =
     ap keys_of (e ∙ insert_entry-new bytes_eq m label key absent) ∙ map-append (λ p. p.0) m.entries ((label, key) ∷ [])
 
--- what `attach` does to the tree
-module _ (s t : Slab Node) (pk : ℕ) (label : Text) (node : Node) (a : Attached s t pk label node)
+-- what a new child does to the table
+module _ (s t : Slab Node) (pk : ℕ) (label : Text) (node : Node) (key : ℕ) (a : Joined s t pk label node key)
     (parent : node.parent ≡ Some pk) (name : node.name ≡ label) (leaf : node.children.entries ≡ []) (level : node.level ≡ a.old.level + 1)
     (absent : get bytes_eq a.old.children label ≡ None) (fits : node.level < 2 ^ 64) where
-  apart : pk ≢ a.key
-  apart e = let x : None ≡ Some a.old = sym a.was ∙ sym (ap (slab.get s) e) ∙ a.old_is in cc
+  pub new_apart : pk ≢ key
+  new_apart e = let x : None ≡ Some a.old = sym a.was ∙ sym (ap (slab.get s) e) ∙ a.old_is in cc
 
-  pub grows_attached : Grows (slab.get s) (slab.get t) pk label a.key
-  grows_attached = record {
-    child_new = λ n. child-at (slab.get t) a.key n node a.here ∙ ap (lookup (bytes_eq n)) leaf;
-    child_was = λ n. child-none (slab.get s) a.key n a.was;
-    child_parent = λ n. child-at (slab.get t) pk n a.new a.new_is ∙ a.gets n ∙ ap (cond (bytes_eq label n) (Some a.key)) (sym (child-at (slab.get s) pk n a.old a.old_is));
+  pub grows_joined : Grows (slab.get s) (slab.get t) pk label key
+  grows_joined = record {
+    child_new = λ n. child-at (slab.get t) key n node a.here ∙ ap (lookup (bytes_eq n)) leaf;
+    child_was = λ n. child-none (slab.get s) key n a.was;
+    child_parent = λ n. child-at (slab.get t) pk n a.new a.new_is ∙ a.gets n ∙ ap (cond (bytes_eq label n) (Some key)) (sym (child-at (slab.get s) pk n a.old a.old_is));
     child_other = λ k n p q. child-eq (slab.get t) (slab.get s) k n (a.others k p q);
-    link_new = link-at (slab.get t) a.key node a.here ∙ (λ i. Some (option_map (λ j. (j, name i)) (parent i)));
-    link_was = link-none (slab.get s) a.key a.was;
+    link_new = link-at (slab.get t) key node a.here ∙ (λ i. Some (option_map (λ j. (j, name i)) (parent i)));
+    link_was = link-none (slab.get s) key a.was;
     link_other = λ k other. elim (cases_eq k pk) [
       | inl e ↦
           ap (link_in (slab.get t)) e ∙ link-at (slab.get t) pk a.new a.new_is ∙ (λ i. Some (option_map (λ j. (j, a.name i)) (a.parent i)))
           ∙ sym (ap (link_in (slab.get s)) e ∙ link-at (slab.get s) pk a.old a.old_is)
       | inr p ↦ link-eq (slab.get t) (slab.get s) k (a.others k p other)
     ];
-    level_new = level-at (slab.get t) a.key node a.here ∙ level ∙ ap (λ l. l + 1) (sym (level-at (slab.get s) pk a.old a.old_is));
+    level_new = level-at (slab.get t) key node a.here ∙ level ∙ ap (λ l. l + 1) (sym (level-at (slab.get s) pk a.old a.old_is));
     level_other = λ k other. elim (cases_eq k pk) [
       | inl e ↦ ap (level_in (slab.get t)) e ∙ level-at (slab.get t) pk a.new a.new_is ∙ a.level ∙ sym (ap (level_in (slab.get s)) e ∙ level-at (slab.get s) pk a.old a.old_is)
       | inr p ↦ level-eq (slab.get t) (slab.get s) k (a.others k p other)
     ];
     absent = child-at (slab.get s) pk label a.old a.old_is ∙ absent;
-    level_was = level-none (slab.get s) a.key a.was;
+    level_was = level-none (slab.get s) key a.was;
     fits = let e = level-at (slab.get s) pk a.old a.old_is in omega arith;
-    apart = apart;
+    apart = new_apart;
   }
+
+  others_safe : (k : ℕ) → k ≢ key → safe_in (slab.get t) k ≡ safe_in (slab.get s) k
+  others_safe k other = elim (cases_eq k pk) [
+    | inl e ↦ ap (safe_in (slab.get t)) e ∙ safe-at (slab.get t) pk a.new a.new_is ∙ a.safe ∙ sym (ap (safe_in (slab.get s)) e ∙ safe-at (slab.get s) pk a.old a.old_is)
+    | inr p ↦ safe-eq (slab.get t) (slab.get s) k (a.others k p other)
+  ]
+
+  pub guarded_joined : (root : ℕ) → IsSound (slab.get s) root → IsGuarded (slab.get s) → (a.old.state.safe ≡ true → node.state.safe ≡ true) → length (keys a.old.children) < 256 → IsGuarded (slab.get t)
+  guarded_joined root sound guarded safe few = guarded-grows (slab.get s) (slab.get t) root pk label key grows_joined sound guarded others_safe
+      (λ h. safe-at (slab.get t) key node a.here ∙ safe (sym (safe-at (slab.get s) pk a.old a.old_is) ∙ h)) counts
+    where
+      counts : (k : ℕ) → children_in (slab.get t) k ≤ 256
+      counts k = elim (cases_eq k pk) [
+        | inl e ↦
+            let c = ap (children_in (slab.get t)) e ∙ children-at (slab.get t) pk a.new a.new_is ∙ ap length a.names ∙ length-append (keys a.old.children) (label ∷ []) in
+            omega arith
+        | inr p ↦ elim (cases_eq k key) [
+          | inl e ↦ let c = ap (children_in (slab.get t)) e ∙ children-at (slab.get t) key node a.here ∙ ap (λ es. length (keys_of es)) leaf in omega arith
+          | inr q ↦ let c = children-eq (slab.get t) (slab.get s) k (a.others k p q) in let f = guarded.few k in omega arith
+        ]
+      ]
+
+-- what `attach` does is that, and the child's name is a command besides
+abbrev pub joined_of : (s t : Slab Node) (pk : ℕ) (label : Text) (node : Node) (a : Attached s t pk label node) → Joined s t pk label node a.key
+joined_of s t pk label node a = record {
+  was = a.was;
+  here = a.here;
+  old = a.old;
+  old_is = a.old_is;
+  new = a.new;
+  new_is = a.new_is;
+  parent = a.parent;
+  name = a.name;
+  level = a.level;
+  safe = ap (λ (v : NodeView). v.safe) a.view;
+  names = ap (λ (v : NodeView). v.own.children) a.view;
+  gets = a.gets;
+  others = a.others;
+}
+
+-- what `attach` does to the tree
+module _ (s t : Slab Node) (pk : ℕ) (label : Text) (node : Node) (a : Attached s t pk label node)
+    (parent : node.parent ≡ Some pk) (name : node.name ≡ label) (leaf : node.children.entries ≡ []) (level : node.level ≡ a.old.level + 1)
+    (absent : get bytes_eq a.old.children label ≡ None) (fits : node.level < 2 ^ 64) where
+  pub grows_attached : Grows (slab.get s) (slab.get t) pk label a.key
+  grows_attached = grows_joined s t pk label node a.key (joined_of s t pk label node a) parent name leaf level absent fits
 
   pub tree_attached : (root : ℕ) → IsSound (slab.get s) root → (p : Path) → follow (slab.get s) root p ≡ Some pk
       → (q : Path) → tree_in (slab.get t) root q ≡ with_node (with_node (tree_in (slab.get s) root) p (option_map (with_child label) (tree_in (slab.get s) root p))) (p ++ label ∷ []) (Some (view_of node)) q
@@ -75,26 +121,8 @@ module _ (s t : Slab Node) (pk : ℕ) (label : Text) (node : Node) (a : Attached
       ∙ ap (λ v. with_node (with_node (tree_in (slab.get s) root) p v) (p ++ label ∷ []) (Some (view_of node)) q)
       (sym (ap (option_map (with_child label)) (tree_some (slab.get s) root p pk a.old at a.old_is) ∙ ap Some (sym a.view)))
 
-  others_safe : (k : ℕ) → k ≢ a.key → safe_in (slab.get t) k ≡ safe_in (slab.get s) k
-  others_safe k other = elim (cases_eq k pk) [
-    | inl e ↦ ap (safe_in (slab.get t)) e ∙ safe-at (slab.get t) pk a.new a.new_is ∙ ap (λ (v : NodeView). v.safe) a.view ∙ sym (ap (safe_in (slab.get s)) e ∙ safe-at (slab.get s) pk a.old a.old_is)
-    | inr p ↦ safe-eq (slab.get t) (slab.get s) k (a.others k p other)
-  ]
-
   pub guarded_attached : (root : ℕ) → IsSound (slab.get s) root → IsGuarded (slab.get s) → (a.old.state.safe ≡ true → node.state.safe ≡ true) → length (keys a.old.children) < 256 → IsGuarded (slab.get t)
-  guarded_attached root sound guarded safe few = guarded-grows (slab.get s) (slab.get t) root pk label a.key grows_attached sound guarded others_safe
-      (λ h. safe-at (slab.get t) a.key node a.here ∙ safe (sym (safe-at (slab.get s) pk a.old a.old_is) ∙ h)) counts
-    where
-      counts : (k : ℕ) → children_in (slab.get t) k ≤ 256
-      counts k = elim (cases_eq k pk) [
-        | inl e ↦
-            let c = ap (children_in (slab.get t)) e ∙ children-at (slab.get t) pk a.new a.new_is ∙ ap (λ (v : NodeView). length v.own.children) a.view ∙ length-append (keys a.old.children) (label ∷ []) in
-            omega arith
-        | inr p ↦ elim (cases_eq k a.key) [
-          | inl e ↦ let c = ap (children_in (slab.get t)) e ∙ children-at (slab.get t) a.key node a.here ∙ ap (λ es. length (keys_of es)) leaf in omega arith
-          | inr q ↦ let c = children-eq (slab.get t) (slab.get s) k (a.others k p q) in let f = guarded.few k in omega arith
-        ]
-      ]
+  guarded_attached = guarded_joined s t pk label node a.key (joined_of s t pk label node a) parent name leaf level absent fits
 
 -- where room was made, what is seen of the node is as it was
 module _ (s r : Slab Node) (pk : ℕ) (up : Node) (same : SameTable s r) (up_is : Some up ≡ slab.get s pk) where

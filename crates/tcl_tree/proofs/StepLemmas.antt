@@ -1,6 +1,6 @@
 -- Lemmas on the steps of the table's functions.
-use Rattle.std.proofs.Common.{◌≡◌, ℕ, ◌+◌, ◌<◌, ◌≤◌, Bool, true, false, List, [], ◌∷◌, ◌++◌, length, drop, get_or, refl, sym, ◌∙◌, ap, inl, inr, arith, zero, suc, length-append, Option, Some, None}
-use Rattle.std.specs.Prelude.{◌≢◌, MatchOption, OnSome, slice_index_or, is_some}
+use Rattle.std.proofs.Common.{◌^◌, ◌≡◌, ℕ, ◌+◌, ◌<◌, ◌≤◌, Bool, true, false, List, [], ◌∷◌, ◌++◌, length, drop, get_or, refl, sym, ◌∙◌, ap, inl, inr, arith, zero, suc, length-append, Option, Some, None}
+use Rattle.std.specs.Prelude.{◌≢◌, MatchOption, OnSome, slice_index_or, is_some, IfNone}
 use Rattle.std.specs.Option.{option_and_then, option_map, option_map_or}
 use Rattle.std.specs.Str.{bytes_eq}
 use Rattle.std.proofs.lemmas.List.{drop_more, drop_all}
@@ -106,7 +106,7 @@ vacant_slots s e k = ap (λ l. slice_index_or l k None) e ∙ by k
     by (suc k) = refl
 
 -- a table with one node
-module _ (h : Heap) (root : ℕ) (node : Node) (is : h root ≡ Some node) (parent : node.parent ≡ None) (flat : node.level ≡ 0) (leaf : node.children.entries ≡ [])
+module _ (h : Heap) (root : ℕ) (node : Node) (is : h root ≡ Some node) (parent : node.parent ≡ None) (fits : node.level < 2 ^ 64) (leaf : node.children.entries ≡ [])
     (rest : (k : ℕ) → k ≢ root → h k ≡ None) where
   no-child : (k : ℕ) (n : Text) → child_in h k n ≡ None
   no-child k n = elim (cases_eq k root) [
@@ -136,7 +136,7 @@ module _ (h : Heap) (root : ℕ) (node : Node) (is : h root ≡ Some node) (pare
     ];
     levels = λ k n c e. let w = no-child k n in cc;
     fits = λ k. elim (cases_eq k root) [
-      | inl same ↦ let e = ap (level_in h) same ∙ level-at h root node is ∙ flat in omega arith
+      | inl same ↦ let e = ap (level_in h) same ∙ level-at h root node is in omega arith
       | inr other ↦ let e = level-none h k (rest k other) in omega arith
     ];
   }
@@ -200,6 +200,10 @@ on_ok (Err e) h ok = let x : false ≡ true = ok in cc
 
 pub at_some : {T : Type 0} (o : Option T) (P : T → Type 0) (x : T) → o ≡ Some x → IfSome o P → P x
 at_some o P x e h = MatchOption-at_some ⊤ P x e h
+
+pub at_none : {T : Type 0} (o : Option T) (P : Type 0) → o ≡ None → IfNone o P → P
+at_none None P e h = h
+at_none (Some x) P e h = absurd (cc)
 
 pub none_of : {T : Type 0} (o : Option T) → is_some o ≡ false → o ≡ None
 none_of None e = refl

@@ -1,5 +1,5 @@
 -- Walks through two tables at once, and what is left of them.
-use Rattle.std.proofs.Common.{◌≡◌, ℕ, zero, suc, ◌+◌, ◌-◌, ◌^◌, ◌<◌, ◌≤◌, List, [], ◌∷◌, ◌++◌, Bool, true, false, not, cond, length, drop, refl, sym, ◌∙◌, ap, subst, inl, inr, arith, Option, Some, None, add-one}
+use Rattle.std.proofs.Common.{◌≡◌, ℕ, zero, suc, ◌+◌, ◌-◌, ◌^◌, ◌<◌, ◌≤◌, List, [], ◌∷◌, ◌++◌, Bool, true, false, not, cond, length, drop, take, refl, sym, ◌∙◌, ap, subst, inl, inr, arith, Option, Some, None, add-one}
 use Rattle.std.specs.Prelude.{◌⊎◌, IfNone, IfSome, slice_get, nat_lt}
 use Rattle.std.specs.List.{AllByRecursion, IsDistinct, position, position_or_len, prefix_len}
 use Rattle.std.specs.Map.{keys_of, lookup, values_of}
@@ -53,6 +53,20 @@ first_at (x ∷ es) (suc i) n c d e =
     let rest = first_at es i n c (IsDistinct-tail bytes_eq x.0 (keys_of es) d) e in
     omega (arith, a, rest)
 
+-- a name is none of those before it
+none_before : (xs : List Text) (i : ℕ) (n : Text) → IsDistinct bytes_eq xs → slice_get xs i ≡ Some n → AllByRecursion (λ y. bytes_eq n y ≡ false) (take i xs)
+none_before [] i n d e = absurd (cc)
+none_before (x ∷ xs) zero n d e = tt
+none_before (x ∷ xs) (suc i) n d e = (differs x n xs i (IsDistinct-head bytes_eq x xs d) e, none_before xs i n (IsDistinct-tail bytes_eq x xs d) e)
+
+none_found : (es : Entries) (n : Text) → AllByRecursion (λ y. bytes_eq n y ≡ false) (keys_of es) → lookup (bytes_eq n) es ≡ None
+none_found [] n all = refl
+none_found (x ∷ es) n all = ap (λ b. cond b (Some x.1) (lookup (bytes_eq n) es)) all.0 ∙ none_found es n all.1
+
+-- where the first entries are another map's, the name that comes next there is none of this one's
+pub not_yet : (es fs : Entries) (n : Text) (c : ℕ) → IsDistinct bytes_eq (keys_of es) → keys_of fs ≡ take (length (keys_of fs)) (keys_of es) → slice_get es (length (keys_of fs)) ≡ Some (n, c) → lookup (bytes_eq n) fs ≡ None
+not_yet es fs n c d names e = none_found fs n (subst (AllByRecursion (λ y. bytes_eq n y ≡ false)) (sym names) (none_before (keys_of es) (length (keys_of fs)) n d (name_at es (length (keys_of fs)) n c e)))
+
 position_at : (p : Text → Bool) (xs : List Text) (i : ℕ) → position_or_len p xs ≡ i → i < length xs → position p xs ≡ Some i
 position_at p xs i e l =
     let t : nat_lt i (length xs) ≡ true = grind (arith, nat_tests) in
@@ -97,7 +111,7 @@ past (x ∷ es) zero e = absurd (cc)
 past (x ∷ es) (suc i) e = let l = past es i e in omega arith
 
 -- the entries from a place on
-from_place : (es : Entries) (i : ℕ) (x : Text × ℕ) → slice_get es i ≡ Some x → drop i es ≡ x ∷ drop (suc i) es
+pub from_place : (es : Entries) (i : ℕ) (x : Text × ℕ) → slice_get es i ≡ Some x → drop i es ≡ x ∷ drop (suc i) es
 from_place [] i x e = absurd (cc)
 from_place (y ∷ es) zero x e = ap (λ z. z ∷ es) (same_Some _ _ e)
 from_place (y ∷ es) (suc i) x e = from_place es i x e
@@ -181,7 +195,7 @@ behind_step all l h c k n es e f =
     ap (λ o. option_map_or (λ (p : ℕ × Text). 1 + sum_of (weight (all - suc l) h) (entries_behind h p.0 p.1) + weight_behind all l h p.0) o 0) e
     ∙ ap (λ xs. 1 + sum_of (weight (all - suc l) h) xs + weight_behind all l h k) f
 
-weight_step : (m : ℕ) (h : Heap) (k : ℕ) (es : Entries) → entries_in h k ≡ es → weight (suc m) h k ≡ 2 + sum_of (weight m h) es
+pub weight_step : (m : ℕ) (h : Heap) (k : ℕ) (es : Entries) → entries_in h k ≡ es → weight (suc m) h k ≡ 2 + sum_of (weight m h) es
 unfolding weight
 weight_step m h k es e = ap (λ xs. 2 + sum_of (weight m h) xs) e
 

@@ -4,11 +4,13 @@ pub mod Own
 pub mod Paths
 pub mod Nodes
 pub mod Walking
+pub mod Copying
 pub mod TreeOf
 pub mod Changes
 pub mod Lending
 pub mod LendingTree
 pub mod Refusals
 pub mod Naming
+pub mod Order
 pub mod Reaching
 pub mod Forms

@@ -162,6 +162,22 @@ pub record Attached (s t : Slab Node) (pk : ℕ) (label : Text) (node : Node) : 
   pub gets : (q : Text) → get bytes_eq new.children q ≡ cond (bytes_eq label q) (Some key) (get bytes_eq old.children q)
   pub others : (k : ℕ) → k ≢ pk → k ≢ key → slab.get t k ≡ slab.get s k
 
+-- t is s with the node under a new key, and under the label among the children of the node at pk, whatever else that has
+pub record Joined (s t : Slab Node) (pk : ℕ) (label : Text) (node : Node) (key : ℕ) : Type 0 where
+  pub was : slab.get s key ≡ None
+  pub here : slab.get t key ≡ Some node
+  pub old : Node
+  pub old_is : slab.get s pk ≡ Some old
+  pub new : Node
+  pub new_is : slab.get t pk ≡ Some new
+  pub parent : new.parent ≡ old.parent
+  pub name : new.name ≡ old.name
+  pub level : new.level ≡ old.level
+  pub safe : new.state.safe ≡ old.state.safe
+  pub names : keys new.children ≡ keys old.children ++ label ∷ []
+  pub gets : (q : Text) → get bytes_eq new.children q ≡ cond (bytes_eq label q) (Some key) (get bytes_eq old.children q)
+  pub others : (k : ℕ) → k ≢ pk → k ≢ key → slab.get t k ≡ slab.get s k
+
 -- t is s with no node under the key, and none of its name among the children of the node at pk
 pub record Detached (s t : Slab Node) (key : ℕ) (node : Node) (pk : ℕ) : Type 0 where
   pub gone : slab.get t key ≡ None
@@ -197,20 +213,3 @@ NoneFull full f p = (m : ℕ) → m ≤ length p → full_up full f p m ≡ fals
 -- the tree in which the lowest so many nodes above the path are charged
 unfoldable pub charged_below : (NodeView → NodeView) → Tree_fn → Path → ℕ → Tree_fn
 charged_below once f p count q = cond (is_above q p && nat_lt (length p) (length q + count)) (option_map once (f q)) (f q)
-
--- the node at a key is at another or below it: names lead there
-abbrev pub IsBelow : Heap → ℕ → ℕ → Type 0
-IsBelow h top key = (r : Path) × (follow h top r ≡ Some key)
-
--- t has the nodes of s at a key and below it, under the same keys
-abbrev pub IsSubtable : Slab Node → ℕ → Slab Node → Type 0
-IsSubtable s top t = (k : ℕ) → (IsBelow (slab.get s) top k × (shape_at t k ≡ shape_at s k)) ⊎ ((IsBelow (slab.get s) top k → ⊥) × (slab.get t k ≡ None))
-
--- a node with no parent
-abbrev pub orphaned : Node → Node
-orphaned node = record node { parent = None }
-
--- the node at the key has no parent, and all else is as it was
-pub record IsCut (s t : Slab Node) (key : ℕ) : Type 0 where
-  pub top : slab.get t key ≡ option_map orphaned (slab.get s key)
-  pub others : (k : ℕ) → k ≢ key → slab.get t k ≡ slab.get s k

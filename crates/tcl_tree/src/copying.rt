@@ -4,19 +4,13 @@ ghost use Rattle.std.specs.Prelude.{◌≡◌, IfOk, List, ℕ};
 use crate::command::Commands;
 use crate::node::{Node, State};
 use indexmap::IndexMap;
-use std::alloc::AllocError;
+use std::alloc::{AllocError, Global};
 use tcl_text::text::Text;
 
 fn copy_commands(commands: &Commands) -> Result<Commands, AllocError>
     ensures { IfOk result (λ made. made.entries ≡ commands.now.entries) }
 {
     commands.clone()
-}
-
-fn copy_keys(children: &IndexMap<Text, usize>) -> Result<IndexMap<Text, usize>, AllocError>
-    ensures { IfOk result (λ made. made.entries ≡ children.now.entries) }
-{
-    children.clone()
 }
 
 impl State {
@@ -43,20 +37,24 @@ impl State {
     }
 }
 
-impl Clone for Node {
-    ghost use Rattle.tcl_tree.specs.Nodes.{shape_of};
+impl Node {
+    ghost use Rattle.tcl_tree.specs.Copying.{IsBare};
 
-    ghost is_clone = { λ x y. shape_of y ≡ shape_of x };
-
-    fn clone(&self) -> Result<Node, AllocError> {
-        let name = self.name.clone()?;
-        let children = copy_keys(&self.children)?;
+    /// One that has the same, but no children, and this parent and this name.
+    pub(crate) fn bare(
+        &self,
+        alloc: Global,
+        parent: Option<usize>,
+        name: Text,
+    ) -> Result<Node, AllocError>
+        ensures { IfOk result (λ made. IsBare self.now made parent name) }
+    {
         let state = self.state.copy()?;
         Ok(Node {
-            parent: self.parent,
+            parent,
             name,
             level: self.level,
-            children,
+            children: IndexMap::new(alloc),
             state,
         })
     }

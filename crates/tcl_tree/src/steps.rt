@@ -1,10 +1,10 @@
 //! Steps on the nodes alone.
-ghost use Rattle.std.specs.Prelude.{◌≡◌, ◌≢◌, ◌<◌, ◌+◌, List, ℕ, cond, Some, None, OnOk, IfSome, IsSome};
+ghost use Rattle.std.specs.Prelude.{◌≡◌, ◌≢◌, ◌<◌, ◌+◌, ◌++◌, ◌∷◌, [], List, ℕ, cond, Some, None, OnOk, IfOk, IfSome, IsSome};
 ghost use Rattle.std.specs.Str.{bytes_eq};
 ghost use Rattle.slab.specs.Slab.{get, HasRoomFor, slab_len};
 ghost use Rattle.indexmap.specs.IndexMap as map;
 ghost use Rattle.tcl_tree.specs.declared.node.Node.{Node};
-ghost use Rattle.tcl_tree.specs.Nodes.{SameTable, Attached, Detached, shape_of, view_of, with_child, without_child};
+ghost use Rattle.tcl_tree.specs.Nodes.{SameTable, Attached, Joined, Detached, shape_of, view_of, with_child, without_child};
 
 use crate::command::Command;
 use crate::node::Node;
@@ -68,6 +68,39 @@ pub(crate) fn attach(nodes: &mut Slab<Node>, parent: usize, label: Text, twin: T
     if let Some(up) = nodes.get_mut(parent) {
         add_child(up, label, twin, key);
     }
+}
+
+// Adds the key of a child under its name.
+fn add_key(up: &mut Node, label: Text, key: usize) -> Result<(), AllocError>
+    requires absent { map.get bytes_eq up.old.children label ≡ None }
+    ensures parent { up.new.parent ≡ up.old.parent }
+    ensures name { up.new.name ≡ up.old.name }
+    ensures level { up.new.level ≡ up.old.level }
+    ensures state { up.new.state ≡ up.old.state }
+    ensures names { OnOk result (map.keys up.new.children ≡ map.keys up.old.children ++ label ∷ []) }
+    ensures gets { OnOk result ((q : List ℕ) → map.get bytes_eq up.new.children q ≡ cond (bytes_eq label q) (Some key) (map.get bytes_eq up.old.children q)) }
+{
+    up.children.insert(label, key)?;
+    Ok(())
+}
+
+/// Adds a node as the child of another, which gets no command by that, and answers with its key.
+pub(crate) fn join(
+    nodes: &mut Slab<Node>,
+    parent: usize,
+    label: Text,
+    node: Node,
+) -> Result<usize, AllocError>
+    requires there { IsSome (get nodes.old parent) }
+    requires absent { IfSome (get nodes.old parent) (λ up. map.get bytes_eq up.children label ≡ None) }
+    ensures joined { IfOk result (λ key. (j : Joined nodes.old nodes.new parent label node key) × (j.new.state ≡ j.old.state)) }
+{
+    let key = nodes.insert(node)?;
+    match nodes.get_mut(parent) {
+        Some(up) => add_key(up, label, key)?,
+        None => unreachable!(),
+    }
+    Ok(key)
 }
 
 // Takes a child's name away, and its command.

@@ -287,6 +287,89 @@ fn calls_by_path(rt: HostRuntime) -> Result<(), Fail> {
     Ok(())
 }
 
+// Where there is reason for more than one refusal: who asks comes first, then what it may do, then where the names lead, then the words from
+// the left.
+const FIRST_BY_PATH: &str = "\
+. create c {} 0
+c create g {} 0
+. create s safe 0
+s create t {} 0
+d create a::b {} 301
+d alias a::b {} 301
+d proc a::b {} 301
+d clear none {} 301
+d rename none a::b 301
+c rename none a::b 305
+c rename none set 305
+c rename g a::b 302
+c rename g set 302
+d hide d a::b 301
+s hide . none 304
+s hide . a::b 304
+s hide d none 304
+. hide d none 301
+. hide d a::b 301
+. hide c a::b 305
+d expose d a::b 301
+s expose . none 304
+s expose . a::b 304
+s expose d puts 304
+. expose d none 301
+. expose d a::b 301
+. expose c a::b 306
+d steps . 9223372036854775808 301
+d steps d 9223372036854775808 301
+s steps . 9223372036854775808 304
+s steps d 5 304
+s steps d 9223372036854775808 304
+s steps t 9223372036854775808 304
+. steps . 9223372036854775808 304
+. steps d 9223372036854775808 301
+d levels . 0 301
+d levels d 1001 301
+s levels . 0 304
+s levels d 5 304
+s levels d 1001 304
+s levels t 0 304
+. levels . 0 304
+. levels . 1001 304
+. levels d 0 301
+. levels d 1001 301";
+
+#[test]
+fn the_first_refusal_is_told_by_path(rt: HostRuntime) -> Result<(), Fail> {
+    let alloc = rt.alloc();
+    let mut tree = Tree::new(alloc)?;
+    let wrong = first_wrong(&mut tree, alloc, FIRST_BY_PATH, false)?;
+    assert_eq!(rt; wrong.as_str(), "");
+    Ok(())
+}
+
+// The same, of calls by place.
+const FIRST_BY_PLACE: &str = "\
+. create c {} 0
+c create g {} 0
+. create s safe 0
+. levels 0 {} 304
+. levels 1001 {} 304
+c rename none a::b 305
+c rename none set 305
+c rename g a::b 302
+c hide none a::b 305
+c hide g a::b 302
+s hide none puts 305
+s expose none a::b 306
+s expose none set 306";
+
+#[test]
+fn the_first_refusal_is_told_by_place(rt: HostRuntime) -> Result<(), Fail> {
+    let alloc = rt.alloc();
+    let mut tree = Tree::new(alloc)?;
+    let wrong = first_wrong(&mut tree, alloc, FIRST_BY_PLACE, true)?;
+    assert_eq!(rt; wrong.as_str(), "");
+    Ok(())
+}
+
 #[test]
 fn one_child_more_changes_nothing(rt: HostRuntime) -> Result<(), Fail> {
     let alloc = rt.alloc();
@@ -295,7 +378,12 @@ fn one_child_more_changes_nothing(rt: HostRuntime) -> Result<(), Fail> {
         let name = tree.free_name_at(alloc, tree.root())?;
         tree.create_at(alloc, tree.root(), &name, false)?;
     }
-    let wrong = first_wrong(&mut tree, alloc, ". create x {} 307", true)?;
+    let wrong = first_wrong(
+        &mut tree,
+        alloc,
+        ". create x {} 307\n. create a::b {} 238\n. create set {} 302",
+        true,
+    )?;
     assert_eq!(rt; wrong.as_str(), "");
     Ok(())
 }

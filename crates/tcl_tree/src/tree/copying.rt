@@ -1,10 +1,10 @@
 //! Interpreters as trees of their own.
-ghost use Rattle.std.specs.Prelude.{◌≡◌, ◌↔◌, IsTrue, IfOk, IfErr, OnOk, IsSome, false, List, ℕ, Some};
+ghost use Rattle.std.specs.Prelude.{◌≡◌, IfOk, IfErr, IfSome, IfNone, OnOk, IsSome, false, List, ℕ, Some};
 ghost use Rattle.slab.specs.Slab.{get};
-ghost use Rattle.tcl_tree.specs.Nodes.{IsCut};
 
 use crate::node::Node;
 use crate::refusal::Refusal;
+use crate::steps::join;
 use crate::tree::Tree;
 use slab::Slab;
 use std::alloc::AllocError;
@@ -12,52 +12,62 @@ use std::cell::RefCell;
 use tcl_readings::readings::Readings;
 use tcl_text::text::Text;
 
-// Cuts a node off from its parent.
-fn cut(nodes: &mut Slab<Node>, key: usize)
-    ensures { IsCut nodes.old nodes.new key }
-{
-    match nodes.get_mut(key) {
-        Some(node) => node.parent = None,
-        None => {}
-    }
-}
-
 impl Tree {
     ghost use Rattle.tcl_core.specs.Trees.{at};
     ghost use Rattle.tcl_tree.specs.Changes.{RefusesCopy};
-    ghost use Rattle.tcl_tree.specs.Nodes.{IsBelow, IsSubtable};
+    ghost use Rattle.tcl_tree.specs.Copying.{IsLike, IsWhole, IsCopy, Adds};
     ghost use Rattle.tcl_tree.specs.TreeOf.{tree_of, key_of, marks_of};
 
-    // Whether the node at a key is the one at another, or below it.
-    fn is_below(&self, key: usize, top: usize) -> bool
-        ensures { IsTrue result ↔ IsBelow (get self.now.nodes) top key }
+    // Copies, without its own children, the first child of a node that the node's copy lacks, and answers with the keys of the two.
+    fn copy_child(
+        &self,
+        nodes: &mut Slab<Node>,
+        key: usize,
+        twin: usize,
+    ) -> Result<Option<(usize, usize)>, AllocError>
+        requires { IsLike (get self.now.nodes) (get nodes.old) key twin }
+        ensures some { IfOk result (λ next. IfSome next (λ pair. Adds (get self.now.nodes) nodes.old nodes.new key twin pair.0 pair.1)) }
+        ensures none { IfOk result (λ next. IfNone next (IsWhole (get self.now.nodes) (get nodes.old) key twin)) }
+        ensures same { IfOk result (λ next. IfNone next (nodes.new ≡ nodes.old)) }
     {
-        let mut at = key;
-        'climb: while at != top {
-            let Some(node) = self.nodes.get(at) else {
-                return false;
-            };
-            let Some(parent) = node.parent else {
-                return false;
-            };
-            at = parent;
-        }
-        true
+        let Some(node) = self.nodes.get(key) else {
+            unreachable!();
+        };
+        let Some(copy) = nodes.get(twin) else {
+            unreachable!();
+        };
+        let children = node.children.as_slice();
+        let Some((name, child)) = children.get_index(copy.children.len()) else {
+            return Ok(None);
+        };
+        let Some(source) = self.nodes.get(*child) else {
+            unreachable!();
+        };
+        let made = source.bare(self.alloc, Some(twin), name.clone()?)?;
+        let copied = join(nodes, twin, name.clone()?, made)?;
+        Ok(Some((*child, copied)))
     }
 
-    // The nodes at a key and below it, under the keys that they have.
-    fn subtable(&self, top: usize) -> Result<Slab<Node>, AllocError>
+    // The nodes at a key and below it as a table of their own, with the key that the first of them has there.
+    fn subtable(&self, top: usize) -> Result<(Slab<Node>, usize), AllocError>
         requires { (p : List (List ℕ)) × (key_of self.now p ≡ Some top) }
-        ensures { IfOk result (λ made. IsSubtable self.now.nodes top made) }
+        ensures { IfOk result (λ made. IsCopy (get self.now.nodes) (get made.0) top made.1) }
     {
-        let mut nodes = self.nodes.clone()?;
-        'others: for (key, _) in &self.nodes {
-            if self.is_below(key, top) {
-                continue;
+        let Some(node) = self.nodes.get(top) else {
+            unreachable!();
+        };
+        let first = node.bare(self.alloc, None, node.name.clone()?)?;
+        let mut nodes = Slab::new(self.alloc);
+        let root = nodes.insert(first)?;
+        let mut open = Vec::new(self.alloc);
+        open.push((top, root))?;
+        'walk: while let Some((key, twin)) = open.pop() {
+            if let Some(next) = self.copy_child(&mut nodes, key, twin)? {
+                open.push((key, twin))?;
+                open.push(next)?;
             }
-            nodes.try_remove(key);
         }
-        Ok(nodes)
+        Ok((nodes, root))
     }
 
     /// The interpreter at the path with all below it, as a tree of its own, which isn't broken.
@@ -70,11 +80,10 @@ impl Tree {
         ensures marks { IfOk result (λ made. marks_of made ≡ record { integers = (marks_of self.now).integers; broken = false }) }
         ensures refused { IfErr result (λ e. RefusesCopy e (tree_of self.now) path.now) }
     {
-        let Some(root) = self.find(path) else {
+        let Some(top) = self.find(path) else {
             return Err(Refusal::NoInterpreter);
         };
-        let mut nodes = self.subtable(root)?;
-        cut(&mut nodes, root);
+        let (nodes, root) = self.subtable(top)?;
         Ok(Tree {
             nodes,
             root,

@@ -1,12 +1,13 @@
 //! Commands that are hidden and exposed.
-ghost use Rattle.std.specs.Prelude.{◌≡◌, ◌++◌, List, ℕ, Some, IfOk, IfErr, OnOk, OnErr, IsSome};
+ghost use Rattle.std.specs.Prelude.{◌≡◌, ◌⊎◌, ◌++◌, List, ℕ, Some, IfOk, IfErr, OnOk, OnErr, IsSome};
 
 use crate::refusal::Refusal;
 use crate::tree::{Place, Tree};
 use tcl_text::text::Text;
 
 impl Tree {
-    ghost use Rattle.tcl_tree.specs.Naming.{Becomes, IsTrusted, Untrusted, RefusesToAsk, RefusesAsked, hidden_under, exposed_under};
+    ghost use Rattle.tcl_tree.specs.Naming.{Becomes, IsTrusted, Untrusted, Nowhere, RefusesToAsk, RefusesAsked, hidden_under, exposed_under};
+    ghost use Rattle.tcl_tree.specs.Order.{FirstOfAsked};
     ghost use Rattle.tcl_tree.specs.TreeOf.{tree_of, key_of, marks_of, Names};
 
     // The key of the interpreter at a path, where that is trusted.
@@ -32,6 +33,7 @@ impl Tree {
         ensures trusted { OnOk result (IsTrusted (tree_of self.now) path.now) }
         ensures place { IfOk result (λ place. Names self.now place (path.now ++ down.now)) }
         ensures refused { IfErr result (λ e. RefusesToAsk e (tree_of self.now) path.now down.now) }
+        ensures order { IfErr result (λ e. Untrusted e (tree_of self.now) path.now ⊎ (IsTrusted (tree_of self.now) path.now × Nowhere e (tree_of self.now) (path.now ++ down.now))) }
     {
         let asking = self.asker(path)?;
         match self.descend(asking, down) {
@@ -57,6 +59,7 @@ impl Tree {
         ensures there { OnOk result (IsSome (tree_of self.old (path.now ++ down.now))) }
         ensures moved { OnOk result (Becomes (tree_of self.old) (tree_of self.new) (path.now ++ down.now) (λ own. hidden_under own name.now hidden)) }
         ensures refused { IfErr result (λ e. RefusesAsked e (tree_of self.old) path.now down.now (λ own. hidden_under own name.now hidden)) }
+        ensures order { IfErr result (λ e. FirstOfAsked e (tree_of self.old) path.now down.now (λ own. hidden_under own name.now hidden)) }
         ensures unchanged { OnErr result (tree_of self.new ≡ tree_of self.old) }
         ensures keys { (q : List (List ℕ)) → key_of self.new q ≡ key_of self.old q }
         ensures marks { marks_of self.new ≡ marks_of self.old }
@@ -81,6 +84,7 @@ impl Tree {
         ensures there { OnOk result (IsSome (tree_of self.old (path.now ++ down.now))) }
         ensures moved { OnOk result (Becomes (tree_of self.old) (tree_of self.new) (path.now ++ down.now) (λ own. exposed_under own hidden.now name)) }
         ensures refused { IfErr result (λ e. RefusesAsked e (tree_of self.old) path.now down.now (λ own. exposed_under own hidden.now name)) }
+        ensures order { IfErr result (λ e. FirstOfAsked e (tree_of self.old) path.now down.now (λ own. exposed_under own hidden.now name)) }
         ensures unchanged { OnErr result (tree_of self.new ≡ tree_of self.old) }
         ensures keys { (q : List (List ℕ)) → key_of self.new q ≡ key_of self.old q }
         ensures marks { marks_of self.new ≡ marks_of self.old }

@@ -14,6 +14,7 @@ impl Tree {
     ghost use Rattle.tcl_core.specs.Trees.What.{Charged, Nested, Unnested, Limited, DepthLimited};
     ghost use Rattle.tcl_core.specs.Programs.{blocked, is_spent, is_deep};
     ghost use Rattle.tcl_tree.specs.Changes.{RefusesStep, RefusesLevel, MayDeepen, RefusesToDeepen};
+    ghost use Rattle.tcl_tree.specs.Order.{FirstOfDepth};
     ghost use Rattle.tcl_tree.specs.Nodes.{NoneFull, IsNearestFull, charged, full_of, moved};
     ghost use Rattle.tcl_tree.specs.TreeOf.{tree_of, key_of, marks_of, Names};
 
@@ -162,6 +163,7 @@ impl Tree {
         ensures may { OnOk result ((p : List (List ℕ)) → Names self.old place p → MayDeepen (tree_of self.old) p limit) }
         ensures limited { OnOk result ((p : List (List ℕ)) → Names self.old place p → tree_of self.new ≡ effect p (DepthLimited limit) (tree_of self.old)) }
         ensures refused { IfErr result (λ e. (p : List (List ℕ)) → Names self.old place p → RefusesToDeepen e (tree_of self.old) p limit) }
+        ensures order { IfErr result (λ e. (p : List (List ℕ)) → Names self.old place p → FirstOfDepth e (tree_of self.old) p limit) }
         ensures unchanged { OnErr result (tree_of self.new ≡ tree_of self.old) }
     {
         let Some(node) = self.nodes.get(place.key) else {
@@ -191,6 +193,7 @@ impl Tree {
     ghost use Rattle.tcl_core.specs.Trees.What.{Limited, DepthLimited};
     ghost use Rattle.tcl_tree.specs.TreeOf.{tree_of, key_of, marks_of};
     ghost use Rattle.tcl_tree.specs.Changes.{MayLimit, RefusesLimit, MayLimitDepth, RefusesDepthLimit};
+    ghost use Rattle.tcl_tree.specs.Order.{FirstOfLimit, FirstOfDepthLimit};
 
     // The key of the interpreter that these names lead to from another.
     pub(crate) fn descend(&self, key: usize, down: &[Text]) -> Option<usize>
@@ -218,6 +221,7 @@ impl Tree {
         ensures may { OnOk result (MayLimit (tree_of self.old) path.now down.now limit) }
         ensures limited { OnOk result (tree_of self.new ≡ effect (path.now ++ down.now) (Limited limit) (tree_of self.old)) }
         ensures refused { IfErr result (λ e. RefusesLimit e (tree_of self.old) path.now down.now limit) }
+        ensures order { IfErr result (λ e. FirstOfLimit e (tree_of self.old) path.now down.now limit) }
         ensures unchanged { OnErr result (tree_of self.new ≡ tree_of self.old) }
         ensures keys { (q : List (List ℕ)) → key_of self.new q ≡ key_of self.old q }
         ensures marks { marks_of self.new ≡ marks_of self.old }
@@ -255,6 +259,7 @@ impl Tree {
         ensures may { OnOk result (MayLimitDepth (tree_of self.old) path.now down.now limit) }
         ensures limited { OnOk result (tree_of self.new ≡ effect (path.now ++ down.now) (DepthLimited limit) (tree_of self.old)) }
         ensures refused { IfErr result (λ e. RefusesDepthLimit e (tree_of self.old) path.now down.now limit) }
+        ensures order { IfErr result (λ e. FirstOfDepthLimit e (tree_of self.old) path.now down.now limit) }
         ensures unchanged { OnErr result (tree_of self.new ≡ tree_of self.old) }
         ensures keys { (q : List (List ℕ)) → key_of self.new q ≡ key_of self.old q }
         ensures marks { marks_of self.new ≡ marks_of self.old }

@@ -37,3 +37,12 @@ returns-clause-may c = λ p at. record {
 
 pub returns-clause-limited : goal.returns-clause-limited
 returns-clause-limited c = λ p at. depth_write c.args.self.now.nodes _ c.args.self.now.sound p _ at _ _ (sym c.in-Some-get_mut.ensures.value) (record { parent = refl; name = refl; level = refl; children = refl; safe = refl }) c.args.limit refl
+
+pub returns-then-node-clause-order : goal.returns-then-node-clause-order
+returns-then-node-clause-order c = λ p at. (view_of c.in-Some.node.now, tree_some _ _ _ _ _ at (sym c.in-Some.ensures), c.if-node.true)
+
+pub returns-then-limit-eq0-clause-order : goal.returns-then-limit-eq0-clause-order
+returns-then-limit-eq0-clause-order c = λ p at. (view_of c.in-Some.node.now, tree_some _ _ _ _ _ at (sym c.in-Some.ensures), c.if-node.false, inl c.if-limit-eq0.true)
+
+pub returns-then-limit-gt-MOST_DEPTH-clause-order : goal.returns-then-limit-gt-MOST_DEPTH-clause-order
+returns-then-limit-gt-MOST_DEPTH-clause-order c = λ p at. (view_of c.in-Some.node.now, tree_some _ _ _ _ _ at (sym c.in-Some.ensures), c.if-node.false, inr c.if-limit-gt-MOST_DEPTH.true)
