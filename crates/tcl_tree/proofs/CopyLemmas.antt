@@ -1,6 +1,6 @@
 -- What stands at a key and below it, copied into a table of its own.
 use Rattle.std.proofs.Common.{◌≡◌, ℕ, zero, suc, ◌+◌, ◌-◌, ◌^◌, ◌<◌, ◌≤◌, List, [], ◌∷◌, ◌++◌, true, cond, drop, take, length, length-append, refl, sym, ◌∙◌, ap, subst, inl, inr, arith, Option, Some, None}
-use Rattle.std.specs.Prelude.{◌≢◌, ◌⊎◌, is_some, slice_get}
+use Rattle.std.specs.Prelude.{◌≢◌, ◌⊎◌, slice_get}
 use Rattle.std.specs.Str.{bytes_eq}
 use Rattle.std.specs.List.{IsDistinct}
 use Rattle.std.specs.Map.{keys_of, lookup}
@@ -13,7 +13,7 @@ use Rattle.slab.specs.Slab as slab
 use Rattle.slab.specs.Slab.{Slab}
 use Rattle.tcl_tree.specs.Paths.{Text, Path}
 use Rattle.tcl_tree.specs.Nodes.{Heap, NodeView, state_view, view_of, child_in, follow, tree_in, level_in, safe_in, children_in, IsSound, IsGuarded}
-use Rattle.tcl_tree.specs.Copying.{IsBare, IsLike, IsWhole, Adds, IsPart, IsCopy, IsPair, IsListed, IsWalk, left_at, left_of}
+use Rattle.tcl_tree.specs.Copying.{IsBare, IsLike, IsWhole, Adds, IsPart, IsCopy, IsPair, IsListed, IsWalk, left_of}
 use Rattle.tcl_tree.specs.Walking.{entries_in, sum_of, weight}
 use Rattle.tcl_tree.specs.declared.node.Node.{Node}
 use Rattle.tcl_tree.specs.declared.node.State.{State}

@@ -7,7 +7,7 @@ use Rattle.slab.specs.Slab.{get}
 use Rattle.tcl_tree.specs.Paths.{Path}
 use Rattle.tcl_tree.specs.Nodes.{Heap, NodeView, view_of, tree_in, follow}
 use Rattle.tcl_tree.specs.Changes.{most_depth, RefusesToDeepen, RefusesLimit, RefusesDepthLimit}
-use Rattle.tcl_tree.specs.Naming.{Named, IsTrusted, Nowhere, RefusesAt, Untrusted}
+use Rattle.tcl_tree.specs.Naming.{Named, IsTrusted, Nowhere, Untrusted}
 use Rattle.tcl_tree.specs.Order.{FirstOfLimit, FirstOfDepth, FirstOfDepthLimit, FirstOfAsked}
 use Rattle.tcl_tree.specs.Own.{Own}
 use Rattle.tcl_tree.specs.TreeOf.{tree_of}

@@ -159,11 +159,7 @@ fn grove(alloc: Global, others: u64) -> Result<Tree, Refusal> {
     let inner = [path[0].clone()?, g];
     tree.create(alloc, &inner, &text(alloc, "k")?, false)?;
     tree.charge(&inner)?;
-    tree.rename(
-        &inner,
-        &text(alloc, "set")?,
-        text(alloc, "put")?,
-    )?;
+    tree.rename(&inner, &text(alloc, "set")?, text(alloc, "put")?)?;
     Ok(tree)
 }
 

@@ -1,4 +1,4 @@
-use Rattle.std.proofs.Common.{◌<◌, ◌≤◌, ℕ, refl, sym, subst, inl, inr, ◌++◌}
+use Rattle.std.proofs.Common.{◌<◌, ◌≤◌, ℕ, refl, sym, subst, inr, ◌++◌}
 use Rattle.std.proofs.lemmas.Result.{err_from_is_err_and}
 use Rattle.tcl_core.specs.Programs.{most_steps}
 use Rattle.tcl_tree.proofs.HeapLemmas.{tree-none}
