@@ -85,6 +85,7 @@ fn moves_leave_what_the_run_leaves(rt: HostRuntime) -> Result<(), Fail> {
 fn replayed(alloc: Global) -> Result<Replayed, Fail> {
     let mut tree = asking(alloc)?;
     let watched = watch(alloc, &mut tree, "c", ASKED)?;
+    see(watched.ending.as_str(), "yes q")?;
     let moves = moves_of(alloc, watched.crossings.as_slice())?;
     replay(alloc, &asker(alloc)?, moves.as_slice(), STEPS)
 }
