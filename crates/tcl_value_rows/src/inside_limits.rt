@@ -103,19 +103,3 @@ fn list_inside_grows_to_the_limit(rt: HostRuntime) -> Result<(), Fail> {
     assert_eq!(rt; own.text_len(), 16_777_216);
     Ok(())
 }
-
-/// What is left of a full dict is shorter by the key, its number and the two spaces, and takes as much again.
-#[test]
-fn key_inside_leaves_room_for_another(rt: HostRuntime) -> Result<(), Fail> {
-    let alloc = rt.alloc();
-    let mut own = full_dict(alloc)?;
-    let path = [value(alloc, "d")?];
-    assert!(rt;
-        own.remove_inside(alloc, &path, &value(alloc, "k")?),
-        "a key"
-    );
-    assert_eq!(rt; own.text_len(), 16_777_212);
-    assert!(rt; set(alloc, &mut own, "j", 2)?, "another key");
-    assert_eq!(rt; own.text_len(), 16_777_216);
-    Ok(())
-}
