@@ -139,73 +139,6 @@ fn a_copy_is_a_tree_of_its_own(rt: HostRuntime) -> Result<(), Fail> {
     Ok(())
 }
 
-// A root with a child `c` that has `g` and `h` below it, and `k` below `g`; and with so many other children, each with a child of its own.
-fn grove(alloc: Global, others: u64) -> Result<Tree, Refusal> {
-    let mut tree = Tree::new(alloc)?;
-    let gone = text(alloc, "gone")?;
-    let c = text(alloc, "c")?;
-    let g = text(alloc, "g")?;
-    tree.create(alloc, &[], &gone, false)?;
-    tree.create(alloc, &[], &c, true)?;
-    for number in 0..others {
-        let name = Text::from_string(alloc, format!(in alloc; "n{number}")?)?;
-        tree.create(alloc, &[], &name, false)?;
-        tree.create(alloc, &[name], &c, false)?;
-    }
-    tree.delete(&[], &gone)?;
-    let path = [c];
-    tree.create(alloc, &path, &g, false)?;
-    tree.create(alloc, &path, &text(alloc, "h")?, false)?;
-    let inner = [path[0].clone()?, g];
-    tree.create(alloc, &inner, &text(alloc, "k")?, false)?;
-    tree.charge(&inner)?;
-    tree.rename(&inner, &text(alloc, "set")?, text(alloc, "put")?)?;
-    Ok(tree)
-}
-
-#[test]
-fn a_copy_has_what_is_below_alone(rt: HostRuntime) -> Result<(), Fail> {
-    let alloc = rt.alloc();
-    let tree = grove(alloc, 100)?;
-    let c = [text(alloc, "c")?];
-    let g = [text(alloc, "g")?];
-    let copy = tree.copy_at(&c)?;
-    assert_eq!(rt; tree.table().len(), 205);
-    assert_eq!(rt; copy.table().len(), 4);
-    let mut names = copy.children(&[]).ok_or("no root")?;
-    assert_eq!(rt; names.next().ok_or("no child")?.as_str(), "g");
-    assert_eq!(rt; names.next().ok_or("one child")?.as_str(), "h");
-    assert!(rt; names.next().is_none());
-    assert!(rt; copy.exists(&[text(alloc, "g")?, text(alloc, "k")?]));
-    assert!(rt; !copy.exists(&c));
-    assert!(rt; !copy.exists(&[text(alloc, "n7")?]));
-    assert_eq!(rt; copy.is_safe(&[]), Some(true));
-    assert_eq!(rt; copy.count(&g), Some(1));
-    assert!(rt; copy.command(&g, &text(alloc, "put")?).is_some());
-    assert!(rt; copy.same(&grove(alloc, 0)?.copy_at(&c)?));
-    assert!(rt; tree.same(&grove(alloc, 100)?));
-    Ok(())
-}
-
-// Under `rt try --test --fail-alloc N` the copy is the call that the Nth allocation is refused to, for some N.
-#[test]
-fn a_copy_that_finds_no_memory_changes_nothing(rt: HostRuntime) -> Result<(), Fail> {
-    let alloc = rt.alloc();
-    let tree = grove(alloc, 3)?;
-    let c = [text(alloc, "c")?];
-    let copy = match tree.copy_at(&c) {
-        Ok(copy) => copy,
-        Err(refusal) => {
-            assert!(rt; matches!(refusal, Refusal::Memory));
-            assert!(rt; tree.same(&grove(alloc, 3)?));
-            tree.copy_at(&c)?
-        }
-    };
-    assert!(rt; tree.same(&grove(alloc, 3)?));
-    assert!(rt; copy.same(&grove(alloc, 0)?.copy_at(&c)?));
-    Ok(())
-}
-
 #[test]
 fn keys_are_not_seen(rt: HostRuntime) -> Result<(), Fail> {
     let alloc = rt.alloc();
@@ -244,16 +177,6 @@ fn long_chains_are_compared(rt: HostRuntime) -> Result<(), Fail> {
     let tree = chain(alloc, 20_000)?;
     assert!(rt; tree.same(&tree));
     assert!(rt; !tree.same(&chain(alloc, 20_001)?));
-    Ok(())
-}
-
-#[test]
-fn long_chains_are_copied(rt: HostRuntime) -> Result<(), Fail> {
-    let alloc = rt.alloc();
-    let tree = chain(alloc, 20_000)?;
-    let copy = tree.copy_at(&[text(alloc, "c")?])?;
-    assert_eq!(rt; copy.table().len(), 20_000);
-    assert!(rt; !copy.same(&tree));
     Ok(())
 }
 
