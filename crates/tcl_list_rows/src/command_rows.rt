@@ -161,17 +161,25 @@ fn told_by(alloc: Global, style: Integers, row: &str) -> Result<Text, Fail> {
     Ok(told(alloc, given(alloc, style, &words))?)
 }
 
-/// The first row whose command doesn't tell what stands behind the arrow.
-fn first_wrong<'a>(alloc: Global, style: Integers, rows: &'a str) -> Result<&'a str, Fail> {
-    'rows: for row in rows.lines() {
-        let Some((command, wanted)) = row.split_once(" => ") else {
-            return Ok(row);
-        };
-        if told_by(alloc, style, command)?.as_str() != wanted {
-            return Ok(row);
-        }
+/// Sees what the command of a row tells.
+fn see_row(alloc: Global, style: Integers, row: &str) -> Result<(), Fail> {
+    let Some((command, wanted)) = row.split_once(" => ") else {
+        return Err(Fail::new(format_args!("no arrow: {row}")));
+    };
+    let told = told_by(alloc, style, command)?;
+    if told.as_str() == wanted {
+        return Ok(());
     }
-    Ok("")
+    let found = told.as_str();
+    Err(Fail::new(format_args!("found {found}: {row}")))
+}
+
+/// Sees what the command of each row tells.
+fn see_rows(alloc: Global, style: Integers, rows: &str) -> Result<(), Fail> {
+    'rows: for row in rows.lines() {
+        see_row(alloc, style, row)?;
+    }
+    Ok(())
 }
 
 #[test]
@@ -206,8 +214,7 @@ lset {a b} \"{c}d\" x => list element in braces followed by \"d\" instead of spa
 lset {\"{a}b\" c} {0 0} x => list element in braces followed by \"b\" instead of space
 lset {a b} 9223372036854775808 x => bad index \"9223372036854775808\"
 lset {a b c} 08 x => bad index \"08\"";
-    assert_eq!(rt; first_wrong(rt.alloc(), Tcl8, rows)?, "");
-    Ok(())
+    see_rows(rt.alloc(), Tcl8, rows)
 }
 
 #[test]
@@ -237,8 +244,7 @@ dict keys {a 1} a b => wrong # args: should be \"dict keys dictionary ?pattern?\
 dict values => wrong # args: should be \"dict values dictionary ?pattern?\"
 dict merge {a 1 a 2} => a 2
 dict merge {a  1} => a 1";
-    assert_eq!(rt; first_wrong(rt.alloc(), Tcl8, rows)?, "");
-    Ok(())
+    see_rows(rt.alloc(), Tcl8, rows)
 }
 
 #[test]
@@ -262,8 +268,7 @@ dict set {a 1} b => wrong # args: should be \"dict set varName key ?key ...? val
 dict set => wrong # args: should be \"dict set varName key ?key ...? value\"
 dict unset {a 1} => wrong # args: should be \"dict unset varName key ?key ...?\"
 dict unset {b  2} a => b 2";
-    assert_eq!(rt; first_wrong(rt.alloc(), Tcl8, rows)?, "");
-    Ok(())
+    see_rows(rt.alloc(), Tcl8, rows)
 }
 
 #[test]
@@ -304,8 +309,7 @@ dict append {a 1} => wrong # args: should be \"dict append varName key ?string .
 dict lappend {a 1} => wrong # args: should be \"dict lappend varName key ?value ...?\"
 dict lappend {a  {b  c}} a => a {b c}
 dict lappend {a \"b \\{\"} a c => unmatched open brace in list";
-    assert_eq!(rt; first_wrong(rt.alloc(), Tcl8, rows)?, "");
-    Ok(())
+    see_rows(rt.alloc(), Tcl8, rows)
 }
 
 #[test]
@@ -324,8 +328,7 @@ dict get {a 1 b} b => missing value to go with key
 dict exists {a {b c}} b => 0
 dict exists \"a \\{b\" b => 0
 dict create a => wrong # args: should be \"dict create ?key value ...?\"";
-    assert_eq!(rt; first_wrong(rt.alloc(), Tcl8, rows)?, "");
-    Ok(())
+    see_rows(rt.alloc(), Tcl8, rows)
 }
 
 #[test]
@@ -368,8 +371,7 @@ lreplace {a b c} 2 0 x => a b x c
 lreplace {a b} 9 12 x => a b x
 lreverse {a {b c} #} => {#} {b c} a
 lappend \"a \\{b\" c => unmatched open brace in list";
-    assert_eq!(rt; first_wrong(rt.alloc(), Tcl8, rows)?, "");
-    Ok(())
+    see_rows(rt.alloc(), Tcl8, rows)
 }
 
 #[test]
@@ -390,8 +392,7 @@ join {} , =>
 join \"a \\{b\" => unmatched open brace in list
 concat { a b } { } {} {{c  d} } => a b {c  d}
 concat => ";
-    assert_eq!(rt; first_wrong(rt.alloc(), Tcl8, rows)?, "");
-    Ok(())
+    see_rows(rt.alloc(), Tcl8, rows)
 }
 
 #[test]
@@ -411,8 +412,7 @@ lsearch -all {a b} c =>
 lsearch {a b} => wrong # args: should be \"lsearch ?option ...? list pattern\"
 lsearch -nocase \"a \\{b\" a => bad option \"-nocase\"
 lsearch \"a \\{b\" a => unmatched open brace in list";
-    assert_eq!(rt; first_wrong(rt.alloc(), Tcl8, rows)?, "");
-    Ok(())
+    see_rows(rt.alloc(), Tcl8, rows)
 }
 
 #[test]
@@ -436,8 +436,7 @@ lsort -real \"a \\{b\" => bad option \"-real\"
 lsort -integer \"a \\{b\" => unmatched open brace in list
 lsort -integer {1 08 x} => expected integer but got \"08\"
 lsort -integer 9223372036854775808 => integer value too large to represent";
-    assert_eq!(rt; first_wrong(rt.alloc(), Tcl8, rows)?, "");
-    Ok(())
+    see_rows(rt.alloc(), Tcl8, rows)
 }
 
 #[test]
@@ -447,56 +446,5 @@ lsort -integer {010 9 0o11} => 9 0o11 010
 lset {a b c} 01 x => a x c
 lrepeat 010 a => a a a a a a a a a a
 dict incr {a 08} a 01 => a 9";
-    assert_eq!(rt; first_wrong(rt.alloc(), Tcl9, rows)?, "");
-    Ok(())
-}
-
-/// A text.
-fn key(alloc: Global, text: &str) -> Result<Value, Fail> {
-    Ok(value(alloc, text)?)
-}
-
-#[test]
-fn key_list_grows_and_its_copy_stays(rt: HostRuntime) -> Result<(), Fail> {
-    let alloc = rt.alloc();
-    let mut own = Value::empty();
-    let l = key(alloc, "l")?;
-    for word in ["1", "2", "x y"] {
-        changing::lappend(alloc, &mut own, &l, &[key(alloc, word)?])?;
-    }
-    assert_eq!(rt; own.text(alloc)?.as_str(), "l {1 2 {x y}}");
-    let copy = own.clone()?;
-    changing::lappend(alloc, &mut own, &l, &[key(alloc, "")?, key(alloc, "z")?])?;
-    assert_eq!(rt; own.text(alloc)?.as_str(), "l {1 2 {x y} {} z}");
-    assert_eq!(rt; own.text_len(), 18);
-    assert_eq!(rt; copy.text(alloc)?.as_str(), "l {1 2 {x y}}");
-    Ok(())
-}
-
-#[test]
-fn inner_elements_and_entries_change_and_copies_stay(rt: HostRuntime) -> Result<(), Fail> {
-    let alloc = rt.alloc();
-    let mut own = key(alloc, "{1 2} {3 4}")?;
-    for new in ["a", "b c", "d"] {
-        let path = [Value::from_int(1), Value::from_int(0)];
-        let copy = own.clone()?;
-        let before = own.text(alloc)?;
-        lset(alloc, Tcl8, &mut own, &path, &key(alloc, new)?)?;
-        assert_eq!(rt; copy.text(alloc)?.as_str(), before.as_str());
-    }
-    assert_eq!(rt; own.text(alloc)?.as_str(), "{1 2} {d 4}");
-    let far = [Value::from_int(1), Value::from_int(5)];
-    let refused = lset(alloc, Tcl8, &mut own, &far, &key(alloc, "e")?);
-    assert!(rt; refused.is_err(), "no such place");
-    assert_eq!(rt; own.text(alloc)?.as_str(), "{1 2} {d 4}");
-    let mut dict = key(alloc, "a {x 1 y 2} b 3")?;
-    for new in ["5", "6 7", "8"] {
-        let copy = dict.clone()?;
-        let before = dict.text(alloc)?;
-        let path = [key(alloc, "a")?, key(alloc, "x")?];
-        changing::set(alloc, &mut dict, &path, &key(alloc, new)?)?;
-        assert_eq!(rt; copy.text(alloc)?.as_str(), before.as_str());
-    }
-    assert_eq!(rt; dict.text(alloc)?.as_str(), "a {x 8 y 2} b 3");
-    Ok(())
+    see_rows(rt.alloc(), Tcl9, rows)
 }

@@ -1,5 +1,6 @@
 //! Commands that change what stands inside a variable's list or dict: a first change keeps the lists and dicts on the way, and what
 //! comes behind it goes in place.
+use crate::seeing::{see_fault, see_now, see_text_len};
 use std::alloc::Global;
 use std::test::Fail;
 use tcl_dicts::changing;
@@ -14,19 +15,8 @@ fn word(alloc: Global, text: &str) -> Result<Value, Fail> {
     Ok(Value::from_text(Text::new(alloc, text)?)?)
 }
 
-/// Whether the text of a value is this one, and as long as is told.
-fn is(alloc: Global, value: &Value, text: &str) -> Result<bool, Fail> {
-    let own = value.text(alloc)?;
-    Ok(own.as_str() == text && value.text_len() == own.len())
-}
-
-/// Whether a change was refused, since the text would be too long.
-fn is_too_long(done: Result<(), Refusal>) -> bool {
-    match done {
-        Err(Refusal::Fault(text)) => text.as_str() == "value longer than 16777216 bytes",
-        Err(Refusal::Memory) | Ok(()) => false,
-    }
-}
+/// What is told of a value that would be too long.
+const TOO_LONG: &str = "value longer than 16777216 bytes";
 
 /// What `lset` makes of a list by two indexes.
 fn set(
@@ -42,18 +32,26 @@ fn set(
     Ok(())
 }
 
+/// Sets elements at both ends, and sees that a copy stays.
+fn see_ends_set(alloc: Global, own: &mut Value, copy: &Value) -> Result<(), Fail> {
+    set(alloc, Tcl8, own, "1", "end+1", "y z")?;
+    set(alloc, Tcl8, own, "end-1", "0", "\\")?;
+    see_now(alloc, own, "{\\\\ b} {c y {y z}}")?;
+    see_now(alloc, copy, "{x b} {c y}")
+}
+
+/// Sets an element of each inner list, and then others.
+fn see_elements_set(alloc: Global, own: &mut Value) -> Result<(), Fail> {
+    set(alloc, Tcl8, own, "0", "0", "x")?;
+    set(alloc, Tcl8, own, "1", "end", "y")?;
+    let copy = own.clone()?;
+    see_ends_set(alloc, own, &copy)
+}
+
 #[test]
 fn element_inside_is_set_and_the_copy_stays(rt: HostRuntime) -> Result<(), Fail> {
     let alloc = rt.alloc();
-    let mut own = word(alloc, "{a b} {c d}")?;
-    set(alloc, Tcl8, &mut own, "0", "0", "x")?;
-    set(alloc, Tcl8, &mut own, "1", "end", "y")?;
-    let copy = own.clone()?;
-    set(alloc, Tcl8, &mut own, "1", "end+1", "y z")?;
-    set(alloc, Tcl8, &mut own, "end-1", "0", "\\")?;
-    assert!(rt; is(alloc, &own, "{\\\\ b} {c y {y z}}")?, "changed");
-    assert!(rt; is(alloc, &copy, "{x b} {c y}")?, "the copy");
-    Ok(())
+    see_elements_set(alloc, &mut word(alloc, "{a b} {c d}")?)
 }
 
 /// A list of a list of eleven numbers, the last of which was set.
@@ -63,17 +61,28 @@ fn eleven(alloc: Global) -> Result<Value, Fail> {
     Ok(own)
 }
 
+/// Sets the number that the index `010` leads to in a style, and sees which it was.
+fn see_place(alloc: Global, own: &mut Value, style: Integers, wanted: &str) -> Result<(), Fail> {
+    set(alloc, style, own, "01", "010", "x")?;
+    see_now(alloc, own, wanted)
+}
+
 /// `010` is 8 in one style and 10 in the other.
 #[test]
 fn index_inside_is_read_in_its_style(rt: HostRuntime) -> Result<(), Fail> {
     let alloc = rt.alloc();
-    let mut own = eleven(alloc)?;
-    set(alloc, Tcl8, &mut own, "01", "010", "x")?;
-    assert!(rt; is(alloc, &own, "a {0 1 2 3 4 5 6 7 x 9 10}")?, "the ninth");
-    let mut own = eleven(alloc)?;
-    set(alloc, Tcl9, &mut own, "01", "010", "x")?;
-    assert!(rt; is(alloc, &own, "a {0 1 2 3 4 5 6 7 8 9 x}")?, "the last");
-    Ok(())
+    see_place(
+        alloc,
+        &mut eleven(alloc)?,
+        Tcl8,
+        "a {0 1 2 3 4 5 6 7 x 9 10}",
+    )?;
+    see_place(
+        alloc,
+        &mut eleven(alloc)?,
+        Tcl9,
+        "a {0 1 2 3 4 5 6 7 8 9 x}",
+    )
 }
 
 /// What `dict set` makes of a dict by two keys.
@@ -83,21 +92,26 @@ fn put(alloc: Global, own: &mut Value, key: &str, inner: &str, new: &str) -> Res
     Ok(())
 }
 
+/// Sets a value again and a new one, and sees that a copy stays.
+fn see_more_put(alloc: Global, own: &mut Value, copy: &Value) -> Result<(), Fail> {
+    put(alloc, own, "b", "x", "{")?;
+    put(alloc, own, "c", "x", "")?;
+    see_now(alloc, own, "a {x 3} b {x \\{ {y z} 4} c {x {}}")?;
+    see_now(alloc, copy, "a {x 3} b {x 2 {y z} 4}")
+}
+
+/// Sets a value of each inner dict, and then others.
+fn see_values_put(alloc: Global, own: &mut Value) -> Result<(), Fail> {
+    put(alloc, own, "a", "x", "3")?;
+    put(alloc, own, "b", "y z", "4")?;
+    let copy = own.clone()?;
+    see_more_put(alloc, own, &copy)
+}
+
 #[test]
 fn value_inside_is_set_and_the_copy_stays(rt: HostRuntime) -> Result<(), Fail> {
     let alloc = rt.alloc();
-    let mut own = word(alloc, "a {x 1} b {x 2}")?;
-    put(alloc, &mut own, "a", "x", "3")?;
-    put(alloc, &mut own, "b", "y z", "4")?;
-    let copy = own.clone()?;
-    put(alloc, &mut own, "b", "x", "{")?;
-    put(alloc, &mut own, "c", "x", "")?;
-    assert!(rt;
-        is(alloc, &own, "a {x 3} b {x \\{ {y z} 4} c {x {}}")?,
-        "changed"
-    );
-    assert!(rt; is(alloc, &copy, "a {x 3} b {x 2 {y z} 4}")?, "the copy");
-    Ok(())
+    see_values_put(alloc, &mut word(alloc, "a {x 1} b {x 2}")?)
 }
 
 /// What `dict unset` makes of a dict by two keys.
@@ -115,36 +129,47 @@ const UNSET: [(&str, &str, &str); 4] = [
     ("b", "x", "a {{#} 3} b {}"),
 ];
 
+/// Sees what is left by a row.
+fn see_unset(alloc: Global, own: &mut Value, row: (&str, &str, &str)) -> Result<(), Fail> {
+    let (key, inner, left) = row;
+    unset(alloc, own, key, inner)?;
+    see_now(alloc, own, left)
+}
+
+/// Sees what is left by each row, and that a copy stays.
+fn see_rows_unset(alloc: Global, own: &mut Value, copy: &Value) -> Result<(), Fail> {
+    'rows: for row in UNSET {
+        see_unset(alloc, own, row)?;
+    }
+    see_now(alloc, copy, "a {x 1 y 2 # 3} b {x 4}")
+}
+
 #[test]
 fn key_inside_is_unset_and_the_copy_stays(rt: HostRuntime) -> Result<(), Fail> {
     let alloc = rt.alloc();
     let mut own = word(alloc, "a {x 1 y 2 # 3} b {x 4}")?;
     let copy = own.clone()?;
-    'keys: for (key, inner, left) in UNSET {
-        unset(alloc, &mut own, key, inner)?;
-        assert!(rt; is(alloc, &own, left)?, "{left}");
-    }
-    assert!(rt; is(alloc, &copy, "a {x 1 y 2 # 3} b {x 4}")?, "the copy");
-    Ok(())
+    see_rows_unset(alloc, &mut own, &copy)
 }
 
-/// Whether a change was refused, since a key of the path is missing.
-fn is_unknown(done: Result<(), Refusal>) -> bool {
-    match done {
-        Err(Refusal::Fault(text)) => text.as_str() == "key \"c\" not known in dictionary",
-        Err(Refusal::Memory) | Ok(()) => false,
-    }
+/// What is told of a path whose first key is missing.
+const UNKNOWN: &str = "key \"c\" not known in dictionary";
+
+/// What is told of a text of one word that is no dict.
+const NO_DICT: &str = "missing value to go with key";
+
+/// Unsets a key inside, and sees that none is unset where there is no such path.
+fn see_none_unset(alloc: Global, own: &mut Value) -> Result<(), Fail> {
+    unset(alloc, own, "a", "y")?;
+    see_fault(unset(alloc, own, "c", "x"), UNKNOWN)?;
+    see_fault(unset(alloc, own, "b", "x"), NO_DICT)?;
+    see_now(alloc, own, "a {x 1} b 3")
 }
 
 #[test]
 fn no_key_is_unset_where_there_is_no_way_to_it(rt: HostRuntime) -> Result<(), Fail> {
     let alloc = rt.alloc();
-    let mut own = word(alloc, "a {x 1 y 2} b 3")?;
-    unset(alloc, &mut own, "a", "y")?;
-    assert!(rt; is_unknown(unset(alloc, &mut own, "c", "x")), "no such key");
-    assert!(rt; unset(alloc, &mut own, "b", "x").is_err(), "no dict");
-    assert!(rt; is(alloc, &own, "a {x 1} b 3")?, "as it was");
-    Ok(())
+    see_none_unset(alloc, &mut word(alloc, "a {x 1 y 2} b 3")?)
 }
 
 /// What `dict append` makes of a dict with two strings.
@@ -162,39 +187,53 @@ fn short(alloc: Global, text: &str) -> Result<Value, Refusal> {
     }
 }
 
+/// Appends two strings, and sees what the dict is then.
+fn see_appended(
+    alloc: Global,
+    own: &mut Value,
+    a: &str,
+    b: &str,
+    wanted: &str,
+) -> Result<(), Fail> {
+    append(alloc, own, a, b)?;
+    see_now(alloc, own, wanted)
+}
+
+/// Puts behind the text what changes how it is written, and sees that a copy stays.
+fn see_written_anew(alloc: Global, own: &mut Value, copy: &Value) -> Result<(), Fail> {
+    append(alloc, own, "$", "[")?;
+    see_appended(alloc, own, "\"", "é", "k 1 t {abc$[\"é}")?;
+    see_appended(alloc, own, "}", "\n", "k 1 t abc\\$\\[\\\"é\\}\\n")?;
+    see_now(alloc, copy, "k 1 t abc")
+}
+
+/// Puts letters behind a text that isn't there yet, and then more.
+fn see_text_grow(alloc: Global, own: &mut Value) -> Result<(), Fail> {
+    append(alloc, own, "a", "b")?;
+    see_appended(alloc, own, "", "c", "k 1 t abc")?;
+    let copy = own.clone()?;
+    see_written_anew(alloc, own, &copy)
+}
+
 /// How the value is written changes with what is put behind it.
 #[test]
 fn text_of_a_key_grows_and_the_copy_stays(rt: HostRuntime) -> Result<(), Fail> {
     let alloc = rt.alloc();
-    let mut own = word(alloc, "k 1")?;
-    append(alloc, &mut own, "a", "b")?;
-    append(alloc, &mut own, "", "c")?;
-    assert!(rt; is(alloc, &own, "k 1 t abc")?, "letters");
-    let copy = own.clone()?;
-    append(alloc, &mut own, "$", "[")?;
-    append(alloc, &mut own, "\"", "é")?;
-    assert!(rt; is(alloc, &own, "k 1 t {abc$[\"é}")?, "in braces");
-    append(alloc, &mut own, "}", "\n")?;
-    assert!(rt;
-        is(alloc, &own, "k 1 t abc\\$\\[\\\"é\\}\\n")?,
-        "with backslashes"
-    );
-    assert!(rt; is(alloc, &copy, "k 1 t abc")?, "the copy");
-    Ok(())
+    see_text_grow(alloc, &mut word(alloc, "k 1")?)
+}
+
+/// Puts a backslash behind a text, a newline behind that, and nothing.
+fn see_backslash(alloc: Global, own: &mut Value) -> Result<(), Fail> {
+    see_appended(alloc, own, "b", "\\", "t ab\\\\")?;
+    see_appended(alloc, own, "\n", "c", "t ab\\\\\\nc")?;
+    see_appended(alloc, own, "", "", "t ab\\\\\\nc")
 }
 
 /// What ends in a backslash, and what stands before a newline behind it.
 #[test]
 fn backslashes_are_put_behind_the_text_of_a_key(rt: HostRuntime) -> Result<(), Fail> {
     let alloc = rt.alloc();
-    let mut own = word(alloc, "t a")?;
-    append(alloc, &mut own, "b", "\\")?;
-    assert!(rt; is(alloc, &own, "t ab\\\\")?, "a backslash");
-    append(alloc, &mut own, "\n", "c")?;
-    assert!(rt; is(alloc, &own, "t ab\\\\\\nc")?, "a newline");
-    append(alloc, &mut own, "", "")?;
-    assert!(rt; is(alloc, &own, "t ab\\\\\\nc")?, "nothing");
-    Ok(())
+    see_backslash(alloc, &mut word(alloc, "t a")?)
 }
 
 /// What `dict lappend` makes of a dict with two values.
@@ -203,26 +242,31 @@ fn lappend(alloc: Global, own: &mut Value, a: &str, b: &str) -> Result<(), Refus
     changing::lappend(alloc, own, &short(alloc, "l")?, &words)
 }
 
+/// Adds two elements more, and sees that a copy stays.
+fn see_two_more(alloc: Global, own: &mut Value, copy: &Value) -> Result<(), Fail> {
+    lappend(alloc, own, "\\", "}")?;
+    see_now(alloc, own, "k 1 l {a {b c} {} d \\\\ \\}}")?;
+    see_now(alloc, copy, "k 1 l {a {b c} {} d}")
+}
+
+/// Adds elements to a list that isn't there yet, and then more.
+fn see_list_grow(alloc: Global, own: &mut Value) -> Result<(), Fail> {
+    lappend(alloc, own, "a", "b c")?;
+    lappend(alloc, own, "", "d")?;
+    let copy = own.clone()?;
+    see_two_more(alloc, own, &copy)
+}
+
 #[test]
 fn list_of_a_key_grows_and_the_copy_stays(rt: HostRuntime) -> Result<(), Fail> {
     let alloc = rt.alloc();
-    let mut own = word(alloc, "k 1")?;
-    lappend(alloc, &mut own, "a", "b c")?;
-    lappend(alloc, &mut own, "", "d")?;
-    let copy = own.clone()?;
-    lappend(alloc, &mut own, "\\", "}")?;
-    assert!(rt;
-        is(alloc, &own, "k 1 l {a {b c} {} d \\\\ \\}}")?,
-        "changed"
-    );
-    assert!(rt; is(alloc, &copy, "k 1 l {a {b c} {} d}")?, "the copy");
-    Ok(())
+    see_list_grow(alloc, &mut word(alloc, "k 1")?)
 }
 
 /// A value of so many letters: for each binary digit of the number what is there is doubled, and a one adds a letter.
 fn letters(alloc: Global, count: u32) -> Result<Value, Fail> {
     let mut text = String::new(alloc);
-    for digit in 0..25u32 {
+    'digits: for digit in 0..25u32 {
         let again = String::from_str(alloc, text.as_str())?;
         text.push_str(again.as_str())?;
         if (count >> (24 - digit)) % 2 == 1 {
@@ -234,59 +278,58 @@ fn letters(alloc: Global, count: u32) -> Result<Value, Fail> {
 
 /// The dict of one key that has so many letters.
 fn with_letters(alloc: Global, key: &str, count: u32) -> Result<Value, Fail> {
+    let path = [word(alloc, key)?];
     let mut own = Value::empty();
-    changing::set(
-        alloc,
-        &mut own,
-        &[word(alloc, key)?],
-        &letters(alloc, count)?,
-    )?;
+    changing::set(alloc, &mut own, &path, &letters(alloc, count)?)?;
     Ok(own)
+}
+
+/// Puts two letters behind a text, and sees that there is room for one more.
+fn see_text_full(alloc: Global, own: &mut Value) -> Result<(), Fail> {
+    append(alloc, own, "y", "z")?;
+    see_text_len(own, 16_777_215)?;
+    see_fault(append(alloc, own, "y", "z"), TOO_LONG)?;
+    see_text_len(own, 16_777_215)?;
+    append(alloc, own, "", "z")?;
+    see_text_len(own, 16_777_216)
 }
 
 /// Two bytes for the key and the space behind it.
 #[test]
 fn text_of_a_key_grows_to_the_limit(rt: HostRuntime) -> Result<(), Fail> {
     let alloc = rt.alloc();
-    let mut own = with_letters(alloc, "t", 16_777_211)?;
-    append(alloc, &mut own, "y", "z")?;
-    assert_eq!(rt; own.text_len(), 16_777_215);
-    assert!(rt; is_too_long(append(alloc, &mut own, "y", "z")), "two bytes");
-    assert_eq!(rt; own.text_len(), 16_777_215);
-    append(alloc, &mut own, "", "z")?;
-    assert_eq!(rt; own.text_len(), 16_777_216);
-    Ok(())
+    see_text_full(alloc, &mut with_letters(alloc, "t", 16_777_211)?)
+}
+
+/// Adds four numbers to a list, and sees that there is room for five bytes more.
+fn see_list_full(alloc: Global, own: &mut Value) -> Result<(), Fail> {
+    lappend(alloc, own, "0", "1")?;
+    lappend(alloc, own, "2", "3")?;
+    see_text_len(own, 16_777_211)?;
+    see_fault(lappend(alloc, own, "10", "11"), TOO_LONG)?;
+    see_text_len(own, 16_777_211)?;
+    lappend(alloc, own, "4", "10")?;
+    see_text_len(own, 16_777_216)
 }
 
 /// Eight bytes for the other key, its list and the spaces, and three for those of the long one.
 #[test]
 fn list_of_a_key_grows_to_the_limit(rt: HostRuntime) -> Result<(), Fail> {
     let alloc = rt.alloc();
-    let mut own = with_letters(alloc, "t", 16_777_197)?;
-    lappend(alloc, &mut own, "0", "1")?;
-    lappend(alloc, &mut own, "2", "3")?;
-    assert_eq!(rt; own.text_len(), 16_777_211);
-    assert!(rt;
-        is_too_long(lappend(alloc, &mut own, "10", "11")),
-        "six bytes"
-    );
-    assert_eq!(rt; own.text_len(), 16_777_211);
-    lappend(alloc, &mut own, "4", "10")?;
-    assert_eq!(rt; own.text_len(), 16_777_216);
-    Ok(())
+    see_list_full(alloc, &mut with_letters(alloc, "t", 16_777_197)?)
+}
+
+/// Sets the first element to letters, and a number inside the second.
+fn set_both(alloc: Global, own: &mut Value, count: u32) -> Result<(), Fail> {
+    let first = [Value::from_int(0)];
+    lset(alloc, Tcl8, own, &first, &letters(alloc, count)?)?;
+    set(alloc, Tcl8, own, "1", "1", "2")
 }
 
 /// A list of letters and of two numbers, one of which was set: six bytes and the letters.
 fn with_numbers(alloc: Global, count: u32) -> Result<Value, Fail> {
     let mut own = word(alloc, "a {0 1}")?;
-    lset(
-        alloc,
-        Tcl8,
-        &mut own,
-        &[Value::from_int(0)],
-        &letters(alloc, count)?,
-    )?;
-    set(alloc, Tcl8, &mut own, "1", "1", "2")?;
+    set_both(alloc, &mut own, count)?;
     Ok(own)
 }
 
@@ -296,16 +339,19 @@ fn set_number(alloc: Global, own: &mut Value, n: i64) -> Result<(), Refusal> {
     lset(alloc, Tcl9, own, &path, &Value::from_int(n))
 }
 
+/// Sees that there is room for a digit, but not for two.
+fn see_number_set(alloc: Global, own: &mut Value) -> Result<(), Fail> {
+    see_text_len(own, 16_777_215)?;
+    see_fault(set_number(alloc, own, 345), TOO_LONG)?;
+    see_text_len(own, 16_777_215)?;
+    set_number(alloc, own, 34)?;
+    see_text_len(own, 16_777_216)
+}
+
 #[test]
 fn element_inside_grows_to_the_limit(rt: HostRuntime) -> Result<(), Fail> {
     let alloc = rt.alloc();
-    let mut own = with_numbers(alloc, 16_777_209)?;
-    assert_eq!(rt; own.text_len(), 16_777_215);
-    assert!(rt; is_too_long(set_number(alloc, &mut own, 345)), "two bytes");
-    assert_eq!(rt; own.text_len(), 16_777_215);
-    set_number(alloc, &mut own, 34)?;
-    assert_eq!(rt; own.text_len(), 16_777_216);
-    Ok(())
+    see_number_set(alloc, &mut with_numbers(alloc, 16_777_209)?)
 }
 
 /// What `dict set` makes of a dict by two keys, with a number.
@@ -314,17 +360,20 @@ fn put_number(alloc: Global, own: &mut Value, n: i64) -> Result<(), Refusal> {
     changing::set(alloc, own, &path, &Value::from_int(n))
 }
 
+/// Puts a number at a key and another in its place, and sees that there is room for a digit more, but not for two.
+fn see_number_put(alloc: Global, own: &mut Value) -> Result<(), Fail> {
+    put_number(alloc, own, 1)?;
+    put_number(alloc, own, 2)?;
+    see_text_len(own, 16_777_215)?;
+    see_fault(put_number(alloc, own, 345), TOO_LONG)?;
+    see_text_len(own, 16_777_215)?;
+    put_number(alloc, own, 34)?;
+    see_text_len(own, 16_777_216)
+}
+
 /// Two bytes for the long one's key and the space, and eight for the other key, its dict and the spaces.
 #[test]
 fn value_inside_grows_to_the_limit(rt: HostRuntime) -> Result<(), Fail> {
     let alloc = rt.alloc();
-    let mut own = with_letters(alloc, "t", 16_777_205)?;
-    put_number(alloc, &mut own, 1)?;
-    put_number(alloc, &mut own, 2)?;
-    assert_eq!(rt; own.text_len(), 16_777_215);
-    assert!(rt; is_too_long(put_number(alloc, &mut own, 345)), "two bytes");
-    assert_eq!(rt; own.text_len(), 16_777_215);
-    put_number(alloc, &mut own, 34)?;
-    assert_eq!(rt; own.text_len(), 16_777_216);
-    Ok(())
+    see_number_put(alloc, &mut with_letters(alloc, "t", 16_777_205)?)
 }

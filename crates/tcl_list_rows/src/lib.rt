@@ -4,10 +4,14 @@
 #[cfg(test)]
 mod command_rows;
 #[cfg(test)]
+mod copies;
+#[cfg(test)]
 mod in_place;
 #[cfg(test)]
 mod list_search;
 #[cfg(test)]
 mod lists;
+#[cfg(test)]
+mod seeing;
 #[cfg(test)]
 mod sort;

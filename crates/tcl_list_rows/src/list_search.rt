@@ -1,5 +1,6 @@
 //! What the contracts don't say: that calls succeed, and the worked rows.
-use std::alloc::{AllocError, Global};
+use crate::seeing::{see_text, see_whether};
+use std::alloc::Global;
 use std::test::Fail;
 use tcl_list_search::options::{Search, all_and_two};
 use tcl_text::text::Text;
@@ -7,15 +8,18 @@ use tcl_value::value::{Value, ValueError};
 
 fn words(alloc: Global, texts: &[&str]) -> Result<Vec<Value>, ValueError> {
     let mut made = Vec::new(alloc);
-    for text in texts {
+    'texts: for text in texts {
         made.push(Value::from_text(Text::new(alloc, text)?)?)?;
     }
     Ok(made)
 }
 
-fn is_text(alloc: Global, value: &Value, text: &str) -> Result<bool, AllocError> {
-    let given = value.text(alloc)?;
-    Ok(given.as_str() == text)
+/// Sees that of the options of a search only two are given: the elements themselves are wanted, and those that don't match.
+fn see_inline_and_negated(search: &Search) -> Result<(), Fail> {
+    see_whether(search.inline, true, "inline")?;
+    see_whether(search.negated, true, "negated")?;
+    see_whether(search.all, false, "all")?;
+    see_whether(search.exact, false, "exact")
 }
 
 #[test]
@@ -23,9 +27,7 @@ fn reads_options(rt: HostRuntime) -> Result<(), Fail> {
     let alloc = rt.alloc();
     let row = words(alloc, &["-inline", "-not", "a", "b"])?;
     let (options, list, pattern) = all_and_two(alloc, &row, "form")?;
-    assert!(rt; is_text(alloc, list, "a")?);
-    assert!(rt; is_text(alloc, pattern, "b")?);
-    let search = Search::plain().with_options(alloc, options)?;
-    assert!(rt; search.inline && search.negated && !search.all && !search.exact);
-    Ok(())
+    see_text(alloc, list, "a")?;
+    see_text(alloc, pattern, "b")?;
+    see_inline_and_negated(&Search::plain().with_options(alloc, options)?)
 }

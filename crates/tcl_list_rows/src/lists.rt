@@ -1,5 +1,6 @@
 //! What the contracts don't say: that calls succeed, and the worked rows.
-use std::alloc::{AllocError, Global};
+use crate::seeing::see_text;
+use std::alloc::Global;
 use std::test::Fail;
 use tcl_lists::commands::{lassign_rest, llength};
 use tcl_lists::lengthening::lrepeat;
@@ -14,15 +15,10 @@ fn value(alloc: Global, text: &str) -> Result<Value, ValueError> {
 
 fn words(alloc: Global, texts: &[&str]) -> Result<Vec<Value>, ValueError> {
     let mut made = Vec::new(alloc);
-    for text in texts {
+    'texts: for text in texts {
         made.push(value(alloc, text)?)?;
     }
     Ok(made)
-}
-
-fn is_text(alloc: Global, value: &Value, text: &str) -> Result<bool, AllocError> {
-    let given = value.text(alloc)?;
-    Ok(given.as_str() == text)
 }
 
 /// `llength [lrepeat 1000000 {a b}]`
@@ -32,15 +28,13 @@ fn makes_long_lists(rt: HostRuntime) -> Result<(), Fail> {
     let made = lrepeat(alloc, Integers::Tcl8, &words(alloc, &["1000000", "a b"])?)?;
     let mut row = Vec::new(alloc);
     row.push(made)?;
-    assert!(rt; is_text(alloc, &llength(alloc, &row)?, "1000000")?);
-    Ok(())
+    see_text(alloc, &llength(alloc, &row)?, "1000000")
 }
 
 #[test]
 fn leaves_the_rest(rt: HostRuntime) -> Result<(), Fail> {
     let alloc = rt.alloc();
     let list = list_word(alloc, &value(alloc, "a b {c d}")?)?;
-    assert!(rt; is_text(alloc, &lassign_rest(alloc, 1, &list)?, "b {c d}")?);
-    assert!(rt; is_text(alloc, &lassign_rest(alloc, 4, &list)?, "")?);
-    Ok(())
+    see_text(alloc, &lassign_rest(alloc, 1, &list)?, "b {c d}")?;
+    see_text(alloc, &lassign_rest(alloc, 4, &list)?, "")
 }

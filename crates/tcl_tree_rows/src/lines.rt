@@ -1,4 +1,6 @@
 //! Calls by place and by path as lines of words, each with the number of its refusal, or 0. A refused call leaves the tree as it was.
+use crate::calls::told;
+use crate::writing::path_of;
 use std::alloc::{AllocError, Global};
 use std::test::Fail;
 use tcl_text::text::Text;
@@ -43,43 +45,11 @@ fn text(alloc: Global, word: &str) -> Result<Text, AllocError> {
     Text::new(alloc, word)
 }
 
-/// The names of a path, which slashes part.
-fn names(alloc: Global, path: &str) -> Result<Vec<Text>, AllocError> {
-    let mut names = Vec::new(alloc);
-    if path == "." {
-        return Ok(names);
-    }
-    for name in path.split('/') {
-        names.push(Text::new(alloc, name)?)?;
-    }
-    Ok(names)
-}
-
 /// The number that a word says, or one that no limit can be.
 fn number(word: &str) -> u64 {
     match word.parse::<u64>() {
         Ok(number) => number,
         Err(_) => u64::MAX,
-    }
-}
-
-/// What is told of a call.
-fn told(answer: Result<(), Refusal>) -> &'static str {
-    match answer {
-        Ok(()) => "0",
-        Err(Refusal::Memory) => "401",
-        Err(Refusal::BadName) => "238",
-        Err(Refusal::BadCount) => "245",
-        Err(Refusal::NoInterpreter) => "301",
-        Err(Refusal::Exists) => "302",
-        Err(Refusal::InUse) => "303",
-        Err(Refusal::Denied) => "304",
-        Err(Refusal::NoCommand) => "305",
-        Err(Refusal::NoHidden) => "306",
-        Err(Refusal::TooMany) => "307",
-        Err(Refusal::CountLimit(_)) => "308",
-        Err(Refusal::DepthLimit(_)) => "308",
-        Err(Refusal::BadDepthLimit) => "309",
     }
 }
 
@@ -93,7 +63,7 @@ fn nothing(alloc: Global) -> Result<Procedure, AllocError> {
 
 /// A call by place.
 fn by_place(tree: &mut Tree, alloc: Global, line: &Line<'_>) -> Result<(), Refusal> {
-    let path = names(alloc, line.path)?;
+    let path = path_of(alloc, line.path)?;
     let one = text(alloc, line.one)?;
     let two = text(alloc, line.two)?;
     let Some(place) = tree.place(path.as_slice()) else {
@@ -115,8 +85,8 @@ fn by_place(tree: &mut Tree, alloc: Global, line: &Line<'_>) -> Result<(), Refus
 
 /// A call by path. Limits, hiding and exposing are those of the interpreter to which the names of the first word lead from there.
 fn by_path(tree: &mut Tree, alloc: Global, line: &Line<'_>) -> Result<(), Refusal> {
-    let path = names(alloc, line.path)?;
-    let down = names(alloc, line.one)?;
+    let path = path_of(alloc, line.path)?;
+    let down = path_of(alloc, line.one)?;
     let one = text(alloc, line.one)?;
     let two = text(alloc, line.two)?;
     match line.call {

@@ -157,7 +157,7 @@ fn keys_are_not_seen(rt: HostRuntime) -> Result<(), Fail> {
 }
 
 // A root with so many interpreters below it, one below the other.
-fn chain(alloc: Global, count: usize) -> Result<Tree, Refusal> {
+pub(crate) fn chain(alloc: Global, count: usize) -> Result<Tree, Refusal> {
     let c = text(alloc, "c")?;
     let mut tree = Tree::new(alloc)?;
     let mut place = tree.root();

@@ -14,6 +14,8 @@ mod limits;
 #[cfg(test)]
 mod nested;
 #[cfg(test)]
+mod seeing;
+#[cfg(test)]
 mod value_calls;
 #[cfg(test)]
 mod values;

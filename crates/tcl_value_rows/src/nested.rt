@@ -1,195 +1,215 @@
 //! What the contracts don't say: that calls succeed.
+use crate::limits::longest_value;
+use crate::seeing::{see, see_text};
+use crate::values::value;
 use std::alloc::Global;
 use std::test::Fail;
 use tcl_nested::changing::{remove_key, set_element, set_value};
 use tcl_nested::fault::{NestedError, NestedFault};
 use tcl_text::integer::Integers;
-use tcl_text::text::Text;
-use tcl_value::value::{Value, ValueError};
-
-fn value(alloc: Global, text: &str) -> Result<Value, ValueError> {
-    Value::from_text(Text::new(alloc, text)?)
-}
+use tcl_value::value::Value;
 
 /// The values of these texts.
-fn path(alloc: Global, texts: &[&str]) -> Result<Vec<Value>, ValueError> {
+fn path(alloc: Global, texts: &[&str]) -> Result<Vec<Value>, Fail> {
     let mut path = Vec::new(alloc);
-    for text in texts {
+    'texts: for text in texts {
         path.push(value(alloc, text)?)?;
     }
     Ok(path)
 }
 
-/// The text of a value after an element of it was set.
-fn after_set(alloc: Global, text: &str, texts: &[&str], new: &str) -> Result<Text, NestedError> {
-    let mut changed = value(alloc, text)?;
+/// What comes of setting an element.
+fn set(
+    alloc: Global,
+    own: &mut Value,
+    texts: &[&str],
+    new: &str,
+) -> Result<Result<(), NestedError>, Fail> {
     let path = path(alloc, texts)?;
-    set_element(
-        alloc,
-        Integers::Tcl8,
-        &mut changed,
-        &path,
-        value(alloc, new)?,
-    )?;
-    Ok(changed.text(alloc)?)
+    let new = value(alloc, new)?;
+    Ok(set_element(alloc, Integers::Tcl8, own, &path, new))
+}
+
+/// Sees a value after an element of it was set.
+fn see_now_set(
+    alloc: Global,
+    own: &mut Value,
+    texts: &[&str],
+    new: &str,
+    wanted: &str,
+) -> Result<(), Fail> {
+    set(alloc, own, texts, new)??;
+    see_text(alloc, own, wanted)
+}
+
+/// Sees the text of a value after an element of it was set.
+fn see_set(alloc: Global, text: &str, texts: &[&str], new: &str, wanted: &str) -> Result<(), Fail> {
+    see_now_set(alloc, &mut value(alloc, text)?, texts, new, wanted)
 }
 
 #[test]
 fn element_inside_is_set(rt: HostRuntime) -> Result<(), Fail> {
     let alloc = rt.alloc();
     let matrix = "{1 2} {3 4}";
-    assert_eq!(rt;
-        after_set(alloc, matrix, &["1", "0"], "x y")?.as_str(),
-        "{1 2} {{x y} 4}"
-    );
-    assert_eq!(rt;
-        after_set(alloc, matrix, &["end"], "5")?.as_str(),
-        "{1 2} 5"
-    );
-    assert_eq!(rt;
-        after_set(alloc, matrix, &["0", "end-1"], "")?.as_str(),
-        "{{} 2} {3 4}"
-    );
-    assert_eq!(rt; after_set(alloc, matrix, &[], "a  b")?.as_str(), "a  b");
-    Ok(())
+    see_set(alloc, matrix, &["1", "0"], "x y", "{1 2} {{x y} 4}")?;
+    see_set(alloc, matrix, &["end"], "5", "{1 2} 5")?;
+    see_set(alloc, matrix, &["0", "end-1"], "", "{{} 2} {3 4}")?;
+    see_set(alloc, matrix, &[], "a  b", "a  b")
 }
 
 #[test]
 fn place_behind_the_last_adds_an_element(rt: HostRuntime) -> Result<(), Fail> {
     let alloc = rt.alloc();
-    assert_eq!(rt; after_set(alloc, "a  b", &["2"], "c")?.as_str(), "a b c");
-    assert_eq!(rt;
-        after_set(alloc, "a b", &["end+1", "0"], "c d")?.as_str(),
-        "a b {{c d}}"
-    );
-    assert_eq!(rt; after_set(alloc, "", &["0", "0"], "")?.as_str(), "{{}}");
-    Ok(())
+    see_set(alloc, "a  b", &["2"], "c", "a b c")?;
+    see_set(alloc, "a b", &["end+1", "0"], "c d", "a b {{c d}}")?;
+    see_set(alloc, "", &["0", "0"], "", "{{}}")
 }
 
-/// What is told of a change that is refused.
-fn told(alloc: Global, refused: Result<(), NestedError>) -> Result<Text, Fail> {
-    match refused {
-        Err(NestedError::Fault(fault)) => Ok(fault.message(alloc)?),
+/// Sees what is told of a change that is refused.
+fn see_told(alloc: Global, given: Result<(), NestedError>, wanted: &str) -> Result<(), Fail> {
+    match given {
+        Err(NestedError::Fault(fault)) => see(fault.message(alloc)?.as_str(), wanted),
         Err(NestedError::TooLong) => Err(Fail::new("too long")),
         Err(NestedError::Memory) => Err(Fail::new("out of memory")),
         Ok(()) => Err(Fail::new("a change")),
     }
 }
 
-/// What is told where an element of a value is set.
-fn told_of_set(alloc: Global, text: &str, texts: &[&str]) -> Result<Text, Fail> {
-    let mut own = value(alloc, text)?;
-    let path = path(alloc, texts)?;
-    let refused = set_element(alloc, Integers::Tcl8, &mut own, &path, Value::empty());
-    if !own.is_text(text.as_bytes()) {
-        return Err(Fail::new("another text"));
-    }
-    told(alloc, refused)
+/// Sees what is told where an element of a value of a text is set, and that it stays.
+fn see_not_set(
+    alloc: Global,
+    own: &mut Value,
+    text: &str,
+    texts: &[&str],
+    wanted: &str,
+) -> Result<(), Fail> {
+    see_told(alloc, set(alloc, own, texts, "")?, wanted)?;
+    see_text(alloc, own, text)
+}
+
+/// Sees what is told where an element of a text is set.
+fn see_fault(alloc: Global, text: &str, texts: &[&str], wanted: &str) -> Result<(), Fail> {
+    see_not_set(alloc, &mut value(alloc, text)?, text, texts, wanted)
 }
 
 #[test]
 fn faults_of_indexes_are_told(rt: HostRuntime) -> Result<(), Fail> {
     let alloc = rt.alloc();
-    assert_eq!(rt;
-        told_of_set(alloc, "a b", &["3"])?.as_str(),
-        "list index out of range"
-    );
-    assert_eq!(rt;
-        told_of_set(alloc, "a b", &["-1"])?.as_str(),
-        "list index out of range"
-    );
-    assert_eq!(rt;
-        told_of_set(alloc, "a b", &["08"])?.as_str(),
-        "bad index \"08\""
-    );
-    assert_eq!(rt;
-        told_of_set(alloc, "a {b", &["08"])?.as_str(),
-        "unmatched open brace in list"
-    );
-    assert_eq!(rt;
-        told_of_set(alloc, "a \\{b", &["1", "0"])?.as_str(),
-        "unmatched open brace in list"
-    );
-    Ok(())
+    see_fault(alloc, "a b", &["3"], "list index out of range")?;
+    see_fault(alloc, "a b", &["-1"], "list index out of range")?;
+    see_fault(alloc, "a b", &["08"], "bad index \"08\"")?;
+    see_fault(alloc, "a {b", &["08"], "unmatched open brace in list")?;
+    see_fault(alloc, "a \\{b", &["1", "0"], "unmatched open brace in list")
+}
+
+/// What comes of setting the value at a path of keys.
+fn give(
+    alloc: Global,
+    d: &mut Value,
+    keys: &[&str],
+    new: Value,
+) -> Result<Result<(), NestedError>, Fail> {
+    Ok(set_value(alloc, d, &path(alloc, keys)?, new))
+}
+
+/// Sees a dict after the value at a path of keys was set.
+fn see_given(
+    alloc: Global,
+    d: &mut Value,
+    keys: &[&str],
+    new: Value,
+    wanted: &str,
+) -> Result<(), Fail> {
+    give(alloc, d, keys, new)??;
+    see_text(alloc, d, wanted)
+}
+
+/// The whole with a value in the inner dict, and with a dict more.
+const GIVEN: [&str; 2] = ["a {x {p q} y 2} b 3", "a {x {p q} y 2} b 3 c {z 7}"];
+
+/// Sees a dict after each of several changes, one of which is refused.
+fn see_all_given(alloc: Global, d: &mut Value) -> Result<(), Fail> {
+    see_given(alloc, d, &["a", "x"], value(alloc, "p q")?, GIVEN[0])?;
+    see_given(alloc, d, &["c", "z"], Value::from_int(7), GIVEN[1])?;
+    let odd = give(alloc, d, &["b", "z"], Value::empty())?;
+    see_told(alloc, odd, "missing value to go with key")?;
+    see_given(alloc, d, &[], Value::from_int(7), "7")
 }
 
 #[test]
 fn value_inside_is_set(rt: HostRuntime) -> Result<(), Fail> {
     let alloc = rt.alloc();
-    let mut d = value(alloc, "a {x 1 y 2} b 3")?;
-    set_value(
-        alloc,
-        &mut d,
-        &path(alloc, &["a", "x"])?,
-        value(alloc, "p q")?,
-    )?;
-    assert_eq!(rt; d.text(alloc)?.as_str(), "a {x {p q} y 2} b 3");
-    set_value(
-        alloc,
-        &mut d,
-        &path(alloc, &["c", "z"])?,
-        Value::from_int(7),
-    )?;
-    assert_eq!(rt; d.text(alloc)?.as_str(), "a {x {p q} y 2} b 3 c {z 7}");
-    let odd = set_value(alloc, &mut d, &path(alloc, &["b", "z"])?, Value::empty());
-    assert_eq!(rt; told(alloc, odd)?.as_str(), "missing value to go with key");
-    set_value(alloc, &mut d, &path(alloc, &[])?, Value::from_int(7))?;
-    assert_eq!(rt; d.text(alloc)?.as_str(), "7");
-    Ok(())
+    see_all_given(alloc, &mut value(alloc, "a {x 1 y 2} b 3")?)
+}
+
+/// What comes of removing a key from the dict at a path of keys.
+fn remove(
+    alloc: Global,
+    d: &mut Value,
+    keys: &[&str],
+    key: &str,
+) -> Result<Result<(), NestedError>, Fail> {
+    let path = path(alloc, keys)?;
+    Ok(remove_key(alloc, d, &path, &value(alloc, key)?))
+}
+
+/// Paths of keys, the keys that are removed there one after another, there or not, and what is left of the whole.
+const REMOVED: [(&[&str], &str, &str); 3] = [
+    (&["a"], "x", "a {y 2} b 3"),
+    (&["a"], "x", "a {y 2} b 3"),
+    (&[], "b", "a {y 2}"),
+];
+
+/// Sees what is left of the whole by a row.
+fn see_removed(alloc: Global, d: &mut Value, row: (&[&str], &str, &str)) -> Result<(), Fail> {
+    let (keys, key, left) = row;
+    remove(alloc, d, keys, key)??;
+    see_text(alloc, d, left)
+}
+
+/// Sees what is left by each row, and what is told of a path that isn't there.
+fn see_all_removed(alloc: Global, d: &mut Value) -> Result<(), Fail> {
+    'rows: for row in REMOVED {
+        see_removed(alloc, d, row)?;
+    }
+    let missing = remove(alloc, d, &["q r"], "x")?;
+    see_told(alloc, missing, "key \"q r\" not known in dictionary")?;
+    see_text(alloc, d, "a {y 2}")
 }
 
 #[test]
 fn key_inside_is_removed(rt: HostRuntime) -> Result<(), Fail> {
     let alloc = rt.alloc();
-    let mut d = value(alloc, "a {x 1 y 2} b 3")?;
-    remove_key(alloc, &mut d, &path(alloc, &["a"])?, &value(alloc, "x")?)?;
-    assert_eq!(rt; d.text(alloc)?.as_str(), "a {y 2} b 3");
-    remove_key(alloc, &mut d, &path(alloc, &["a"])?, &value(alloc, "x")?)?;
-    assert_eq!(rt; d.text(alloc)?.as_str(), "a {y 2} b 3");
-    remove_key(alloc, &mut d, &path(alloc, &[])?, &value(alloc, "b")?)?;
-    assert_eq!(rt; d.text(alloc)?.as_str(), "a {y 2}");
-    let missing = remove_key(alloc, &mut d, &path(alloc, &["q r"])?, &value(alloc, "x")?);
-    assert_eq!(rt;
-        told(alloc, missing)?.as_str(),
-        "key \"q r\" not known in dictionary"
-    );
-    assert_eq!(rt; d.text(alloc)?.as_str(), "a {y 2}");
-    Ok(())
+    see_all_removed(alloc, &mut value(alloc, "a {x 1 y 2} b 3")?)
 }
 
-/// A text of 16,777,216 letters: one letter, doubled 24 times.
-fn longest(alloc: Global) -> Result<String, Fail> {
-    let mut text = String::from_str(alloc, "x")?;
-    for _ in 0..24 {
-        let again = String::from_str(alloc, text.as_str())?;
-        text.push_str(again.as_str())?;
+/// What comes of setting an element inside, in the style of the newer language.
+fn set_inside(alloc: Global, own: &mut Value, new: Value) -> Result<Result<(), NestedError>, Fail> {
+    let path = path(alloc, &["1", "0"])?;
+    Ok(set_element(alloc, Integers::Tcl9, own, &path, new))
+}
+
+/// Sees that an element is too long to be set, and that the value stays.
+fn see_element_too_long(alloc: Global, own: &mut Value, long: Value) -> Result<(), Fail> {
+    match set_inside(alloc, own, long)? {
+        Err(NestedError::TooLong) => see_text(alloc, own, "a {b c}"),
+        Err(error) => Err(Fail::from(error)),
+        Ok(()) => Err(Fail::new("a change")),
     }
-    Ok(text)
 }
 
 #[test]
 fn text_that_is_too_long_is_refused(rt: HostRuntime) -> Result<(), Fail> {
     let alloc = rt.alloc();
-    let long = Value::from_text(Text::from_string(alloc, longest(alloc)?)?)?;
-    let mut own = value(alloc, "a {b c}")?;
-    let refused = set_element(
-        alloc,
-        Integers::Tcl9,
-        &mut own,
-        &path(alloc, &["1", "0"])?,
-        long,
-    );
-    assert!(rt; matches!(refused, Err(NestedError::TooLong)), "too long");
-    assert_eq!(rt; own.text(alloc)?.as_str(), "a {b c}");
-    Ok(())
+    let long = longest_value(alloc)?;
+    see_element_too_long(alloc, &mut value(alloc, "a {b c}")?, long)
 }
 
 #[test]
 fn fault_of_a_place_has_its_name(rt: HostRuntime) -> Result<(), Fail> {
     let alloc = rt.alloc();
-    assert_eq!(rt;
+    see(
         NestedFault::NoPlace.message(alloc)?.as_str(),
-        "list index out of range"
-    );
-    Ok(())
+        "list index out of range",
+    )
 }
