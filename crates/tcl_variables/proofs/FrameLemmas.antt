@@ -1,8 +1,8 @@
 -- What a write through a lent variable does to its frame.
-use Rattle.std.proofs.Common.{◌≡◌, Bool, true, false, cond, List, [], ◌∷◌, Option, Some, None, is_some, Result, Ok, refl, sym, ◌∙◌, ap, subst}
-use Rattle.std.specs.Prelude.{OnSome, OnOk, OnErr, IsSome, MatchOption}
+use Rattle.std.proofs.Common.{◌≡◌, Bool, true, false, cond, List, [], ◌∷◌, Option, Some, None, is_some, Result, Ok, Err, refl, sym, ◌∙◌, ap, subst}
+use Rattle.std.specs.Prelude.{OnSome, IfOk, OnOk, OnErr, IsSome, MatchOption}
 use Rattle.std.proofs.lemmas.Result.{on_ok_weaker, on_err_weaker}
-use Rattle.tcl_variables.specs.Access.{assigned, left_of, elements_of}
+use Rattle.tcl_variables.specs.Access.{assigned, is_linked, left_of, elements_of}
 use Rattle.std.specs.Borrow.{MutBor}
 use Rattle.std.specs.Option.{option_copied_mut}
 use Rattle.std.specs.Map.{lookup, set_value}
@@ -16,6 +16,7 @@ use Rattle.tcl_variables.specs.Rebinding.{rebound, unbound, with_variable, witho
 use Rattle.tcl_variables.specs.declared.variable.Variable.{Variable}
 use Rattle.tcl_variables.specs.declared.variable.Variable.TheVariants.{Scalar, Array, Link}
 use Rattle.tcl_variables.specs.declared.fault.FrameFault.{FrameFault}
+use Rattle.tcl_variables.specs.declared.fault.FrameError.{FrameError}
 use Rattle.tcl_variables.proofs.EntryLemmas.{set_is_insert}
 
 pub at_some : {A P : Type 0} (r : Option A) (x : A) → r ≡ Some x → OnSome r P → P
@@ -69,6 +70,31 @@ module _ {A E : Type 0} (F self : Frame) (same : F ≡ self) (x : Text) (v w : V
 
   pub lent_same : OnErr r (w ≡ v) → OnErr r (record { words = F.words; variables = es } ≡ self)
   lent_same h = on_err_weaker r (λ p. ap (λ (gs : Variables). record { words = F.words; variables = gs }) (set ∙ ap (set_value (bytes_eq x) F.variables) p ∙ set_same x F.variables v found) ∙ same) h
+
+-- ## Changes of what is no link
+
+module _ (F self : Frame) (same : F ≡ self) (x : Text) (v w : Variable) (es : Variables) (found : lookup (bytes_eq x) F.variables ≡ Some v) (set : es ≡ set_value (bytes_eq x) F.variables w) (part : Part) (t name : Text) where
+  bound_self : lookup (bytes_eq x) self.variables ≡ Some v
+  bound_self = subst (λ (s : Frame). lookup (bytes_eq x) s.variables ≡ Some v) same found
+
+  linked_self : (b : Bool) → is_linked (Some v) ≡ b → is_linked (lookup (bytes_eq x) self.variables) ≡ b
+  linked_self b h = ap is_linked bound_self ∙ h
+
+  pub assign_unlinked_lent : (r : Result (Option Text) FrameError)
+      → IfOk r (λ left. MatchOption left ((is_linked (Some v) ≡ false) × (assigned part (Some v) t name ≡ Ok w)) (λ u. (is_linked (Some v) ≡ true) × (u ≡ t) × (w ≡ v)))
+      → IfOk r (λ left. MatchOption left ((is_linked (lookup (bytes_eq x) self.variables) ≡ false) × (rebound self x (assigned part (lookup (bytes_eq x) self.variables) t name) ≡ Ok (record { words = F.words; variables = es })))
+      (λ u. (is_linked (lookup (bytes_eq x) self.variables) ≡ true) × (u ≡ t) × (record { words = F.words; variables = es } ≡ self)))
+  assign_unlinked_lent (Err e) h = tt
+  assign_unlinked_lent (Ok None) h = (
+    linked_self false h.0,
+    subst (λ (s : Frame). rebound s x (assigned part (lookup (bytes_eq x) s.variables) t name) ≡ Ok (record { words = F.words; variables = es })) same
+        (rebound_is F x v w _ es (ap (λ o. assigned part o t name) found ∙ h.1) set found),
+  )
+  assign_unlinked_lent (Ok (Some u)) h = (
+    linked_self true h.0,
+    h.1,
+    ap (λ (gs : Variables). record { words = F.words; variables = gs }) (set ∙ ap (set_value (bytes_eq x) F.variables) h.2 ∙ set_same x F.variables v found) ∙ same,
+  )
 
 -- ## Elements that a pattern takes
 

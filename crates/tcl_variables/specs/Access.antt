@@ -27,6 +27,13 @@ value_of (element k) (Some (Array es)) x = read_element (lookup (bytes_eq k) es)
 value_of (element k) (Some (Link q)) x = Err (NotArray Read x)
 value_of nested v x = Err (NotArray Read x)
 
+-- whether a name is a link
+abbrev pub is_linked : Option Variable → Bool
+is_linked None = false
+is_linked (Some (Scalar t)) = false
+is_linked (Some (Array es)) = false
+is_linked (Some (Link q)) = true
+
 abbrev pub is_held : Part → Option Variable → Bool
 is_held whole None = false
 is_held whole (Some (Scalar t)) = true

@@ -1,17 +1,17 @@
 //! What is done to one variable.
-ghost use Rattle.std.specs.Prelude.{◌≡◌, ℕ, List, [], ◌∷◌, Ok, Err, Some, None, IfOk, IfErr, OnOk, OnErr};
+ghost use Rattle.std.specs.Prelude.{◌≡◌, ℕ, List, [], ◌∷◌, Ok, Err, Some, None, true, false, IfOk, IfErr, OnOk, OnErr, MatchOption};
 ghost use Rattle.std.specs.Option.{option_copied};
 ghost use Rattle.std.specs.Map.{lookup};
 ghost use Rattle.std.specs.Str.{bytes_eq};
 ghost use Rattle.tcl_variables.specs.Variables.Part.{whole, element, nested};
-ghost use Rattle.tcl_variables.specs.Access.{read_element, value_of, is_held, elements_of, assigned, left_of};
+ghost use Rattle.tcl_variables.specs.Access.{read_element, value_of, is_held, is_linked, elements_of, assigned, left_of};
 ghost use Rattle.indexmap.specs.IndexMap.{insert_all};
 ghost use Rattle.tcl_variables.specs.Arrays.{extended, thinned};
 ghost use Rattle.tcl_variables.specs.declared.variable.Variable.TheVariants.{Array};
-ghost use Rattle.tcl_variables.specs.Faults.{Refuses};
+ghost use Rattle.tcl_variables.specs.Faults.{Refuses, Withholds};
 ghost use Rattle.tcl_variables.specs.Parts.{seen_part};
 
-use crate::fault::{FrameError, Refusal, Verb, refused, refused_elements};
+use crate::fault::{FrameError, Refusal, Unlent, Verb, refused, refused_elements};
 use crate::name_map::NameMap;
 use crate::variable::Variable;
 use std::alloc::{AllocError, Global};
@@ -196,6 +196,27 @@ impl Variable {
         }
     }
 
+    /// Sets a part of the variable, or gives the value back where the variable is a link.
+    pub fn assign_unlinked(
+        &mut self,
+        alloc: Global,
+        part: Part<'_>,
+        value: Value,
+        name: &Text,
+    ) -> Result<Option<Value>, FrameError>
+        ensures ok { IfOk result (λ left. MatchOption left ((is_linked (Some self.old) ≡ false) × (assigned (seen_part part.entry) (Some self.old) value name.now ≡ Ok self.new)) (λ v. (is_linked (Some self.old) ≡ true) × (v ≡ value) × (self.new ≡ self.old))) }
+        ensures err { IfErr result (λ e. (is_linked (Some self.old) ≡ false) × Refuses e (assigned (seen_part part.entry) (Some self.old) value name.now)) }
+        ensures unchanged { OnErr result (self.new ≡ self.old) }
+    {
+        if self.is_link() {
+            return Ok(Some(value));
+        }
+        match self.assign(alloc, part, value, name) {
+            Ok(()) => Ok(None),
+            Err(error) => Err(error),
+        }
+    }
+
     /// Sets elements of the array that the variable is, from the first on.
     pub fn extend(
         &mut self,
@@ -299,6 +320,21 @@ impl Variable {
             Part::Whole => self.scalar_mut(name),
             Part::Element(key) => self.element_mut(key, name),
             Part::Nested => Err(refused(Refusal::NotArray(Verb::Read), name)),
+        }
+    }
+
+    /// What a part of the variable holds, to write, where the variable is no link. Of memory it takes none but for a refusal.
+    pub fn value_mut_unlinked(&mut self, part: Part<'_>, name: &Text) -> Result<&mut Value, Unlent>
+        ensures* writes_back { sem 𝓛 (LendsPart self.entry (seen_part part.entry) name.now result) }
+        ensures ok { IfOk result (λ v. (is_linked (Some self.old) ≡ false) × (value_of (seen_part part.entry) (Some self.old) name.now ≡ Ok v.now)) }
+        ensures err { IfErr result (λ e. Withholds e (is_linked (Some self.old)) (value_of (seen_part part.entry) (Some self.old) name.now)) }
+    {
+        if self.is_link() {
+            return Err(Unlent::Linked);
+        }
+        match self.value_mut(part, name) {
+            Ok(value) => Ok(value),
+            Err(error) => Err(Unlent::Refused(error)),
         }
     }
 }

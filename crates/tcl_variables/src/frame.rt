@@ -1,14 +1,14 @@
 //! A frame of a chain.
-ghost use Rattle.std.specs.Prelude.{◌≡◌, Ok, Some, None, MatchOption, OnOk, IfErr, OnErr};
+ghost use Rattle.std.specs.Prelude.{◌≡◌, Ok, Some, None, true, false, MatchOption, IfOk, OnOk, IfErr, OnErr};
 ghost use Rattle.std.specs.Map.{lookup};
 ghost use Rattle.std.specs.Option.{option_copied};
 ghost use Rattle.std.specs.Str.{bytes_eq};
-ghost use Rattle.tcl_variables.specs.Access.{value_of};
-ghost use Rattle.tcl_variables.specs.Faults.{Refuses};
+ghost use Rattle.tcl_variables.specs.Access.{value_of, is_linked};
+ghost use Rattle.tcl_variables.specs.Faults.{Refuses, Withholds};
 ghost use Rattle.tcl_variables.specs.Parts.{seen_part};
 
 use crate::access::{Part, elements_in, new_array, new_variable};
-use crate::fault::{FrameError, Refusal, Verb, refused, refused_elements};
+use crate::fault::{FrameError, Refusal, Unlent, Verb, refused, refused_elements};
 use crate::name_map::NameMap;
 use crate::variable::{Place, Variable};
 use std::alloc::{AllocError, Global};
@@ -114,6 +114,27 @@ impl Frame {
         let variable = new_variable(alloc, part, value, name)?;
         self.variables.insert_new(alloc, base, variable)?;
         Ok(())
+    }
+
+    /// Sets a part of what a name stands for, or gives the value back where the name is a link.
+    fn assign_unlinked(
+        &mut self,
+        alloc: Global,
+        base: &str,
+        part: Part<'_>,
+        value: Value,
+        name: &Text,
+    ) -> Result<Option<Value>, FrameError>
+        ensures ok { IfOk result (λ left. MatchOption left ((is_linked (lookup (bytes_eq base.now) self.old.variables) ≡ false) × (rebound self.old base.now (assigned (seen_part part.entry) (lookup (bytes_eq base.now) self.old.variables) value name.now) ≡ Ok self.new)) (λ v. (is_linked (lookup (bytes_eq base.now) self.old.variables) ≡ true) × (v ≡ value) × (self.new ≡ self.old))) }
+        ensures err { IfErr result (λ e. (is_linked (lookup (bytes_eq base.now) self.old.variables) ≡ false) × Refuses e (rebound self.old base.now (assigned (seen_part part.entry) (lookup (bytes_eq base.now) self.old.variables) value name.now))) }
+        ensures unchanged { OnErr result (self.new ≡ self.old) }
+    {
+        if let Some(variable) = self.variables.get_mut(base) {
+            return variable.assign_unlinked(alloc, part, value, name);
+        }
+        let variable = new_variable(alloc, part, value, name)?;
+        self.variables.insert_new(alloc, base, variable)?;
+        Ok(None)
     }
 
     /// Unsets all of what a name stands for.
@@ -243,6 +264,45 @@ impl Frame {
         }
     }
 
+    /// Whether a name is a link.
+    fn is_link(&self, base: &str) -> bool
+        ensures { result ≡ is_linked (lookup (bytes_eq base.now) self.now.variables) }
+    {
+        match self.variables.get(base) {
+            Some(variable) => variable.is_link(),
+            None => false,
+        }
+    }
+
+    /// Changes a part of what a name stands for, or gives the change back where the name is a link.
+    pub fn change_unlinked(
+        &mut self,
+        alloc: Global,
+        base: &str,
+        part: Part<'_>,
+        change: Change,
+        name: &Text,
+    ) -> Result<Option<Change>, FrameError>
+        ensures ok { IfOk result (λ left. MatchOption left ((is_linked (lookup (bytes_eq base.now) self.old.variables) ≡ false) × (change_frame change self.old base.now (seen_part part.entry) name.now ≡ Ok self.new)) (λ c. (is_linked (lookup (bytes_eq base.now) self.old.variables) ≡ true) × (c ≡ change) × (self.new ≡ self.old))) }
+        ensures err { IfErr result (λ e. (is_linked (lookup (bytes_eq base.now) self.old.variables) ≡ false) × Refuses e (change_frame change self.old base.now (seen_part part.entry) name.now)) }
+        ensures unchanged { OnErr result (self.new ≡ self.old) }
+    {
+        if let Change::Assign(value) = change {
+            return match self.assign_unlinked(alloc, base, part, value, name) {
+                Ok(None) => Ok(None),
+                Ok(Some(value)) => Ok(Some(Change::Assign(value))),
+                Err(error) => Err(error),
+            };
+        }
+        if self.is_link(base) {
+            return Ok(Some(change));
+        }
+        match self.change(alloc, base, part, change, name) {
+            Ok(()) => Ok(None),
+            Err(error) => Err(error),
+        }
+    }
+
     /// Makes a name a link.
     pub fn link(&mut self, alloc: Global, local: &str, place: Place) -> Result<(), AllocError>
         ensures ok { OnOk result (self.new ≡ with_variable self.old local.now (Link place)) }
@@ -254,7 +314,6 @@ impl Frame {
 
 impl Frame {
     ghost use Rattle.std.specs.Borrow.{sem};
-    ghost use Rattle.std.specs.Prelude.{IfOk};
     ghost use Rattle.tcl_variables.specs.LendingParts.{LendsNamed};
 
     /// What a part of what a name stands for holds, to write. Of memory it takes none but for a refusal.
@@ -271,6 +330,23 @@ impl Frame {
         match self.variables.get_mut(base) {
             Some(variable) => variable.value_mut(part, name),
             None => Err(unread(part, name)),
+        }
+    }
+
+    /// The same, where the name is no link.
+    pub fn value_mut_unlinked(
+        &mut self,
+        base: &str,
+        part: Part<'_>,
+        name: &Text,
+    ) -> Result<&mut Value, Unlent>
+        ensures* writes_back { sem 𝓛 (LendsNamed self.entry base.now (seen_part part.entry) name.now result) }
+        ensures ok { IfOk result (λ v. (is_linked (lookup (bytes_eq base.now) self.old.variables) ≡ false) × (value_of (seen_part part.entry) (lookup (bytes_eq base.now) self.old.variables) name.now ≡ Ok v.now)) }
+        ensures err { IfErr result (λ e. Withholds e (is_linked (lookup (bytes_eq base.now) self.old.variables)) (value_of (seen_part part.entry) (lookup (bytes_eq base.now) self.old.variables) name.now)) }
+    {
+        match self.variables.get_mut(base) {
+            Some(variable) => variable.value_mut_unlinked(part, name),
+            None => Err(Unlent::Refused(unread(part, name))),
         }
     }
 }

@@ -1,5 +1,6 @@
 //! What a name can stand for.
-ghost use Rattle.std.specs.Prelude.{◌≡◌};
+ghost use Rattle.std.specs.Prelude.{◌≡◌, Some};
+ghost use Rattle.tcl_variables.specs.Access.{is_linked};
 
 use crate::name_map::NameMap;
 use std::alloc::AllocError;
@@ -23,6 +24,19 @@ pub enum Variable {
     Array(NameMap<Value>),
     /// Another place.
     Link(Place),
+}
+
+impl Variable {
+    /// Whether it is another place.
+    pub fn is_link(&self) -> bool
+        ensures { result ≡ is_linked (Some self.now) }
+    {
+        match self {
+            Variable::Link(_) => true,
+            Variable::Scalar(_) => false,
+            Variable::Array(_) => false,
+        }
+    }
 }
 
 impl Clone for Place {
