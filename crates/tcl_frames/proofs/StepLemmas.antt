@@ -1,5 +1,6 @@
 -- What the calls on names come to.
 use Rattle.std.proofs.Common.{◌≡◌, ℕ, zero, suc, ◌+◌, ◌<◌, ◌≤◌, inl, inr, Bool, true, false, List, [], ◌∷◌, length, slice_get, slice_set, Option, Some, None, Result, Ok, Err, refl, sym, ◌∙◌, ap, subst, arith}
+use Rattle.std.specs.Prelude.{IfOk, MatchOption}
 use Rattle.std.specs.Borrow.{Bor}
 use Rattle.std.specs.declared.vec.Vec.{Vec}
 use Rattle.std.specs.declared.alloc.Global.{Global}
@@ -11,7 +12,7 @@ use Rattle.tcl_variables.specs.Names.{Text, Name, name_of}
 use Rattle.tcl_variables.specs.Variables.{Frame, Variables, Part, merge, part_of}
 use Rattle.tcl_frames.specs.Places.{Levels, Spot, current, level_of, spot_of, bound, through, under, next, walk, links, end_of}
 use Rattle.tcl_variables.specs.Variables.Part.{whole, element, nested}
-use Rattle.tcl_variables.specs.Access.{value_of, is_held, elements_of, assigned, left_of, without_element}
+use Rattle.tcl_variables.specs.Access.{value_of, is_held, is_linked, elements_of, assigned, left_of, without_element}
 use Rattle.tcl_variables.specs.Arrays.{Elements, extended, unmatched}
 use Rattle.tcl_frames.specs.Arrays.{elements_set, emptied_at, elements_unset}
 use Rattle.tcl_frames.specs.Chain.{holds, read, exists_at, array_at, end_named, place_named, by_place, at_name, on_level, bind, unbind, bound_to, left_at, written, made_array, removed}
@@ -22,7 +23,7 @@ use Rattle.tcl_variables.specs.declared.name.Written.{Written}
 use Rattle.tcl_variables.specs.declared.frame.Change.{Change}
 use Rattle.tcl_variables.specs.declared.frame.Change.TheVariants.{Assign, SetElements, Unset, UnsetElements}
 use Rattle.tcl_variables.specs.Rebinding.{rebound, unbound, with_variable, without_variable, emptied, change_frame}
-use Rattle.tcl_frames.specs.Changes.{change_levels, change_named}
+use Rattle.tcl_frames.specs.Changes.{change_levels, change_named, IsChangedThere}
 use Rattle.tcl_frames.specs.Sound.{IsFit, AreFit}
 use Rattle.tcl_variables.specs.declared.variable.Place.{Place}
 use Rattle.tcl_variables.specs.declared.variable.Variable.{Variable}
@@ -427,6 +428,31 @@ refuses_level e (Assign t) fs p f x at h = refuses_bound e fs p _ (refuses_rebou
 refuses_level e (SetElements ps) fs p f x at h = refuses_bound e fs p _ (refuses_rebound e f p.name _ (subst (λ o. Refuses e (rebound f p.name (extended p.part o ps.items x))) (sym (bound_at fs p.level p.name f at)) h))
 refuses_level e Unset fs p f x at h = refuses_left e fs p _ (refuses_unbound e f p.name _ (subst (λ o. Refuses e (unbound f p.name (left_of p.part o x))) (sym (bound_at fs p.level p.name f at)) h))
 refuses_level e (UnsetElements g) fs p f x at h = h
+
+-- ## Changes of what is no link
+
+unlinked : (o : Option Variable) → is_linked o ≡ false → link_of o ≡ None
+unlinked None h = refl
+unlinked (Some (Scalar t)) h = refl
+unlinked (Some (Array es)) h = refl
+unlinked (Some (Link q)) h = absurd (cc)
+
+pub unlinked_level : (fs : Levels) (n : ℕ) (x : Text) (f : Frame) → slice_get fs n ≡ Some f → is_linked (lookup (bytes_eq x) f.variables) ≡ false → link_of (bound fs n x) ≡ None
+unlinked_level fs n x f at h = unlinked (bound fs n x) (ap is_linked (bound_at fs n x f at) ∙ h)
+
+pub change_unlinked_level : (c : Change) (fs : Levels) (p : Spot) (f k : Frame) (x : Text) (r : Result (Option Change) FrameError) → slice_get fs p.level ≡ Some f
+    → IfOk r (λ left. MatchOption left ((is_linked (lookup (bytes_eq p.name) f.variables) ≡ false) × (change_frame c f p.name p.part x ≡ Ok k)) (λ d. (is_linked (lookup (bytes_eq p.name) f.variables) ≡ true) × (d ≡ c) × (k ≡ f)))
+    → IfOk r (λ left. MatchOption left (IsChangedThere c fs p x (slice_set fs p.level k)) (λ d. (d ≡ c) × (slice_set fs p.level k ≡ fs)))
+change_unlinked_level c fs p f k x (Err e) at h = tt
+change_unlinked_level c fs p f k x (Ok None) at h = (unlinked_level fs p.level p.name f at h.0, change_level c fs p f k x at h.1)
+change_unlinked_level c fs p f k x (Ok (Some d)) at h = (h.1, ap (slice_set fs p.level) h.2 ∙ set_here fs p.level f at)
+
+-- what is no link is changed where it stands
+pub changed_there : (c : Change) (fs gs : Levels) (n : ℕ) (b x : Text) (r : Part) → IsChangedThere c fs (over (start n b) r) x gs → change_levels c fs (end_of fs (over (start n b) r)) x ≡ Ok gs
+changed_there c fs gs n b x r h = ap (λ (p : Spot). change_levels c fs p x) (target_none fs n b r h.0) ∙ h.1
+
+pub refused_there : (e : FrameError) (c : Change) (fs : Levels) (n : ℕ) (b x : Text) (r : Part) → link_of (bound fs n b) ≡ None → Refuses e (change_levels c fs (over (start n b) r) x) → Refuses e (change_levels c fs (end_of fs (over (start n b) r)) x)
+refused_there e c fs n b x r none h = subst (λ (p : Spot). Refuses e (change_levels c fs p x)) (sym (target_none fs n b r none)) h
 
 pub change_bad_name : (e : FrameError) (c : Change) (fs : Levels) (x : Text) → place_named fs x ≡ None → IsRefusal e (BadName x) → Refuses e (change_named c fs x)
 change_bad_name e c fs x none h = subst (λ o. Refuses e (by_place o x (λ p. change_levels c fs p x))) (sym none) h

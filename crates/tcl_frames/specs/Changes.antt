@@ -1,7 +1,8 @@
 -- What a change of one name does to the frames.
-use Rattle.std.specs.Prelude.{Result, Ok}
+use Rattle.std.specs.Prelude.{◌≡◌, Result, Ok, None}
 use Rattle.tcl_variables.specs.Names.{Text}
 use Rattle.tcl_frames.specs.Places.{Levels, Spot, bound}
+use Rattle.tcl_frames.specs.Reached.{link_of}
 use Rattle.tcl_frames.specs.Chain.{at_name, bound_to, left_at}
 use Rattle.tcl_frames.specs.Arrays.{emptied_at}
 use Rattle.tcl_variables.specs.Access.{assigned, left_of, elements_of}
@@ -20,3 +21,7 @@ change_levels (UnsetElements g) fs p x = Ok (emptied_at fs p (elements_of p.part
 -- the frames after a written name is changed
 abbrev pub change_named : Change → Levels → Text → Result Levels FrameFault
 change_named c fs x = at_name fs x (λ p. change_levels c fs p x)
+
+-- the name at a spot is no link, and the frames are as after a change of what it stands for
+abbrev pub IsChangedThere : Change → Levels → Spot → Text → Levels → Type 0
+IsChangedThere c fs p x gs = (link_of (bound fs p.level p.name) ≡ None) × (change_levels c fs p x ≡ Ok gs)

@@ -1,5 +1,5 @@
 //! What is done to the frames of a chain.
-ghost use Rattle.std.specs.Prelude.{◌≡◌, ◌<◌, Ok, Some, None, length, IfOk, OnOk, IfErr, OnErr};
+ghost use Rattle.std.specs.Prelude.{◌≡◌, ◌<◌, Ok, Some, None, length, MatchOption, IfOk, OnOk, IfErr, OnErr};
 ghost use Rattle.std.specs.Option.{option_copied};
 ghost use Rattle.tcl_frames.specs.Chain.{read, exists_at, array_at, place_named};
 ghost use Rattle.tcl_variables.specs.Faults.{Refuses, IsRefusal};
@@ -8,7 +8,7 @@ ghost use Rattle.tcl_variables.specs.Variables.{merge, part_of};
 ghost use Rattle.tcl_variables.specs.Variables.Part.{whole, element};
 ghost use Rattle.tcl_variables.specs.Parts.{seen_part};
 ghost use Rattle.tcl_frames.specs.Reached.{reached, link_of, start, over, bound_where, Stands};
-ghost use Rattle.tcl_frames.specs.Changes.{change_levels, change_named};
+ghost use Rattle.tcl_frames.specs.Changes.{change_levels, change_named, IsChangedThere};
 ghost use Rattle.tcl_frames.specs.Targets.{owned_part, target_or, ended};
 ghost use Rattle.tcl_variables.specs.declared.fault.FrameFault.TheVariants.{BadName};
 ghost use Rattle.tcl_frames.specs.Sound.{AreFit};
@@ -374,8 +374,27 @@ pub(crate) fn change_at(
     frame.change(alloc, base, part, change, name)
 }
 
-/// Changes what is where the links from a name at a level end.
-pub(crate) fn change_from(
+/// Changes what a name at a level stands for, or gives the change back where the name is a link.
+fn change_unlinked(
+    frames: &mut [Frame],
+    alloc: Global,
+    level: usize,
+    base: &str,
+    part: Part<'_>,
+    change: Change,
+    name: &Text,
+) -> Result<Option<Change>, FrameError>
+    requires { level < length frames.old }
+    ensures ok { IfOk result (λ left. MatchOption left (IsChangedThere change frames.old (over (start level base.now) (seen_part part.entry)) name.now frames.new) (λ c. (c ≡ change) × (frames.new ≡ frames.old))) }
+    ensures err { IfErr result (λ e. (link_of (bound frames.old level base.now) ≡ None) × Refuses e (change_levels change frames.old (over (start level base.now) (seen_part part.entry)) name.now)) }
+    ensures unchanged { OnErr result (frames.new ≡ frames.old) }
+{
+    let frame = &mut frames[level];
+    frame.change_unlinked(alloc, base, part, change, name)
+}
+
+/// Changes what is where the links from a name at a level end, which may be a link itself.
+fn change_linked(
     frames: &mut [Frame],
     alloc: Global,
     level: usize,
@@ -397,6 +416,29 @@ pub(crate) fn change_from(
             let part = end.part.as_part();
             change_at(frames, alloc, end.level, base, part, change, name)
         }
+    }
+}
+
+/// Changes what is where the links from a name at a level end. A name that is no link, as most are, is looked up once.
+pub(crate) fn change_from(
+    frames: &mut [Frame],
+    alloc: Global,
+    level: usize,
+    base: &str,
+    key: Option<&str>,
+    change: Change,
+    name: &Text,
+) -> Result<(), FrameError>
+    requires fit { AreFit 0 frames.old }
+    requires within { level < length frames.old }
+    ensures ok { OnOk result (change_levels change frames.old (end_of frames.old (over (start level base.now) (part_of (option_copied key.entry)))) name.now ≡ Ok frames.new) }
+    ensures err { IfErr result (λ e. Refuses e (change_levels change frames.old (end_of frames.old (over (start level base.now) (part_of (option_copied key.entry)))) name.now)) }
+    ensures unchanged { OnErr result (frames.new ≡ frames.old) }
+{
+    match change_unlinked(frames, alloc, level, base, part_written(key), change, name) {
+        Ok(None) => Ok(()),
+        Ok(Some(change)) => change_linked(frames, alloc, level, base, key, change, name),
+        Err(error) => Err(error),
     }
 }
 
