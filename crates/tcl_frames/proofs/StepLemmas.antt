@@ -1,6 +1,6 @@
 -- What the calls on names come to.
 use Rattle.std.proofs.Common.{◌≡◌, ℕ, zero, suc, ◌+◌, ◌<◌, ◌≤◌, inl, inr, Bool, true, false, List, [], ◌∷◌, length, slice_get, slice_set, Option, Some, None, Result, Ok, Err, refl, sym, ◌∙◌, ap, subst, arith}
-use Rattle.std.specs.Prelude.{IfOk, MatchOption}
+use Rattle.std.specs.Prelude.{IfSome, IfOk, MatchOption}
 use Rattle.std.specs.Borrow.{Bor}
 use Rattle.std.specs.declared.vec.Vec.{Vec}
 use Rattle.std.specs.declared.alloc.Global.{Global}
@@ -439,6 +439,10 @@ unlinked (Some (Link q)) h = absurd (cc)
 
 pub unlinked_level : (fs : Levels) (n : ℕ) (x : Text) (f : Frame) → slice_get fs n ≡ Some f → is_linked (lookup (bytes_eq x) f.variables) ≡ false → link_of (bound fs n x) ≡ None
 unlinked_level fs n x f at h = unlinked (bound fs n x) (ap is_linked (bound_at fs n x f at) ∙ h)
+
+pub unlinked_where : (fs : Levels) (n : ℕ) (x : Text) (f : Frame) (place : Option ℕ) → slice_get fs n ≡ Some f → IfSome place (λ i. is_linked (lookup (bytes_eq x) f.variables) ≡ false) → IfSome place (λ i. link_of (bound fs n x) ≡ None)
+unlinked_where fs n x f None at h = tt
+unlinked_where fs n x f (Some i) at h = unlinked_level fs n x f at h
 
 pub change_unlinked_level : (c : Change) (fs : Levels) (p : Spot) (f k : Frame) (x : Text) (r : Result (Option Change) FrameError) → slice_get fs p.level ≡ Some f
     → IfOk r (λ left. MatchOption left ((is_linked (lookup (bytes_eq p.name) f.variables) ≡ false) × (change_frame c f p.name p.part x ≡ Ok k)) (λ d. (is_linked (lookup (bytes_eq p.name) f.variables) ≡ true) × (d ≡ c) × (k ≡ f)))

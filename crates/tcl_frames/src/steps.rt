@@ -1,5 +1,5 @@
 //! What is done to the frames of a chain.
-ghost use Rattle.std.specs.Prelude.{◌≡◌, ◌<◌, Ok, Some, None, length, MatchOption, IfOk, OnOk, IfErr, OnErr};
+ghost use Rattle.std.specs.Prelude.{◌≡◌, ◌<◌, Ok, Some, None, length, MatchOption, IfSome, IfOk, OnOk, IfErr, OnErr};
 ghost use Rattle.std.specs.Option.{option_copied};
 ghost use Rattle.tcl_frames.specs.Chain.{read, exists_at, array_at, place_named};
 ghost use Rattle.tcl_variables.specs.Faults.{Refuses, IsRefusal};
@@ -63,6 +63,16 @@ pub(crate) fn part_over<'a>(part: Part<'_>, key: &'a str) -> Part<'a>
         Part::Whole => Part::Element(key),
         Part::Element(_) => Part::Nested,
         Part::Nested => Part::Nested,
+    }
+}
+
+/// The place at which a name stands in the frame of a level, where it is no link.
+pub(crate) fn unlinked_place(frames: &[Frame], level: usize, base: &str) -> Option<usize>
+    ensures { IfSome result (λ _. link_of (bound frames.now level base.now) ≡ None) }
+{
+    match frames.get(level) {
+        Some(frame) => frame.unlinked_place(base),
+        None => None,
     }
 }
 
@@ -315,7 +325,7 @@ pub(crate) fn find_target<'a>(
 }
 
 /// The part that a key means.
-fn part_written(key: Option<&str>) -> Part<'_>
+pub(crate) fn part_written(key: Option<&str>) -> Part<'_>
     ensures { seen_part result ≡ part_of (option_copied key.entry) }
 {
     match key {

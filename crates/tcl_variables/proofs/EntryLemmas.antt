@@ -1,17 +1,18 @@
 -- Entries seen by the bytes of their keys.
-use Rattle.std.proofs.Common.{◌≡◌, ℕ, zero, suc, Bool, true, false, cond, List, [], ◌∷◌, ◌++◌, length, reverse, append_assoc, filter, slice_get, Option, Some, None, IsSome, is_some, refl, sym, ◌∙◌, ap, arith}
+use Rattle.std.proofs.Common.{◌≡◌, ℕ, zero, suc, Bool, true, false, cond, List, [], ◌∷◌, ◌++◌, length, reverse, append_assoc, filter, slice_get, Option, Some, None, IsSome, is_some, refl, sym, ◌∙◌, ap, subst, arith}
 use Rattle.std.specs.Prelude.{OnSome, OnOk, IsOk, Result, Ok, Err}
 use Rattle.std.specs.Borrow.{MutBor}
 use Rattle.std.specs.Option.{option_map, option_copied_mut}
 use Rattle.std.specs.Str.{bytes_eq}
-use Rattle.std.specs.String.{string_bytes, string_eq}
-use Rattle.std.specs.List.{AllZip}
-use Rattle.std.specs.Map.{lookup, set_value, remove_entry}
+use Rattle.std.specs.String.{string_bytes, string_eq, string_eq_equiv}
+use Rattle.std.specs.List.{AllZip, AllByRecursion, IsDistinct}
+use Rattle.std.proofs.lemmas.Slice.Eq.{bytes_eq-Decides}
+use Rattle.std.specs.Map.{lookup, set_value, remove_entry, keys_of, values_of}
 use Rattle.std.specs.declared.string.String.{String}
 use Rattle.std.specs.declared.alloc.Global.{Global}
 use Rattle.std.proofs.lemmas.List.{reverse-append}
-use Rattle.indexmap.specs.IndexMap.{insert_entry, insert_all}
-use Rattle.tcl_variables.specs.Entries.{named, named_entry}
+use Rattle.indexmap.specs.IndexMap.{insert_entry, insert_all, set_value_at}
+use Rattle.tcl_variables.specs.Entries.{named, named_entry, StandsAt}
 use Rattle.tcl_variables.specs.Names.{Text}
 
 pub length-named : {V : Type 0} (es : List (String Global × V)) → length (named es) ≡ length es
@@ -118,3 +119,57 @@ filter-named t (e ∷ es) =
 pub ok_then : {A E P : Type 0} (r : Result A E) → IsOk r → OnOk r P → P
 ok_then (Ok x) i p = p
 ok_then (Err e) i p = absurd (cc)
+
+-- ## An entry at a place
+
+pub same_bytes : (x y : Text) → bytes_eq x y ≡ true → x ≡ y
+same_bytes x y h = (bytes_eq-Decides x y).0 h
+
+all_at : {K : Type 0} (P : K → Type 0) (ks : List K) (i : ℕ) (k : K) → AllByRecursion P ks → slice_get ks i ≡ Some k → P k
+all_at P [] i k h at = absurd (cc)
+all_at P (j ∷ ks) zero k h at = let same : j ≡ k = cc in subst P same h.0
+all_at P (j ∷ ks) (suc i) k h at = all_at P ks i k h.1 at
+
+key_at : {K V : Type 0} (es : List (K × V)) (i : ℕ) (k : K) (v : V) → slice_get es i ≡ Some (k, v) → slice_get (keys_of es) i ≡ Some k
+key_at [] i k v at = absurd (cc)
+key_at (e ∷ es) zero k v at = let same : e ≡ (k, v) = cc in ap (λ f. Some f.0) same
+key_at (e ∷ es) (suc i) k v at = key_at es i k v at
+
+value_at : {K V : Type 0} (es : List (K × V)) (i : ℕ) (k : K) (v : V) → slice_get es i ≡ Some (k, v) → slice_get (values_of es) i ≡ Some v
+value_at [] i k v at = absurd (cc)
+value_at (e ∷ es) zero k v at = let same : e ≡ (k, v) = cc in ap (λ f. Some f.1) same
+value_at (e ∷ es) (suc i) k v at = value_at es i k v at
+
+module _ {V : Type 0} where
+  -- a key that stands later is another
+  other : (e : String Global × V) (es : List (String Global × V)) (i : ℕ) (k : String Global) (v : V) → IsDistinct string_eq (keys_of (e ∷ es)) → slice_get es i ≡ Some (k, v) → string_eq k e.0 ≡ false
+  unfolding IsDistinct
+  other e es i k v h at = string_eq_equiv.symm k e.0 ∙ all_at (λ j. string_eq e.0 j ≡ false) (keys_of es) i k h.0 (key_at es i k v at)
+
+  later : (e : String Global × V) (es : List (String Global × V)) → IsDistinct string_eq (keys_of (e ∷ es)) → IsDistinct string_eq (keys_of es)
+  unfolding IsDistinct
+  later e es h = h.1
+
+  -- what is written at the place of a key is written for the key
+  set_own : (es : List (String Global × V)) (i : ℕ) (k : String Global) (v w : V) → IsDistinct string_eq (keys_of es) → slice_get es i ≡ Some (k, v) → set_value_at es i w ≡ set_value (string_eq k) es w
+  set_own [] i k v w h at = absurd (cc)
+  set_own (e ∷ es) zero k v w h at =
+      let same : e ≡ (k, v) = cc in
+      sym (ap (λ b. cond b ((e.0, w) ∷ es) (e ∷ set_value (string_eq k) es w)) (ap (λ f. string_eq k f.0) same ∙ string_eq_equiv.refl k))
+  set_own (e ∷ es) (suc i) k v w h at =
+      ap (λ fs. e ∷ fs) (set_own es i k v w (later e es h) at)
+      ∙ sym (ap (λ b. cond b ((e.0, w) ∷ es) (e ∷ set_value (string_eq k) es w)) (other e es i k v h at))
+
+  lookup_own : (es : List (String Global × V)) (i : ℕ) (k : String Global) (v : V) → IsDistinct string_eq (keys_of es) → slice_get es i ≡ Some (k, v) → lookup (string_eq k) es ≡ Some v
+  lookup_own [] i k v h at = absurd (cc)
+  lookup_own (e ∷ es) zero k v h at =
+      let same : e ≡ (k, v) = cc in
+      ap (λ b. cond b (Some e.1) (lookup (string_eq k) es)) (ap (λ f. string_eq k f.0) same ∙ string_eq_equiv.refl k) ∙ ap (λ f. Some f.1) same
+  lookup_own (e ∷ es) (suc i) k v h at =
+      ap (λ b. cond b (Some e.1) (lookup (string_eq k) es)) (other e es i k v h at) ∙ lookup_own es i k v (later e es h) at
+
+  pub set_at : (es : List (String Global × V)) (i : ℕ) (q : Text) (w : V) → IsDistinct string_eq (keys_of es) → StandsAt q es i → set_value_at es i w ≡ set_value (λ k. bytes_eq q (string_bytes k)) es w
+  set_at es i q w h s = set_own es i s.0 s.1 w h s.2 ∙ ap (λ (x : Text). set_value (λ k. bytes_eq x (string_bytes k)) es w) s.3
+
+  pub found_at : (es : List (String Global × V)) (i : ℕ) (q : Text) → IsDistinct string_eq (keys_of es) → StandsAt q es i → slice_get (values_of es) i ≡ lookup (λ k. bytes_eq q (string_bytes k)) es
+  found_at es i q h s = value_at es i s.0 s.1 s.2 ∙ sym (lookup_own es i s.0 s.1 h s.2) ∙ ap (λ (x : Text). lookup (λ k. bytes_eq x (string_bytes k)) es) s.3

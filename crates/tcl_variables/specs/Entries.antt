@@ -1,5 +1,5 @@
 -- Entries whose keys are names.
-use Rattle.std.specs.Prelude.{ℕ, List, [], ◌∷◌}
+use Rattle.std.specs.Prelude.{◌≡◌, ℕ, List, [], ◌∷◌, Some, slice_get}
 use Rattle.std.specs.Borrow.{Bor}
 use Rattle.std.specs.String.{string_bytes}
 use Rattle.std.specs.declared.string.String.{String}
@@ -16,3 +16,7 @@ named (e ∷ es) = (string_bytes e.0, e.1) ∷ named es
 -- an entry that is lent
 abbrev pub lent_entry : {V : Type 0} → Bor (List ℕ) × Bor V → List ℕ × V
 lent_entry p = (p.0.now, p.1.now)
+
+-- an entry with this name stands at a place
+abbrev pub StandsAt : {V : Type 0} → List ℕ → List (String Global × V) → ℕ → Type 0
+StandsAt {V} x es i = (k : String Global) × (v : V) × (slice_get es i ≡ Some (k, v)) × (string_bytes k ≡ x)

@@ -1,5 +1,5 @@
 -- Refusals.
-use Rattle.std.specs.Prelude.{◌≡◌, Bool, true, false, Result, Ok, Err}
+use Rattle.std.specs.Prelude.{◌≡◌, Result, Ok, Err}
 use Rattle.tcl_variables.specs.Names.{Text}
 use Rattle.tcl_variables.specs.declared.fault.Refusal.{Refusal}
 use Rattle.tcl_variables.specs.declared.fault.Refusal.TheVariants as refusal
@@ -7,8 +7,6 @@ use Rattle.tcl_variables.specs.declared.fault.FrameFault.{FrameFault}
 use Rattle.tcl_variables.specs.declared.fault.FrameFault.TheVariants as fault
 use Rattle.tcl_variables.specs.declared.fault.FrameError.{FrameError}
 use Rattle.tcl_variables.specs.declared.fault.FrameError.TheVariants.{Memory, Fault}
-use Rattle.tcl_variables.specs.declared.fault.Unlent.{Unlent}
-use Rattle.tcl_variables.specs.declared.fault.Unlent.TheVariants.{Linked, Refused}
 
 abbrev pub fault_of : Refusal → Text → FrameFault
 fault_of (refusal.NoVariable v) x = fault.NoVariable v x
@@ -31,8 +29,3 @@ IsWant (Fault g) = ⊥
 abbrev pub Refuses : {A : Type 0} → FrameError → Result A FrameFault → Type 0
 Refuses e (Ok x) = IsWant e
 Refuses e (Err f) = IsRefusal e f
-
--- nothing is lent as the name is a link, or else as the definition says
-abbrev pub Withholds : {A : Type 0} → Unlent → Bool → Result A FrameFault → Type 0
-Withholds Linked linked o = linked ≡ true
-Withholds (Refused e) linked o = (linked ≡ false) × Refuses e o

@@ -16,7 +16,7 @@ use Rattle.tcl_variables.specs.contracts.name_map.NameMap.{the_row as map_row}
 use Rattle.tcl_value.specs.contracts.value.Value.{the_row as value_row}
 
 -- once the borrow ends, the variable is as after a set of the value that was left
-abbrev pub LendsPart : {E : Type 0} → MutBor Variable → Part → Text → Result (MutBor Text) E → Fml
+abbrev pub LendsPart : MutBor Variable → Part → Text → Result (MutBor Text) FrameError → Fml
 LendsPart s part x r = LendsSoOk variable_row value_row s r (λ n w. assigned part (Some s.now) w x ≡ Ok n) (λ n. n ≡ s.now)
 
 -- once the borrow ends, the variable is an array of the elements that were left
@@ -24,5 +24,5 @@ abbrev pub LendsElements : MutBor Variable → Result (MutBor (List (Text × Tex
 LendsElements s r = LendsSoOk variable_row (map_row value_row) s r (λ n w. n ≡ Array w) (λ n. n ≡ s.now)
 
 -- the same for what a name of a frame stands for
-abbrev pub LendsNamed : {E : Type 0} → MutBor Frame → Text → Part → Text → Result (MutBor Text) E → Fml
+abbrev pub LendsNamed : MutBor Frame → Text → Part → Text → Result (MutBor Text) FrameError → Fml
 LendsNamed s b part x r = LendsSoOk frame_row value_row s r (λ n w. rebound s.now b (assigned part (lookup (bytes_eq b) s.now.variables) w x) ≡ Ok n) (λ n. n ≡ s.now)

@@ -8,10 +8,10 @@ ghost use Rattle.tcl_variables.specs.Access.{read_element, value_of, is_held, is
 ghost use Rattle.indexmap.specs.IndexMap.{insert_all};
 ghost use Rattle.tcl_variables.specs.Arrays.{extended, thinned};
 ghost use Rattle.tcl_variables.specs.declared.variable.Variable.TheVariants.{Array};
-ghost use Rattle.tcl_variables.specs.Faults.{Refuses, Withholds};
+ghost use Rattle.tcl_variables.specs.Faults.{Refuses};
 ghost use Rattle.tcl_variables.specs.Parts.{seen_part};
 
-use crate::fault::{FrameError, Refusal, Unlent, Verb, refused, refused_elements};
+use crate::fault::{FrameError, Refusal, Verb, refused, refused_elements};
 use crate::name_map::NameMap;
 use crate::variable::Variable;
 use std::alloc::{AllocError, Global};
@@ -320,21 +320,6 @@ impl Variable {
             Part::Whole => self.scalar_mut(name),
             Part::Element(key) => self.element_mut(key, name),
             Part::Nested => Err(refused(Refusal::NotArray(Verb::Read), name)),
-        }
-    }
-
-    /// What a part of the variable holds, to write, where the variable is no link. Of memory it takes none but for a refusal.
-    pub fn value_mut_unlinked(&mut self, part: Part<'_>, name: &Text) -> Result<&mut Value, Unlent>
-        ensures* writes_back { sem 𝓛 (LendsPart self.entry (seen_part part.entry) name.now result) }
-        ensures ok { IfOk result (λ v. (is_linked (Some self.old) ≡ false) × (value_of (seen_part part.entry) (Some self.old) name.now ≡ Ok v.now)) }
-        ensures err { IfErr result (λ e. Withholds e (is_linked (Some self.old)) (value_of (seen_part part.entry) (Some self.old) name.now)) }
-    {
-        if self.is_link() {
-            return Err(Unlent::Linked);
-        }
-        match self.value_mut(part, name) {
-            Ok(value) => Ok(value),
-            Err(error) => Err(Unlent::Refused(error)),
         }
     }
 }

@@ -141,15 +141,6 @@ impl<T: Drop> From<AllocFailed<T>> for FrameError {
     }
 }
 
-/// Why nothing is lent of what a name stands for.
-#[derive(Debug, Drop)]
-pub enum Unlent {
-    /// The name is a link.
-    Linked,
-    /// A refusal, or want of memory.
-    Refused(FrameError),
-}
-
 /// Which refusal a name meets.
 #[derive(Clone, Copy)]
 pub enum Refusal {

@@ -1,14 +1,14 @@
 //! A frame of a chain.
-ghost use Rattle.std.specs.Prelude.{◌≡◌, Ok, Some, None, true, false, MatchOption, IfOk, OnOk, IfErr, OnErr};
+ghost use Rattle.std.specs.Prelude.{◌≡◌, Ok, Some, None, true, false, MatchOption, IfSome, IfOk, OnOk, IfErr, OnErr};
 ghost use Rattle.std.specs.Map.{lookup};
 ghost use Rattle.std.specs.Option.{option_copied};
 ghost use Rattle.std.specs.Str.{bytes_eq};
 ghost use Rattle.tcl_variables.specs.Access.{value_of, is_linked};
-ghost use Rattle.tcl_variables.specs.Faults.{Refuses, Withholds};
+ghost use Rattle.tcl_variables.specs.Faults.{Refuses};
 ghost use Rattle.tcl_variables.specs.Parts.{seen_part};
 
 use crate::access::{Part, elements_in, new_array, new_variable};
-use crate::fault::{FrameError, Refusal, Unlent, Verb, refused, refused_elements};
+use crate::fault::{FrameError, Refusal, Verb, refused, refused_elements};
 use crate::name_map::NameMap;
 use crate::variable::{Place, Variable};
 use std::alloc::{AllocError, Global};
@@ -333,20 +333,37 @@ impl Frame {
         }
     }
 
-    /// The same, where the name is no link.
-    pub fn value_mut_unlinked(
+    /// The place at which a name stands, where it is no link.
+    pub fn unlinked_place(&self, base: &str) -> Option<usize>
+        ensures { IfSome result (λ _. is_linked (lookup (bytes_eq base.now) self.now.variables) ≡ false) }
+    {
+        match self.variables.find(base) {
+            Some((place, variable)) => {
+                if variable.is_link() {
+                    return None;
+                }
+                Some(place)
+            }
+            None => None,
+        }
+    }
+
+    /// What a part of what a name stands for holds, to write, in less time where the name stands at this place. Of memory it takes none
+    /// but for a refusal.
+    pub fn value_mut_near(
         &mut self,
+        place: usize,
         base: &str,
         part: Part<'_>,
         name: &Text,
-    ) -> Result<&mut Value, Unlent>
+    ) -> Result<&mut Value, FrameError>
         ensures* writes_back { sem 𝓛 (LendsNamed self.entry base.now (seen_part part.entry) name.now result) }
-        ensures ok { IfOk result (λ v. (is_linked (lookup (bytes_eq base.now) self.old.variables) ≡ false) × (value_of (seen_part part.entry) (lookup (bytes_eq base.now) self.old.variables) name.now ≡ Ok v.now)) }
-        ensures err { IfErr result (λ e. Withholds e (is_linked (lookup (bytes_eq base.now) self.old.variables)) (value_of (seen_part part.entry) (lookup (bytes_eq base.now) self.old.variables) name.now)) }
+        ensures ok { IfOk result (λ v. value_of (seen_part part.entry) (lookup (bytes_eq base.now) self.old.variables) name.now ≡ Ok v.now) }
+        ensures err { IfErr result (λ e. Refuses e (value_of (seen_part part.entry) (lookup (bytes_eq base.now) self.old.variables) name.now)) }
     {
-        match self.variables.get_mut(base) {
-            Some(variable) => variable.value_mut_unlinked(part, name),
-            None => Err(Unlent::Refused(unread(part, name))),
+        match self.variables.get_mut_near(place, base) {
+            Some(variable) => variable.value_mut(part, name),
+            None => Err(unread(part, name)),
         }
     }
 }

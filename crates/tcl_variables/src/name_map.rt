@@ -1,5 +1,5 @@
 //! Maps from names, in the order of insertion.
-ghost use Rattle.std.specs.Prelude.{◌≡◌, ◌≤◌, [], None, false, not, length, reverse, slice_get, vec_len, IfOk, OnOk, OnErr};
+ghost use Rattle.std.specs.Prelude.{◌≡◌, ◌≤◌, [], Some, None, false, not, length, reverse, slice_get, vec_len, IfSome, IfOk, OnOk, OnErr, IsTrue};
 ghost use Rattle.std.specs.Borrow.{sem};
 ghost use Rattle.std.specs.Map.{lookup, remove_entry};
 ghost use Rattle.std.specs.Option.{option_map, option_copied, option_copied_mut};
@@ -8,7 +8,7 @@ ghost use Rattle.std.specs.String.{string_bytes};
 ghost use Rattle.indexmap.specs.IndexMap.{insert_entry, insert_all, spare};
 ghost use Rattle.tcl_glob.specs.Patterns.{is_match};
 ghost use Rattle.tcl_variables.specs.Arrays.{unmatched};
-ghost use Rattle.tcl_variables.specs.Entries.{lent_entry, named};
+ghost use Rattle.tcl_variables.specs.Entries.{lent_entry, named, StandsAt};
 
 use indexmap::IndexMap;
 use std::alloc::{AllocError, Global};
@@ -32,6 +32,16 @@ impl<V> Model for NameMap<V> {
     ghost Value = { List (List ℕ × V) };
 
     ghost view = { λ a. named a.entries.entries };
+}
+
+/// Whether a name stands at a place.
+fn is_at<V>(entries: &IndexMap<String, V>, place: usize, name: &str) -> bool
+    ensures { IsTrue result → StandsAt name.now entries.now.entries place }
+{
+    match entries.get_index(place) {
+        Some((key, _)) => key.as_str() == name,
+        None => false,
+    }
 }
 
 impl<V> NameMap<V> {
@@ -76,6 +86,33 @@ impl<V> NameMap<V> {
         ensures value { option_copied_mut result ≡ lookup (bytes_eq name.now) self.old }
     {
         self.entries.get_mut(name)
+    }
+}
+
+impl<V> NameMap<V> {
+    ghost use Rattle.tcl_variables.specs.Lending.{lends_named};
+
+    /// The place of a name in the order of insertion, from 0, and what it has. This takes no memory.
+    pub fn find(&self, name: &str) -> Option<(usize, &V)>
+        ensures place { IfSome result (λ p. slice_get self.now p.0 ≡ Some (name.now, p.1.now)) }
+        ensures value { option_map (λ p. p.1.now) result ≡ lookup (bytes_eq name.now) self.now }
+    {
+        match self.entries.get_full(name) {
+            Some((place, _, value)) => Some((place, value)),
+            None => None,
+        }
+    }
+
+    /// What a name has, to write, in less time where the name stands at this place. This takes no memory.
+    pub fn get_mut_near(&mut self, place: usize, name: &str) -> Option<&mut V>
+        ensures* writes_back { sem 𝓛 (lends_named V.row self.entry name.now result) }
+        ensures value { option_copied_mut result ≡ lookup (bytes_eq name.now) self.old }
+    {
+        if is_at(&self.entries, place, name) {
+            self.entries.get_index_mut(place)
+        } else {
+            self.entries.get_mut(name)
+        }
     }
 }
 
