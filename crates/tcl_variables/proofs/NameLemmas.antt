@@ -4,7 +4,7 @@ use Rattle.std.proofs.lemmas.Bool.Decides.{nat_tests}
 use Rattle.std.specs.Borrow.{Bor}
 use Rattle.std.specs.Option.{option_map, option_copied, MatchOption}
 use Rattle.tcl_variables.specs.Written.{seen_pair}
-use Rattle.tcl_variables.specs.Names.{Text, behind, closed, behind_first, opened, opened_in, element_of, name_of, name_or_element, of_level, is_plain, has_colons, colons_after, after_colon, after_colon_in, after_colons}
+use Rattle.tcl_variables.specs.Names.{Text, behind, closed, behind_first, opened, opened_in, element_of, name_of, name_or_element, of_level, is_plain, is_simple, has_colons, colons_after, after_colon, after_colon_in, after_colons}
 
 -- a text that ends in a close parenthesis
 pub closed_at : (s : Text) → closed (s ++ 41 ∷ []) ≡ Some s
@@ -151,3 +151,103 @@ plain_none x r none colons e n t h = ap not h ∙ ap (λ b. not b && not (has_co
 
 pub plain_some : (x : Text) (r : Option (Bor Text × Bor Text)) (none : Bool) → option_map seen_pair r ≡ element_of x → is_some r ≡ not none → none ≡ false → none ≡ is_plain x
 plain_some x r none e n t = t ∙ ap (λ b. not b && not (has_colons x)) (sym (n ∙ ap not t)) ∙ sym (plain_is x r e)
+
+-- ## Names that hold neither a colon nor a close parenthesis
+
+no_first : (p q r : Bool) → (not (p || q) && r) ≡ true → p ≡ false
+no_first true q r h = absurd (cc)
+no_first false q r h = refl
+
+no_second : (p q r : Bool) → (not (p || q) && r) ≡ true → q ≡ false
+no_second true q r h = absurd (cc)
+no_second false true r h = absurd (cc)
+no_second false false r h = refl
+
+rest_too : (p q r : Bool) → (not (p || q) && r) ≡ true → r ≡ true
+rest_too true q r h = absurd (cc)
+rest_too false true r h = absurd (cc)
+rest_too false false r h = h
+
+simple_rest : (b : ℕ) (rest : Text) → is_simple (b ∷ rest) ≡ true → is_simple rest ≡ true
+unfolding is_simple
+simple_rest b rest h = rest_too (eqb b 58) (eqb b 41) (is_simple rest) h
+
+simple_colon : (b : ℕ) (rest : Text) → is_simple (b ∷ rest) ≡ true → eqb b 58 ≡ false
+unfolding is_simple
+simple_colon b rest h = no_first (eqb b 58) (eqb b 41) (is_simple rest) h
+
+simple_close : (b : ℕ) (rest : Text) → is_simple (b ∷ rest) ≡ true → eqb b 41 ≡ false
+unfolding is_simple
+simple_close b rest h = no_second (eqb b 58) (eqb b 41) (is_simple rest) h
+
+simple_closed : (x : Text) → is_simple x ≡ true → closed x ≡ None
+unfolding closed
+simple_closed [] h = refl
+simple_closed (b ∷ []) h = ap (λ t. cond t (Some []) None) (simple_close b [] h)
+simple_closed (b ∷ c ∷ rest) h = ap (behind b) (simple_closed (c ∷ rest) (simple_rest b (c ∷ rest) h))
+
+simple_colons : (before : Bool) (x : Text) → is_simple x ≡ true → colons_after before x ≡ false
+simple_colons before [] h = colons_end before
+simple_colons before (b ∷ rest) h =
+    let none = simple_colon b rest h in
+    colons_step before b rest ∙ colons_not before (eqb b 58) _ (λ p q. absurd (cc)) ∙ simple_colons (eqb b 58) rest (simple_rest b rest h)
+
+simple_leading : (x : Text) → is_simple x ≡ true → after_colon x ≡ None
+unfolding after_colon
+simple_leading [] h = refl
+simple_leading (b ∷ rest) h = ap (λ t. cond t (Some rest) None) (simple_colon b rest h)
+
+simple_element : (x : Text) → is_simple x ≡ true → element_of x ≡ None
+unfolding element_of
+simple_element x h = ap opened_in (simple_closed x h)
+
+-- such a name is read as it stands
+pub simple_name : (x : Text) → is_simple x ≡ true → name_of x ≡ Some (record { is_global = false; base = x; key = None })
+unfolding name_of
+simple_name x h =
+    ap (λ o. name_or_element o x) (simple_element x h)
+    ∙ ap (λ o. of_level o x None) (after_colons_none x (simple_leading x h))
+    ∙ ap (λ t. cond t None (Some (record { is_global = false; base = x; key = None }))) (simple_colons false x h)
+
+simple_step : (b : ℕ) (rest : Text) → is_simple (b ∷ rest) ≡ (not (eqb b 58 || eqb b 41) && is_simple rest)
+unfolding is_simple
+simple_step b rest = refl
+
+simple_more : (s : Text) (i : ℕ) → i < length s → is_simple (drop i s) ≡ (not (eqb (get_or s i 0) 58 || eqb (get_or s i 0) 41) && is_simple (drop (i + 1) s))
+simple_more s i l =
+    ap is_simple (drop-cons s i 0 l) ∙ simple_step (get_or s i 0) (drop (suc i) s)
+    ∙ ap (λ n. not (eqb (get_or s i 0) 58 || eqb (get_or s i 0) 41) && is_simple (drop n s)) (sym (add-one i))
+
+stopped : (p q r : Bool) → (p ≡ true) ⊎ (q ≡ true) → (not (p || q) && r) ≡ false
+stopped true q r h = refl
+stopped false true r h = refl
+stopped false false r (inl h) = absurd (cc)
+stopped false false r (inr h) = absurd (cc)
+
+gone : (p q r : Bool) → p ≡ false → q ≡ false → (not (p || q) && r) ≡ r
+gone true q r h k = absurd (cc)
+gone false true r h k = absurd (cc)
+gone false false r h k = refl
+
+pub simple_stops : (s : Text) (i : ℕ) → i < length s → (get_or s i 0 ≡ 58) ⊎ (get_or s i 0 ≡ 41) → is_simple (drop i s) ≡ false
+simple_stops s i l (inl h) = simple_more s i l ∙ stopped (eqb (get_or s i 0) 58) (eqb (get_or s i 0) 41) _ (inl (ap (λ b. eqb b 58) h))
+simple_stops s i l (inr h) = simple_more s i l ∙ stopped (eqb (get_or s i 0) 58) (eqb (get_or s i 0) 41) _ (inr (ap (λ b. eqb b 41) h))
+
+apart : (a b : ℕ) → a ≢ b → eqb a b ≡ false
+apart a b h = grind (arith, nat_tests)
+
+pub simple_goes : (s : Text) (i : ℕ) → i < length s → get_or s i 0 ≢ 58 → get_or s i 0 ≢ 41 → is_simple (drop i s) ≡ is_simple (drop (i + 1) s)
+simple_goes s i l h k = simple_more s i l ∙ gone (eqb (get_or s i 0) 58) (eqb (get_or s i 0) 41) _ (apart (get_or s i 0) 58 h) (apart (get_or s i 0) 41 k)
+
+simple_end : is_simple [] ≡ true
+unfolding is_simple
+simple_end = refl
+
+pub simple_over : (s : Text) (i : ℕ) → length s ≤ i → is_simple (drop i s) ≡ true
+simple_over s i l = ap is_simple (past s i l) ∙ simple_end
+  where
+    past : (s : Text) (i : ℕ) → length s ≤ i → drop i s ≡ []
+    past [] zero l = refl
+    past [] (suc i) l = refl
+    past (b ∷ rest) zero l = absurd (omega arith)
+    past (b ∷ rest) (suc i) l = past rest i (omega arith)

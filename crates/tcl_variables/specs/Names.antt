@@ -77,3 +77,8 @@ name_of x = name_or_element (element_of x) x
 -- a name that a procedure's parameter or a link may have: neither an element's, nor with two colons in it
 unfoldable pub is_plain : Text → Bool
 is_plain x = not (is_some (element_of x)) && not (has_colons x)
+
+-- whether a text holds neither a colon nor a close parenthesis
+unfoldable pub is_simple : Text → Bool
+is_simple [] = true
+is_simple (b ∷ rest) = not ((b == 58) || (b == 41)) && is_simple rest

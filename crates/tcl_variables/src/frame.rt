@@ -362,7 +362,7 @@ impl Frame {
         ensures err { IfErr result (λ e. Refuses e (value_of (seen_part part.entry) (lookup (bytes_eq base.now) self.old.variables) name.now)) }
     {
         match self.variables.get_mut_near(place, base) {
-            Some(variable) => variable.value_mut(part, name),
+            Some(found) => found.value_mut(part, name),
             None => Err(unread(part, name)),
         }
     }

@@ -2,7 +2,7 @@
 ghost use Rattle.std.specs.Prelude.{◌≡◌, IfOk};
 ghost use Rattle.std.specs.Option.{option_map, option_copied};
 ghost use Rattle.tcl_variables.specs.Arrays.{element_name};
-ghost use Rattle.tcl_variables.specs.Names.{element_of, has_colons, after_colons, without_colons, of_level, is_plain, name_of};
+ghost use Rattle.tcl_variables.specs.Names.{element_of, has_colons, after_colons, without_colons, of_level, is_plain, is_simple, name_of};
 ghost use Rattle.tcl_variables.specs.Written.{seen, seen_pair};
 
 use std::alloc::{AllocError, Global};
@@ -69,10 +69,32 @@ fn of_level<'a>(base: &'a str, key: Option<&'a str>) -> Option<Written<'a>>
     }
 }
 
+/// Whether a text holds neither a colon nor a close parenthesis, as most names do.
+fn is_simple(name: &str) -> bool
+    ensures { result ≡ is_simple name.now }
+{
+    for b in name.as_bytes() {
+        if *b == b':' {
+            return false;
+        }
+        if *b == b')' {
+            return false;
+        }
+    }
+    true
+}
+
 /// Reads a name, if it is one.
 pub fn read_name(name: &str) -> Option<Written<'_>>
     ensures { option_map seen result ≡ name_of name.now }
 {
+    if is_simple(name) {
+        return Some(Written {
+            is_global: false,
+            base: name,
+            key: None,
+        });
+    }
     match element_parts(name) {
         Some((array, key)) => of_level(array, Some(key)),
         None => of_level(name, None),

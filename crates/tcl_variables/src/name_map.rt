@@ -108,11 +108,10 @@ impl<V> NameMap<V> {
         ensures* writes_back { sem 𝓛 (lends_named V.row self.entry name.now result) }
         ensures value { option_copied_mut result ≡ lookup (bytes_eq name.now) self.old }
     {
-        if is_at(&self.entries, place, name) {
-            self.entries.get_index_mut(place)
-        } else {
-            self.entries.get_mut(name)
+        if !is_at(&self.entries, place, name) {
+            return self.entries.get_mut(name);
         }
+        self.entries.get_index_mut(place)
     }
 }
 

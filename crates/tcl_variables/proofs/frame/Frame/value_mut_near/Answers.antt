@@ -15,14 +15,14 @@ returns-in-Some c =
     let b = c.args.base.now in
     let x = c.args.name.now in
     let part = seen_part c.args.part in
-    let v = c.in-Some.variable.now in
+    let v = c.in-Some.found.now in
     let r = c.value_mut.result in
-    let found = lent_is c.get_mut_near.result c.in-Some.variable _ c.in-Some.is c.get_mut_near.ensures.value in
+    let found = lent_is c.get_mut_near.result c.in-Some.found _ c.in-Some.is c.get_mut_near.ensures.value in
     let there = ap (λ (s : Frame). lookup (bytes_eq b) s.variables) (sym c.self.view_is) ∙ found in (
       (
         refl,
-        (λ w h. lent_named _ c.args.self.now b v (c.value_mut.follows.lender w) _ part w x c.self.view_is found (at_some c.get_mut_near.result c.in-Some.variable c.in-Some.is (c.get_mut_near.follows.holds (c.value_mut.follows.lender w))) (c.value_mut.follows.holds w h)),
-        lent_same _ _ c.self.view_is b v c.value_mut.follows.lender-at-none _ r found (at_some c.get_mut_near.result c.in-Some.variable c.in-Some.is (c.get_mut_near.follows.holds c.value_mut.follows.lender-at-none)) c.value_mut.follows.holds-at-none,
+        (λ w h. lent_named _ c.args.self.now b v (c.value_mut.follows.lender w) _ part w x c.self.view_is found (at_some c.get_mut_near.result c.in-Some.found c.in-Some.is (c.get_mut_near.follows.holds (c.value_mut.follows.lender w))) (c.value_mut.follows.holds w h)),
+        lent_same _ _ c.self.view_is b v c.value_mut.follows.lender-at-none _ r found (at_some c.get_mut_near.result c.in-Some.found c.in-Some.is (c.get_mut_near.follows.holds c.value_mut.follows.lender-at-none)) c.value_mut.follows.holds-at-none,
       ),
       (
         subst (λ o. IfOk r (λ t. value_of part o x ≡ Ok t.now)) (sym there) c.value_mut.ensures.ok,

@@ -5,11 +5,11 @@ use Rattle.tcl_variables.specs.Entries.{named}
 use Rattle.tcl_variables.proofs.EntryLemmas.{lookup-named, set-named, on_some, found_at, set_at}
 use Rattle.tcl_variables.proofs.name_map.NameMap.get_mut_near.Goals as goal
 
-pub returns-then-is_at : goal.returns-then-is_at
-returns-then-is_at g c =
+pub returns : goal.returns
+returns g c =
     let q = c.args.name.now in
     let es = c.self.inside.entries.entries in
-    let stands = c.is_at.ensures c.if-is_at.true in (
+    let stands = c.is_at.ensures c.if-not-is_at.false in (
       (
         refl,
         (λ w. on_some c.get_index_mut.result (ap named (set_at es c.args.place q w c.get_index_mut.ensures.unique stands) ∙ set-named q es w ∙ ap (λ fs. set_value (bytes_eq q) fs w) c.self.view_is)),
@@ -18,8 +18,8 @@ returns-then-is_at g c =
       c.get_index_mut.ensures.value ∙ found_at es c.args.place q c.get_index_mut.ensures.unique stands ∙ sym (lookup-named q es) ∙ ap (lookup (bytes_eq q)) c.self.view_is,
     )
 
-pub returns-else-is_at : goal.returns-else-is_at
-returns-else-is_at g c =
+pub returns-then-not-is_at : goal.returns-then-not-is_at
+returns-then-not-is_at g c =
     let q = c.args.name.now in
     let es = c.self.inside.entries.entries in (
       (
