@@ -71,7 +71,7 @@ list_tells (list_error.Fault g) (Err f) i w t = Interrupts-more i _ _ (λ r e. e
 pub of_text : (r : Result (List ℕ) Interruption) (text : List ℕ) (P : Reply → Type 0) → IsText r text → IfEnded r P → (c : Completion) × P (Completed c) × (c.code ≡ pos 0) × (c.text ≡ text)
 of_text (Ok t) text P e p = (ok t, p, refl, e)
 of_text (Err interruption.Memory) text P e p = elim e [ ]
-of_text (Err (interruption.Completed c)) text P e p = (completion_of c, p, e.0, e.1)
+of_text (Err (interruption.Completed c)) text P e p = (completion_of c.value, p, e.0, e.1)
 of_text (Err (interruption.Stopped s)) text P e p = elim e [ ]
 of_text (Err (interruption.Exited n)) text P e p = elim e [ ]
 of_text (Err (interruption.Cut c)) text P e p = elim e [ ]

@@ -27,7 +27,7 @@ cause_of cause.Over = core.Over
 -- what is said of the end at an interruption: nothing at want of memory, which no end tells of
 abbrev pub Interrupts : Interruption → (Reply → Type 0) → Type 0
 Interrupts interruption.Memory P = Unit {0}
-Interrupts (interruption.Completed c) P = P (Completed (completion_of c))
+Interrupts (interruption.Completed c) P = P (Completed (completion_of c.value))
 Interrupts (interruption.Stopped s) P = P (stopping.reply_of s)
 Interrupts (interruption.Exited n) P = P (Exit n)
 Interrupts (interruption.Cut c) P = P (Cut (cause_of c))
@@ -81,5 +81,5 @@ too_deep_at (suc n) = Stop (suc n) core.Depth
 -- the end is an ordinary completion with this text
 abbrev pub IsText : Result (List ℕ) Interruption → List ℕ → Type 0
 IsText (Ok t) text = t ≡ text
-IsText (Err (interruption.Completed c)) text = (c.code ≡ pos 0) × (c.text ≡ text)
+IsText (Err (interruption.Completed c)) text = (c.value.code ≡ pos 0) × (c.value.text ≡ text)
 IsText (Err i) text = ⊥

@@ -21,7 +21,7 @@ fn error(alloc: Global, message: Value) -> Interruption
     ensures { Interrupts result (λ e. e ≡ Completed (core.error message)) }
 {
     match completion::error(alloc, message) {
-        Ok(completion) => Interruption::Completed(completion),
+        Ok(completion) => Interruption::of_completion(alloc, completion),
         Err(_) => Interruption::Memory,
     }
 }
@@ -67,7 +67,7 @@ pub fn too_deep(alloc: Global, levels: usize) -> Interruption
         });
     }
     match StopKind::Depth.error(alloc) {
-        Ok(completion) => Interruption::Completed(completion),
+        Ok(completion) => Interruption::of_completion(alloc, completion),
         Err(_) => Interruption::Memory,
     }
 }

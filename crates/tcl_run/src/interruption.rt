@@ -2,7 +2,7 @@
 ghost use Rattle.std.specs.Prelude.{◌≡◌};
 ghost use Rattle.tcl_run.specs.declared.interruption.Interruption.TheVariants.{Memory};
 
-use std::alloc::{AllocError, AllocFailed};
+use std::alloc::{AllocError, AllocFailed, Global};
 use tcl_flow::completion::Completion;
 use tcl_flow::stop::Stop;
 
@@ -21,13 +21,29 @@ pub enum Interruption {
     /// Memory was wanted. No script is told of it.
     Memory,
     /// It completed otherwise, as by an error or a return.
-    Completed(Completion),
+    Completed(Box<Completion>),
     /// A step or a level would have passed a limit. No script of the interpreters that it ends is told of it.
     Stopped(Stop),
     /// The whole run ends with this status.
     Exited(i64),
     /// It was ended from outside its tree.
     Cut(Cause),
+}
+
+impl Interruption {
+    ghost use Rattle.tcl_core.specs.Endings.Reply.{Completed};
+    ghost use Rattle.tcl_flow.specs.View.{completion_of};
+    ghost use Rattle.tcl_run.specs.Ends.{Interrupts};
+
+    /// An evaluation that completed so, or that memory was wanted to say it.
+    pub fn of_completion(alloc: Global, completion: Completion) -> Interruption
+        ensures { Interrupts result (λ e. e ≡ Completed (completion_of completion)) }
+    {
+        match Box::new(alloc, completion) {
+            Ok(completion) => Interruption::Completed(completion),
+            Err(_) => Interruption::Memory,
+        }
+    }
 }
 
 impl From<AllocError> for Interruption {

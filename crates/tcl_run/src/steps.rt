@@ -116,7 +116,7 @@ pub fn on_ok(ended: Result<Value, Interruption>) -> Result<Value, Interruption>
         Ok(text) => Ok(text),
         Err(Interruption::Completed(completion)) => {
             if completion.code == OK {
-                Ok(completion.text)
+                Ok(Box::into_inner(completion).text)
             } else {
                 Err(Interruption::Completed(completion))
             }
