@@ -34,5 +34,5 @@ pub record ComesBack {S : Type 0} (goes : Going S) (T : Tree Own) (o : S) (p : P
 -- what an end comes to where only ok and error may pass
 abbrev pub Settles : Result Text Interruption → Result Text Interruption → Type 0
 Settles (Ok text) r = r ≡ Ok text
-Settles (Err (interruption.Completed c)) r = IfEnded r (λ e. e ≡ Completed (settle (completion_of c)))
+Settles (Err (interruption.Completed c)) r = IfEnded r (λ e. e ≡ Completed (settle (completion_of c.value)))
 Settles (Err i) r = r ≡ Err i

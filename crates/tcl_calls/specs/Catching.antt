@@ -14,7 +14,7 @@ use Rattle.tcl_run.specs.declared.interruption.Interruption.TheVariants as inter
 -- the completion that an evaluation ended in, or what it can't be told of
 abbrev pub Catches : Result (List ℕ) Interruption → Result Completion Interruption → Type 0
 Catches (Ok text) r = MatchResult r (λ c. completion_of c ≡ ok text) (λ i. i ≡ interruption.Memory)
-Catches (Err (interruption.Completed c)) r = r ≡ Ok c
+Catches (Err (interruption.Completed c)) r = r ≡ Ok c.value
 Catches (Err i) r = r ≡ Err i
 
 -- what was caught is kept in the variables of these names, and on

@@ -17,7 +17,7 @@ After = ℤ → Completion → Program → Program
 -- the evaluation ended in this completion
 abbrev pub EndsIn : Result Text Interruption → Completion → Type 0
 EndsIn (Ok text) c = c ≡ ok text
-EndsIn (Err (interruption.Completed d)) c = c ≡ completion_of d
+EndsIn (Err (interruption.Completed d)) c = c ≡ completion_of d.value
 EndsIn (Err i) c = ⊥
 
 -- whether the loop goes on, or is over

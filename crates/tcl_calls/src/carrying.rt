@@ -58,7 +58,8 @@ pub fn settled(alloc: Global, ended: Result<Value, Interruption>) -> Result<Valu
 {
     match ended {
         Err(Interruption::Completed(completion)) => {
-            Err(Interruption::Completed(settle(alloc, completion)?))
+            let settled = settle(alloc, Box::into_inner(completion))?;
+            Err(Interruption::of_completion(alloc, settled))
         }
         other => other,
     }
@@ -142,7 +143,7 @@ fn told_stop(
     let apart = down.len() - common;
     if stop.levels_up < apart {
         return match stop.kind.error(alloc) {
-            Ok(completion) => Interruption::Completed(completion),
+            Ok(completion) => Interruption::of_completion(alloc, completion),
             Err(_) => Interruption::Memory,
         };
     }

@@ -29,7 +29,7 @@ pub fn caught(alloc: Global, ended: Result<Value, Interruption>) -> Result<Compl
 {
     match ended {
         Ok(text) => Ok(ordinary(alloc, text)?),
-        Err(Interruption::Completed(completion)) => Ok(completion),
+        Err(Interruption::Completed(completion)) => Ok(Box::into_inner(completion)),
         Err(interruption) => Err(interruption),
     }
 }

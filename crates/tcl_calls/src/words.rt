@@ -162,7 +162,7 @@ fn ended(alloc: Global, text: &String) -> Interruption
         return Interruption::Memory;
     };
     match ordinary(alloc, Value::from_short_text(text)) {
-        Ok(completion) => Interruption::Completed(completion),
+        Ok(completion) => Interruption::of_completion(alloc, completion),
         Err(_) => Interruption::Memory,
     }
 }
