@@ -60,6 +60,12 @@ returns_ends t place words c own same made = λ p style at.
     does_read (tree_of t) (tree_of t) p (Completed c) options_message (return_of style words) c done
     (ap (λ (s : Integers). return_of s words) (sym (same ∙ at.style_is)) ∙ (makes_so own words c).1 made) (refl, refl)
 
+-- so the end at any interruption that tells of that completion
+pub returns_told : (t : Table) (place : TablePlace) (words : List (List ℕ)) (c : Completion) (i : Interruption) (own : Integers) → own ≡ (marks_of t).integers → Makes own words c →
+    Interrupts i (λ e. e ≡ Completed c) → Interrupts i (EndsAt t place (λ style. returns style words) (tree_of t))
+returns_told t place words c i own same made told = Interrupts-more i (λ e. e ≡ Completed c) (EndsAt t place (λ style. returns style words) (tree_of t))
+    (λ r e. subst (λ (x : Reply). EndsAt t place (λ style. returns style words) (tree_of t) x) (sym e) (returns_ends t place words c own same made)) told
+
 pub returns_fails : (t : Table) (place : TablePlace) (words : List (List ℕ)) (error : OptionsError) (i : Interruption) (own : Integers) → own ≡ (marks_of t).integers →
     IsRefused error (λ f. Reads own (options_in words) plain (Err f)) → TellsOptions error i → Interrupts i (EndsAt t place (λ style. returns style words) (tree_of t))
 returns_fails t place words options.Memory i own same refused told = subst (λ (j : Interruption). Interrupts j (EndsAt t place (λ style. returns style words) (tree_of t))) (sym told) tt

@@ -52,9 +52,12 @@ pub fn error(
     ensures level { IsLevel tree.old tree.new }
 {
     match args {
-        [message] => Err(Interruption::Completed(plain_error(alloc, message)?)),
-        [message, _] => Err(Interruption::Completed(plain_error(alloc, message)?)),
-        [message, _, errorcode] => Err(Interruption::Completed(error_of(message, errorcode)?)),
+        [message] => Err(Interruption::of_completion(alloc, plain_error(alloc, message)?)),
+        [message, _] => Err(Interruption::of_completion(alloc, plain_error(alloc, message)?)),
+        [message, _, errorcode] => Err(Interruption::of_completion(
+            alloc,
+            error_of(message, errorcode)?,
+        )),
         _ => Err(wrong_args(alloc, "error message ?errorInfo? ?errorCode?")),
     }
 }
@@ -103,7 +106,7 @@ pub fn breaks(
     ensures level { IsLevel tree.old tree.new }
 {
     match args {
-        [] => Err(Interruption::Completed(break_of(alloc)?)),
+        [] => Err(Interruption::of_completion(alloc, break_of(alloc)?)),
         _ => Err(wrong_args(alloc, "break")),
     }
 }
@@ -122,7 +125,7 @@ pub fn continues(
     ensures level { IsLevel tree.old tree.new }
 {
     match args {
-        [] => Err(Interruption::Completed(continue_of(alloc)?)),
+        [] => Err(Interruption::of_completion(alloc, continue_of(alloc)?)),
         _ => Err(wrong_args(alloc, "continue")),
     }
 }
@@ -154,7 +157,7 @@ pub fn returns(
     ensures level { IsLevel tree.old tree.new }
 {
     match return_words(alloc, tree.integers(), args) {
-        Ok(completion) => Err(Interruption::Completed(completion)),
+        Ok(completion) => Err(Interruption::of_completion(alloc, completion)),
         Err(error) => Err(options_failure(alloc, error)),
     }
 }
