@@ -59,9 +59,9 @@ module _ {S : Type 0} (goes : Going S) (t u : Table) (o z : S) (place : TablePla
       (λ p style at. asks p style at (with_text text) (tree_of u) z (Completed (ok text)) completed)
   asks_telling text (Err interruption.Memory) r told asks = subst (λ (x : Result Text Interruption). Evaluates goes t o place (λ style. asks_at path entry (with_text text)) u z x) (sym told) tt
   asks_telling text (Err (interruption.Completed c)) r (inl h) asks = subst (λ (x : Result Text Interruption). Evaluates goes t o place (λ style. asks_at path entry (with_text text)) u z x) (sym h.1)
-      (λ p style at. asks p style at (with_text text) (tree_of u) z (Completed (ok text)) (at_prog (with_ok text (completion_of c) h.0) completed))
+      (λ p style at. asks p style at (with_text text) (tree_of u) z (Completed (ok text)) (at_prog (with_ok text (completion_of c.value) h.0) completed))
   asks_telling text (Err (interruption.Completed c)) r (inr h) asks = subst (λ (x : Result Text Interruption). Evaluates goes t o place (λ style. asks_at path entry (with_text text)) u z x) (sym h.1)
-      (λ p style at. asks p style at (with_text text) (tree_of u) z (Completed (completion_of c)) (at_prog (with_other text (completion_of c) h.0) completed))
+      (λ p style at. asks p style at (with_text text) (tree_of u) z (Completed (completion_of c.value)) (at_prog (with_other text (completion_of c.value) h.0) completed))
   asks_telling text (Err (interruption.Stopped s)) r told asks = subst (λ (x : Result Text Interruption). Evaluates goes t o place (λ style. asks_at path entry (with_text text)) u z x) (sym told) (λ p style at. asks p style at (with_text text))
   asks_telling text (Err (interruption.Exited n)) r told asks = subst (λ (x : Result Text Interruption). Evaluates goes t o place (λ style. asks_at path entry (with_text text)) u z x) (sym told) (λ p style at. asks p style at (with_text text))
   asks_telling text (Err (interruption.Cut x)) r told asks = subst (λ (y : Result Text Interruption). Evaluates goes t o place (λ style. asks_at path entry (with_text text)) u z y) (sym told) (λ p style at. asks p style at (with_text text))

@@ -16,7 +16,7 @@ use Rattle.tcl_text.specs.declared.integer.Integers.{Integers}
 -- an ordinary result is told as this text, and every other end as it is
 abbrev pub TellsAs : Result Text Interruption → Text → Result Text Interruption → Type 0
 TellsAs (Ok text) value r = r ≡ Ok value
-TellsAs (Err (interruption.Completed c)) value r = ((code_is_ok c.code ≡ true) × (r ≡ Ok value)) ⊎ ((code_is_ok c.code ≡ false) × (r ≡ Err (interruption.Completed c)))
+TellsAs (Err (interruption.Completed c)) value r = ((code_is_ok c.value.code ≡ true) × (r ≡ Ok value)) ⊎ ((code_is_ok c.value.code ≡ false) × (r ≡ Err (interruption.Completed c)))
 TellsAs (Err i) value r = r ≡ Err i
 
 -- what is asked of the interpreter at the path that the word is, or of the one that asks where there is no word
