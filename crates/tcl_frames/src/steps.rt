@@ -429,7 +429,7 @@ fn change_linked(
     }
 }
 
-/// Changes what is where the links from a name at a level end. A name that is no link, as most are, is looked up once.
+/// Changes what is where the links from a name at a level end. Where the name is no link, as most are, a set looks it up once.
 pub(crate) fn change_from(
     frames: &mut [Frame],
     alloc: Global,
