@@ -1,5 +1,6 @@
 -- Steps of a program one after the other, each of which may run something.
 use Rattle.std.proofs.Common.{◌≡◌, inl, inr, true, false, [], ◌∷◌, Some, None, refl, sym, ◌∙◌, ap, subst}
+use Rattle.std.specs.Global.{Box}
 use Rattle.std.specs.Prelude.{Result, Ok, Err}
 use Rattle.tcl_core.specs.Endings.{Completion, ok}
 use Rattle.tcl_core.specs.Endings.Reply.{Completed}
@@ -86,17 +87,17 @@ module _ {S : Type 0} (goes : Going S) (t u : Table) (o z : S) (place : TablePla
   abbrev step_of : Styled → Styled
   step_of rest style = deletes_at text (above, name) (rest style)
 
-  in_use_ends : (c : Ended) (r : Result (Unit {0}) Interruption) → code_is_ok c.code ≡ false → IsInUse text r → Asks goes t o place above (Delete name) u z (Err (interruption.Completed c)) → Steps goes t o place step_of u z r
+  in_use_ends : (c : Box Ended) (r : Result (Unit {0}) Interruption) → code_is_ok c.value.code ≡ false → IsInUse text r → Asks goes t o place above (Delete name) u z (Err (interruption.Completed c)) → Steps goes t o place step_of u z r
   in_use_ends c (Ok x) e h asks = absurd h
   in_use_ends c (Err i) e h asks = λ rest. Interrupts-more i (λ e. e ≡ Completed (failing (in_use text))) (EndsIn goes t o place (step_of rest) (tree_of u) z)
-      (λ r f p style at. asks p style at (after_delete text (rest style)) (tree_of u) z r (at_prog (after_other text (rest style) (completion_of c) e) (at_reply f completed))) h
+      (λ r f p style at. asks p style at (after_delete text (rest style)) (tree_of u) z r (at_prog (after_other text (rest style) (completion_of c.value) e) (at_reply f completed))) h
 
   pub deletes_steps : (ended : Result Text Interruption) (r : Result (Unit {0}) Interruption) → Deletes text ended r → Asks goes t o place above (Delete name) u z ended → Steps goes t o place step_of u z r
   deletes_steps (Ok value) r d asks = subst (λ (x : Result (Unit {0}) Interruption). Steps goes t o place step_of u z x) (sym d)
       (λ rest V y q e p style at. asks p style at (after_delete text (rest style)) V y q (e p style (still_at t u place p style steady at)))
   deletes_steps (Err interruption.Memory) r d asks = subst (λ (x : Result (Unit {0}) Interruption). Steps goes t o place step_of u z x) (sym d) (λ rest. tt)
   deletes_steps (Err (interruption.Completed c)) r (inl d) asks = subst (λ (x : Result (Unit {0}) Interruption). Steps goes t o place step_of u z x) (sym d.1)
-      (λ rest V y q e p style at. asks p style at (after_delete text (rest style)) V y q (at_prog (after_ok text (rest style) (completion_of c) d.0) (e p style (still_at t u place p style steady at))))
+      (λ rest V y q e p style at. asks p style at (after_delete text (rest style)) V y q (at_prog (after_ok text (rest style) (completion_of c.value) d.0) (e p style (still_at t u place p style steady at))))
   deletes_steps (Err (interruption.Completed c)) r (inr d) asks = in_use_ends c r d.0 d.1 asks
   deletes_steps (Err (interruption.Stopped s)) r d asks = subst (λ (x : Result (Unit {0}) Interruption). Steps goes t o place step_of u z x) (sym d) (λ rest p style at. asks p style at (after_delete text (rest style)))
   deletes_steps (Err (interruption.Exited n)) r d asks = subst (λ (x : Result (Unit {0}) Interruption). Steps goes t o place step_of u z x) (sym d) (λ rest p style at. asks p style at (after_delete text (rest style)))

@@ -7,6 +7,7 @@ ghost use Rattle.tcl_run.specs.Entering.{request_of, whole_entry};
 ghost use Rattle.tcl_run.specs.Outsides.{reply_of};
 ghost use Rattle.tcl_watching.specs.Crossings.{answer_of};
 
+use std::alloc::Global;
 use tcl_host::reply::HostReply;
 use tcl_host::request::Request;
 use tcl_run::entry::Entry;
@@ -80,13 +81,13 @@ pub(crate) fn cuts(answer: &Answer) -> bool
 ///
 /// # Errors
 /// The end, where it is no word of a host; want of memory.
-pub(crate) fn turn_of(answer: &Answer) -> Result<Turn, Interruption>
+pub(crate) fn turn_of(alloc: Global, answer: &Answer) -> Result<Turn, Interruption>
     ensures { IsTold (answer_of answer.now) result }
 {
     match answer {
         Answer::Heard(reply) => Ok(Turn::Heard(copy_heard(reply)?)),
         Answer::Replied(Reply::Completed(completion)) => {
-            Err(Interruption::Completed(copy_completion(completion)?))
+            Err(Interruption::of_completion(alloc, copy_completion(completion)?))
         }
         Answer::Replied(Reply::Stopped(stop)) => Err(Interruption::Stopped(*stop)),
         Answer::Replied(Reply::Exited(status)) => Err(Interruption::Exited(*status)),

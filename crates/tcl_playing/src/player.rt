@@ -317,7 +317,7 @@ impl<'a> Outside for Player<'a> {
                 Vec::from_clones(alloc, target.as_slice())?,
                 entry.copy(alloc)?,
             )),
-            Some(Move::Come(answer)) => turn_of(answer),
+            Some(Move::Come(answer)) => turn_of(alloc, answer),
             None => Err(Interruption::Cut(Cause::Over)),
         }
     }
