@@ -53,7 +53,7 @@ exited (Err (interruption.Cut c)) n P x h = let clash : Some n ≡ None = x in a
 pub unexited : (ended : Result Text Interruption) (P : Reply → Type 0) → ExitOf ended None → IfEnded ended P → (y : Reply) × P y × IsNoExit y
 unexited (Ok text) P x h = (Completed (ok text), h, tt)
 unexited (Err interruption.Memory) P x h = elim x [ ]
-unexited (Err (interruption.Completed c)) P x h = (Completed (completion_of c), h, tt)
+unexited (Err (interruption.Completed c)) P x h = (Completed (completion_of c.value), h, tt)
 unexited (Err (interruption.Stopped s)) P x h = (stopped_by s, h, tt)
 unexited (Err (interruption.Exited n)) P x h = let clash : None ≡ Some n = x in absurd cc
 unexited (Err (interruption.Cut c)) P x h = (Cut (cause_of c), h, tt)

@@ -37,7 +37,7 @@ Left r f = f ≡ r
 pub left_more : (ended left : Result (List ℕ) Interruption) (P Q : Reply → Type 0) → IfEnded ended P → LeavesProc ended left → ((e f : Reply) → P e → Left e f → Q f) → IfEnded left Q
 left_more (Ok text) left P Q p l k = subst (λ (x : Result (List ℕ) Interruption). IfEnded x Q) (sym l) (k (Completed (ok text)) (Completed (ok text)) p refl)
 left_more (Err interruption.Memory) left P Q p l k = subst (λ (x : Result (List ℕ) Interruption). IfEnded x Q) (sym l) tt
-left_more (Err (interruption.Completed c)) left P Q p l k = IfEnded-more left (λ e. e ≡ Completed (leave_proc (completion_of c))) Q (λ f e. k (Completed (completion_of c)) f p e) l
+left_more (Err (interruption.Completed c)) left P Q p l k = IfEnded-more left (λ e. e ≡ Completed (leave_proc (completion_of c.value))) Q (λ f e. k (Completed (completion_of c.value)) f p e) l
 left_more (Err (interruption.Stopped s)) left P Q p l k = subst (λ (x : Result (List ℕ) Interruption). IfEnded x Q) (sym l) (k _ _ p refl)
 left_more (Err (interruption.Exited n)) left P Q p l k = subst (λ (x : Result (List ℕ) Interruption). IfEnded x Q) (sym l) (k _ _ p refl)
 left_more (Err (interruption.Cut c)) left P Q p l k = subst (λ (x : Result (List ℕ) Interruption). IfEnded x Q) (sym l) (k _ _ p refl)

@@ -35,7 +35,7 @@ caught_ok (Ok text) (Ok d) c P e h p =
 caught_ok (Ok text) (Err i) c P e h p = let clash : Err i ≡ Ok c = e in cc
 caught_ok (Err interruption.Memory) r c P e h p = let clash : Err interruption.Memory ≡ Ok c = sym h ∙ e in cc
 caught_ok (Err (interruption.Completed d)) r c P e h p =
-    let same : Ok d ≡ Ok c = sym h ∙ e in let is : d ≡ c = cc in subst (λ (x : Completion). P (Completed (completion_of x))) is p
+    let same : Ok d.value ≡ Ok c = sym h ∙ e in let is : d.value ≡ c = cc in subst (λ (x : Completion). P (Completed (completion_of x))) is p
 caught_ok (Err (interruption.Stopped s)) r c P e h p = let clash : Err (interruption.Stopped s) ≡ Ok c = sym h ∙ e in cc
 caught_ok (Err (interruption.Exited n)) r c P e h p = let clash : Err (interruption.Exited n) ≡ Ok c = sym h ∙ e in cc
 caught_ok (Err (interruption.Cut x)) r c P e h p = let clash : Err (interruption.Cut x) ≡ Ok c = sym h ∙ e in cc
@@ -45,7 +45,7 @@ pub caught_err : (ended : Result Text Interruption) (r : Result Completion Inter
 caught_err (Ok text) (Ok d) i P e h p = let clash : Ok d ≡ Err i = e in cc
 caught_err (Ok text) (Err j) i P e h p = let same : j ≡ i = cc in subst (λ (x : Interruption). Interrupts x (λ e. P e × IsQuit e)) (sym h ∙ same) tt
 caught_err (Err interruption.Memory) r i P e h p = let same : Err interruption.Memory ≡ Err i = sym h ∙ e in let is : interruption.Memory ≡ i = cc in subst (λ (x : Interruption). Interrupts x (λ e. P e × IsQuit e)) is tt
-caught_err (Err (interruption.Completed d)) r i P e h p = let clash : Ok d ≡ Err i = sym h ∙ e in cc
+caught_err (Err (interruption.Completed d)) r i P e h p = let clash : Ok d.value ≡ Err i = sym h ∙ e in cc
 caught_err (Err (interruption.Stopped s)) r i P e h p = let same : Err (interruption.Stopped s) ≡ Err i = sym h ∙ e in let is : interruption.Stopped s ≡ i = cc in subst (λ (x : Interruption). Interrupts x (λ e. P e × IsQuit e)) is (p, tt)
 caught_err (Err (interruption.Exited n)) r i P e h p = let same : Err (interruption.Exited n) ≡ Err i = sym h ∙ e in let is : interruption.Exited n ≡ i = cc in subst (λ (x : Interruption). Interrupts x (λ e. P e × IsQuit e)) is (p, tt)
 caught_err (Err (interruption.Cut c)) r i P e h p = let same : Err (interruption.Cut c) ≡ Err i = sym h ∙ e in let is : interruption.Cut c ≡ i = cc in subst (λ (x : Interruption). Interrupts x (λ e. P e × IsQuit e)) is (p, tt)

@@ -65,7 +65,7 @@ Settled r f = f ≡ r
 pub settled_more : (ended told : Result Text Interruption) (P Q : Reply → Type 0) → IfEnded ended P → Settles ended told → ((e f : Reply) → P e → Settled e f → Q f) → IfEnded told Q
 settled_more (Ok text) told P Q p l k = subst (λ (x : Result Text Interruption). IfEnded x Q) (sym l) (k (Completed (ok text)) (Completed (ok text)) p refl)
 settled_more (Err interruption.Memory) told P Q p l k = subst (λ (x : Result Text Interruption). IfEnded x Q) (sym l) tt
-settled_more (Err (interruption.Completed c)) told P Q p l k = IfEnded-more told (λ e. e ≡ Completed (settle (completion_of c))) Q (λ f e. k (Completed (completion_of c)) f p e) l
+settled_more (Err (interruption.Completed c)) told P Q p l k = IfEnded-more told (λ e. e ≡ Completed (settle (completion_of c.value))) Q (λ f e. k (Completed (completion_of c.value)) f p e) l
 settled_more (Err (interruption.Stopped s)) told P Q p l k = subst (λ (x : Result Text Interruption). IfEnded x Q) (sym l) (k _ _ p refl)
 settled_more (Err (interruption.Exited n)) told P Q p l k = subst (λ (x : Result Text Interruption). IfEnded x Q) (sym l) (k _ _ p refl)
 settled_more (Err (interruption.Cut c)) told P Q p l k = subst (λ (x : Result Text Interruption). IfEnded x Q) (sym l) (k _ _ p refl)

@@ -75,5 +75,5 @@ Leads {S} goes style T o p x U u y = (V : Tree Own) (z : S) (r : Reply) → Come
 -- the end of a procedure's call whose body ended so
 abbrev pub LeavesProc : Result (List ℕ) Interruption → Result (List ℕ) Interruption → Type 0
 LeavesProc (Ok text) r = r ≡ Ok text
-LeavesProc (Err (interruption.Completed c)) r = IfEnded r (λ e. e ≡ Completed (leave_proc (completion_of c)))
+LeavesProc (Err (interruption.Completed c)) r = IfEnded r (λ e. e ≡ Completed (leave_proc (completion_of c.value)))
 LeavesProc (Err i) r = r ≡ Err i

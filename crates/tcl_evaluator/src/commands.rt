@@ -187,7 +187,8 @@ fn left_proc(alloc: Global, ended: Result<Value, Interruption>) -> Result<Value,
 {
     match ended {
         Err(Interruption::Completed(completion)) => {
-            Err(Interruption::Completed(leave_proc(alloc, completion)?))
+            let left = leave_proc(alloc, Box::into_inner(completion))?;
+            Err(Interruption::of_completion(alloc, left))
         }
         other => other,
     }

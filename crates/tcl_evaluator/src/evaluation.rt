@@ -135,7 +135,7 @@ fn eval_command<O: Outside>(
     ensures steady { IsSteady tree.old tree.new }
     ensures left { O.entries_left outside.new ≤ O.entries_left outside.old }
 {
-    let mut words = Vec::new(alloc);
+    let mut words = Vec::with_capacity(alloc, command.words.len())?;
     'words: for word in &command.words {
         let text = on_ok(eval_word(tree, alloc, outside, place, word))?;
         spread(alloc, word.expand, text, &mut words)?;

@@ -213,7 +213,7 @@ fn told(alloc: Global, path: &[Text], ended: Result<Value, Interruption>) -> Res
 {
     match ended {
         Ok(text) => Ok(End::Done(ordinary(alloc, text)?)),
-        Err(Interruption::Completed(completion)) => Ok(End::Done(completion)),
+        Err(Interruption::Completed(completion)) => Ok(End::Done(Box::into_inner(completion))),
         Err(Interruption::Stopped(stop)) => stopped(alloc, path, stop),
         Err(Interruption::Exited(status)) => Ok(End::Exit(status)),
         Err(Interruption::Memory) => Err(AllocError),

@@ -48,7 +48,7 @@ along T o s ev u t = record { told = seen T o s ev.place ev.what u t.told }
 -- an evaluation that didn't end for want of memory ended by some reply
 ended_so : (A B : Reply → Type 0) (ended : Result Text Interruption) → wants_memory ended ≡ false → IfEnded ended A → IfEnded ended B → (r : Reply) × A r × B r
 ended_so A B (Ok text) m a b = (Completed (ok text), a, b)
-ended_so A B (Err (interruption.Completed c)) m a b = (Completed (completion_of c), a, b)
+ended_so A B (Err (interruption.Completed c)) m a b = (Completed (completion_of c.value), a, b)
 ended_so A B (Err (interruption.Stopped s)) m a b = (stopping.reply_of s, a, b)
 ended_so A B (Err (interruption.Exited n)) m a b = (Exit n, a, b)
 ended_so A B (Err (interruption.Cut c)) m a b = (Cut (cause_of c), a, b)

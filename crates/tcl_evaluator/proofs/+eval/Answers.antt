@@ -145,8 +145,8 @@ use Rattle.tcl_evaluator.proofs.+eval.Goals as goal
 pub evaluation::eval_command-returns-in_err-text-clause-runs : goal.evaluation::eval_command-returns-in_err-text-clause-runs
 evaluation::eval_command-returns-in_err-text-clause-runs g t c =
     let item = item_on c.deref-word-items.result.now c.words.word-index c.word-item.result c.words-test.true c.word-item.is in
-    let p = err_from_is_err_and c.from_residual.result c.from_residual.ensures.1 in
-    ended_err c.from_residual.result c.in_err-text.field-0.0 p.0 _ _ _ p.1 p.2
+    let p = err_from_is_err_and c.from_residual-in_err-text.result c.from_residual-in_err-text.ensures.1 in
+    ended_err c.from_residual-in_err-text.result c.in_err-text.field-0.0 p.0 _ _ _ p.1 p.2
     (stays_of c.eval_word.result c.in_err-text.field-0.0 (EndsFrom g.O.Outside.goes c.words.tree c.words.outside c.args.place (λ style. parts c.word-item.result.parts [] []) c.eval_word.new.tree c.eval_word.new.outside) c.in_err-text.ensures.same c.eval_word.ensures.runs c.in_err-text.ensures.stays)
     (λ e h q style at. c.words.invariant.leads q style at _ _ _ (at_prog (ap (λ (ws : List WordRead). words ws c.words.words.items) item)
     (Steps.word_stays style c.word-item.result _ c.words.words.items e h.1 (h.0 q style (still_at _ _ c.args.place q style c.words.invariant.steady at)))))
