@@ -14,8 +14,7 @@ ghost use Rattle.tcl_evaluator.specs.declared.running.Refused.TheVariants.{Memor
 
 use crate::crossing::serve_eval;
 use std::alloc::{AllocError, Global};
-use tcl_calls::words::ordinary;
-use tcl_flow::completion::Completion;
+use tcl_flow::completion::{self, Completion};
 use tcl_flow::stop::{Stop, StopKind};
 use tcl_host::host::Host;
 use tcl_run::interruption::Interruption;
@@ -212,7 +211,7 @@ fn told(alloc: Global, path: &[Text], ended: Result<Value, Interruption>) -> Res
     ensures { Tells path.now ended result }
 {
     match ended {
-        Ok(text) => Ok(End::Done(ordinary(alloc, text)?)),
+        Ok(text) => Ok(End::Done(completion::ok(text))),
         Err(Interruption::Completed(completion)) => Ok(End::Done(Box::into_inner(completion))),
         Err(Interruption::Stopped(stop)) => stopped(alloc, path, stop),
         Err(Interruption::Exited(status)) => Ok(End::Exit(status)),
