@@ -1,5 +1,5 @@
 -- What contracts see of catching.
-use Rattle.std.specs.Prelude.{◌≡◌, ℕ, List, [], ◌∷◌, Result, Ok, Err, MatchResult}
+use Rattle.std.specs.Prelude.{◌≡◌, ℕ, List, [], ◌∷◌, Result, Ok, Err, IsOkAnd}
 use Rattle.tcl_core.specs.Endings.{ok}
 use Rattle.tcl_core.specs.Endings as core
 use Rattle.tcl_core.specs.Paths.{Text}
@@ -13,7 +13,7 @@ use Rattle.tcl_run.specs.declared.interruption.Interruption.TheVariants as inter
 
 -- the completion that an evaluation ended in, or what it can't be told of
 abbrev pub Catches : Result (List ℕ) Interruption → Result Completion Interruption → Type 0
-Catches (Ok text) r = MatchResult r (λ c. completion_of c ≡ ok text) (λ i. i ≡ interruption.Memory)
+Catches (Ok text) r = IsOkAnd r (λ c. completion_of c ≡ ok text)
 Catches (Err (interruption.Completed c)) r = r ≡ Ok c.value
 Catches (Err i) r = r ≡ Err i
 

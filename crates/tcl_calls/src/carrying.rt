@@ -58,8 +58,9 @@ pub fn settled(alloc: Global, ended: Result<Value, Interruption>) -> Result<Valu
 {
     match ended {
         Err(Interruption::Completed(completion)) => {
-            let settled = settle(alloc, Box::into_inner(completion))?;
-            Err(Interruption::of_completion(alloc, settled))
+            let mut completion = completion;
+            settle(alloc, &mut completion)?;
+            Err(Interruption::Completed(completion))
         }
         other => other,
     }

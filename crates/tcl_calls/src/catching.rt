@@ -12,9 +12,8 @@ ghost use Rattle.tcl_tree.specs.TreeOf.{Names};
 ghost use Rattle.tcl_calls.specs.Catching.{Catches, kept_in};
 
 use crate::setting::set_named;
-use crate::words::ordinary;
 use std::alloc::Global;
-use tcl_flow::completion::Completion;
+use tcl_flow::completion::{self, Completion};
 use tcl_flow::returning::caught_options;
 use tcl_run::failure::too_long;
 use tcl_run::interruption::Interruption;
@@ -24,11 +23,11 @@ use tcl_value::value::{Value, ValueError};
 
 /// The completion that an evaluation ended in. Stops, exits, cuts and want of memory are none: they go further.
 #[inline(never)]
-pub fn caught(alloc: Global, ended: Result<Value, Interruption>) -> Result<Completion, Interruption>
+pub fn caught(ended: Result<Value, Interruption>) -> Result<Completion, Interruption>
     ensures { Catches ended result }
 {
     match ended {
-        Ok(text) => Ok(ordinary(alloc, text)?),
+        Ok(text) => Ok(completion::ok(text)),
         Err(Interruption::Completed(completion)) => Ok(Box::into_inner(completion)),
         Err(interruption) => Err(interruption),
     }

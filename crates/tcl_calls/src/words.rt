@@ -5,7 +5,6 @@ ghost use Rattle.tcl_core.specs.Paths.{Path};
 ghost use Rattle.tcl_core.specs.Trees as core;
 ghost use Rattle.tcl_core.specs.Endings.{ok};
 ghost use Rattle.tcl_core.specs.Endings.Reply.{Completed};
-ghost use Rattle.tcl_flow.specs.View.{completion_of};
 ghost use Rattle.tcl_language.specs.Instructions.{too_long as too_long_error, fits};
 ghost use Rattle.tcl_language.specs.Scripts.{over, element_text as element_name};
 ghost use Rattle.tcl_text.specs.Writing.{fault_message};
@@ -17,8 +16,7 @@ ghost use Rattle.tcl_run.specs.declared.interruption.Interruption.TheVariants.{M
 
 use std::alloc::{AllocError, Global};
 use std::mem;
-use tcl_flow::completion::{Completion, OK, Options};
-use tcl_flow::messages::no_errorcode;
+use tcl_flow::completion;
 use tcl_parser::script::Script;
 use tcl_run::failure::{failure, too_long};
 use tcl_run::interruption::Interruption;
@@ -161,26 +159,7 @@ fn ended(alloc: Global, text: &String) -> Interruption
     let Ok(text) = Text::new(alloc, text.as_str()) else {
         return Interruption::Memory;
     };
-    match ordinary(alloc, Value::from_short_text(text)) {
-        Ok(completion) => Interruption::of_completion(alloc, completion),
-        Err(_) => Interruption::Memory,
-    }
-}
-
-/// The ordinary completion of this text.
-#[inline(never)]
-pub fn ordinary(alloc: Global, text: Value) -> Result<Completion, AllocError>
-    ensures { IfOk result (λ c. completion_of c ≡ ok text) }
-{
-    Ok(Completion {
-        code: OK,
-        text,
-        options: Options {
-            code: OK,
-            level: 0,
-            errorcode: no_errorcode(alloc)?,
-        },
-    })
+    Interruption::of_completion(alloc, completion::ok(Value::from_short_text(text)))
 }
 
 /// Ends an element: its value goes to the word's text before it.

@@ -1,15 +1,15 @@
 //! The commands that end scripts.
-ghost use Rattle.std.specs.Prelude.{◌≡◌, [], IfOk, pos};
+ghost use Rattle.std.specs.Prelude.{◌≡◌, [], IfOk};
 ghost use Rattle.tcl_core.specs.Endings as core;
 ghost use Rattle.tcl_flow.specs.View.{completion_of};
 ghost use Rattle.tcl_language.specs.Control as control;
+ghost use Rattle.tcl_run.specs.Ends.{Interrupts};
 ghost use Rattle.tcl_run.specs.Plain.{Acts};
 ghost use Rattle.tcl_run.specs.Runs.{IsLevel};
 ghost use Rattle.tcl_commands.specs.Endings.{error_of, TellsOptions};
 
 use std::alloc::{AllocError, Global};
 use tcl_flow::completion::{self, BREAK, CONTINUE, Completion, ERROR, Options};
-use tcl_flow::messages::no_errorcode;
 use tcl_flow::reading::{OptionsError, return_words};
 use tcl_run::failure::{failure, wrong_args};
 use tcl_run::interruption::Interruption;
@@ -17,10 +17,10 @@ use tcl_tree::tree::{Place, Tree};
 use tcl_value::value::Value;
 
 /// The error of this message, of no kind.
-fn plain_error(alloc: Global, message: &Value) -> Result<Completion, AllocError>
+fn plain_error(message: &Value) -> Result<Completion, AllocError>
     ensures { IfOk result (λ c. completion_of c ≡ core.error message.now) }
 {
-    completion::error(alloc, message.clone()?)
+    Ok(completion::error(message.clone()?))
 }
 
 /// The error of this message, of this kind.
@@ -33,7 +33,7 @@ fn error_of(message: &Value, errorcode: &Value) -> Result<Completion, AllocError
         options: Options {
             code: ERROR,
             level: 0,
-            errorcode: errorcode.clone()?,
+            errorcode: Some(errorcode.clone()?),
         },
     })
 }
@@ -52,8 +52,8 @@ pub fn error(
     ensures level { IsLevel tree.old tree.new }
 {
     match args {
-        [message] => Err(Interruption::of_completion(alloc, plain_error(alloc, message)?)),
-        [message, _] => Err(Interruption::of_completion(alloc, plain_error(alloc, message)?)),
+        [message] => Err(Interruption::of_completion(alloc, plain_error(message)?)),
+        [message, _] => Err(Interruption::of_completion(alloc, plain_error(message)?)),
         [message, _, errorcode] => Err(Interruption::of_completion(
             alloc,
             error_of(message, errorcode)?,
@@ -62,34 +62,11 @@ pub fn error(
     }
 }
 
-/// A break, which ends the loop whose body it is in.
-fn break_of(alloc: Global) -> Result<Completion, AllocError>
-    ensures { IfOk result (λ c. completion_of c ≡ core.completion (pos 3) []) }
+/// The completion of this code with no text.
+fn bare(alloc: Global, code: i64) -> Interruption
+    ensures { Interrupts result (λ e. e ≡ core.Reply.Completed (core.completion code [])) }
 {
-    Ok(Completion {
-        code: BREAK,
-        text: Value::empty(),
-        options: Options {
-            code: BREAK,
-            level: 0,
-            errorcode: no_errorcode(alloc)?,
-        },
-    })
-}
-
-/// A continue, which ends a turn of the loop whose body it is in.
-fn continue_of(alloc: Global) -> Result<Completion, AllocError>
-    ensures { IfOk result (λ c. completion_of c ≡ core.completion (pos 4) []) }
-{
-    Ok(Completion {
-        code: CONTINUE,
-        text: Value::empty(),
-        options: Options {
-            code: CONTINUE,
-            level: 0,
-            errorcode: no_errorcode(alloc)?,
-        },
-    })
+    Interruption::of_completion(alloc, Completion::new(code, Value::empty()))
 }
 
 /// `break`
@@ -106,7 +83,7 @@ pub fn breaks(
     ensures level { IsLevel tree.old tree.new }
 {
     match args {
-        [] => Err(Interruption::of_completion(alloc, break_of(alloc)?)),
+        [] => Err(bare(alloc, BREAK)),
         _ => Err(wrong_args(alloc, "break")),
     }
 }
@@ -125,7 +102,7 @@ pub fn continues(
     ensures level { IsLevel tree.old tree.new }
 {
     match args {
-        [] => Err(Interruption::of_completion(alloc, continue_of(alloc)?)),
+        [] => Err(bare(alloc, CONTINUE)),
         _ => Err(wrong_args(alloc, "continue")),
     }
 }

@@ -43,7 +43,7 @@ caught_ok (Err (interruption.Cut x)) r c P e h p = let clash : Err (interruption
 -- what can't be caught goes further
 pub caught_err : (ended : Result Text Interruption) (r : Result Completion Interruption) (i : Interruption) (P : Reply → Type 0) → r ≡ Err i → Catches ended r → IfEnded ended P → Interrupts i (λ e. P e × IsQuit e)
 caught_err (Ok text) (Ok d) i P e h p = let clash : Ok d ≡ Err i = e in cc
-caught_err (Ok text) (Err j) i P e h p = let same : j ≡ i = cc in subst (λ (x : Interruption). Interrupts x (λ e. P e × IsQuit e)) (sym h ∙ same) tt
+caught_err (Ok text) (Err j) i P e h p = absurd h
 caught_err (Err interruption.Memory) r i P e h p = let same : Err interruption.Memory ≡ Err i = sym h ∙ e in let is : interruption.Memory ≡ i = cc in subst (λ (x : Interruption). Interrupts x (λ e. P e × IsQuit e)) is tt
 caught_err (Err (interruption.Completed d)) r i P e h p = let clash : Ok d.value ≡ Err i = sym h ∙ e in cc
 caught_err (Err (interruption.Stopped s)) r i P e h p = let same : Err (interruption.Stopped s) ≡ Err i = sym h ∙ e in let is : interruption.Stopped s ≡ i = cc in subst (λ (x : Interruption). Interrupts x (λ e. P e × IsQuit e)) is (p, tt)

@@ -1,6 +1,8 @@
 -- What is a run over a host as an outside is a run with the host, and the whole evaluation.
 use Rattle.std.proofs.Common.{◌≡◌, ◌∙◌, ℕ, ◌+◌, Bool, true, false, [], ◌∷◌, Option, None, Some, refl, sym, ap, subst}
 use Rattle.std.specs.Prelude.{Result, Ok, Err, IfOk, IfSome, is_some, nat_le}
+use Rattle.tcl_budgets.specs.Laws.{ScriptsKeepBudgets}
+use Rattle.tcl_budgets.proofs.Tables.{orderly}
 use Rattle.tcl_core.specs.Entries.Entry.{Eval}
 use Rattle.tcl_core.specs.Lives.{End as Ending, Whole, limited, unlimited}
 use Rattle.tcl_core.specs.Paths.{Path, Text}
@@ -25,7 +27,7 @@ use Rattle.tcl_tree.specs.Own.{Own}
 use Rattle.tcl_tree.specs.TreeOf.{tree_of, marks_of}
 use Rattle.tcl_tree.specs.declared.tree.Tree.{Tree as Table}
 use Rattle.tcl_tree.proofs.CoreLemmas.{top_there}
-use Rattle.tcl_evaluator.specs.Running.{IsOpenRun, IsRun, IsWhole, ending_of, first_of, most_steps, root_count, unfit}
+use Rattle.tcl_evaluator.specs.Running.{IsBudgeted, IsOpenRun, IsRun, IsWhole, ending_of, first_of, most_steps, root_count, unfit}
 use Rattle.tcl_evaluator.specs.declared.running.End.{End}
 use Rattle.tcl_evaluator.specs.declared.running.Refused.{Refused}
 use Rattle.tcl_evaluator.specs.declared.running.Refused.TheVariants as refused
@@ -87,3 +89,14 @@ module _ {S : Type 0} (step : S → Request → HostReply → S → Type 0) (old
   pub if_whole : (r : Result End Refused) → IfSome (unfit old path script limit) (λ x. r ≡ Err x) → IfOk r (IsOpenRun (hosted step) old o path script (root_count old + limit) new z) → IfOk r (IsWhole step old o path script limit new z)
   if_whole (Ok e) why run = is_whole e (fits_there (Ok e) e refl why) (is_hosted step old o path script (root_count old + limit) new z e run)
   if_whole (Err e) why run = tt
+
+  -- it keeps all budgets, as each whole evaluation in a table of interpreters does
+  is_budgeted : ScriptsKeepBudgets → (e : End) → IsWhole step old o path script limit new z e → IsBudgeted step old o path script limit new z e
+  is_budgeted law e w = record {
+    whole = w;
+    budget = law (marks_of old).integers (tree_of old) (tree_of new) path script limit w.replies (ending_of e) w.outs w.whole (orderly old);
+  }
+
+  pub if_budgeted : {E : Type 0} → ScriptsKeepBudgets → (r : Result End E) → IfOk r (IsWhole step old o path script limit new z) → IfOk r (IsBudgeted step old o path script limit new z)
+  if_budgeted law (Ok e) w = is_budgeted law e w
+  if_budgeted law (Err e) w = tt

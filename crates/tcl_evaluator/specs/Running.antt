@@ -1,5 +1,6 @@
 -- What contracts see of the run of a script.
 use Rattle.std.specs.Prelude.{◌≡◌, ℕ, ◌+◌, Bool, true, false, List, [], nat_le, Option, Some, None, is_some, Result, Ok, Err, IfOk}
+use Rattle.tcl_budgets.specs.Budgets.{KeepsBudget}
 use Rattle.tcl_core.specs.Endings.{Reply, ok}
 use Rattle.tcl_core.specs.Endings.Reply.{Completed}
 use Rattle.tcl_core.specs.Entries.{Answer}
@@ -86,6 +87,12 @@ pub record IsWhole {S : Type 0} (step : S → Request → HostReply → S → Ty
   pub outs : List (Event Own)
   pub whole : Whole (language (marks_of old).integers) (tree_of old) path script limit replies (ending_of e) outs (tree_of new)
   pub belongs : Belongs step o outs replies z
+
+-- It keeps the budget of each interpreter: of all that happens in that whole evaluation, and of the trees before and after it, all is so that `KeepsBudget` says of
+-- steps, counts, limits, stops and depths.
+pub record IsBudgeted {S : Type 0} (step : S → Request → HostReply → S → Type 0) (old : Table) (o : S) (path : Path) (script : Text) (limit : ℕ) (new : Table) (z : S) (e : End) : Type 0 where
+  pub whole : IsWhole step old o path script limit new z e
+  pub budget : KeepsBudget (tree_of old) limit whole.whole.tape (tree_of new)
 
 -- what is said of an end that there is
 abbrev pub IfSaid : Result Text Interruption → (Reply → Type 0) → Type 0

@@ -187,8 +187,9 @@ fn left_proc(alloc: Global, ended: Result<Value, Interruption>) -> Result<Value,
 {
     match ended {
         Err(Interruption::Completed(completion)) => {
-            let left = leave_proc(alloc, Box::into_inner(completion))?;
-            Err(Interruption::of_completion(alloc, left))
+            let mut completion = completion;
+            leave_proc(alloc, &mut completion)?;
+            Err(Interruption::Completed(completion))
         }
         other => other,
     }

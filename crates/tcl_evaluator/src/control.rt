@@ -63,7 +63,7 @@ pub fn catch<O: Outside>(
         return Err(wrong_args(alloc, CATCH));
     }
     let mut script = script.clone()?;
-    let completion = caught(alloc, eval_value(tree, alloc, outside, place, &mut script))?;
+    let completion = caught(eval_value(tree, alloc, outside, place, &mut script))?;
     keep_caught(tree, alloc, place, names, &completion)?;
     Ok(Value::from_int(completion.code))
 }

@@ -9,13 +9,13 @@ ghost use Rattle.tcl_core.specs.Trees as core;
 ghost use Rattle.tcl_run.specs.Ends.{IfEnded};
 ghost use Rattle.tcl_tree.specs.TreeOf.{marks_of, tree_of, Names};
 ghost use Rattle.tcl_core.specs.Lives.{end_at};
-ghost use Rattle.tcl_evaluator.specs.Running.{IsOpenRun, IsRun, IsWhole, Tells, ending_of, unfit, root_count, root_limit};
+ghost use Rattle.tcl_evaluator.specs.Running.{IsBudgeted, IsOpenRun, IsRun, IsWhole, Tells, ending_of, unfit, root_count, root_limit};
 ghost use Rattle.tcl_evaluator.specs.declared.running.Refused.TheVariants.{Memory};
 
 use crate::crossing::serve_eval;
 use std::alloc::{AllocError, Global};
-use tcl_calls::words::ordinary;
-use tcl_flow::completion::Completion;
+use tcl_budgets::scripts_keep_budgets;
+use tcl_flow::completion::{self, Completion};
 use tcl_flow::stop::{Stop, StopKind};
 use tcl_host::host::Host;
 use tcl_run::interruption::Interruption;
@@ -80,7 +80,9 @@ pub fn eval<H: Host>(
     ensures broken { IsErrOf result Memory → (marks_of tree.new).broken ≡ true }
     ensures runs { IfOk result (λ end. IsRun (hosted H.step) tree.old host.old path.now script.now (root_count tree.old + limit) tree.new host.new end) }
     ensures whole { IfOk result (λ end. IsWhole H.step tree.old host.old path.now script.now limit tree.new host.new end) }
+    ensures budget { IfOk result (λ end. IsBudgeted H.step tree.old host.old path.now script.now limit tree.new host.new end) }
 {
+    scripts_keep_budgets();
     open_run(tree, alloc, host, path, script, limit)
 }
 
@@ -212,7 +214,7 @@ fn told(alloc: Global, path: &[Text], ended: Result<Value, Interruption>) -> Res
     ensures { Tells path.now ended result }
 {
     match ended {
-        Ok(text) => Ok(End::Done(ordinary(alloc, text)?)),
+        Ok(text) => Ok(End::Done(completion::ok(text))),
         Err(Interruption::Completed(completion)) => Ok(End::Done(Box::into_inner(completion))),
         Err(Interruption::Stopped(stop)) => stopped(alloc, path, stop),
         Err(Interruption::Exited(status)) => Ok(End::Exit(status)),

@@ -1,6 +1,5 @@
 -- A message with a number in it is short.
 use Rattle.tcl_core.specs.Endings.{Completion, settled, error}
-use Rattle.std.specs.declared.alloc.AllocError.{AllocError}
 use Rattle.tcl_flow.specs.declared.completion.Completion.{Completion as Made}
 use Rattle.tcl_flow.specs.View.{completion_of}
 use Rattle.std.proofs.Common.{◌≡◌, ◌∙◌, sym, Result, Ok, Err, IfOk, ap, refl, ℕ, zero, suc, pos, negsuc, ◌+◌, ◌≤◌, ℤ, List, ◌++◌, length, length-append, FitsSigned, w64, codes, arith}
@@ -29,10 +28,9 @@ settled_other (pos (suc (suc (suc (suc zero))))) c a b d e = absurd (e refl)
 settled_other (pos (suc (suc (suc (suc (suc n)))))) c a b d e = refl
 settled_other (negsuc n) c a b d e = refl
 
-pub made_error : (r : Result Made AllocError) (message : List ℕ) (n : ℤ) → (n ≡ pos 0 → Prim.⊥) → (n ≡ pos 1 → Prim.⊥) → (n ≡ pos 3 → Prim.⊥) → (n ≡ pos 4 → Prim.⊥) →
-    message ≡ codes "command returned bad code: " ++ signed_decimal n → IfOk r (λ c. completion_of c ≡ error message) → IfOk r (λ c. (of : Completion) → completion_of c ≡ settled n of)
-made_error (Err e) message n a b d f m h = tt
-made_error (Ok c) message n a b d f m h = λ of. h ∙ ap error m ∙ sym (settled_other n of a b d f)
+pub made_error : (c : Made) (message : List ℕ) (n : ℤ) → (n ≡ pos 0 → Prim.⊥) → (n ≡ pos 1 → Prim.⊥) → (n ≡ pos 3 → Prim.⊥) → (n ≡ pos 4 → Prim.⊥) →
+    message ≡ codes "command returned bad code: " ++ signed_decimal n → completion_of c ≡ error message → (of : Completion) → completion_of c ≡ settled n of
+made_error c message n a b d f m h of = h ∙ ap error m ∙ sym (settled_other n of a b d f)
 
 -- ## What a text gives
 

@@ -1,10 +1,10 @@
 //! Completions: a code, a text and options.
-ghost use Rattle.std.specs.Prelude.{◌≡◌, ◌≢◌, IfOk, pos};
-ghost use Rattle.tcl_core.specs.Endings.{settle, leave_proc, lowered, unreturned, error, settled};
+ghost use Rattle.std.specs.Prelude.{◌≡◌, ◌≢◌, IfOk, OnOk, OnErr, pos};
+ghost use Rattle.tcl_core.specs.Endings.{settle, leave_proc, lowered, unreturned, ok, error, settled};
 ghost use Rattle.tcl_core.specs.Endings as core;
 ghost use Rattle.tcl_flow.specs.View.{completion_of};
 
-use crate::messages::{bad_code, break_outside, continue_outside, no_errorcode};
+use crate::messages::{bad_code, break_outside, continue_outside};
 use std::alloc::{AllocError, Global};
 use tcl_value::value::Value;
 
@@ -26,8 +26,8 @@ pub struct Options {
     pub code: i64,
     /// How many levels a return has left.
     pub level: u64,
-    /// What kind of error it is, a list; `NONE` where it is of no kind.
-    pub errorcode: Value,
+    /// What kind of error it is, a list; none where it is of no kind, which is told as `NONE`.
+    pub errorcode: Option<Value>,
 }
 
 /// How a script ends.
@@ -41,108 +41,103 @@ pub struct Completion {
     pub options: Options,
 }
 
-/// An error with this message and no errorcode.
-///
-/// # Errors
-/// Want of memory.
-pub fn error(alloc: Global, message: Value) -> Result<Completion, AllocError>
-    ensures { IfOk result (λ c. completion_of c ≡ error message) }
-{
-    Ok(Completion {
-        code: ERROR,
-        text: message,
-        options: Options {
-            code: ERROR,
-            level: 0,
-            errorcode: no_errorcode(alloc)?,
-        },
-    })
-}
-
-/// A return one level nearer: at the last level it gives its code.
-fn lowered(completion: Completion) -> Completion
-    ensures { completion_of result ≡ lowered (completion_of completion) }
-{
-    let Completion {
-        code,
-        text,
-        options,
-    } = completion;
-    let Options {
-        code: last,
-        level,
-        errorcode,
-    } = options;
-    if level <= 1 {
-        return Completion {
-            code: last,
+impl Completion {
+    /// The completion of this code and text, with no level left and of no kind of error.
+    pub fn new(code: i64, text: Value) -> Completion
+        ensures { completion_of result ≡ core.completion code text }
+    {
+        Completion {
+            code,
             text,
             options: Options {
-                code: last,
+                code,
                 level: 0,
-                errorcode,
+                errorcode: None,
             },
-        };
-    }
-    Completion {
-        code,
-        text,
-        options: Options {
-            code: last,
-            level: level - 1,
-            errorcode,
-        },
+        }
     }
 }
 
-/// The completion of a procedure whose body ended so: a return comes one level nearer, a break or a continue is an error, and
-/// everything else passes.
+/// The ordinary completion of this text.
+pub fn ok(text: Value) -> Completion
+    ensures { completion_of result ≡ ok text }
+{
+    Completion::new(OK, text)
+}
+
+/// An error with this message and no errorcode.
+pub fn error(message: Value) -> Completion
+    ensures { completion_of result ≡ error message }
+{
+    Completion::new(ERROR, message)
+}
+
+/// Brings a return one level nearer: at the last level it gives its code.
+fn lower(completion: &mut Completion)
+    ensures { completion_of completion.new ≡ lowered (completion_of completion.old) }
+{
+    let options = &mut completion.options;
+    if options.level > 1 {
+        options.level -= 1;
+    } else {
+        options.level = 0;
+        completion.code = options.code;
+    }
+}
+
+/// Makes a completion that of a procedure whose body ended so: a return comes one level nearer, a break or a continue is an error,
+/// and everything else passes.
 ///
 /// # Errors
 /// Want of memory.
-pub fn leave_proc(alloc: Global, completion: Completion) -> Result<Completion, AllocError>
-    ensures { IfOk result (λ c. completion_of c ≡ leave_proc (completion_of completion)) }
+pub fn leave_proc(alloc: Global, completion: &mut Completion) -> Result<(), AllocError>
+    ensures left { OnOk result (completion_of completion.new ≡ leave_proc (completion_of completion.old)) }
+    ensures unchanged { OnErr result (completion.new ≡ completion.old) }
 {
     match completion.code {
-        RETURN => Ok(lowered(completion)),
-        BREAK => error(alloc, break_outside(alloc)?),
-        CONTINUE => error(alloc, continue_outside(alloc)?),
-        _ => Ok(completion),
+        RETURN => lower(completion),
+        BREAK => *completion = error(break_outside(alloc)?),
+        CONTINUE => *completion = error(continue_outside(alloc)?),
+        _ => {}
+    }
+    Ok(())
+}
+
+/// Makes a completion that of a script that was read from a file, whose own ended so: a return comes one level nearer, and everything
+/// else passes.
+pub fn leave_file(completion: &mut Completion)
+    ensures { completion_of completion.new ≡ unreturned completion.old.code (completion_of completion.old) }
+{
+    if completion.code == RETURN {
+        lower(completion);
     }
 }
 
-/// The completion of a script that was read from a file, whose own ended so: a return comes one level nearer, and everything else
-/// passes.
-pub fn unreturned(completion: Completion) -> Completion
-    ensures { completion_of result ≡ unreturned completion.code (completion_of completion) }
-{
-    match completion.code {
-        RETURN => lowered(completion),
-        _ => completion,
-    }
-}
-
-/// What is left of a completion where only ok and error may pass: a return is lowered by one level first; then a break, a continue
-/// and every other code are errors.
+/// Makes a completion what is left of it where only ok and error may pass: a return is lowered by one level first; then a break, a
+/// continue and every other code are errors.
 ///
 /// # Errors
-/// Want of memory.
-pub fn settle(alloc: Global, completion: Completion) -> Result<Completion, AllocError>
-    ensures { IfOk result (λ c. completion_of c ≡ settle (completion_of completion)) }
+/// Want of memory; a return is lowered then all the same.
+pub fn settle(alloc: Global, completion: &mut Completion) -> Result<(), AllocError>
+    ensures settled { OnOk result (completion_of completion.new ≡ settle (completion_of completion.old)) }
+    ensures lowered { OnErr result (completion_of completion.new ≡ unreturned completion.old.code (completion_of completion.old)) }
 {
-    settled(alloc, unreturned(completion))
+    leave_file(completion);
+    settle_code(alloc, completion)
 }
 
 /// The same, of one that is no return with its last level.
-fn settled(alloc: Global, completion: Completion) -> Result<Completion, AllocError>
-    ensures { IfOk result (λ c. completion_of c ≡ settled completion.code (completion_of completion)) }
+fn settle_code(alloc: Global, completion: &mut Completion) -> Result<(), AllocError>
+    ensures settled { OnOk result (completion_of completion.new ≡ settled completion.old.code (completion_of completion.old)) }
+    ensures unchanged { OnErr result (completion.new ≡ completion.old) }
 {
     match completion.code {
-        OK | ERROR => Ok(completion),
-        BREAK => error(alloc, break_outside(alloc)?),
-        CONTINUE => error(alloc, continue_outside(alloc)?),
-        code => other_code(alloc, code),
+        OK | ERROR => {}
+        BREAK => *completion = error(break_outside(alloc)?),
+        CONTINUE => *completion = error(continue_outside(alloc)?),
+        code => *completion = other_code(alloc, code)?,
     }
+    Ok(())
 }
 
 /// The error that a code is that has no name.
@@ -154,5 +149,5 @@ fn other_code(alloc: Global, code: i64) -> Result<Completion, AllocError>
     ensures { IfOk result (λ c. (of : core.Completion) → completion_of c ≡ settled code of) }
 {
     let message = bad_code(alloc, code)?;
-    error(alloc, message)
+    Ok(error(message))
 }

@@ -52,13 +52,3 @@ pub fn bad_code(alloc: Global, code: i64) -> Result<Value, AllocError>
     write!(text, "{code}")?;
     short_value(alloc, text)
 }
-
-/// `NONE`, the errorcode of an error that has no other.
-///
-/// # Errors
-/// Want of memory.
-pub fn no_errorcode(alloc: Global) -> Result<Value, AllocError>
-    ensures { IfOk result (λ value. value ≡ codes "NONE") }
-{
-    short_value(alloc, String::from_str(alloc, "NONE")?)
-}

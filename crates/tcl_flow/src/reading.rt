@@ -131,7 +131,7 @@ impl Options {
                 Ok(None)
             }
             OptionName::Errorcode => {
-                self.errorcode = value;
+                self.errorcode = Some(value);
                 Ok(None)
             }
             OptionName::Nested => Ok(Some(options_given(alloc, value)?)),
@@ -211,12 +211,7 @@ impl Options {
         ensures refused { IfErr result (λ e. IsRefused e (λ f. Reads style (options_in words.now) plain (Err f))) }
         ensures small { IfOk result (λ o. o.level < 2 ^ 63) }
     {
-        read_pending(
-            alloc,
-            style,
-            Options::new(alloc)?,
-            pending_words(alloc, words)?,
-        )
+        read_pending(alloc, style, Options::new(), pending_words(alloc, words)?)
     }
 }
 

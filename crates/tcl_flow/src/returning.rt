@@ -4,11 +4,11 @@ ghost use Rattle.std.specs.Fmt.{decimal, signed_decimal};
 ghost use Rattle.tcl_flow.specs.Caught.{seen_caught};
 ghost use Rattle.tcl_value.specs.Limits.{IsPast};
 ghost use Rattle.tcl_value.specs.Writing.{write};
-ghost use Rattle.tcl_flow.specs.View.{options_of, completion_of};
+ghost use Rattle.std.specs.Option.{option_copied};
+ghost use Rattle.tcl_flow.specs.View.{options_of, completion_of, errorcode_of};
 ghost use Rattle.tcl_flow.specs.Returning.{code_word, code_of, level_of, plain, raised, returned, errorcode_shown, shown, caught, options_message};
 
 use crate::completion::{Completion, ERROR, OK, Options, RETURN};
-use crate::messages::no_errorcode;
 use std::alloc::{AllocError, Global};
 use tcl_text::integer::Integers;
 use tcl_text::list::write_list;
@@ -99,17 +99,14 @@ pub fn level_of(style: Integers, value: &mut Value) -> Option<u64>
 
 impl Options {
     /// The options of a return that is given none: its text is that of the procedure that it leaves.
-    ///
-    /// # Errors
-    /// Want of memory.
-    pub fn new(alloc: Global) -> Result<Options, AllocError>
-        ensures { IfOk result (λ options. options_of options ≡ plain) }
+    pub fn new() -> Options
+        ensures { options_of result ≡ plain }
     {
-        Ok(Options {
+        Options {
             code: OK,
             level: 1,
-            errorcode: no_errorcode(alloc)?,
-        })
+            errorcode: None,
+        }
     }
 
     /// The same, where a return of a return is a return one level higher.
@@ -159,14 +156,14 @@ pub fn make_return(options: Options, text: Value) -> Completion
 struct CaughtOptions<'a> {
     code: i64,
     level: u64,
-    errorcode: &'a Value,
+    errorcode: Option<&'a Value>,
 }
 
 /// What a caught completion shows: of one that is no return its code, at level 0.
 fn caught(completion: &Completion) -> CaughtOptions<'_>
     ensures { seen_caught result ≡ caught (completion_of completion.now) }
 {
-    let errorcode = &completion.options.errorcode;
+    let errorcode = completion.options.errorcode.as_ref();
     match completion.code {
         RETURN => CaughtOptions {
             code: completion.options.code,
@@ -190,17 +187,32 @@ fn push_pair(words: &mut Vec<Text>, alloc: Global, key: &str, value: Text) -> Re
     Ok(())
 }
 
+/// The text of an errorcode.
+fn errorcode_text(alloc: Global, errorcode: Option<&Value>) -> Result<Text, AllocError>
+    ensures { IfOk result (λ text. text ≡ errorcode_of (option_copied errorcode.entry)) }
+{
+    match errorcode {
+        Some(errorcode) => errorcode.text(alloc),
+        None => Text::new(alloc, "NONE"),
+    }
+}
+
 /// Adds the errorcode of an error.
 fn push_errorcode(
     words: &mut Vec<Text>,
     alloc: Global,
     code: i64,
-    errorcode: &Value,
+    errorcode: Option<&Value>,
 ) -> Result<(), AllocError>
-    ensures { OnOk result (words.new.items ≡ words.old.items ++ errorcode_shown code errorcode.now) }
+    ensures { OnOk result (words.new.items ≡ words.old.items ++ errorcode_shown code (errorcode_of (option_copied errorcode.entry))) }
 {
     match code {
-        ERROR => push_pair(words, alloc, "-errorcode", errorcode.text(alloc)?),
+        ERROR => push_pair(
+            words,
+            alloc,
+            "-errorcode",
+            errorcode_text(alloc, errorcode)?,
+        ),
         _ => Ok(()),
     }
 }

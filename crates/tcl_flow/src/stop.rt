@@ -42,6 +42,6 @@ impl StopKind {
                 "too many nested evaluations (infinite loop?)",
             )?,
         };
-        error(alloc, short_value(alloc, message)?)
+        Ok(error(short_value(alloc, message)?))
     }
 }

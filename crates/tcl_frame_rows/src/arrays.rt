@@ -115,3 +115,15 @@ fn what_holds_no_value_is_not_lent(rt: HostRuntime) -> Result<(), Fail> {
     );
     Ok(())
 }
+
+/// More names than are looked through one by one keep their order as they come and go, as do the elements of an array.
+#[test]
+fn many_names_keep_their_order(rt: HostRuntime) -> Result<(), Fail> {
+    let calls =
+        "set t(a) 1; set t(b) 2; set t(c) 3; set t(d) 4; set t(e) 5; set t(f) 6; set t(g) 7; set t(h) 8; set t(a) 0; set t(i) 9; set t(j) 10; set t(b) 11; elements t; empty t c; empty t {[e-i]}; set t(c) 12; elements t; get t(d); get t(k)";
+    assert_eq!(rt;
+        answers(rt.alloc(), calls)?.as_str(),
+        "-; -; -; -; -; -; -; -; -; -; -; -; a 0 b 11 c 3 d 4 e 5 f 6 g 7 h 8 i 9 j 10; -; -; -; a 0 b 11 d 4 j 10 c 12; 4; can't read \"t(k)\": no such element in array"
+    );
+    Ok(())
+}

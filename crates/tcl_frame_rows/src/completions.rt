@@ -2,22 +2,22 @@
 use std::alloc::{AllocError, Global};
 use std::test::Fail;
 use tcl_flow::completion::{
-    BREAK, Completion, ERROR, OK, Options, RETURN, leave_proc, settle, unreturned,
+    BREAK, Completion, ERROR, OK, Options, RETURN, leave_file, leave_proc, settle,
 };
-use tcl_flow::messages::{continue_outside, no_errorcode};
+use tcl_flow::messages::continue_outside;
 use tcl_text::text::Text;
 use tcl_value::value::Value;
 
-fn returned(alloc: Global, code: i64, level: u64) -> Result<Completion, AllocError> {
-    Ok(Completion {
+fn returned(code: i64, level: u64) -> Completion {
+    Completion {
         code: RETURN,
         text: Value::from_int(1),
         options: Options {
             code,
             level,
-            errorcode: no_errorcode(alloc)?,
+            errorcode: None,
         },
-    })
+    }
 }
 
 fn shown(alloc: Global, completion: &Completion) -> Result<Text, AllocError> {
@@ -26,18 +26,21 @@ fn shown(alloc: Global, completion: &Completion) -> Result<Text, AllocError> {
 
 #[test]
 fn settles(rt: HostRuntime) -> Result<(), Fail> {
-    let seven = settle(rt.alloc(), returned(rt.alloc(), 7, 1)?)?;
+    let mut seven = returned(7, 1);
+    settle(rt.alloc(), &mut seven)?;
     assert_eq!(rt; seven.code, ERROR);
     assert_eq!(rt;
         shown(rt.alloc(), &seven)?.as_str(),
         "command returned bad code: 7"
     );
-    let further = settle(rt.alloc(), returned(rt.alloc(), OK, 2)?)?;
+    let mut further = returned(OK, 2);
+    settle(rt.alloc(), &mut further)?;
     assert_eq!(rt;
         shown(rt.alloc(), &further)?.as_str(),
         "command returned bad code: 2"
     );
-    let done = settle(rt.alloc(), returned(rt.alloc(), OK, 1)?)?;
+    let mut done = returned(OK, 1);
+    settle(rt.alloc(), &mut done)?;
     assert_eq!(rt; done.code, OK);
     assert_eq!(rt; shown(rt.alloc(), &done)?.as_str(), "1");
     Ok(())
@@ -45,9 +48,10 @@ fn settles(rt: HostRuntime) -> Result<(), Fail> {
 
 #[test]
 fn leaves_procedures(rt: HostRuntime) -> Result<(), Fail> {
-    let returned_break = leave_proc(rt.alloc(), returned(rt.alloc(), BREAK, 1)?)?;
-    assert_eq!(rt; returned_break.code, BREAK);
-    let broken = leave_proc(rt.alloc(), returned_break)?;
+    let mut broken = returned(BREAK, 1);
+    leave_proc(rt.alloc(), &mut broken)?;
+    assert_eq!(rt; broken.code, BREAK);
+    leave_proc(rt.alloc(), &mut broken)?;
     assert_eq!(rt; broken.code, ERROR);
     assert_eq!(rt;
         shown(rt.alloc(), &broken)?.as_str(),
@@ -64,10 +68,13 @@ fn leaves_procedures(rt: HostRuntime) -> Result<(), Fail> {
 /// A return that leaves a file comes one level nearer, and nothing else changes there.
 #[test]
 fn leaves_files(rt: HostRuntime) -> Result<(), Fail> {
-    let broken = unreturned(returned(rt.alloc(), BREAK, 1)?);
+    let mut broken = returned(BREAK, 1);
+    leave_file(&mut broken);
     assert_eq!(rt; broken.code, BREAK);
-    assert_eq!(rt; unreturned(broken).code, BREAK);
-    let further = unreturned(returned(rt.alloc(), OK, 3)?);
+    leave_file(&mut broken);
+    assert_eq!(rt; broken.code, BREAK);
+    let mut further = returned(OK, 3);
+    leave_file(&mut further);
     assert_eq!(rt; further.code, RETURN);
     assert_eq!(rt; further.options.level, 2);
     Ok(())

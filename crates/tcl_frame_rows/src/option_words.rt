@@ -1,9 +1,10 @@
 //! The options of `return`.
-use std::alloc::Global;
+use std::alloc::{AllocError, Global};
 use std::test::Fail;
 use tcl_flow::completion::{BREAK, ERROR, OK, Options, RETURN};
 use tcl_flow::reading::{OptionsError, return_words};
 use tcl_text::integer::Integers;
+use tcl_text::text::Text;
 use tcl_value::value::Value;
 
 /// The words of a list.
@@ -13,6 +14,14 @@ fn words(alloc: Global, list: &str) -> Result<Vec<Value>, Fail> {
         words.push(Value::from_text(word)?)?;
     }
     Ok(words)
+}
+
+/// An errorcode as it is told.
+fn told(alloc: Global, errorcode: Option<&Value>) -> Result<Text, AllocError> {
+    match errorcode {
+        Some(errorcode) => errorcode.text(alloc),
+        None => Text::new(alloc, "NONE"),
+    }
 }
 
 /// The options of a return: names are dropped that mean none, later ones win, and a dict of options stands for its entries.
@@ -41,7 +50,7 @@ fn options_are_read(rt: HostRuntime) -> Result<(), Fail> {
         assert_eq!(rt; options.code, code, "{list}");
         assert_eq!(rt; options.level, level, "{list}");
         assert_eq!(rt;
-            options.errorcode.text(alloc)?.as_str(),
+            told(alloc, options.errorcode.as_ref())?.as_str(),
             errorcode,
             "{list}"
         );

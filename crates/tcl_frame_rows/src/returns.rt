@@ -2,7 +2,6 @@
 use std::alloc::Global;
 use std::test::Fail;
 use tcl_flow::completion::{OK, Options, RETURN, error};
-use tcl_flow::messages::no_errorcode;
 use tcl_flow::returning::{OptionsFault, caught_options, code_of, level_of, make_return};
 use tcl_flow::stop::StopKind;
 use tcl_text::integer::Integers;
@@ -20,7 +19,7 @@ fn return_shows_its_options(rt: HostRuntime) -> Result<(), Fail> {
     let options = Options {
         code: 7,
         level: 2,
-        errorcode: no_errorcode(alloc)?,
+        errorcode: None,
     };
     let returned = make_return(options, value(alloc, "x")?);
     assert_eq!(rt; returned.code, RETURN);
@@ -33,8 +32,8 @@ fn return_shows_its_options(rt: HostRuntime) -> Result<(), Fail> {
 #[test]
 fn error_shows_its_errorcode(rt: HostRuntime) -> Result<(), Fail> {
     let alloc = rt.alloc();
-    let mut boom = error(alloc, value(alloc, "boom")?)?;
-    boom.options.errorcode = value(alloc, "A 1")?;
+    let mut boom = error(value(alloc, "boom")?);
+    boom.options.errorcode = Some(value(alloc, "A 1")?);
     let shown = caught_options(alloc, &boom)?.text(alloc)?;
     assert_eq!(rt; shown.as_str(), "-code 1 -level 0 -errorcode {A 1}");
     Ok(())
@@ -44,7 +43,7 @@ fn error_shows_its_errorcode(rt: HostRuntime) -> Result<(), Fail> {
 #[test]
 fn return_of_a_return_is_one_higher(rt: HostRuntime) -> Result<(), Fail> {
     let alloc = rt.alloc();
-    let mut options = Options::new(alloc)?;
+    let mut options = Options::new();
     options.code = RETURN;
     let returned = make_return(options, value(alloc, "x")?);
     assert_eq!(rt; returned.options.code, OK);

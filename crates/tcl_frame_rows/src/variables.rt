@@ -61,6 +61,71 @@ fn maps_keep_the_order_of_insertion(rt: HostRuntime) -> Result<(), Fail> {
     Ok(())
 }
 
+/// A map of the names `a` to `h`, from 1 on.
+fn eight(alloc: Global) -> Result<NameMap<u32>, AllocError> {
+    let mut map = NameMap::new(alloc);
+    for (name, number) in [
+        ("a", 1),
+        ("b", 2),
+        ("c", 3),
+        ("d", 4),
+        ("e", 5),
+        ("f", 6),
+        ("g", 7),
+        ("h", 8),
+    ] {
+        map.insert(alloc, name, number)?;
+    }
+    Ok(map)
+}
+
+/// The names keep their order past the number up to which they are looked through one by one, and back.
+#[test]
+fn maps_go_past_a_few_names(rt: HostRuntime) -> Result<(), Fail> {
+    let alloc = rt.alloc();
+    let mut map = eight(alloc)?;
+    map.insert_shared(alloc, &text(alloc, "i")?, 9)?;
+    map.insert(alloc, "b", 10)?;
+    assert_eq!(rt;
+        entries(alloc, &map)?.as_str(),
+        "a1 b10 c3 d4 e5 f6 g7 h8 i9 "
+    );
+    map.remove("a");
+    map.remove_matching("[c-h]");
+    map.insert_shared(alloc, &text(alloc, "a")?, 11)?;
+    assert_eq!(rt; entries(alloc, &map)?.as_str(), "b10 i9 a11 ");
+    assert_eq!(rt;
+        map.find("i").map(|found| (found.0, *found.1)),
+        Some((1, 9))
+    );
+    Ok(())
+}
+
+/// A copy of many names is equal to one that was made of them another way, and so is one of few.
+#[test]
+fn copies_of_few_and_many_are_equal(rt: HostRuntime) -> Result<(), Fail> {
+    let alloc = rt.alloc();
+    let mut few = eight(alloc)?;
+    let mut many = eight(alloc)?;
+    many.insert(alloc, "i", 9)?;
+    many.remove("i");
+    assert_eq!(rt;
+        entries(alloc, &many.clone()?)?.as_str(),
+        entries(alloc, &few)?.as_str()
+    );
+    if let Some(number) = few.get_mut_near(7, "h") {
+        *number = 0;
+    }
+    if let Some(number) = many.get_mut_near(0, "h") {
+        *number = 0;
+    }
+    assert_eq!(rt;
+        entries(alloc, &many)?.as_str(),
+        entries(alloc, &few.clone()?)?.as_str()
+    );
+    Ok(())
+}
+
 /// Many names are given values at once, and those that a pattern matches are taken out.
 #[test]
 fn maps_change_many_names(rt: HostRuntime) -> Result<(), Fail> {

@@ -332,7 +332,7 @@ impl<'a> Outside for Player<'a> {
         if self.fate.is_some() {
             return Ok(());
         }
-        let reply = end_told(alloc, ended)?;
+        let reply = end_told(ended)?;
         let exited = exit_of(&reply);
         self.outs.push(Crossing::Done {
             target: Vec::from_clones(alloc, target)?,

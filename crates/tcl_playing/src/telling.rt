@@ -4,7 +4,7 @@ ghost use Rattle.tcl_playing.specs.Answering.{IsExitOf};
 ghost use Rattle.tcl_run.specs.Ends.{IfEnded, Interrupts};
 ghost use Rattle.tcl_watching.specs.Crossings.{reply_of};
 
-use std::alloc::{AllocError, Global};
+use std::alloc::AllocError;
 use tcl_run::interruption::{Cause, Interruption};
 use tcl_value::value::Value;
 use tcl_watching::crossing::{Reply, copy_completion};
@@ -30,14 +30,11 @@ fn interruption_told(interruption: &Interruption) -> Result<Reply, AllocError>
 ///
 /// # Errors
 /// Those of an interruption.
-pub(crate) fn end_told(
-    alloc: Global,
-    ended: &Result<Value, Interruption>,
-) -> Result<Reply, AllocError>
+pub(crate) fn end_told(ended: &Result<Value, Interruption>) -> Result<Reply, AllocError>
     ensures { IfOk result (λ told. IfEnded ended.now (λ e. reply_of told ≡ e)) }
 {
     match ended {
-        Ok(value) => Reply::of_value(alloc, value),
+        Ok(value) => Reply::of_value(value),
         Err(interruption) => interruption_told(interruption),
     }
 }

@@ -1,6 +1,5 @@
 mod Entered
 mod Stopped
-mod Safety
 mod Below
 mod Recorded
 mod Answers

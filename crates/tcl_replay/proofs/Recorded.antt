@@ -1,5 +1,7 @@
 -- What the laws of isolation say of a run that was recorded.
 use Rattle.std.proofs.Common.{◌≡◌, ◌∙◌, ℕ, ◌≤◌, ◌+◌, ◌++◌, Option, Some, sym, ap, subst}
+use Rattle.tcl_budgets.proofs.Orders.{orderly_relimited}
+use Rattle.tcl_budgets.proofs.Tables.{orderly}
 use Rattle.tcl_core.specs.Entries.Entry.{Eval}
 use Rattle.tcl_core.specs.Laws.{ArePlain, AsLimited, IsSafeAt, IsSafeBelow, rest}
 use Rattle.tcl_core.specs.Lives.{React, count_at, limit_at, limited, outcome_of, outs_of}
@@ -28,7 +30,6 @@ use Rattle.tcl_tree.specs.declared.tree.Tree.{Tree as Table}
 use Rattle.tcl_watching.specs.Records.{RecordView}
 use Rattle.tcl_replay.specs.Watched.{AsksTheHostNothing, Counts, CountStaysWithin, IsRecord, IsRecorded, LeavesTheOutside, LimitsStay, Reacts, ReactsSo, ReactsUntil, ScriptsStayWithin}
 use Rattle.tcl_replay.proofs.Below.{below_at, below_same, rest_back}
-use Rattle.tcl_replay.proofs.Safety.{safe_below, safe_limited}
 
 module _ {S : Type 0} (step : S → Request → HostReply → S → Type 0) (old : Table) (o : S) (path : Path) (script : Text) (limit : ℕ) (c : Path) (r : RecordView) (new : Table) (z : S) (e : End) where
   abbrev pub One : Type 0
@@ -94,7 +95,7 @@ module _ {S : Type 0} (step : S → Request → HostReply → S → Type 0) (old
       )
 
   safe_trees : IsSafeBelow T0
-  safe_trees = safe_limited (tree_of old) (Some (root_count old + limit)) (safe_below old)
+  safe_trees = (orderly_relimited (Some (root_count old + limit)) (tree_of old) (orderly old)).safe
 
   safe_first : IsBelowTheTop c → IsSafeAt (tree_of old) c → IsSafeAt T0 c
   safe_first f a = (a.0, same_first f ∙ a.1, a.2)

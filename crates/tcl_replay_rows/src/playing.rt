@@ -5,8 +5,7 @@
 use crate::writing::{crossings, see};
 use std::alloc::{AllocError, Global};
 use std::test::Fail;
-use tcl_flow::completion::{Completion, OK, Options};
-use tcl_flow::messages::no_errorcode;
+use tcl_flow::completion;
 use tcl_playing::moves::Move;
 use tcl_replay::replaying::Replayed;
 use tcl_replay::saving::Saved;
@@ -33,15 +32,7 @@ fn entering(alloc: Global, script: &str) -> Result<Move, Fail> {
 
 /// An ordinary completion that answers a call.
 fn answering(alloc: Global, text: &str) -> Result<Move, Fail> {
-    let completion = Completion {
-        code: OK,
-        text: value(alloc, text)?,
-        options: Options {
-            code: OK,
-            level: 0,
-            errorcode: no_errorcode(alloc)?,
-        },
-    };
+    let completion = completion::ok(value(alloc, text)?);
     Ok(Move::Come(Answer::Replied(Reply::Completed(completion))))
 }
 

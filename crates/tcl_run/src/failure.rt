@@ -20,10 +20,7 @@ use tcl_words::refusal::Refusal;
 fn error(alloc: Global, message: Value) -> Interruption
     ensures { Interrupts result (λ e. e ≡ Completed (core.error message)) }
 {
-    match completion::error(alloc, message) {
-        Ok(completion) => Interruption::of_completion(alloc, completion),
-        Err(_) => Interruption::Memory,
-    }
+    Interruption::of_completion(alloc, completion::error(message))
 }
 
 /// The error that a value would be longer than its limit.

@@ -125,12 +125,12 @@ ok_then (Err e) i p = absurd (cc)
 pub same_bytes : (x y : Text) → bytes_eq x y ≡ true → x ≡ y
 same_bytes x y h = (bytes_eq-Decides x y).0 h
 
-all_at : {K : Type 0} (P : K → Type 0) (ks : List K) (i : ℕ) (k : K) → AllByRecursion P ks → slice_get ks i ≡ Some k → P k
+pub all_at : {K : Type 0} (P : K → Type 0) (ks : List K) (i : ℕ) (k : K) → AllByRecursion P ks → slice_get ks i ≡ Some k → P k
 all_at P [] i k h at = absurd (cc)
 all_at P (j ∷ ks) zero k h at = let same : j ≡ k = cc in subst P same h.0
 all_at P (j ∷ ks) (suc i) k h at = all_at P ks i k h.1 at
 
-key_at : {K V : Type 0} (es : List (K × V)) (i : ℕ) (k : K) (v : V) → slice_get es i ≡ Some (k, v) → slice_get (keys_of es) i ≡ Some k
+pub key_at : {K V : Type 0} (es : List (K × V)) (i : ℕ) (k : K) (v : V) → slice_get es i ≡ Some (k, v) → slice_get (keys_of es) i ≡ Some k
 key_at [] i k v at = absurd (cc)
 key_at (e ∷ es) zero k v at = let same : e ≡ (k, v) = cc in ap (λ f. Some f.0) same
 key_at (e ∷ es) (suc i) k v at = key_at es i k v at

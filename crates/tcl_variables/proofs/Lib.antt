@@ -1,4 +1,5 @@
 pub mod EntryLemmas
+pub mod FewLemmas
 pub mod NameLemmas
 pub mod FrameLemmas
 pub mod LendLemmas

@@ -1,5 +1,6 @@
 pub mod Entries
 pub mod Faults
+pub mod Kept
 pub mod Lending
 pub mod Parts
 pub mod Names

@@ -3,6 +3,7 @@ ghost use Rattle.std.specs.Prelude.{◌≡◌, Ok, Some, None, true, false, Matc
 ghost use Rattle.std.specs.Map.{lookup};
 ghost use Rattle.std.specs.Option.{option_copied};
 ghost use Rattle.std.specs.Str.{bytes_eq};
+ghost use Rattle.indexmap.specs.IndexMap.{insert_entry};
 ghost use Rattle.tcl_variables.specs.Access.{value_of, is_linked};
 ghost use Rattle.tcl_variables.specs.Faults.{Refuses};
 ghost use Rattle.tcl_variables.specs.Parts.{seen_part};
@@ -40,6 +41,23 @@ fn unread(part: Part<'_>, name: &Text) -> FrameError
         Part::Element(_) => refused(Refusal::NoVariable(Verb::Read), name),
         Part::Nested => refused(Refusal::NotArray(Verb::Read), name),
     }
+}
+
+/// Gives a name that isn't there this variable. Where the name is what is told, their text is shared.
+fn insert_told(
+    variables: &mut NameMap<Variable>,
+    alloc: Global,
+    base: &str,
+    name: &Text,
+    variable: Variable,
+) -> Result<(), AllocError>
+    ensures inserted { OnOk result (variables.new ≡ insert_entry bytes_eq variables.old base.now variable) }
+    ensures unchanged { OnErr result (variables.new ≡ variables.old) }
+{
+    if name.as_str() == base {
+        return variables.insert_shared(alloc, name, variable);
+    }
+    variables.insert_new(alloc, base, variable)
 }
 
 /// A change of what a name stands for.
@@ -112,7 +130,7 @@ impl Frame {
             return variable.assign(alloc, part, value, name);
         }
         let variable = new_variable(alloc, part, value, name)?;
-        self.variables.insert_new(alloc, base, variable)?;
+        insert_told(&mut self.variables, alloc, base, name, variable)?;
         Ok(())
     }
 
@@ -133,7 +151,7 @@ impl Frame {
             return variable.assign_unlinked(alloc, part, value, name);
         }
         let variable = new_variable(alloc, part, value, name)?;
-        self.variables.insert_new(alloc, base, variable)?;
+        insert_told(&mut self.variables, alloc, base, name, variable)?;
         Ok(None)
     }
 
@@ -194,7 +212,7 @@ impl Frame {
             return variable.extend(alloc, elements, name);
         }
         let array = new_array(alloc, elements)?;
-        self.variables.insert_new(alloc, base, array)?;
+        insert_told(&mut self.variables, alloc, base, name, array)?;
         Ok(())
     }
 

@@ -4,7 +4,9 @@
 pub mod access;
 pub mod comparing;
 pub mod fault;
+mod few_names;
 pub mod frame;
+mod many_names;
 pub mod name;
 pub mod name_map;
 pub mod variable;

@@ -1,58 +1,51 @@
 //! Maps from names, in the order of insertion.
-ghost use Rattle.std.specs.Prelude.{◌≡◌, ◌≤◌, [], Some, None, false, not, length, reverse, slice_get, vec_len, IfSome, IfOk, OnOk, OnErr, IsTrue};
+ghost use Rattle.std.specs.Prelude.{◌≡◌, [], Some, IfSome, IfOk, OnOk, OnErr, length, slice_get};
 ghost use Rattle.std.specs.Borrow.{sem};
 ghost use Rattle.std.specs.Map.{lookup, remove_entry};
 ghost use Rattle.std.specs.Option.{option_map, option_copied, option_copied_mut};
 ghost use Rattle.std.specs.Str.{bytes_eq};
-ghost use Rattle.std.specs.String.{string_bytes};
-ghost use Rattle.indexmap.specs.IndexMap.{insert_entry, insert_all, spare};
-ghost use Rattle.tcl_glob.specs.Patterns.{is_match};
+ghost use Rattle.indexmap.specs.IndexMap.{insert_entry, insert_all};
 ghost use Rattle.tcl_variables.specs.Arrays.{unmatched};
-ghost use Rattle.tcl_variables.specs.Entries.{lent_entry, named, StandsAt};
+ghost use Rattle.tcl_variables.specs.Entries.{lent_entry};
 
-use indexmap::IndexMap;
+use crate::few_names::FewNames;
+use crate::many_names::ManyNames;
 use std::alloc::{AllocError, Global};
 use std::marker::Model;
-use tcl_glob::matches;
 use tcl_text::text::Text;
 
-/// How many names a map has room for once it has one.
-const FEW_NAMES: usize = 4;
+/// The most names that are looked through one by one. A map of more finds them by their hashes.
+const MOST_FEW: usize = 8;
 
 /// A map from names, which contracts see as its entries in the order of insertion.
 #[derive(Drop)]
 pub struct NameMap<V> {
-    entries: IndexMap<String, V>,
+    entries: Entries<V>,
+}
+
+/// How the entries are kept.
+#[derive(Drop)]
+enum Entries<V> {
+    Few(FewNames<V>),
+    Many(ManyNames<V>),
 }
 
 impl<V> Model for NameMap<V> {
-    ghost use Rattle.std.specs.Prelude.{List, ℕ, ◌≡◌};
-    ghost use Rattle.tcl_variables.specs.Entries.{named};
+    ghost use Rattle.std.specs.Prelude.{List, ℕ};
+    ghost use Rattle.tcl_variables.specs.Kept.{kept};
 
     ghost Value = { List (List ℕ × V) };
 
-    ghost view = { λ a. named a.entries.entries };
-}
-
-/// Whether a name stands at a place.
-fn is_at<V>(entries: &IndexMap<String, V>, place: usize, name: &str) -> bool
-    ensures { IsTrue result → StandsAt name.now entries.now.entries place }
-{
-    match entries.get_index(place) {
-        Some((key, _)) => key.as_str() == name,
-        None => false,
-    }
+    ghost view = { λ a. kept a.entries };
 }
 
 impl<V> NameMap<V> {
-    ghost use Rattle.tcl_variables.specs.Lending.{lends_named};
-
     /// The empty map, which takes no memory.
     pub fn new(alloc: Global) -> NameMap<V>
         ensures { result ≡ [] }
     {
         NameMap {
-            entries: IndexMap::new(alloc),
+            entries: Entries::Few(FewNames::new(alloc)),
         }
     }
 
@@ -60,46 +53,55 @@ impl<V> NameMap<V> {
     pub fn len(&self) -> usize
         ensures { result ≡ length self.now }
     {
-        self.entries.len()
+        match &self.entries {
+            Entries::Few(few) => few.len(),
+            Entries::Many(many) => many.len(),
+        }
     }
 
     /// What a name has. This takes no memory.
     pub fn get(&self, name: &str) -> Option<&V>
         ensures { option_copied result ≡ lookup (bytes_eq name.now) self.now }
     {
-        self.entries.get(name)
+        match &self.entries {
+            Entries::Few(few) => few.get(name),
+            Entries::Many(many) => many.get(name),
+        }
     }
 
     /// The entry at a place in the order of insertion, from 0. This takes no memory.
     pub fn entry(&self, index: usize) -> Option<(&str, &V)>
         ensures { option_map lent_entry result ≡ slice_get self.now index }
     {
-        match self.entries.get_index(index) {
-            Some((name, value)) => Some((name.as_str(), value)),
-            None => None,
+        match &self.entries {
+            Entries::Few(few) => few.entry(index),
+            Entries::Many(many) => many.entry(index),
         }
     }
-
-    /// What a name has, to write. This takes no memory.
-    pub fn get_mut(&mut self, name: &str) -> Option<&mut V>
-        ensures* writes_back { sem 𝓛 (lends_named V.row self.entry name.now result) }
-        ensures value { option_copied_mut result ≡ lookup (bytes_eq name.now) self.old }
-    {
-        self.entries.get_mut(name)
-    }
-}
-
-impl<V> NameMap<V> {
-    ghost use Rattle.tcl_variables.specs.Lending.{lends_named};
 
     /// The place of a name in the order of insertion, from 0, and what it has. This takes no memory.
     pub fn find(&self, name: &str) -> Option<(usize, &V)>
         ensures place { IfSome result (λ p. slice_get self.now p.0 ≡ Some (name.now, p.1.now)) }
         ensures value { option_map (λ p. p.1.now) result ≡ lookup (bytes_eq name.now) self.now }
     {
-        match self.entries.get_full(name) {
-            Some((place, _, value)) => Some((place, value)),
-            None => None,
+        match &self.entries {
+            Entries::Few(few) => few.find(name),
+            Entries::Many(many) => many.find(name),
+        }
+    }
+}
+
+impl<V> NameMap<V> {
+    ghost use Rattle.tcl_variables.specs.Lending.{lends_named};
+
+    /// What a name has, to write. This takes no memory.
+    pub fn get_mut(&mut self, name: &str) -> Option<&mut V>
+        ensures* writes_back { sem 𝓛 (lends_named V.row self.entry name.now result) }
+        ensures value { option_copied_mut result ≡ lookup (bytes_eq name.now) self.old }
+    {
+        match &mut self.entries {
+            Entries::Few(few) => few.get_mut(name),
+            Entries::Many(many) => many.get_mut(name),
         }
     }
 
@@ -108,47 +110,31 @@ impl<V> NameMap<V> {
         ensures* writes_back { sem 𝓛 (lends_named V.row self.entry name.now result) }
         ensures value { option_copied_mut result ≡ lookup (bytes_eq name.now) self.old }
     {
-        if !is_at(&self.entries, place, name) {
-            return self.entries.get_mut(name);
+        match &mut self.entries {
+            Entries::Few(few) => few.get_mut_near(place, name),
+            Entries::Many(many) => many.get_mut_near(place, name),
         }
-        self.entries.get_index_mut(place)
     }
-}
-
-/// Entries with names of their own, the first of them last.
-fn keyed<V: Drop>(alloc: Global, entries: Vec<(Text, V)>) -> Result<Vec<(String, V)>, AllocError>
-    ensures { IfOk result (λ keyed. reverse (named keyed.items) ≡ entries.items) }
-{
-    let mut left = entries;
-    let mut keyed = Vec::new(alloc);
-    'entries: while let Some((name, value)) = left.pop() {
-        keyed.push((String::from_str(alloc, name.as_str())?, value))?;
-    }
-    Ok(keyed)
-}
-
-/// Inserts entries, the last of them first, where there is room for them.
-fn insert_reserved<V: Drop>(entries: &mut IndexMap<String, V>, keyed: Vec<(String, V)>)
-    requires { vec_len keyed ≤ spare entries.old }
-    ensures { named entries.new.entries ≡ insert_all bytes_eq (named entries.old.entries) (reverse (named keyed.items)) }
-{
-    let mut left = keyed;
-    'entries: while let Some((name, value)) = left.pop() {
-        let _ = entries.insert(name, value).unwrap();
-    }
-}
-
-/// Makes room for a few entries where there is none, so that a map of few names takes memory once.
-fn make_room<V: Drop>(entries: &mut IndexMap<String, V>) -> Result<(), AllocError>
-    ensures { entries.new.entries ≡ entries.old.entries }
-{
-    if entries.is_empty() {
-        entries.reserve(FEW_NAMES)?;
-    }
-    Ok(())
 }
 
 impl<V: Drop> NameMap<V> {
+    /// Goes over to hashes where one name more would be too many to look through.
+    fn make_room(&mut self, alloc: Global) -> Result<(), AllocError>
+        ensures { self.new ≡ self.old }
+    {
+        match &mut self.entries {
+            Entries::Many(_) => Ok(()),
+            Entries::Few(few) => {
+                if few.len() < MOST_FEW {
+                    return Ok(());
+                }
+                let many = ManyNames::of_few(alloc, few, 1)?;
+                self.entries = Entries::Many(many);
+                Ok(())
+            }
+        }
+    }
+
     /// Gives a name this value: where it stands, or at the end.
     ///
     /// # Errors
@@ -157,7 +143,7 @@ impl<V: Drop> NameMap<V> {
         ensures inserted { OnOk result (self.new ≡ insert_entry bytes_eq self.old name.now value) }
         ensures unchanged { OnErr result (self.new ≡ self.old) }
     {
-        if let Some(place) = self.entries.get_mut(name) {
+        if let Some(place) = self.get_mut(name) {
             *place = value;
             return Ok(());
         }
@@ -172,10 +158,26 @@ impl<V: Drop> NameMap<V> {
         ensures inserted { OnOk result (self.new ≡ insert_entry bytes_eq self.old name.now value) }
         ensures unchanged { OnErr result (self.new ≡ self.old) }
     {
-        let name = String::from_str(alloc, name)?;
-        make_room(&mut self.entries)?;
-        self.entries.insert(name, value)?;
-        Ok(())
+        self.make_room(alloc)?;
+        match &mut self.entries {
+            Entries::Few(few) => few.insert(Text::new(alloc, name)?, value),
+            Entries::Many(many) => many.insert_new(alloc, name, value),
+        }
+    }
+
+    /// The same for a name whose text is shared where there are few names, so that its bytes aren't copied.
+    ///
+    /// # Errors
+    /// Want of memory, which leaves the map as it was.
+    pub fn insert_shared(&mut self, alloc: Global, name: &Text, value: V) -> Result<(), AllocError>
+        ensures inserted { OnOk result (self.new ≡ insert_entry bytes_eq self.old name.now value) }
+        ensures unchanged { OnErr result (self.new ≡ self.old) }
+    {
+        self.make_room(alloc)?;
+        match &mut self.entries {
+            Entries::Few(few) => few.insert(name.clone()?, value),
+            Entries::Many(many) => many.insert_new(alloc, name.as_str(), value),
+        }
     }
 
     /// Gives each of these names its value, from the first on.
@@ -186,28 +188,35 @@ impl<V: Drop> NameMap<V> {
         ensures inserted { OnOk result (self.new ≡ insert_all bytes_eq self.old entries.items) }
         ensures unchanged { OnErr result (self.new ≡ self.old) }
     {
-        let keyed = keyed(alloc, entries)?;
-        self.entries.reserve(keyed.len())?;
-        insert_reserved(&mut self.entries, keyed);
-        Ok(())
+        match &mut self.entries {
+            Entries::Many(many) => many.insert_all(alloc, entries),
+            Entries::Few(few) => {
+                let mut many = ManyNames::of_few(alloc, few, entries.len())?;
+                let inserted = many.insert_all(alloc, entries);
+                self.entries = Entries::Many(many);
+                inserted
+            }
+        }
     }
 
     /// Takes the names out that a pattern matches, in time linear in their number. This takes no memory.
     pub fn remove_matching(&mut self, pattern: &str)
         ensures { self.new ≡ unmatched pattern.now self.old }
     {
-        self.entries.retain(
-            |name: &String, value: &mut V| -> bool
-                ensures { (result ≡ not (is_match false pattern.entry.now (string_bytes name.now))) × (value.new ≡ value.old) }
-            { !matches(pattern, name.as_str(), false) },
-        );
+        match &mut self.entries {
+            Entries::Few(few) => few.remove_matching(pattern),
+            Entries::Many(many) => many.remove_matching(pattern),
+        }
     }
 
     /// Takes a name out, if it is there. This takes no memory.
     pub fn remove(&mut self, name: &str)
         ensures { self.new ≡ remove_entry (bytes_eq name.now) self.old }
     {
-        let _ = self.entries.shift_remove(name);
+        match &mut self.entries {
+            Entries::Few(few) => few.remove(name),
+            Entries::Many(many) => many.remove(name),
+        }
     }
 }
 
@@ -217,7 +226,13 @@ impl<V: Clone> Clone for NameMap<V> {
     ghost is_clone = { λ m n. AllZip (λ p q. (q.0 ≡ p.0) × V.is_clone p.1 q.1) m n };
 
     fn clone(&self) -> Result<NameMap<V>, AllocError> {
-        let entries = self.entries.clone()?;
-        Ok(NameMap { entries })
+        match &self.entries {
+            Entries::Few(few) => Ok(NameMap {
+                entries: Entries::Few(few.clone()?),
+            }),
+            Entries::Many(many) => Ok(NameMap {
+                entries: Entries::Many(many.clone()?),
+            }),
+        }
     }
 }

@@ -4,12 +4,12 @@ ghost use Rattle.tcl_core.specs.Endings.{ok};
 ghost use Rattle.tcl_core.specs.Endings as core;
 ghost use Rattle.tcl_core.specs.Trees.{seen_reply};
 ghost use Rattle.tcl_flow.specs.Stopping as stopping;
-ghost use Rattle.tcl_flow.specs.View.{completion_of};
+ghost use Rattle.std.specs.Option.{option_copied};
+ghost use Rattle.tcl_flow.specs.View.{completion_of, errorcode_of};
 ghost use Rattle.tcl_run.specs.Ends.{IfEnded, Interrupts};
 
-use std::alloc::{AllocError, Global};
-use tcl_flow::completion::{Completion, OK, Options};
-use tcl_flow::messages::no_errorcode;
+use std::alloc::AllocError;
+use tcl_flow::completion::{self, Completion, Options};
 use tcl_flow::stop::Stop;
 use tcl_host::reply::HostReply;
 use tcl_run::entry::Entry;
@@ -84,6 +84,16 @@ impl Crossing {
     }
 }
 
+/// The same errorcode again.
+fn copy_errorcode(errorcode: Option<&Value>) -> Result<Option<Value>, AllocError>
+    ensures { IfOk result (λ made. errorcode_of made ≡ errorcode_of (option_copied errorcode.entry)) }
+{
+    match errorcode {
+        Some(errorcode) => Ok(Some(errorcode.clone()?)),
+        None => Ok(None),
+    }
+}
+
 /// How a completion is told again. Its values share what they keep.
 pub fn copy_completion(completion: &Completion) -> Result<Completion, AllocError>
     ensures { IfOk result (λ made. completion_of made ≡ completion_of completion.now) }
@@ -94,22 +104,7 @@ pub fn copy_completion(completion: &Completion) -> Result<Completion, AllocError
         options: Options {
             code: completion.options.code,
             level: completion.options.level,
-            errorcode: completion.options.errorcode.clone()?,
-        },
-    })
-}
-
-/// The ordinary completion with this value.
-fn ordinary(alloc: Global, value: &Value) -> Result<Completion, AllocError>
-    ensures { IfOk result (λ made. completion_of made ≡ ok value.now) }
-{
-    Ok(Completion {
-        code: OK,
-        text: value.clone()?,
-        options: Options {
-            code: OK,
-            level: 0,
-            errorcode: no_errorcode(alloc)?,
+            errorcode: copy_errorcode(completion.options.errorcode.as_ref())?,
         },
     })
 }
@@ -136,10 +131,10 @@ impl Reply {
     ///
     /// # Errors
     /// Want of memory.
-    pub fn of_value(alloc: Global, value: &Value) -> Result<Reply, AllocError>
+    pub fn of_value(value: &Value) -> Result<Reply, AllocError>
         ensures { IfOk result (λ told. reply_of told ≡ core.Reply.Completed (ok value.now)) }
     {
-        Ok(Reply::Completed(ordinary(alloc, value)?))
+        Ok(Reply::Completed(completion::ok(value.clone()?)))
     }
 
     /// How a stop is told that ends an evaluation at this path.
@@ -178,14 +173,13 @@ impl Reply {
     /// # Errors
     /// Want of memory, that of the evaluation too.
     pub(crate) fn of_end(
-        alloc: Global,
         ended: &Result<Value, Interruption>,
         path: &[Text],
     ) -> Result<Reply, AllocError>
         ensures { IfOk result (λ told. IfEnded ended.now (λ e. reply_of told ≡ seen_reply path.now e)) }
     {
         match ended {
-            Ok(value) => Reply::of_value(alloc, value),
+            Ok(value) => Reply::of_value(value),
             Err(interruption) => Reply::of_interruption(interruption, path),
         }
     }

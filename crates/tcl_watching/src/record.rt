@@ -98,7 +98,7 @@ impl Record {
     ) -> Result<(), AllocError>
         ensures { OnOk result (IfEnded ended.now (λ r. self.new ≡ longer self.old (event path.now (Done None (seen_reply path.now r))))) }
     {
-        let reply = Reply::of_end(alloc, ended, path)?;
+        let reply = Reply::of_end(ended, path)?;
         self.crossings.push(Crossing::Done {
             target: Vec::from_clones(alloc, path)?,
             reply,
@@ -236,7 +236,7 @@ impl Record {
     {
         match passing(self.watched.as_slice(), caller, up) {
             Some(path) => {
-                let reply = Reply::of_value(alloc, value)?;
+                let reply = Reply::of_value(value)?;
                 self.add_answer(alloc, path, up, Answer::Replied(reply))
             }
             None => Ok(()),

@@ -1,0 +1,4 @@
+pub mod Orders
+pub mod Tables
+mod Spared
+pub mod Wholes
