@@ -20,6 +20,7 @@ use Rattle.tcl_core.proofs.Following.{chain-append}
 use Rattle.tcl_beginnings.specs.Beginnings.{Begun, handed, handing, Begins, BeginsEach}
 use Rattle.tcl_beginnings.specs.Beginnings.Begun.{stopped, ended, acted, going, went, within, wrapped, too_deep, calling_out, calling, returning, called, unreached, called_out, answered, heard, entering_in, leaving, left, entered}
 use Rattle.tcl_beginnings.proofs.Worlds.{Suits, suits_after, suits_next, decided, opened, after_step, after_run, Whole}
+use Rattle.tcl_beginnings.proofs.Worlds.Suits.{as_listed, as_granted}
 use Rattle.tcl_beginnings.proofs.Wholes.{came}
 
 module _ {O I : Type 0} (prog : Table O I) where
@@ -263,4 +264,12 @@ module _ {O I S : Type 0} (step : Tree O → S → Wait → Event O → S → Ty
       }
 
   pub begins : {T : Tree O} {o z : S} {p : Place} {x : Prog O I} → Begun step prog T o p x z → BeginsEach step prog T o p x z
-  begins b = let h = goes b in record { told = h.told; last = h.last; chain = h.chain; first = λ ms gs t v e run. h.leads ms (Listed gs) (gs, refl) t v e run }
+  begins b =
+      let h = goes b in
+      record {
+        told = h.told;
+        last = h.last;
+        chain = h.chain;
+        first = λ ms gs t v e run. h.leads ms (Listed gs) (as_listed gs refl) t v e run;
+        first_of_any = λ ms gs t v e calm run. h.leads ms gs (as_granted calm) t v e run;
+      }

@@ -7,9 +7,9 @@ use Rattle.tcl_core.specs.Endings.Reply.{Completed}
 use Rattle.tcl_core.specs.Entries.{Entry, HostReply, Said}
 use Rattle.tcl_core.specs.Entries.Answer.{Replied, Heard}
 use Rattle.tcl_core.specs.Entries.Said.{Finished, Told}
-use Rattle.tcl_core.specs.Trees.{Tree, Event, Move, Grant, Grants, effect, asked, granted, at}
+use Rattle.tcl_core.specs.Trees.{Tree, What, Event, Move, Grant, Grants, effect, asked, granted, at}
 use Rattle.tcl_core.specs.Trees.Grants.{Listed}
-use Rattle.tcl_core.specs.Trees.What.{Out, In, Done, Back}
+use Rattle.tcl_core.specs.Trees.What.{Refused, Out, In, Done, Back}
 use Rattle.tcl_core.specs.Trees.Move.{Come}
 use Rattle.tcl_core.specs.Programs.{Deed, spot, Act, Wrap, Wait, Prog, Table, closes}
 use Rattle.tcl_core.specs.Programs.Next.{On, TooDeep}
@@ -104,6 +104,15 @@ module _ {O : Type 0} where
   abbrev pub handing : Tree O → List (Event O) → List (Move O) → Grants → List (Event O) → World O
   handing T τ ms gs tape = record { tree = T; moves = handed τ ms; grants = allowed τ gs; tape = tape }
 
+  -- the outside does not refuse a step or an evaluation by it, or by any of them
+  abbrev pub Unrefused : What O → Type 0
+  Unrefused (Refused m None) = Prim.⊥
+  Unrefused x = Unit {0}
+
+  abbrev pub IsUnrefused : List (Event O) → Type 0
+  IsUnrefused [] = Unit {0}
+  IsUnrefused (ev ∷ τ) = Unrefused ev.what × IsUnrefused τ
+
   -- the one begins with the other
   abbrev pub Begins : List (Event O) → List (Event O) → Type 0
   Begins tape τ = (rest : List (Event O)) × (tape ≡ τ ++ rest)
@@ -114,7 +123,10 @@ pub record BeginsEach {O I S : Type 0} (step : Tree O → S → Wait → Event O
   pub told : List (Event O)
   pub last : Tree O
   pub chain : Chain step T o told last z
+  -- where it is told word by word which steps and evaluations are granted
   pub first : (ms : List (Move O)) (gs : List Grant) (tape : List (Event O)) (v : World O) (e : Ending) → Runs prog (handing T told ms (Listed gs) tape) p x v e → Begins tape told
+  -- and where that is said in any way, as by a budget that has their steps, if it refuses none of them
+  pub first_of_any : (ms : List (Move O)) (gs : Grants) (tape : List (Event O)) (v : World O) (e : Ending) → IsUnrefused told → Runs prog (handing T told ms gs tape) p x v e → Begins tape told
 
 -- What a program makes happen until it is given up is what each run of it begins with, whatever the outside is told. (`proofs/Begins.antt` has it for an
 -- outside whose steps are any relation; here they are those that a test lets through.)
