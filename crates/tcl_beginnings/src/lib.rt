@@ -3,8 +3,20 @@
 #![tactic(auto)]
 
 ghost use Rattle.tcl_beginnings.specs.Beginnings.{BeginningsBegin};
+ghost use Rattle.tcl_beginnings.specs.Example.{WorkedBeginning};
+ghost use Rattle.tcl_beginnings.specs.Keeping.{KeptBegins};
 
 /// What a program makes happen until it is given up is what each run of it begins with.
 pub fn beginnings_begin<O, I, S>()
     ensures { BeginningsBegin O I S }
+{}
+
+/// What is kept of a program until it is given up is what each run of it begins with.
+pub fn kept_begins<O, I>()
+    ensures { KeptBegins O I }
+{}
+
+/// A worked beginning: a program that is given up when it has asked the host.
+pub fn worked_beginning()
+    ensures { WorkedBeginning }
 {}
