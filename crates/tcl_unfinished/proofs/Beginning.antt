@@ -42,11 +42,13 @@ ends_uncut p (Stop n m) e f = tt
 ends_uncut p (Exit n) e f = tt
 ends_uncut p (Cut c) e f = absurd (not_both refl f)
 
+-- a budget says nothing more where it refuses
 denied_budget : (o : Option Place) (n : ℕ) → denied o (Budget n) ≡ Budget n
 denied_budget None n = refl
 denied_budget (Some a) n = refl
 
 module _ {O : Type 0} where
+  -- of a budget a happening reads its step
   granted_budget : (p : Place) (x : What O) (n k : ℕ) → granted p x (Budget (n + k)) ≡ Budget (paid x n + k)
   granted_budget p Charged n k = let e : suc (n + k) ≡ suc n + k = omega arith in ap Budget e
   granted_budget p Nested n k = refl
@@ -59,21 +61,26 @@ module _ {O : Type 0} where
   allowed_budget (ev ∷ τ) k = ap (granted ev.place ev.what) (allowed_budget τ k) ∙ granted_budget ev.place ev.what (steps_of τ) k
 
 module _ {I S : Type 0} (step : S → TheirRequest → TheirReply → S → Type 0) (prog : Table Own I) (T : Tree Own) (p : Path) (s : Text) (n : ℕ) where
+  -- the script, as the entry of the evaluation
   abbrev script : Prog Own I
   script = entering prog (limited n T p) (Eval s)
 
   -- a whole evaluation that is handed what these happenings read begins with them
-  module _ {S2 : Type 0} (goes : _) {o z : S2} (b : BeginsEach {O = Own} {I = I} {S = S2} goes prog (limited n T) o p script z) (replies more : List Answer) (ending : End) (all : List (Event Own)) (V : Tree Own)
+  module _ {R : Type 0} (goes : _) {o z : R} (b : BeginsEach {O = Own} {I = I} {S = R} goes prog (limited n T) o p script z) (replies more : List Answer) (ending : End) (all : List (Event Own)) (V : Tree Own)
       (calm : Rattle.tcl_beginnings.specs.Beginnings.IsUnrefused b.told) (reads : handed b.told (comes more) ≡ comes (replies ++ more)) (whole : Whole prog T p s n (replies ++ more) ending all V) where
+    -- the world after the entry
     abbrev inner : World Own
     inner = whole.run.entered
 
+    -- it has the replies alone
     moves : inner.moves ≡ comes (replies ++ more)
     moves = asked-inj p (In None (Eval s)) inner.moves (comes (replies ++ more)) (sym whole.run.entry.moves)
 
+    -- and in the end the entry's own is left
     left_tape : whole.run.left.tape ≡ event p (Done None whole.reply) ∷ []
     left_tape = whole.run.leaving.tape ∙ ap (λ τ. event p (Done None whole.reply) ∷ τ) whole.all_done
 
+    -- the run between, by rules
     derived : Derives prog inner p script whole.run.left (Some whole.reply)
     derived = runs_derived prog inner p script whole.run.left (Some whole.reply) whole.run.run
 
@@ -87,6 +94,7 @@ module _ {I S : Type 0} (step : S → TheirRequest → TheirReply → S → Type
     abbrev steps : ℕ
     steps = steps_of inner.tape
 
+    -- that world, with a budget of more steps, is one in which these are handed in first
     same : budgeted (steps_of b.told) inner ≡ handing (limited n T) b.told (comes more) (Budget steps) inner.tape
     same =
         let tree : inner.tree ≡ limited n T = whole.run.entry.tree in
@@ -95,14 +103,17 @@ module _ {I S : Type 0} (step : S → TheirRequest → TheirReply → S → Type
         let words : Budget (steps + steps_of b.told) ≡ allowed b.told (Budget steps) = ap Budget sum ∙ sym (allowed_budget b.told steps) in
         (λ i. record { tree = tree i; moves = read i; grants = words i; tape = inner.tape })
 
+    -- and the run in it is the same
     run : Runs prog (handing (limited n T) b.told (comes more) (Budget steps) inner.tape) p script (budgeted (steps_of b.told) whole.run.left) (Some whole.reply)
     run = subst (λ w. Runs prog w p script (budgeted (steps_of b.told) whole.run.left) (Some whole.reply)) same (derived_runs prog (derived_budget prog (steps_of b.told) derived fine whole.reply refl))
 
+    -- so what it tells begins with what they tell
     pub whole_begins : (rest : List (Event Own)) × (all ≡ outs_of b.told ++ rest)
     whole_begins =
         let h : Begins inner.tape b.told = b.first_of_any (comes more) (Budget steps) inner.tape (budgeted (steps_of b.told) whole.run.left) (Some whole.reply) calm run in
         (outs_of h.0, whole.told ∙ ap outs_of whole.run.entry.tape ∙ ap outs_of h.1 ∙ outs_append b.told h.0)
 
+  -- what a host was asked until the script was given up is what the whole evaluation begins with
   pub is_beginning : {o z : S} → Begun (Crossings (hosted step)) prog (limited n T) o p script z → IsBeginning step prog T p s n o z
   is_beginning {o} {z} begun =
       let b : BeginsEach (keeps_call step) prog (limited n T) (o, None) p script (z, None) = begins (keeps_call step) prog (kept step prog begun (entering_calls prog (limited n T p) (Eval s))) in
@@ -120,6 +131,7 @@ module _ {S : Type 0} (step : S → TheirRequest → TheirReply → S → Type 0
   limited_there [] e = (_, ap (with_limit (Some (count_at (T []) + n))) e)
   limited_there (x ∷ q) e = (there, e)
 
+  -- the same with the commands of the language
   pub script_begins : {o z : S} → T p ≡ Some there → Begun (Crossings (hosted step)) (language style) (limited n T) o p (serve style (Eval s)) z → IsBeginning step (language style) T p s n o z
   script_begins {o} {z} e begun =
       let m = limited_there p e in

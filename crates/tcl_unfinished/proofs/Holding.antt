@@ -27,6 +27,7 @@ abbrev pub Holding : Type 0 → Type 0
 Holding S = S × Wait
 
 module _ {O : Type 0} where
+  -- below the top the tree is neither made nor dropped
   not_top : (p : Place) (m : Move O) (ms : List (Move O)) → (p ≡ [] → Prim.⊥) → at_top p m ms ≡ ms
   not_top [] m ms f = absurd (f refl)
   not_top (x ∷ p) m ms f = refl
@@ -66,6 +67,7 @@ module _ {S : Type 0} (step : S → TheirRequest → TheirReply → S → Type 0
   From None o outs B z = Belongs step o outs B z
   From (Some c) o outs B z = (p : Place) (down : Path) → Belongs step o (event p (Out c.0 down c.1) ∷ outs) B z
 
+  -- the same of the host as it stands
   abbrev From_now : Holding S → List (Event Own) → List Answer → S → Type 0
   From_now w outs B z = From w.1 w.0 outs B z
 
@@ -76,6 +78,7 @@ module _ {S : Type 0} (step : S → TheirRequest → TheirReply → S → Type 0
     pub belongs : From_now w (outs_of τ) replies z
     pub calm : IsUnrefused τ
 
+  -- first something within the tree
   within_one : (w v : Holding S) (p : Place) (x : What Own) (τ : List (Event Own)) (z : S) → Placed p x → Unrefused x → v ≡ w → Hosts v τ z → Hosts w (event p x ∷ τ) z
   within_one w v p x τ z f c e h = record {
     replies = h.replies;
@@ -84,6 +87,7 @@ module _ {S : Type 0} (step : S → TheirRequest → TheirReply → S → Type 0
     calm = (c, h.calm);
   }
 
+  -- first a call past the top
   asks_one : (w v : Holding S) (p : Place) (h : Height) (down : Path) (i : Entry) (τ : List (Event Own)) (z : S) → rise_to h p ≡ None → w.1 ≡ None → v ≡ (w.0, Some (h, i)) →
       Hosts v τ z → Hosts w (event p (Out h down i) ∷ τ) z
   asks_one w v p h down i τ z past idle e g =
@@ -96,6 +100,7 @@ module _ {S : Type 0} (step : S → TheirRequest → TheirReply → S → Type 0
         calm = (tt, g.calm);
       }
 
+  -- first the host's reply
   hears_one : (w v : Holding S) (p : Place) (request : TheirRequest) (reply : TheirReply) (τ : List (Event Own)) (z : S) → w.1 ≡ Some (None, AskHost (request_of request)) →
       step w.0 request reply v.0 → v.1 ≡ None → Hosts v τ z → Hosts w (event p (Back None (Heard (reply_of reply))) ∷ τ) z
   hears_one w v p request reply τ z is_open s idle g =
@@ -107,6 +112,7 @@ module _ {S : Type 0} (step : S → TheirRequest → TheirReply → S → Type 0
         calm = (tt, g.calm);
       }
 
+  -- first the error that none is above the tree
   misses_one : (w v : Holding S) (p : Place) (n : ℕ) (i : Entry) (τ : List (Event Own)) (z : S) → rise_to (Some n) p ≡ None → w.1 ≡ Some (Some n, i) → v ≡ (w.0, None) →
       Hosts v τ z → Hosts w (event p (Back (Some n) lost_above) ∷ τ) z
   misses_one w v p n i τ z past is_open e g =
@@ -118,6 +124,7 @@ module _ {S : Type 0} (step : S → TheirRequest → TheirReply → S → Type 0
         calm = (tt, g.calm);
       }
 
+  -- first any of these
   one : (w v : Holding S) (p : Place) (x : What Own) (τ : List (Event Own)) (z : S) → Goes w p x v → Hosts v τ z → Hosts w (event p x ∷ τ) z
   one w v p x τ z (within f c e) g = within_one w v p x τ z f c e g
   one w v p x τ z (asks h down i e past idle is) g = subst (λ y. Hosts w (event p y ∷ τ) z) (sym e) (asks_one w v p h down i τ z past idle is g)

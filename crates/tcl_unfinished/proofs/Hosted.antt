@@ -1,6 +1,6 @@
 -- What comes with a host comes with the host and the call that is open to it, and the same happens.
 use Rattle.std.proofs.Common.{◌≡◌, refl, sym, ◌∙◌, ap, subst, true, false, ◌++◌, Option, Some, None, length}
-use Rattle.tcl_core.specs.Endings.{Completion, Reply, IsQuit}
+use Rattle.tcl_core.specs.Endings.{Reply}
 use Rattle.tcl_core.specs.Endings.Reply.{Completed}
 use Rattle.tcl_core.specs.Entries.{Answer, Entry, Said}
 use Rattle.tcl_core.specs.Entries.Answer.{Replied, Heard}
@@ -24,14 +24,12 @@ use Rattle.tcl_tree.specs.Own.{Own}
 use Rattle.tcl_unfinished.proofs.Placed.{Inside, Placed, decides_placed, opens_placed, closes_placed}
 use Rattle.tcl_unfinished.proofs.Holding.{Goes, keeps_call, within, asks, hears, misses}
 
+-- yes is not no
 no_true : {A : Type 0} → false ≡ true → A
 no_true e = absurd (bad e)
   where
     bad : false ≡ true → Prim.⊥
     bad f = cc
-
-not_quit : {A : Type 0} (c : Completion) (r : Reply) → r ≡ Completed c → IsQuit r → A
-not_quit c r e q = absurd (subst IsQuit e q)
 
 module _ {O I : Type 0} where
   -- the call that a program waits for
@@ -44,6 +42,7 @@ module _ {O I : Type 0} where
   Fits (wait s k) = (a : Said) → Calls_only (k a)
   Fits x = Calls_only x
 
+  -- what calls waits for nothing
   pub no_wait : (x : Prog O I) → Calls_only x → waits_for x ≡ None
   no_wait (done c) f = refl
   no_wait (exit n) f = refl
@@ -53,6 +52,7 @@ module _ {O I : Type 0} where
   no_wait (call h down i lost k) f = refl
   no_wait (wait s k) f = absurd f
 
+  -- and goes on as what calls
   pub fit : (x : Prog O I) → Calls_only x → Fits x
   fit (done c) f = f
   fit (exit n) f = f
@@ -62,10 +62,12 @@ module _ {O I : Type 0} where
   fit (call h down i lost k) f = f
   fit (wait s k) f = absurd f
 
+  -- what an entry does calls
   pub entering_calls : (prog : Table O I) (n : Option (Node O)) (i : Entry) → Calls_only (entering prog n i)
   entering_calls prog None i = tt
   entering_calls prog (Some n) i = prog.entries_call i
 
+-- whoever is reached stands there
 reached_at : {O : Type 0} (n : Option (Node O)) (t p : Place) → where_stands n p ≡ Some t → t ≡ p
 reached_at None t p e = absurd (not_both refl e)
 reached_at (Some n) t p e = sym (Some-inj p e)
@@ -75,9 +77,11 @@ pub comes_within : {O : Type 0} (T : Tree O) (a t : Place) (down : Path) → rea
 comes_within T a t down e = (a, ap (rise_to (Some (length down))) (reached_at (T (a ++ down)) t (a ++ down) e) ∙ rise_back a down)
 
 module _ {I S : Type 0} (step : S → TheirRequest → TheirReply → S → Type 0) (prog : Table Own I) where
+  -- how the host goes, who is told of all crossings
   abbrev pub Goes_so : Tree Own → S → Wait → Event Own → S → Type 0
   Goes_so T o s ev u = Crossings (hosted step) T o s ev u
 
+  -- of what crosses no boundary of the tree it isn't told
   passed_by : (h : Height) (p : Place) (T : Tree Own) (o : S) (s : Wait) (ev : Event Own) (u : S) → Inside h p → passing (rise_to h p) (hosted_at step) T o s ev u → u ≡ o
   passed_by h p T o s ev u (a, e) t = subst (λ b. passing b (hosted_at step) T o s ev u) e t
 
@@ -105,6 +109,7 @@ module _ {I S : Type 0} (step : S → TheirRequest → TheirReply → S → Type
   pub unasked : (T : Tree Own) (o u : S) (p : Place) (h : Height) (down : Path) (i : Entry) → rise_to h p ≡ None → Goes_so T o None (event p (Out h down i)) u → u ≡ o
   unasked T o u p h down i past g = subst (λ b. passing b (hosted_at step) T o None (event p (Out h down i)) u) past g.told
 
+  -- and from then on it is open
   pub leaves : (T : Tree Own) (o u : S) (p : Place) (h : Height) (down : Path) (i : Entry) → rise_to h p ≡ None → Goes_so T o None (event p (Out h down i)) u →
       keeps_call step T (o, None) None (event p (Out h down i)) (u, Some (h, i))
   leaves T o u p h down i past g = asks h down i refl past refl (ap (λ z. (z, Some (h, i))) (unasked T o u p h down i past g))
@@ -124,17 +129,20 @@ module _ {I S : Type 0} (step : S → TheirRequest → TheirReply → S → Type
   by_host o u p (Some (Some n, i)) (Heard a) past f g = no_true f
   by_host o u p (Some (Some n, i)) (Replied r) past f (same, is) = misses n i (ap (λ z. Back (Some n) (Replied z)) is) past refl (ap (λ z. (z, None)) same)
 
+  -- and from then on none is open
   pub comes_back : (T : Tree Own) (o u : S) (p : Place) (s : Wait) (a : Answer) → rise_to (height_of s) p ≡ None → fits {O = Own} s (Come a) ≡ true → Goes_so T o s (event p (Back (height_of s) a)) u →
       keeps_call step T (o, s) s (event p (Back (height_of s) a)) (u, None)
   comes_back T o u p s a past f g = by_host o u p s a past f (subst (λ b. passing b (hosted_at step) T o s (event p (Back (height_of s) a)) u) past g.told)
 
-  -- what comes so, with the call that is open; and of a program that calls, none is
+  -- what comes so, with the call that is open at first, and none in the end
   abbrev pub Held : Tree Own → S → Wait → Place → Prog Own I → Tree Own → S → Reply → Type 0
   Held T o c p x V z r = Threads (keeps_call step) prog T (o, c) p x V (z, None) r
 
+  -- what calls starts with no call open
   pub calls : {T V : Tree Own} {o z : S} {p : Place} {x : Prog Own I} {r : Reply} → Calls_only x → (Fits x → Held T o (waits_for x) p x V z r) → Held T o None p x V z r
   calls {T} {V} {o} {z} {p} {x} {r} f h = subst (λ c. Held T o c p x V z r) (no_wait x f) (h (fit x f))
 
+  -- WITH A HOST: what comes with it comes with the call that is open to it
   pub held : {T V : Tree Own} {o z : S} {p : Place} {x : Prog Own I} {r : Reply} → Threads (Crossings (hosted step)) prog T o p x V z r → Fits x → Held T o (waits_for x) p x V z r
   held completed f = completed
   held exited f = exited

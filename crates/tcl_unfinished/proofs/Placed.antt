@@ -36,6 +36,7 @@ child_no_top [] name e = cc
 child_no_top (x ∷ p) name e = cc
 
 module _ {O : Type 0} where
+  -- the same of what an act comes to
   abbrev IsPlaced : Place → Deed O → Type 0
   IsPlaced p x = Placed (spot p x.0) x.1
 
@@ -68,6 +69,7 @@ module _ {O : Type 0} where
       by zero = child_no_top p name
       by (suc d) = tt
 
+  -- an act
   pub decides_placed : (d : Act O) (T : Tree O) (p : Place) (x : Deed O) → Decides d T p x → Placed (spot p x.0) x.1
   decides_placed Look T p x e = of_deed p (None, Seen, On) x tt (e [])
   decides_placed (Change own) T p x e = of_deed p (changing own (T p)) x (changing_placed p own (T p)) (e [])
@@ -77,10 +79,12 @@ module _ {O : Type 0} where
   decides_placed (Make name own s) T p x e = of_deed p (making name own s (T p) (T (p ++ name ∷ []))) x (making_placed p name own s (T p) (T (p ++ name ∷ []))) (e [])
   decides_placed (Drop name) T p x e = of_deed p (dropping name (T (p ++ name ∷ []))) x (dropping_placed p name (T (p ++ name ∷ []))) (e [])
 
+  -- what a wrap does before
   pub opens_placed : (b : Wrap O) (T : Tree O) (p : Place) (x : Deed O) → Opens_so b T p x → Placed (spot p x.0) x.1
   opens_placed Deeper T p x e = metered_placed p Depth Nested (blocked is_deep T p) (granted (spot p x.0) x.1 (Listed [])) x tt (e [])
   opens_placed (Framed own back) T p x e = of_deed p (changing own (T p)) x (changing_placed p own (T p)) (e [])
 
+  -- and what it does after
   pub closes_placed : (p : Place) (b : Wrap O) (n : Option (Node O)) → Placed p (closes b n)
   closes_placed p Deeper n = tt
   closes_placed p (Framed own back) None = tt

@@ -18,11 +18,13 @@ use Rattle.tcl_core.specs.Trees.What.{Made, Dropped, In, Done, Back}
 use Rattle.tcl_core.proofs.Keeping.{KeepsSteps, derived_keep}
 use Rattle.tcl_core.proofs.Unended.{IsNoCut, NotCut, carried_cut, decide_uncut, opens_uncut}
 
+-- what goes on is not cut off
 on_no_cut : (n : Next) → IsOn n → IsNoCut n
 on_no_cut On f = tt
 on_no_cut TooDeep f = tt
 on_no_cut (Off r) f = absurd f
 
+-- nor what ends otherwise
 off_no_cut : (n : Next) (r : Reply) → n ≡ Off r → NotCut r → IsNoCut n
 off_no_cut n (Completed c) e f = subst IsNoCut (sym e) tt
 off_no_cut n (Stop l m) e f = subst IsNoCut (sym e) tt
@@ -57,6 +59,7 @@ module _ {O : Type 0} where
   fall_left [] ms f = absurd f
   fall_left (x ∷ p) ms f = f
 
+  -- after what is read answers alone are left
   asked_left : (p : Place) (x : What O) (ms : List (Move O)) → AreAnswers (asked p x ms) → AreAnswers ms
   asked_left p (In h i) ms f = enters_left (rise_to h p) p i ms f
   asked_left p (Back h a) ms f = comes_left (rise_to h p) a ms f
@@ -88,16 +91,19 @@ module _ {O : Type 0} where
   closes_uncut p (Framed o back) None = tt
   closes_uncut p (Framed o back) (Some n) = tt
 
+-- answers that come are answers
 pub comes_answers : (O : Type 0) (as2 : List Answer) → AreAnswers {O = O} (comes as2)
 comes_answers O [] = tt
 comes_answers O (a ∷ as2) = comes_answers O as2
 
+-- an entry that ends otherwise is not cut off
 pub done_uncut : (O : Type 0) (p : Place) (h : Height) (r : Reply) → NotCut r → Uncut {O = O} p (Done h r)
 done_uncut O p h (Completed c) f = tt
 done_uncut O p h (Stop n m) f = tt
 done_uncut O p h (Exit n) f = tt
 done_uncut O p h (Cut c) f = absurd f
 
+-- nor is a call
 back_uncut : (O : Type 0) (p : Place) (h : Height) (r : Reply) → NotCut r → Uncut {O = O} p (Back h (Replied r))
 back_uncut O p h (Completed c) f = tt
 back_uncut O p h (Stop n m) f = tt
@@ -105,9 +111,11 @@ back_uncut O p h (Exit n) f = tt
 back_uncut O p h (Cut c) f = absurd f
 
 module _ {O I : Type 0} (prog : Table O I) where
+  -- after a run answers alone are left
   rest_of : {w : World O} {p : Place} {x : Prog O I} {v : World O} {e : Ending} → Derives prog w p x v e → AreAnswers w.moves → AreAnswers v.moves
   rest_of a f = derived_keep (λ w. AreAnswers w.moves) answers_keep prog a f
 
+  -- a run that is not cut off in the end is cut off nowhere
   pub uncut : {w : World O} {p : Place} {x : Prog O I} {v : World O} {e : Ending} → Derives prog w p x v e → AreAnswers w.moves → Unended e → IsUncut v.tape → IsUncut w.tape
   uncut (completed w p y) f n h = h
   uncut (exited w p y) f n h = h

@@ -23,15 +23,16 @@ use Rattle.tcl_unfinished.proofs.Holding.{keeps_call}
 use Rattle.tcl_unfinished.proofs.Hosted.{Fits, Goes_so, comes_back, comes_within, enters_not, entering_calls, fit, calls, held, leaves, no_wait, stays, unasked, waits_for}
 
 module _ {I S : Type 0} (step : S → TheirRequest → TheirReply → S → Type 0) (prog : Table Own I) where
-  -- given up with no call open
+  -- what is given up so, with the call that is open at first, and none in the end
   abbrev pub Kept : Tree Own → S → Wait → Place → Prog Own I → S → Type 0
   Kept T o c p x z = Begun (keeps_call step) prog T (o, c) p x (z, None)
 
-  -- or before anything was asked
+  -- it is given up so, or before anything was answered
   data Left_off (T : Tree Own) (o : S) (p : Place) (x : Prog Own I) (z : S) : Type 0 where
     at_once : z ≡ o → Left_off T o p x z
     later : Kept T o (waits_for x) p x z → Left_off T o p x z
 
+  -- where it calls, it is given up so
   calls_left : {T : Tree Own} {o z : S} {p : Place} {x : Prog Own I} → Calls_only x → (Fits x → Left_off T o p x z) → Kept T o None p x z
   calls_left {T} {o} {z} {p} {x} f h = by (h (fit x f))
     where
@@ -45,6 +46,7 @@ module _ {I S : Type 0} (step : S → TheirRequest → TheirReply → S → Type
   went_out T o u p h down i lost k None e s = at_once (unasked step prog T o u p h down i e s)
   went_out T o u p h down i lost k (Some a) e s = later (calling_out (stays step prog T o u None None p (Out h down i) (a, e) s))
 
+  -- what is given up with a host as the outside
   left_off : {T : Tree Own} {o z : S} {p : Place} {x : Prog Own I} → Begun (Crossings (hosted step)) prog T o p x z → Fits x → Left_off T o p x z
   left_off stopped f = at_once refl
   left_off (ended t) f = later (ended (held step prog t f))
