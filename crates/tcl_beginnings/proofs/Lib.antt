@@ -1,0 +1,5 @@
+pub mod Worlds
+pub mod Wholes
+pub mod Begins
+pub mod Kept
+pub mod Worked

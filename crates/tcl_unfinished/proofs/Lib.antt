@@ -1,0 +1,6 @@
+mod Placed
+mod Holding
+mod Hosted
+mod Unfinished
+mod Uncut
+mod Beginning
