@@ -1,13 +1,14 @@
 //! How completions settle.
-use std::alloc::{AllocError, Global};
+use crate::seeing::{see_number, see_value};
+use std::alloc::Global;
 use std::test::Fail;
 use tcl_flow::completion::{
     BREAK, Completion, ERROR, OK, Options, RETURN, leave_file, leave_proc, settle,
 };
 use tcl_flow::messages::continue_outside;
-use tcl_text::text::Text;
 use tcl_value::value::Value;
 
+/// A return of the number 1.
 fn returned(code: i64, level: u64) -> Completion {
     Completion {
         code: RETURN,
@@ -20,62 +21,90 @@ fn returned(code: i64, level: u64) -> Completion {
     }
 }
 
-fn shown(alloc: Global, completion: &Completion) -> Result<Text, AllocError> {
-    completion.text.text(alloc)
+/// Sees the code and the text of a completion.
+fn see_ending(alloc: Global, found: &Completion, code: i64, text: &str) -> Result<(), Fail> {
+    see_number(found.code, code, text)?;
+    see_value(alloc, &found.text, text)
+}
+
+/// Sees what is left of a completion where only ok and error may pass.
+fn see_settled(alloc: Global, own: &mut Completion, code: i64, text: &str) -> Result<(), Fail> {
+    settle(alloc, own)?;
+    see_ending(alloc, own, code, text)
 }
 
 #[test]
 fn settles(rt: HostRuntime) -> Result<(), Fail> {
-    let mut seven = returned(7, 1);
-    settle(rt.alloc(), &mut seven)?;
-    assert_eq!(rt; seven.code, ERROR);
-    assert_eq!(rt;
-        shown(rt.alloc(), &seven)?.as_str(),
-        "command returned bad code: 7"
-    );
-    let mut further = returned(OK, 2);
-    settle(rt.alloc(), &mut further)?;
-    assert_eq!(rt;
-        shown(rt.alloc(), &further)?.as_str(),
-        "command returned bad code: 2"
-    );
-    let mut done = returned(OK, 1);
-    settle(rt.alloc(), &mut done)?;
-    assert_eq!(rt; done.code, OK);
-    assert_eq!(rt; shown(rt.alloc(), &done)?.as_str(), "1");
-    Ok(())
+    let alloc = rt.alloc();
+    see_settled(
+        alloc,
+        &mut returned(7, 1),
+        ERROR,
+        "command returned bad code: 7",
+    )?;
+    see_settled(
+        alloc,
+        &mut returned(OK, 2),
+        ERROR,
+        "command returned bad code: 2",
+    )?;
+    see_settled(alloc, &mut returned(OK, 1), OK, "1")
+}
+
+/// Sees a completion leave a procedure with a code.
+fn see_left(alloc: Global, own: &mut Completion, code: i64) -> Result<(), Fail> {
+    leave_proc(alloc, own)?;
+    see_number(own.code, code, "the code outside the procedure")
+}
+
+/// Sees a break leave two procedures.
+fn see_break_left(alloc: Global, broken: &mut Completion) -> Result<(), Fail> {
+    see_left(alloc, broken, BREAK)?;
+    see_left(alloc, broken, ERROR)?;
+    see_value(alloc, &broken.text, "invoked \"break\" outside of a loop")
 }
 
 #[test]
 fn leaves_procedures(rt: HostRuntime) -> Result<(), Fail> {
-    let mut broken = returned(BREAK, 1);
-    leave_proc(rt.alloc(), &mut broken)?;
-    assert_eq!(rt; broken.code, BREAK);
-    leave_proc(rt.alloc(), &mut broken)?;
-    assert_eq!(rt; broken.code, ERROR);
-    assert_eq!(rt;
-        shown(rt.alloc(), &broken)?.as_str(),
-        "invoked \"break\" outside of a loop"
-    );
-    let message = continue_outside(rt.alloc())?;
-    assert_eq!(rt;
-        message.text(rt.alloc())?.as_str(),
-        "invoked \"continue\" outside of a loop"
-    );
-    Ok(())
+    let alloc = rt.alloc();
+    see_break_left(alloc, &mut returned(BREAK, 1))?;
+    see_value(
+        alloc,
+        &continue_outside(alloc)?,
+        "invoked \"continue\" outside of a loop",
+    )
+}
+
+/// Sees a completion leave a file with a code.
+fn see_file_left(own: &mut Completion, code: i64) -> Result<(), Fail> {
+    leave_file(own);
+    see_number(own.code, code, "the code outside the file")
+}
+
+/// Sees a break leave two files.
+fn see_files_left(broken: &mut Completion) -> Result<(), Fail> {
+    see_file_left(broken, BREAK)?;
+    see_file_left(broken, BREAK)
+}
+
+/// Sees a return of three levels leave a file.
+fn see_one_level_left(further: &mut Completion) -> Result<(), Fail> {
+    see_file_left(further, RETURN)?;
+    see_level(&further.options, 2)
+}
+
+/// Sees how many levels are left.
+fn see_level(options: &Options, wanted: u64) -> Result<(), Fail> {
+    let found = options.level;
+    if found == wanted {
+        return Ok(());
+    }
+    Err(Fail::new(format_args!("level {found}, wanted {wanted}")))
 }
 
 /// A return that leaves a file comes one level nearer, and nothing else changes there.
 #[test]
-fn leaves_files(rt: HostRuntime) -> Result<(), Fail> {
-    let mut broken = returned(BREAK, 1);
-    leave_file(&mut broken);
-    assert_eq!(rt; broken.code, BREAK);
-    leave_file(&mut broken);
-    assert_eq!(rt; broken.code, BREAK);
-    let mut further = returned(OK, 3);
-    leave_file(&mut further);
-    assert_eq!(rt; further.code, RETURN);
-    assert_eq!(rt; further.options.level, 2);
-    Ok(())
+fn leaves_files(_rt: HostRuntime) -> Result<(), Fail> {
+    see_files_left(&mut returned(BREAK, 1))?;
+    see_one_level_left(&mut returned(OK, 3))
 }

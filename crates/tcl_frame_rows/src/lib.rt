@@ -10,8 +10,12 @@ mod completions;
 #[cfg(test)]
 mod frames;
 #[cfg(test)]
+mod maps;
+#[cfg(test)]
 mod option_words;
 #[cfg(test)]
 mod returns;
+#[cfg(test)]
+mod seeing;
 #[cfg(test)]
 mod variables;
