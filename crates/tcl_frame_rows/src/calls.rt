@@ -9,6 +9,12 @@ use tcl_text::list::{read_list, write_list};
 use tcl_text::text::Text;
 use tcl_value::value::Value;
 use tcl_variables::fault::FrameError;
+use tcl_variables::name_map::NameMap;
+
+/// What stands for the answer of a call that can't be read: it fails the test, as want of memory does.
+fn unreadable() -> FrameError {
+    FrameError::Memory
+}
 
 /// The value of a text of few bytes.
 fn value(text: &Text) -> Result<Value, FrameError> {
@@ -19,52 +25,66 @@ fn value(text: &Text) -> Result<Value, FrameError> {
 }
 
 /// The level that a word spells.
-fn level_of(word: &Text) -> Option<usize> {
-    word.as_str().parse::<usize>().ok()
+fn level_of(word: &Text) -> Result<usize, FrameError> {
+    match word.as_str().parse::<usize>() {
+        Ok(level) => Ok(level),
+        Err(_) => Err(unreadable()),
+    }
 }
 
 /// The names that a word asks for.
-fn scope_of(word: &Text) -> Option<Scope> {
+fn scope_of(word: &Text) -> Result<Scope, FrameError> {
     match word.as_str() {
-        "visible" => Some(Scope::Visible),
-        "global" => Some(Scope::Global),
-        "local" => Some(Scope::Local),
-        _ => None,
+        "visible" => Ok(Scope::Visible),
+        "global" => Ok(Scope::Global),
+        "local" => Ok(Scope::Local),
+        _ => Err(unreadable()),
     }
-}
-
-/// A name, and perhaps a pattern behind it.
-fn name_and_pattern(words: &[Text]) -> Option<(&Text, Option<&Text>)> {
-    match words {
-        [name] => Some((name, None)),
-        [name, pattern] => Some((name, Some(pattern))),
-        _ => None,
-    }
-}
-
-/// The answer of a call that can't be read, which no row wants.
-fn unreadable(alloc: Global) -> Result<Text, FrameError> {
-    Ok(Text::new(alloc, "no such call")?)
 }
 
 /// The answer of a call that changes the chain.
-fn done(alloc: Global) -> Result<Text, FrameError> {
+fn done(alloc: Global, changed: Result<(), FrameError>) -> Result<Text, FrameError> {
+    changed?;
     Ok(Text::new(alloc, "-")?)
 }
 
+/// The text of a value that is lent.
+fn told_value(alloc: Global, value: Result<&Value, FrameError>) -> Result<Text, FrameError> {
+    Ok(value?.text(alloc)?)
+}
+
 /// The text of a truth value.
-fn truth(alloc: Global, is_so: bool) -> Result<Text, FrameError> {
-    Ok(Text::new(alloc, if is_so { "yes" } else { "no" })?)
+fn truth(alloc: Global, is_so: Result<bool, FrameError>) -> Result<Text, FrameError> {
+    Ok(Text::new(alloc, if is_so? { "yes" } else { "no" })?)
 }
 
 /// The text of a count.
-fn count(alloc: Global, count: usize) -> Result<Text, FrameError> {
+fn count(alloc: Global, count: Result<usize, FrameError>) -> Result<Text, FrameError> {
+    let count = count?;
     Ok(Text::from_string(alloc, format!(in alloc; "{count}")?)?)
 }
 
 /// The list of texts.
-fn list(alloc: Global, texts: &[Text]) -> Result<Text, FrameError> {
-    Ok(Text::from_string(alloc, write_list(alloc, texts)?)?)
+fn list(alloc: Global, texts: Result<Vec<Text>, FrameError>) -> Result<Text, FrameError> {
+    Ok(Text::from_string(alloc, write_list(alloc, &texts?)?)?)
+}
+
+/// The keys and values of elements in turn.
+fn key_and_value_texts(alloc: Global, elements: &[(Text, Value)]) -> Result<Vec<Text>, FrameError> {
+    let mut texts = Vec::new(alloc);
+    for (key, value) in elements {
+        texts.push(key.clone()?)?;
+        texts.push(value.text(alloc)?)?;
+    }
+    Ok(texts)
+}
+
+/// The list of the keys and values of elements in turn.
+fn flat(
+    alloc: Global,
+    elements: Result<Vec<(Text, Value)>, FrameError>,
+) -> Result<Text, FrameError> {
+    list(alloc, key_and_value_texts(alloc, &elements?))
 }
 
 /// Texts, with a bar between any two.
@@ -77,6 +97,187 @@ fn joined(alloc: Global, texts: &[Text]) -> Result<Text, FrameError> {
         all.push_str(text.as_str())?;
     }
     Ok(Text::from_string(alloc, all)?)
+}
+
+/// The keys and values of an array in turn, with a bar between any two.
+fn told_entries(alloc: Global, elements: &NameMap<Value>) -> Result<Text, FrameError> {
+    let mut all = Vec::new(alloc);
+    for i in 0..elements.len() {
+        if let Some((key, value)) = elements.entry(i) {
+            all.push(Text::new(alloc, key)?)?;
+            all.push(value.text(alloc)?)?;
+        }
+    }
+    joined(alloc, &all)
+}
+
+/// `entries NAME`: those of the array that is lent, or `none` where there is none.
+fn entries(frames: &Frames, alloc: Global, name: &Text) -> Result<Text, FrameError> {
+    match frames.array(name)? {
+        Some(elements) => told_entries(alloc, elements),
+        None => Ok(Text::new(alloc, "none")?),
+    }
+}
+
+/// `names SCOPE`: the names, with a bar between any two.
+fn names(frames: &Frames, alloc: Global, word: &Text) -> Result<Text, FrameError> {
+    joined(alloc, &frames.names(alloc, scope_of(word)?)?)
+}
+
+/// `count SCOPE`: how many names there are.
+fn name_count(frames: &Frames, alloc: Global, word: &Text) -> Result<Text, FrameError> {
+    let found = frames.names(alloc, scope_of(word)?)?.len();
+    count(alloc, Ok(found))
+}
+
+/// The texts of values, with a bar between any two.
+fn told_values(alloc: Global, values: &[Value]) -> Result<Text, FrameError> {
+    let mut all = Vec::new(alloc);
+    for value in values {
+        all.push(value.text(alloc)?)?;
+    }
+    joined(alloc, &all)
+}
+
+/// `words LEVEL`: the words of the call at a level, or `none` where there is no such level.
+fn words_at(frames: &Frames, alloc: Global, word: &Text) -> Result<Text, FrameError> {
+    match frames.words(level_of(word)?) {
+        Some(words) => told_values(alloc, words),
+        None => Ok(Text::new(alloc, "none")?),
+    }
+}
+
+/// What a call answers on the names, words and elements of a chain.
+fn listed(frames: &Frames, alloc: Global, call: &str, word: &Text) -> Result<Text, FrameError> {
+    match call {
+        "keys" => list(alloc, frames.element_names(alloc, word, None)),
+        "elements" => flat(alloc, frames.elements(alloc, word, None)),
+        "entries" => entries(frames, alloc, word),
+        "names" => names(frames, alloc, word),
+        "count" => name_count(frames, alloc, word),
+        "words" => words_at(frames, alloc, word),
+        _ => Err(unreadable()),
+    }
+}
+
+/// What a call answers that looks at what a name is.
+fn looked_at(frames: &Frames, alloc: Global, call: &str, name: &Text) -> Result<Text, FrameError> {
+    match call {
+        "get" => told_value(alloc, frames.get(name)),
+        "exists" => truth(alloc, frames.exists(name)),
+        "array" => truth(alloc, frames.is_array(name)),
+        "size" => count(alloc, frames.element_count(name)),
+        _ => listed(frames, alloc, call, name),
+    }
+}
+
+/// Changes the value that is lent to the number 7.
+fn seven(frames: &mut Frames, alloc: Global, name: &Text) -> Result<(), FrameError> {
+    frames.get_mut(alloc, name)?.set_int(7);
+    Ok(())
+}
+
+/// What a call of a name answers, or of a level. `number` sets the name to the number 2, which is kept as a number.
+fn of_name(
+    frames: &mut Frames,
+    alloc: Global,
+    call: &str,
+    name: &Text,
+) -> Result<Text, FrameError> {
+    match call {
+        "unset" => done(alloc, frames.unset(alloc, name)),
+        "make" => done(alloc, frames.make_array(alloc, name)),
+        "empty" => done(alloc, frames.unset_elements(alloc, name, None)),
+        "number" => done(alloc, frames.set(alloc, name, Value::from_int(2))),
+        "seven" => done(alloc, seven(frames, alloc, name)),
+        "aside" => done(alloc, frames.set_aside(alloc, level_of(name)?)),
+        _ => looked_at(frames, alloc, call, name),
+    }
+}
+
+/// What a call answers that looks at those elements that a pattern takes.
+fn matched(
+    frames: &Frames,
+    alloc: Global,
+    call: &str,
+    name: &Text,
+    pattern: &Text,
+) -> Result<Text, FrameError> {
+    match call {
+        "keys" => list(alloc, frames.element_names(alloc, name, Some(pattern))),
+        "elements" => flat(alloc, frames.elements(alloc, name, Some(pattern))),
+        _ => Err(unreadable()),
+    }
+}
+
+/// What a call answers of a name and a value, a key or a pattern.
+fn of_two(
+    frames: &mut Frames,
+    alloc: Global,
+    call: &str,
+    name: &Text,
+    other: &Text,
+) -> Result<Text, FrameError> {
+    match call {
+        "set" => done(alloc, frames.set(alloc, name, value(other)?)),
+        "drop" => done(alloc, frames.unset_element(alloc, name, other)),
+        "empty" => done(alloc, frames.unset_elements(alloc, name, Some(other))),
+        _ => matched(frames, alloc, call, name, other),
+    }
+}
+
+/// What a call of three words answers: `put NAME KEY VALUE`, or `link LEVEL OTHER LOCAL`.
+fn of_three(
+    frames: &mut Frames,
+    alloc: Global,
+    call: &str,
+    words: (&Text, &Text, &Text),
+) -> Result<Text, FrameError> {
+    let (first, second, third) = words;
+    match call {
+        "put" => done(
+            alloc,
+            frames.set_element(alloc, first, second, value(third)?),
+        ),
+        "link" => done(alloc, frames.link(alloc, level_of(first)?, second, third)),
+        _ => Err(unreadable()),
+    }
+}
+
+/// Takes the frame on top off.
+fn pop(frames: &mut Frames) -> Result<(), FrameError> {
+    frames.pop();
+    Ok(())
+}
+
+/// Brings the frames back that were set aside last.
+fn bring_back(frames: &mut Frames) -> Result<(), FrameError> {
+    frames.bring_back();
+    Ok(())
+}
+
+/// What a call of no words answers.
+fn of_none(frames: &mut Frames, alloc: Global, call: &str) -> Result<Text, FrameError> {
+    match call {
+        "pop" => done(alloc, pop(frames)),
+        "back" => done(alloc, bring_back(frames)),
+        "level" => count(alloc, Ok(frames.level())),
+        _ => Err(unreadable()),
+    }
+}
+
+/// The values of words.
+fn values(alloc: Global, words: &[Text]) -> Result<Vec<Value>, FrameError> {
+    let mut values = Vec::new(alloc);
+    for word in words {
+        values.push(value(word)?)?;
+    }
+    Ok(values)
+}
+
+/// `push ?WORD ..?`: puts a frame on top, of a call with these words.
+fn push(frames: &mut Frames, alloc: Global, words: &[Text]) -> Result<(), FrameError> {
+    Ok(frames.push(alloc, values(alloc, words)?)?)
 }
 
 /// The words by twos, as keys and values.
@@ -92,285 +293,17 @@ fn pairs(alloc: Global, words: &[Text]) -> Result<Vec<(Text, Value)>, FrameError
     Ok(pairs)
 }
 
-/// The keys and values of elements in turn.
-fn flat(alloc: Global, elements: &[(Text, Value)]) -> Result<Text, FrameError> {
-    let mut texts = Vec::new(alloc);
-    for (key, value) in elements {
-        texts.push(key.clone()?)?;
-        texts.push(value.text(alloc)?)?;
-    }
-    list(alloc, &texts)
-}
-
-/// `entries NAME`: the keys and values of the array that is lent, in turn, with a bar between any two.
-fn entries(frames: &Frames, alloc: Global, name: &Text) -> Result<Text, FrameError> {
-    let mut all = Vec::new(alloc);
-    if let Some(elements) = frames.array(name)? {
-        for i in 0..elements.len() {
-            if let Some((key, value)) = elements.entry(i) {
-                all.push(Text::new(alloc, key)?)?;
-                all.push(value.text(alloc)?)?;
-            }
-        }
-    }
-    joined(alloc, &all)
-}
-
-/// `keys NAME ?PATTERN?`.
-fn keys(frames: &Frames, alloc: Global, words: &[Text]) -> Result<Text, FrameError> {
-    let Some((name, pattern)) = name_and_pattern(words) else {
-        return unreadable(alloc);
-    };
-    list(alloc, &frames.element_names(alloc, name, pattern)?)
-}
-
-/// `elements NAME ?PATTERN?`.
-fn elements(frames: &Frames, alloc: Global, words: &[Text]) -> Result<Text, FrameError> {
-    let Some((name, pattern)) = name_and_pattern(words) else {
-        return unreadable(alloc);
-    };
-    flat(alloc, &frames.elements(alloc, name, pattern)?)
-}
-
-/// `names SCOPE`: the names, with a bar between any two.
-fn names(frames: &Frames, alloc: Global, word: &Text) -> Result<Text, FrameError> {
-    let Some(scope) = scope_of(word) else {
-        return unreadable(alloc);
-    };
-    joined(alloc, &frames.names(alloc, scope)?)
-}
-
-/// `count SCOPE`: how many names there are.
-fn name_count(frames: &Frames, alloc: Global, word: &Text) -> Result<Text, FrameError> {
-    let Some(scope) = scope_of(word) else {
-        return unreadable(alloc);
-    };
-    count(alloc, frames.names(alloc, scope)?.len())
-}
-
-/// The texts of values, with a bar between any two.
-fn told_values(alloc: Global, values: &[Value]) -> Result<Text, FrameError> {
-    let mut all = Vec::new(alloc);
-    for value in values {
-        all.push(value.text(alloc)?)?;
-    }
-    joined(alloc, &all)
-}
-
-/// `words LEVEL`: the words of the call at a level, or `none` where there is no such level.
-fn words_at(frames: &Frames, alloc: Global, word: &Text) -> Result<Text, FrameError> {
-    let Some(level) = level_of(word) else {
-        return unreadable(alloc);
-    };
-    match frames.words(level) {
-        Some(words) => told_values(alloc, words),
-        None => Ok(Text::new(alloc, "none")?),
-    }
-}
-
-/// What a call of one word answers that only looks at the chain.
-fn looked_at(frames: &Frames, alloc: Global, call: &str, word: &Text) -> Result<Text, FrameError> {
-    match call {
-        "get" => Ok(frames.get(word)?.text(alloc)?),
-        "exists" => truth(alloc, frames.exists(word)?),
-        "array" => truth(alloc, frames.is_array(word)?),
-        "size" => count(alloc, frames.element_count(word)?),
-        "entries" => entries(frames, alloc, word),
-        "names" => names(frames, alloc, word),
-        "count" => name_count(frames, alloc, word),
-        "words" => words_at(frames, alloc, word),
-        _ => unreadable(alloc),
-    }
-}
-
-/// What a call answers that only looks at the chain.
-fn look(frames: &Frames, alloc: Global, call: &str, words: &[Text]) -> Result<Text, FrameError> {
-    match call {
-        "keys" => keys(frames, alloc, words),
-        "elements" => elements(frames, alloc, words),
-        "level" => count(alloc, frames.level()),
-        _ => match words {
-            [word] => looked_at(frames, alloc, call, word),
-            _ => unreadable(alloc),
-        },
-    }
-}
-
-/// `set NAME VALUE`.
-fn set(frames: &mut Frames, alloc: Global, words: &[Text]) -> Result<Text, FrameError> {
-    let [name, new] = words else {
-        return unreadable(alloc);
-    };
-    frames.set(alloc, name, value(new)?)?;
-    done(alloc)
-}
-
-/// `number NAME`: sets a name to the number 2, which is kept as a number.
-fn number(frames: &mut Frames, alloc: Global, words: &[Text]) -> Result<Text, FrameError> {
-    let [name] = words else {
-        return unreadable(alloc);
-    };
-    frames.set(alloc, name, Value::from_int(2))?;
-    done(alloc)
-}
-
-/// `seven NAME`: changes the value that is lent to the number 7.
-fn seven(frames: &mut Frames, alloc: Global, words: &[Text]) -> Result<Text, FrameError> {
-    let [name] = words else {
-        return unreadable(alloc);
-    };
-    frames.get_mut(alloc, name)?.set_int(7);
-    done(alloc)
-}
-
-/// `unset NAME`.
-fn unset(frames: &mut Frames, alloc: Global, words: &[Text]) -> Result<Text, FrameError> {
-    let [name] = words else {
-        return unreadable(alloc);
-    };
-    frames.unset(alloc, name)?;
-    done(alloc)
-}
-
-/// `put NAME KEY VALUE`: sets an element by its key.
-fn put(frames: &mut Frames, alloc: Global, words: &[Text]) -> Result<Text, FrameError> {
-    let [name, key, new] = words else {
-        return unreadable(alloc);
-    };
-    frames.set_element(alloc, name, key, value(new)?)?;
-    done(alloc)
-}
-
-/// `drop NAME KEY`: unsets an element by its key.
-fn drop_key(frames: &mut Frames, alloc: Global, words: &[Text]) -> Result<Text, FrameError> {
-    let [name, key] = words else {
-        return unreadable(alloc);
-    };
-    frames.unset_element(alloc, name, key)?;
-    done(alloc)
-}
-
-/// `make NAME`: makes an array.
-fn make(frames: &mut Frames, alloc: Global, words: &[Text]) -> Result<Text, FrameError> {
-    let [name] = words else {
-        return unreadable(alloc);
-    };
-    frames.make_array(alloc, name)?;
-    done(alloc)
-}
-
 /// `fill NAME ?KEY VALUE ..?`: sets elements together.
-fn fill(frames: &mut Frames, alloc: Global, words: &[Text]) -> Result<Text, FrameError> {
-    let [name, others @ ..] = words else {
-        return unreadable(alloc);
-    };
-    if others.len() % 2 == 1 {
-        return unreadable(alloc);
-    }
-    frames.set_elements(alloc, name, pairs(alloc, others)?)?;
-    done(alloc)
-}
-
-/// `empty NAME ?PATTERN?`: unsets elements together.
-fn empty(frames: &mut Frames, alloc: Global, words: &[Text]) -> Result<Text, FrameError> {
-    let Some((name, pattern)) = name_and_pattern(words) else {
-        return unreadable(alloc);
-    };
-    frames.unset_elements(alloc, name, pattern)?;
-    done(alloc)
-}
-
-/// `link LEVEL OTHER LOCAL`.
-fn link_to(
-    frames: &mut Frames,
-    alloc: Global,
-    level: &Text,
-    other: &Text,
-    local: &Text,
-) -> Result<Text, FrameError> {
-    let Some(level) = level_of(level) else {
-        return unreadable(alloc);
-    };
-    frames.link(alloc, level, other, local)?;
-    done(alloc)
-}
-
-/// `link LEVEL OTHER LOCAL`, by its words.
-fn link(frames: &mut Frames, alloc: Global, words: &[Text]) -> Result<Text, FrameError> {
+fn fill(frames: &mut Frames, alloc: Global, words: &[Text]) -> Result<(), FrameError> {
     match words {
-        [level, other, local] => link_to(frames, alloc, level, other, local),
-        _ => unreadable(alloc),
+        [name, others @ ..] if others.len() % 2 == 0 => {
+            frames.set_elements(alloc, name, pairs(alloc, others)?)
+        }
+        _ => Err(unreadable()),
     }
 }
 
-/// `push ?WORD ..?`: puts a frame on top, of a call with these words.
-fn push(frames: &mut Frames, alloc: Global, words: &[Text]) -> Result<Text, FrameError> {
-    let mut values = Vec::new(alloc);
-    for word in words {
-        values.push(value(word)?)?;
-    }
-    frames.push(alloc, values)?;
-    done(alloc)
-}
-
-/// `pop`: takes the frame on top off.
-fn pop(frames: &mut Frames, alloc: Global) -> Result<Text, FrameError> {
-    frames.pop();
-    done(alloc)
-}
-
-/// `aside LEVEL`: sets the frames above a level aside.
-fn set_aside(frames: &mut Frames, alloc: Global, words: &[Text]) -> Result<Text, FrameError> {
-    let [word] = words else {
-        return unreadable(alloc);
-    };
-    let Some(level) = level_of(word) else {
-        return unreadable(alloc);
-    };
-    frames.set_aside(alloc, level)?;
-    done(alloc)
-}
-
-/// `back`: brings the frames back that were set aside last.
-fn bring_back(frames: &mut Frames, alloc: Global) -> Result<Text, FrameError> {
-    frames.bring_back();
-    done(alloc)
-}
-
-/// What a call answers on the frames of the chain.
-fn of_frames(
-    frames: &mut Frames,
-    alloc: Global,
-    call: &str,
-    words: &[Text],
-) -> Result<Text, FrameError> {
-    match call {
-        "push" => push(frames, alloc, words),
-        "pop" => pop(frames, alloc),
-        "aside" => set_aside(frames, alloc, words),
-        "back" => bring_back(frames, alloc),
-        _ => look(frames, alloc, call, words),
-    }
-}
-
-/// What a call answers on an array.
-fn of_arrays(
-    frames: &mut Frames,
-    alloc: Global,
-    call: &str,
-    words: &[Text],
-) -> Result<Text, FrameError> {
-    match call {
-        "put" => put(frames, alloc, words),
-        "drop" => drop_key(frames, alloc, words),
-        "make" => make(frames, alloc, words),
-        "fill" => fill(frames, alloc, words),
-        "empty" => empty(frames, alloc, words),
-        _ => of_frames(frames, alloc, call, words),
-    }
-}
-
-/// What a call answers.
+/// What a call answers that takes as many words as it needs, or else by how many there are.
 fn answered(
     frames: &mut Frames,
     alloc: Global,
@@ -378,12 +311,15 @@ fn answered(
     words: &[Text],
 ) -> Result<Text, FrameError> {
     match call {
-        "set" => set(frames, alloc, words),
-        "number" => number(frames, alloc, words),
-        "seven" => seven(frames, alloc, words),
-        "unset" => unset(frames, alloc, words),
-        "link" => link(frames, alloc, words),
-        _ => of_arrays(frames, alloc, call, words),
+        "push" => done(alloc, push(frames, alloc, words)),
+        "fill" => done(alloc, fill(frames, alloc, words)),
+        _ => match words {
+            [] => of_none(frames, alloc, call),
+            [name] => of_name(frames, alloc, call, name),
+            [name, other] => of_two(frames, alloc, call, name, other),
+            [first, second, third] => of_three(frames, alloc, call, (first, second, third)),
+            _ => Err(unreadable()),
+        },
     }
 }
 
@@ -391,7 +327,7 @@ fn answered(
 fn answer(frames: &mut Frames, alloc: Global, words: &[Text]) -> Result<Text, FrameError> {
     match words {
         [call, others @ ..] => answered(frames, alloc, call.as_str(), others),
-        _ => unreadable(alloc),
+        _ => Err(unreadable()),
     }
 }
 

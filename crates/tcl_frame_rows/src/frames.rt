@@ -130,17 +130,15 @@ push f a {b c} => -
 set own 2 => -
 link 0 k v => -";
 
-/// A new chain as [`CHAIN`] makes it.
-fn chain(alloc: Global) -> Result<Frames, Fail> {
-    let mut frames = Frames::new(alloc)?;
-    see_calls(alloc, &mut frames, CHAIN)?;
-    Ok(frames)
+/// Sees whether a chain is equal to a new one, which is made as [`CHAIN`] says.
+fn see_equal(alloc: Global, frames: &Frames, new: &mut Frames, wanted: bool) -> Result<(), Fail> {
+    see_calls(alloc, new, CHAIN)?;
+    see_whether(frames.same(new), wanted, "the chain is as it was made")
 }
 
 /// Sees whether a chain is as [`CHAIN`] makes it.
 fn see_chain(alloc: Global, frames: &Frames, wanted: bool) -> Result<(), Fail> {
-    let made = chain(alloc)?;
-    see_whether(frames.same(&made), wanted, "the chain is as it was made")
+    see_equal(alloc, frames, &mut Frames::new(alloc)?, wanted)
 }
 
 /// Sees what the calls of rows answer, and whether the chain is then as [`CHAIN`] makes it.
@@ -149,9 +147,15 @@ fn see_then(alloc: Global, frames: &mut Frames, rows: &str, wanted: bool) -> Res
     see_chain(alloc, frames, wanted)
 }
 
+/// Makes a chain as [`CHAIN`] says, and sees what calls are told that leave it so.
+fn see_refused(alloc: Global, frames: &mut Frames, rows: &str) -> Result<(), Fail> {
+    see_calls(alloc, frames, CHAIN)?;
+    see_then(alloc, frames, rows, true)
+}
+
 /// Sees what calls are told that leave the chain as it was made.
 fn see_refusals(alloc: Global, rows: &str) -> Result<(), Fail> {
-    see_then(alloc, &mut chain(alloc)?, rows, true)
+    see_refused(alloc, &mut Frames::new(alloc)?, rows)
 }
 
 #[test]
@@ -214,11 +218,15 @@ drop ::a q => can't unset \"::a(q)\": no such element in array";
 /// An element of an element that is linked to is asked for.
 #[test]
 fn element_has_no_elements(rt: HostRuntime) -> Result<(), Fail> {
-    let rows = "link 0 a(x) e => -
+    let rows = "set k 5 => -
+set a(x) 1 => -
+push f a {b c} => -
+set own 2 => -
+link 0 k v => -
+link 0 a(x) e => -
 link 1 e(y) w => can't read \"e(y)\": variable isn't array
 get e => 1";
-    let alloc = rt.alloc();
-    see_calls(alloc, &mut chain(alloc)?, rows)
+    see_new(rt.alloc(), rows)
 }
 
 /// Brings back what was set aside in a copy and changes it, and sees that the chain itself stays.
@@ -229,8 +237,9 @@ fn see_copy(alloc: Global, frames: &mut Frames, copy: &mut Frames) -> Result<(),
     see_calls(alloc, copy, "get ::k => 6")
 }
 
-/// Sets the frame on top aside and sees what a copy is then.
+/// Makes a chain as [`CHAIN`] says, sets the frame on top aside and sees what a copy is then.
 fn see_copied(alloc: Global, frames: &mut Frames) -> Result<(), Fail> {
+    see_calls(alloc, frames, CHAIN)?;
     see_calls(alloc, frames, "aside 0 => -")?;
     let mut copy = frames.copy()?;
     see_copy(alloc, frames, &mut copy)
@@ -239,12 +248,12 @@ fn see_copied(alloc: Global, frames: &mut Frames) -> Result<(), Fail> {
 /// A copy has what was set aside, too, and what is done to it leaves the chain as it is.
 #[test]
 fn copy_is_a_chain_of_its_own(rt: HostRuntime) -> Result<(), Fail> {
-    let alloc = rt.alloc();
-    see_copied(alloc, &mut chain(alloc)?)
+    see_copied(rt.alloc(), &mut Frames::new(rt.alloc())?)
 }
 
-/// Changes a chain, and sees each time whether it is equal to one that is made anew.
+/// Makes a chain as [`CHAIN`] says and changes it, and sees each time whether it is equal to one that is made anew.
 fn see_equal_chains(alloc: Global, frames: &mut Frames) -> Result<(), Fail> {
+    see_calls(alloc, frames, CHAIN)?;
     see_then(alloc, frames, "number own => -", true)?;
     see_then(alloc, frames, "aside 0 => -", false)?;
     see_then(alloc, frames, "back => -", true)?;
@@ -254,6 +263,5 @@ fn see_equal_chains(alloc: Global, frames: &mut Frames) -> Result<(), Fail> {
 /// Chains are equal whatever form their values keep, and aren't where the order of names, a word, or what is set aside differs.
 #[test]
 fn equal_chains_are_told(rt: HostRuntime) -> Result<(), Fail> {
-    let alloc = rt.alloc();
-    see_equal_chains(alloc, &mut chain(alloc)?)
+    see_equal_chains(rt.alloc(), &mut Frames::new(rt.alloc())?)
 }

@@ -8,6 +8,8 @@ mod calls;
 #[cfg(test)]
 mod completions;
 #[cfg(test)]
+mod endings;
+#[cfg(test)]
 mod frames;
 #[cfg(test)]
 mod maps;

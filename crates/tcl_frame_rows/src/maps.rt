@@ -1,7 +1,7 @@
 //! Maps of names by rows: a line has the words of a call as a list, and behind the arrow what it answers. A call that changes the map
 //! answers `-`.
-use crate::seeing::{see, see_in_row, see_whether, sides};
-use std::alloc::Global;
+use crate::seeing::{see, see_in_row, see_whether, sides, unreadable};
+use std::alloc::{AllocError, Global};
 use std::test::Fail;
 use tcl_text::list::read_list;
 use tcl_text::text::Text;
@@ -12,7 +12,7 @@ use tcl_variables::name_map::NameMap;
 fn number_of(word: &Text) -> Result<u32, Fail> {
     match word.as_str().parse::<u32>() {
         Ok(number) => Ok(number),
-        Err(_) => Err(Fail::new("no number")),
+        Err(_) => Err(unreadable(word.as_str())),
     }
 }
 
@@ -20,23 +20,14 @@ fn number_of(word: &Text) -> Result<u32, Fail> {
 fn place_of(word: &Text) -> Result<usize, Fail> {
     match word.as_str().parse::<usize>() {
         Ok(place) => Ok(place),
-        Err(_) => Err(Fail::new("no place")),
+        Err(_) => Err(unreadable(word.as_str())),
     }
 }
 
-/// A call that can't be read.
-fn unreadable() -> Result<String, Fail> {
-    Err(Fail::new("no such call"))
-}
-
 /// The answer of a call that changes the map.
-fn done(alloc: Global) -> Result<String, Fail> {
+fn done(alloc: Global, changed: Result<(), AllocError>) -> Result<String, Fail> {
+    changed?;
     Ok(String::from_str(alloc, "-")?)
-}
-
-/// The answer where there is nothing.
-fn none(alloc: Global) -> Result<String, Fail> {
-    Ok(String::from_str(alloc, "none")?)
 }
 
 /// The names of a map, each followed by its number.
@@ -54,7 +45,7 @@ fn entries(alloc: Global, map: &NameMap<u32>) -> Result<String, Fail> {
 fn get(map: &NameMap<u32>, alloc: Global, name: &Text) -> Result<String, Fail> {
     match map.get(name.as_str()) {
         Some(number) => Ok(format!(in alloc; "{number}")?),
-        None => none(alloc),
+        None => Ok(String::from_str(alloc, "none")?),
     }
 }
 
@@ -62,7 +53,7 @@ fn get(map: &NameMap<u32>, alloc: Global, name: &Text) -> Result<String, Fail> {
 fn find(map: &NameMap<u32>, alloc: Global, name: &Text) -> Result<String, Fail> {
     match map.find(name.as_str()) {
         Some((place, number)) => Ok(format!(in alloc; "{place} {number}")?),
-        None => none(alloc),
+        None => Ok(String::from_str(alloc, "none")?),
     }
 }
 
@@ -70,61 +61,36 @@ fn find(map: &NameMap<u32>, alloc: Global, name: &Text) -> Result<String, Fail> 
 fn entry(map: &NameMap<u32>, alloc: Global, place: &Text) -> Result<String, Fail> {
     match map.entry(place_of(place)?) {
         Some((name, number)) => Ok(format!(in alloc; "{name}{number}")?),
-        None => none(alloc),
+        None => Ok(String::from_str(alloc, "none")?),
     }
 }
 
 /// `change NAME NUMBER`: changes the number of a name where it stands.
-fn change(map: &mut NameMap<u32>, alloc: Global, name: &Text, new: &Text) -> Result<String, Fail> {
-    let new = number_of(new)?;
-    match map.get_mut(name.as_str()) {
-        Some(number) => {
-            *number = new;
-            done(alloc)
-        }
-        None => none(alloc),
+fn change(map: &mut NameMap<u32>, name: &Text, new: u32) -> Result<(), AllocError> {
+    if let Some(number) = map.get_mut(name.as_str()) {
+        *number = new;
     }
+    Ok(())
 }
 
 /// `near PLACE NAME NUMBER`: the same, of a name that is looked for at a place first.
-fn change_near(
-    map: &mut NameMap<u32>,
-    alloc: Global,
-    place: usize,
-    name: &Text,
-    new: u32,
-) -> Result<String, Fail> {
-    match map.get_mut_near(place, name.as_str()) {
-        Some(number) => {
-            *number = new;
-            done(alloc)
-        }
-        None => none(alloc),
+fn near(map: &mut NameMap<u32>, place: usize, name: &Text, new: u32) -> Result<(), AllocError> {
+    if let Some(number) = map.get_mut_near(place, name.as_str()) {
+        *number = new;
     }
-}
-
-/// `insert NAME NUMBER`.
-fn insert(map: &mut NameMap<u32>, alloc: Global, name: &Text, new: &Text) -> Result<String, Fail> {
-    map.insert(alloc, name.as_str(), number_of(new)?)?;
-    done(alloc)
-}
-
-/// `share NAME NUMBER`: inserts a name whose text is shared.
-fn share(map: &mut NameMap<u32>, alloc: Global, name: &Text, new: &Text) -> Result<String, Fail> {
-    map.insert_shared(alloc, name, number_of(new)?)?;
-    done(alloc)
+    Ok(())
 }
 
 /// `remove NAME`.
-fn remove(map: &mut NameMap<u32>, alloc: Global, name: &Text) -> Result<String, Fail> {
+fn remove(map: &mut NameMap<u32>, name: &Text) -> Result<(), AllocError> {
     map.remove(name.as_str());
-    done(alloc)
+    Ok(())
 }
 
 /// `thin PATTERN`: removes the names that a pattern matches.
-fn thin(map: &mut NameMap<u32>, alloc: Global, pattern: &Text) -> Result<String, Fail> {
+fn thin(map: &mut NameMap<u32>, pattern: &Text) -> Result<(), AllocError> {
     map.remove_matching(pattern.as_str());
-    done(alloc)
+    Ok(())
 }
 
 /// The words by twos, as names and numbers.
@@ -140,60 +106,49 @@ fn pairs(alloc: Global, words: &[Text]) -> Result<Vec<(Text, u32)>, Fail> {
     Ok(pairs)
 }
 
-/// `all NAME NUMBER ..`: inserts names together.
-fn all(map: &mut NameMap<u32>, alloc: Global, words: &[Text]) -> Result<String, Fail> {
-    map.insert_all(alloc, pairs(alloc, words)?)?;
-    done(alloc)
-}
-
 /// What a call of one word answers.
 fn of_one(map: &mut NameMap<u32>, alloc: Global, call: &str, word: &Text) -> Result<String, Fail> {
     match call {
         "get" => get(map, alloc, word),
         "find" => find(map, alloc, word),
         "entry" => entry(map, alloc, word),
-        "remove" => remove(map, alloc, word),
-        "thin" => thin(map, alloc, word),
-        _ => unreadable(),
+        "remove" => done(alloc, remove(map, word)),
+        "thin" => done(alloc, thin(map, word)),
+        _ => Err(unreadable(call)),
     }
 }
 
-/// What a call of a name and a number answers.
+/// What a call of a name and a number answers. `share` inserts a name whose text is shared.
 fn of_two(
     map: &mut NameMap<u32>,
     alloc: Global,
     call: &str,
     name: &Text,
-    number: &Text,
+    number: u32,
 ) -> Result<String, Fail> {
     match call {
-        "insert" => insert(map, alloc, name, number),
-        "share" => share(map, alloc, name, number),
-        "change" => change(map, alloc, name, number),
-        _ => unreadable(),
+        "insert" => done(alloc, map.insert(alloc, name.as_str(), number)),
+        "share" => done(alloc, map.insert_shared(alloc, name, number)),
+        "change" => done(alloc, change(map, name, number)),
+        _ => Err(unreadable(call)),
     }
 }
 
-/// `near PLACE NAME NUMBER`, by its words.
-fn near(map: &mut NameMap<u32>, alloc: Global, words: &[Text]) -> Result<String, Fail> {
-    let [place, name, number] = words else {
-        return unreadable();
-    };
-    change_near(map, alloc, place_of(place)?, name, number_of(number)?)
-}
-
-/// What a call answers that takes other words than these.
-fn of_others(
+/// What a call answers that takes other words than these: `near`, or `all NAME NUMBER ..`, which inserts names together.
+fn of_more(
     map: &mut NameMap<u32>,
     alloc: Global,
     call: &str,
     words: &[Text],
 ) -> Result<String, Fail> {
-    match call {
-        "entries" => entries(alloc, map),
-        "near" => near(map, alloc, words),
-        "all" => all(map, alloc, words),
-        _ => unreadable(),
+    match words {
+        [] if call == "entries" => entries(alloc, map),
+        [place, name, number] if call == "near" => done(
+            alloc,
+            near(map, place_of(place)?, name, number_of(number)?),
+        ),
+        _ if call == "all" => done(alloc, map.insert_all(alloc, pairs(alloc, words)?)),
+        _ => Err(unreadable(call)),
     }
 }
 
@@ -201,9 +156,9 @@ fn of_others(
 fn answer(map: &mut NameMap<u32>, alloc: Global, words: &[Text]) -> Result<String, Fail> {
     match words {
         [call, word] => of_one(map, alloc, call.as_str(), word),
-        [call, name, number] => of_two(map, alloc, call.as_str(), name, number),
-        [call, others @ ..] => of_others(map, alloc, call.as_str(), others),
-        _ => unreadable(),
+        [call, name, number] => of_two(map, alloc, call.as_str(), name, number_of(number)?),
+        [call, others @ ..] => of_more(map, alloc, call.as_str(), others),
+        _ => Err(unreadable("no words")),
     }
 }
 
@@ -257,11 +212,10 @@ insert f 6 => -
 insert g 7 => -
 insert h 8 => -";
 
-/// A map of eight names.
-fn eight(alloc: Global) -> Result<NameMap<u32>, Fail> {
-    let mut map = NameMap::new(alloc);
-    see_calls(alloc, &mut map, EIGHT)?;
-    Ok(map)
+/// Sees what the calls of rows answer on a map of eight names.
+fn see_eight(alloc: Global, map: &mut NameMap<u32>, rows: &str) -> Result<(), Fail> {
+    see_calls(alloc, map, EIGHT)?;
+    see_calls(alloc, map, rows)
 }
 
 /// The names keep their order past the number up to which they are looked through one by one, and back.
@@ -275,8 +229,7 @@ thin {[c-h]} => -
 share a 11 => -
 entries => b10 i9 a11 
 find i => 1 9";
-    let alloc = rt.alloc();
-    see_calls(alloc, &mut eight(alloc)?, rows)
+    see_eight(rt.alloc(), &mut NameMap::new(rt.alloc()), rows)
 }
 
 /// Sees that two maps have the same entries.
@@ -295,24 +248,30 @@ fn see_copied(alloc: Global, map: &NameMap<u32>, other: &NameMap<u32>) -> Result
     see_equal(alloc, map, &other.clone()?)
 }
 
-/// Brings a map past a few names and back, and changes it as one of few.
-fn see_few_and_many(
-    alloc: Global,
-    few: &mut NameMap<u32>,
-    many: &mut NameMap<u32>,
-) -> Result<(), Fail> {
-    see_calls(alloc, many, "insert i 9 => -\nremove i => -")?;
+/// Sees that a map that went past a few names and back is as one of few, and so when both are changed.
+fn see_both(alloc: Global, few: &mut NameMap<u32>, many: &mut NameMap<u32>) -> Result<(), Fail> {
     see_copy(alloc, many, few)?;
     see_calls(alloc, few, "near 7 h 0 => -")?;
     see_calls(alloc, many, "near 0 h 0 => -")?;
     see_copied(alloc, many, few)
 }
 
+/// Makes two maps of eight names, one of which goes past a few names and back.
+fn see_few_and_many(
+    alloc: Global,
+    few: &mut NameMap<u32>,
+    many: &mut NameMap<u32>,
+) -> Result<(), Fail> {
+    see_calls(alloc, few, EIGHT)?;
+    see_eight(alloc, many, "insert i 9 => -\nremove i => -")?;
+    see_both(alloc, few, many)
+}
+
 /// A copy of many names is equal to one that was made of them another way, and so is one of few.
 #[test]
 fn copies_of_few_and_many_are_equal(rt: HostRuntime) -> Result<(), Fail> {
     let alloc = rt.alloc();
-    see_few_and_many(alloc, &mut eight(alloc)?, &mut eight(alloc)?)
+    see_few_and_many(alloc, &mut NameMap::new(alloc), &mut NameMap::new(alloc))
 }
 
 /// Many names are given values at once, and those that a pattern matches are taken out.
@@ -347,8 +306,7 @@ fn see_order(alloc: Global, map: &NameMap<Text>, copy: &mut NameMap<Text>) -> Re
 /// Sees that the copy of a map is equal in the same order alone.
 fn see_orders(alloc: Global, map: &mut NameMap<Text>) -> Result<(), Fail> {
     put_two(alloc, map)?;
-    let mut copy = map.clone()?;
-    see_order(alloc, map, &mut copy)
+    see_order(alloc, map, &mut map.clone()?)
 }
 
 /// Maps of the same names and texts are equal, in the same order alone.

@@ -29,14 +29,6 @@ pub(crate) fn see_whether(found: bool, wanted: bool, what: &str) -> Result<(), F
     Err(Fail::new(format_args!("found {found}, wanted {wanted}: {what}")))
 }
 
-/// Sees a number, as a code or a count.
-pub(crate) fn see_number(found: i64, wanted: i64, what: &str) -> Result<(), Fail> {
-    if found == wanted {
-        return Ok(());
-    }
-    Err(Fail::new(format_args!("found {found}, wanted {wanted}: {what}")))
-}
-
 /// Sees how many there are.
 pub(crate) fn see_count(found: usize, wanted: usize, what: &str) -> Result<(), Fail> {
     if found == wanted {
@@ -72,6 +64,6 @@ pub(crate) fn value(alloc: Global, text: &str) -> Result<Value, Fail> {
 pub(crate) fn told(alloc: Global, error: FrameError) -> Result<Text, Fail> {
     match error {
         FrameError::Fault(fault) => Ok(fault.message(alloc)?),
-        FrameError::Memory => Err(Fail::new("want of memory")),
+        FrameError::Memory => Err(Fail::new("want of memory, or a call that can't be read")),
     }
 }

@@ -55,18 +55,6 @@ fn plain_names_are_told(rt: HostRuntime) -> Result<(), Fail> {
     see_element(rt.alloc(), "a", "b c", "a(b c)")
 }
 
-/// Changes a part of what a name stands for, which is told by another name.
-fn change(
-    alloc: Global,
-    frame: &mut Frame,
-    base: &str,
-    part: Part<'_>,
-    change: Change,
-    name: &str,
-) -> Result<(), Fail> {
-    Ok(frame.change(alloc, base, part, change, &Text::new(alloc, name)?)?)
-}
-
 /// Sets a part of what a name stands for.
 fn set(
     alloc: Global,
@@ -74,15 +62,10 @@ fn set(
     base: &str,
     part: Part<'_>,
     new: &str,
+    name: &Text,
 ) -> Result<(), Fail> {
-    change(
-        alloc,
-        frame,
-        base,
-        part,
-        Change::Assign(value(alloc, new)?),
-        "given",
-    )
+    let new = Change::Assign(value(alloc, new)?);
+    Ok(frame.change(alloc, base, part, new, name)?)
 }
 
 /// The place of an element at level 0.
@@ -96,12 +79,17 @@ fn far(alloc: Global) -> Result<Place, Fail> {
     })
 }
 
-/// Sets a value `s` and an array `a` of `x`, and makes a link `l`.
-fn fill(alloc: Global, frame: &mut Frame) -> Result<(), Fail> {
-    set(alloc, frame, "s", Part::Whole, "1")?;
+/// Makes an array `a` with no elements.
+fn make(alloc: Global, frame: &mut Frame, name: &Text) -> Result<(), Fail> {
     let none = Change::SetElements(Vec::new(alloc));
-    change(alloc, frame, "a", Part::Whole, none, "given")?;
-    set(alloc, frame, "a", Part::Element("x"), "2")?;
+    Ok(frame.change(alloc, "a", Part::Whole, none, name)?)
+}
+
+/// Sets a value `s` and an array `a` of `x`, and makes a link `l`.
+fn fill(alloc: Global, frame: &mut Frame, name: &Text) -> Result<(), Fail> {
+    set(alloc, frame, "s", Part::Whole, "1", name)?;
+    make(alloc, frame, name)?;
+    set(alloc, frame, "a", Part::Element("x"), "2", name)?;
     Ok(frame.link(alloc, "l", far(alloc)?)?)
 }
 
@@ -112,11 +100,9 @@ fn words(alloc: Global) -> Result<Vec<Value>, Fail> {
     Ok(words)
 }
 
-/// A frame of a value `s`, an array `a` of `x` and a link `l`.
-fn frame(alloc: Global) -> Result<Frame, Fail> {
-    let mut frame = Frame::new(alloc, words(alloc)?);
-    fill(alloc, &mut frame)?;
-    Ok(frame)
+/// Makes a frame one of a value `s`, an array `a` of `x` and a link `l`.
+fn begin(alloc: Global, frame: &mut Frame) -> Result<(), Fail> {
+    fill(alloc, frame, &Text::new(alloc, "given")?)
 }
 
 /// Sees that this is refused.
@@ -158,7 +144,8 @@ fn see_array(alloc: Global, array: Option<&Variable>) -> Result<(), Fail> {
 }
 
 /// Sees what a frame has.
-fn see_parts(alloc: Global, frame: &Frame) -> Result<(), Fail> {
+fn see_parts(alloc: Global, frame: &mut Frame) -> Result<(), Fail> {
+    begin(alloc, frame)?;
     see_count(frame.words().len(), 1, "words")?;
     see_count(frame.variables().len(), 3, "variables")?;
     see_array(alloc, frame.variable("a"))
@@ -167,38 +154,42 @@ fn see_parts(alloc: Global, frame: &Frame) -> Result<(), Fail> {
 /// What a frame has, read part by part.
 #[test]
 fn parts_are_read(rt: HostRuntime) -> Result<(), Fail> {
-    let alloc = rt.alloc();
-    let frame = frame(alloc)?;
-    see_parts(alloc, &frame)
+    let words = words(rt.alloc())?;
+    see_parts(rt.alloc(), &mut Frame::new(rt.alloc(), words))
 }
 
 /// Sees that an array is not set.
-fn see_not_set(alloc: Global, frame: &mut Frame) -> Result<(), Fail> {
-    let name = Text::new(alloc, "a")?;
+fn see_not_set(alloc: Global, frame: &mut Frame, name: &Text) -> Result<(), Fail> {
     let five = Change::Assign(value(alloc, "5")?);
-    match frame.change(alloc, "a", Part::Whole, five, &name) {
+    match frame.change(alloc, "a", Part::Whole, five, name) {
         Ok(()) => Err(Fail::new("a change")),
         Err(error) => see_refusal(alloc, error, "can't set \"a\": variable is array"),
     }
 }
 
-/// Sees that a refused change leaves a frame, and that another doesn't.
-fn see_changes(alloc: Global, frame: &mut Frame, before: &Frame) -> Result<(), Fail> {
-    see_not_set(alloc, frame)?;
+/// Sees that a refused change leaves a frame as it was, and that another doesn't.
+fn see_changes(alloc: Global, frame: &mut Frame, before: &Frame, name: &Text) -> Result<(), Fail> {
+    see_not_set(alloc, frame, name)?;
     see_whether(frame.same(before), true, "the frame is as before")?;
-    change(alloc, frame, "a", Part::Element("x"), Change::Unset, "a")?;
+    frame.change(alloc, "a", Part::Element("x"), Change::Unset, name)?;
     see_whether(frame.same(before), false, "the frame is as before")
 }
 
-/// Sees what changes a frame.
-fn see_changed(alloc: Global, frame: &mut Frame) -> Result<(), Fail> {
+/// Sees what changes leave of a frame, by its copy.
+fn see_changed(alloc: Global, frame: &mut Frame, before: &Frame) -> Result<(), Fail> {
+    see_changes(alloc, frame, before, &Text::new(alloc, "a")?)
+}
+
+/// Sees what changes leave of a frame.
+fn see_left(alloc: Global, frame: &mut Frame) -> Result<(), Fail> {
+    begin(alloc, frame)?;
     let before = frame.clone()?;
-    see_changes(alloc, frame, &before)
+    see_changed(alloc, frame, &before)
 }
 
 /// `set a 5` over an array is refused, and leaves the frame as it was.
 #[test]
 fn change_is_refused(rt: HostRuntime) -> Result<(), Fail> {
-    let alloc = rt.alloc();
-    see_changed(alloc, &mut frame(alloc)?)
+    let words = words(rt.alloc())?;
+    see_left(rt.alloc(), &mut Frame::new(rt.alloc(), words))
 }
