@@ -1,5 +1,6 @@
 //! What the contracts don't say: that calls succeed where there is memory.
-use std::alloc::{AllocError, Global};
+use crate::seeing::{see, see_count, see_value, see_whether, told, value};
+use std::alloc::Global;
 use std::test::Fail;
 use tcl_text::text::Text;
 use tcl_value::value::Value;
@@ -7,243 +8,188 @@ use tcl_variables::access::{Part, elements_in, holds_in, value_in};
 use tcl_variables::comparing::Same;
 use tcl_variables::fault::FrameError;
 use tcl_variables::frame::{Change, Frame};
-use tcl_variables::name::{element_text, is_plain_name, read_name};
-use tcl_variables::name_map::NameMap;
-use tcl_variables::variable::Place;
+use tcl_variables::name::{Written, element_text, is_plain_name, read_name};
+use tcl_variables::variable::{Place, Variable};
 
-fn text(alloc: Global, text: &str) -> Result<Text, AllocError> {
-    Text::new(alloc, text)
+/// Sees the parts of a name.
+fn see_parts_of(
+    written: Written<'_>,
+    is_global: bool,
+    base: &str,
+    key: Option<&str>,
+) -> Result<(), Fail> {
+    see_whether(written.is_global, is_global, "the name is global")?;
+    see_whether(written.key == key, true, "the key is as wanted")?;
+    see(written.base, base)
 }
 
-fn value(alloc: Global, text: &str) -> Result<Value, Fail> {
-    Ok(Value::from_text(Text::new(alloc, text)?)?)
-}
-
-/// What a script is told of a refusal; `-` where there is none.
-fn told(alloc: Global, refusal: Option<FrameError>) -> Result<Text, Fail> {
-    match refusal {
-        None => Ok(text(alloc, "-")?),
-        Some(FrameError::Fault(fault)) => Ok(fault.message(alloc)?),
-        Some(FrameError::Memory) => Err(Fail::new("memory")),
+/// Sees the parts of a name as it is read.
+fn see_name(name: &str, is_global: bool, base: &str, key: Option<&str>) -> Result<(), Fail> {
+    match read_name(name) {
+        Some(written) => see_parts_of(written, is_global, base, key),
+        None => Err(Fail::new(format_args!("no name: {name}"))),
     }
-}
-
-/// The names of a map, each followed by its number.
-fn entries(alloc: Global, map: &NameMap<u32>) -> Result<String, Fail> {
-    let mut all = String::new(alloc);
-    for index in 0..map.len() {
-        if let Some((name, number)) = map.entry(index) {
-            write!(all, "{name}{number} ")?;
-        }
-    }
-    Ok(all)
-}
-
-/// A name keeps its place, and goes last where it was taken out.
-#[test]
-fn maps_keep_the_order_of_insertion(rt: HostRuntime) -> Result<(), Fail> {
-    let alloc = rt.alloc();
-    let mut map = NameMap::new(alloc);
-    for (name, number) in [("b", 1), ("a", 2), ("c", 3), ("b", 4)] {
-        map.insert(alloc, name, number)?;
-    }
-    assert_eq!(rt; entries(alloc, &map)?.as_str(), "b4 a2 c3 ");
-    map.remove("b");
-    map.remove("none");
-    map.insert(alloc, "b", 5)?;
-    assert_eq!(rt; entries(alloc, &map)?.as_str(), "a2 c3 b5 ");
-    if let Some(number) = map.get_mut("c") {
-        *number = 6;
-    }
-    assert_eq!(rt; map.get("c").copied(), Some(6));
-    assert_eq!(rt; map.get("d").copied(), None);
-    assert!(rt; map.entry(3).is_none());
-    Ok(())
-}
-
-/// A map of the names `a` to `h`, from 1 on.
-fn eight(alloc: Global) -> Result<NameMap<u32>, AllocError> {
-    let mut map = NameMap::new(alloc);
-    for (name, number) in [
-        ("a", 1),
-        ("b", 2),
-        ("c", 3),
-        ("d", 4),
-        ("e", 5),
-        ("f", 6),
-        ("g", 7),
-        ("h", 8),
-    ] {
-        map.insert(alloc, name, number)?;
-    }
-    Ok(map)
-}
-
-/// The names keep their order past the number up to which they are looked through one by one, and back.
-#[test]
-fn maps_go_past_a_few_names(rt: HostRuntime) -> Result<(), Fail> {
-    let alloc = rt.alloc();
-    let mut map = eight(alloc)?;
-    map.insert_shared(alloc, &text(alloc, "i")?, 9)?;
-    map.insert(alloc, "b", 10)?;
-    assert_eq!(rt;
-        entries(alloc, &map)?.as_str(),
-        "a1 b10 c3 d4 e5 f6 g7 h8 i9 "
-    );
-    map.remove("a");
-    map.remove_matching("[c-h]");
-    map.insert_shared(alloc, &text(alloc, "a")?, 11)?;
-    assert_eq!(rt; entries(alloc, &map)?.as_str(), "b10 i9 a11 ");
-    assert_eq!(rt;
-        map.find("i").map(|found| (found.0, *found.1)),
-        Some((1, 9))
-    );
-    Ok(())
-}
-
-/// A copy of many names is equal to one that was made of them another way, and so is one of few.
-#[test]
-fn copies_of_few_and_many_are_equal(rt: HostRuntime) -> Result<(), Fail> {
-    let alloc = rt.alloc();
-    let mut few = eight(alloc)?;
-    let mut many = eight(alloc)?;
-    many.insert(alloc, "i", 9)?;
-    many.remove("i");
-    assert_eq!(rt;
-        entries(alloc, &many.clone()?)?.as_str(),
-        entries(alloc, &few)?.as_str()
-    );
-    if let Some(number) = few.get_mut_near(7, "h") {
-        *number = 0;
-    }
-    if let Some(number) = many.get_mut_near(0, "h") {
-        *number = 0;
-    }
-    assert_eq!(rt;
-        entries(alloc, &many)?.as_str(),
-        entries(alloc, &few.clone()?)?.as_str()
-    );
-    Ok(())
-}
-
-/// Many names are given values at once, and those that a pattern matches are taken out.
-#[test]
-fn maps_change_many_names(rt: HostRuntime) -> Result<(), Fail> {
-    let alloc = rt.alloc();
-    let mut map = NameMap::new(alloc);
-    let mut new = Vec::new(alloc);
-    for (name, number) in [("ab", 1), ("b", 2), ("ab", 3), ("ac", 4)] {
-        new.push((text(alloc, name)?, number))?;
-    }
-    map.insert_all(alloc, new)?;
-    assert_eq!(rt; entries(alloc, &map)?.as_str(), "ab3 b2 ac4 ");
-    map.remove_matching("a?");
-    assert_eq!(rt; entries(alloc, &map)?.as_str(), "b2 ");
-    Ok(())
 }
 
 /// Names as they are read: of an element, of level 0, and none.
 #[test]
 fn names_are_read(rt: HostRuntime) -> Result<(), Fail> {
-    let element = read_name("::a(x::y)").map(|name| (name.is_global, name.base, name.key));
-    assert_eq!(rt; element, Some((true, "a", Some("x::y"))));
-    let third_colon = read_name(":::a").map(|name| (name.is_global, name.base, name.key));
-    assert_eq!(rt; third_colon, Some((true, ":a", None)));
-    assert!(rt; read_name("a::b").is_none());
-    Ok(())
+    see_name("::a(x::y)", true, "a", Some("x::y"))?;
+    see_name(":::a", true, ":a", None)?;
+    see_whether(read_name("a::b").is_none(), true, "a::b is no name")
+}
+
+/// Sees the name of an element.
+fn see_element(alloc: Global, name: &str, key: &str, wanted: &str) -> Result<(), Fail> {
+    let name = Text::new(alloc, name)?;
+    let key = Text::new(alloc, key)?;
+    see(element_text(alloc, &name, &key)?.as_str(), wanted)
 }
 
 /// Names that a link or a parameter may have.
 #[test]
 fn plain_names_are_told(rt: HostRuntime) -> Result<(), Fail> {
-    assert!(rt; is_plain_name("a(b"));
-    assert!(rt; !is_plain_name("a(b)"));
-    assert!(rt; !is_plain_name("::a"));
-    let name = text(rt.alloc(), "a")?;
-    let key = text(rt.alloc(), "b c")?;
-    assert_eq!(rt; element_text(rt.alloc(), &name, &key)?.as_str(), "a(b c)");
-    Ok(())
+    see_whether(is_plain_name("a(b"), true, "a(b")?;
+    see_whether(is_plain_name("a(b)"), false, "a(b)")?;
+    see_whether(is_plain_name("::a"), false, "::a")?;
+    see_element(rt.alloc(), "a", "b c", "a(b c)")
 }
 
-/// A frame of a value `s`, an array `a` of `x` and a link `l`.
-fn frame(alloc: Global) -> Result<Frame, Fail> {
+/// Sets a part of what a name stands for.
+fn set(
+    alloc: Global,
+    frame: &mut Frame,
+    base: &str,
+    part: Part<'_>,
+    new: &str,
+    name: &Text,
+) -> Result<(), Fail> {
+    let new = Change::Assign(value(alloc, new)?);
+    Ok(frame.change(alloc, base, part, new, name)?)
+}
+
+/// The place of an element at level 0.
+fn far(alloc: Global) -> Result<Place, Fail> {
+    let name = Text::new(alloc, "far")?;
+    let key = Text::new(alloc, "k")?;
+    Ok(Place {
+        level: 0,
+        name,
+        key: Some(key),
+    })
+}
+
+/// Makes an array `a` with no elements.
+fn make(alloc: Global, frame: &mut Frame, name: &Text) -> Result<(), Fail> {
+    let none = Change::SetElements(Vec::new(alloc));
+    Ok(frame.change(alloc, "a", Part::Whole, none, name)?)
+}
+
+/// Sets a value `s` and an array `a` of `x`, and makes a link `l`.
+fn fill(alloc: Global, frame: &mut Frame, name: &Text) -> Result<(), Fail> {
+    set(alloc, frame, "s", Part::Whole, "1", name)?;
+    make(alloc, frame, name)?;
+    set(alloc, frame, "a", Part::Element("x"), "2", name)?;
+    Ok(frame.link(alloc, "l", far(alloc)?)?)
+}
+
+/// The words of a call, of which there is one.
+fn words(alloc: Global) -> Result<Vec<Value>, Fail> {
     let mut words = Vec::new(alloc);
     words.push(value(alloc, "f")?)?;
-    let mut frame = Frame::new(alloc, words);
-    let name = text(alloc, "given")?;
-    let change = Change::Assign(value(alloc, "1")?);
-    frame.change(alloc, "s", Part::Whole, change, &name)?;
-    frame.change(
-        alloc,
-        "a",
-        Part::Whole,
-        Change::SetElements(Vec::new(alloc)),
-        &name,
-    )?;
-    let change = Change::Assign(value(alloc, "2")?);
-    frame.change(alloc, "a", Part::Element("x"), change, &name)?;
-    let place = Place {
-        level: 0,
-        name: text(alloc, "far")?,
-        key: Some(text(alloc, "k")?),
-    };
-    frame.link(alloc, "l", place)?;
-    Ok(frame)
+    Ok(words)
+}
+
+/// Makes a frame one of a value `s`, an array `a` of `x` and a link `l`.
+fn begin(alloc: Global, frame: &mut Frame) -> Result<(), Fail> {
+    fill(alloc, frame, &Text::new(alloc, "given")?)
+}
+
+/// Sees that this is refused.
+fn see_refusal(alloc: Global, error: FrameError, wanted: &str) -> Result<(), Fail> {
+    see(told(alloc, error)?.as_str(), wanted)
+}
+
+/// Sees what an element of an array is.
+fn see_held(alloc: Global, array: Option<&Variable>, name: &Text) -> Result<(), Fail> {
+    see_value(alloc, value_in(array, Part::Element("x"), name)?, "2")
+}
+
+/// Sees that an array has no value of its own.
+fn see_no_value(alloc: Global, array: Option<&Variable>, name: &Text) -> Result<(), Fail> {
+    match value_in(array, Part::Whole, name) {
+        Ok(_value) => Err(Fail::new("a value")),
+        Err(error) => see_refusal(alloc, error, "can't read \"n\": variable is array"),
+    }
+}
+
+/// Sees which parts of an array there are.
+fn see_holding(array: Option<&Variable>) -> Result<(), Fail> {
+    see_whether(holds_in(array, Part::Whole), true, "the array")?;
+    see_whether(holds_in(array, Part::Element("x")), true, "the element x")?;
+    see_whether(holds_in(array, Part::Element("y")), false, "the element y")?;
+    see_whether(
+        elements_in(array, Part::Whole).is_some(),
+        true,
+        "the elements",
+    )
+}
+
+/// Sees the parts of an array.
+fn see_array(alloc: Global, array: Option<&Variable>) -> Result<(), Fail> {
+    let name = Text::new(alloc, "n")?;
+    see_held(alloc, array, &name)?;
+    see_holding(array)?;
+    see_no_value(alloc, array, &name)
+}
+
+/// Sees what a frame has.
+fn see_parts(alloc: Global, frame: &mut Frame) -> Result<(), Fail> {
+    begin(alloc, frame)?;
+    see_count(frame.words().len(), 1, "words")?;
+    see_count(frame.variables().len(), 3, "variables")?;
+    see_array(alloc, frame.variable("a"))
 }
 
 /// What a frame has, read part by part.
 #[test]
 fn parts_are_read(rt: HostRuntime) -> Result<(), Fail> {
-    let alloc = rt.alloc();
-    let frame = frame(alloc)?;
-    let name = text(alloc, "n")?;
-    assert_eq!(rt; frame.words().len(), 1);
-    assert_eq!(rt; frame.variables().len(), 3);
-    let array = frame.variable("a");
-    let held = value_in(array, Part::Element("x"), &name)?;
-    assert_eq!(rt; held.text(alloc)?.as_str(), "2");
-    assert!(rt; holds_in(array, Part::Whole));
-    assert!(rt; holds_in(array, Part::Element("x")));
-    assert!(rt; !holds_in(array, Part::Element("y")));
-    assert!(rt; elements_in(array, Part::Whole).is_some());
-    let refusal = value_in(array, Part::Whole, &name).err();
-    assert_eq!(rt;
-        told(alloc, refusal)?.as_str(),
-        "can't read \"n\": variable is array"
-    );
-    Ok(())
+    let words = words(rt.alloc())?;
+    see_parts(rt.alloc(), &mut Frame::new(rt.alloc(), words))
+}
+
+/// Sees that an array is not set.
+fn see_not_set(alloc: Global, frame: &mut Frame, name: &Text) -> Result<(), Fail> {
+    let five = Change::Assign(value(alloc, "5")?);
+    match frame.change(alloc, "a", Part::Whole, five, name) {
+        Ok(()) => Err(Fail::new("a change")),
+        Err(error) => see_refusal(alloc, error, "can't set \"a\": variable is array"),
+    }
+}
+
+/// Sees that a refused change leaves a frame as it was, and that another doesn't.
+fn see_changes(alloc: Global, frame: &mut Frame, before: &Frame, name: &Text) -> Result<(), Fail> {
+    see_not_set(alloc, frame, name)?;
+    see_whether(frame.same(before), true, "the frame is as before")?;
+    frame.change(alloc, "a", Part::Element("x"), Change::Unset, name)?;
+    see_whether(frame.same(before), false, "the frame is as before")
+}
+
+/// Sees what changes leave of a frame, by its copy.
+fn see_changed(alloc: Global, frame: &mut Frame, before: &Frame) -> Result<(), Fail> {
+    see_changes(alloc, frame, before, &Text::new(alloc, "a")?)
+}
+
+/// Sees what changes leave of a frame.
+fn see_left(alloc: Global, frame: &mut Frame) -> Result<(), Fail> {
+    begin(alloc, frame)?;
+    let before = frame.clone()?;
+    see_changed(alloc, frame, &before)
 }
 
 /// `set a 5` over an array is refused, and leaves the frame as it was.
 #[test]
 fn change_is_refused(rt: HostRuntime) -> Result<(), Fail> {
-    let alloc = rt.alloc();
-    let mut changed = frame(alloc)?;
-    let before = changed.clone()?;
-    let name = text(alloc, "a")?;
-    let change = Change::Assign(value(alloc, "5")?);
-    let refusal = changed.change(alloc, "a", Part::Whole, change, &name).err();
-    assert_eq!(rt;
-        told(alloc, refusal)?.as_str(),
-        "can't set \"a\": variable is array"
-    );
-    assert!(rt; changed.same(&before));
-    changed.change(alloc, "a", Part::Element("x"), Change::Unset, &name)?;
-    assert!(rt; !changed.same(&before));
-    Ok(())
-}
-
-/// Maps of the same names and texts are equal, in the same order alone.
-#[test]
-fn equal_maps_are_told(rt: HostRuntime) -> Result<(), Fail> {
-    let alloc = rt.alloc();
-    let mut map = NameMap::new(alloc);
-    map.insert(alloc, "a", text(alloc, "1")?)?;
-    map.insert(alloc, "b", text(alloc, "2")?)?;
-    let mut copy = map.clone()?;
-    assert!(rt; copy.same(&map));
-    copy.remove("a");
-    copy.insert(alloc, "a", text(alloc, "1")?)?;
-    assert!(rt; !copy.same(&map));
-    Ok(())
+    let words = words(rt.alloc())?;
+    see_left(rt.alloc(), &mut Frame::new(rt.alloc(), words))
 }
