@@ -2,9 +2,13 @@
 #![tactic(auto)]
 
 #[cfg(test)]
+mod calls;
+#[cfg(test)]
 mod ensemble;
 #[cfg(test)]
 mod format;
+#[cfg(test)]
+mod rows;
 #[cfg(test)]
 mod string_commands;
 #[cfg(test)]
