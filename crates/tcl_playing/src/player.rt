@@ -214,6 +214,9 @@ impl<'a> Outside for Player<'a> {
 
     ghost goes = { λ T o s ev z. played T o s ev z };
 
+    // what is played until an evaluation is given up is not spoken of
+    ghost loses = { λ o z. Unit {0} };
+
     ghost entries_left = { λ o. length (player_of o).left };
 
     ghost hands_in = { Unit {0} };

@@ -1,6 +1,7 @@
 -- What is known of an end.
 use Rattle.std.proofs.Common.{◌≡◌, ℕ, pos, List, [], sym, ap, subst, refl, ◌∙◌}
-use Rattle.std.specs.Prelude.{Result, Ok, Err, MatchResult, IfErr, Some}
+use Rattle.std.specs.Prelude.{Result, Ok, Err, MatchResult, IfErr, Option, Some, None}
+use Rattle.tcl_core.specs.Runs.{Ending}
 use Rattle.tcl_core.specs.Paths.{Path}
 use Rattle.tcl_core.specs.Trees.{Node}
 use Rattle.tcl_tree.specs.Own.{Own}
@@ -30,7 +31,7 @@ use Rattle.tcl_words.specs.Limits.{limited}
 use Rattle.tcl_words.specs.Outcomes.{Refuses as WordsRefuse}
 use Rattle.tcl_words.specs.declared.refusal.Refusal.{Refusal}
 use Rattle.tcl_words.specs.declared.refusal.Refusal.TheVariants as refusal
-use Rattle.tcl_run.specs.Ends.{Interrupts, IfEnded, IsFailure, IsText, Tells, ListTells, WordsTell, failing, itself}
+use Rattle.tcl_run.specs.Ends.{Breaks, IfRan, Interrupts, IfEnded, IsFailure, Says, IsText, Tells, ListTells, WordsTell, failing, itself}
 
 pub Interrupts-more : (i : Interruption) (P Q : Reply → Type 0) → ((r : Reply) → P r → Q r) → Interrupts i P → Interrupts i Q
 Interrupts-more interruption.Memory P Q f p = tt
@@ -132,3 +133,110 @@ limited_gives text value h = by (fits text) refl h
     by : (b : Bool) → fits text ≡ b → (if b then Ok text else Err too_long_text) ≡ Ok value → (fits text ≡ true) × (value ≡ text)
     by true f g = let same : text ≡ value = cc in (f, sym same)
     by false f g = let clash : Err too_long_text ≡ Ok value = g in cc
+
+-- ## Evaluations that may have been given up
+
+pub Breaks-more : (i : Interruption) (P Q : Ending → Type 0) → ((e : Ending) → P e → Q e) → Breaks i P → Breaks i Q
+Breaks-more interruption.Memory P Q f p = f _ p
+Breaks-more (interruption.Completed c) P Q f p = f _ p
+Breaks-more (interruption.Stopped s) P Q f p = f _ p
+Breaks-more (interruption.Exited n) P Q f p = f _ p
+Breaks-more (interruption.Cut c) P Q f p = f _ p
+
+pub Breaks-both : (i : Interruption) (P Q R : Ending → Type 0) → ((e : Ending) → P e → Q e → R e) → Breaks i P → Breaks i Q → Breaks i R
+Breaks-both interruption.Memory P Q R f p q = f _ p q
+Breaks-both (interruption.Completed c) P Q R f p q = f _ p q
+Breaks-both (interruption.Stopped s) P Q R f p q = f _ p q
+Breaks-both (interruption.Exited n) P Q R f p q = f _ p q
+Breaks-both (interruption.Cut c) P Q R f p q = f _ p q
+
+-- what holds however far it came
+pub Breaks-all : (i : Interruption) (P : Ending → Type 0) → ((e : Ending) → P e) → Breaks i P
+Breaks-all interruption.Memory P f = f _
+Breaks-all (interruption.Completed c) P f = f _
+Breaks-all (interruption.Stopped s) P f = f _
+Breaks-all (interruption.Exited n) P f = f _
+Breaks-all (interruption.Cut c) P f = f _
+
+pub IfRan-more : (r : Result (List ℕ) Interruption) (P Q : Ending → Type 0) → ((e : Ending) → P e → Q e) → IfRan r P → IfRan r Q
+IfRan-more (Ok text) P Q f p = f _ p
+IfRan-more (Err i) P Q f p = Breaks-more i P Q f p
+
+pub IfRan-both : (r : Result (List ℕ) Interruption) (P Q R : Ending → Type 0) → ((e : Ending) → P e → Q e → R e) → IfRan r P → IfRan r Q → IfRan r R
+IfRan-both (Ok text) P Q R f p q = f _ p q
+IfRan-both (Err i) P Q R f p q = Breaks-both i P Q R f p q
+
+pub IfRan-all : (r : Result (List ℕ) Interruption) (P : Ending → Type 0) → ((e : Ending) → P e) → IfRan r P
+IfRan-all (Ok text) P f = f _
+IfRan-all (Err i) P f = Breaks-all i P f
+
+-- what is said of an end that there is, and of an evaluation that was given up
+pub breaks : (i : Interruption) (P : Reply → Type 0) (Q : Ending → Type 0) → ((e : Reply) → P e → Q (Some e)) → Q None → Interrupts i P → Breaks i Q
+breaks interruption.Memory P Q f n p = n
+breaks (interruption.Completed c) P Q f n p = f _ p
+breaks (interruption.Stopped s) P Q f n p = f _ p
+breaks (interruption.Exited n) P Q f m p = f _ p
+breaks (interruption.Cut c) P Q f n p = f _ p
+
+pub ran : (r : Result (List ℕ) Interruption) (P : Reply → Type 0) (Q : Ending → Type 0) → ((e : Reply) → P e → Q (Some e)) → Q None → IfEnded r P → IfRan r Q
+ran (Ok text) P Q f n p = f _ p
+ran (Err i) P Q f n p = breaks i P Q f n p
+
+-- where no memory was wanted
+pub breaks_said : (i : Interruption) (P : Reply → Type 0) (Q : Ending → Type 0) → ((e : Reply) → P e → Q (Some e)) → Says i P → Breaks i Q
+breaks_said interruption.Memory P Q f p = elim p [ ]
+breaks_said (interruption.Completed c) P Q f p = f _ p
+breaks_said (interruption.Stopped s) P Q f p = f _ p
+breaks_said (interruption.Exited n) P Q f p = f _ p
+breaks_said (interruption.Cut c) P Q f p = f _ p
+
+pub said : (i : Interruption) (P : Reply → Type 0) → Says i P → Interrupts i P
+said interruption.Memory P p = tt
+said (interruption.Completed c) P p = p
+said (interruption.Stopped s) P p = p
+said (interruption.Exited n) P p = p
+said (interruption.Cut c) P p = p
+
+pub Says-more : (i : Interruption) (P Q : Reply → Type 0) → ((e : Reply) → P e → Q e) → Says i P → Says i Q
+Says-more interruption.Memory P Q f p = p
+Says-more (interruption.Completed c) P Q f p = f _ p
+Says-more (interruption.Stopped s) P Q f p = f _ p
+Says-more (interruption.Exited n) P Q f p = f _ p
+Says-more (interruption.Cut c) P Q f p = f _ p
+
+-- whatever became of it
+pub ended_so : (r : Result (List ℕ) Interruption) (P : Ending → Type 0) → IfRan r P → IfEnded r (λ e. P (Some e))
+ended_so (Ok text) P p = p
+ended_so (Err interruption.Memory) P p = tt
+ended_so (Err (interruption.Completed c)) P p = p
+ended_so (Err (interruption.Stopped s)) P p = p
+ended_so (Err (interruption.Exited n)) P p = p
+ended_so (Err (interruption.Cut c)) P p = p
+
+-- an end with an ordinary text
+pub ran_text : (r : Result (List ℕ) Interruption) (text : List ℕ) (P : Ending → Type 0) → IsText r text → IfRan r P → (c : Completion) × P (Some (Completed c)) × (c.code ≡ pos 0) × (c.text ≡ text)
+ran_text (Ok t) text P e p = (ok t, p, refl, e)
+ran_text (Err interruption.Memory) text P e p = elim e [ ]
+ran_text (Err (interruption.Completed c)) text P e p = (completion_of c.value, p, e.0, e.1)
+ran_text (Err (interruption.Stopped s)) text P e p = elim e [ ]
+ran_text (Err (interruption.Exited n)) text P e p = elim e [ ]
+ran_text (Err (interruption.Cut c)) text P e p = elim e [ ]
+
+-- what is said of an interruption that is passed on: of an evaluation, and of a call that evaluates nothing, of whose want of memory the last argument tells
+pub ran_at_err : {A : Type 0} (r : Result A Interruption) (i y : Interruption) (P Q : Ending → Type 0) → r ≡ Err y → y ≡ i → Breaks i P → ((e : Ending) → P e → Q e) → IfErr r (λ j. Breaks j Q)
+ran_at_err r i y P Q e same h k = subst (λ (x : Result _ Interruption). IfErr x (λ j. Breaks j Q)) (sym (e ∙ ap Err same)) (Breaks-more i P Q k h)
+
+pub ran_err : {A : Type 0} (r : Result A Interruption) (i y : Interruption) (R : A → Type 0) (P Q : Ending → Type 0) → r ≡ Err y → y ≡ i → Breaks i P → ((e : Ending) → P e → Q e) → MatchResult r R (λ j. Breaks j Q)
+ran_err r i y R P Q e same h k = subst (λ (x : Result _ Interruption). MatchResult x R (λ j. Breaks j Q)) (sym (e ∙ ap Err same)) (Breaks-more i P Q k h)
+
+pub fails_err : {A : Type 0} (r : Result A Interruption) (i y : Interruption) (R : A → Type 0) (P : Reply → Type 0) (Q : Ending → Type 0) → r ≡ Err y → y ≡ i → Interrupts i P → ((e : Reply) → P e → Q (Some e)) → Q None →
+    MatchResult r R (λ j. Breaks j Q)
+fails_err r i y R P Q e same h k n = subst (λ (x : Result _ Interruption). MatchResult x R (λ j. Breaks j Q)) (sym (e ∙ ap Err same)) (breaks i P Q k n h)
+
+pub says_err : {A : Type 0} (r : Result A Interruption) (i y : Interruption) (R : A → Type 0) (P : Reply → Type 0) (Q : Ending → Type 0) → r ≡ Err y → y ≡ i → Says i P → ((e : Reply) → P e → Q (Some e)) →
+    MatchResult r R (λ j. Breaks j Q)
+says_err r i y R P Q e same h k = subst (λ (x : Result _ Interruption). MatchResult x R (λ j. Breaks j Q)) (sym (e ∙ ap Err same)) (breaks_said i P Q k h)
+
+-- an interruption that is want of memory, passed on
+pub memory_err : {A : Type 0} (r : Result A Interruption) (y : Interruption) (R : A → Type 0) (Q : Ending → Type 0) → r ≡ Err y → y ≡ interruption.Memory → Q None → MatchResult r R (λ j. Breaks j Q)
+memory_err r y R Q e same n = subst (λ (x : Result _ Interruption). MatchResult x R (λ j. Breaks j Q)) (sym (e ∙ ap Err same)) n

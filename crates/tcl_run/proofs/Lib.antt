@@ -3,3 +3,5 @@ pub mod Endings
 pub mod Steady
 pub mod Plain
 pub mod Hosting
+pub mod Losing
+pub mod Proceeding

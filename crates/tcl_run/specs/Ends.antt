@@ -1,8 +1,9 @@
 -- What contracts see of how an evaluation ends.
-use Rattle.std.specs.Prelude.{◌≡◌, ℕ, zero, suc, pos, List, Result, Ok, Err, MatchResult}
+use Rattle.std.specs.Prelude.{◌≡◌, ℕ, zero, suc, pos, List, Option, Some, None, Result, Ok, Err, MatchResult}
 use Rattle.tcl_core.specs.Endings as core
 use Rattle.tcl_core.specs.Endings.{Completion, Reply, ok, error}
 use Rattle.tcl_core.specs.Endings.Reply.{Completed, Stop, Exit, Cut}
+use Rattle.tcl_core.specs.Runs.{Ending}
 use Rattle.tcl_flow.specs.View.{completion_of}
 use Rattle.tcl_flow.specs.Stopping as stopping
 use Rattle.tcl_language.specs.Instructions.{Program, either, fits, too_long, on_ok}
@@ -35,6 +36,28 @@ Interrupts (interruption.Cut c) P = P (Cut (cause_of c))
 -- what is said of the end of an evaluation
 abbrev pub IfEnded : Result (List ℕ) Interruption → (Reply → Type 0) → Type 0
 IfEnded r P = MatchResult r (λ text. P (Completed (ok text))) (λ i. Interrupts i P)
+
+-- what is said of how far an evaluation came, at an interruption: it ended so, or it was given up where memory was wanted
+abbrev pub Breaks : Interruption → (Ending → Type 0) → Type 0
+Breaks interruption.Memory P = P None
+Breaks (interruption.Completed c) P = P (Some (Completed (completion_of c.value)))
+Breaks (interruption.Stopped s) P = P (Some (stopping.reply_of s))
+Breaks (interruption.Exited n) P = P (Some (Exit n))
+Breaks (interruption.Cut c) P = P (Some (Cut (cause_of c)))
+
+-- what is said of how far an evaluation came
+abbrev pub IfRan : Result (List ℕ) Interruption → (Ending → Type 0) → Type 0
+IfRan r P = MatchResult r (λ text. P (Some (Completed (ok text)))) (λ i. Breaks i P)
+
+-- no memory was wanted, and this holds of the end
+abbrev pub Says : Interruption → (Reply → Type 0) → Type 0
+Says interruption.Memory P = ⊥
+Says i P = Interrupts i P
+
+-- memory was wanted, and this holds
+abbrev pub WhereMemory : {A : Type 0} → Result A Interruption → Type 0 → Type 0
+WhereMemory (Err interruption.Memory) P = P
+WhereMemory r P = Unit {0}
 
 -- the error of this message, or that the message is too long
 abbrev pub failing : List ℕ → Completion
@@ -69,8 +92,8 @@ abbrev pub itself : List ℕ → List ℕ
 itself message = message
 
 -- what went on with an ordinary text goes no further
-abbrev pub Stays : Reply → Type 0
-Stays (Completed c) = (k : List ℕ → Program) → on_ok k c ≡ done c
+abbrev pub Stays : Ending → Type 0
+Stays (Some (Completed c)) = (k : List ℕ → Program) → on_ok k c ≡ done c
 Stays _ = Unit {0}
 
 -- what becomes of an evaluation that the depth limit of the interpreter so many levels up refuses

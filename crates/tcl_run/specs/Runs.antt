@@ -1,6 +1,7 @@
 -- How a run goes through the table of interpreters.
 use Rattle.std.specs.Prelude.{◌≡◌, ℕ, ◌<◌, ◌≤◌, ◌-◌, ◌++◌, List, [], Option, Some, None, Result, Ok, Err}
 use Rattle.std.specs.Option.{option_map}
+use Rattle.tcl_beginnings.specs.Beginnings.{Begun}
 use Rattle.tcl_core.specs.Paths.{Place, Path}
 use Rattle.tcl_core.specs.Endings.{Reply}
 use Rattle.tcl_core.specs.Endings.Cause.{Above}
@@ -8,6 +9,7 @@ use Rattle.tcl_core.specs.Endings.Reply.{Stop, Cut}
 use Rattle.tcl_core.specs.Endings.Meter.{Count}
 use Rattle.tcl_core.specs.Programs.{blocked, is_spent}
 use Rattle.tcl_core.specs.Programs as programs
+use Rattle.tcl_core.specs.Runs.{Ending}
 use Rattle.tcl_core.specs.Threads.{Threads, Crossings, event}
 use Rattle.tcl_core.specs.Trees.{Tree, Node, effect}
 use Rattle.tcl_core.specs.Trees.What.{Changed, Charged, Refused}
@@ -20,13 +22,32 @@ use Rattle.tcl_tree.specs.declared.tree.Place as table_place
 use Rattle.tcl_text.specs.declared.integer.Integers.{Integers}
 use Rattle.tcl_language.specs.Instructions.{Instr, Program, with_chain}
 use Rattle.tcl_language.specs.Language.{language}
-use Rattle.tcl_run.specs.Ends.{IfEnded}
+use Rattle.tcl_run.specs.Ends.{IfEnded, IfRan}
 use Rattle.tcl_run.specs.Outsides.{Going}
 use Rattle.tcl_run.specs.declared.interruption.Interruption.{Interruption}
 
 -- From a tree and a state of the outside the program at the place may end so, with these left.
 abbrev pub Comes : {S : Type 0} → Going S → programs.Table Own Instr → Tree Own → S → Place → Program → Tree Own → S → Reply → Type 0
 Comes goes language T o p x V z r = Threads (Crossings goes) language T o p x V z r
+
+-- What may have become of the outside by now: it was lost once or more, or not at all.
+pub data IsLoss {S : Type 0} (loses : S → S → Type 0) (o : S) : S → Type 0 where
+  unlost : IsLoss loses o o
+  lost : {u z : S} → IsLoss loses o u → loses u z → IsLoss loses o z
+
+-- How an outside goes, and what may have become of a state of it where an evaluation is given up.
+pub record Ways (S : Type 0) : Type 1 where
+  pub goes : Going S
+  pub loses : S → S → Type 0
+
+abbrev pub ways : {S : Type 0} → Going S → (S → S → Type 0) → Ways S
+ways goes loses = record { goes = goes; loses = loses }
+
+-- From a tree and a state of the outside the program at the place came so far, with these left: to its end; or to where it was given up, as for want of memory, of which
+-- nothing is said of the tree, and the outside is what may have become of its state there.
+pub data Proceeds {S : Type 0} (ways : Ways S) (language : programs.Table Own Instr) (T : Tree Own) (o : S) (p : Place) (x : Program) (V : Tree Own) (z : S) : Ending → Type 0 where
+  ended : {r : Reply} → Comes ways.goes language T o p x V z r → Proceeds ways language T o p x V z (Some r)
+  given_up : {last : S} → Begun (Crossings ways.goes) language T o p x last → IsLoss ways.loses last z → Proceeds ways language T o p x V z None
 
 -- how many evaluations are in progress in an interpreter, and how many there may be
 abbrev pub meters_of : Node Own → ℕ × ℕ
@@ -104,6 +125,16 @@ Evaluates goes old o place program new z result =
 abbrev pub EvaluatesAt : {S : Type 0} → Going S → table.Tree → S → table_place.Place → (Integers → Program) → table.Tree → S → Result (List ℕ) Interruption → Type 0
 EvaluatesAt goes old o place program new z result =
     IfEnded result (λ r. (p : Path) (style : Integers) → IsThere old place p style → Comes goes (language style) (tree_of old) o p (program style) (tree_of new) z r)
+
+-- How far a program came in the interpreter that the place names, where an evaluation is in progress.
+abbrev pub ProceedsIn : {S : Type 0} → Ways S → table.Tree → S → table_place.Place → (Integers → Program) → table.Tree → S → Result (List ℕ) Interruption → Type 0
+ProceedsIn ways old o place program new z result =
+    IfRan result (λ e. (p : Path) (style : Integers) → IsAt old place p style → Proceeds ways (language style) (tree_of old) o p (program style) (tree_of new) z e)
+
+-- the same, wherever the place is
+abbrev pub ProceedsAt : {S : Type 0} → Ways S → table.Tree → S → table_place.Place → (Integers → Program) → table.Tree → S → Result (List ℕ) Interruption → Type 0
+ProceedsAt ways old o place program new z result =
+    IfRan result (λ e. (p : Path) (style : Integers) → IsThere old place p style → Proceeds ways (language style) (tree_of old) o p (program style) (tree_of new) z e)
 
 -- the own part at p has another chain, where there is one
 abbrev pub Rechained : Tree Own → Place → Own → Result Chain FrameFault → Tree Own → Type 0

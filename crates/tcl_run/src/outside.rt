@@ -9,7 +9,7 @@ ghost use Rattle.tcl_core.specs.Trees as core;
 ghost use Rattle.tcl_core.specs.Trees.{Event};
 ghost use Rattle.tcl_core.specs.Endings.Meter.{Count};
 ghost use Rattle.tcl_core.specs.Trees.What.{Charged, Refused, Dropped, Out, Done, Back};
-ghost use Rattle.tcl_run.specs.Ends.{IfEnded};
+ghost use Rattle.tcl_run.specs.Ends.{IfEnded, WhereMemory};
 ghost use Rattle.tcl_run.specs.Entering.{whole_entry};
 ghost use Rattle.tcl_run.specs.Outsides.{ComesNext, Enters, IsAsked, Misses, OnEntry, Returns, hosted};
 ghost use Rattle.tcl_tree.specs.Own.{Own};
@@ -42,6 +42,9 @@ pub trait Outside {
     // from one state to the next, by what it is told, the tree being what it then is
     ghost goes: { core.Tree Own → Self → Wait → Event Own → Self → Type 0 };
 
+    // what may have become of a state, where an evaluation is given up, by all that it is told, and by a question for which it wants memory
+    ghost loses: { Self → Self → Type 0 };
+
     // how many entries it may still hand in
     ghost entries_left: { Self → ℕ };
 
@@ -59,11 +62,13 @@ pub trait Outside {
     fn makes_step(&mut self)
         requires { has_steps self.old ≡ true }
         ensures told { (T : core.Tree Own) (p : Path) → goes T self.old None (event p Charged) self.new }
+        ensures lost { loses self.old self.new }
         ensures left { entries_left self.new ≤ entries_left self.old };
 
     /// It refuses a step, having none left.
     fn refuses_step(&mut self)
         ensures told { has_steps self.old ≡ false → (T : core.Tree Own) (p : Path) → goes T self.old None (event p (Refused Count None)) self.new }
+        ensures lost { loses self.old self.new }
         ensures left { entries_left self.new ≤ entries_left self.old };
 
     /// The child of this name was dropped, with all below it.
@@ -78,6 +83,7 @@ pub trait Outside {
         name: &Text,
     ) -> Result<(), AllocError>
         ensures told { OnOk result ((T : core.Tree Own) (p : Path) → Names tree.now parent p → goes T self.old None (event (p ++ name.now ∷ []) Dropped) self.new) }
+        ensures lost { loses self.old self.new }
         ensures left { entries_left self.new ≤ entries_left self.old };
 
     /// The caller's call goes out, so many levels up and these names down, and comes in there.
@@ -94,6 +100,7 @@ pub trait Outside {
         entry: &Entry,
     ) -> Result<(), AllocError>
         ensures told { OnOk result ((p a : Path) → Names tree.now caller p → rise_to (Some up) p ≡ Some a → Enters goes (tree_of tree.now) self.old p up a down.now (whole_entry entry.now) self.new) }
+        ensures lost { loses self.old self.new }
         ensures left { entries_left self.new ≤ entries_left self.old };
 
     /// It is done there by one end, and answered by another.
@@ -111,6 +118,7 @@ pub trait Outside {
         told: &Result<Value, Interruption>,
     ) -> Result<(), AllocError>
         ensures told { OnOk result (IfEnded ended.now (λ s. IfEnded told.now (λ r. (p a : Path) → Names tree.now caller p → rise_to (Some up) p ≡ Some a → Returns goes (tree_of tree.now) self.old p up a down.now s r self.new))) }
+        ensures lost { loses self.old self.new }
         ensures left { entries_left self.new ≤ entries_left self.old };
 
     /// The caller's call, so many levels up and these names down, finds nobody there, and is answered by that.
@@ -128,6 +136,7 @@ pub trait Outside {
         told: &Result<Value, Interruption>,
     ) -> Result<(), AllocError>
         ensures told { OnOk result (IfEnded told.now (λ r. (p a : Path) → Names tree.now caller p → rise_to (Some up) p ≡ Some a → Misses goes (tree_of tree.now) self.old p up down.now (whole_entry entry.now) r self.new)) }
+        ensures lost { loses self.old self.new }
         ensures left { entries_left self.new ≤ entries_left self.old };
 
     /// The caller's call passes the top of the tree, so many levels up, or to the host, and these names down.
@@ -144,6 +153,7 @@ pub trait Outside {
         entry: &Entry,
     ) -> Result<(), AllocError>
         ensures told { OnOk result ((p : Path) → Names tree.now caller p → rise_to up p ≡ None → goes (tree_of tree.now) self.old None (event p (Out up down.now (whole_entry entry.now))) self.new) }
+        ensures lost { loses self.old self.new }
         ensures left { entries_left self.new ≤ entries_left self.old };
 
     /// What comes next to the caller's call, which passed the top of the tree.
@@ -160,6 +170,7 @@ pub trait Outside {
     ) -> Result<Turn, Interruption>
         requires asked { IsAsked up (whole_entry entry.now) }
         ensures comes { (p : Path) → Names tree.now caller p → rise_to up p ≡ None → ComesNext goes hands_in (tree_of tree.now) self.old p up (whole_entry entry.now) self.new result }
+        ensures lost { WhereMemory result (loses self.old self.new) }
         ensures fewer { OnEntry result (entries_left self.new < entries_left self.old) }
         ensures left { entries_left self.new ≤ entries_left self.old };
 
@@ -175,6 +186,7 @@ pub trait Outside {
         ended: &Result<Value, Interruption>,
     ) -> Result<(), AllocError>
         ensures told { OnOk result (IfEnded ended.now (λ r. goes (tree_of tree.now) self.old None (event target.now (Done None r)) self.new)) }
+        ensures lost { loses self.old self.new }
         ensures left { entries_left self.new ≤ entries_left self.old };
 
     /// The caller's call, in which an entry that was handed in ended by this exit, ends by it too.
@@ -191,12 +203,15 @@ pub trait Outside {
         status: i64,
     ) -> Result<(), AllocError>
         ensures told { OnOk result (hands_in → (p : Path) → Names tree.now caller p → rise_to up p ≡ None → goes (tree_of tree.now) self.old (Some (up, whole_entry entry.now)) (event p (Back up (Replied (Exit status)))) self.new) }
+        ensures lost { loses self.old self.new }
         ensures left { entries_left self.new ≤ entries_left self.old };
 }
 
 /// A host by itself: it does what it is asked, hands in nothing, and above the tree no interpreter is.
 impl<H: Host> Outside for H {
     ghost goes = { λ T o s ev u. hosted H.step T o s ev u };
+
+    ghost loses = { λ o z. z ≡ o };
 
     ghost entries_left = { λ o. 0 };
 

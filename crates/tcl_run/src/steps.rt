@@ -11,7 +11,7 @@ ghost use Rattle.tcl_core.specs.Endings as endings;
 ghost use Rattle.tcl_run.specs.Runs.{Counts, IsLevel, RefusesStep, Rechained};
 ghost use Rattle.tcl_tree.specs.Own.{Own};
 ghost use Rattle.tcl_tree.specs.TreeOf.{tree_of, Names};
-ghost use Rattle.tcl_run.specs.Ends.{Interrupts, Gave, Stays, IsText, Tells, ListTells, IsFailure};
+ghost use Rattle.tcl_run.specs.Ends.{Breaks, Interrupts, Says, Gave, Stays, IsText, Tells, ListTells, IsFailure};
 ghost use Rattle.tcl_text.specs.Lists.{list_of};
 ghost use Rattle.tcl_text.specs.Writing.{fault_message};
 
@@ -110,7 +110,7 @@ pub fn read_variable(
 pub fn on_ok(ended: Result<Value, Interruption>) -> Result<Value, Interruption>
     ensures text { IfOk result (IsText ended) }
     ensures same { IfErr result (λ i. ended ≡ Err i) }
-    ensures stays { IfErr result (λ i. Interrupts i Stays) }
+    ensures stays { IfErr result (λ i. Breaks i Stays) }
 {
     match ended {
         Ok(text) => Ok(text),
@@ -136,7 +136,7 @@ pub fn charge<O: Outside>(
 ) -> Result<(), Interruption>
     requires { (p : Path) × Names tree.old place p }
     ensures counted { OnOk result ((p : Path) → Names tree.old place p → Counts O.goes (tree_of tree.old) outside.old p (tree_of tree.new) outside.new) }
-    ensures refused { IfErr result (λ i. Interrupts i (λ e. (p : Path) → Names tree.old place p → RefusesStep O.goes (tree_of tree.old) outside.old p (tree_of tree.new) outside.new e)) }
+    ensures refused { IfErr result (λ i. Says i (λ e. (p : Path) → Names tree.old place p → RefusesStep O.goes (tree_of tree.old) outside.old p (tree_of tree.new) outside.new e)) }
     ensures level { IsLevel tree.old tree.new }
     ensures left { O.entries_left outside.new ≤ O.entries_left outside.old }
 {
@@ -154,7 +154,7 @@ pub fn charge<O: Outside>(
 
 /// The stop of the interpreter so many levels up, whose limit of steps would be passed.
 fn past_limit(levels: usize) -> Interruption
-    ensures { Interrupts result (λ e. e ≡ endings.Reply.Stop levels Count) }
+    ensures { Says result (λ e. e ≡ endings.Reply.Stop levels Count) }
 {
     Interruption::Stopped(Stop {
         levels_up: levels,
@@ -166,7 +166,7 @@ fn past_limit(levels: usize) -> Interruption
 fn refusal<O: Outside>(tree: &Tree, outside: &mut O, place: Place) -> Interruption
     requires place { (p : Path) × Names tree.now place p }
     requires refuses { O.has_steps outside.old ≡ false }
-    ensures refused { Interrupts result (λ e. (p : Path) → Names tree.now place p → RefusesStep O.goes (tree_of tree.now) outside.old p (tree_of tree.now) outside.new e) }
+    ensures refused { Says result (λ e. (p : Path) → Names tree.now place p → RefusesStep O.goes (tree_of tree.now) outside.old p (tree_of tree.now) outside.new e) }
     ensures left { O.entries_left outside.new ≤ O.entries_left outside.old }
 {
     match tree.spent_at(place) {

@@ -3,4 +3,4 @@ mod Holding
 mod Hosted
 mod Unfinished
 mod Uncut
-mod Beginning
+pub mod Beginning

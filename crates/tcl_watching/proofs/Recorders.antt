@@ -11,8 +11,10 @@ use Rattle.tcl_core.specs.Threads.{event}
 use Rattle.tcl_core.specs.Trees.{Tree, What}
 use Rattle.tcl_core.specs.Trees.What.{Charged, Refused, Dropped, Out, In, Done, Back}
 use Rattle.tcl_run.proofs.Endings.{Interrupts-both}
+use Rattle.tcl_run.specs.Ends.{WhereMemory}
 use Rattle.tcl_run.specs.Outsides.{ComesNext, Enters, Going, Misses, Returns}
 use Rattle.tcl_run.specs.declared.interruption.Interruption.{Interruption}
+use Rattle.tcl_run.specs.declared.interruption.Interruption.TheVariants as interruption
 use Rattle.tcl_run.specs.declared.outside.Turn.{Turn}
 use Rattle.tcl_run.specs.declared.outside.Turn.TheVariants as turn
 use Rattle.tcl_tree.specs.Own.{Own}
@@ -84,3 +86,12 @@ module _ {S : Type 0} (goes : Going S) where
   pub comes : (hands_in : Type 0) (T : Tree Own) (o z : Recorder S) (q p : Path) (h : Height) (i : Entry) (t : Result Turn Interruption) → q ≡ p → Turns o.kept q h t z.kept → z.deleted ≡ o.deleted →
       ComesNext goes hands_in T o.outside p h i z.outside t → ComesNext (recorded goes) hands_in T o p h i z t
   comes hands_in T o z q p h i t same e stays g = comes_at hands_in T o z p h i t (subst (λ (r : Path). Turns o.kept r h t z.kept) same e) stays g
+
+-- nothing is said of what is given up
+pub unspoken : {A : Type 0} (r : Result A Interruption) → WhereMemory r (Unit {0})
+unspoken (Ok a) = tt
+unspoken (Err interruption.Memory) = tt
+unspoken (Err (interruption.Completed c)) = tt
+unspoken (Err (interruption.Stopped s)) = tt
+unspoken (Err (interruption.Exited n)) = tt
+unspoken (Err (interruption.Cut c)) = tt

@@ -84,6 +84,9 @@ impl<O: Outside> Outside for Recorder<O> {
 
     ghost goes = { λ T o s ev z. Records O.goes T o s ev z };
 
+    // what is recorded until an evaluation is given up is not spoken of
+    ghost loses = { λ o z. Unit {0} };
+
     ghost entries_left = { λ o. O.entries_left o.outside };
 
     ghost hands_in = { O.hands_in };

@@ -1,6 +1,7 @@
 use Rattle.tcl_run.specs.Entering.{whole_entry}
 use Rattle.tcl_tree.specs.TreeOf.{tree_of}
 use Rattle.tcl_watching.specs.Crossings.{answer_of}
+use Rattle.tcl_watching.proofs.Recorders.{unspoken}
 use Rattle.tcl_playing.specs.Moves.{move_of}
 use Rattle.tcl_playing.specs.Players.{GoesOn, IsOverBy, player_of}
 use Rattle.tcl_playing.proofs.Played.{answered, is_over, is_told, over_at, read_at}
@@ -21,3 +22,6 @@ pub returns-in-None-clause-comes : goal.returns-in-None-clause-comes
 returns-in-None-clause-comes c = λ p at up.
     is_over (tree_of c.args.tree.now) c.args.self.now c.read_on.new.self p c.args.up (whole_entry c.args.entry.now) up
     (over_at c.in_ok-target.field-0 (IsOverBy (tree_of c.args.tree.now) (player_of c.args.self.now) c.args.up (whole_entry c.args.entry.now) (player_of c.read_on.new.self)) c.in-None.is c.in_ok-target.ensures.over)
+
+pub returns-in-Some-Come-clause-lost : goal.returns-in-Some-Come-clause-lost
+returns-in-Some-Come-clause-lost c = unspoken c.turn_of.result
