@@ -7,6 +7,7 @@ ghost use Rattle.tcl_flow.specs.Stopping.{reply_of};
 ghost use Rattle.tcl_language.specs.Faults as faults;
 ghost use Rattle.tcl_language.specs.Table.{some_words};
 ghost use Rattle.tcl_run.specs.Ends.{IfEnded, Interrupts, failing};
+ghost use Rattle.tcl_run.specs.Runs.{IsLoss};
 ghost use Rattle.tcl_tree.specs.TreeOf.{tree_of, Names};
 ghost use Rattle.tcl_run.specs.declared.interruption.Interruption.TheVariants.{Stopped};
 ghost use Rattle.tcl_calls.specs.Carrying.{ComesBack, IsNoStop, Settles};
@@ -71,6 +72,7 @@ pub fn settled(alloc: Global, ended: Result<Value, Interruption>) -> Result<Valu
 /// # Errors
 /// Every end but an ordinary one; want of memory.
 #[inline(never)]
+#[tactic(auto, using(tcl_run::proofs::Losing::losing))]
 pub fn come_back<O: Outside>(
     tree: &Tree,
     alloc: Global,
@@ -82,6 +84,7 @@ pub fn come_back<O: Outside>(
 ) -> Result<Value, Interruption>
     requires { (p : Path) × Names tree.now caller p }
     ensures comes { IfEnded result (λ r. (p a : Path) → Names tree.now caller p → rise_to (Some up) p ≡ Some a → ComesBack O.goes (tree_of tree.now) outside.old p up a down.now ended r outside.new) }
+    ensures lost { IsLoss O.loses outside.old outside.new }
     ensures left { O.entries_left outside.new ≤ O.entries_left outside.old }
 {
     match stop_of(&ended) {
@@ -105,6 +108,7 @@ fn stop_of(ended: &Result<Value, Interruption>) -> Option<Stop>
 }
 
 /// Tells the outside that a call was ended by a stop, and gives the stop as the caller sees it.
+#[tactic(auto, using(tcl_run::proofs::Losing::losing))]
 fn stop_comes_back<O: Outside>(
     tree: &Tree,
     alloc: Global,
@@ -116,6 +120,7 @@ fn stop_comes_back<O: Outside>(
 ) -> Result<Value, Interruption>
     requires { (p : Path) × Names tree.now caller p }
     ensures comes { IfEnded result (λ r. (p a : Path) → Names tree.now caller p → rise_to (Some up) p ≡ Some a → ComesBack O.goes (tree_of tree.now) outside.old p up a down.now (Err (Stopped stop)) r outside.new) }
+    ensures lost { IsLoss O.loses outside.old outside.new }
     ensures left { O.entries_left outside.new ≤ O.entries_left outside.old }
 {
     let ended = Err(Interruption::Stopped(stop));

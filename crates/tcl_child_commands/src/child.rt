@@ -1,6 +1,6 @@
 //! A child's own command, where it evaluates no script.
 ghost use Rattle.std.specs.Prelude.{◌≡◌, ◌≤◌, true};
-ghost use Rattle.tcl_run.specs.Runs.{Evaluates, IsRunning, IsSteady};
+ghost use Rattle.tcl_run.specs.Runs.{Evaluates, IsLoss, IsRunning, IsSteady};
 ghost use Rattle.tcl_entries.specs.Subcommands.{child_program_of};
 ghost use Rattle.tcl_child_commands.specs.Own.{evaluates_nothing, GoesByNames};
 
@@ -33,6 +33,7 @@ pub fn child_own<O: Outside>(
     requires running { IsRunning tree.old place }
     requires own { evaluates_nothing subcommand ≡ true }
     ensures evaluates { Evaluates O.goes tree.old outside.old place (λ style. child_program_of style name.now subcommand args.now) tree.new outside.new result }
+    ensures lost { IsLoss O.loses outside.old outside.new }
     ensures steady { IsSteady tree.old tree.new }
     ensures left { O.entries_left outside.new ≤ O.entries_left outside.old }
 {

@@ -1,7 +1,7 @@
 //! The limits of a child. No limit is set by a safe interpreter.
 ghost use Rattle.std.specs.Prelude.{◌≡◌, ◌≤◌, ◌∷◌, []};
 ghost use Rattle.tcl_language.specs.Interpreters as interpreters;
-ghost use Rattle.tcl_run.specs.Runs.{Evaluates, IsRunning, IsSteady};
+ghost use Rattle.tcl_run.specs.Runs.{Evaluates, IsLoss, IsRunning, IsSteady};
 ghost use Rattle.tcl_entries.specs.Telling.{limits_to, deepens_to};
 
 use crate::failure::wrong_child_args;
@@ -28,6 +28,7 @@ fn limit_of<O: Outside>(
 ) -> Result<Value, Interruption>
     requires { IsRunning tree.old place }
     ensures evaluates { Evaluates O.goes tree.old outside.old place (λ style. interpreters.child_limit style name.now (word.now ∷ [])) tree.new outside.new result }
+    ensures lost { IsLoss O.loses outside.old outside.new }
     ensures steady { IsSteady tree.old tree.new }
     ensures left { O.entries_left outside.new ≤ O.entries_left outside.old }
 {
@@ -53,6 +54,7 @@ fn set_limit<O: Outside>(
 ) -> Result<Value, Interruption>
     requires { IsRunning tree.old place }
     ensures evaluates { Evaluates O.goes tree.old outside.old place (λ style. interpreters.permitted (limits_to style (name.now ∷ []) value.now)) tree.new outside.new result }
+    ensures lost { IsLoss O.loses outside.old outside.new }
     ensures steady { IsSteady tree.old tree.new }
     ensures left { O.entries_left outside.new ≤ O.entries_left outside.old }
 {
@@ -73,6 +75,7 @@ fn limit_with<O: Outside>(
 ) -> Result<Value, Interruption>
     requires { IsRunning tree.old place }
     ensures evaluates { Evaluates O.goes tree.old outside.old place (λ style. interpreters.child_limit style name.now (word.now ∷ option.now ∷ value.now ∷ [])) tree.new outside.new result }
+    ensures lost { IsLoss O.loses outside.old outside.new }
     ensures steady { IsSteady tree.old tree.new }
     ensures left { O.entries_left outside.new ≤ O.entries_left outside.old }
 {
@@ -95,6 +98,7 @@ pub fn limit<O: Outside>(
 ) -> Result<Value, Interruption>
     requires { IsRunning tree.old place }
     ensures evaluates { Evaluates O.goes tree.old outside.old place (λ style. interpreters.child_limit style name.now args.now) tree.new outside.new result }
+    ensures lost { IsLoss O.loses outside.old outside.new }
     ensures steady { IsSteady tree.old tree.new }
     ensures left { O.entries_left outside.new ≤ O.entries_left outside.old }
 {
@@ -116,6 +120,7 @@ fn set_depth_limit<O: Outside>(
 ) -> Result<Value, Interruption>
     requires { IsRunning tree.old place }
     ensures evaluates { Evaluates O.goes tree.old outside.old place (λ style. interpreters.permitted (deepens_to style (name.now ∷ []) value.now)) tree.new outside.new result }
+    ensures lost { IsLoss O.loses outside.old outside.new }
     ensures steady { IsSteady tree.old tree.new }
     ensures left { O.entries_left outside.new ≤ O.entries_left outside.old }
 {
@@ -137,6 +142,7 @@ pub fn recursion_limit<O: Outside>(
 ) -> Result<Value, Interruption>
     requires { IsRunning tree.old place }
     ensures evaluates { Evaluates O.goes tree.old outside.old place (λ style. interpreters.child_recursion_limit style name.now args.now) tree.new outside.new result }
+    ensures lost { IsLoss O.loses outside.old outside.new }
     ensures steady { IsSteady tree.old tree.new }
     ensures left { O.entries_left outside.new ≤ O.entries_left outside.old }
 {

@@ -1,7 +1,7 @@
 //! Questions about a child.
 ghost use Rattle.std.specs.Prelude.{◌≤◌};
 ghost use Rattle.tcl_language.specs.Interpreters as interpreters;
-ghost use Rattle.tcl_run.specs.Runs.{Evaluates, IsRunning, IsSteady};
+ghost use Rattle.tcl_run.specs.Runs.{Evaluates, IsLoss, IsRunning, IsSteady};
 ghost use Rattle.tcl_run.specs.Entering.{question_of};
 
 use crate::failure::wrong_child_args;
@@ -31,6 +31,7 @@ pub fn ask_child<O: Outside>(
 ) -> Result<Value, Interruption>
     requires { IsRunning tree.old place }
     ensures evaluates { Evaluates O.goes tree.old outside.old place (λ style. interpreters.child_question name.now form.now (question_of question) args.now) tree.new outside.new result }
+    ensures lost { IsLoss O.loses outside.old outside.new }
     ensures steady { IsSteady tree.old tree.new }
     ensures left { O.entries_left outside.new ≤ O.entries_left outside.old }
 {

@@ -74,7 +74,7 @@ module _ {S : Type 0} (goes : Going S) (t : Table_of) (o : S) (place : TablePlac
   pub gets_evaluates : (whole rest : Styled) (new : Table_of) (z : S) (result : Result Text Interruption) → GetsTo t place whole rest → Evaluates goes t o place rest new z result → Evaluates goes t o place whole new z result
   gets_evaluates whole rest new z result f e = IfEnded-more result (EndsIn goes t o place rest (tree_of new) z) (EndsIn goes t o place whole (tree_of new) z) (λ r d. gets_leads whole rest f (tree_of new) z r d) e
 
-  ends_so : (whole : Styled) (e : Reply) → GetsToEnd t place whole e → EndsIn goes t o place whole (tree_of t) o e
+  pub ends_so : (whole : Styled) (e : Reply) → GetsToEnd t place whole e → EndsIn goes t o place whole (tree_of t) o e
   ends_so whole e f = λ p style at. let g = f p style (there_at t place p style at) in looks_come g.way (at_reply g.end completed)
 
   -- an end that is passed on
@@ -84,6 +84,10 @@ module _ {S : Type 0} (goes : Going S) (t : Table_of) (o : S) (place : TablePlac
   -- an end of what is left
   pub told_evaluates : (whole : Styled) (result : Result Text Interruption) → IfEnded result (GetsToEnd t place whole) → Evaluates goes t o place whole t o result
   told_evaluates whole result h = IfEnded-more result (GetsToEnd t place whole) (EndsIn goes t o place whole (tree_of t) o) (ends_so whole) h
+
+-- the same program
+pub gets_as : (t : Table_of) (place : TablePlace) (x y : Styled) → ((style : Integers) → x style ≡ y style) → GetsTo t place x y
+gets_as t place x y e = λ p style at. is_program (tree_of t) p (x style) (y style) (e style)
 
 pub gets_end : (t : Table_of) (place : TablePlace) (whole rest : Styled) (e : Reply) → GetsTo t place whole rest → GetsToEnd t place rest e → GetsToEnd t place whole e
 gets_end t place whole rest e f g = λ p style at. let h = g p style at in record { completion = h.completion; way = looks_then (f p style at) h.way; end = h.end }
@@ -130,14 +134,15 @@ untrue b P f e p = let clash : false ≡ true = sym e ∙ f p in cc
 
 -- ## Paths
 
+-- what is no list
+pub list_fails : (t : Table_of) (place : TablePlace) (x : Result Path ListFault) (e : Reply) (rest : Path → Styled) → IsFailure fault_message x e → GetsToEnd t place (λ style. or_fails fault_message x (λ names. rest names style)) e
+list_fails t place (Ok a) e rest f = elim f [ ]
+list_fails t place (Err x) e rest f = λ p style at. record { completion = failing (fault_message x); way = here; end = f }
+
 pub list_found : {A : Type 0} (t : Table_of) (place : TablePlace) (view : A → Path) (text word : Text) (r : Result A Interruption) → text ≡ word → IfOk r (λ a. list_of text ≡ Ok (view a)) → IfErr r (λ i. Interrupts i (IsFailure fault_message (list_of text))) →
     Finds t place view (λ rest style. or_fails fault_message (list_of word) (λ names. rest names style)) r
 list_found t place view text word (Ok a) same read refused = λ rest p style at. is_program (tree_of t) p _ _ (ap (λ (x : Result Path ListFault). or_fails fault_message x (λ names. rest names style)) (ap list_of (sym same) ∙ read))
-list_found t place view text word (Err i) same read refused = Interrupts-more i (IsFailure fault_message (list_of text)) _ (λ e f rest p style at. failed (list_of word) (subst (λ (x : Text). IsFailure fault_message (list_of x) e) same f) rest p style) refused
-  where
-    failed : (x : Result Path ListFault) {e : Reply} → IsFailure fault_message x e → (rest : Path → Styled) (p : Path) (style : Integers) → LooksToEnd (tree_of t) p (or_fails fault_message x (λ names. rest names style)) e
-    failed (Ok a) f rest p style = elim f [ ]
-    failed (Err x) f rest p style = record { completion = failing (fault_message x); way = here; end = f }
+list_found t place view text word (Err i) same read refused = Interrupts-more i (IsFailure fault_message (list_of text)) _ (λ e f rest. list_fails t place (list_of word) e rest (subst (λ (x : Text). IsFailure fault_message (list_of x) e) same f)) refused
 
 pub stands_there : (t : Table_of) (place there : TablePlace) (path : Path) (text : Text) (rest : Styled) → ((p : Path) → Names t place p → Leads_to t p 0 path (reach.There there)) →
     GetsTo t place (λ style. act Look (λ T. where_it_stands text (λ n. rest style) (T path))) rest
@@ -153,6 +158,26 @@ stands_nowhere t place path text r rest leads e = λ p style at. record {
   end = e;
 }
 
+read_as : (text : Text) (path : Path) (rest : Path → Styled) → list_of text ≡ Ok path → (style : Integers) →
+    interpreters.at_path text (λ path n. rest path style) ≡ act Look (λ T. where_it_stands text (λ n. rest path style) (T path))
+read_as text path rest read style = ap (λ (x : Result Path ListFault). or_fails fault_message x (λ path. act Look (λ T. where_it_stands text (λ n. rest path style) (T path)))) read
+
+-- a path is read, and leads to an interpreter
+pub path_leads : (t : Table_of) (place there : TablePlace) (text : Text) (path : Path) (rest : Path → Styled) → list_of text ≡ Ok path → ((p : Path) → Names t place p → Leads_to t p 0 path (reach.There there)) →
+    GetsTo t place (λ style. interpreters.at_path text (λ path n. rest path style)) (rest path)
+path_leads t place there text path rest read leads = λ p style at.
+    looks_as (tree_of t) p _ _ _ (read_as text path rest read style) (stands_there t place there path text (rest path) leads p style at)
+
+-- or to nobody
+pub path_lost : (t : Table_of) (place : TablePlace) (text : Text) (path : Path) (e : Reply) (rest : Path → Styled) → list_of text ≡ Ok path → ((p : Path) → Names t place p → Leads_to t p 0 path reach.Missing) → e ≡ Completed (failing (no_interpreter text)) →
+    GetsToEnd t place (λ style. interpreters.at_path text (λ path n. rest path style)) e
+path_lost t place text path e rest read leads f =
+    gets_end t place _ (λ style. act Look (λ T. where_it_stands text (λ n. rest path style) (T path))) e (gets_as t place _ _ (read_as text path rest read)) (stands_nowhere t place path text e (rest path) leads f)
+
+-- or it is no list
+pub path_misread : (t : Table_of) (place : TablePlace) (text : Text) (e : Reply) (rest : Path → Styled) → IsFailure fault_message (list_of text) e → GetsToEnd t place (λ style. interpreters.at_path text (λ path n. rest path style)) e
+path_misread t place text e rest f = list_fails t place (list_of text) e (λ path style. act Look (λ T. where_it_stands text (λ n. rest path style) (T path))) f
+
 pub below_goes : (path : Path) (k : Program) → 1 ≤ length path → interpreters.below_itself path k ≡ k
 below_goes [] k h = absurd (omega arith)
 below_goes (x ∷ xs) k h = refl
@@ -164,10 +189,6 @@ below_denied (x ∷ xs) k h = absurd (omega arith)
 pub unless_goes : (path : Path) (k : Program) → 1 ≤ length path → interpreters.unless_root path k ≡ k
 unless_goes [] k h = absurd (omega arith)
 unless_goes (x ∷ xs) k h = refl
-
--- the same program
-pub gets_as : (t : Table_of) (place : TablePlace) (x y : Styled) → ((style : Integers) → x style ≡ y style) → GetsTo t place x y
-gets_as t place x y e = λ p style at. is_program (tree_of t) p (x style) (y style) (e style)
 
 -- it fails so
 pub gets_failed : (t : Table_of) (place : TablePlace) (x : Styled) (message : Text) (r : Reply) → ((style : Integers) → x style ≡ fails message) → r ≡ Completed (failing message) → GetsToEnd t place x r

@@ -29,7 +29,7 @@ use Rattle.tcl_tree.specs.Own.{Own}
 use Rattle.tcl_tree.specs.TreeOf.{tree_of, Names}
 use Rattle.tcl_tree.specs.declared.tree.Tree.{Tree as Table}
 use Rattle.tcl_tree.specs.declared.tree.Place.{Place as TablePlace}
-use Rattle.tcl_entries.specs.Asking.{Asks, GoesOn, EndsIn, Leads, Styled}
+use Rattle.tcl_entries.specs.Asking.{Asks, GoesOn, EndsIn, Styled}
 use Rattle.tcl_entries.specs.Telling.{TellsAs, asked_of}
 
 -- what is said of a code as the core has it
@@ -67,10 +67,6 @@ module _ {S : Type 0} (goes : Going S) (t u : Table) (o z : S) (place : TablePla
   asks_telling text (Err (interruption.Cut x)) r told asks = subst (λ (y : Result Text Interruption). Evaluates goes t o place (λ style. asks_at path entry (with_text text)) u z y) (sym told) (λ p style at. asks p style at (with_text text))
 
 module _ {S : Type 0} (goes : Going S) (t u : Table) (o z : S) (place : TablePlace) (whole : Styled) where
-  -- what is left is evaluated
-  pub leads_evaluates : (rest : Styled) (r : Result Text Interruption) → Leads goes t o place whole t o rest → Evaluates goes t o place rest u z r → Evaluates goes t o place whole u z r
-  leads_evaluates rest r leads e = IfEnded-more r (EndsIn goes t o place rest (tree_of u) z) (EndsIn goes t o place whole (tree_of u) z) (λ e d. leads (tree_of u) z e d) e
-
   pub passes : (r : Result Text Interruption) (i y : Interruption) → r ≡ Err y → y ≡ i → Interrupts i (EndsIn goes t o place whole (tree_of u) z) → Evaluates goes t o place whole u z r
   passes r i y e same h = subst (λ (x : Result Text Interruption). Evaluates goes t o place whole u z x) (sym (e ∙ ap Err same)) h
 

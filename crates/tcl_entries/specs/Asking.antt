@@ -51,8 +51,3 @@ Leads {S} goes old o place whole new z rest = (V : Tree Own) (y : S) (r : Reply)
 -- What came of a step that stands before any rest: what is left is the rest, or all is over.
 abbrev pub Steps : {S : Type 0} → Going S → table.Tree → S → table_place.Place → (Styled → Styled) → table.Tree → S → Result (Unit {0}) Interruption → Type 0
 Steps goes old o place step new z result = (rest : Styled) → MatchResult result (λ done. Leads goes old o place (step rest) new z rest) (λ i. Interrupts i (EndsIn goes old o place (step rest) (tree_of new) z))
-
--- The same of a step that reads something, of which the rest is told as the view says.
-abbrev pub Reads : {S A B : Type 0} → Going S → table.Tree → S → table_place.Place → (A → B) → ((B → Styled) → Styled) → table.Tree → S → Result A Interruption → Type 0
-Reads {S} {A} {B} goes old o place view step new z result = (rest : B → Styled) →
-    MatchResult result (λ a. Leads goes old o place (step rest) new z (rest (view a))) (λ i. Interrupts i (EndsIn goes old o place (step rest) (tree_of new) z))

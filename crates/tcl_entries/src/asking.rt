@@ -3,11 +3,12 @@ ghost use Rattle.std.specs.Prelude.{◌≡◌, ◌≤◌, ◌++◌, IfOk, IfErr,
 ghost use Rattle.tcl_core.specs.Paths.{Path};
 ghost use Rattle.tcl_language.specs.Interpreters as interpreters;
 ghost use Rattle.tcl_run.specs.Ends.{Interrupts, IsFailure};
-ghost use Rattle.tcl_run.specs.Runs.{EvaluatesAt, IsRunning, IsSteady};
+ghost use Rattle.tcl_run.specs.Runs.{EvaluatesAt, IsLoss, IsRunning, IsSteady};
 ghost use Rattle.tcl_text.specs.Lists.{list_of};
 ghost use Rattle.tcl_text.specs.Writing.{fault_message};
 ghost use Rattle.tcl_tree.specs.TreeOf.{Names};
-ghost use Rattle.tcl_entries.specs.Asking.{Asks, AsksBelow, Reads};
+ghost use Rattle.tcl_entries.specs.Asking.{Asks, AsksBelow};
+ghost use Rattle.tcl_entries.specs.Looking.{Finds};
 ghost use Rattle.tcl_run.specs.Entering.{IsOwn, entry_of, whole_entry};
 ghost use Rattle.tcl_language.specs.Table as table;
 
@@ -39,6 +40,7 @@ pub fn ask<O: Outside>(
 ) -> Result<Value, Interruption>
     requires { IsRunning tree.old place }
     ensures asks { Asks O.goes tree.old outside.old place path.now (entry_of entry) tree.new outside.new result }
+    ensures lost { IsLoss O.loses outside.old outside.new }
     ensures steady { IsSteady tree.old tree.new }
     ensures left { O.entries_left outside.new ≤ O.entries_left outside.old }
 {
@@ -60,6 +62,7 @@ fn ask_below<O: Outside>(
     requires running { IsRunning tree.old place }
     requires own { IsOwn entry }
     ensures calls { AsksBelow O.goes tree.old outside.old place path.now (whole_entry entry) tree.new outside.new result }
+    ensures lost { IsLoss O.loses outside.old outside.new }
     ensures steady { IsSteady tree.old tree.new }
     ensures left { O.entries_left outside.new ≤ O.entries_left outside.old }
 {
@@ -89,6 +92,7 @@ fn serve_own<O: Outside>(
     requires own { IsOwn entry.now }
     requires there { (p : Path) × Names tree.old place p }
     ensures runs { EvaluatesAt O.goes tree.old outside.old place (λ style. table.serve style (whole_entry entry.now)) tree.new outside.new result }
+    ensures lost { IsLoss O.loses outside.old outside.new }
     ensures steady { IsSteady tree.old tree.new }
     ensures left { O.entries_left outside.new ≤ O.entries_left outside.old }
 {
@@ -109,37 +113,34 @@ pub struct FoundPath {
 ///
 /// # Errors
 /// 101 to 104 where the word is no list; 301 where no interpreter is there; want of memory.
-pub fn path_of<O: Outside>(
+pub fn path_of(
     tree: &Tree,
     alloc: Global,
-    outside: &O,
     place: Place,
     word: &Value,
 ) -> Result<FoundPath, Interruption>
     requires { IsRunning tree.now place }
     ensures found { IfOk result (λ found. (p : Path) → Names tree.now place p → Names tree.now found.place (p ++ found.path.items)) }
-    ensures read { Reads O.goes tree.now outside.now place (λ found. found.path.items) (λ rest style. interpreters.at_path word.now (λ path n. rest path style)) tree.now outside.now result }
+    ensures read { Finds tree.now place (λ found. found.path.items) (λ rest style. interpreters.at_path word.now (λ path n. rest path style)) result }
 {
     let text = word.text(alloc)?;
-    path_at(tree, alloc, outside, place, &text)
+    path_at(tree, alloc, place, &text)
 }
 
 /// The same of a text.
 ///
 /// # Errors
 /// 101 to 104 where the text is no list; 301 where no interpreter is there; want of memory.
-pub fn path_at<O: Outside>(
+pub fn path_at(
     tree: &Tree,
     alloc: Global,
-    outside: &O,
     place: Place,
     text: &Text,
 ) -> Result<FoundPath, Interruption>
     requires { IsRunning tree.now place }
     ensures found { IfOk result (λ found. (p : Path) → Names tree.now place p → Names tree.now found.place (p ++ found.path.items)) }
-    ensures read { Reads O.goes tree.now outside.now place (λ found. found.path.items) (λ rest style. interpreters.at_path text.now (λ path n. rest path style)) tree.now outside.now result }
+    ensures read { Finds tree.now place (λ found. found.path.items) (λ rest style. interpreters.at_path text.now (λ path n. rest path style)) result }
 {
-    let _outside = outside;
     let path = read_path(alloc, text)?;
     match tree.reach(place, 0, path.as_slice()) {
         Reach::There(there) => Ok(FoundPath { path, place: there }),

@@ -2,7 +2,7 @@
 ghost use Rattle.std.specs.Prelude.{◌≡◌, ◌≤◌, ◌∷◌, []};
 ghost use Rattle.tcl_core.specs.Entries.Entry.{Hide, Expose};
 ghost use Rattle.tcl_language.specs.Interpreters as interpreters;
-ghost use Rattle.tcl_run.specs.Runs.{Evaluates, IsRunning, IsSteady};
+ghost use Rattle.tcl_run.specs.Runs.{Evaluates, IsLoss, IsRunning, IsSteady};
 ghost use Rattle.tcl_entries.specs.Telling.{limits_to, deepens_to, limits_below, deepens_there};
 
 use crate::asking::path_of;
@@ -35,6 +35,7 @@ fn hide_as<O: Outside>(
 ) -> Result<Value, Interruption>
     requires { IsRunning tree.old place }
     ensures evaluates { Evaluates O.goes tree.old outside.old place (λ style. interpreters.asks_trusted path.now (Hide name.now hidden.now)) tree.new outside.new result }
+    ensures lost { IsLoss O.loses outside.old outside.new }
     ensures steady { IsSteady tree.old tree.new }
     ensures left { O.entries_left outside.new ≤ O.entries_left outside.old }
 {
@@ -63,6 +64,7 @@ pub fn hide<O: Outside>(
 ) -> Result<Value, Interruption>
     requires { IsRunning tree.old place }
     ensures evaluates { Evaluates O.goes tree.old outside.old place (λ style. interpreters.hide args.now) tree.new outside.new result }
+    ensures lost { IsLoss O.loses outside.old outside.new }
     ensures steady { IsSteady tree.old tree.new }
     ensures left { O.entries_left outside.new ≤ O.entries_left outside.old }
 {
@@ -85,6 +87,7 @@ fn expose_as<O: Outside>(
 ) -> Result<Value, Interruption>
     requires { IsRunning tree.old place }
     ensures evaluates { Evaluates O.goes tree.old outside.old place (λ style. interpreters.asks_trusted path.now (Expose hidden.now name.now)) tree.new outside.new result }
+    ensures lost { IsLoss O.loses outside.old outside.new }
     ensures steady { IsSteady tree.old tree.new }
     ensures left { O.entries_left outside.new ≤ O.entries_left outside.old }
 {
@@ -113,6 +116,7 @@ pub fn expose<O: Outside>(
 ) -> Result<Value, Interruption>
     requires { IsRunning tree.old place }
     ensures evaluates { Evaluates O.goes tree.old outside.old place (λ style. interpreters.expose args.now) tree.new outside.new result }
+    ensures lost { IsLoss O.loses outside.old outside.new }
     ensures steady { IsSteady tree.old tree.new }
     ensures left { O.entries_left outside.new ≤ O.entries_left outside.old }
 {
@@ -134,6 +138,7 @@ pub fn limit_to<O: Outside>(
 ) -> Result<Value, Interruption>
     requires { IsRunning tree.old place }
     ensures evaluates { Evaluates O.goes tree.old outside.old place (λ style. limits_to style path.now value.now) tree.new outside.new result }
+    ensures lost { IsLoss O.loses outside.old outside.new }
     ensures steady { IsSteady tree.old tree.new }
     ensures left { O.entries_left outside.new ≤ O.entries_left outside.old }
 {
@@ -159,6 +164,7 @@ pub fn deepen_to<O: Outside>(
 ) -> Result<Value, Interruption>
     requires { IsRunning tree.old place }
     ensures evaluates { Evaluates O.goes tree.old outside.old place (λ style. deepens_to style path.now value.now) tree.new outside.new result }
+    ensures lost { IsLoss O.loses outside.old outside.new }
     ensures steady { IsSteady tree.old tree.new }
     ensures left { O.entries_left outside.new ≤ O.entries_left outside.old }
 {
@@ -184,6 +190,7 @@ fn set_limit<O: Outside>(
 ) -> Result<Value, Interruption>
     requires { IsRunning tree.old place }
     ensures evaluates { Evaluates O.goes tree.old outside.old place (λ style. interpreters.sets_limit style word.now value.now) tree.new outside.new result }
+    ensures lost { IsLoss O.loses outside.old outside.new }
     ensures steady { IsSteady tree.old tree.new }
     ensures left { O.entries_left outside.new ≤ O.entries_left outside.old }
 {
@@ -204,6 +211,7 @@ fn limit_below<O: Outside>(
 ) -> Result<Value, Interruption>
     requires { IsRunning tree.old place }
     ensures evaluates { Evaluates O.goes tree.old outside.old place (λ style. limits_below style word.now names.now value.now) tree.new outside.new result }
+    ensures lost { IsLoss O.loses outside.old outside.new }
     ensures steady { IsSteady tree.old tree.new }
     ensures left { O.entries_left outside.new ≤ O.entries_left outside.old }
 {
@@ -223,6 +231,7 @@ fn limit_of<O: Outside>(
 ) -> Result<Value, Interruption>
     requires { IsRunning tree.old place }
     ensures evaluates { Evaluates O.goes tree.old outside.old place (λ style. interpreters.limit style (path.now ∷ word.now ∷ [])) tree.new outside.new result }
+    ensures lost { IsLoss O.loses outside.old outside.new }
     ensures steady { IsSteady tree.old tree.new }
     ensures left { O.entries_left outside.new ≤ O.entries_left outside.old }
 {
@@ -250,6 +259,7 @@ fn limit_with<O: Outside>(
 ) -> Result<Value, Interruption>
     requires { IsRunning tree.old place }
     ensures evaluates { Evaluates O.goes tree.old outside.old place (λ style. interpreters.limit style (path.now ∷ word.now ∷ option.now ∷ value.now ∷ [])) tree.new outside.new result }
+    ensures lost { IsLoss O.loses outside.old outside.new }
     ensures steady { IsSteady tree.old tree.new }
     ensures left { O.entries_left outside.new ≤ O.entries_left outside.old }
 {
@@ -271,6 +281,7 @@ pub fn limit<O: Outside>(
 ) -> Result<Value, Interruption>
     requires { IsRunning tree.old place }
     ensures evaluates { Evaluates O.goes tree.old outside.old place (λ style. interpreters.limit style args.now) tree.new outside.new result }
+    ensures lost { IsLoss O.loses outside.old outside.new }
     ensures steady { IsSteady tree.old tree.new }
     ensures left { O.entries_left outside.new ≤ O.entries_left outside.old }
 {
@@ -294,6 +305,7 @@ fn set_depth_limit<O: Outside>(
 ) -> Result<Value, Interruption>
     requires { IsRunning tree.old place }
     ensures evaluates { Evaluates O.goes tree.old outside.old place (λ style. interpreters.sets_depth_limit style word.now value.now) tree.new outside.new result }
+    ensures lost { IsLoss O.loses outside.old outside.new }
     ensures steady { IsSteady tree.old tree.new }
     ensures left { O.entries_left outside.new ≤ O.entries_left outside.old }
 {
@@ -314,6 +326,7 @@ fn deepen_there<O: Outside>(
 ) -> Result<Value, Interruption>
     requires { IsRunning tree.old place }
     ensures evaluates { Evaluates O.goes tree.old outside.old place (λ style. deepens_there style word.now names.now value.now) tree.new outside.new result }
+    ensures lost { IsLoss O.loses outside.old outside.new }
     ensures steady { IsSteady tree.old tree.new }
     ensures left { O.entries_left outside.new ≤ O.entries_left outside.old }
 {
@@ -335,6 +348,7 @@ pub fn recursion_limit<O: Outside>(
 ) -> Result<Value, Interruption>
     requires { IsRunning tree.old place }
     ensures evaluates { Evaluates O.goes tree.old outside.old place (λ style. interpreters.recursion_limit style args.now) tree.new outside.new result }
+    ensures lost { IsLoss O.loses outside.old outside.new }
     ensures steady { IsSteady tree.old tree.new }
     ensures left { O.entries_left outside.new ≤ O.entries_left outside.old }
 {
@@ -368,10 +382,11 @@ fn set_alias<O: Outside>(
 ) -> Result<Value, Interruption>
     requires { IsRunning tree.old place }
     ensures evaluates { Evaluates O.goes tree.old outside.old place (λ style. interpreters.alias_path source.now name.now target.now word.now words.now) tree.new outside.new result }
+    ensures lost { IsLoss O.loses outside.old outside.new }
     ensures steady { IsSteady tree.old tree.new }
     ensures left { O.entries_left outside.new ≤ O.entries_left outside.old }
 {
-    let found = path_of(tree, alloc, outside, place, source)?;
+    let found = path_of(tree, alloc, place, source)?;
     let goal = names_of(tree, alloc, place, target)?;
     let own = target_words(alloc, slice::from_ref(word), words)?;
     let alias = Alias::between(alloc, found.path.as_slice(), goal.as_slice(), own)?;
@@ -401,6 +416,7 @@ fn clear_alias<O: Outside>(
 ) -> Result<Value, Interruption>
     requires { IsRunning tree.old place }
     ensures evaluates { Evaluates O.goes tree.old outside.old place (λ style. interpreters.alias (source.now ∷ name.now ∷ target.now ∷ [])) tree.new outside.new result }
+    ensures lost { IsLoss O.loses outside.old outside.new }
     ensures steady { IsSteady tree.old tree.new }
     ensures left { O.entries_left outside.new ≤ O.entries_left outside.old }
 {
@@ -429,6 +445,7 @@ fn alias_of<O: Outside>(
 ) -> Result<Value, Interruption>
     requires { IsRunning tree.old place }
     ensures evaluates { Evaluates O.goes tree.old outside.old place (λ style. interpreters.alias (source.now ∷ name.now ∷ [])) tree.new outside.new result }
+    ensures lost { IsLoss O.loses outside.old outside.new }
     ensures steady { IsSteady tree.old tree.new }
     ensures left { O.entries_left outside.new ≤ O.entries_left outside.old }
 {
@@ -459,6 +476,7 @@ pub fn alias<O: Outside>(
 ) -> Result<Value, Interruption>
     requires { IsRunning tree.old place }
     ensures evaluates { Evaluates O.goes tree.old outside.old place (λ style. interpreters.alias args.now) tree.new outside.new result }
+    ensures lost { IsLoss O.loses outside.old outside.new }
     ensures steady { IsSteady tree.old tree.new }
     ensures left { O.entries_left outside.new ≤ O.entries_left outside.old }
 {

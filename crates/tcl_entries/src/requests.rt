@@ -2,7 +2,7 @@
 ghost use Rattle.std.specs.Prelude.{◌≤◌};
 ghost use Rattle.tcl_core.specs.Programs.Prog.{done};
 ghost use Rattle.tcl_language.specs.Interpreters as interpreters;
-ghost use Rattle.tcl_run.specs.Runs.{Evaluates, IsRunning, IsSteady};
+ghost use Rattle.tcl_run.specs.Runs.{Evaluates, IsLoss, IsRunning, IsSteady};
 ghost use Rattle.tcl_run.specs.Entering.{entry_of, question_of};
 ghost use Rattle.tcl_entries.specs.Telling.{TellsAs, asked_of};
 
@@ -29,6 +29,7 @@ pub fn ask_at<O: Outside>(
 ) -> Result<Value, Interruption>
     requires { IsRunning tree.old place }
     ensures evaluates { Evaluates O.goes tree.old outside.old place (λ style. interpreters.asks_at path.now (entry_of entry) done) tree.new outside.new result }
+    ensures lost { IsLoss O.loses outside.old outside.new }
     ensures steady { IsSteady tree.old tree.new }
     ensures left { O.entries_left outside.new ≤ O.entries_left outside.old }
 {
@@ -64,6 +65,7 @@ pub fn ask_telling<O: Outside>(
 ) -> Result<Value, Interruption>
     requires { IsRunning tree.old place }
     ensures evaluates { Evaluates O.goes tree.old outside.old place (λ style. interpreters.asks_at path.now (entry_of entry) (interpreters.with_text value)) tree.new outside.new result }
+    ensures lost { IsLoss O.loses outside.old outside.new }
     ensures steady { IsSteady tree.old tree.new }
     ensures left { O.entries_left outside.new ≤ O.entries_left outside.old }
 {
@@ -81,10 +83,11 @@ pub fn ask_there<O: Outside>(
 ) -> Result<Value, Interruption>
     requires { IsRunning tree.old place }
     ensures evaluates { Evaluates O.goes tree.old outside.old place (λ style. interpreters.asks word.now (entry_of entry)) tree.new outside.new result }
+    ensures lost { IsLoss O.loses outside.old outside.new }
     ensures steady { IsSteady tree.old tree.new }
     ensures left { O.entries_left outside.new ≤ O.entries_left outside.old }
 {
-    let found = path_of(tree, alloc, outside, place, word)?;
+    let found = path_of(tree, alloc, place, word)?;
     ask_at(tree, alloc, outside, place, found.path.as_slice(), entry)
 }
 
@@ -99,6 +102,7 @@ pub fn ask_trusted<O: Outside>(
 ) -> Result<Value, Interruption>
     requires { IsRunning tree.old place }
     ensures evaluates { Evaluates O.goes tree.old outside.old place (λ style. interpreters.asks_trusted word.now (entry_of entry)) tree.new outside.new result }
+    ensures lost { IsLoss O.loses outside.old outside.new }
     ensures steady { IsSteady tree.old tree.new }
     ensures left { O.entries_left outside.new ≤ O.entries_left outside.old }
 {
@@ -118,6 +122,7 @@ fn ask_one<O: Outside>(
 ) -> Result<Value, Interruption>
     requires { IsRunning tree.old place }
     ensures evaluates { Evaluates O.goes tree.old outside.old place (λ style. asked_of form.now (entry_of entry) args.now) tree.new outside.new result }
+    ensures lost { IsLoss O.loses outside.old outside.new }
     ensures steady { IsSteady tree.old tree.new }
     ensures left { O.entries_left outside.new ≤ O.entries_left outside.old }
 {
@@ -140,6 +145,7 @@ pub fn ask_about<O: Outside>(
 ) -> Result<Value, Interruption>
     requires { IsRunning tree.old place }
     ensures evaluates { Evaluates O.goes tree.old outside.old place (λ style. interpreters.question form.now (question_of question) args.now) tree.new outside.new result }
+    ensures lost { IsLoss O.loses outside.old outside.new }
     ensures steady { IsSteady tree.old tree.new }
     ensures left { O.entries_left outside.new ≤ O.entries_left outside.old }
 {

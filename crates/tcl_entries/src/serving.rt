@@ -8,7 +8,7 @@ ghost use Rattle.tcl_language.specs.Interpreters as interpreters;
 ghost use Rattle.tcl_language.specs.Table as table;
 ghost use Rattle.tcl_run.specs.Ends.{Interrupts, failing};
 ghost use Rattle.tcl_run.specs.Plain.{Acts};
-ghost use Rattle.tcl_run.specs.Runs.{EvaluatesAt, IsLevel, IsSteady};
+ghost use Rattle.tcl_run.specs.Runs.{EvaluatesAt, IsLevel, IsLoss, IsSteady};
 ghost use Rattle.tcl_text.specs.Writing.{written_list};
 ghost use Rattle.tcl_tree.specs.Own.{Own};
 ghost use Rattle.tcl_tree.specs.TreeOf.{tree_of, Names};
@@ -257,6 +257,7 @@ pub fn delete<O: Outside>(
 ) -> Result<Value, Interruption>
     requires { (p : Path) × Names tree.old place p }
     ensures runs { EvaluatesAt O.goes tree.old outside.old place (λ style. interpreters.deletes name.now) tree.new outside.new result }
+    ensures lost { IsLoss O.loses outside.old outside.new }
     ensures steady { IsSteady tree.old tree.new }
     ensures left { O.entries_left outside.new ≤ O.entries_left outside.old }
 {
@@ -303,6 +304,7 @@ pub fn serve<O: Outside>(
 ) -> Result<Value, Interruption>
     requires { (p : Path) × Names tree.old place p }
     ensures runs { EvaluatesAt O.goes tree.old outside.old place (λ style. table.serve style (entry_of entry.now)) tree.new outside.new result }
+    ensures lost { IsLoss O.loses outside.old outside.new }
     ensures steady { IsSteady tree.old tree.new }
     ensures left { O.entries_left outside.new ≤ O.entries_left outside.old }
 {

@@ -5,7 +5,7 @@ ghost use Rattle.tcl_core.specs.Trees as core;
 ghost use Rattle.tcl_language.specs.Instructions.{or_fails};
 ghost use Rattle.tcl_language.specs.Interpreters as interpreters;
 ghost use Rattle.tcl_run.specs.Ends.{Interrupts};
-ghost use Rattle.tcl_run.specs.Runs.{Evaluates, IsRunning, IsSteady};
+ghost use Rattle.tcl_run.specs.Runs.{Evaluates, IsLoss, IsRunning, IsSteady};
 ghost use Rattle.tcl_text.specs.Lists.{list_of};
 ghost use Rattle.tcl_text.specs.Writing.{fault_message};
 ghost use Rattle.tcl_tree.specs.Own.{Own};
@@ -40,6 +40,7 @@ fn create_below<O: Outside>(
 ) -> Result<Value, Interruption>
     requires { IsRunning tree.old place }
     ensures evaluates { Evaluates O.goes tree.old outside.old place (λ style. interpreters.makes_at word.now safe (above.now, name.now)) tree.new outside.new result }
+    ensures lost { IsLoss O.loses outside.old outside.new }
     ensures steady { IsSteady tree.old tree.new }
     ensures left { O.entries_left outside.new ≤ O.entries_left outside.old }
 {
@@ -62,6 +63,7 @@ fn create_at<O: Outside>(
 ) -> Result<Value, Interruption>
     requires { IsRunning tree.old place }
     ensures evaluates { Evaluates O.goes tree.old outside.old place (λ style. interpreters.makes_named word.now safe path.now) tree.new outside.new result }
+    ensures lost { IsLoss O.loses outside.old outside.new }
     ensures steady { IsSteady tree.old tree.new }
     ensures left { O.entries_left outside.new ≤ O.entries_left outside.old }
 {
@@ -82,6 +84,7 @@ fn create_there<O: Outside>(
 ) -> Result<Value, Interruption>
     requires { IsRunning tree.old place }
     ensures evaluates { Evaluates O.goes tree.old outside.old place (λ style. or_fails fault_message (list_of word.now) (interpreters.makes_named word.now safe)) tree.new outside.new result }
+    ensures lost { IsLoss O.loses outside.old outside.new }
     ensures steady { IsSteady tree.old tree.new }
     ensures left { O.entries_left outside.new ≤ O.entries_left outside.old }
 {
@@ -109,6 +112,7 @@ fn create_unnamed<O: Outside>(
 ) -> Result<Value, Interruption>
     requires { IsRunning tree.old place }
     ensures evaluates { Evaluates O.goes tree.old outside.old place (λ style. interpreters.create_path safe []) tree.new outside.new result }
+    ensures lost { IsLoss O.loses outside.old outside.new }
     ensures steady { IsSteady tree.old tree.new }
     ensures left { O.entries_left outside.new ≤ O.entries_left outside.old }
 {
@@ -130,6 +134,7 @@ fn create_named<O: Outside>(
 ) -> Result<Value, Interruption>
     requires { IsRunning tree.old place }
     ensures evaluates { Evaluates O.goes tree.old outside.old place (λ style. interpreters.create_path safe words.now) tree.new outside.new result }
+    ensures lost { IsLoss O.loses outside.old outside.new }
     ensures steady { IsSteady tree.old tree.new }
     ensures left { O.entries_left outside.new ≤ O.entries_left outside.old }
 {
@@ -186,6 +191,7 @@ pub fn create<O: Outside>(
 ) -> Result<Value, Interruption>
     requires { IsRunning tree.old place }
     ensures evaluates { Evaluates O.goes tree.old outside.old place (λ style. interpreters.create_options false args.now) tree.new outside.new result }
+    ensures lost { IsLoss O.loses outside.old outside.new }
     ensures steady { IsSteady tree.old tree.new }
     ensures left { O.entries_left outside.new ≤ O.entries_left outside.old }
 {

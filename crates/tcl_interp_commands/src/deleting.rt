@@ -2,7 +2,7 @@
 ghost use Rattle.std.specs.Prelude.{◌≤◌};
 ghost use Rattle.tcl_core.specs.Entries.Entry.{Delete};
 ghost use Rattle.tcl_language.specs.Interpreters as interpreters;
-ghost use Rattle.tcl_run.specs.Runs.{Evaluates, IsRunning, IsSteady};
+ghost use Rattle.tcl_run.specs.Runs.{Evaluates, IsLoss, IsRunning, IsSteady};
 ghost use Rattle.tcl_entries.specs.Asking.{Steps};
 ghost use Rattle.tcl_interp_commands.specs.Deleting.{Deletes};
 
@@ -50,6 +50,7 @@ fn delete_below<O: Outside>(
 ) -> Result<(), Interruption>
     requires { IsRunning tree.old place }
     ensures steps { Steps O.goes tree.old outside.old place (λ rest style. interpreters.deletes_at text.now (above.now, name.now) (rest style)) tree.new outside.new result }
+    ensures lost { IsLoss O.loses outside.old outside.new }
     ensures steady { IsSteady tree.old tree.new }
     ensures left { O.entries_left outside.new ≤ O.entries_left outside.old }
 {
@@ -69,6 +70,7 @@ fn delete_at<O: Outside>(
 ) -> Result<(), Interruption>
     requires { IsRunning tree.old place }
     ensures steps { Steps O.goes tree.old outside.old place (λ rest style. interpreters.deletes_named text.now path.now (rest style)) tree.new outside.new result }
+    ensures lost { IsLoss O.loses outside.old outside.new }
     ensures steady { IsSteady tree.old tree.new }
     ensures left { O.entries_left outside.new ≤ O.entries_left outside.old }
 {
@@ -91,10 +93,11 @@ pub fn delete_there<O: Outside>(
 ) -> Result<(), Interruption>
     requires { IsRunning tree.old place }
     ensures steps { Steps O.goes tree.old outside.old place (λ rest style. interpreters.at_path text.now (λ path n. interpreters.deletes_named text.now path (rest style))) tree.new outside.new result }
+    ensures lost { IsLoss O.loses outside.old outside.new }
     ensures steady { IsSteady tree.old tree.new }
     ensures left { O.entries_left outside.new ≤ O.entries_left outside.old }
 {
-    let found = path_at(tree, alloc, outside, place, text)?;
+    let found = path_at(tree, alloc, place, text)?;
     delete_at(tree, alloc, outside, place, text, found.path.as_slice())
 }
 
@@ -111,6 +114,7 @@ pub fn delete<O: Outside>(
 ) -> Result<Value, Interruption>
     requires { IsRunning tree.old place }
     ensures evaluates { Evaluates O.goes tree.old outside.old place (λ style. interpreters.delete args.now) tree.new outside.new result }
+    ensures lost { IsLoss O.loses outside.old outside.new }
     ensures steady { IsSteady tree.old tree.new }
     ensures left { O.entries_left outside.new ≤ O.entries_left outside.old }
 {

@@ -2,7 +2,7 @@
 ghost use Rattle.std.specs.Prelude.{◌≡◌, ◌≤◌, true, List};
 ghost use Rattle.tcl_core.specs.Paths as core;
 ghost use Rattle.tcl_language.specs.Interpreters as interpreters;
-ghost use Rattle.tcl_run.specs.Runs.{Evaluates, IsRunning, IsSteady};
+ghost use Rattle.tcl_run.specs.Runs.{Evaluates, IsLoss, IsRunning, IsSteady};
 ghost use Rattle.tcl_text.specs.declared.integer.Integers.{Integers};
 ghost use Rattle.tcl_entries.specs.Subcommands.{program_of, program_named};
 ghost use Rattle.tcl_interp_commands.specs.Evaluating.{evaluates_nothing};
@@ -42,6 +42,7 @@ pub fn interp_own<O: Outside>(
     requires running { IsRunning tree.old place }
     requires own { evaluates_nothing subcommand ≡ true }
     ensures evaluates { Evaluates O.goes tree.old outside.old place (λ style. program_of style subcommand args.now) tree.new outside.new result }
+    ensures lost { IsLoss O.loses outside.old outside.new }
     ensures steady { IsSteady tree.old tree.new }
     ensures left { O.entries_left outside.new ≤ O.entries_left outside.old }
 {

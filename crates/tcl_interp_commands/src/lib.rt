@@ -1,5 +1,5 @@
 //! The subcommands of `interp` that evaluate no script, and `rename`.
-#![tactic(auto)]
+#![tactic(auto, using(tcl_run::proofs::Losing::losing))]
 
 pub mod creating;
 pub mod deleting;

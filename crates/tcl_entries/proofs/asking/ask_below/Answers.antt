@@ -1,6 +1,8 @@
 use Rattle.std.proofs.Common.{refl}
 use Rattle.std.specs.Prelude.{Err}
 use Rattle.tcl_run.specs.Entering.{whole_entry}
+use Rattle.tcl_run.specs.Runs.{IsLoss}
+use Rattle.tcl_run.proofs.Losing.{lost_once, lost_twice}
 use Rattle.tcl_entries.proofs.Carried.{asks_there, asks_nobody}
 use Rattle.tcl_entries.proofs.Reached.{never_outside}
 use Rattle.tcl_entries.proofs.asking.ask_below.Goals as goal
@@ -16,6 +18,11 @@ returns-in-There-clause-calls g c = asks_there g.O.Outside.goes c.args.tree.now 
     c.enters.new.self c.serve_own-ended.new.outside c.come_back.new.outside c.in-There.there c.serve_own-ended.result (λ p at. c.in-There.ensures p at) c.in_ok-enters-in-There.ensures.told
     c.serve_own-ended.ensures.runs
     c.come_back.ensures.comes c.serve_own-ended.ensures.steady
+
+pub returns-in-There-clause-lost : goal.returns-in-There-clause-lost
+returns-in-There-clause-lost g c =
+    let told : IsLoss g.O.Outside.loses c.args.outside.now c.enters.new.self = lost_once c.enters.ensures.lost in
+    lost_twice (lost_twice told c.serve_own-ended.ensures.lost) c.come_back.ensures.lost
 
 pub returns-in-Missing-clause-calls : goal.returns-in-Missing-clause-calls
 returns-in-Missing-clause-calls g c = asks_nobody g.O.Outside.goes c.args.tree.now c.args.tree.now c.args.outside.now c.args.place c.args.path.now (whole_entry c.args.entry) (Err c.no_interpreter.result)

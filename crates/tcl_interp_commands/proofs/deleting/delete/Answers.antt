@@ -1,6 +1,7 @@
 use Rattle.std.proofs.Common.{◌≡◌, ◌+◌, ℕ, List, [], ◌∷◌, drop, sym, ap, ◌∙◌, arith}
 use Rattle.std.proofs.lemmas.Result.{err_from_is_err_and}
 use Rattle.tcl_language.specs.Interpreters as interpreters
+use Rattle.tcl_run.proofs.Losing.{lost_twice}
 use Rattle.tcl_run.proofs.Steady.{steady-trans, still_running}
 use Rattle.tcl_commands.proofs.Ways.{item_on, none_on}
 use Rattle.tcl_entries.proofs.Telling.{passes}
@@ -14,12 +15,13 @@ paths-preserved g c =
       leads_then g.O.Outside.goes c.args.tree.now c.paths.tree c.delete_there.new.tree c.args.outside.now c.paths.outside c.delete_there.new.outside c.args.place (λ style. interpreters.delete c.args.args.now) (λ style. interpreters.delete (drop c.paths.path-index c.args.args.now))
           (λ style. interpreters.at_path c.in_ok-text.text (λ path n. interpreters.deletes_named c.in_ok-text.text path (interpreters.delete (drop (c.paths.path-index + 1) c.args.args.now)))) (λ style. interpreters.delete (drop (c.paths.path-index + 1) c.args.args.now))
           c.paths.invariant.0 (λ style. ap interpreters.delete item) (c.in_ok-delete_there.ensures.steps (λ style. interpreters.delete (drop (c.paths.path-index + 1) c.args.args.now))),
-      steady-trans c.args.tree.now c.paths.tree c.delete_there.new.tree c.paths.invariant.1 c.in_ok-delete_there.ensures.steady,
-      (let a = c.paths.invariant.2 in let b = c.in_ok-delete_there.ensures.left in omega (arith, a, b)),
+      lost_twice c.paths.invariant.1 c.in_ok-delete_there.ensures.lost,
+      steady-trans c.args.tree.now c.paths.tree c.delete_there.new.tree c.paths.invariant.2 c.in_ok-delete_there.ensures.steady,
+      (let a = c.paths.invariant.3 in let b = c.in_ok-delete_there.ensures.left in omega (arith, a, b)),
     )
 
 pub delete_there-requires : goal.delete_there-requires
-delete_there-requires g c = still_running c.args.tree.now c.paths.tree c.args.place c.paths.invariant.1 c.requires
+delete_there-requires g c = still_running c.args.tree.now c.paths.tree c.args.place c.paths.invariant.2 c.requires
 
 pub returns-in_err-delete_there-clause-evaluates : goal.returns-in_err-delete_there-clause-evaluates
 returns-in_err-delete_there-clause-evaluates g c =
@@ -36,4 +38,4 @@ returns-clause-evaluates g c = leads_done g.O.Outside.goes c.args.tree.now c.pat
     c.paths.invariant.0 (λ style. ap interpreters.delete (none_on c.args.args.now c.paths.path-index (omega arith))) c.empty.ensures
 
 pub returns-in_err-delete_there-clause-steady : goal.returns-in_err-delete_there-clause-steady
-returns-in_err-delete_there-clause-steady g c = steady-trans c.args.tree.now c.paths.tree c.delete_there.new.tree c.paths.invariant.1 c.in_err-delete_there.ensures.steady
+returns-in_err-delete_there-clause-steady g c = steady-trans c.args.tree.now c.paths.tree c.delete_there.new.tree c.paths.invariant.2 c.in_err-delete_there.ensures.steady
