@@ -1,35 +1,18 @@
 -- What the words of `interp` and of a child's own command come to, by the subcommand that the first of them names.
-use Rattle.std.proofs.Common.{◌≡◌, ℕ, ◌<◌, ◌≤◌, Bool, true, false, List, [], ◌∷◌, length, Option, Some, None, refl, sym, ◌∙◌, ap, arith}
-use Rattle.std.specs.Prelude.{Result, codes}
+use Rattle.std.proofs.Common.{◌≡◌, ◌<◌, ◌≤◌, false, List, [], ◌∷◌, length, Option, Some, None, refl, sym, ◌∙◌, ap, arith}
+use Rattle.std.specs.Prelude.{codes}
 use Rattle.tcl_core.specs.Entries.Entry.{Eval}
-use Rattle.tcl_core.specs.Paths.{Path, Text}
+use Rattle.tcl_core.specs.Paths.{Text}
 use Rattle.tcl_core.specs.Programs.Prog.{done}
 use Rattle.tcl_language.specs.Faults.{wrong_args, unknown_subcommand}
-use Rattle.tcl_language.specs.Instructions.{Program, fails, grown}
+use Rattle.tcl_language.specs.Instructions.{fails, grown}
 use Rattle.tcl_language.specs.Interpreters.{interp, subcommand, invoke_hidden, invoke_form, invoked_as, child, child_eval, child_form, asks_at}
-use Rattle.tcl_language.specs.Language.{language}
 use Rattle.tcl_language.specs.Words.{concat}
-use Rattle.tcl_run.specs.Outsides.{Going}
-use Rattle.tcl_run.specs.Plain.{Acts, Does}
-use Rattle.tcl_run.specs.Runs.{Comes, Evaluates, IsAt, IsThere}
-use Rattle.tcl_run.specs.declared.interruption.Interruption.{Interruption}
-use Rattle.tcl_run.proofs.Endings.{IfEnded-more}
-use Rattle.tcl_run.proofs.Plain.{does_comes}
 use Rattle.tcl_text.specs.declared.integer.Integers.{Integers}
-use Rattle.tcl_tree.specs.TreeOf.{tree_of}
-use Rattle.tcl_tree.specs.declared.tree.Tree.{Tree as Table}
-use Rattle.tcl_tree.specs.declared.tree.Place.{Place as TablePlace}
 use Rattle.tcl_entries.specs.Subcommands.{program_of, program_named, child_subcommand_of, child_program_of, child_program_named}
 use Rattle.tcl_entries.specs.declared.subcommand.Subcommand.{Subcommand}
 use Rattle.tcl_entries.specs.declared.subcommand.ChildSubcommand.{ChildSubcommand}
 use Rattle.tcl_child_commands.proofs.Named.{child_by_name}
-
--- ## Commands that evaluate nothing
-
-pub acted : {S : Type 0} (goes : Going S) (t u : Table) (o : S) (place : TablePlace) (program : Integers → Program) (r : Result Text Interruption) → Acts t place program u r → Evaluates goes t o place program u o r
-acted goes t u o place program r acts = IfEnded-more r (λ e. (p : Path) (style : Integers) → IsThere t place p style → Does (program style) (tree_of t) p (tree_of u) e)
-    (λ e. (p : Path) (style : Integers) → IsAt t place p style → Comes goes (language style) (tree_of t) o p (program style) (tree_of u) o e)
-    (λ e h p style at. does_comes (program style) o (h p style (record { names = at.names; style_is = at.style_is }))) acts
 
 -- ## interp
 

@@ -1,6 +1,6 @@
 -- What is a run over a host as an outside is a run with the host, and the whole evaluation.
 use Rattle.std.proofs.Common.{◌≡◌, ◌∙◌, ℕ, ◌+◌, Bool, true, false, [], ◌∷◌, Option, None, Some, refl, sym, ap, subst}
-use Rattle.std.specs.Prelude.{Result, Ok, Err, IfOk, IfSome, is_some, nat_le}
+use Rattle.std.specs.Prelude.{Result, Ok, Err, IfErr, IfNone, IfOk, IfSome, is_some, nat_le}
 use Rattle.tcl_budgets.specs.Laws.{ScriptsKeepBudgets}
 use Rattle.tcl_budgets.proofs.Tables.{orderly}
 use Rattle.tcl_core.specs.Entries.Entry.{Eval}
@@ -20,14 +20,16 @@ use Rattle.tcl_language.specs.Instructions.{fits}
 use Rattle.tcl_language.specs.Language.{language}
 use Rattle.tcl_language.specs.Table.{serve}
 use Rattle.tcl_run.specs.Outsides.{hosted}
-use Rattle.tcl_run.specs.Runs.{Comes}
+use Rattle.tcl_run.specs.Runs.{Comes, ways}
 use Rattle.tcl_run.proofs.Leads.{at_prog}
+use Rattle.tcl_run.proofs.Losing.{not_at_all}
 use Rattle.tcl_text.specs.declared.integer.Integers.{Integers}
 use Rattle.tcl_tree.specs.Own.{Own}
 use Rattle.tcl_tree.specs.TreeOf.{tree_of, marks_of}
 use Rattle.tcl_tree.specs.declared.tree.Tree.{Tree as Table}
 use Rattle.tcl_tree.proofs.CoreLemmas.{top_there}
-use Rattle.tcl_evaluator.specs.Running.{IsBudgeted, IsOpenRun, IsRun, IsWhole, ending_of, first_of, most_steps, root_count, unfit}
+use Rattle.tcl_unfinished.proofs.Beginning.{script_begins}
+use Rattle.tcl_evaluator.specs.Running.{AsksFirst, IsBudgeted, IsGivenUp, IsOpenRun, IsRun, IsWhole, ending_of, first_of, most_steps, root_count, unfit}
 use Rattle.tcl_evaluator.specs.declared.running.End.{End}
 use Rattle.tcl_evaluator.specs.declared.running.Refused.{Refused}
 use Rattle.tcl_evaluator.specs.declared.running.Refused.TheVariants as refused
@@ -100,3 +102,29 @@ module _ {S : Type 0} (step : S → Request → HostReply → S → Type 0) (old
   pub if_budgeted : {E : Type 0} → ScriptsKeepBudgets → (r : Result End E) → IfOk r (IsWhole step old o path script limit new z) → IfOk r (IsBudgeted step old o path script limit new z)
   if_budgeted law (Ok e) w = is_budgeted law e w
   if_budgeted law (Err e) w = tt
+
+-- ## An evaluation that was given up
+
+module _ {S : Type 0} (step : S → Request → HostReply → S → Type 0) (old : Table) (o : S) (path : Path) (script : Text) (limit : ℕ) (z : S) where
+  -- the host's state is the last one there
+  abbrev Lost : Type 0
+  Lost = IsGivenUp (ways (hosted step) (λ (a b : S). b ≡ a)) old o path script (root_count old + limit) z
+
+  asks_first : is_some (tree_of old path) ≡ true → Lost → AsksFirst step old o path script limit z
+  asks_first there g =
+      let n : (n : Node Own) × (tree_of old path ≡ Some n) = stands (tree_of old path) there in
+      subst (λ (u : S). AsksFirst step old o path script limit u) (sym (not_at_all g.lost)) (script_begins step (marks_of old).integers (tree_of old) path script limit n.0 n.1 g.begun)
+
+  if_asked_there : (r : Result End Refused) → is_some (tree_of old path) ≡ true → IfErr r (λ _. Lost) → IfErr r (λ _. AsksFirst step old o path script limit z)
+  if_asked_there (Ok e) there g = tt
+  if_asked_there (Err e) there g = asks_first there g
+
+  pub if_asked : (r : Result End Refused) → IfNone (unfit old path script limit) (IfErr r (λ _. Lost)) → IfNone (unfit old path script limit) (IfErr r (λ _. AsksFirst step old o path script limit z))
+  if_asked r g = by (marks_of old).broken (is_some (tree_of old path)) (nat_le (root_count old + limit) most_steps) (fits script) refl g
+    where
+      by : (b t c s : Bool) → is_some (tree_of old path) ≡ t → IfNone (first_of b t c s) (IfErr r (λ _. Lost)) → IfNone (first_of b t c s) (IfErr r (λ _. AsksFirst step old o path script limit z))
+      by true t c s e f = tt
+      by false false c s e f = tt
+      by false true false s e f = tt
+      by false true true false e f = tt
+      by false true true true e f = if_asked_there r e f

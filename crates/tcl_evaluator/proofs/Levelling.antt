@@ -1,13 +1,12 @@
 -- What scripts at another level come to.
-use Rattle.tcl_core.specs.Programs.{Wait}
-use Rattle.std.proofs.Common.{◌≡◌, ℕ, Bool, true, false, List, [], ◌∷◌, Option, Some, None, refl, sym, ◌∙◌, ap, subst}
+use Rattle.std.proofs.Common.{◌≡◌, ℕ, Bool, true, false, List, [], ◌∷◌, Option, Some, None, ap}
 use Rattle.std.specs.Prelude.{Result, Ok, Err, codes}
 use Rattle.tcl_core.specs.Endings.{Reply}
 use Rattle.tcl_core.specs.Endings.Reply.{Completed, Stop, Exit, Cut}
+use Rattle.tcl_core.specs.Runs.{Ending}
 use Rattle.tcl_core.specs.Paths.{Text, Path}
 use Rattle.tcl_core.specs.Programs.Prog.{done}
-use Rattle.tcl_core.specs.Threads.{completed}
-use Rattle.tcl_core.specs.Trees.{Tree, Node, Event, effect}
+use Rattle.tcl_core.specs.Trees.{Tree, Node, effect}
 use Rattle.tcl_core.specs.Trees.What.{Changed}
 use Rattle.tcl_frames.specs.Places.{current}
 use Rattle.tcl_language.specs.Control.{at_level, inner_script, level_over, script_at, uplevel, uplevel_words}
@@ -18,20 +17,19 @@ use Rattle.tcl_language.specs.Language.{language}
 use Rattle.tcl_language.specs.Scripts.{script}
 use Rattle.tcl_language.specs.Variables.{found_level, level, level_of}
 use Rattle.tcl_language.specs.Words.{concat, is_level}
-use Rattle.tcl_run.specs.Outsides.{Going}
 use Rattle.tcl_run.specs.Ends.{IsFailure, itself}
-use Rattle.tcl_run.specs.Runs.{Comes}
-use Rattle.tcl_run.proofs.Leads.{at_prog, at_reply, framed, framed_passed, grows, looks, outgrows}
+use Rattle.tcl_run.specs.Runs.{Proceeds, Ways}
+use Rattle.tcl_run.proofs.Proceeding.{at_prog, at_reply, completed, framed, framed_passed, grows, looks, outgrows}
 use Rattle.tcl_text.specs.declared.integer.Integers.{Integers}
 use Rattle.tcl_tree.specs.Own.{Own}
 use Rattle.tcl_calls.specs.Levels.{level_at_node, levelled, or_bad, script_level, with_script}
 
-module _ {S : Type 0} {goes : Going S} (style : Integers) where
-  level_goes : {T V : Tree Own} {o z : S} {p : Path} {n : Node Own} {r : Reply} (word : Text) (words given : List Text) (m : ℕ) → T p ≡ Some n → with_script (level_at_node style n word) words ≡ Ok (m, given) →
-      Comes goes (language style) T o p (script_at given m) V z r → Comes goes (language style) T o p (level style word (script_at words)) V z r
+module _ {S : Type 0} {ways : Ways S} (style : Integers) where
+  level_goes : {T V : Tree Own} {o z : S} {p : Path} {n : Node Own} {r : Ending} (word : Text) (words given : List Text) (m : ℕ) → T p ≡ Some n → with_script (level_at_node style n word) words ≡ Ok (m, given) →
+      Proceeds ways (language style) T o p (script_at given m) V z r → Proceeds ways (language style) T o p (level style word (script_at words)) V z r
   level_goes {T} {V} {o} {z} {p} {n} {r} word words given m there e t = looks there (by (level_of style (current n.own.chain.frames) word) e)
     where
-      by : (x : Option ℕ) → with_script (or_bad word x) words ≡ Ok (m, given) → Comes goes (language style) T o p (found_level x word (script_at words)) V z r
+      by : (x : Option ℕ) → with_script (or_bad word x) words ≡ Ok (m, given) → Proceeds ways (language style) T o p (found_level x word (script_at words)) V z r
       by None f = let clash : Err (bad_level word) ≡ Ok (m, given) = f in cc
       by (Some k) f = at_prog (ap (λ (x : Result (ℕ × List Text) Text). of_ok x) f) t
         where
@@ -40,42 +38,43 @@ module _ {S : Type 0} {goes : Going S} (style : Integers) where
           of_ok (Err x) = script_at given m
 
   level_fails : {T : Tree Own} {o : S} {p : Path} {n : Node Own} (word : Text) (words : List Text) (e : Reply) → T p ≡ Some n → IsFailure itself (with_script (level_at_node style n word) words) e →
-      Comes goes (language style) T o p (level style word (script_at words)) T o e
+      Proceeds ways (language style) T o p (level style word (script_at words)) T o (Some e)
   level_fails {T} {o} {p} {n} word words e there h = looks there (by (level_of style (current n.own.chain.frames) word) h)
     where
-      by : (x : Option ℕ) → IsFailure itself (with_script (or_bad word x) words) e → Comes goes (language style) T o p (found_level x word (script_at words)) T o e
+      by : (x : Option ℕ) → IsFailure itself (with_script (or_bad word x) words) e → Proceeds ways (language style) T o p (found_level x word (script_at words)) T o (Some e)
       by None f = at_reply f completed
       by (Some k) f = elim f [ ]
 
-  pub up_found : {T V : Tree Own} {o z : S} {p : Path} {n : Node Own} {r : Reply} (args given : List Text) (m : ℕ) → T p ≡ Some n → script_level style n args ≡ Ok (m, given) →
-      Comes goes (language style) T o p (script_at given m) V z r → Comes goes (language style) T o p (uplevel style args) V z r
+  pub up_found : {T V : Tree Own} {o z : S} {p : Path} {n : Node Own} {r : Ending} (args given : List Text) (m : ℕ) → T p ≡ Some n → script_level style n args ≡ Ok (m, given) →
+      Proceeds ways (language style) T o p (script_at given m) V z r → Proceeds ways (language style) T o p (uplevel style args) V z r
   up_found [] given m there e t = let clash : Err _ ≡ Ok (m, given) = e in cc
   up_found (arg ∷ []) given m there e t = level_goes (codes "1") (arg ∷ []) given m there e t
   up_found {T} {V} {o} {z} {p} {n} {r} (word ∷ arg ∷ args) given m there e t = by (is_level word) e
     where
-      by : (b : Bool) → levelled style n word (arg ∷ args) b ≡ Ok (m, given) → Comes goes (language style) T o p (uplevel_words style word (arg ∷ args) b) V z r
+      by : (b : Bool) → levelled style n word (arg ∷ args) b ≡ Ok (m, given) → Proceeds ways (language style) T o p (uplevel_words style word (arg ∷ args) b) V z r
       by true f = level_goes word (arg ∷ args) given m there f t
       by false f = level_goes (codes "1") (word ∷ arg ∷ args) given m there f t
 
-  pub up_fails : {T : Tree Own} {o : S} {p : Path} {n : Node Own} (args : List Text) (e : Reply) → T p ≡ Some n → IsFailure itself (script_level style n args) e → Comes goes (language style) T o p (uplevel style args) T o e
+  pub up_fails : {T : Tree Own} {o : S} {p : Path} {n : Node Own} (args : List Text) (e : Reply) → T p ≡ Some n → IsFailure itself (script_level style n args) e → Proceeds ways (language style) T o p (uplevel style args) T o (Some e)
   up_fails [] e there h = at_reply h completed
   up_fails (arg ∷ []) e there h = level_fails (codes "1") (arg ∷ []) e there h
   up_fails {T} {o} {p} {n} (word ∷ arg ∷ args) e there h = by (is_level word) h
     where
-      by : (b : Bool) → IsFailure itself (levelled style n word (arg ∷ args) b) e → Comes goes (language style) T o p (uplevel_words style word (arg ∷ args) b) T o e
+      by : (b : Bool) → IsFailure itself (levelled style n word (arg ∷ args) b) e → Proceeds ways (language style) T o p (uplevel_words style word (arg ∷ args) b) T o (Some e)
       by true f = level_fails word (arg ∷ args) e there f
       by false f = level_fails (codes "1") (word ∷ arg ∷ args) e there f
 
-  pub up_long : {T : Tree Own} {o : S} {p : Path} {r : Reply} (words : List Text) (m : ℕ) → fits (concat words) ≡ false → r ≡ Completed too_long → Comes goes (language style) T o p (script_at words m) T o r
+  pub up_long : {T : Tree Own} {o : S} {p : Path} {r : Reply} (words : List Text) (m : ℕ) → fits (concat words) ≡ false → r ≡ Completed too_long → Proceeds ways (language style) T o p (script_at words m) T o (Some r)
   up_long words m f e = outgrows (concat words) (λ text. look (λ node. inner_script m node.own text)) f e
 
-  aside : {T U V W : Tree Own} {o z : S} {p : Path} {n d : Node Own} {r : Reply} (text : Text) (m : ℕ) → T p ≡ Some n → U ≡ effect p (Changed (at_level m n.own)) T → V p ≡ Some d → W ≡ effect p (Changed (level_over d.own)) V →
-      Comes goes (language style) U o p (script text) V z r → Comes goes (language style) T o p (inner_script m n.own text) W z r
-  aside {r = Completed c} text m there u stands w t = framed {i = Script text} there u stands w t completed
-  aside {r = Stop l x} text m there u stands w t = framed_passed {i = Script text} {k = done} tt there u stands w t
-  aside {r = Exit x} text m there u stands w t = framed_passed {i = Script text} {k = done} tt there u stands w t
-  aside {r = Cut x} text m there u stands w t = framed_passed {i = Script text} {k = done} tt there u stands w t
+  aside : {T U V W : Tree Own} {o z : S} {p : Path} {n d : Node Own} {r : Ending} (text : Text) (m : ℕ) → T p ≡ Some n → U ≡ effect p (Changed (at_level m n.own)) T → V p ≡ Some d → W ≡ effect p (Changed (level_over d.own)) V →
+      Proceeds ways (language style) U o p (script text) V z r → Proceeds ways (language style) T o p (inner_script m n.own text) W z r
+  aside {r = Some (Completed c)} text m there u stands w t = framed {i = Script text} there u stands w t completed
+  aside {r = Some (Stop l x)} text m there u stands w t = framed_passed {i = Script text} {k = done} tt there u stands w t
+  aside {r = Some (Exit x)} text m there u stands w t = framed_passed {i = Script text} {k = done} tt there u stands w t
+  aside {r = Some (Cut x)} text m there u stands w t = framed_passed {i = Script text} {k = done} tt there u stands w t
+  aside {r = None} text m there u stands w t = framed_passed {i = Script text} {k = done} tt there u stands w t
 
-  pub up_runs : {T U V W : Tree Own} {o z : S} {p : Path} {n d : Node Own} {r : Reply} (words : List Text) (m : ℕ) → fits (concat words) ≡ true → T p ≡ Some n → U ≡ effect p (Changed (at_level m n.own)) T → V p ≡ Some d →
-      W ≡ effect p (Changed (level_over d.own)) V → Comes goes (language style) U o p (script (concat words)) V z r → Comes goes (language style) T o p (script_at words m) W z r
+  pub up_runs : {T U V W : Tree Own} {o z : S} {p : Path} {n d : Node Own} {r : Ending} (words : List Text) (m : ℕ) → fits (concat words) ≡ true → T p ≡ Some n → U ≡ effect p (Changed (at_level m n.own)) T → V p ≡ Some d →
+      W ≡ effect p (Changed (level_over d.own)) V → Proceeds ways (language style) U o p (script (concat words)) V z r → Proceeds ways (language style) T o p (script_at words m) W z r
   up_runs words m f there u stands w t = grows (concat words) (λ text. look (λ node. inner_script m node.own text)) f (looks there (aside (concat words) m there u stands w t))

@@ -1,16 +1,15 @@
 -- What loops over lists come to.
-use Rattle.std.proofs.Common.{◌≡◌, ℕ, zero, suc, ℤ, pos, negsuc, ◌+◌, ◌*◌, ◌<◌, ◌≤◌, Bool, true, false, List, [], ◌∷◌, ◌++◌, length, drop, map, Option, Some, None, refl, sym, ◌∙◌, ap, subst, arith, append-nil}
+use Rattle.std.proofs.Common.{◌≡◌, ℕ, zero, suc, ℤ, pos, ◌+◌, ◌*◌, ◌≤◌, Bool, true, false, List, [], ◌∷◌, ◌++◌, length, drop, map, Option, Some, None, refl, sym, ◌∙◌, ap, arith, append-nil}
 use Rattle.std.specs.Prelude.{Result, Ok, Err}
 use Rattle.std.proofs.Math.Seq.{drop-nil}
 use Rattle.tcl_core.specs.Endings.{Completion, Reply, ok, error}
-use Rattle.tcl_core.specs.Endings.Reply.{Completed, Stop, Exit, Cut}
+use Rattle.tcl_core.specs.Endings.Reply.{Completed}
+use Rattle.tcl_core.specs.Runs.{Ending}
 use Rattle.tcl_core.specs.Paths.{Text, Path}
-use Rattle.tcl_core.specs.Programs.{blocked, is_spent, Wait}
 use Rattle.tcl_core.specs.Programs.Act.{Charge}
 use Rattle.tcl_core.specs.Programs.Prog.{done, act, go}
-use Rattle.tcl_core.specs.Threads.{completed}
-use Rattle.tcl_core.specs.Trees.{Tree, Node, Event, effect}
-use Rattle.tcl_core.specs.Trees.What.{Changed, Charged}
+use Rattle.tcl_core.specs.Trees.{Tree, Node, effect}
+use Rattle.tcl_core.specs.Trees.What.{Changed}
 use Rattle.tcl_frames.specs.Chain.{Chain, after_set}
 use Rattle.tcl_language.specs.Control.{after_body, foreach, foreach_form, foreach_turns, is_over, sets_names, sets_walks, walks_of}
 use Rattle.tcl_language.specs.Faults.{frame_message, wrong_args}
@@ -18,12 +17,10 @@ use Rattle.tcl_language.specs.Instructions.{Program, Walk, at_node, change, eith
 use Rattle.tcl_language.specs.Instructions.Instr.{Script, Foreach}
 use Rattle.tcl_language.specs.Language.{language}
 use Rattle.tcl_language.specs.Variables.{chain_becomes, is_odd, sets}
-use Rattle.tcl_run.specs.Outsides.{Going}
 use Rattle.tcl_run.specs.Ends.{failing}
 use Rattle.tcl_run.specs.Plain.{Does}
-use Rattle.tcl_run.specs.Runs.{Comes, Counts, RefusesStep}
-use Rattle.tcl_run.proofs.Leads.{at_prog, at_reply, at_start, at_finish, changes, charges, charge_refused, goes_done, looks, reads_on}
-use Rattle.tcl_run.proofs.Plain.{does_comes}
+use Rattle.tcl_run.specs.Runs.{Counts, Proceeds, RefusesStep, Ways}
+use Rattle.tcl_run.proofs.Proceeding.{at_prog, at_reply, at_start, changes, charges, charge_refused, completed, does_proceeds, goes_done, looks, reads_on, stopped}
 use Rattle.tcl_text.specs.declared.integer.Integers.{Integers}
 use Rattle.tcl_tree.specs.Own.{Own}
 use Rattle.tcl_variables.specs.declared.fault.FrameFault.{FrameFault}
@@ -151,52 +148,57 @@ foreach_is args words body h = ap foreach h.0 ∙ by words h.1 h.2
 abbrev pub body_then : Text → List Walk → Program
 body_then body walks = go (Script body) (λ c. after_body c.code c (go (Foreach walks body) done))
 
-module _ {S : Type 0} {goes : Going S} (style : Integers) where
-  pub foreach_begins : {T V : Tree Own} {o z : S} {p : Path} {r : Reply} (args words : List Text) (body : Text) (ws : List read.Walk) → IsForeach args words body → ReadsWalks words ws →
-      Comes goes (language style) T o p (foreach_turns (walks_at 0 ws) body) V z r → Comes goes (language style) T o p (foreach args) V z r
+module _ {S : Type 0} {ways : Ways S} (style : Integers) where
+  pub foreach_begins : {T V : Tree Own} {o z : S} {p : Path} {r : Ending} (args words : List Text) (body : Text) (ws : List read.Walk) → IsForeach args words body → ReadsWalks words ws →
+      Proceeds ways (language style) T o p (foreach_turns (walks_at 0 ws) body) V z r → Proceeds ways (language style) T o p (foreach args) V z r
   foreach_begins args words body ws h read t =
       at_prog (foreach_is args words body h ∙ read body (λ walks text. go (Foreach walks text) done)) (goes_done {i = Foreach (map whole ws) body} (at_prog (ap (λ (x : List Walk). foreach_turns x body) (sym (walks_first ws))) t))
 
-  pub foreach_misread : {T : Tree Own} {o : S} {p : Path} (args words : List Text) (body : Text) (e : Reply) → IsForeach args words body → MisreadsWalks words e → Comes goes (language style) T o p (foreach args) T o e
+  pub foreach_misread : {T : Tree Own} {o : S} {p : Path} (args words : List Text) (body : Text) (e : Reply) → IsForeach args words body → MisreadsWalks words e → Proceeds ways (language style) T o p (foreach args) T o (Some e)
   foreach_misread args words body e h misread = at_prog (foreach_is args words body h) (ends_by style _ e (misread body (λ walks text. go (Foreach walks text) done)))
 
-  pub foreach_none : {T : Tree Own} {o : S} {p : Path} {r : Reply} (args : List Text) → IsNoForeach args → r ≡ Completed (failing (wrong_args foreach_form)) → Comes goes (language style) T o p (foreach args) T o r
+  pub foreach_none : {T : Tree Own} {o : S} {p : Path} {r : Reply} (args : List Text) → IsNoForeach args → r ≡ Completed (failing (wrong_args foreach_form)) → Proceeds ways (language style) T o p (foreach args) T o (Some r)
   foreach_none args none e = at_prog none (at_reply e completed)
 
   -- ## The variables of a turn
 
-  set_comes : {T U V : Tree Own} {o z : S} {p : Path} {r : Reply} (name value : Text) (k : Program) → Sets name value T U p → Comes goes (language style) U o p k V z r → Comes goes (language style) T o p (sets name value k) V z r
+  set_comes : {T U V : Tree Own} {o z : S} {p : Path} {r : Ending} (name value : Text) (k : Program) → Sets name value T U p → Proceeds ways (language style) U o p k V z r → Proceeds ways (language style) T o p (sets name value k) V z r
   set_comes name value k s t = looks s.2 (reads_on frame_message (λ chain. change (with_chain s.0.own chain) k) s.3 (changes s.2 s.4 t))
 
-  names_come : {U V : Tree Own} {o z : S} {p : Path} {r : Reply} (names left : List Text) (T : Tree Own) (k : Program) → SetsNames names left T U p → Comes goes (language style) U o p k V z r →
-      Comes goes (language style) T o p (sets_names names left (λ more. k)) V z r
+  names_come : {U V : Tree Own} {o z : S} {p : Path} {r : Ending} (names left : List Text) (T : Tree Own) (k : Program) → SetsNames names left T U p → Proceeds ways (language style) U o p k V z r →
+      Proceeds ways (language style) T o p (sets_names names left (λ more. k)) V z r
   names_come [] left T k s t = at_start s t
   names_come (name ∷ names) [] T k s t = set_comes name [] (sets_names names [] (λ more. k)) s.1 (names_come names [] s.0 k s.2 t)
   names_come (name ∷ names) (x ∷ left) T k s t = set_comes name x (sets_names names left (λ more. k)) s.1 (names_come names left s.0 k s.2 t)
 
-  walks_come : {U V : Tree Own} {o z : S} {p : Path} {r : Reply} (walks : List Walk) (T : Tree Own) (k : Program) → SetsWalks walks T U p → Comes goes (language style) U o p k V z r →
-      Comes goes (language style) T o p (sets_walks walks (λ more. k)) V z r
+  walks_come : {U V : Tree Own} {o z : S} {p : Path} {r : Ending} (walks : List Walk) (T : Tree Own) (k : Program) → SetsWalks walks T U p → Proceeds ways (language style) U o p k V z r →
+      Proceeds ways (language style) T o p (sets_walks walks (λ more. k)) V z r
   walks_come [] T k s t = at_start s t
   walks_come (walk ∷ walks) T k s t = names_come walk.names walk.left T (sets_walks walks (λ more. k)) s.1 (walks_come walks s.0 k s.2 t)
 
   -- ## Turns
 
-  pub turn_begins : {T U M V : Tree Own} {o u z : S} {p : Path} {r : Reply} (walks : List Walk) (body : Text) → is_over walks ≡ false → Counts goes T o p U u → SetsWalks walks U M p →
-      Comes goes (language style) M u p (body_then body (map passed walks)) V z r → Comes goes (language style) T o p (foreach_turns walks body) V z r
+  pub turn_begins : {T U M V : Tree Own} {o u z : S} {p : Path} {r : Ending} (walks : List Walk) (body : Text) → is_over walks ≡ false → Counts ways.goes T o p U u → SetsWalks walks U M p →
+      Proceeds ways (language style) M u p (body_then body (map passed walks)) V z r → Proceeds ways (language style) T o p (foreach_turns walks body) V z r
   turn_begins {U = U} walks body e counts s t =
       at_prog (ap (λ b. either b (done (ok [])) (act Charge (λ X. sets_walks walks (body_then body)))) e)
       (charges counts (at_prog (walks_pass walks (body_then body)) (walks_come walks U (body_then body (map passed walks)) s t)))
 
-  pub turn_over : {T : Tree Own} {o : S} {p : Path} {r : Reply} (walks : List Walk) (body : Text) → is_over walks ≡ true → r ≡ Completed (ok []) → Comes goes (language style) T o p (foreach_turns walks body) T o r
+  pub turn_over : {T : Tree Own} {o : S} {p : Path} {r : Reply} (walks : List Walk) (body : Text) → is_over walks ≡ true → r ≡ Completed (ok []) → Proceeds ways (language style) T o p (foreach_turns walks body) T o (Some r)
   turn_over walks body e f = at_prog (ap (λ b. either b (done (ok [])) (act Charge (λ X. sets_walks walks (body_then body)))) e) (at_reply f completed)
 
-  pub turn_stops : {T U : Tree Own} {o z : S} {p : Path} {r : Reply} (walks : List Walk) (body : Text) → is_over walks ≡ false → RefusesStep goes T o p U z r → Comes goes (language style) T o p (foreach_turns walks body) U z r
+  pub turn_stops : {T U : Tree Own} {o z : S} {p : Path} {r : Reply} (walks : List Walk) (body : Text) → is_over walks ≡ false → RefusesStep ways.goes T o p U z r → Proceeds ways (language style) T o p (foreach_turns walks body) U z (Some r)
   turn_stops walks body e s =
       at_prog (ap (λ b. either b (done (ok [])) (act Charge (λ X. sets_walks walks (body_then body)))) e) (charge_refused s)
 
   -- a variable of the turn can't be set
-  pub turn_fails : {T U V : Tree Own} {o u : S} {p : Path} {r : Reply} (walks : List Walk) (body : Text) → is_over walks ≡ false → Counts goes T o p U u →
-      ((k : Program) → Does (sets_walks walks (λ more. k)) U p V r) → Comes goes (language style) T o p (foreach_turns walks body) V u r
+  pub turn_fails : {T U V : Tree Own} {o u : S} {p : Path} {r : Reply} (walks : List Walk) (body : Text) → is_over walks ≡ false → Counts ways.goes T o p U u →
+      ((k : Program) → Does (sets_walks walks (λ more. k)) U p V r) → Proceeds ways (language style) T o p (foreach_turns walks body) V u (Some r)
   turn_fails {u = u} walks body e counts d =
       at_prog (ap (λ b. either b (done (ok [])) (act Charge (λ X. sets_walks walks (body_then body)))) e)
-      (charges counts (at_prog (walks_pass walks (body_then body)) (does_comes (sets_walks walks (λ more. body_then body (map passed walks))) u (d (body_then body (map passed walks))))))
+      (charges counts (at_prog (walks_pass walks (body_then body)) (does_proceeds (sets_walks walks (λ more. body_then body (map passed walks))) u (d (body_then body (map passed walks))))))
+
+  -- it is given up once the turn is counted
+  pub turn_given_up : {T U V : Tree Own} {o u : S} {p : Path} (walks : List Walk) (body : Text) → is_over walks ≡ false → Counts ways.goes T o p U u → Proceeds ways (language style) T o p (foreach_turns walks body) V u None
+  turn_given_up walks body e counts =
+      at_prog (ap (λ b. either b (done (ok [])) (act Charge (λ X. sets_walks walks (body_then body)))) e) (charges counts stopped)

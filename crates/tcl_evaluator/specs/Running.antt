@@ -1,5 +1,6 @@
 -- What contracts see of the run of a script.
 use Rattle.std.specs.Prelude.{◌≡◌, ℕ, ◌+◌, Bool, true, false, List, [], nat_le, Option, Some, None, is_some, Result, Ok, Err, IfOk}
+use Rattle.tcl_beginnings.specs.Beginnings.{Begun}
 use Rattle.tcl_budgets.specs.Budgets.{KeepsBudget}
 use Rattle.tcl_core.specs.Endings.{Reply, ok}
 use Rattle.tcl_core.specs.Endings.Reply.{Completed}
@@ -9,7 +10,7 @@ use Rattle.tcl_core.specs.Lives.{End as Ending, Whole, count_at, end_at, limit_a
 use Rattle.tcl_core.specs.Lives.End.{Completed_as, Stopped, Exits}
 use Rattle.tcl_core.specs.Paths.{Path, Text}
 use Rattle.tcl_core.specs.Trees.{Tree, Event, effect}
-use Rattle.tcl_core.specs.Threads.{event}
+use Rattle.tcl_core.specs.Threads.{Crossings, event}
 use Rattle.tcl_core.specs.Trees.What.{Done, Limited}
 use Rattle.tcl_flow.specs.Stopping.{meter_of}
 use Rattle.tcl_flow.specs.View.{completion_of}
@@ -23,8 +24,9 @@ use Rattle.tcl_run.specs.declared.interruption.Interruption.{Interruption}
 use Rattle.tcl_run.specs.declared.interruption.Interruption.TheVariants as interruption
 use Rattle.tcl_run.specs.Ends.{Interrupts}
 use Rattle.tcl_run.specs.Outsides.{Going}
-use Rattle.tcl_run.specs.Runs.{Comes}
+use Rattle.tcl_run.specs.Runs.{Comes, IsLoss, Ways}
 use Rattle.tcl_tree.specs.Own.{Own}
+use Rattle.tcl_unfinished.specs.Laws.{IsBeginning}
 use Rattle.tcl_tree.specs.TreeOf.{tree_of, marks_of}
 use Rattle.tcl_tree.specs.declared.tree.Tree.{Tree as Table}
 use Rattle.tcl_evaluator.specs.declared.running.End.{End}
@@ -93,6 +95,16 @@ pub record IsWhole {S : Type 0} (step : S → Request → HostReply → S → Ty
 pub record IsBudgeted {S : Type 0} (step : S → Request → HostReply → S → Type 0) (old : Table) (o : S) (path : Path) (script : Text) (limit : ℕ) (new : Table) (z : S) (e : End) : Type 0 where
   pub whole : IsWhole step old o path script limit new z e
   pub budget : KeepsBudget (tree_of old) limit whole.whole.tape (tree_of new)
+
+-- The script was given up on its way, as for want of memory, with the outside in the last state there; since then it is what may have become of that.
+pub record IsGivenUp {S : Type 0} (ways : Ways S) (old : Table) (o : S) (path : Path) (script : Text) (most : ℕ) (z : S) : Type 0 where
+  pub last : S
+  pub begun : Begun (Crossings ways.goes) (language (marks_of old).integers) (effect [] (Limited (Some most)) (tree_of old)) o path (serve (marks_of old).integers (Eval script)) last
+  pub lost : IsLoss ways.loses last z
+
+-- What the host was asked until a script was given up, with its replies, is what the whole evaluation of the script at the path asks it first, whatever replies follow.
+abbrev pub AsksFirst : {S : Type 0} → (S → Request → HostReply → S → Type 0) → Table → S → Path → Text → ℕ → S → Type 0
+AsksFirst step old o path script limit z = IsBeginning step (language (marks_of old).integers) (tree_of old) path script limit o z
 
 -- what is said of an end that there is
 abbrev pub IfSaid : Result Text Interruption → (Reply → Type 0) → Type 0

@@ -3,7 +3,7 @@ ghost use Rattle.std.specs.Prelude.{◌≡◌, ◌≤◌, ◌∷◌, Some, IfOk}
 ghost use Rattle.tcl_language.specs.Control.{procedure as procedure_program};
 ghost use Rattle.tcl_language.specs.Faults as faults;
 ghost use Rattle.tcl_language.specs.Table.{called, dispatch, invoked, builtin as builtin_program};
-ghost use Rattle.tcl_run.specs.Runs.{Evaluates, IsRunning, IsSteady};
+ghost use Rattle.tcl_run.specs.Runs.{IsRunning, IsSteady, ProceedsIn, ways};
 ghost use Rattle.tcl_evaluator.specs.View.{LeavesProc};
 
 use crate::children::child;
@@ -41,7 +41,7 @@ pub fn call<O: Outside>(
     words: &[Value],
 ) -> Result<Value, Interruption>
     requires { IsRunning tree.old place }
-    ensures runs { Evaluates O.goes tree.old outside.old place (λ style. called style words.now) tree.new outside.new result }
+    ensures runs { ProceedsIn (ways O.goes O.loses) tree.old outside.old place (λ style. called style words.now) tree.new outside.new result }
     ensures steady { IsSteady tree.old tree.new }
     ensures left { O.entries_left outside.new ≤ O.entries_left outside.old }
 {
@@ -65,7 +65,7 @@ pub fn call_hidden<O: Outside>(
     words: &[Value],
 ) -> Result<Value, Interruption>
     requires { IsRunning tree.old place }
-    ensures runs { Evaluates O.goes tree.old outside.old place (λ style. invoked style words.now) tree.new outside.new result }
+    ensures runs { ProceedsIn (ways O.goes O.loses) tree.old outside.old place (λ style. invoked style words.now) tree.new outside.new result }
     ensures steady { IsSteady tree.old tree.new }
     ensures left { O.entries_left outside.new ≤ O.entries_left outside.old }
 {
@@ -89,7 +89,7 @@ fn call_command<O: Outside>(
     args: &[Value],
 ) -> Result<Value, Interruption>
     requires { IsRunning tree.old place }
-    ensures runs { Evaluates O.goes tree.old outside.old place (λ style. dispatch style word.now args.now faults.invalid_command (Some command.now)) tree.new outside.new result }
+    ensures runs { ProceedsIn (ways O.goes O.loses) tree.old outside.old place (λ style. dispatch style word.now args.now faults.invalid_command (Some command.now)) tree.new outside.new result }
     ensures steady { IsSteady tree.old tree.new }
     ensures left { O.entries_left outside.new ≤ O.entries_left outside.old }
 {
@@ -118,7 +118,7 @@ fn call_builtin<O: Outside>(
     args: &[Value],
 ) -> Result<Value, Interruption>
     requires { IsRunning tree.old place }
-    ensures runs { Evaluates O.goes tree.old outside.old place (λ style. builtin_program style builtin word.now args.now) tree.new outside.new result }
+    ensures runs { ProceedsIn (ways O.goes O.loses) tree.old outside.old place (λ style. builtin_program style builtin word.now args.now) tree.new outside.new result }
     ensures steady { IsSteady tree.old tree.new }
     ensures left { O.entries_left outside.new ≤ O.entries_left outside.old }
 {
@@ -154,7 +154,7 @@ fn call_procedure<O: Outside>(
     args: &[Value],
 ) -> Result<Value, Interruption>
     requires { IsRunning tree.old place }
-    ensures runs { Evaluates O.goes tree.old outside.old place (λ style. procedure_program procedure.now word.now args.now) tree.new outside.new result }
+    ensures runs { ProceedsIn (ways O.goes O.loses) tree.old outside.old place (λ style. procedure_program procedure.now word.now args.now) tree.new outside.new result }
     ensures steady { IsSteady tree.old tree.new }
     ensures left { O.entries_left outside.new ≤ O.entries_left outside.old }
 {

@@ -8,13 +8,12 @@ ghost use Rattle.tcl_language.specs.Interpreters.{call_alias as alias_program};
 ghost use Rattle.tcl_language.specs.Table as table;
 ghost use Rattle.tcl_run.specs.Ends.{IfEnded, failing};
 ghost use Rattle.tcl_run.specs.Entering.{whole_entry};
-ghost use Rattle.tcl_run.specs.Runs.{Evaluates, EvaluatesAt, IsRunning, IsSteady};
+ghost use Rattle.tcl_run.specs.Runs.{IsLoss, IsRunning, IsSteady, ProceedsAt, ProceedsIn, ways};
 ghost use Rattle.tcl_tree.specs.Reaching.{Leads};
 ghost use Rattle.tcl_tree.specs.TreeOf.{Names};
 ghost use Rattle.tcl_tree.specs.declared.tree.places.Reach.TheVariants.{There};
 ghost use Rattle.tcl_calls.specs.Carrying.{EndedBy};
-ghost use Rattle.tcl_entries.specs.Asking.{Asks, AsksBelow};
-ghost use Rattle.tcl_evaluator.specs.View.{Invokes, targeted, unhidden};
+ghost use Rattle.tcl_evaluator.specs.View.{Asks, AsksBelow, Invokes, targeted, unhidden};
 ghost use Rattle.tcl_evaluator.specs.Waiting.{CallsOut, CallsThere, FindsNobody};
 
 use crate::commands::{call, call_hidden};
@@ -48,7 +47,7 @@ pub fn call_alias<O: Outside>(
     args: &[Value],
 ) -> Result<Value, Interruption>
     requires { IsRunning tree.old place }
-    ensures runs { Evaluates O.goes tree.old outside.old place (λ style. alias_program alias.now word.now args.now) tree.new outside.new result }
+    ensures runs { ProceedsIn (ways O.goes O.loses) tree.old outside.old place (λ style. alias_program alias.now word.now args.now) tree.new outside.new result }
     ensures steady { IsSteady tree.old tree.new }
     ensures left { O.entries_left outside.new ≤ O.entries_left outside.old }
 {
@@ -64,6 +63,7 @@ pub fn call_alias<O: Outside>(
 
 /// An alias whose target isn't there.
 #[inline(never)]
+#[tactic(auto, using(tcl_run::proofs::Losing::losing))]
 fn miss_alias<O: Outside>(
     tree: &Tree,
     alloc: Global,
@@ -76,6 +76,7 @@ fn miss_alias<O: Outside>(
 ) -> Result<Value, Interruption>
     ensures told { IfEnded result (λ r. r ≡ Completed (failing (faults.lost_alias word.now))) }
     ensures misses { FindsNobody O.goes tree.now outside.old place up down.now (whole_entry entry) outside.new result }
+    ensures lost { IsLoss O.loses outside.old outside.new }
     ensures left { O.entries_left outside.new ≤ O.entries_left outside.old }
 {
     let lost = lost_alias(alloc, word.text(alloc)?.as_str());
@@ -84,6 +85,7 @@ fn miss_alias<O: Outside>(
 
 /// Tells the outside of a call that finds nobody, so many levels up and these names down from the caller, and ends it so.
 #[inline(never)]
+#[tactic(auto, using(tcl_run::proofs::Losing::losing))]
 fn find_nobody<O: Outside>(
     tree: &Tree,
     alloc: Global,
@@ -96,6 +98,7 @@ fn find_nobody<O: Outside>(
 ) -> Result<Value, Interruption>
     ensures told { IfEnded result (EndedBy (Err lost)) }
     ensures misses { FindsNobody O.goes tree.now outside.old caller up down.now (whole_entry entry) outside.new result }
+    ensures lost { IsLoss O.loses outside.old outside.new }
     ensures left { O.entries_left outside.new ≤ O.entries_left outside.old }
 {
     let told = Err(lost);
@@ -118,7 +121,7 @@ fn call_there<O: Outside>(
 ) -> Result<Value, Interruption>
     requires running { IsRunning tree.old caller }
     requires leads { (p : Path) → Names tree.old caller p → Leads tree.old p up down.now (There target) }
-    ensures runs { CallsThere O.goes tree.old outside.old caller up down.now (whole_entry entry) tree.new outside.new result }
+    ensures runs { CallsThere (ways O.goes O.loses) tree.old outside.old caller up down.now (whole_entry entry) tree.new outside.new result }
     ensures steady { IsSteady tree.old tree.new }
     ensures left { O.entries_left outside.new ≤ O.entries_left outside.old }
 {
@@ -141,7 +144,7 @@ fn call_past_top<O: Outside>(
 ) -> Result<Value, Interruption>
     requires running { IsRunning tree.old caller }
     requires above { (p : Path) → Names tree.old caller p → rise_to (Some up) p ≡ None }
-    ensures runs { CallsOut O.goes tree.old outside.old caller (Some up) down.now (whole_entry entry) tree.new outside.new result }
+    ensures runs { CallsOut (ways O.goes O.loses) tree.old outside.old caller (Some up) down.now (whole_entry entry) tree.new outside.new result }
     ensures steady { IsSteady tree.old tree.new }
     ensures left { O.entries_left outside.new ≤ O.entries_left outside.old }
 {
@@ -166,7 +169,7 @@ pub fn serve_entry<O: Outside>(
     entry: Entry,
 ) -> Result<Value, Interruption>
     requires { (p : Path) × Names tree.old place p }
-    ensures runs { EvaluatesAt O.goes tree.old outside.old place (λ style. table.serve style (whole_entry entry)) tree.new outside.new result }
+    ensures runs { ProceedsAt (ways O.goes O.loses) tree.old outside.old place (λ style. table.serve style (whole_entry entry)) tree.new outside.new result }
     ensures steady { IsSteady tree.old tree.new }
     ensures left { O.entries_left outside.new ≤ O.entries_left outside.old }
 {
@@ -192,7 +195,7 @@ pub fn serve_call<O: Outside>(
     words: Vec<Value>,
 ) -> Result<Value, Interruption>
     requires { (p : Path) × Names tree.old place p }
-    ensures runs { EvaluatesAt O.goes tree.old outside.old place (λ style. table.serve style (CallWords words.items)) tree.new outside.new result }
+    ensures runs { ProceedsAt (ways O.goes O.loses) tree.old outside.old place (λ style. table.serve style (CallWords words.items)) tree.new outside.new result }
     ensures steady { IsSteady tree.old tree.new }
     ensures left { O.entries_left outside.new ≤ O.entries_left outside.old }
 {
@@ -212,7 +215,7 @@ fn call_target<O: Outside>(
     words: &[Value],
 ) -> Result<Value, Interruption>
     requires { (p : Path) × Names tree.old place p }
-    ensures runs { EvaluatesAt O.goes tree.old outside.old place (λ style. targeted words.now) tree.new outside.new result }
+    ensures runs { ProceedsAt (ways O.goes O.loses) tree.old outside.old place (λ style. targeted words.now) tree.new outside.new result }
     ensures steady { IsSteady tree.old tree.new }
     ensures left { O.entries_left outside.new ≤ O.entries_left outside.old }
 {
@@ -236,7 +239,7 @@ pub fn serve_eval<O: Outside>(
     script: &mut Value,
 ) -> Result<Value, Interruption>
     requires { (p : Path) × Names tree.old place p }
-    ensures runs { EvaluatesAt O.goes tree.old outside.old place (λ style. table.serve style (Eval script.old)) tree.new outside.new result }
+    ensures runs { ProceedsAt (ways O.goes O.loses) tree.old outside.old place (λ style. table.serve style (Eval script.old)) tree.new outside.new result }
     ensures steady { IsSteady tree.old tree.new }
     ensures left { O.entries_left outside.new ≤ O.entries_left outside.old }
 {
@@ -257,7 +260,7 @@ pub fn serve_hidden<O: Outside>(
     words: Vec<Value>,
 ) -> Result<Value, Interruption>
     requires { (p : Path) × Names tree.old place p }
-    ensures runs { EvaluatesAt O.goes tree.old outside.old place (λ style. table.serve style (InvokeHidden is_global words.items)) tree.new outside.new result }
+    ensures runs { ProceedsAt (ways O.goes O.loses) tree.old outside.old place (λ style. table.serve style (InvokeHidden is_global words.items)) tree.new outside.new result }
     ensures steady { IsSteady tree.old tree.new }
     ensures left { O.entries_left outside.new ≤ O.entries_left outside.old }
 {
@@ -279,7 +282,7 @@ fn invoke_at<O: Outside>(
     words: &[Value],
 ) -> Result<Value, Interruption>
     requires { (p : Path) × Names tree.old place p }
-    ensures runs { Invokes O.goes tree.old outside.old place is_global words.now tree.new outside.new result }
+    ensures runs { Invokes (ways O.goes O.loses) tree.old outside.old place is_global words.now tree.new outside.new result }
     ensures steady { IsSteady tree.old tree.new }
     ensures left { O.entries_left outside.new ≤ O.entries_left outside.old }
 {
@@ -303,7 +306,7 @@ fn invoke<O: Outside>(
     words: &[Value],
 ) -> Result<Value, Interruption>
     requires { (p : Path) × Names tree.old place p }
-    ensures runs { EvaluatesAt O.goes tree.old outside.old place (λ style. unhidden words.now) tree.new outside.new result }
+    ensures runs { ProceedsAt (ways O.goes O.loses) tree.old outside.old place (λ style. unhidden words.now) tree.new outside.new result }
     ensures there { (p : Path) → Names tree.old place p → Names tree.new place p }
     ensures steady { IsSteady tree.old tree.new }
     ensures left { O.entries_left outside.new ≤ O.entries_left outside.old }
@@ -329,7 +332,7 @@ pub fn ask_entry<O: Outside>(
     entry: Entry,
 ) -> Result<Value, Interruption>
     requires { IsRunning tree.old place }
-    ensures asks { Asks O.goes tree.old outside.old place path.now (whole_entry entry) tree.new outside.new result }
+    ensures asks { Asks (ways O.goes O.loses) tree.old outside.old place path.now (whole_entry entry) tree.new outside.new result }
     ensures steady { IsSteady tree.old tree.new }
     ensures left { O.entries_left outside.new ≤ O.entries_left outside.old }
 {
@@ -351,7 +354,7 @@ fn ask_below<O: Outside>(
     entry: Entry,
 ) -> Result<Value, Interruption>
     requires { IsRunning tree.old place }
-    ensures asks { AsksBelow O.goes tree.old outside.old place path.now (whole_entry entry) tree.new outside.new result }
+    ensures asks { AsksBelow (ways O.goes O.loses) tree.old outside.old place path.now (whole_entry entry) tree.new outside.new result }
     ensures steady { IsSteady tree.old tree.new }
     ensures left { O.entries_left outside.new ≤ O.entries_left outside.old }
 {

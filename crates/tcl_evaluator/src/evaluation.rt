@@ -5,8 +5,8 @@ ghost use Rattle.tcl_core.specs.Paths.{Path};
 ghost use Rattle.tcl_language.specs.Scripts as scripts;
 ghost use Rattle.tcl_core.specs.Trees as core;
 ghost use Rattle.tcl_tree.specs.Own.{Own};
-ghost use Rattle.tcl_run.specs.Ends.{Interrupts};
-ghost use Rattle.tcl_run.specs.Runs.{Evaluates, EvaluatesAt, IsRunning, IsSteady};
+ghost use Rattle.tcl_run.specs.Ends.{Breaks};
+ghost use Rattle.tcl_run.specs.Runs.{IsRunning, IsSteady, ProceedsAt, ProceedsIn, ways};
 ghost use Rattle.tcl_tree.specs.TreeOf.{tree_of, Names};
 ghost use Rattle.tcl_calls.specs.Words.{opens, IsShort};
 ghost use Rattle.tcl_evaluator.specs.View.{PartGoes, PartBreaks, read_so};
@@ -39,7 +39,7 @@ pub fn eval_script<O: Outside>(
     script: &Script,
 ) -> Result<Value, Interruption>
     requires { (p : Path) × Names tree.old place p }
-    ensures runs { EvaluatesAt O.goes tree.old outside.old place (λ style. read_so script.now) tree.new outside.new result }
+    ensures runs { ProceedsAt (ways O.goes O.loses) tree.old outside.old place (λ style. read_so script.now) tree.new outside.new result }
     ensures steady { IsSteady tree.old tree.new }
     ensures left { O.entries_left outside.new ≤ O.entries_left outside.old }
 {
@@ -65,7 +65,7 @@ pub fn eval_text<O: Outside>(
     text: &Text,
 ) -> Result<Value, Interruption>
     requires { (p : Path) × Names tree.old place p }
-    ensures runs { EvaluatesAt O.goes tree.old outside.old place (λ style. scripts.script text.now) tree.new outside.new result }
+    ensures runs { ProceedsAt (ways O.goes O.loses) tree.old outside.old place (λ style. scripts.script text.now) tree.new outside.new result }
     ensures steady { IsSteady tree.old tree.new }
     ensures left { O.entries_left outside.new ≤ O.entries_left outside.old }
 {
@@ -86,7 +86,7 @@ pub fn eval_value<O: Outside>(
     value: &mut Value,
 ) -> Result<Value, Interruption>
     requires { (p : Path) × Names tree.old place p }
-    ensures runs { EvaluatesAt O.goes tree.old outside.old place (λ style. scripts.script value.old) tree.new outside.new result }
+    ensures runs { ProceedsAt (ways O.goes O.loses) tree.old outside.old place (λ style. scripts.script value.old) tree.new outside.new result }
     ensures same { value.new ≡ value.old }
     ensures steady { IsSteady tree.old tree.new }
     ensures left { O.entries_left outside.new ≤ O.entries_left outside.old }
@@ -106,7 +106,7 @@ fn eval_commands<O: Outside>(
     script: &Script,
 ) -> Result<Value, Interruption>
     requires running { IsRunning tree.old place }
-    ensures runs { Evaluates O.goes tree.old outside.old place (λ style. scripts.commands script.now.commands script.now.fault []) tree.new outside.new result }
+    ensures runs { ProceedsIn (ways O.goes O.loses) tree.old outside.old place (λ style. scripts.commands script.now.commands script.now.fault []) tree.new outside.new result }
     ensures steady { IsSteady tree.old tree.new }
     ensures left { O.entries_left outside.new ≤ O.entries_left outside.old }
 {
@@ -131,7 +131,7 @@ fn eval_command<O: Outside>(
     command: &Command,
 ) -> Result<Value, Interruption>
     requires running { IsRunning tree.old place }
-    ensures runs { Evaluates O.goes tree.old outside.old place (λ style. scripts.words command.now []) tree.new outside.new result }
+    ensures runs { ProceedsIn (ways O.goes O.loses) tree.old outside.old place (λ style. scripts.words command.now []) tree.new outside.new result }
     ensures steady { IsSteady tree.old tree.new }
     ensures left { O.entries_left outside.new ≤ O.entries_left outside.old }
 {
@@ -161,7 +161,7 @@ pub(crate) fn eval_word<O: Outside>(
     word: &Word,
 ) -> Result<Value, Interruption>
     requires running { IsRunning tree.old place }
-    ensures runs { Evaluates O.goes tree.old outside.old place (λ style. scripts.parts word.now.parts [] []) tree.new outside.new result }
+    ensures runs { ProceedsIn (ways O.goes O.loses) tree.old outside.old place (λ style. scripts.parts word.now.parts [] []) tree.new outside.new result }
     ensures steady { IsSteady tree.old tree.new }
     ensures left { O.entries_left outside.new ≤ O.entries_left outside.old }
 {
@@ -182,7 +182,7 @@ fn eval_lone_part<O: Outside>(
     part: &Part,
 ) -> Result<Value, Interruption>
     requires running { IsRunning tree.old place }
-    ensures runs { Evaluates O.goes tree.old outside.old place (λ style. scripts.parts (part.now ∷ []) [] []) tree.new outside.new result }
+    ensures runs { ProceedsIn (ways O.goes O.loses) tree.old outside.old place (λ style. scripts.parts (part.now ∷ []) [] []) tree.new outside.new result }
     ensures steady { IsSteady tree.old tree.new }
     ensures left { O.entries_left outside.new ≤ O.entries_left outside.old }
 {
@@ -209,7 +209,7 @@ fn substitute<O: Outside>(
     parts: &[Part],
 ) -> Result<Value, Interruption>
     requires running { IsRunning tree.old place }
-    ensures runs { Evaluates O.goes tree.old outside.old place (λ style. scripts.parts parts.now [] []) tree.new outside.new result }
+    ensures runs { ProceedsIn (ways O.goes O.loses) tree.old outside.old place (λ style. scripts.parts parts.now [] []) tree.new outside.new result }
     ensures steady { IsSteady tree.old tree.new }
     ensures left { O.entries_left outside.new ≤ O.entries_left outside.old }
 {
@@ -236,8 +236,8 @@ fn eval_part<O: Outside>(
     requires running { IsRunning tree.old place }
     requires short { IsShort (string_bytes text.old) }
     ensures runs { MatchResult result
-        (λ _. PartGoes O.goes tree.old outside.old place part.now (opens elements.old.items) (string_bytes text.old) tree.new outside.new (opens elements.new.items) (string_bytes text.new))
-        (λ i. Interrupts i (PartBreaks O.goes tree.old outside.old place part.now (opens elements.old.items) (string_bytes text.old) tree.new outside.new)) }
+        (λ _. PartGoes (ways O.goes O.loses) tree.old outside.old place part.now (opens elements.old.items) (string_bytes text.old) tree.new outside.new (opens elements.new.items) (string_bytes text.new))
+        (λ i. Breaks i (PartBreaks (ways O.goes O.loses) tree.old outside.old place part.now (opens elements.old.items) (string_bytes text.old) tree.new outside.new)) }
     ensures short { OnOk result (IsShort (string_bytes text.new)) }
     ensures steady { IsSteady tree.old tree.new }
     ensures left { O.entries_left outside.new ≤ O.entries_left outside.old }

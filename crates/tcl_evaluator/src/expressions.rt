@@ -1,8 +1,8 @@
 //! Expressions, and the commands with conditions.
 ghost use Rattle.std.specs.Prelude.{◌≡◌, ◌≤◌, MatchResult};
 ghost use Rattle.tcl_language.specs.Expressions as expressions;
-ghost use Rattle.tcl_run.specs.Ends.{Interrupts};
-ghost use Rattle.tcl_run.specs.Runs.{Evaluates, IsRunning, IsSteady};
+ghost use Rattle.tcl_run.specs.Ends.{Breaks};
+ghost use Rattle.tcl_run.specs.Runs.{IsRunning, IsSteady, ProceedsIn, ways};
 ghost use Rattle.tcl_evaluator.specs.Conditional.{Computes, TestGoes, TestBreaks, TurnGoes, TurnBreaks};
 
 use crate::evaluation::{eval_value, eval_word};
@@ -35,7 +35,7 @@ fn expression<O: Outside>(
     kept: &ExprTree,
 ) -> Result<Value, Interruption>
     requires { IsRunning tree.old place }
-    ensures runs { Computes O.goes tree.old outside.old place kept.now tree.new outside.new result }
+    ensures runs { Computes (ways O.goes O.loses) tree.old outside.old place kept.now tree.new outside.new result }
     ensures steady { IsSteady tree.old tree.new }
     ensures left { O.entries_left outside.new ≤ O.entries_left outside.old }
 {
@@ -65,8 +65,8 @@ fn condition<O: Outside>(
 ) -> Result<bool, Interruption>
     requires { IsRunning tree.old place }
     ensures runs { MatchResult result
-        (λ holds. TestGoes O.goes tree.old outside.old place test.now tree.new outside.new holds)
-        (λ i. Interrupts i (TestBreaks O.goes tree.old outside.old place test.now tree.new outside.new)) }
+        (λ holds. TestGoes (ways O.goes O.loses) tree.old outside.old place test.now tree.new outside.new holds)
+        (λ i. Breaks i (TestBreaks (ways O.goes O.loses) tree.old outside.old place test.now tree.new outside.new)) }
     ensures steady { IsSteady tree.old tree.new }
     ensures left { O.entries_left outside.new ≤ O.entries_left outside.old }
 {
@@ -89,7 +89,7 @@ pub fn expr<O: Outside>(
     args: &[Value],
 ) -> Result<Value, Interruption>
     requires { IsRunning tree.old place }
-    ensures runs { Evaluates O.goes tree.old outside.old place (λ style. expressions.expr args.now) tree.new outside.new result }
+    ensures runs { ProceedsIn (ways O.goes O.loses) tree.old outside.old place (λ style. expressions.expr args.now) tree.new outside.new result }
     ensures steady { IsSteady tree.old tree.new }
     ensures left { O.entries_left outside.new ≤ O.entries_left outside.old }
 {
@@ -116,7 +116,7 @@ pub fn if_first<O: Outside>(
     args: &[Value],
 ) -> Result<Value, Interruption>
     requires { IsRunning tree.old place }
-    ensures runs { Evaluates O.goes tree.old outside.old place (λ style. expressions.if_first style args.now) tree.new outside.new result }
+    ensures runs { ProceedsIn (ways O.goes O.loses) tree.old outside.old place (λ style. expressions.if_first style args.now) tree.new outside.new result }
     ensures steady { IsSteady tree.old tree.new }
     ensures left { O.entries_left outside.new ≤ O.entries_left outside.old }
 {
@@ -153,8 +153,8 @@ fn turn<O: Outside>(
 ) -> Result<bool, Interruption>
     requires { IsRunning tree.old place }
     ensures runs { MatchResult result
-        (λ on. TurnGoes O.goes tree.old outside.old place test.now body.old tree.new outside.new on)
-        (λ i. Interrupts i (TurnBreaks O.goes tree.old outside.old place test.now body.old tree.new outside.new)) }
+        (λ on. TurnGoes (ways O.goes O.loses) tree.old outside.old place test.now body.old tree.new outside.new on)
+        (λ i. Breaks i (TurnBreaks (ways O.goes O.loses) tree.old outside.old place test.now body.old tree.new outside.new)) }
     ensures same { body.new ≡ body.old }
     ensures steady { IsSteady tree.old tree.new }
     ensures left { O.entries_left outside.new ≤ O.entries_left outside.old }
@@ -180,7 +180,7 @@ pub fn while_loop<O: Outside>(
     args: &[Value],
 ) -> Result<Value, Interruption>
     requires { IsRunning tree.old place }
-    ensures runs { Evaluates O.goes tree.old outside.old place (λ style. expressions.while_loop args.now) tree.new outside.new result }
+    ensures runs { ProceedsIn (ways O.goes O.loses) tree.old outside.old place (λ style. expressions.while_loop args.now) tree.new outside.new result }
     ensures steady { IsSteady tree.old tree.new }
     ensures left { O.entries_left outside.new ≤ O.entries_left outside.old }
 {
@@ -221,7 +221,7 @@ pub fn for_loop<O: Outside>(
     args: &[Value],
 ) -> Result<Value, Interruption>
     requires { IsRunning tree.old place }
-    ensures runs { Evaluates O.goes tree.old outside.old place (λ style. expressions.for_loop args.now) tree.new outside.new result }
+    ensures runs { ProceedsIn (ways O.goes O.loses) tree.old outside.old place (λ style. expressions.for_loop args.now) tree.new outside.new result }
     ensures steady { IsSteady tree.old tree.new }
     ensures left { O.entries_left outside.new ≤ O.entries_left outside.old }
 {

@@ -1,7 +1,7 @@
 //! `interp`, by which an interpreter asks those below it.
 ghost use Rattle.std.specs.Prelude.{◌≤◌};
 ghost use Rattle.tcl_language.specs.Interpreters as interpreters;
-ghost use Rattle.tcl_run.specs.Runs.{Evaluates, IsRunning, IsSteady};
+ghost use Rattle.tcl_run.specs.Runs.{IsRunning, IsSteady, ProceedsIn, ways};
 ghost use Rattle.tcl_entries.specs.Subcommands.{program_of};
 
 use crate::crossing::ask_entry;
@@ -33,7 +33,7 @@ pub fn interp<O: Outside>(
     args: &[Value],
 ) -> Result<Value, Interruption>
     requires { IsRunning tree.old place }
-    ensures runs { Evaluates O.goes tree.old outside.old place (λ style. interpreters.interp style args.now) tree.new outside.new result }
+    ensures runs { ProceedsIn (ways O.goes O.loses) tree.old outside.old place (λ style. interpreters.interp style args.now) tree.new outside.new result }
     ensures steady { IsSteady tree.old tree.new }
     ensures left { O.entries_left outside.new ≤ O.entries_left outside.old }
 {
@@ -59,7 +59,7 @@ fn call_subcommand<O: Outside>(
     args: &[Value],
 ) -> Result<Value, Interruption>
     requires { IsRunning tree.old place }
-    ensures runs { Evaluates O.goes tree.old outside.old place (λ style. program_of style subcommand args.now) tree.new outside.new result }
+    ensures runs { ProceedsIn (ways O.goes O.loses) tree.old outside.old place (λ style. program_of style subcommand args.now) tree.new outside.new result }
     ensures steady { IsSteady tree.old tree.new }
     ensures left { O.entries_left outside.new ≤ O.entries_left outside.old }
 {
@@ -87,7 +87,7 @@ fn interp_eval<O: Outside>(
     args: &[Value],
 ) -> Result<Value, Interruption>
     requires { IsRunning tree.old place }
-    ensures runs { Evaluates O.goes tree.old outside.old place (λ style. interpreters.eval args.now) tree.new outside.new result }
+    ensures runs { ProceedsIn (ways O.goes O.loses) tree.old outside.old place (λ style. interpreters.eval args.now) tree.new outside.new result }
     ensures steady { IsSteady tree.old tree.new }
     ensures left { O.entries_left outside.new ≤ O.entries_left outside.old }
 {
@@ -97,7 +97,7 @@ fn interp_eval<O: Outside>(
     if words.is_empty() {
         return Err(wrong_args(alloc, EVAL));
     }
-    let found = path_of(tree, alloc, outside, place, path)?;
+    let found = path_of(tree, alloc, place, path)?;
     let script = script_of(alloc, words)?;
     ask_entry(
         tree,
@@ -126,7 +126,7 @@ fn interp_invoke_hidden<O: Outside>(
     args: &[Value],
 ) -> Result<Value, Interruption>
     requires { IsRunning tree.old place }
-    ensures runs { Evaluates O.goes tree.old outside.old place (λ style. interpreters.invoke_hidden args.now) tree.new outside.new result }
+    ensures runs { ProceedsIn (ways O.goes O.loses) tree.old outside.old place (λ style. interpreters.invoke_hidden args.now) tree.new outside.new result }
     ensures steady { IsSteady tree.old tree.new }
     ensures left { O.entries_left outside.new ≤ O.entries_left outside.old }
 {
@@ -136,7 +136,7 @@ fn interp_invoke_hidden<O: Outside>(
     let call = hidden_call(alloc, INVOKE_HIDDEN, words)?;
     let HiddenCall { is_global, words } = call;
     permit(tree, alloc, place)?;
-    let found = path_of(tree, alloc, outside, place, path)?;
+    let found = path_of(tree, alloc, place, path)?;
     ask_entry(
         tree,
         alloc,

@@ -9,7 +9,8 @@ ghost use Rattle.tcl_core.specs.Trees as core;
 ghost use Rattle.tcl_run.specs.Ends.{IfEnded};
 ghost use Rattle.tcl_tree.specs.TreeOf.{marks_of, tree_of, Names};
 ghost use Rattle.tcl_core.specs.Lives.{end_at};
-ghost use Rattle.tcl_evaluator.specs.Running.{IsBudgeted, IsOpenRun, IsRun, IsWhole, Tells, ending_of, unfit, root_count, root_limit};
+ghost use Rattle.tcl_run.specs.Runs.{IsLoss, ways};
+ghost use Rattle.tcl_evaluator.specs.Running.{AsksFirst, IsBudgeted, IsGivenUp, IsOpenRun, IsRun, IsWhole, Tells, ending_of, unfit, root_count, root_limit};
 ghost use Rattle.tcl_evaluator.specs.declared.running.Refused.TheVariants.{Memory};
 
 use crate::crossing::serve_eval;
@@ -65,7 +66,7 @@ struct Start {
 /// Evaluates a script in the interpreter at the path, as one entry into it, with at most so many counted steps in the whole tree.
 ///
 /// # Errors
-/// 402, 403, 404 and 122, which are looked for in this order and change nothing; and 401.
+/// 402, 403, 404 and 122, which are looked for in this order and change nothing; and 401, until when the host was asked what the whole evaluation asks it first.
 pub fn eval<H: Host>(
     tree: &mut Tree,
     alloc: Global,
@@ -78,6 +79,7 @@ pub fn eval<H: Host>(
     ensures unchanged { IfSome (unfit tree.old path.now script.now limit) (λ _. (tree.new ≡ tree.old) × (host.new ≡ host.old)) }
     ensures begun { IfNone (unfit tree.old path.now script.now limit) (IfErr result (λ e. e ≡ Memory)) }
     ensures broken { IsErrOf result Memory → (marks_of tree.new).broken ≡ true }
+    ensures asked { IfNone (unfit tree.old path.now script.now limit) (IfErr result (λ _. AsksFirst H.step tree.old host.old path.now script.now limit host.new)) }
     ensures runs { IfOk result (λ end. IsRun (hosted H.step) tree.old host.old path.now script.now (root_count tree.old + limit) tree.new host.new end) }
     ensures whole { IfOk result (λ end. IsWhole H.step tree.old host.old path.now script.now limit tree.new host.new end) }
     ensures budget { IfOk result (λ end. IsBudgeted H.step tree.old host.old path.now script.now limit tree.new host.new end) }
@@ -102,6 +104,7 @@ pub fn open_run<O: Outside>(
     ensures unchanged { IfSome (unfit tree.old path.now script.now limit) (λ _. (tree.new ≡ tree.old) × (outside.new ≡ outside.old)) }
     ensures begun { IfNone (unfit tree.old path.now script.now limit) (IfErr result (λ e. e ≡ Memory)) }
     ensures broken { IsErrOf result Memory → (marks_of tree.new).broken ≡ true }
+    ensures given_up { IfNone (unfit tree.old path.now script.now limit) (IfErr result (λ _. IsGivenUp (ways O.goes O.loses) tree.old outside.old path.now script.now (root_count tree.old + limit) outside.new)) }
     ensures runs { IfOk result (λ end. IsOpenRun O.goes tree.old outside.old path.now script.now (root_count tree.old + limit) tree.new outside.new end) }
 {
     let start = start_of(tree, path, script, limit)?;
@@ -184,7 +187,8 @@ fn run<O: Outside>(
     requires short { fits script.now ≡ true }
     requires place { Names tree.old start.place path.now }
     requires own { start.own ≡ root_limit tree.old }
-    ensures { IfOk result (λ end. IsOpenRun O.goes tree.old outside.old path.now script.now start.most tree.new outside.new end) }
+    ensures given_up { IfErr result (λ _. IsGivenUp (ways O.goes O.loses) tree.old outside.old path.now script.now start.most outside.new) }
+    ensures runs { IfOk result (λ end. IsOpenRun O.goes tree.old outside.old path.now script.now start.most tree.new outside.new end) }
 {
     let mut script = Value::from_short_text(Text::new(alloc, script)?);
     tree.set_run_limit(Some(start.most));
@@ -195,6 +199,7 @@ fn run<O: Outside>(
 }
 
 /// Tells the outside how the entry into the interpreter at the path ended, and whoever began the run.
+#[tactic(auto, using(tcl_run::proofs::Losing::losing))]
 fn leave<O: Outside>(
     tree: &Tree,
     alloc: Global,
@@ -203,6 +208,7 @@ fn leave<O: Outside>(
     ended: Result<Value, Interruption>,
 ) -> Result<End, AllocError>
     ensures tells { Tells path.now ended result }
+    ensures lost { IsLoss O.loses outside.old outside.new }
     ensures told { IfOk result (λ _. IfEnded ended (λ r. O.goes (tree_of tree.now) outside.old None (event path.now (core.What.Done None r)) outside.new)) }
 {
     outside.entry_leaves(alloc, tree, path, &ended)?;

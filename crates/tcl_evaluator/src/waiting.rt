@@ -3,7 +3,7 @@ ghost use Rattle.std.specs.Prelude.{◌≡◌, ◌≤◌, None, IfOk};
 ghost use Rattle.tcl_core.specs.Paths.{Path, rise_to};
 ghost use Rattle.tcl_run.specs.Entering.{whole_entry};
 ghost use Rattle.tcl_run.specs.Outsides.{IsAsked};
-ghost use Rattle.tcl_run.specs.Runs.{IsRunning, IsSteady};
+ghost use Rattle.tcl_run.specs.Runs.{IsRunning, IsSteady, ways};
 ghost use Rattle.tcl_tree.specs.TreeOf.{Names};
 ghost use Rattle.tcl_evaluator.specs.Waiting.{EndsEntry, ExitOf, HandsIn, IsAnswer, Waits};
 
@@ -44,7 +44,7 @@ pub fn wait<O: Outside>(
     requires running { IsRunning tree.old place }
     requires above { (p : Path) → Names tree.old place p → rise_to up p ≡ None }
     requires asked { IsAsked up (whole_entry entry.now) }
-    ensures runs { Waits O.goes tree.old outside.old place up (whole_entry entry.now) tree.new outside.new result }
+    ensures runs { Waits (ways O.goes O.loses) tree.old outside.old place up (whole_entry entry.now) tree.new outside.new result }
     ensures own { IfOk result (λ said. IsAnswer up (whole_entry entry.now) said) }
     ensures steady { IsSteady tree.old tree.new }
     ensures left { O.entries_left outside.new ≤ O.entries_left outside.old }
@@ -78,7 +78,7 @@ fn hand_in<O: Outside>(
 ) -> Result<(), Interruption>
     requires running { IsRunning tree.old place }
     requires handed { O.hands_in }
-    ensures runs { HandsIn O.goes tree.old outside.old place up (whole_entry entry.now) target.items (whole_entry inner) tree.new outside.new result }
+    ensures runs { HandsIn (ways O.goes O.loses) tree.old outside.old place up (whole_entry entry.now) target.items (whole_entry inner) tree.new outside.new result }
     ensures steady { IsSteady tree.old tree.new }
     ensures left { O.entries_left outside.new ≤ O.entries_left outside.old }
 {
@@ -116,7 +116,7 @@ pub fn enter<O: Outside>(
     target: &[Text],
     entry: Entry,
 ) -> Result<Value, Interruption>
-    ensures runs { EndsEntry O.goes tree.old outside.old target.now (whole_entry entry) tree.new outside.new result }
+    ensures runs { EndsEntry (ways O.goes O.loses) tree.old outside.old target.now (whole_entry entry) tree.new outside.new result }
     ensures steady { IsSteady tree.old tree.new }
     ensures left { O.entries_left outside.new ≤ O.entries_left outside.old }
 {

@@ -22,7 +22,8 @@ use Rattle.tcl_reactions.specs.Playing.Lived.{entered}
 use Rattle.tcl_reactions.proofs.Reacted.{played_is_react}
 use Rattle.tcl_replay.specs.Replaying.{Serves, wants_memory}
 use Rattle.tcl_run.specs.Ends.{IfEnded, cause_of}
-use Rattle.tcl_run.specs.Runs.{Comes}
+use Rattle.tcl_run.specs.Runs.{Comes, ways}
+use Rattle.tcl_run.proofs.Proceeding.{comes}
 use Rattle.tcl_run.specs.declared.interruption.Interruption.{Interruption}
 use Rattle.tcl_run.specs.declared.interruption.Interruption.TheVariants as interruption
 use Rattle.tcl_text.specs.declared.integer.Integers.{Integers}
@@ -54,17 +55,17 @@ ended_so A B (Err (interruption.Exited n)) m a b = (Exit n, a, b)
 ended_so A B (Err (interruption.Cut c)) m a b = (Cut (cause_of c), a, b)
 ended_so A B (Err interruption.Memory) m a b = absurd (cc m)
 
-module _ (old new : table.Tree) (o u z : declared.Player) (p target : Path) (i : Entry) (ended : Result Text Interruption) where
-  runs_of : (e : Result Text Interruption) → EndsEntry played old o p i new u e →
+module _ (loses : declared.Player → declared.Player → Type 0) (old new : table.Tree) (o u z : declared.Player) (p target : Path) (i : Entry) (ended : Result Text Interruption) where
+  runs_of : (e : Result Text Interruption) → EndsEntry (ways played loses) old o p i new u e →
       IfEnded e (λ r. Comes played (language (marks_of old).integers) (tree_of old) o p (entering (language (marks_of old).integers) (tree_of old p) i) (tree_of new) u r)
-  runs_of (Ok text) f = f (marks_of old).integers refl
-  runs_of (Err (interruption.Completed c)) f = f (marks_of old).integers refl
-  runs_of (Err (interruption.Stopped s)) f = f (marks_of old).integers refl
-  runs_of (Err (interruption.Exited n)) f = f (marks_of old).integers refl
-  runs_of (Err (interruption.Cut c)) f = f (marks_of old).integers refl
+  runs_of (Ok text) f = comes (f (marks_of old).integers refl)
+  runs_of (Err (interruption.Completed c)) f = comes (f (marks_of old).integers refl)
+  runs_of (Err (interruption.Stopped s)) f = comes (f (marks_of old).integers refl)
+  runs_of (Err (interruption.Exited n)) f = comes (f (marks_of old).integers refl)
+  runs_of (Err (interruption.Cut c)) f = comes (f (marks_of old).integers refl)
   runs_of (Err interruption.Memory) f = tt
 
-  served : p ≡ target → wants_memory ended ≡ false → EndsEntry played old o p i new u ended → IfEnded ended (λ r. played (tree_of new) u None (event p (Done None r)) z) →
+  served : p ≡ target → wants_memory ended ≡ false → EndsEntry (ways played loses) old o p i new u ended → IfEnded ended (λ r. played (tree_of new) u None (event p (Done None r)) z) →
       Serves (marks_of old).integers (tree_of old) (player_of o) target i (tree_of new) (player_of z)
   served e m a b =
       let x = ended_so
@@ -79,7 +80,7 @@ module _ (old new : table.Tree) (o u z : declared.Player) (p target : Path) (i :
         told = x.2;
       })
 
-  pub serves : {E : Type 0} (left : Result (Unit {0}) E) → p ≡ target → wants_memory ended ≡ false → EndsEntry played old o p i new u ended →
+  pub serves : {E : Type 0} (left : Result (Unit {0}) E) → p ≡ target → wants_memory ended ≡ false → EndsEntry (ways played loses) old o p i new u ended →
       OnOk left (IfEnded ended (λ r. played (tree_of new) u None (event p (Done None r)) z)) →
       OnOk left (Serves (marks_of old).integers (tree_of old) (player_of o) target i (tree_of new) (player_of z))
   serves (Ok l) e m a b = served e m a b

@@ -4,7 +4,7 @@ use Rattle.std.specs.String.{string_bytes}
 use Rattle.tcl_core.specs.Paths.{Path}
 use Rattle.tcl_language.specs.Scripts.{commands, words, parts}
 use Rattle.tcl_run.specs.Entering.{whole_entry}
-use Rattle.tcl_run.specs.Runs.{IsAt, IsSteady, room}
+use Rattle.tcl_run.specs.Runs.{IsAt, IsSteady, room, ways}
 use Rattle.tcl_text.specs.declared.integer.Integers.{Integers}
 use Rattle.tcl_tree.specs.TreeOf.{tree_of}
 use Rattle.tcl_calls.specs.Words.{opens, IsShort}
@@ -114,7 +114,7 @@ decreases-children::child g l = 16016 * g.O.Outside.entries_left l.outside.now +
 abbrev pub invariant-evaluation::eval_commands-commands : goal.invariant-evaluation::eval_commands-commands
 invariant-evaluation::eval_commands-commands g l = record {
   leads : (p : Path) (style : Integers) → IsAt l.fn.tree l.place p style →
-      Leads g.O.Outside.goes style (tree_of l.fn.tree) l.fn.outside p (commands l.fn.script.commands l.fn.script.fault []) (tree_of l.tree) l.outside (commands (drop l.command-index l.command-items) l.fn.script.fault l.last);
+      Leads (ways g.O.Outside.goes g.O.Outside.loses) style (tree_of l.fn.tree) l.fn.outside p (commands l.fn.script.commands l.fn.script.fault []) (tree_of l.tree) l.outside (commands (drop l.command-index l.command-items) l.fn.script.fault l.last);
   steady : IsSteady l.fn.tree l.tree;
   left : g.O.Outside.entries_left l.outside ≤ g.O.Outside.entries_left l.fn.outside;
 }
@@ -122,7 +122,7 @@ invariant-evaluation::eval_commands-commands g l = record {
 abbrev pub invariant-evaluation::eval_command-words : goal.invariant-evaluation::eval_command-words
 invariant-evaluation::eval_command-words g l = record {
   leads : (p : Path) (style : Integers) → IsAt l.fn.tree l.place p style →
-      Leads g.O.Outside.goes style (tree_of l.fn.tree) l.fn.outside p (words l.fn.command []) (tree_of l.tree) l.outside (words (drop l.word-index l.word-items) l.words.items);
+      Leads (ways g.O.Outside.goes g.O.Outside.loses) style (tree_of l.fn.tree) l.fn.outside p (words l.fn.command []) (tree_of l.tree) l.outside (words (drop l.word-index l.word-items) l.words.items);
   steady : IsSteady l.fn.tree l.tree;
   left : g.O.Outside.entries_left l.outside ≤ g.O.Outside.entries_left l.fn.outside;
 }
@@ -130,7 +130,7 @@ invariant-evaluation::eval_command-words g l = record {
 abbrev pub invariant-evaluation::substitute-parts : goal.invariant-evaluation::substitute-parts
 invariant-evaluation::substitute-parts g l = record {
   leads : (p : Path) (style : Integers) → IsAt l.fn.tree l.place p style →
-      Leads g.O.Outside.goes style (tree_of l.fn.tree) l.fn.outside p (parts l.fn.parts [] []) (tree_of l.tree) l.outside (parts (drop l.part-index l.parts) (opens l.elements.items) (string_bytes l.text));
+      Leads (ways g.O.Outside.goes g.O.Outside.loses) style (tree_of l.fn.tree) l.fn.outside p (parts l.fn.parts [] []) (tree_of l.tree) l.outside (parts (drop l.part-index l.parts) (opens l.elements.items) (string_bytes l.text));
   short : IsShort (string_bytes l.text);
   steady : IsSteady l.fn.tree l.tree;
   left : g.O.Outside.entries_left l.outside ≤ g.O.Outside.entries_left l.fn.outside;
@@ -165,7 +165,7 @@ decreases-expressions::expression-parts g l = length l.kept.nodes.items - l.eval
 abbrev pub invariant-expressions::expression-parts : goal.invariant-expressions::expression-parts
 invariant-expressions::expression-parts g l = record {
   leads : (p : Path) (style : Integers) → IsAt l.fn.tree l.place p style → (text : List ℕ) → IsKept style text l.fn.kept →
-      Leads g.O.Outside.goes style (tree_of l.fn.tree) l.fn.outside p (expression style text) (tree_of l.tree) l.outside (computed (from style l.kept.nodes.items l.evaluation.next l.evaluation.values.items) (settles style));
+      Leads (ways g.O.Outside.goes g.O.Outside.loses) style (tree_of l.fn.tree) l.fn.outside p (expression style text) (tree_of l.tree) l.outside (computed (from style l.kept.nodes.items l.evaluation.next l.evaluation.values.items) (settles style));
   steady : IsSteady l.fn.tree l.tree;
   left : g.O.Outside.entries_left l.outside ≤ g.O.Outside.entries_left l.fn.outside;
 }
@@ -173,7 +173,7 @@ invariant-expressions::expression-parts g l = record {
 abbrev pub invariant-expressions::if_first-tests : goal.invariant-expressions::if_first-tests
 invariant-expressions::if_first-tests g l = record {
   leads : (p : Path) (style : Integers) → IsAt l.fn.tree l.place p style →
-      Leads g.O.Outside.goes style (tree_of l.fn.tree) l.fn.outside p (if_first style l.fn.args) (tree_of l.tree) l.outside (first_true style (tests_of (drop l.branch-index l.branch-items)) (option_copied l.last));
+      Leads (ways g.O.Outside.goes g.O.Outside.loses) style (tree_of l.fn.tree) l.fn.outside p (if_first style l.fn.args) (tree_of l.tree) l.outside (first_true style (tests_of (drop l.branch-index l.branch-items)) (option_copied l.last));
   steady : IsSteady l.fn.tree l.tree;
   left : g.O.Outside.entries_left l.outside ≤ g.O.Outside.entries_left l.fn.outside;
 }
@@ -181,7 +181,7 @@ invariant-expressions::if_first-tests g l = record {
 abbrev pub invariant-expressions::while_loop-turns : goal.invariant-expressions::while_loop-turns
 invariant-expressions::while_loop-turns g l = record {
   leads : (p : Path) (style : Integers) → IsAt l.fn.tree l.place p style →
-      Leads g.O.Outside.goes style (tree_of l.fn.tree) l.fn.outside p (while_loop l.fn.args) (tree_of l.tree) l.outside (while_turns style (get_or l.fn.args 0 []) (get_or l.fn.args 1 []));
+      Leads (ways g.O.Outside.goes g.O.Outside.loses) style (tree_of l.fn.tree) l.fn.outside p (while_loop l.fn.args) (tree_of l.tree) l.outside (while_turns style (get_or l.fn.args 0 []) (get_or l.fn.args 1 []));
   body : l.body ≡ get_or l.fn.args 1 [];
   steady : IsSteady l.fn.tree l.tree;
   left : g.O.Outside.entries_left l.outside ≤ g.O.Outside.entries_left l.fn.outside;
@@ -190,7 +190,7 @@ invariant-expressions::while_loop-turns g l = record {
 abbrev pub invariant-expressions::for_loop-turns : goal.invariant-expressions::for_loop-turns
 invariant-expressions::for_loop-turns g l = record {
   leads : (p : Path) (style : Integers) → IsAt l.fn.tree l.place p style →
-      Leads g.O.Outside.goes style (tree_of l.fn.tree) l.fn.outside p (for_loop l.fn.args) (tree_of l.tree) l.outside (for_turns style (get_or l.fn.args 1 []) (get_or l.fn.args 2 []) (get_or l.fn.args 3 []));
+      Leads (ways g.O.Outside.goes g.O.Outside.loses) style (tree_of l.fn.tree) l.fn.outside p (for_loop l.fn.args) (tree_of l.tree) l.outside (for_turns style (get_or l.fn.args 1 []) (get_or l.fn.args 2 []) (get_or l.fn.args 3 []));
   next : l.next ≡ get_or l.fn.args 2 [];
   body : l.body ≡ get_or l.fn.args 3 [];
   steady : IsSteady l.fn.tree l.tree;
@@ -208,7 +208,7 @@ decreases-loops::uplevel g l = 16016 * g.O.Outside.entries_left l.outside.now + 
 abbrev pub invariant-loops::foreach-turns : goal.invariant-loops::foreach-turns
 invariant-loops::foreach-turns g l = record {
   leads : (p : Path) (style : Integers) → IsAt l.fn.tree l.place p style →
-      Leads g.O.Outside.goes style (tree_of l.fn.tree) l.fn.outside p (foreach l.fn.args) (tree_of l.tree) l.outside (foreach_turns (walks_at l.turns l.walks.items) l.initial.body);
+      Leads (ways g.O.Outside.goes g.O.Outside.loses) style (tree_of l.fn.tree) l.fn.outside p (foreach l.fn.args) (tree_of l.tree) l.outside (foreach_turns (walks_at l.turns l.walks.items) l.initial.body);
   body : l.body ≡ l.initial.body;
   steady : IsSteady l.fn.tree l.tree;
   left : g.O.Outside.entries_left l.outside ≤ g.O.Outside.entries_left l.fn.outside;
@@ -254,7 +254,7 @@ decreases-waiting::wait-turns g l = g.O.Outside.entries_left l.outside
 
 abbrev pub invariant-waiting::wait-turns : goal.invariant-waiting::wait-turns
 invariant-waiting::wait-turns g l = record {
-  leads : WaitsFrom g.O.Outside.goes l.fn.tree l.fn.outside l.place l.up (whole_entry l.entry) l.tree l.outside;
+  leads : WaitsFrom (ways g.O.Outside.goes g.O.Outside.loses) l.fn.tree l.fn.outside l.place l.up (whole_entry l.entry) l.tree l.outside;
   steady : IsSteady l.fn.tree l.tree;
   left : g.O.Outside.entries_left l.outside ≤ g.O.Outside.entries_left l.fn.outside;
 }
