@@ -7,10 +7,10 @@ use Rattle.tcl_core.specs.Endings.{Completion, Reply, error, ok, settle}
 use Rattle.tcl_core.specs.Endings.Reply.{Completed, Stop, Exit, Cut}
 use Rattle.tcl_core.specs.Entries.{Entry}
 use Rattle.tcl_core.specs.Entries.Entry.{Eval, CallWords}
-use Rattle.tcl_core.specs.Programs.{blocked, is_deep, is_spent, Wait}
+use Rattle.tcl_core.specs.Programs.{blocked, is_deep}
 use Rattle.tcl_core.specs.Programs.Prog.{done, go}
-use Rattle.tcl_core.specs.Trees.{Tree, Node, effect, Event}
-use Rattle.tcl_core.specs.Trees.What.{Charged, Nested, Unnested}
+use Rattle.tcl_core.specs.Trees.{Tree, Node, effect}
+use Rattle.tcl_core.specs.Trees.What.{Nested, Unnested}
 use Rattle.tcl_flow.specs.Stopping as stopping
 use Rattle.tcl_flow.specs.View.{completion_of}
 use Rattle.tcl_language.specs.Faults.{lost_alias}
@@ -27,10 +27,9 @@ use Rattle.tcl_run.specs.declared.interruption.Interruption.{Interruption}
 use Rattle.tcl_run.specs.declared.interruption.Interruption.TheVariants as interruption
 use Rattle.tcl_run.specs.Ends.{IfEnded, IfRan, Interrupts, cause_of, failing, too_deep_at}
 use Rattle.tcl_run.specs.Outsides.{Enters, Misses, Returns}
-use Rattle.tcl_run.specs.Plain.{Acts, Does}
 use Rattle.tcl_run.specs.Runs.{Counts, IsAt, IsLoss, IsSteady, IsThere, Proceeds, ProceedsAt, ProceedsIn, RefusesStep, Ways}
 use Rattle.tcl_run.proofs.Endings.{IfEnded-both, IfEnded-more, IfRan-more, ended_so, memory_err, ran}
-use Rattle.tcl_run.proofs.Proceeding.{at_end, at_finish, at_prog, at_reply, calls_lost, calls_on, calls_passed, charges, charge_refused, completed, does_proceeds, finds_none, finds_none_on, goes_on, goes_done, nests_done, nest_refused, passed, stopped, stopped_by}
+use Rattle.tcl_run.proofs.Proceeding.{at_end, at_finish, at_prog, at_reply, calls_lost, calls_on, calls_passed, charges, charge_refused, completed, finds_none, finds_none_on, goes_on, goes_done, nests_done, nest_refused, passed, stopped, stopped_by}
 use Rattle.tcl_run.proofs.Steady.{stands, still_at}
 use Rattle.tcl_text.specs.declared.integer.Integers.{Integers}
 use Rattle.tcl_tree.proofs.CoreLemmas.{tree_there}
@@ -114,12 +113,6 @@ module _ {S : Type 0} {ways : Ways S} (style : Integers) where
 
 -- ## Entries
 
--- what evaluates nothing
-pub acts_there : {S : Type 0} (ways : Ways S) (t u : Table) (o : S) (place : TablePlace) (program : Integers → Program) (r : Result Text Interruption) → Acts t place program u r → ProceedsAt ways t o place program u o r
-acts_there ways t u o place program r acts = ran r (λ e. (p : Path) (style : Integers) → IsThere t place p style → Does (program style) (tree_of t) p (tree_of u) e)
-    (λ e. (p : Path) (style : Integers) → IsThere t place p style → Proceeds ways (language style) (tree_of t) o p (program style) (tree_of u) o e)
-    (λ e h p style at. does_proceeds (program style) o (h p style at)) (λ p style at. stopped) acts
-
 -- the same entry, told otherwise
 pub evaluates_there : {S : Type 0} (ways : Ways S) (t u : Table) (o z : S) (place : TablePlace) (x y : Entry) (r : Result Text Interruption) → x ≡ y → ProceedsAt ways t o place (λ style. serve style y) u z r → ProceedsAt ways t o place (λ style. serve style x) u z r
 evaluates_there ways t u o z place x y r same h = subst (λ (i : Entry). ProceedsAt ways t o place (λ style. serve style i) u z r) (sym same) h
@@ -127,20 +120,6 @@ evaluates_there ways t u o z place x y r same h = subst (λ (i : Entry). Proceed
 -- the same program, told otherwise
 pub evaluates_same : {S : Type 0} (ways : Ways S) (old new : Table) (o z : S) (place : TablePlace) (x y : Program) (r : Result Text Interruption) → x ≡ y → ProceedsIn ways old o place (λ style. y) new z r → ProceedsIn ways old o place (λ style. x) new z r
 evaluates_same ways old new o z place x y r same h = subst (λ (a : Program). ProceedsIn ways old o place (λ style. a) new z r) (sym same) h
-
--- memory was wanted for a step of a program, of which nothing was told but what may have become of the outside
-pub wants_memory : {S : Type 0} (ways : Ways S) (t u : Table) (o z : S) (place : TablePlace) (program : Integers → Program) (result : Result Text Interruption) (y : Interruption) → result ≡ Err y → y ≡ interruption.Memory → IsLoss ways.loses o z →
-    ProceedsIn ways t o place program u z result
-wants_memory ways t u o z place program result y is memory loses =
-    memory_err result y (λ x. (p : Path) (style : Integers) → IsAt t place p style → Proceeds ways (language style) (tree_of t) o p (program style) (tree_of u) z (Some (Completed (ok x))))
-    (λ e. (p : Path) (style : Integers) → IsAt t place p style → Proceeds ways (language style) (tree_of t) o p (program style) (tree_of u) z e) is memory (λ p style at. stopped_by loses)
-
--- the same, wherever the place is
-pub wants_memory_at : {S : Type 0} (ways : Ways S) (t u : Table) (o z : S) (place : TablePlace) (program : Integers → Program) (result : Result Text Interruption) (y : Interruption) → result ≡ Err y → y ≡ interruption.Memory → IsLoss ways.loses o z →
-    ProceedsAt ways t o place program u z result
-wants_memory_at ways t u o z place program result y is memory loses =
-    memory_err result y (λ x. (p : Path) (style : Integers) → IsThere t place p style → Proceeds ways (language style) (tree_of t) o p (program style) (tree_of u) z (Some (Completed (ok x))))
-    (λ e. (p : Path) (style : Integers) → IsThere t place p style → Proceeds ways (language style) (tree_of t) o p (program style) (tree_of u) z e) is memory (λ p style at. stopped_by loses)
 
 -- ## Calls
 
