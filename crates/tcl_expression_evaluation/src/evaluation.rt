@@ -28,12 +28,20 @@ pub enum Progress<'t> {
 /// An evaluation of a kept expression. It hands out each part that is to be substituted when it is needed, and takes the part's value.
 ///
 /// It takes memory for the values that wait for their operator, which `restart` keeps for the next evaluation.
-#[derive(Drop)]
 pub struct Evaluation {
     /// The values that wait for their operator, the last one last.
     values: Vec<Value>,
     /// The step that comes next.
     next: usize,
+}
+
+impl Drop for Evaluation {
+    fn drop(self) {
+        let Evaluation {
+            values: _values,
+            next: _,
+        } = self;
+    }
 }
 
 impl Evaluation {

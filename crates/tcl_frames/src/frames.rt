@@ -61,10 +61,18 @@ impl Same for SetAside {
 /// The chain of frames of an interpreter, with the parts of chains that are set aside.
 ///
 /// Contracts see it as a `Chain`. Level 0 is global and always there. Every refused call leaves it as it was.
-#[derive(Drop)]
 pub struct Frames {
     frames: Vec<Frame>,
     aside: Vec<SetAside>,
+}
+
+impl Drop for Frames {
+    fn drop(self) {
+        let Frames {
+            frames: _frames,
+            aside: _aside,
+        } = self;
+    }
 }
 
 impl Model for Frames {

@@ -22,12 +22,21 @@ use tcl_text::text::Text;
 /// Files, channels and standard streams in memory, of which a call can be made to fail.
 ///
 /// At first the channels `stdin`, `stdout` and `stderr` are open. A channel to a file is named `file` and a number; the first is `file3`.
-#[derive(Drop)]
 pub struct MemoryHost {
     store: Store,
     // which call from now on is to fail; 0 where none is
     fault_in: u64,
     failures: u64,
+}
+
+impl Drop for MemoryHost {
+    fn drop(self) {
+        let MemoryHost {
+            store: _store,
+            fault_in: _,
+            failures: _,
+        } = self;
+    }
 }
 
 impl MemoryHost {

@@ -44,12 +44,22 @@ struct ReadExpression {
 ///
 /// No contract sees what is kept: a reading is that of its text, whether it is made anew or not. When the texts come to more than 1,048,576 bytes, all
 /// readings are dropped; those of texts of more than 65,536 bytes aren't kept.
-#[derive(Drop)]
 pub struct Readings {
     scripts: IndexMap<Text, ReadScript>,
     expressions: IndexMap<Text, ReadExpression>,
     kept: usize,
     alloc: Global,
+}
+
+impl Drop for Readings {
+    fn drop(self) {
+        let Readings {
+            scripts: _scripts,
+            expressions: _expressions,
+            kept: _,
+            alloc: _,
+        } = self;
+    }
 }
 
 impl Readings {

@@ -35,7 +35,6 @@ pub struct Place {
 /// A tree of interpreters, in one table.
 ///
 /// Contracts see it as the function from paths to interpreters, `tree_of`. A path is a list of names from the root downward.
-#[derive(Drop)]
 pub struct Tree {
     nodes: Slab<Node>,
     root: usize,
@@ -45,6 +44,19 @@ pub struct Tree {
     alloc: Global,
     ghost sound: { IsSound (get nodes) root },
     ghost guarded: { IsGuarded (get nodes) },
+}
+
+impl Drop for Tree {
+    fn drop(self) {
+        let Tree {
+            nodes: _nodes,
+            root: _,
+            integers: _,
+            broken: _,
+            readings: _readings,
+            alloc: _,
+        } = self;
+    }
 }
 
 impl Tree {

@@ -144,10 +144,18 @@ enum Kept {
 ///
 /// A number, a list or a dict that was built carries no text until one is asked for, and a text keeps what it was last
 /// read as. A clone shares what is kept. What isn't shared is changed in place.
-#[derive(Drop)]
 pub struct Value {
     form: Form,
     kept: Kept,
+}
+
+impl Drop for Value {
+    fn drop(self) {
+        let Value {
+            form: _form,
+            kept: _kept,
+        } = self;
+    }
 }
 
 impl Model for Value {

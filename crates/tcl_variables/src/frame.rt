@@ -18,10 +18,18 @@ use tcl_text::text::Text;
 use tcl_value::value::Value;
 
 /// A frame: the words of its call, and its variables.
-#[derive(Drop)]
 pub struct Frame {
     words: Vec<Value>,
     variables: NameMap<Variable>,
+}
+
+impl Drop for Frame {
+    fn drop(self) {
+        let Frame {
+            words: _words,
+            variables: _variables,
+        } = self;
+    }
 }
 
 impl Model for Frame {

@@ -18,9 +18,14 @@ use tcl_text::text::Text;
 const MOST_FEW: usize = 8;
 
 /// A map from names, which contracts see as its entries in the order of insertion.
-#[derive(Drop)]
 pub struct NameMap<V> {
     entries: Entries<V>,
+}
+
+impl<V: Drop> Drop for NameMap<V> {
+    fn drop(self) {
+        let NameMap { entries: _entries } = self;
+    }
 }
 
 /// How the entries are kept.

@@ -1,0 +1,125 @@
+//! Tests as rows of text. A row is a line: a call, ` => `, and what the call must answer.
+//!
+//! The rows of a file stand in groups. A line `== NAME` begins a group, whose rows are answered by one world, one after the other. An empty line, and one
+//! that begins with `--`, says nothing. In a row `␤` stands for a newline, and an answer is compared as one line, so that its newlines are written so too.
+#![tactic(auto)]
+
+use std::alloc::{AllocError, Global};
+use std::{fs, io};
+
+/// What answers the calls of rows.
+pub trait World {
+    /// A group begins: what the rows of the group before did is undone.
+    ///
+    /// # Errors
+    /// Out of memory.
+    fn begin(&mut self, alloc: Global) -> Result<(), AllocError>;
+
+    /// What a call answers. A call that isn't known answers what no row wants.
+    ///
+    /// # Errors
+    /// Out of memory.
+    fn answer(&mut self, alloc: Global, call: &str) -> Result<String, AllocError>;
+}
+
+/// What stands for a newline in a row.
+const NEWLINE: &str = "␤";
+
+/// How many rows there were, and how many of them were answered otherwise.
+#[derive(Clone, Copy)]
+struct Tally {
+    rows: u64,
+    differ: u64,
+}
+
+impl Tally {
+    /// One row more.
+    fn with(self, is_met: bool) -> Tally {
+        Tally {
+            rows: self.rows.saturating_add(1),
+            differ: self.differ.saturating_add(if is_met { 0 } else { 1 }),
+        }
+    }
+}
+
+/// What a line of a file of rows is.
+enum Line<'a> {
+    /// It says nothing.
+    Nothing,
+    /// It begins a group.
+    Group,
+    /// A call, and what it must answer.
+    Row(&'a str, &'a str),
+    /// It is none of these.
+    NoRow,
+}
+
+/// What a line is. A call that must answer the empty text may leave out the blank behind the arrow.
+fn line_of(line: &str) -> Line<'_> {
+    if line.is_empty() || line.starts_with("--") {
+        return Line::Nothing;
+    }
+    if line.starts_with("== ") {
+        return Line::Group;
+    }
+    if let Some((call, wanted)) = line.split_once(" => ") {
+        return Line::Row(call, wanted);
+    }
+    match line.strip_suffix(" =>") {
+        Some(call) => Line::Row(call, ""),
+        None => Line::NoRow,
+    }
+}
+
+/// What a call answers, as one line.
+fn found<W: World>(world: &mut W, alloc: Global, call: &str) -> Result<String, AllocError> {
+    let call = call.replace(alloc, NEWLINE, "\n")?;
+    let answer = world.answer(alloc, call.as_str())?;
+    answer.as_str().replace(alloc, "\n", NEWLINE)
+}
+
+/// Puts a row to a world, and prints what it answers where that isn't what it must be. Returns whether it is.
+fn see<W: World>(rt: &HostRuntime, world: &mut W, call: &str, wanted: &str) -> io::Result<bool> {
+    let found = found(world, rt.alloc(), call)?;
+    if found.as_str() == wanted {
+        return Ok(true);
+    }
+    println!(rt; "{call} => {found}, and not {wanted}")?;
+    Ok(false)
+}
+
+/// Puts a line to a world, and returns the tally with it.
+fn see_line<W: World>(
+    rt: &HostRuntime,
+    world: &mut W,
+    tally: Tally,
+    line: &str,
+) -> io::Result<Tally> {
+    match line_of(line) {
+        Line::Nothing => Ok(tally),
+        Line::Group => {
+            world.begin(rt.alloc())?;
+            Ok(tally)
+        }
+        Line::Row(call, wanted) => Ok(tally.with(see(rt, world, call, wanted)?)),
+        Line::NoRow => {
+            println!(rt; "{line}: no row")?;
+            Ok(tally.with(false))
+        }
+    }
+}
+
+/// Puts the rows of the file `NAME.rows` to a world. Each that is answered otherwise is printed, and last how many rows there were.
+///
+/// # Errors
+/// The file can't be read, the output can't be written, or out of memory.
+pub fn run<W: World>(rt: &HostRuntime, name: &str, world: &mut W) -> io::Result<()> {
+    let path = format!(in rt.alloc(); "{name}.rows")?;
+    let rows = fs::read_to_string(rt, path.as_str())?;
+    let mut tally = Tally { rows: 0, differ: 0 };
+    'rows: for line in rows.lines() {
+        tally = see_line(rt, world, tally, line)?;
+    }
+    let Tally { rows, differ } = tally;
+    println!(rt; "{name}: {rows} rows, {differ} answered otherwise")
+}
