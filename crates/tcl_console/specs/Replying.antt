@@ -1,5 +1,5 @@
 -- What the parts of a call on a stream answer.
-use Rattle.std.specs.Prelude.{◌≡◌, ℕ, ◌+◌, Bool, true, false, List, Option, Result, Ok, Err, nat_lt, if◌then◌else◌}
+use Rattle.std.specs.Prelude.{◌≡◌, ℕ, Bool, true, false, List, Option, Result, Ok, Err}
 use Rattle.std.specs.Io.KnownBytes.{Appends, Keeps}
 use Rattle.tcl_host.specs.MemoryHost.{counted}
 use Rattle.tcl_host.specs.declared.reply.HostError.{HostError}

@@ -6,8 +6,8 @@ use Rattle.tcl_console.specs.declared.stream.Stream.{Stream}
 use Rattle.tcl_console.specs.declared.stream.Stream.TheVariants.{Input, Output, Errors, File}
 use Rattle.tcl_host.specs.Hosts.{IsLawful}
 use Rattle.tcl_host.specs.declared.reply.HostReply.{HostReply}
-use Rattle.tcl_host.specs.declared.reply.HostReply.TheVariants.{Opened, Line, End, Rest, Done, AtEnd, Refused}
-use Rattle.tcl_host.specs.declared.reply.Refusal.TheVariants.{NoChannel, DeviceFault, NotOpened}
+use Rattle.tcl_host.specs.declared.reply.HostReply.TheVariants.{Done, Refused}
+use Rattle.tcl_host.specs.declared.reply.Refusal.TheVariants.{NoChannel, DeviceFault}
 use Rattle.tcl_host.specs.declared.request.Request.{Request}
 use Rattle.tcl_host.specs.declared.request.Request.TheVariants as Asked
 

@@ -1,14 +1,14 @@
 -- What the matching of patterns comes to.
-use Rattle.std.proofs.Common.{◌≡◌, ◌≢◌, ◌↔◌, IsTrue, ℕ, ◌≤◌, Bool, true, false, cond, List, [], ◌∷◌, ◌++◌, map, refl, sym, ◌∙◌, ap, subst, arith, ◌⊎◌, inl, inr, append-nil}
-use Rattle.std.specs.Prelude.{◌==◌, ◌&&◌, ◌||◌}
+use Rattle.std.proofs.Common.{◌≡◌, ◌≢◌, ℕ, ◌≤◌, Bool, true, false, List, [], ◌∷◌, ◌++◌, map, refl, sym, ◌∙◌, ap, subst, arith, ◌⊎◌, inl, inr, append-nil}
+use Rattle.std.specs.Prelude.{◌&&◌}
 use Rattle.std.specs.Char.{to_ascii_lowercase}
 use Rattle.std.specs.Str.{chars, IsUtf8}
 use Rattle.std.proofs.lemmas.List.{map-append}
 use Rattle.std.proofs.lemmas.Str.{chars-append, chars-nil}
 use Rattle.std.proofs.lemmas.Bool.Decides.{nat_tests, Decides-eqb}
-use Rattle.tcl_glob.specs.Patterns.{PatternItem, run, any_one, one_of, plain, items, matches_items, some_end, letters, is_match}
+use Rattle.tcl_glob.specs.Patterns.{PatternItem, run, plain, items, matches_items, some_end, letters}
 use Rattle.tcl_glob.specs.Laws.{IsPlain, Occurs, RunTakesFront, PlainMatchesItself, StarMatchesAll, StarsFindPlain}
-use Rattle.tcl_glob.proofs.Matching.{or_left, or_right, or_cases, some_from_whole}
+use Rattle.tcl_glob.proofs.Matching.{or_right, or_cases, some_from_whole}
 use Rattle.tcl_glob.proofs.Sets.{plain_first}
 
 -- ---- ends

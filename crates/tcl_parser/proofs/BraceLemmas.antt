@@ -1,14 +1,14 @@
 -- Words in braces, piece by piece.
-use Rattle.std.proofs.Common.{◌≡◌, ◌≢◌, ℕ, zero, suc, ◌+◌, ◌-◌, ◌<◌, ◌≤◌, ◌∙◌, Bool, true, false, cond, nat_lt, not, ◌&&◌, ◌||◌, ◌==◌, List, [], ◌∷◌, ◌++◌, length, take, drop, Result, Ok, Err, refl, ap, sym, inl, inr, arith, add-one, add_comm}
+use Rattle.std.proofs.Common.{◌≡◌, ◌≢◌, ℕ, zero, suc, ◌+◌, ◌-◌, ◌∙◌, true, false, nat_lt, ◌==◌, List, [], ◌∷◌, ◌++◌, length, drop, Result, Ok, Err, refl, ap, sym, inl, inr, arith, add-one}
 use Rattle.std.specs.List.{prefix_len}
-use Rattle.std.proofs.lemmas.Bool.{cases_Bool, cases_lt, lt-ltb, le-ltb, ne_eqb, or_parts, and_left}
+use Rattle.std.proofs.lemmas.Bool.{cases_Bool, cases_lt, lt-ltb, le-ltb}
 use Rattle.std.proofs.lemmas.Bool.Decides.{nat_tests}
-use Rattle.tcl_text.specs.Backslash.{escape, escape_rest, is_blank, escape_of}
+use Rattle.tcl_text.specs.Backslash.{escape, escape_rest, is_blank}
 use Rattle.tcl_parser.specs.declared.fault.Fault.{Fault}
 use Rattle.tcl_parser.specs.declared.fault.Fault.TheVariants.{CloseBrace}
 use Rattle.tcl_parser.specs.declared.scan.Run.TheVariants.{Braces}
-use Rattle.tcl_parser.specs.Texts.{EndsWith, begins_with, IsNotAscii, after_ascii}
-use Rattle.tcl_parser.specs.Runs.{ends_run, run_of, after_run, run_len}
+use Rattle.tcl_parser.specs.Texts.{EndsWith, begins_with, after_ascii}
+use Rattle.tcl_parser.specs.Runs.{ends_run, run_of, after_run}
 use Rattle.tcl_parser.specs.Reading.{put, in_braces, before}
 use Rattle.tcl_parser.proofs.RunLemmas.{after_run_goes_on, after_run_stops, run_of_goes_on, run_of_stops, after_passes, after_stops}
 use Rattle.tcl_parser.proofs.EndLemmas.{EndsWith-more, EndsWith-itself, before-front}

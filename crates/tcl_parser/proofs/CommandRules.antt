@@ -1,16 +1,16 @@
 -- Words, commands and scripts: the rules and the function that reads them say the same, where they do so of scripts in brackets.
-use Rattle.std.proofs.Common.{◌≡◌, ℕ, zero, suc, ◌+◌, ◌-◌, ◌<◌, ◌≤◌, ◌∙◌, Bool, true, false, cond, not, nat_lt, ◌&&◌, ◌||◌, ◌==◌, List, [], ◌∷◌, ◌++◌, ◌⊎◌, length, take, drop, Result, Ok, Err, refl, ap, sym, subst, inl, inr, arith}
-use Rattle.std.proofs.lemmas.Bool.{cases_Bool, false≢true, or_from, or_parts, and_parts, and_left}
+use Rattle.std.proofs.Common.{◌≡◌, ℕ, zero, suc, ◌<◌, ◌∙◌, Bool, true, false, cond, not, ◌&&◌, ◌==◌, List, [], ◌∷◌, ◌⊎◌, length, drop, Result, Ok, Err, refl, ap, sym, subst, inl, inr, arith}
+use Rattle.std.proofs.lemmas.Bool.{false≢true, or_from, or_parts, and_parts, and_left}
 use Rattle.std.proofs.lemmas.Bool.Decides.{nat_tests}
 use Rattle.tcl_parser.specs.declared.fault.Fault.{Fault}
 use Rattle.tcl_parser.specs.declared.fault.Fault.TheVariants.{CloseBrace, CloseBracket, AfterBrace, AfterQuote, TooDeep}
 use Rattle.tcl_parser.specs.declared.script.Part.{Part}
 use Rattle.tcl_parser.specs.Characters.{is_white, is_separator}
-use Rattle.tcl_parser.specs.Texts.{EndsWith, begins_with}
+use Rattle.tcl_parser.specs.Texts.{begins_with}
 use Rattle.tcl_parser.specs.Words.{WordRead}
-use Rattle.tcl_parser.specs.Several.{Turn, over, next, Several, led_by, and_then}
-use Rattle.tcl_parser.specs.Reading.{◌>>=◌, Level, Place, read_parts, joined_parts, joined, with_literal, closed, in_braces, after_white, after_gap, word_ends, command_ends, after_command, is_expanded, read_word_parts, marked, read_word, word_next, word_or_end, word_turn, read_words, read_command, command_or_end, command_turn, read_commands, closing, after_script}
-use Rattle.tcl_parser.specs.Grammar.{White, begins_white, Gap, begins_gap, CommandEnd, Braced, Parts, PartsFault, WordParts, Mark, Word, Words, ReadsAt, ScriptEnds, WordPartsFault, WordsFault, FaultAt, ScriptFault, EndsWithin, FailsWithin}
+use Rattle.tcl_parser.specs.Several.{Turn, over, next, led_by, and_then}
+use Rattle.tcl_parser.specs.Reading.{◌>>=◌, Level, read_parts, joined_parts, joined, with_literal, closed, in_braces, after_white, after_gap, word_ends, command_ends, after_command, is_expanded, read_word_parts, marked, read_word, word_next, word_or_end, word_turn, read_words, read_command, command_or_end, read_commands, closing, after_script}
+use Rattle.tcl_parser.specs.Grammar.{White, begins_white, Gap, begins_gap, CommandEnd, Braced, WordParts, Mark, Word, Words, ReadsAt, ScriptEnds, WordPartsFault, WordsFault, FaultAt, ScriptFault, EndsWithin, FailsWithin}
 use Rattle.tcl_parser.specs.Grammar.White.{no_white, space, white_line}
 use Rattle.tcl_parser.specs.Grammar.CommandEnd.{text_ends, separator, bracket_comes}
 use Rattle.tcl_parser.specs.Grammar.WordParts.{word_in_quotes, word_in_braces, bare_word}

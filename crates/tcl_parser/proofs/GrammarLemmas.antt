@@ -1,15 +1,14 @@
 -- The forms of a script's text that hold no other: their rules and the functions that read them say the same.
-use Rattle.std.proofs.Common.{◌≡◌, ℕ, zero, suc, ◌+◌, ◌-◌, ◌<◌, ◌≤◌, ◌∙◌, Bool, true, false, cond, not, ◌&&◌, ◌||◌, ◌==◌, List, [], ◌∷◌, ◌++◌, length, take, drop, Result, Ok, Err, refl, ap, sym, subst, inl, inr, arith, length-drop}
+use Rattle.std.proofs.Common.{◌≡◌, ℕ, zero, suc, ◌-◌, ◌<◌, ◌∙◌, Bool, true, false, cond, ◌&&◌, ◌||◌, ◌==◌, List, [], ◌∷◌, ◌++◌, length, drop, Result, Ok, Err, refl, ap, sym, subst, inl, inr, arith, length-drop}
 use Rattle.std.specs.List.{prefix_len}
-use Rattle.std.proofs.lemmas.Bool.{cases_Bool, false≢true, or_from, or_parts, and_parts, or_cases, and_cases, and_left, and_right, and_from, or_left}
+use Rattle.std.proofs.lemmas.Bool.{cases_Bool, or_from, or_parts, and_parts, and_left, and_right, and_from, or_left}
 use Rattle.std.proofs.lemmas.Bool.Decides.{nat_tests}
-use Rattle.std.proofs.Math.Bool.{or-false}
 use Rattle.tcl_text.specs.Backslash.{is_blank}
 use Rattle.tcl_parser.specs.declared.fault.Fault.{Fault}
 use Rattle.tcl_parser.specs.declared.fault.Fault.TheVariants.{CloseBrace}
 use Rattle.tcl_parser.specs.declared.scan.Run.{Run}
-use Rattle.tcl_parser.specs.Characters.{is_white, is_separator, is_command_end, is_name_character}
-use Rattle.tcl_parser.specs.Texts.{EndsWith, begins_with}
+use Rattle.tcl_parser.specs.Characters.{is_white, is_separator, is_name_character}
+use Rattle.tcl_parser.specs.Texts.{begins_with}
 use Rattle.tcl_parser.specs.Runs.{ends_run, run_of, after_run}
 use Rattle.tcl_parser.specs.Reading.{after_white, after_gap, command_ends, after_command, put, in_braces, after_name, before}
 use Rattle.tcl_parser.specs.Grammar.{White, begins_white, Comment, Gap, begins_gap, CommandEnd, Braced, Name, name_goes_on, Lacks, Meets}

@@ -1,6 +1,6 @@
 -- Names, and the mark `{*}`.
-use Rattle.std.proofs.Common.{◌≡◌, ◌≢◌, ℕ, ◌+◌, ◌<◌, ◌≤◌, ◌∙◌, Bool, true, false, cond, not, ◌&&◌, ◌||◌, ◌==◌, List, [], ◌∷◌, ◌++◌, length, drop, refl, ap, sym, inl, inr, arith}
-use Rattle.std.proofs.lemmas.Bool.{cases_Bool, ne_eqb, or_parts}
+use Rattle.std.proofs.Common.{◌≡◌, ◌≢◌, ℕ, ◌∙◌, Bool, true, false, not, ◌==◌, List, [], ◌∷◌, drop, refl, ap, sym, arith}
+use Rattle.std.proofs.lemmas.Bool.{ne_eqb}
 use Rattle.std.proofs.lemmas.Bool.Decides.{nat_tests}
 use Rattle.tcl_parser.specs.Characters.{is_name_character}
 use Rattle.tcl_parser.specs.Texts.{EndsWith, begins_with, IsNotAscii}

@@ -1,17 +1,16 @@
 -- The parts of words leave ends of the text.
-use Rattle.std.proofs.Common.{◌≡◌, ℕ, zero, suc, ◌+◌, ◌-◌, ◌<◌, ◌≤◌, ◌∙◌, Bool, true, false, cond, ◌==◌, List, [], ◌∷◌, ◌++◌, length, take, drop, Option, Some, None, Result, Ok, Err, refl, ap, sym, subst, inl, inr, arith, length-drop}
-use Rattle.std.proofs.lemmas.Bool.{cases_Bool, or_from, or_parts}
-use Rattle.std.proofs.lemmas.Bool.Decides.{nat_tests}
+use Rattle.std.proofs.Common.{◌≡◌, ℕ, zero, suc, ◌+◌, ◌<◌, ◌≤◌, ◌∙◌, Bool, true, false, cond, ◌==◌, List, [], ◌∷◌, length, drop, Some, None, Result, Ok, Err, refl, ap, sym, subst, arith}
+use Rattle.std.proofs.lemmas.Bool.{or_from, or_parts}
 use Rattle.tcl_text.specs.Backslash.{escape, escape_rest}
 use Rattle.tcl_parser.specs.declared.fault.Fault.{Fault}
 use Rattle.tcl_parser.specs.declared.script.Part.{Part}
-use Rattle.tcl_parser.specs.declared.script.Part.TheVariants.{Literal, Variable, Element, EndElement, Script}
+use Rattle.tcl_parser.specs.declared.script.Part.TheVariants.{Literal, Variable, Element, EndElement}
 use Rattle.tcl_parser.specs.declared.scan.Run.{Run}
 use Rattle.tcl_parser.specs.declared.scan.Run.TheVariants.{VariableName}
-use Rattle.tcl_parser.specs.Characters.{is_white, is_command_end, is_substitution}
+use Rattle.tcl_parser.specs.Characters.{is_substitution}
 use Rattle.tcl_parser.specs.Texts.{EndsWith}
-use Rattle.tcl_parser.specs.Runs.{ends_run, run_of, after_run, run_len}
-use Rattle.tcl_parser.specs.Several.{Turn, over, next, Several, several, and_then}
+use Rattle.tcl_parser.specs.Runs.{ends_run, after_run, run_len}
+use Rattle.tcl_parser.specs.Several.{Turn, over, next, and_then}
 use Rattle.tcl_parser.specs.Reading.{Level, Place, PartTurn, part_turn, braced_variable, named_variable, after_dollar, script_turn, plain_turn, substituted, end_or, read_part, read_parts, run_at, after_name, before, word_ends}
 use Rattle.tcl_parser.proofs.EndLemmas.{EndsWith-itself, EndsWith-more, EndsWith-drop, EndsWith-trans, EndsWith-length}
 use Rattle.tcl_parser.proofs.NameLemmas.{EndsWith-after_name}

@@ -1,22 +1,21 @@
 -- Parts of words: the rules and the function that reads them say the same, where they do so of scripts in brackets.
-use Rattle.std.proofs.Common.{◌≡◌, ℕ, zero, suc, ◌+◌, ◌-◌, ◌<◌, ◌≤◌, ◌∙◌, Bool, true, false, cond, ◌||◌, ◌==◌, List, [], ◌∷◌, ◌++◌, length, take, drop, Option, Some, None, Result, Ok, Err, refl, ap, sym, subst, inl, inr, arith, append-nil, length-append}
+use Rattle.std.proofs.Common.{◌≡◌, ℕ, zero, suc, ◌+◌, ◌<◌, ◌∙◌, Bool, true, false, cond, ◌||◌, ◌==◌, List, [], ◌∷◌, ◌++◌, length, drop, Some, None, Result, Ok, Err, refl, ap, sym, subst, arith, append-nil, length-append}
 use Rattle.std.proofs.lemmas.List.{take-append-drop}
-use Rattle.std.proofs.lemmas.Bool.{cases_Bool, false≢true, or_from, or_parts}
+use Rattle.std.proofs.lemmas.Bool.{false≢true, or_from, or_parts}
 use Rattle.std.proofs.lemmas.Bool.Decides.{nat_tests}
 use Rattle.tcl_text.specs.Backslash.{escape, escape_rest}
 use Rattle.tcl_parser.specs.declared.fault.Fault.{Fault}
 use Rattle.tcl_parser.specs.declared.fault.Fault.TheVariants.{VariableBrace, CloseQuote, CloseParenthesis}
 use Rattle.tcl_parser.specs.declared.script.Part.{Part}
 use Rattle.tcl_parser.specs.declared.script.Part.TheVariants.{Literal, Variable, Element, EndElement, Script}
-use Rattle.tcl_parser.specs.declared.scan.Run.{Run}
 use Rattle.tcl_parser.specs.declared.scan.Run.TheVariants.{VariableName}
-use Rattle.tcl_parser.specs.Characters.{is_name_character, is_substitution}
-use Rattle.tcl_parser.specs.Texts.{EndsWith, begins_with}
+use Rattle.tcl_parser.specs.Characters.{is_substitution}
+use Rattle.tcl_parser.specs.Texts.{begins_with}
 use Rattle.tcl_parser.specs.Runs.{ends_run, run_of, after_run, run_len}
 use Rattle.tcl_parser.specs.Several.{Turn, over, next, Several, led_by, and_then}
 use Rattle.tcl_parser.specs.Reading.{Level, Place, PartTurn, part_turn, braced_variable, named_variable, after_dollar, script_turn, plain_turn, substituted, part_end, end_or, read_part, read_parts, run_at, after_name, before, word_ends}
 use Rattle.tcl_parser.specs.Grammar.{Name, name_goes_on, begins_variable, Lacks, Meets, OnePart, part_ends, Parts, PartFault, PartsFault}
-use Rattle.tcl_parser.specs.Grammar.Name.{name_ends, name_character, name_colons, name_colon}
+use Rattle.tcl_parser.specs.Grammar.Name.{name_ends, name_character, name_colons}
 use Rattle.tcl_parser.specs.Grammar.OnePart.{backslash_sequence, script, variable_in_braces, variable, element, lone_dollar, characters}
 use Rattle.tcl_parser.specs.Grammar.Parts.{word_over, quotes_close, index_closes, part_first}
 use Rattle.tcl_parser.specs.Grammar.PartFault.{name_open, script_fails}

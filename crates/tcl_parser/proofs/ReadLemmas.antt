@@ -1,5 +1,5 @@
 -- What the functions that build scripts go by.
-use Rattle.std.proofs.Common.{◌≡◌, ℕ, zero, suc, ◌+◌, ◌<◌, ◌≤◌, ◌∙◌, Bool, true, false, List, [], ◌∷◌, ◌++◌, ◌==◌, length, Option, Some, None, Result, Ok, Err, refl, ap, sym, subst, arith, append_assoc, append-nil}
+use Rattle.std.proofs.Common.{◌≡◌, ℕ, ◌<◌, ◌∙◌, Bool, true, false, List, [], ◌∷◌, ◌++◌, ◌==◌, length, Result, Ok, Err, refl, ap, sym, subst, arith, append_assoc, append-nil}
 use Rattle.std.proofs.lemmas.Bool.{false≢true}
 use Rattle.std.proofs.lemmas.Bool.Decides.{nat_tests}
 use Rattle.tcl_parser.specs.declared.fault.Fault.{Fault}
@@ -7,13 +7,13 @@ use Rattle.tcl_parser.specs.declared.reader.Stop.{Stop}
 use Rattle.tcl_parser.specs.declared.reader.Stop.TheVariants as stops
 use Rattle.tcl_parser.specs.declared.script.Part.{Part}
 use Rattle.tcl_parser.specs.Words.{WordRead, Reading}
-use Rattle.tcl_parser.specs.Several.{Turn, over, next, Several, led_by, and_then}
-use Rattle.tcl_parser.specs.Reading.{◌>>=◌, Level, level_at, read_part, read_parts, joined_parts, joined, with_literal, with_part, after_white, after_gap, command_ends, after_command, read_word, read_words, read_command, command_turn, command_or_end, read_commands, fault_of, read_script}
+use Rattle.tcl_parser.specs.Several.{over, next, Several, led_by, and_then}
+use Rattle.tcl_parser.specs.Reading.{◌>>=◌, level_at, read_part, read_parts, joined_parts, joined, with_literal, with_part, after_white, after_gap, command_ends, after_command, read_word, read_words, read_command, command_or_end, read_commands, fault_of, read_script}
 use Rattle.tcl_parser.specs.Building.{Adds, Stops}
 use Rattle.tcl_parser.proofs.PartLemmas.{read_parts-is}
 use Rattle.tcl_parser.proofs.WordLemmas.{read_commands-is, command_turn-falls}
 use Rattle.tcl_parser.proofs.SeveralLemmas.{Falls}
-use Rattle.tcl_parser.proofs.SkipLemmas.{level-ends, parts_over, parts_fault, parts_next, words_end, words_word, words_fault}
+use Rattle.tcl_parser.proofs.SkipLemmas.{level-ends, parts_over, parts_next, words_end, words_word, words_fault}
 
 -- ## Parts
 

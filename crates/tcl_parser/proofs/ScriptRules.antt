@@ -1,14 +1,13 @@
 -- Commands and scripts: the rules and the function that reads them say the same.
-use Rattle.std.proofs.Common.{◌≡◌, ℕ, zero, suc, ◌+◌, ◌-◌, ◌<◌, ◌≤◌, ◌∙◌, Bool, true, false, nat_lt, List, [], ◌∷◌, ◌⊎◌, ◌↔◌, length, Option, Some, None, Result, Ok, Err, refl, ap, sym, subst, inl, inr, arith}
+use Rattle.std.proofs.Common.{◌≡◌, ℕ, zero, suc, ◌-◌, ◌<◌, ◌∙◌, List, [], ◌∷◌, length, Option, Result, Ok, Err, refl, ap, sym, subst, inl, inr, arith}
 use Rattle.tcl_parser.specs.declared.fault.Fault.{Fault}
 use Rattle.tcl_parser.specs.Words.{WordRead, Reading}
-use Rattle.tcl_parser.specs.Several.{Turn, over, next, Several, led_by, and_then}
-use Rattle.tcl_parser.specs.Reading.{◌>>=◌, Level, level_at, after_script, read_command, command_or_end, read_commands, fault_of, read_script}
-use Rattle.tcl_parser.specs.Grammar.{Reads, HasFault, EndsWithin, FailsWithin, ReadsAll, OneReading, OneFault, IsDecided}
+use Rattle.tcl_parser.specs.Several.{Several, and_then}
+use Rattle.tcl_parser.specs.Reading.{◌>>=◌, level_at, read_command, command_or_end, read_commands, fault_of, read_script}
+use Rattle.tcl_parser.specs.Grammar.{Reads, HasFault, EndsWithin, FailsWithin, ReadsAll, IsDecided}
 use Rattle.tcl_parser.specs.Grammar.ReadsAll.{all_read, first_read, fault_comes}
 use Rattle.tcl_parser.proofs.SeveralLemmas.{Falls}
 use Rattle.tcl_parser.proofs.WordLemmas.{command_turn-falls}
-use Rattle.tcl_parser.proofs.PartRules.{Agrees}
 use Rattle.tcl_parser.proofs.CommandRules.{agrees_within, command_read, command_fail, command_said, CommandSaid, by_command}
 
 -- ## Commands

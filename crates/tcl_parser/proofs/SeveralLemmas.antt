@@ -1,5 +1,5 @@
 -- Things that are read one after another.
-use Rattle.std.proofs.Common.{◌≡◌, ℕ, zero, suc, ◌+◌, ◌<◌, ◌≤◌, ◌∙◌, List, [], ◌∷◌, length, Result, Ok, Err, refl, ap, sym, subst, arith}
+use Rattle.std.proofs.Common.{◌≡◌, ℕ, zero, suc, ◌<◌, ◌∙◌, List, [], ◌∷◌, length, Result, Ok, Err, refl, ap, sym, subst, arith}
 use Rattle.tcl_parser.specs.declared.fault.Fault.{Fault}
 use Rattle.tcl_parser.specs.Texts.{EndsWith}
 use Rattle.tcl_parser.specs.Several.{Turn, over, next, Several, led_by, and_then, several}

@@ -1,14 +1,14 @@
 -- What the functions that skip forms go by: one turn of what a text reads as.
-use Rattle.std.proofs.Common.{◌≡◌, ℕ, zero, suc, ◌+◌, ◌-◌, ◌<◌, ◌≤◌, ◌∙◌, Bool, true, false, cond, nat_lt, ◌||◌, List, [], ◌∷◌, length, drop, Result, Ok, Err, refl, ap, sym, subst, arith}
+use Rattle.std.proofs.Common.{◌≡◌, ℕ, suc, ◌+◌, ◌-◌, ◌<◌, ◌≤◌, ◌∙◌, Bool, true, false, cond, nat_lt, ◌||◌, List, [], ◌∷◌, length, drop, Result, Ok, Err, refl, ap, sym, subst, arith}
 use Rattle.std.proofs.lemmas.Bool.{lt-ltb, false≢true}
 use Rattle.std.proofs.Math.Bool.{or-false}
 use Rattle.tcl_parser.specs.declared.fault.Fault.{Fault}
-use Rattle.tcl_parser.specs.declared.fault.Fault.TheVariants.{AfterQuote, AfterBrace, CloseBracket, TooDeep}
+use Rattle.tcl_parser.specs.declared.fault.Fault.TheVariants.{CloseBracket, TooDeep}
 use Rattle.tcl_parser.specs.declared.script.Part.{Part}
 use Rattle.tcl_parser.specs.Texts.{EndsWith, begins_with}
 use Rattle.tcl_parser.specs.Words.{WordRead}
-use Rattle.tcl_parser.specs.Several.{Turn, over, next, Several, led_by, and_then}
-use Rattle.tcl_parser.specs.Reading.{◌>>=◌, Level, Place, level_at, read_part, read_parts, joined_parts, joined, with_literal, closed, in_braces, after_white, after_gap, word_ends, command_ends, after_command, is_expanded, read_word_parts, marked, read_word, word_next, word_turn, read_words, read_command, command_turn, command_or_end, read_commands, closing, after_script}
+use Rattle.tcl_parser.specs.Several.{over, next, Several, led_by, and_then}
+use Rattle.tcl_parser.specs.Reading.{◌>>=◌, level_at, read_part, read_parts, joined_parts, joined, after_white, after_gap, word_ends, command_ends, after_command, is_expanded, read_word_parts, marked, read_word, word_next, word_turn, read_words, read_command, command_or_end, read_commands, closing, after_script}
 use Rattle.tcl_parser.specs.Pieces.{rest_of, skimmed, is_some_list}
 use Rattle.tcl_parser.proofs.EndLemmas.{EndsWith-length}
 use Rattle.tcl_parser.proofs.PartLemmas.{LeavesEnds, Turns, read_part-turns, read_parts-is}

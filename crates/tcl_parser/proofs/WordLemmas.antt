@@ -1,16 +1,16 @@
 -- Words, commands and scripts leave ends of the text.
-use Rattle.std.proofs.Common.{◌≡◌, ℕ, zero, suc, ◌+◌, ◌-◌, ◌<◌, ◌≤◌, ◌∙◌, Bool, true, false, cond, not, ◌&&◌, ◌||◌, ◌==◌, List, [], ◌∷◌, ◌++◌, length, take, drop, Result, Ok, Err, refl, ap, sym, subst, inl, inr, arith, length-drop}
-use Rattle.std.proofs.lemmas.Bool.{cases_Bool, or_from, or_parts, and_parts}
+use Rattle.std.proofs.Common.{◌≡◌, ℕ, zero, suc, ◌-◌, ◌<◌, ◌∙◌, Bool, true, false, cond, not, ◌&&◌, ◌==◌, List, [], ◌∷◌, length, drop, Result, Ok, Err, refl, subst, inl, inr, arith, length-drop}
+use Rattle.std.proofs.lemmas.Bool.{cases_Bool, and_parts}
 use Rattle.std.proofs.Math.Bool.{or-false}
 use Rattle.tcl_text.specs.Backslash.{is_blank}
 use Rattle.tcl_parser.specs.declared.fault.Fault.{Fault}
 use Rattle.tcl_parser.specs.declared.fault.Fault.TheVariants.{AfterQuote, AfterBrace}
 use Rattle.tcl_parser.specs.declared.script.Part.{Part}
 use Rattle.tcl_parser.specs.Characters.{is_white, is_separator, is_command_end}
-use Rattle.tcl_parser.specs.Texts.{EndsWith, begins_with}
+use Rattle.tcl_parser.specs.Texts.{EndsWith}
 use Rattle.tcl_parser.specs.Words.{WordRead}
-use Rattle.tcl_parser.specs.Several.{Turn, over, next, Several, several, and_then}
-use Rattle.tcl_parser.specs.Reading.{◌>>=◌, Level, read_parts, joined_parts, joined, with_literal, closed, put, in_braces, after_white, after_gap, word_ends, command_ends, after_command, is_expanded, read_word_parts, marked, read_word, word_next, word_or_end, word_turn, read_words, read_command, command_or_end, command_turn, read_commands, closing, after_script}
+use Rattle.tcl_parser.specs.Several.{Turn, over, Several, and_then}
+use Rattle.tcl_parser.specs.Reading.{◌>>=◌, Level, read_parts, joined_parts, joined, with_literal, closed, put, in_braces, after_white, after_gap, word_ends, command_ends, after_command, is_expanded, read_word_parts, marked, read_word, word_next, word_turn, read_words, command_or_end, command_turn, read_commands, closing, after_script}
 use Rattle.tcl_parser.proofs.EndLemmas.{EndsWith-itself, EndsWith-more, EndsWith-drop, EndsWith-trans, EndsWith-length, EndsWith-cond}
 use Rattle.tcl_parser.proofs.SeveralLemmas.{Falls, AllFall, several-is, several-ends, several-some}
 use Rattle.tcl_parser.proofs.PartLemmas.{LeavesEnds, read_parts-ends, bare_word-shorter}

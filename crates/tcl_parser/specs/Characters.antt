@@ -1,5 +1,5 @@
 -- The characters that mean something in a script, as bytes: each is ASCII, and UTF-8 hides no ASCII byte in another character.
-use Rattle.std.specs.Prelude.{ℕ, ◌==◌, Bool, ◌&&◌, ◌||◌, not}
+use Rattle.std.specs.Prelude.{ℕ, ◌==◌, Bool, ◌&&◌, ◌||◌}
 use Rattle.std.specs.Int.{is_in_range}
 
 abbrev pub newline : ℕ

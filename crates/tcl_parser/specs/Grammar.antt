@@ -1,13 +1,12 @@
 -- The grammar of scripts, rule by rule: how a text reads, and which fault it has where it can't be read. Lists are the
 -- bytes of texts. `Reading.antt` has the function that decides it.
-use Rattle.std.specs.Prelude.{◌≡◌, ◌≢◌, ℕ, zero, suc, ◌-◌, ◌==◌, nat_lt, Bool, true, false, ◌&&◌, ◌||◌, List, [], ◌∷◌, ◌++◌, drop, Option, Some, None, ◌⊎◌}
+use Rattle.std.specs.Prelude.{◌≡◌, ℕ, zero, suc, ◌-◌, ◌==◌, nat_lt, Bool, true, false, ◌&&◌, ◌||◌, List, [], ◌∷◌, ◌++◌, drop, Option, Some, None, ◌⊎◌}
 use Rattle.std.specs.List.{prefix_len}
 use Rattle.tcl_text.specs.Backslash.{escape, escape_rest, is_blank}
 use Rattle.tcl_parser.specs.declared.fault.Fault.{Fault}
 use Rattle.tcl_parser.specs.declared.fault.Fault.TheVariants.{CloseBrace, VariableBrace, CloseQuote, CloseBracket, AfterBrace, AfterQuote, CloseParenthesis, TooDeep}
 use Rattle.tcl_parser.specs.declared.script.Part.{Part}
 use Rattle.tcl_parser.specs.declared.script.Part.TheVariants.{Literal, Variable, Element, EndElement, Script}
-use Rattle.tcl_parser.specs.declared.scan.Run.TheVariants.{VariableName}
 use Rattle.tcl_parser.specs.Words.{WordRead}
 use Rattle.tcl_parser.specs.Characters.{newline, quote, hash, dollar, open_parenthesis, close_parenthesis, asterisk, colon, open_bracket, backslash, close_bracket, open_brace, close_brace, is_white, is_separator, is_name_character}
 use Rattle.tcl_parser.specs.Texts.{begins_with}

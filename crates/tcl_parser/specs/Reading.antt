@@ -1,6 +1,5 @@
 -- What a script reads as: the commands of a text, in order, and the fault that comes after them.
-use Rattle.std.specs.Prelude.{ℕ, zero, suc, ◌+◌, ◌-◌, ◌==◌, nat_lt, Bool, true, false, ◌&&◌, ◌||◌, not, cond, List, [], ◌∷◌, ◌++◌, length, take, drop, take_while, Option, Some, None, Result, Ok, Err}
-use Rattle.std.specs.List.{prefix_len}
+use Rattle.std.specs.Prelude.{ℕ, zero, suc, ◌-◌, ◌==◌, nat_lt, Bool, true, false, ◌&&◌, ◌||◌, not, cond, List, [], ◌∷◌, ◌++◌, length, take, drop, Option, Some, None, Result, Ok, Err}
 use Rattle.tcl_text.specs.Backslash.{escape, escape_rest, is_blank}
 use Rattle.tcl_parser.specs.declared.fault.Fault.{Fault}
 use Rattle.tcl_parser.specs.declared.fault.Fault.TheVariants.{CloseBrace, VariableBrace, CloseQuote, CloseBracket, AfterBrace, AfterQuote, CloseParenthesis, TooDeep}
@@ -11,7 +10,7 @@ use Rattle.tcl_parser.specs.declared.scan.Run.{Run}
 use Rattle.tcl_parser.specs.declared.scan.Run.TheVariants.{VariableName, Index, Quotes, Bare}
 use Rattle.tcl_parser.specs.Texts.{begins_with}
 use Rattle.tcl_parser.specs.Runs.{run_of, after_run}
-use Rattle.tcl_parser.specs.Characters.{newline, quote, hash, dollar, open_parenthesis, close_parenthesis, asterisk, colon, open_bracket, backslash, close_bracket, open_brace, close_brace, is_white, is_separator, is_command_end, is_name_character, is_substitution}
+use Rattle.tcl_parser.specs.Characters.{newline, quote, hash, dollar, open_parenthesis, close_parenthesis, asterisk, colon, open_bracket, backslash, close_bracket, open_brace, close_brace, is_white, is_separator, is_command_end, is_name_character}
 use Rattle.tcl_parser.specs.Several.{Turn, over, next, Several, several}
 
 infixl 10 ◌>>=◌

@@ -1,5 +1,5 @@
 -- Texts and what they end in.
-use Rattle.std.specs.Prelude.{◌≡◌, ℕ, ◌==◌, ◌≤◌, nat_lt, cond, Bool, true, false, List, [], ◌∷◌, ◌++◌, length}
+use Rattle.std.specs.Prelude.{◌≡◌, ℕ, ◌==◌, ◌≤◌, nat_lt, cond, Bool, false, List, [], ◌∷◌, ◌++◌}
 
 -- a text ends with another
 pub record EndsWith (s rest : List ℕ) : Type 0 where

@@ -1,4 +1,4 @@
-use Rattle.std.proofs.Common.{◌≡◌, ◌∙◌, ◌++◌, ◌==◌, true, false, length, vec_len, ap, sym, subst, Ok, Err, arith, rules}
+use Rattle.std.proofs.Common.{◌≡◌, ◌∙◌, ◌++◌, ◌==◌, length, vec_len, ap, sym, subst, Err, arith, rules}
 use Rattle.tcl_parser.specs.Reading.{level_at, read_command, read_commands}
 use Rattle.tcl_parser.specs.Words.{Reading}
 use Rattle.tcl_parser.specs.Grammar.{ReadsAll}

@@ -1,4 +1,4 @@
-use Rattle.std.proofs.Common.{◌≡◌, ◌∙◌, ◌++◌, ap, sym, Ok, arith, rules}
+use Rattle.std.proofs.Common.{◌∙◌, ◌++◌, ap, sym, rules}
 use Rattle.std.proofs.lemmas.Result.{err_from_is_err_and}
 use Rattle.tcl_parser.specs.Reading.{level_at, read_words}
 use Rattle.tcl_parser.proofs.SkipLemmas.{words_word, word_falls}

@@ -1,7 +1,6 @@
-use Rattle.std.proofs.Common.{◌≡◌, ◌∙◌, ap, sym, Ok, arith, rules}
+use Rattle.std.proofs.Common.{◌∙◌, ap, sym, Ok, arith, rules}
 use Rattle.std.proofs.lemmas.Result.{err_from_is_err_and}
-use Rattle.tcl_parser.specs.Reading.{level_at, read_parts}
-use Rattle.tcl_parser.specs.Pieces.{turn_of, part_of}
+use Rattle.tcl_parser.specs.Pieces.{turn_of}
 use Rattle.tcl_parser.proofs.SkipLemmas.{parts_fault, parts_next, part_falls}
 use Rattle.tcl_parser.proofs.ReadLemmas.{parts_added, parts_done, joined_fault}
 use Rattle.tcl_parser.proofs.reader.read_parts.Goals as goal

@@ -1,7 +1,7 @@
-use Rattle.std.proofs.Common.{◌≡◌, ◌∙◌, sym, ap}
+use Rattle.std.proofs.Common.{◌∙◌, sym}
 use Rattle.tcl_parser.proofs.RunLemmas.{after_run_end}
 use Rattle.tcl_parser.specs.declared.scan.Run.TheVariants.{Braces}
-use Rattle.tcl_parser.proofs.BraceLemmas.{run_in_braces, run_reads, no_run, brace_closes, brace_closes_inner, brace_opens, brace_missing}
+use Rattle.tcl_parser.proofs.BraceLemmas.{run_reads, no_run, brace_closes, brace_closes_inner, brace_opens, brace_missing}
 use Rattle.tcl_parser.proofs.scan.next_in_braces.Goals as goal
 
 pub returns-then-not-is_empty-clause-reads : goal.returns-then-not-is_empty-clause-reads

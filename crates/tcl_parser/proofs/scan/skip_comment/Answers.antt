@@ -1,4 +1,4 @@
-use Rattle.std.proofs.Common.{true, ◌≡◌, ◌≤◌, ◌∙◌, length, sym, arith, ap}
+use Rattle.std.proofs.Common.{true, ◌∙◌, length, sym, arith, ap}
 use Rattle.tcl_parser.specs.declared.scan.Run.TheVariants.{Comment}
 use Rattle.tcl_parser.specs.Reading.{after_gap}
 use Rattle.tcl_parser.proofs.RunLemmas.{after_run_len}

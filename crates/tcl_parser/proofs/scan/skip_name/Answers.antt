@@ -1,6 +1,5 @@
-use Rattle.std.proofs.Common.{◌≡◌, ◌∙◌, false, sym, subst}
+use Rattle.std.proofs.Common.{◌∙◌, false, sym, subst}
 use Rattle.tcl_parser.specs.Texts.{EndsWith}
-use Rattle.tcl_parser.specs.Reading.{after_name}
 use Rattle.tcl_parser.proofs.NameLemmas.{EndsWith-after_name}
 use Rattle.tcl_parser.proofs.scan.skip_name.Goals as goal
 

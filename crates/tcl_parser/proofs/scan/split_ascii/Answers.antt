@@ -1,4 +1,4 @@
-use Rattle.std.proofs.Common.{◌≡◌, ◌<◌, length, get_or, arith, ap, sym, ◌∙◌}
+use Rattle.std.proofs.Common.{◌<◌, length, get_or, arith, ap, sym, ◌∙◌}
 use Rattle.std.proofs.lemmas.Str.{IsCharBoundary-after_ascii}
 use Rattle.std.proofs.lemmas.Bool.Decides.{nat_tests}
 use Rattle.tcl_parser.proofs.scan.split_ascii.Goals as goal

@@ -1,4 +1,4 @@
-use Rattle.std.proofs.Common.{◌≡◌, ◌<◌, ◌≤◌, ◌∙◌, true, false, length, get_or, take, drop, ap, sym, arith}
+use Rattle.std.proofs.Common.{◌≡◌, ◌∙◌, true, false, length, get_or, take, drop, ap, sym, arith}
 use Rattle.tcl_parser.specs.Runs.{ends_run, run_len}
 use Rattle.tcl_parser.proofs.RunLemmas.{run_grows, run_stops, run_ends, run_boundary, run_end_boundary}
 use Rattle.tcl_parser.proofs.scan.split_run.Goals as goal

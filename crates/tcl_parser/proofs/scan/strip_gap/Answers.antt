@@ -1,4 +1,4 @@
-use Rattle.std.proofs.Common.{rules, ◌≡◌, ◌||◌, ◌∙◌, true, sym}
+use Rattle.std.proofs.Common.{◌≡◌, ◌||◌, ◌∙◌, true, sym}
 use Rattle.std.proofs.lemmas.Bool.{or_left, or_right, or_from}
 use Rattle.tcl_parser.specs.Characters.{is_white, is_separator}
 use Rattle.tcl_parser.proofs.GapLemmas.{gap_goes_on, gap_comment, gap_line, gap_stops_end, gap_stops_plain, gap_stops_lone}

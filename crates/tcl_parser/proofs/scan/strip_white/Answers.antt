@@ -1,4 +1,4 @@
-use Rattle.std.proofs.Common.{rules, ◌≡◌, ◌∙◌, sym}
+use Rattle.std.proofs.Common.{◌∙◌, sym}
 use Rattle.tcl_parser.proofs.GapLemmas.{white_goes_on, white_line, white_stops_end, white_stops_plain, white_stops_lone}
 use Rattle.tcl_parser.proofs.scan.strip_white.Goals as goal
 

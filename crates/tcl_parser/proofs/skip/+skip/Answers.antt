@@ -1,8 +1,7 @@
-use Rattle.std.proofs.Common.{◌≡◌, ◌∙◌, ap, sym, true, false, ◌||◌, ◌+◌, ℕ, List, Ok, subst, arith, Bor, rules}
+use Rattle.std.proofs.Common.{◌∙◌, ap, sym, ◌||◌, ◌+◌, ℕ, List, Ok, subst, arith, Bor, rules}
 use Rattle.std.proofs.lemmas.Result.{err_from_is_err_and}
-use Rattle.tcl_parser.specs.Reading.{level_at, closing}
 use Rattle.tcl_parser.specs.Pieces.{Gives, turn_of, is_some_list}
-use Rattle.tcl_parser.proofs.SkipLemmas.{level-ends, parts_over, parts_next, parts_fault, part_falls, word_marked, word_unmarked, words_word, word_falls, some_word, command_over, command_fault, commands_over, commands_next, commands_fault, script_too_deep, script_ends, script_fault, script_suffix, closes, closes_not, or-true}
+use Rattle.tcl_parser.proofs.SkipLemmas.{parts_over, parts_next, parts_fault, part_falls, word_marked, word_unmarked, words_word, word_falls, some_word, command_over, command_fault, commands_next, script_too_deep, script_ends, script_fault, script_suffix, closes, closes_not, or-true}
 use Rattle.tcl_parser.proofs.skip.+skip.Goals as goal
 
 pub skip_command-returns-then-command_ends : goal.skip_command-returns-then-command_ends

@@ -1,4 +1,4 @@
-use Rattle.std.proofs.Common.{◌≡◌, ap, sym, ◌∙◌}
+use Rattle.std.proofs.Common.{ap, sym, ◌∙◌}
 use Rattle.tcl_parser.specs.Reading.{braced_variable}
 use Rattle.tcl_parser.proofs.RunLemmas.{no_close_brace}
 use Rattle.tcl_parser.proofs.skip.read_braced_variable.Goals as goal
