@@ -7,13 +7,12 @@ use Rattle.tcl_expr_grammar.specs.declared.grammar.Misfit.TheVariants as misfits
 use Rattle.tcl_expr_grammar.specs.Trees.{Tree}
 use Rattle.tcl_expr_grammar.specs.Grammar.{IsExpression, Begins}
 use Rattle.tcl_expr_grammar.specs.Misfits.{IsMisfit, Fails, fitting, early}
-use Rattle.tcl_expr_grammar.specs.Reading.{State, Step, wanting, run, finish, finished, read_tokens}
+use Rattle.tcl_expr_grammar.specs.Reading.{Step, wanting, run, finish, finished}
 use Rattle.tcl_expr_grammar.proofs.Misfits.{begins, reads, fails, faults}
 use Rattle.tcl_expr_grammar.proofs.Soundness.{expression}
 use Rattle.tcl_expr_grammar.proofs.Completeness as complete
 use Rattle.tcl_expr.specs.declared.fault.ExprFault.{ExprFault}
-use Rattle.tcl_expr.specs.declared.fault.ExprFault.TheVariants.{Syntax}
-use Rattle.tcl_expr.specs.Expressions.{Lexemes, tokens_of, deepest, IsExpr, fault_of, HasFault, misfit, unreadable, early as ends_early, told, completed, expression_of, GivesTree, GivesFault, OneTree, OneFault, Decided}
+use Rattle.tcl_expr.specs.Expressions.{tokens_of, deepest, fault_of, HasFault, misfit, unreadable, early as ends_early, told, completed, expression_of, GivesTree, GivesFault, OneTree, OneFault, Decided}
 
 -- where only white space is left
 at_end : (x : Step) (stop : Option ExprFault) → stop ≡ None → completed x stop ≡ told (finished x)

@@ -1,11 +1,9 @@
 -- Variables and scripts in brackets, part by part.
-use Rattle.std.proofs.Common.{◌≡◌, ◌∙◌, sym, ap, subst, refl, ℕ, zero, suc, ◌+◌, ◌≤◌, ◌<◌, Bool, true, false, cond, List, [], ◌∷◌, length, Result, Ok, Err, arith}
+use Rattle.std.proofs.Common.{◌≡◌, ◌∙◌, sym, ap, subst, refl, ℕ, zero, suc, ◌≤◌, ◌<◌, true, List, length, Result, Ok, Err, arith}
 use Rattle.tcl_parser.specs.declared.fault.Fault.{Fault}
 use Rattle.tcl_parser.specs.declared.script.Part.{Part}
-use Rattle.tcl_parser.specs.Texts.{EndsWith}
 use Rattle.tcl_parser.specs.Several.{over, next as more}
 use Rattle.tcl_parser.specs.Reading.{Place, PartTurn, level_at, read_part}
-use Rattle.tcl_parser.proofs.EndLemmas.{EndsWith-itself, EndsWith-trans, EndsWith-length}
 use Rattle.tcl_parser.proofs.PartLemmas.{Turns, read_part-turns}
 use Rattle.tcl_parser.proofs.SkipLemmas.{level-ends}
 use Rattle.tcl_expr.specs.Tokens.{part_read, after_parts, after_substitution}

@@ -1,5 +1,5 @@
 -- White space and words, character by character.
-use Rattle.std.proofs.Common.{◌≡◌, ◌∙◌, sym, ap, subst, refl, ℕ, zero, suc, ◌≤◌, ◌<◌, length, Option, Some, None, Ok, Err, Bool, true, false, cond, List, [], ◌∷◌, arith}
+use Rattle.std.proofs.Common.{◌≡◌, ◌∙◌, sym, ap, subst, refl, ℕ, suc, ◌≤◌, length, Option, Some, None, Ok, Err, Bool, true, false, cond, List, [], ◌∷◌, arith}
 use Rattle.tcl_text.specs.Lists.{is_white, close_brace, none_open, count, next_brace, with_byte}
 use Rattle.tcl_text.specs.Numbers.{trim_start}
 use Rattle.tcl_parser.specs.Characters.{is_name_character}

@@ -1,5 +1,5 @@
 -- Changes in place, at places that indexes name and at keys.
-use Rattle.std.proofs.Common.{arith, refl, ap, sym, subst, ◌∙◌, ◌≡◌, ℕ, Bool, true, false, List, [], ◌∷◌, ◌++◌, Ok, Err, Option, Some, None}
+use Rattle.std.proofs.Common.{refl, ap, sym, subst, ◌∙◌, ◌≡◌, ℕ, Bool, true, false, List, [], ◌∷◌, ◌++◌, Ok, Err, Option, Some, None}
 use Rattle.std.specs.Prelude.{option_map, is_ok, is_err, if◌then◌else◌}
 use Rattle.std.specs.Bool.{OnTrue}
 use Rattle.std.specs.declared.result.Result.{Result}
@@ -15,7 +15,6 @@ use Rattle.tcl_value.specs.Inside.{at_list, at_dict, element_put, entry_made, te
 use Rattle.tcl_nested.specs.Nested.{Texts, Outcome, next, dict_or, place_in, element_changed, value_changed, known, key_removed}
 use Rattle.tcl_nested.specs.Steps.{above, Leads}
 use Rattle.tcl_nested.specs.declared.step.Step.TheVariants.{Element}
-use Rattle.tcl_nested.specs.declared.fault.NestedFault.{NestedFault}
 use Rattle.tcl_value.proofs.Dicted.{dict_of-write}
 use Rattle.tcl_nested.proofs.Levels.{element_down}
 

@@ -1,5 +1,5 @@
 -- Changes inside nested lists and dicts, as functions of texts. The texts that they give have no limit; that of values is in what is refused.
-use Rattle.std.specs.Prelude.{◌≡◌, ℕ, zero, suc, pos, ◌-ℤ◌, nat_le, if◌then◌else◌, List, [], ◌∷◌, length, Ok, Err, option_map}
+use Rattle.std.specs.Prelude.{◌≡◌, ℕ, pos, ◌-ℤ◌, nat_le, if◌then◌else◌, List, [], ◌∷◌, length, Ok, Err, option_map}
 use Rattle.std.specs.declared.result.Result.{Result}
 use Rattle.std.specs.declared.option.Option.{Option}
 use Rattle.std.specs.declared.option.Option.TheVariants.{None, Some}

@@ -1,7 +1,5 @@
 -- Parts of texts: the subcommands length, index, range, replace, reverse, trim and its kin.
-use Rattle.std.specs.Prelude.{ℕ, List, [], ◌∷◌, ◌++◌, length, reverse, Ok, codes, unwrap_or}
-use Rattle.std.specs.declared.option.Option.{Option}
-use Rattle.std.specs.declared.option.Option.TheVariants.{None, Some}
+use Rattle.std.specs.Prelude.{ℕ, List, [], ◌∷◌, ◌++◌, length, reverse, codes, unwrap_or}
 use Rattle.std.specs.Str.{chars}
 use Rattle.tcl_text.specs.declared.integer.Integers.{Integers}
 use Rattle.tcl_text.specs.declared.index.Index.{Index}

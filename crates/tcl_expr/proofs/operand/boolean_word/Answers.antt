@@ -1,4 +1,4 @@
-use Rattle.std.proofs.Common.{◌≡◌, ◌∙◌, sym, ap, ℕ, List, Ok}
+use Rattle.std.proofs.Common.{◌∙◌, sym, ap, ℕ, List, Ok}
 use Rattle.tcl_expr_grammar.specs.declared.token.Leaf.TheVariants.{Literal}
 use Rattle.tcl_expr_grammar.specs.declared.token.Token.TheVariants.{Operand}
 use Rattle.tcl_text.specs.Booleans.{boolean_of}

@@ -1,12 +1,10 @@
-use Rattle.std.proofs.Common.{◌≡◌, ◌∙◌, ap, sym, true, Ok, arith, rules}
+use Rattle.std.proofs.Common.{◌≡◌, ◌∙◌, ap, true, Ok, arith, rules}
 use Rattle.std.proofs.lemmas.Result.{err_from_is_err_and}
 use Rattle.std.proofs.lemmas.Bool.Decides.{nat_tests}
-use Rattle.tcl_parser.specs.Texts.{EndsWith}
 use Rattle.tcl_parser.specs.Pieces.{turn_of}
 use Rattle.tcl_parser.proofs.EndLemmas.{EndsWith-trans}
 use Rattle.tcl_parser.proofs.SkipLemmas.{part_falls}
-use Rattle.tcl_expr.specs.Tokens.{after_substitution}
-use Rattle.tcl_expr.proofs.Substitutions.{begins, turn_over, turn_fault, turn_last, turn_more, turn_ends}
+use Rattle.tcl_expr.proofs.Substitutions.{turn_over, turn_fault, turn_last, turn_more, turn_ends}
 use Rattle.tcl_expr.proofs.operand.skip_substitution.Goals as goal
 
 pub returns-in_err-after-clause-rest : goal.returns-in_err-after-clause-rest

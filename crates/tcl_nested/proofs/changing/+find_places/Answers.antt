@@ -1,4 +1,4 @@
-use Rattle.std.proofs.Common.{◌≡◌, ◌∷◌, ◌-◌, ◌++◌, [], take, drop, length}
+use Rattle.std.proofs.Common.{◌∷◌, ◌-◌, ◌++◌, [], take, drop, length}
 use Rattle.tcl_nested.proofs.Placed.{first_and_rest}
 use Rattle.tcl_nested.proofs.Places.{leads_true, pushed}
 use Rattle.tcl_nested.proofs.changing.+find_places.Goals as goal

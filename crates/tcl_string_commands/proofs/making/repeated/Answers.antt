@@ -1,4 +1,4 @@
-use Rattle.std.proofs.Common.{◌≡◌, ℕ, List, ◌*◌, ◌/◌, ◌<◌, [], length, refl, sym, subst, arith}
+use Rattle.std.proofs.Common.{ℕ, List, ◌/◌, length, refl, sym, subst, arith}
 use Rattle.std.specs.declared.result.Result.{Result}
 use Rattle.tcl_words.specs.Outcomes.{Gives, Refuses, answer_text}
 use Rattle.tcl_words.specs.Limits.{limited}

@@ -1,4 +1,4 @@
-use Rattle.std.proofs.Common.{◌≡◌, ℕ, List, ◌++◌, length, sym, ◌∙◌, ap, subst}
+use Rattle.std.proofs.Common.{ℕ, List, ◌++◌, sym, subst}
 use Rattle.std.specs.Str.{chars}
 use Rattle.tcl_words.specs.Outcomes.{Gives, answer_text}
 use Rattle.tcl_words.specs.Limits.{limited}

@@ -1,7 +1,6 @@
 use Rattle.std.proofs.Common.{◌≡◌, ◌∙◌, Bool, Ok, Option, None, Some, refl, sym, ap}
 use Rattle.std.specs.Prelude.{is_ok, is_some, ok_or}
 use Rattle.tcl_text.specs.Booleans.{boolean_of}
-use Rattle.tcl_text.specs.declared.boolean.BooleanFault.{BooleanFault}
 use Rattle.tcl_text.specs.declared.boolean.BooleanFault.TheVariants.{NotBoolean}
 use Rattle.tcl_string_ensemble.specs.Kinds.{fits_kind}
 use Rattle.tcl_string_ensemble.proofs.kinds.fits_kind.Goals as goal
