@@ -1,15 +1,13 @@
 -- The parts of a text, from the left.
-use Rattle.std.proofs.Common.{◌≡◌, ℕ, ◌+◌, ◌<◌, ◌≤◌, Ok, Bool, true, false, List, [], ◌∷◌, ◌++◌, length, map, refl, sym, ◌∙◌, ap, arith, length-append, append_assoc}
-use Rattle.std.specs.Char.{encode_utf8}
-use Rattle.std.proofs.lemmas.List.{append-nil}
-use Rattle.tcl_strings.specs.Texts.{text_of, is_among}
+use Rattle.std.proofs.Common.{◌≡◌, ℕ, ◌<◌, Ok, Bool, true, false, List, [], ◌∷◌, ◌++◌, length, map, refl, sym, ◌∙◌, ap, arith}
+use Rattle.tcl_strings.specs.Texts.{text_of}
 use Rattle.std.specs.Prelude.{◌==◌}
 use Rattle.std.specs.Str.{chars}
 use Rattle.std.proofs.lemmas.Str.{chars-nil}
 use Rattle.std.proofs.lemmas.Bool.{false≢true}
 use Rattle.tcl_lists.specs.Lists.{Texts, list_value}
 use Rattle.tcl_list_texts.proofs.Added.{is_nothing}
-use Rattle.tcl_list_texts.specs.Splitting.{Parts, before_parts, parts, part_texts, letter_text, split_at}
+use Rattle.tcl_list_texts.specs.Splitting.{Parts, parts, part_texts, letter_text, split_at}
 
 -- the parts that were made, the one that is being made, and those of what is left
 abbrev pub behind : Texts → List ℕ → Parts → Texts

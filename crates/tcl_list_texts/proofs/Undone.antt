@@ -1,5 +1,5 @@
 -- Joining undoes splitting.
-use Rattle.std.proofs.Common.{◌≡◌, ℕ, Bool, true, false, List, [], ◌∷◌, ◌++◌, map, refl, sym, ◌∙◌, ap, append_assoc}
+use Rattle.std.proofs.Common.{◌≡◌, ℕ, Bool, true, false, List, [], ◌∷◌, ◌++◌, map, refl, ◌∙◌, ap, append_assoc}
 use Rattle.std.specs.Prelude.{◌==◌, ◌||◌}
 use Rattle.std.specs.Char.{encode_utf8}
 use Rattle.std.specs.List.{flat_map}
@@ -7,7 +7,7 @@ use Rattle.std.proofs.lemmas.Bool.Decides.{Decides-eqb}
 use Rattle.std.proofs.lemmas.List.{append-nil}
 use Rattle.tcl_strings.specs.Texts.{text_of, is_among}
 use Rattle.tcl_list_texts.specs.Joining.{joined}
-use Rattle.tcl_list_texts.specs.Splitting.{Parts, before_parts, parts, part_texts, split_at, letter_text}
+use Rattle.tcl_list_texts.specs.Splitting.{Parts, before_parts, parts, part_texts, letter_text}
 use Rattle.tcl_list_texts.specs.Laws.{JoinUndoesSplit, JoinUndoesLetters}
 
 or_false : (b : Bool) → (b || false) ≡ true → b ≡ true

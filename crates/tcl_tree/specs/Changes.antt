@@ -11,10 +11,10 @@ use Rattle.tcl_core.specs.Trees.{effect}
 use Rattle.tcl_core.specs.Trees.What.{Changed, Made, Dropped}
 use Rattle.tcl_core.specs.Programs.{blocked, is_spent, is_deep, either, most_steps}
 use Rattle.tcl_tree.specs.Paths.{Text, Path}
-use Rattle.tcl_tree.specs.Own.{Own, CommandMap, new_own, with_new_child, without_old_child, command_in, hidden_in}
+use Rattle.tcl_tree.specs.Own.{Own, CommandMap, new_own, with_new_child, without_old_child, command_in}
 use Rattle.tcl_tree.specs.Nodes.{NodeView}
 use Rattle.tcl_tree.specs.declared.refusal.Refusal.{Refusal}
-use Rattle.tcl_tree.specs.declared.refusal.Refusal.TheVariants.{Memory, BadName, NoInterpreter, Exists, InUse, Denied, NoCommand, NoHidden, BadCount, BadDepthLimit, TooMany, CountLimit, DepthLimit}
+use Rattle.tcl_tree.specs.declared.refusal.Refusal.TheVariants.{Memory, BadName, NoInterpreter, Exists, InUse, Denied, BadCount, BadDepthLimit, TooMany, CountLimit, DepthLimit}
 
 -- the own part of the interpreter at p is changed so, and nothing else
 abbrev pub Rewrites : (Path → Option NodeView) → (Path → Option NodeView) → Path → (Own → Own) → Type 0

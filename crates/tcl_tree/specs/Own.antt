@@ -1,5 +1,5 @@
 -- The own part of an interpreter.
-use Rattle.std.specs.Prelude.{List, Bool, true, false, [], ◌∷◌, ◌++◌, map, Option, is_some}
+use Rattle.std.specs.Prelude.{List, Bool, true, false, [], ◌∷◌, ◌++◌, map, Option}
 use Rattle.std.specs.Str.{bytes_eq}
 use Rattle.std.specs.Map.{lookup, remove_entry}
 use Rattle.indexmap.specs.IndexSet.{remove_key}
