@@ -1,9 +1,9 @@
 -- What the parameters of a call are bound to, from the left.
-use Rattle.std.proofs.Common.{◌≡◌, ℕ, ◌+◌, ◌-◌, ◌<◌, ◌≤◌, Bool, true, false, List, [], ◌∷◌, ◌++◌, map, take, drop, get_or, length, Option, Some, None, refl, sym, ◌∙◌, ap, subst, arith}
+use Rattle.std.proofs.Common.{◌≡◌, ℕ, ◌-◌, ◌≤◌, Bool, true, false, List, [], ◌∷◌, ◌++◌, take, drop, get_or, length, Option, Some, None, refl, sym, ◌∙◌, ap, arith}
 use Rattle.std.specs.Prelude.{◌&&◌}
 use Rattle.std.proofs.lemmas.List.{map-append}
 use Rattle.std.proofs.lemmas.Option.{same_Some}
-use Rattle.tcl_language.specs.Control.{bindings, also, by_default, fit_all, last_bound, is_rest}
+use Rattle.tcl_language.specs.Control.{bindings, also, by_default, fit_all}
 use Rattle.tcl_language.specs.Instructions.{fits}
 use Rattle.tcl_tree.specs.declared.parameter.Parameter.{Parameter}
 use Rattle.tcl_core.specs.Endings.{Reply}

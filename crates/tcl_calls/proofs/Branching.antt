@@ -4,7 +4,7 @@ use Rattle.std.specs.Prelude.{codes}
 use Rattle.std.specs.Str.{bytes_eq}
 use Rattle.std.proofs.Math.Seq.{take-length}
 use Rattle.tcl_core.specs.Paths.{Text}
-use Rattle.tcl_language.specs.Expressions.{Branches, led_by, without_first, last_branch, behind_body, body_first, test_first, branches_within}
+use Rattle.tcl_language.specs.Expressions.{Branches, led_by, without_first, last_branch, behind_body, body_first, branches_within}
 use Rattle.tcl_language.specs.Instructions.{either}
 use Rattle.tcl_calls.specs.BranchesRead.{behind, with_body, first_of, lone}
 

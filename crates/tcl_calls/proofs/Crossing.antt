@@ -1,5 +1,5 @@
 -- How the ends of calls are told to callers elsewhere.
-use Rattle.std.proofs.Common.{◌≡◌, ℕ, Some, None, refl, sym, subst}
+use Rattle.std.proofs.Common.{◌≡◌, ℕ, Some, refl}
 use Rattle.std.specs.Prelude.{Result, Ok, Err, List}
 use Rattle.tcl_core.specs.Endings.{Reply}
 use Rattle.tcl_core.specs.Paths.{Path, rise_to}

@@ -1,5 +1,5 @@
 -- What `catch` keeps.
-use Rattle.std.proofs.Common.{◌≡◌, ℕ, ◌+◌, ◌-◌, ◌≤◌, true, List, [], ◌∷◌, length, take, drop, get_or, refl, sym, ap, ◌∙◌, subst, arith}
+use Rattle.std.proofs.Common.{◌≡◌, ◌-◌, ◌≤◌, true, List, [], ◌∷◌, length, take, drop, get_or, sym, ap, ◌∙◌, arith}
 use Rattle.tcl_core.specs.Endings as core
 use Rattle.tcl_core.specs.Paths.{Text}
 use Rattle.tcl_language.specs.Control.{options_text}

@@ -1,16 +1,14 @@
 -- Expressions that were read.
-use Rattle.std.proofs.Common.{◌≡◌, ℕ, ◌≤◌, true, List, [], Some, None, length, refl, sym, ap, ◌∙◌, arith}
-use Rattle.std.specs.Prelude.{nat_le, unwrap_or, Result, Ok, Err}
+use Rattle.std.proofs.Common.{◌≡◌, ◌≤◌, true, List, [], Some, None, length, refl, sym, ap, ◌∙◌, arith}
+use Rattle.std.specs.Prelude.{unwrap_or, Result, Ok, Err}
 use Rattle.std.proofs.lemmas.Bool.Decides.{nat_tests}
 use Rattle.tcl_core.specs.Paths.{Text}
 use Rattle.tcl_expr.specs.Expressions.{expression_of}
 use Rattle.tcl_expr.specs.declared.fault.ExprFault.{ExprFault}
 use Rattle.tcl_expr.proofs.Decisions.{gives_tree}
 use Rattle.tcl_expr_grammar.specs.Trees.{Tree}
-use Rattle.tcl_expression_evaluation.specs.Computations.{Computation}
 use Rattle.tcl_expression_evaluation.specs.Steps.{from}
 use Rattle.tcl_expression_evaluation.proofs.Trees.{steps_compute_trees}
-use Rattle.tcl_expression_tree.specs.Code.{code_of}
 use Rattle.tcl_readings.specs.Kept.{steps_of}
 use Rattle.tcl_expression_tree.specs.declared.tree.ExprTree.{ExprTree}
 use Rattle.tcl_expression_tree.specs.declared.tree.Node.{Node}

@@ -1,10 +1,9 @@
 -- What the levels come to that words name.
-use Rattle.std.proofs.Common.{◌≡◌, ℕ, ℤ, pos, negsuc, Bool, true, false, ◌<◌, ◌≤◌, ◌-◌, ◌^◌, List, [], ◌∷◌, length, take, drop, get_or, Option, Some, None, refl, sym, ap, subst, ◌∙◌, arith}
+use Rattle.std.proofs.Common.{◌≡◌, ℕ, ℤ, pos, negsuc, Bool, true, false, ◌<◌, ◌≤◌, ◌-◌, ◌^◌, List, [], ◌∷◌, length, take, drop, get_or, Option, Some, None, refl, sym, ap, ◌∙◌, arith}
 use Rattle.std.proofs.lemmas.Bool.Decides.{nat_tests}
-use Rattle.std.proofs.lemmas.Int.{ints}
 use Rattle.std.proofs.Math.Seq.{take-length}
 use Rattle.std.specs.Option.{option_map}
-use Rattle.std.specs.Prelude.{Result, Ok, Err, cond, nat_le, ◌==◌, ◌&&◌, codes}
+use Rattle.std.specs.Prelude.{Result, Ok, Err, cond, nat_le, ◌==◌, codes}
 use Rattle.tcl_core.specs.Endings.{Reply}
 use Rattle.tcl_core.specs.Paths.{Text}
 use Rattle.tcl_core.specs.Trees.{Node}

@@ -2,7 +2,7 @@
 use Rattle.std.proofs.Common.{◌≡◌, ℕ, ◌+◌, ◌-◌, ◌≤◌, Bool, true, false, refl, ap, arith}
 use Rattle.std.specs.Prelude.{nat_lt}
 use Rattle.std.proofs.lemmas.Bool.Decides.{nat_tests}
-use Rattle.tcl_core.specs.Endings.{Meter, Reply}
+use Rattle.tcl_core.specs.Endings.{Meter}
 use Rattle.tcl_core.specs.Endings.Reply.{Stop}
 use Rattle.tcl_core.specs.Runs.{lessened}
 

@@ -1,24 +1,15 @@
 -- What a script of a turn ended in.
-use Rattle.std.proofs.Common.{◌≡◌, ℕ, zero, suc, ℤ, pos, negsuc, [], refl, sym, ap, ◌∙◌, subst}
+use Rattle.std.proofs.Common.{◌≡◌, ℤ, pos, [], refl, sym, ap, ◌∙◌, subst}
 use Rattle.std.specs.Global.{Box}
 use Rattle.std.specs.Prelude.{Result, Ok, Err}
 use Rattle.tcl_core.specs.Endings.{Completion, ok}
 use Rattle.tcl_core.specs.Paths.{Text}
 use Rattle.tcl_core.specs.Programs.Prog.{done}
-use Rattle.tcl_expression_evaluation.specs.Computations.{Computation}
-use Rattle.tcl_expression_evaluation.specs.Steps.{Advances}
-use Rattle.tcl_language.specs.Control.{after_body}
-use Rattle.tcl_language.specs.Expressions.{after_next}
 use Rattle.tcl_language.specs.Instructions.{Program}
-use Rattle.tcl_operators.specs.declared.fault.ApplyError.{ApplyError}
-use Rattle.tcl_operators.specs.declared.fault.ApplyError.TheVariants as error
 use Rattle.tcl_run.specs.declared.interruption.Interruption.{Interruption}
 use Rattle.tcl_run.specs.declared.interruption.Interruption.TheVariants as interruption
-use Rattle.tcl_run.specs.Ends.{Interrupts}
 use Rattle.tcl_flow.specs.View.{completion_of}
 use Rattle.tcl_flow.specs.declared.completion.Completion.{Completion as TheCompletion}
-use Rattle.tcl_run.proofs.Endings.{Interrupts-more}
-use Rattle.tcl_calls.specs.Expressions.{IsRefused, OperatorTells}
 use Rattle.tcl_calls.specs.Turns.{After, EndsIn}
 
 pub ends_ok : (after : After) (ended : Result Text Interruption) (text : Text) → ended ≡ Ok text → ((more : Program) → after (pos 0) (ok text) more ≡ more) → (c : Completion) × EndsIn ended c × ((more : Program) → after c.code c more ≡ more)

@@ -1,13 +1,13 @@
 -- How loops over lists are read, and how their variables are set.
-use Rattle.std.proofs.Common.{◌≡◌, ℕ, zero, suc, ◌+◌, ◌-◌, ◌*◌, ◌<◌, ◌≤◌, ◌%◌, ◌==◌, Bool, true, false, List, [], ◌∷◌, ◌++◌, take, drop, get_or, length, map, Option, Some, None, refl, sym, ◌∙◌, ap, subst, arith, append_assoc}
-use Rattle.std.specs.Prelude.{Result, Ok, Err, ◌&&◌, nat_le}
+use Rattle.std.proofs.Common.{◌≡◌, ℕ, zero, suc, ◌+◌, ◌-◌, ◌*◌, ◌<◌, ◌≤◌, ◌%◌, ◌==◌, true, false, List, [], ◌∷◌, ◌++◌, take, drop, get_or, length, refl, sym, ◌∙◌, ap, subst, arith}
+use Rattle.std.specs.Prelude.{Result, Ok, Err, ◌&&◌}
 use Rattle.std.proofs.lemmas.Bool.Decides.{nat_tests}
-use Rattle.std.proofs.Math.Seq.{drop-nil, drop-cons, take-length}
+use Rattle.std.proofs.Math.Seq.{drop-cons, take-length}
 use Rattle.std.proofs.lemmas.List.{length-take-le}
 use Rattle.tcl_core.specs.Endings.{Reply}
 use Rattle.tcl_core.specs.Paths.{Text}
 use Rattle.tcl_core.specs.Programs.Prog.{done, go}
-use Rattle.tcl_language.specs.Control.{foreach, foreach_form, is_empty, is_over, sets_names, sets_walks, walks_of, walk_of}
+use Rattle.tcl_language.specs.Control.{foreach, foreach_form, is_empty, is_over, sets_names, walks_of, walk_of}
 use Rattle.tcl_language.specs.Faults.{wrong_args}
 use Rattle.tcl_language.specs.Instructions.{Walk, Program, either, fails, or_fails}
 use Rattle.tcl_language.specs.Instructions.Instr.{Foreach}
@@ -18,7 +18,7 @@ use Rattle.tcl_text.specs.declared.list.ListFault.{ListFault}
 use Rattle.tcl_language.specs.Variables.{is_odd, sets}
 use Rattle.tcl_run.specs.Runs.{IsLevel}
 use Rattle.tcl_tree.specs.declared.tree.Tree.{Tree as Table}
-use Rattle.tcl_calls.specs.Walks.{reads_walk, whole, walk_at, walks_at, ReadsWalk, MisreadsWalk, IsForeach, IsNoForeach}
+use Rattle.tcl_calls.specs.Walks.{whole, walks_at, ReadsWalk, MisreadsWalk}
 use Rattle.tcl_calls.specs.Words.{EndsBy}
 use Rattle.tcl_calls.specs.declared.walks.Walk as read
 

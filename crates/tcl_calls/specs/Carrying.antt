@@ -1,5 +1,5 @@
 -- What contracts see of ends that are told to a caller in another interpreter.
-use Rattle.std.specs.Prelude.{◌≡◌, ℕ, List, Result, Ok, Err, Some}
+use Rattle.std.specs.Prelude.{◌≡◌, ℕ, Result, Ok, Err, Some}
 use Rattle.tcl_core.specs.Endings.{Reply, ok, settle}
 use Rattle.tcl_core.specs.Endings.Reply.{Completed}
 use Rattle.tcl_core.specs.Paths.{Text, Path}

@@ -1,6 +1,6 @@
 -- What is known of an end.
 use Rattle.std.proofs.Common.{◌≡◌, ℕ, pos, List, [], sym, ap, subst, refl, ◌∙◌}
-use Rattle.std.specs.Prelude.{Result, Ok, Err, MatchResult, IfErr, Option, Some, None}
+use Rattle.std.specs.Prelude.{Result, Ok, Err, MatchResult, IfErr, Some, None}
 use Rattle.tcl_core.specs.Runs.{Ending}
 use Rattle.tcl_core.specs.Paths.{Path}
 use Rattle.tcl_core.specs.Trees.{Node}
@@ -24,7 +24,7 @@ use Rattle.tcl_text.specs.declared.list.ListFault.{ListFault}
 use Rattle.tcl_text.specs.declared.list.ListError.{ListError}
 use Rattle.tcl_text.specs.declared.list.ListError.TheVariants as list_error
 use Rattle.std.proofs.Common.{Bool, true, false}
-use Rattle.std.specs.Prelude.{nat_le, if◌then◌else◌, length}
+use Rattle.std.specs.Prelude.{if◌then◌else◌}
 use Rattle.tcl_language.specs.Instructions.{fits, too_long}
 use Rattle.tcl_words.specs.Faults.{too_long as too_long_text}
 use Rattle.tcl_words.specs.Limits.{limited}

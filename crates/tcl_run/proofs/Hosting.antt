@@ -2,17 +2,14 @@
 use Rattle.std.proofs.Common.{◌≡◌, ℕ, ◌++◌, length, Option, Some, None, refl, sym, subst}
 use Rattle.tcl_core.specs.Endings.{Reply}
 use Rattle.tcl_core.specs.Entries.{Entry}
-use Rattle.tcl_core.specs.Paths.{Path, Place, rise, rise_to}
+use Rattle.tcl_core.specs.Paths.{Path, Place, rise}
 use Rattle.tcl_core.specs.Programs.{Wait}
-use Rattle.tcl_core.specs.Threads.{passing, event}
+use Rattle.tcl_core.specs.Threads.{passing}
 use Rattle.tcl_core.specs.Trees.{Event, Tree}
 use Rattle.tcl_core.proofs.PathLaws.{rise_back}
 use Rattle.tcl_host.specs.declared.reply.HostReply.{HostReply}
 use Rattle.tcl_host.specs.declared.request.Request.{Request}
-use Rattle.tcl_run.specs.Ends.{IfEnded}
 use Rattle.tcl_run.specs.Outsides.{Enters, Misses, Returns, hosted, hosted_at}
-use Rattle.tcl_run.specs.declared.interruption.Interruption.{Interruption}
-use Rattle.tcl_run.proofs.Endings.{IfEnded-all}
 use Rattle.tcl_tree.specs.Own.{Own}
 
 module _ {S : Type 0} (step : S → Request → HostReply → S → Type 0) where

@@ -1,5 +1,5 @@
 -- One law for each thing that code does on its way: what may come from there may come from here.
-use Rattle.std.proofs.Common.{◌≡◌, ℕ, zero, suc, true, false, List, [], ◌∷◌, ◌++◌, Option, Some, None, refl, sym, ◌∙◌, ap, subst, append-nil, length}
+use Rattle.std.proofs.Common.{◌≡◌, ℕ, zero, suc, true, false, List, [], ◌∷◌, ◌++◌, Option, Some, None, refl, sym, ◌∙◌, ap, subst, append-nil}
 use Rattle.std.specs.Prelude.{Result, Ok, Err}
 use Rattle.tcl_core.specs.Paths.{Path, Place, rise_to}
 use Rattle.tcl_core.specs.Endings.{Completion, Reply, IsQuit}
@@ -7,10 +7,10 @@ use Rattle.tcl_core.specs.Endings.Meter.{Count, Depth}
 use Rattle.tcl_core.specs.Endings.Cause.{Above}
 use Rattle.tcl_core.specs.Endings.Reply.{Completed, Stop, Exit, Cut}
 use Rattle.tcl_core.specs.Entries.{Entry}
-use Rattle.tcl_core.specs.Trees.{Tree, Node, What, Event, effect, at, allowing, granted}
+use Rattle.tcl_core.specs.Trees.{Tree, Node, What, effect, at, allowing, granted}
 use Rattle.tcl_core.specs.Trees.Grants.{Listed}
 use Rattle.tcl_core.specs.Trees.What.{Seen, Charged, Nested, Unnested, Changed, Dropped, Refused}
-use Rattle.tcl_core.specs.Programs.{Table, Wait, metered, blocked, is_deep, changing, dropping, dropping_at, brought_back}
+use Rattle.tcl_core.specs.Programs.{Table, metered, blocked, is_deep, changing, dropping, dropping_at, brought_back}
 use Rattle.tcl_core.specs.Programs.Act.{Look, Charge, Drop}
 use Rattle.tcl_core.specs.Programs.Wrap.{Deeper, Framed}
 use Rattle.tcl_core.specs.Programs.Next.{On, Off, TooDeep}

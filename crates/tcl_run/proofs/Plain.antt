@@ -1,5 +1,5 @@
 -- What a program does by itself is what comes of it.
-use Rattle.std.proofs.Common.{◌≡◌, ℕ, zero, suc, Bool, true, false, List, [], ◌∷◌, ◌++◌, Option, Some, None, refl, sym, ap, subst, ◌∙◌, append-nil}
+use Rattle.std.proofs.Common.{◌≡◌, ℕ, Bool, List, [], ◌∷◌, ◌++◌, Option, Some, None, refl, sym, ap, subst, ◌∙◌, append-nil}
 use Rattle.std.specs.Prelude.{Result, Ok, Err, OnOk, OnErr, IfErr}
 use Rattle.tcl_frames.specs.Chain.{Chain, after_set}
 use Rattle.tcl_language.specs.Faults.{frame_message}
@@ -14,15 +14,15 @@ use Rattle.tcl_tree.specs.declared.tree.Place.{Place as ThePlace}
 use Rattle.tcl_variables.specs.declared.fault.FrameFault.{FrameFault}
 use Rattle.tcl_core.specs.Paths.{Place}
 use Rattle.tcl_core.specs.Endings.{Reply}
-use Rattle.tcl_core.specs.Programs.{Table, Wait, changing, making}
+use Rattle.tcl_core.specs.Programs.{Table, changing, making}
 use Rattle.tcl_core.specs.Programs.Act.{Look, Change, Charge, Limit, LimitDepth, Make, Drop}
 use Rattle.tcl_core.specs.Programs.Next.{On}
 use Rattle.tcl_core.specs.Programs.Prog.{done, exit, act, go, inside, call, wait}
 use Rattle.tcl_core.specs.Rules.{IsOn}
 use Rattle.tcl_core.specs.Threads.{completed, exited, acted, Crossings, event}
-use Rattle.tcl_core.specs.Trees.{Tree, Node, Event, effect, at}
-use Rattle.tcl_core.specs.Trees.What.{Seen, Changed, Limited, DepthLimited, Made, Dropped}
-use Rattle.tcl_language.specs.Instructions.{Instr, Program, look, change, with_chain, at_node, or_fails, fails, grown, fits, too_long}
+use Rattle.tcl_core.specs.Trees.{Tree, Node, effect, at}
+use Rattle.tcl_core.specs.Trees.What.{Seen, Changed, Limited, DepthLimited}
+use Rattle.tcl_language.specs.Instructions.{Instr, Program, look, change, with_chain, at_node, or_fails}
 use Rattle.tcl_tree.specs.Own.{Own}
 use Rattle.tcl_run.specs.Ends.{IsFailure, Interrupts}
 use Rattle.tcl_run.specs.Plain.{Does, Steps}

@@ -1,22 +1,21 @@
 -- One law for each thing that evaluations do on their way: however far it comes from there, so far it comes from here, be it to an end or to where all is given up.
-use Rattle.std.proofs.Common.{◌≡◌, ℕ, ℤ, zero, suc, true, false, List, [], ◌∷◌, ◌++◌, Option, Some, None, refl, sym, ◌∙◌, ap, subst, append-nil, length}
+use Rattle.std.proofs.Common.{◌≡◌, ℕ, ℤ, true, false, List, [], ◌∷◌, ◌++◌, Option, Some, None, refl, sym, ◌∙◌, ap, subst, append-nil}
 use Rattle.std.specs.Prelude.{Result, Ok, Err}
 use Rattle.tcl_beginnings.specs.Beginnings as beginnings
 use Rattle.tcl_core.specs.Paths.{Path, Place, Height, rise_to}
-use Rattle.tcl_core.specs.Endings.{Completion, Reply, IsQuit, refusal}
+use Rattle.tcl_core.specs.Endings.{Completion, Reply, IsQuit}
 use Rattle.tcl_core.specs.Endings.Meter.{Count, Depth}
-use Rattle.tcl_core.specs.Endings.Cause.{Above}
 use Rattle.tcl_core.specs.Endings.Reply.{Completed, Stop, Exit, Cut}
 use Rattle.tcl_core.specs.Entries.{Entry, HostReply, Said}
 use Rattle.tcl_core.specs.Entries.Answer.{Replied, Heard}
 use Rattle.tcl_core.specs.Entries.Said.{Finished, Told}
-use Rattle.tcl_core.specs.Trees.{Tree, Node, What, Event, effect, at, allowing, granted}
+use Rattle.tcl_core.specs.Trees.{Tree, Node, What, effect, at, allowing}
 use Rattle.tcl_core.specs.Trees.Grants.{Listed}
-use Rattle.tcl_core.specs.Trees.What.{Seen, Charged, Nested, Unnested, Changed, Dropped, Refused, Out, In, Done, Back}
-use Rattle.tcl_core.specs.Programs.{Table, Wait, Act, Deed, spot, metered, blocked, is_deep, changing, dropping, dropping_at, brought_back}
+use Rattle.tcl_core.specs.Trees.What.{Seen, Charged, Nested, Unnested, Changed, Dropped, Out, In, Done, Back}
+use Rattle.tcl_core.specs.Programs.{Table, Act, Deed, spot, metered, blocked, is_deep, changing, dropping, dropping_at, brought_back}
 use Rattle.tcl_core.specs.Programs.Act.{Look, Charge, Drop}
 use Rattle.tcl_core.specs.Programs.Wrap.{Deeper, Framed}
-use Rattle.tcl_core.specs.Programs.Next.{On, Off, TooDeep}
+use Rattle.tcl_core.specs.Programs.Next.{On}
 use Rattle.tcl_core.specs.Programs.Prog.{done, exit, act, go, inside, call, wait}
 use Rattle.tcl_core.specs.Rules.{IsOn, IsNoExit}
 use Rattle.tcl_core.specs.Runs.{Ending, carried, entering, is_own, where_stands}
@@ -29,7 +28,7 @@ use Rattle.tcl_run.specs.Ends.{IsFailure, too_deep_at}
 use Rattle.tcl_run.specs.Outsides.{Going, Enters, Returns, Misses}
 use Rattle.tcl_run.specs.Runs.{Comes, Counts, IsLoss, Proceeds, RefusesStep, Ways}
 use Rattle.tcl_run.specs.Runs.Proceeds.{ended, given_up}
-use Rattle.tcl_run.specs.Runs.IsLoss.{unlost, lost}
+use Rattle.tcl_run.specs.Runs.IsLoss.{unlost}
 use Rattle.tcl_run.specs.Plain.{Does}
 use Rattle.tcl_run.proofs.Leads as leads
 use Rattle.tcl_run.proofs.Losing.{lost_twice}

@@ -17,7 +17,7 @@ use Rattle.tcl_tree.proofs.CoreLemmas.{tree_there}
 use Rattle.tcl_tree.proofs.StepLemmas.{follow_append}
 use Rattle.tcl_tree.specs.declared.tree.Tree.{Tree as Table}
 use Rattle.tcl_tree.specs.declared.tree.Place.{Place as TablePlace}
-use Rattle.tcl_run.specs.Runs.{meters_of, meters_at, depth_in, limit_in, depth_at, InUse, IsSteady, IsLevel, IsAt, IsRunning, room}
+use Rattle.tcl_run.specs.Runs.{meters_of, meters_at, depth_in, depth_at, InUse, IsSteady, IsLevel, IsAt, IsRunning, room}
 use Rattle.tcl_text.specs.declared.integer.Integers.{Integers}
 
 pub meters_changed : (T U : Tree Own) (p q : Path) (own : Own) → U ≡ effect p (Changed own) T → meters_at U q ≡ meters_at T q

@@ -1,5 +1,5 @@
 -- What contracts see of how an evaluation ends.
-use Rattle.std.specs.Prelude.{◌≡◌, ℕ, zero, suc, pos, List, Option, Some, None, Result, Ok, Err, MatchResult}
+use Rattle.std.specs.Prelude.{◌≡◌, ℕ, zero, suc, pos, List, Some, None, Result, Ok, Err, MatchResult}
 use Rattle.tcl_core.specs.Endings as core
 use Rattle.tcl_core.specs.Endings.{Completion, Reply, ok, error}
 use Rattle.tcl_core.specs.Endings.Reply.{Completed, Stop, Exit, Cut}

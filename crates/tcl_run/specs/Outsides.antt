@@ -1,12 +1,12 @@
 -- What contracts see of what stands outside of a tree.
-use Rattle.std.specs.Prelude.{◌≡◌, ℕ, true, List, [], ◌++◌, length, Option, Some, None, Result, Ok, Err}
+use Rattle.std.specs.Prelude.{◌≡◌, ℕ, true, [], ◌++◌, length, Some, None, Result, Ok, Err}
 use Rattle.tcl_core.specs.Endings.{Reply, error, ok}
 use Rattle.tcl_core.specs.Endings.Reply.{Completed}
 use Rattle.tcl_core.specs.Entries.{Answer, Entry, HostReply}
 use Rattle.tcl_core.specs.Entries.Answer.{Replied, Heard}
 use Rattle.tcl_core.specs.Entries.Entry.{AskHost}
 use Rattle.tcl_core.specs.Entries.HostReply.{Opened, Bytes, TheEnd, Accepted, Is, Fails}
-use Rattle.tcl_core.specs.Paths.{Text, Path, Place, Height}
+use Rattle.tcl_core.specs.Paths.{Path, Place, Height}
 use Rattle.tcl_core.specs.Programs.{Wait}
 use Rattle.tcl_core.specs.Runs.{is_own}
 use Rattle.tcl_core.specs.Threads.{event, past_top}

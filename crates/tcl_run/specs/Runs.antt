@@ -1,5 +1,5 @@
 -- How a run goes through the table of interpreters.
-use Rattle.std.specs.Prelude.{◌≡◌, ℕ, ◌<◌, ◌≤◌, ◌-◌, ◌++◌, List, [], Option, Some, None, Result, Ok, Err}
+use Rattle.std.specs.Prelude.{◌≡◌, ℕ, ◌<◌, ◌-◌, ◌++◌, List, [], Option, Some, None, Result, Ok, Err}
 use Rattle.std.specs.Option.{option_map}
 use Rattle.tcl_beginnings.specs.Beginnings.{Begun}
 use Rattle.tcl_core.specs.Paths.{Place, Path}

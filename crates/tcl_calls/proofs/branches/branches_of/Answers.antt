@@ -1,9 +1,9 @@
-use Rattle.std.proofs.Common.{◌≡◌, ◌≤◌, ◌-◌, rules, Bool, true, false, List, [], ◌∷◌, ◌++◌, take, drop, length, Some, None, refl, sym, ◌∙◌, ap, arith}
+use Rattle.std.proofs.Common.{◌≡◌, ◌-◌, rules, true, false, List, [], ◌∷◌, ◌++◌, take, drop, length, Some, None, sym, ◌∙◌, ap, arith}
 use Rattle.std.specs.Prelude.{codes}
 use Rattle.std.specs.Str.{bytes_eq}
 use Rattle.std.proofs.lemmas.List.{map-append}
 use Rattle.tcl_core.specs.Paths.{Text}
-use Rattle.tcl_language.specs.Expressions.{Branches, without_first, behind_body, branches_within}
+use Rattle.tcl_language.specs.Expressions.{without_first, behind_body, branches_within}
 use Rattle.tcl_calls.specs.BranchesRead.{behind, branch_of, first_of, lone, tests_of}
 use Rattle.tcl_calls.proofs.Branching.{none_first, one_first, is_end, is_more, is_last, no_last, split, no_words}
 use Rattle.tcl_calls.proofs.branches.branches_of.Goals as goal

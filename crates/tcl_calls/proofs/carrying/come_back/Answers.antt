@@ -1,4 +1,4 @@
-use Rattle.std.proofs.Common.{◌≡◌, Some, sym, subst}
+use Rattle.std.proofs.Common.{sym, subst}
 use Rattle.std.specs.Prelude.{Result, List, ℕ}
 use Rattle.tcl_run.specs.Ends.{IfEnded}
 use Rattle.tcl_run.specs.declared.interruption.Interruption.{Interruption}

@@ -1,7 +1,5 @@
-use Rattle.std.proofs.Common.{◌≡◌, ℕ, ◌+◌, ◌-◌, ◌≤◌, length, sym, ap, ◌∙◌, arith, subst, rules}
+use Rattle.std.proofs.Common.{◌≡◌, ℕ, ◌+◌, ◌-◌, ◌≤◌, length, sym, ap, ◌∙◌, arith}
 use Rattle.std.specs.Prelude.{nat_lt}
-use Rattle.tcl_core.specs.Endings.{Reply}
-use Rattle.tcl_core.specs.Endings.Reply.{Stop}
 use Rattle.tcl_core.specs.Paths.{Path, falls, together}
 use Rattle.tcl_core.specs.Runs.{lessened}
 use Rattle.tcl_flow.specs.Stopping.{meter_of}

@@ -1,9 +1,8 @@
-use Rattle.std.proofs.Common.{◌≡◌, ap, sym, refl, ◌∙◌}
-use Rattle.tcl_core.specs.Paths.{Path, Text}
+use Rattle.std.proofs.Common.{ap, sym, refl, ◌∙◌}
+use Rattle.tcl_core.specs.Paths.{Text}
 use Rattle.tcl_flow.specs.View.{completion_of}
 use Rattle.tcl_language.specs.Variables.{sets}
 use Rattle.tcl_run.proofs.Plain.{steps_as, steps_then}
-use Rattle.tcl_tree.specs.TreeOf.{Names}
 use Rattle.tcl_calls.specs.Catching.{kept_in}
 use Rattle.tcl_calls.proofs.Keeping.{two_kept}
 use Rattle.tcl_calls.proofs.catching.keep_caught.Goals as goal

@@ -1,4 +1,4 @@
-use Rattle.std.proofs.Common.{◌≡◌, true, ap, ◌∙◌, subst}
+use Rattle.std.proofs.Common.{ap, ◌∙◌, subst}
 use Rattle.tcl_core.specs.Paths.{Text}
 use Rattle.tcl_language.specs.Instructions.{fits}
 use Rattle.tcl_calls.specs.Expressions.{IsKept}

@@ -1,4 +1,4 @@
-use Rattle.std.proofs.Common.{◌≡◌, ◌-◌, ◌≤◌, Bool, true, false, ℕ, List, take, drop, length, sym, ap, ◌∙◌, subst}
+use Rattle.std.proofs.Common.{◌≡◌, ◌-◌, true, ℕ, List, take, drop, length, sym, ap, ◌∙◌, subst}
 use Rattle.std.specs.Prelude.{Result, codes}
 use Rattle.std.proofs.lemmas.Result.{err_from_is_err_and}
 use Rattle.tcl_core.specs.Paths.{Text}

@@ -1,5 +1,5 @@
-use Rattle.std.proofs.Common.{rules, ◌≡◌, ◌≤◌, ◌∷◌, ◌++◌, [], length, drop, Some, sym, ap, ◌∙◌, arith}
-use Rattle.tcl_language.specs.Control.{bindings, fit_all, also}
+use Rattle.std.proofs.Common.{rules, ◌≡◌, ◌∷◌, ◌++◌, [], drop, Some, sym, ap, ◌∙◌, arith}
+use Rattle.tcl_language.specs.Control.{bindings, fit_all}
 use Rattle.tcl_calls.specs.Procedures.{pairs_of, joined, next_bound}
 use Rattle.tcl_calls.proofs.Binding.{bind_next, joined_also, pairs_more, fit_more, first_of_two}
 use Rattle.tcl_calls.proofs.procedures.bind.Goals as goal

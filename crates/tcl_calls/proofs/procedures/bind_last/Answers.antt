@@ -1,10 +1,9 @@
-use Rattle.std.proofs.Common.{◌≡◌, ◌++◌, ◌∷◌, [], Some, true, sym, ap, ◌∙◌, List, ℕ}
-use Rattle.std.specs.Prelude.{Option}
+use Rattle.std.proofs.Common.{◌≡◌, ◌++◌, ◌∷◌, [], Some, sym, ap, ◌∙◌}
 use Rattle.std.proofs.lemmas.Result.{err_from_is_err_and}
 use Rattle.tcl_language.specs.Control.{last_bound, is_rest, fit_all}
 use Rattle.tcl_language.specs.Instructions.{fits}
 use Rattle.tcl_run.proofs.Endings.{at_err}
-use Rattle.tcl_calls.specs.Procedures.{pairs_of, joined, TooLongBound, IsBoundTo}
+use Rattle.tcl_calls.specs.Procedures.{pairs_of, joined}
 use Rattle.tcl_calls.proofs.Binding.{pairs_more, fit_more, too_long_joined}
 use Rattle.tcl_calls.proofs.procedures.bind_last.Goals as goal
 

@@ -1,7 +1,6 @@
 use Rattle.std.proofs.Common.{◌≡◌, Some, None, ap, ◌∙◌}
 use Rattle.std.specs.Option.{option_map}
 use Rattle.tcl_core.specs.Trees.{Node}
-use Rattle.tcl_frames.specs.Chain.{Chain}
 use Rattle.tcl_run.proofs.Steady.{stands}
 use Rattle.tcl_tree.specs.Own.{Own}
 use Rattle.tcl_tree.specs.TreeOf.{tree_of}

@@ -1,4 +1,4 @@
-use Rattle.std.proofs.Common.{◌≡◌, ap, subst}
+use Rattle.std.proofs.Common.{subst}
 use Rattle.tcl_language.specs.Variables.{sets}
 use Rattle.tcl_run.specs.Plain.{Steps}
 use Rattle.tcl_run.proofs.Plain.{set_steps}

@@ -1,4 +1,4 @@
-use Rattle.std.proofs.Common.{◌≡◌, ◌<◌, ◌*◌, length, sym, ◌∙◌, arith}
+use Rattle.std.proofs.Common.{◌<◌, ◌*◌, length, sym, ◌∙◌, arith}
 use Rattle.tcl_calls.proofs.Walking.{not_over}
 use Rattle.tcl_calls.proofs.walks.is_over.Goals as goal
 

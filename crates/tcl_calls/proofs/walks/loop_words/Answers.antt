@@ -1,4 +1,4 @@
-use Rattle.std.proofs.Common.{◌≡◌, ◌<◌, ◌≤◌, ◌-◌, ◌%◌, length, take, ◌∙◌, arith}
+use Rattle.std.proofs.Common.{◌-◌, length, take, arith}
 use Rattle.std.proofs.lemmas.List.{length-take-le}
 use Rattle.tcl_calls.proofs.Walking.{before_last, even_is, few_foreach, odd_foreach}
 use Rattle.tcl_calls.proofs.walks.loop_words.Goals as goal

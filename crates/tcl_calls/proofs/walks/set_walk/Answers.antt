@@ -1,6 +1,5 @@
-use Rattle.std.proofs.Common.{◌≡◌, ◌+◌, ◌*◌, ◌<◌, List, [], drop, get_or, length, refl, sym, ◌∙◌, ap, subst, arith}
+use Rattle.std.proofs.Common.{◌+◌, ◌*◌, [], get_or, length, sym, ◌∙◌, ap, subst, arith}
 use Rattle.std.proofs.lemmas.Result.{err_from_is_err_and}
-use Rattle.tcl_language.specs.Control.{sets_names}
 use Rattle.tcl_language.specs.Instructions.{Program}
 use Rattle.tcl_run.specs.Plain.{Does}
 use Rattle.tcl_run.proofs.Endings.{ended_err}

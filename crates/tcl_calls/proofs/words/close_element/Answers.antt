@@ -1,11 +1,11 @@
-use Rattle.std.proofs.Common.{rules, ◌≡◌, ◌∷◌, inl, inr, sym, ap, ◌∙◌}
+use Rattle.std.proofs.Common.{rules, ◌≡◌, ◌∷◌, inl, inr, ap, ◌∙◌}
 use Rattle.std.proofs.lemmas.Result.{err_from_is_err_and}
 use Rattle.std.specs.String.{string_bytes}
 use Rattle.tcl_frames.specs.Chain.{read}
 use Rattle.tcl_language.specs.Faults.{frame_message}
 use Rattle.tcl_language.specs.Scripts.{element_text}
 use Rattle.tcl_run.specs.Ends.{IsFailure}
-use Rattle.tcl_calls.specs.Words.{opens, open_of, ClosesBy}
+use Rattle.tcl_calls.specs.Words.{opens, open_of}
 use Rattle.tcl_run.proofs.Endings.{at_err, Interrupts-at}
 use Rattle.tcl_calls.proofs.Closing.{opens-push, closed_by, at_ok}
 use Rattle.tcl_calls.proofs.words.close_element.Goals as goal

@@ -9,8 +9,8 @@ use Rattle.tcl_language.specs.Faults.{wrong_args}
 use Rattle.tcl_entries.proofs.requests.ask_one.Goals as goal
 
 pub returns-in-empty-clause-evaluates : goal.returns-in-empty-clause-evaluates
-returns-in-empty-clause-evaluates g c = evaluates_as g.O.Outside.goes c.args.tree.now c.ask_there-in-empty.new.tree c.args.outside.now c.ask_there-in-empty.new.outside c.args.place (λ style. asked_of c.args.form.now (entry_of c.args.entry) c.args.args.now) (λ style. interpreters.asks c.empty.result (entry_of c.args.entry)) c.ask_there-in-empty.result
-    (λ style. asked_none c.args.form.now (entry_of c.args.entry) c.args.args.now c.in-empty.len_below ∙ ap (λ (x : Text). interpreters.asks x (entry_of c.args.entry)) (sym c.empty.ensures)) c.ask_there-in-empty.ensures.evaluates
+returns-in-empty-clause-evaluates g c = evaluates_as g.O.Outside.goes c.args.tree.now c.ask_there.new.tree c.args.outside.now c.ask_there.new.outside c.args.place (λ style. asked_of c.args.form.now (entry_of c.args.entry) c.args.args.now) (λ style. interpreters.asks c.empty.result (entry_of c.args.entry)) c.ask_there.result
+    (λ style. asked_none c.args.form.now (entry_of c.args.entry) c.args.args.now c.in-empty.len_below ∙ ap (λ (x : Text). interpreters.asks x (entry_of c.args.entry)) (sym c.empty.ensures)) c.ask_there.ensures.evaluates
 
 pub returns-in-len1-clause-evaluates : goal.returns-in-len1-clause-evaluates
 returns-in-len1-clause-evaluates g c = evaluates_as g.O.Outside.goes c.args.tree.now c.ask_there-in-len1.new.tree c.args.outside.now c.ask_there-in-len1.new.outside c.args.place (λ style. asked_of c.args.form.now (entry_of c.args.entry) c.args.args.now) (λ style. interpreters.asks c.word-item.result (entry_of c.args.entry)) c.ask_there-in-len1.result

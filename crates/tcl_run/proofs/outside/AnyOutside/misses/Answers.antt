@@ -1,4 +1,3 @@
-use Rattle.tcl_core.specs.Endings.{Reply}
 use Rattle.tcl_core.specs.Paths.{Path, rise_to}
 use Rattle.std.proofs.Common.{◌≡◌, Some}
 use Rattle.tcl_run.specs.Entering.{whole_entry}
