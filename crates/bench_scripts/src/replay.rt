@@ -1,11 +1,10 @@
-//! Times of watching and of replaying: a safe child that calls its parent by an alias, evaluated unwatched, watched, and replayed by itself. The times go to
-//! standard error, so that standard output stays the same. The word `full` behind the program's name asks for the size that docs/PERFORMANCE.md tells of.
-#![tactic(auto)]
-
+//! The times of watching and of replaying: a safe child that calls its parent by an alias, evaluated unwatched, watched, and
+//! replayed by itself.
+use crate::measuring::{STEPS, Size, result_of, run, took};
 use std::alloc::{AllocError, Global};
+use std::io;
 use std::time::Instant;
-use std::{env, io};
-use tcl_evaluator::running::{End, Refused, eval};
+use tcl_evaluator::running::End;
 use tcl_host::memory::MemoryHost;
 use tcl_playing::moves::{Move, moves_of};
 use tcl_replay::replaying::{Replayed, Unplayed};
@@ -15,23 +14,16 @@ use tcl_text::text::Text;
 use tcl_tree::tree::Tree;
 use tcl_watching::record::Record;
 
-/// The calls that every run of the gate can afford.
-const SMALL: u32 = 20_000;
-
-/// The calls that are measured.
-const FULL: u32 = 200_000;
-
-/// More steps than the script makes.
-const STEPS: u64 = 1_000_000_000;
+/// How often the child calls.
+fn calls_of(size: Size) -> u32 {
+    match size {
+        Size::Small => 20_000,
+        Size::Full => 200_000,
+    }
+}
 
 /// A safe child `c` with an alias to a procedure of the root.
 const CHILD: &str = "interp create -safe c; proc take x {return $x}; interp alias c take {} take";
-
-/// How a script in the root ends.
-fn run(alloc: Global, tree: &mut Tree, script: &str) -> Result<Result<End, Refused>, AllocError> {
-    let mut host = MemoryHost::new(alloc)?;
-    Ok(eval(tree, alloc, &mut host, &[], script, STEPS))
-}
 
 /// A tree in which the child stands.
 fn planted(alloc: Global) -> Result<Tree, AllocError> {
@@ -48,16 +40,6 @@ fn path_of_child(alloc: Global) -> Result<[Text; 1], AllocError> {
 /// The child calls so often.
 fn calling(alloc: Global, calls: u32) -> Result<String, AllocError> {
     format!(in alloc; "c eval {{for {{set i 0}} {{$i < {calls}}} {{incr i}} {{take $i}}; set i}}")
-}
-
-/// The text of a run's result.
-fn result_of(alloc: Global, ended: Result<End, Refused>) -> Result<String, AllocError> {
-    match ended {
-        Ok(End::Done(completion)) => {
-            String::from_str(alloc, completion.text.text(alloc)?.as_str())
-        }
-        _ => String::from_str(alloc, "no result"),
-    }
 }
 
 /// The record of a script in the root in which the child is watched.
@@ -110,8 +92,7 @@ fn measure_unwatched(rt: &HostRuntime, script: &str) -> io::Result<()> {
     let mut tree = planted(rt.alloc())?;
     let start = Instant::now(rt)?;
     let ended = run(rt.alloc(), &mut tree, script)?;
-    let time = start.elapsed(rt)?;
-    eprintln!(rt; "unwatched: {time:?}")?;
+    took(rt, "unwatched", start)?;
     let text = result_of(rt.alloc(), ended)?;
     println!(rt; "unwatched: {text}")
 }
@@ -121,8 +102,7 @@ fn measure_watched(rt: &HostRuntime, script: &str) -> io::Result<Vec<Move>> {
     let mut tree = planted(rt.alloc())?;
     let start = Instant::now(rt)?;
     let given = watch(rt.alloc(), &mut tree, script)?;
-    let time = start.elapsed(rt)?;
-    eprintln!(rt; "watched: {time:?}")?;
+    took(rt, "watched", start)?;
     let moves = moves_recorded(rt.alloc(), given)?;
     let count = moves.len();
     println!(rt; "watched: {count} moves")?;
@@ -134,25 +114,15 @@ fn measure_replayed(rt: &HostRuntime, moves: &[Move]) -> io::Result<()> {
     let child = saved(rt.alloc())?;
     let start = Instant::now(rt)?;
     let played = child.replay(rt.alloc(), moves, STEPS);
-    let time = start.elapsed(rt)?;
-    eprintln!(rt; "replayed: {time:?}")?;
+    took(rt, "replayed", start)?;
     let text = outcome_of(rt.alloc(), played)?;
     println!(rt; "replayed: {text}")
 }
 
-/// How many calls the program's words ask for.
-fn wanted(rt: &HostRuntime) -> io::Result<u32> {
-    for word in env::args(rt)? {
-        if word.as_str() == "full" {
-            return Ok(FULL);
-        }
-    }
-    Ok(SMALL)
-}
-
-fn main(rt: HostRuntime) -> io::Result<()> {
-    let script = calling(rt.alloc(), wanted(&rt)?)?;
-    measure_unwatched(&rt, script.as_str())?;
-    let moves = measure_watched(&rt, script.as_str())?;
-    measure_replayed(&rt, moves.as_slice())
+/// Measures a child's calls unwatched, watched and replayed.
+pub(crate) fn measure(rt: &HostRuntime, size: Size) -> io::Result<()> {
+    let script = calling(rt.alloc(), calls_of(size))?;
+    measure_unwatched(rt, script.as_str())?;
+    let moves = measure_watched(rt, script.as_str())?;
+    measure_replayed(rt, moves.as_slice())
 }

@@ -1,6 +1,5 @@
-//! Times of frames and their variables. They go to standard error, so that standard output stays the same.
-#![tactic(auto)]
-
+//! Times of frames and their variables.
+use crate::measuring::{measured, took};
 use std::alloc::{AllocError, Global};
 use std::io;
 use std::time::Instant;
@@ -20,7 +19,7 @@ const UNSETS: u32 = 1_000;
 
 fn names(alloc: Global) -> Result<Vec<Text>, AllocError> {
     let mut names = Vec::new(alloc);
-    for name in ["n", "total", "index", "result"] {
+    'names: for name in ["n", "total", "index", "result"] {
         names.push(Text::new(alloc, name)?)?;
     }
     Ok(names)
@@ -34,25 +33,31 @@ fn turn(
     number: i64,
 ) -> Result<usize, FrameError> {
     frames.push(alloc, Vec::new(alloc))?;
-    for name in names {
+    'names: for name in names {
         frames.set(alloc, name, Value::from_int(number))?;
     }
     let mut bytes: usize = 0;
-    for name in names {
+    'names: for name in names {
         bytes = bytes.wrapping_add(frames.get(name)?.text_len());
     }
     frames.pop();
     Ok(bytes)
 }
 
+/// Does so for many frames.
+fn turn_often(frames: &mut Frames, alloc: Global, names: &[Text]) -> Result<usize, FrameError> {
+    let mut bytes: usize = 0;
+    'frames: for number in 0..FRAMES {
+        bytes = bytes.wrapping_add(turn(frames, alloc, names, number)?);
+    }
+    Ok(bytes)
+}
+
+/// The same in frames of its own.
 fn turns(alloc: Global) -> Result<usize, FrameError> {
     let names = names(alloc)?;
     let mut frames = Frames::new(alloc)?;
-    let mut bytes: usize = 0;
-    for number in 0..FRAMES {
-        bytes = bytes.wrapping_add(turn(&mut frames, alloc, &names, number)?);
-    }
-    Ok(bytes)
+    turn_often(&mut frames, alloc, names.as_slice())
 }
 
 /// The name of a number.
@@ -60,18 +65,24 @@ fn numbered(alloc: Global, number: u32) -> Result<Text, AllocError> {
     Text::from_string(alloc, format!(in alloc; "v{number}")?)
 }
 
+/// Sets many names.
+fn set_many(frames: &mut Frames, alloc: Global) -> Result<(), FrameError> {
+    'names: for number in 0..MANY {
+        frames.set(alloc, &numbered(alloc, number)?, Value::empty())?;
+    }
+    Ok(())
+}
+
 /// A frame of many names.
 fn many(alloc: Global) -> Result<Frames, FrameError> {
     let mut frames = Frames::new(alloc)?;
-    for number in 0..MANY {
-        frames.set(alloc, &numbered(alloc, number)?, Value::empty())?;
-    }
+    set_many(&mut frames, alloc)?;
     Ok(frames)
 }
 
 /// Unsets the names from the first on and sets each again, so that the first of them all is unset each time.
 fn unset_first(frames: &mut Frames, alloc: Global) -> Result<(), FrameError> {
-    for number in 0..UNSETS {
+    'numbers: for number in 0..UNSETS {
         let name = numbered(alloc, number)?;
         frames.unset(alloc, &name)?;
         frames.set(alloc, &name, Value::empty())?;
@@ -82,25 +93,35 @@ fn unset_first(frames: &mut Frames, alloc: Global) -> Result<(), FrameError> {
 /// Unsets and sets again the name that was set last.
 fn unset_last(frames: &mut Frames, alloc: Global) -> Result<(), FrameError> {
     let name = numbered(alloc, UNSETS.wrapping_sub(1))?;
-    for _ in 0..UNSETS {
+    'times: for _ in 0..UNSETS {
         frames.unset(alloc, &name)?;
         frames.set(alloc, &name, Value::empty())?;
     }
     Ok(())
 }
 
-/// Sets the elements of an array of many keys at once, unsets those whose keys end in 7, and gives how many are left.
-fn whole_array(alloc: Global) -> Result<usize, FrameError> {
-    let name = Text::new(alloc, "a")?;
-    let pattern = Text::new(alloc, "*7")?;
+/// A name and a value for each of many keys.
+fn elements(alloc: Global) -> Result<Vec<(Text, Value)>, AllocError> {
     let mut elements = Vec::new(alloc);
-    for number in 0..MANY {
+    'elements: for number in 0..MANY {
         elements.push((numbered(alloc, number)?, Value::from_int(i64::from(number))))?;
     }
-    let mut frames = Frames::new(alloc)?;
-    frames.set_elements(alloc, &name, elements)?;
+    Ok(elements)
+}
+
+/// Sets the elements of an array of many keys at once, unsets those whose keys end in 7, and gives how many are left.
+fn fill_array(frames: &mut Frames, alloc: Global) -> Result<usize, FrameError> {
+    let name = Text::new(alloc, "a")?;
+    let pattern = Text::new(alloc, "*7")?;
+    frames.set_elements(alloc, &name, elements(alloc)?)?;
     frames.unset_elements(alloc, &name, Some(&pattern))?;
     frames.element_count(&name)
+}
+
+/// The same in frames of its own.
+fn whole_array(alloc: Global) -> Result<usize, FrameError> {
+    let mut frames = Frames::new(alloc)?;
+    fill_array(&mut frames, alloc)
 }
 
 fn told<T: Drop>(outcome: Result<T, FrameError>) -> &'static str {
@@ -110,33 +131,25 @@ fn told<T: Drop>(outcome: Result<T, FrameError>) -> &'static str {
     }
 }
 
-fn main(rt: HostRuntime) -> io::Result<()> {
-    let start = Instant::now(&rt)?;
-    let bytes = turns(rt.alloc()).unwrap_or(0);
-    let time = start.elapsed(&rt)?;
-    println!(rt; "{bytes} bytes of values got")?;
-    eprintln!(rt; "{FRAMES} frames pushed, four names set and got in each, and popped: {time:?}")?;
-    match many(rt.alloc()) {
-        Err(_) => println!(rt; "refused")?,
-        Ok(mut frames) => {
-            let start = Instant::now(&rt)?;
-            let first = told(unset_first(&mut frames, rt.alloc()));
-            let time = start.elapsed(&rt)?;
-            println!(rt; "the first of many unset: {first}")?;
-            eprintln!(rt; "{UNSETS} times the first of {MANY} names unset: {time:?}")?;
-            let start = Instant::now(&rt)?;
-            let last = told(unset_last(&mut frames, rt.alloc()));
-            let time = start.elapsed(&rt)?;
-            println!(rt; "the last of many unset: {last}")?;
-            eprintln!(rt; "{UNSETS} times the last of {MANY} names unset: {time:?}")?;
-        }
-    }
-    let start = Instant::now(&rt)?;
-    let left = whole_array(rt.alloc()).unwrap_or(0);
-    let time = start.elapsed(&rt)?;
-    println!(rt; "{left} elements left")?;
-    eprintln!(rt;
-        "an array of {MANY} elements made at once, and a tenth of them unset by a pattern: {time:?}"
-    )?;
+/// Unsets one of many names often: the first, and then the last.
+fn measure_unsetting(rt: &HostRuntime, frames: &mut Frames) -> io::Result<()> {
+    measured!(rt, "the first of many unset", told(unset_first(frames, rt.alloc())));
+    measured!(rt, "the last of many unset", told(unset_last(frames, rt.alloc())));
     Ok(())
+}
+
+/// Measures frames and their variables.
+pub(crate) fn measure(rt: &HostRuntime) -> io::Result<()> {
+    let start = Instant::now(rt)?;
+    let bytes = turns(rt.alloc()).unwrap_or(0);
+    took(rt, "1,000,000 frames", start)?;
+    println!(rt; "{bytes} bytes of values got")?;
+    match many(rt.alloc()) {
+        Ok(mut frames) => measure_unsetting(rt, &mut frames)?,
+        Err(_) => println!(rt; "refused")?,
+    }
+    let start = Instant::now(rt)?;
+    let left = whole_array(rt.alloc()).unwrap_or(0);
+    took(rt, "an array of 20,000 elements", start)?;
+    println!(rt; "{left} elements left")
 }

@@ -1,7 +1,5 @@
-//! Times of the list commands on long lists, and of many changes of lists and dicts. They go to standard error, so that standard
-//! output stays the same.
-#![tactic(auto)]
-
+//! Times of the list commands on long lists, and of many changes of lists and dicts.
+use crate::measuring::{measured, took};
 use std::alloc::Global;
 use std::io;
 use std::time::Instant;
@@ -35,7 +33,7 @@ fn drawn(seed: u32) -> u32 {
 fn numbers(alloc: Global) -> Result<Value, ValueError> {
     let mut list = List::new(alloc)?;
     let mut seed = 1;
-    for _ in 0..MANY {
+    'times: for _ in 0..MANY {
         seed = drawn(seed);
         list.push(alloc, Value::from_int(i64::from(seed)))?;
     }
@@ -53,7 +51,7 @@ fn key(alloc: Global, number: u32) -> Result<Value, ValueError> {
 fn texts(alloc: Global) -> Result<Value, ValueError> {
     let mut list = List::new(alloc)?;
     let mut seed = 1;
-    for _ in 0..MANY {
+    'times: for _ in 0..MANY {
         seed = drawn(seed);
         list.push(alloc, key(alloc, seed)?)?;
     }
@@ -63,7 +61,7 @@ fn texts(alloc: Global) -> Result<Value, ValueError> {
 /// A long text with commas.
 fn long_text(alloc: Global) -> Result<Value, ValueError> {
     let mut text = String::new(alloc);
-    for _ in 0..REPEATS {
+    'times: for _ in 0..REPEATS {
         text.push_str("abc,efg,")?;
     }
     Value::from_text(Text::from_string(alloc, text)?)
@@ -84,7 +82,7 @@ fn size(given: Result<Value, Refusal>) -> usize {
 /// How long the text of a list is to which so many numbers were added.
 fn appends(alloc: Global) -> usize {
     let mut value = Value::empty();
-    for i in 0..MANY {
+    'times: for i in 0..MANY {
         let _ = lappend(alloc, &mut value, &[Value::from_int(i64::from(i))]);
     }
     value.text_len()
@@ -93,7 +91,7 @@ fn appends(alloc: Global) -> usize {
 /// How long the text of a list is whose elements were set in turn, so often.
 fn sets(alloc: Global) -> usize {
     let mut value = Value::empty();
-    for i in 0..MANY {
+    'times: for i in 0..MANY {
         let index = Value::from_int(i64::from(i % PARTS));
         let new = Value::from_int(i64::from(i));
         let _ = lset(alloc, Tcl8, &mut value, &[index], &new);
@@ -104,7 +102,7 @@ fn sets(alloc: Global) -> usize {
 /// How long the text of a dict is whose values were counted up in turn, so often.
 fn counts(alloc: Global) -> usize {
     let mut value = Value::empty();
-    for i in 0..MANY {
+    'times: for i in 0..MANY {
         let key = Value::from_int(i64::from(i % PARTS));
         let _ = incr(alloc, Tcl8, &mut value, &key, None);
     }
@@ -114,7 +112,7 @@ fn counts(alloc: Global) -> usize {
 /// How long the text of a dict is that got so many keys.
 fn keys_set(alloc: Global) -> usize {
     let mut value = Value::empty();
-    for i in 0..MANY {
+    'times: for i in 0..MANY {
         let key = Value::from_int(i64::from(i));
         let _ = set(alloc, &mut value, &[key], &Value::empty());
     }
@@ -124,7 +122,7 @@ fn keys_set(alloc: Global) -> usize {
 /// How long the text of a dict is whose values were made longer in turn, so often.
 fn longer_values(alloc: Global, more: &Value) -> usize {
     let mut value = Value::empty();
-    for i in 0..MANY {
+    'times: for i in 0..MANY {
         let key = Value::from_int(i64::from(i % PARTS));
         if let Ok(text) = more.clone() {
             let _ = append(alloc, &mut value, &key, &[text]);
@@ -136,7 +134,7 @@ fn longer_values(alloc: Global, more: &Value) -> usize {
 /// How long the text of a dict is to whose one value four bytes were added, so often.
 fn longer_value(alloc: Global, key: &Value, more: &Value) -> usize {
     let mut value = Value::empty();
-    for _ in 0..MANY {
+    'times: for _ in 0..MANY {
         if let Ok(text) = more.clone() {
             let _ = append(alloc, &mut value, key, &[text]);
         }
@@ -147,7 +145,7 @@ fn longer_value(alloc: Global, key: &Value, more: &Value) -> usize {
 /// How long the text of a dict is to whose one list so many numbers were added.
 fn longer_list(alloc: Global, key: &Value) -> usize {
     let mut value = Value::empty();
-    for i in 0..MANY {
+    'times: for i in 0..MANY {
         let word = Value::from_int(i64::from(i));
         let _ = lappend_key(alloc, &mut value, key, &[word]);
     }
@@ -157,7 +155,7 @@ fn longer_list(alloc: Global, key: &Value) -> usize {
 /// How long the text of a list of ten lists is whose elements were set in turn, so often.
 fn inner_sets(alloc: Global) -> usize {
     let mut value = Value::empty();
-    for i in 0..MANY {
+    'times: for i in 0..MANY {
         let row = Value::from_int(i64::from(i / PARTS % 10));
         let column = Value::from_int(i64::from(i % PARTS));
         let new = Value::from_int(i64::from(i));
@@ -169,7 +167,7 @@ fn inner_sets(alloc: Global) -> usize {
 /// How long the text of a dict of ten dicts is whose values were set in turn, so often.
 fn inner_keys_set(alloc: Global) -> usize {
     let mut value = Value::empty();
-    for i in 0..MANY {
+    'times: for i in 0..MANY {
         let row = Value::from_int(i64::from(i / PARTS % 10));
         let column = Value::from_int(i64::from(i % PARTS));
         let new = Value::from_int(i64::from(i));
@@ -181,7 +179,7 @@ fn inner_keys_set(alloc: Global) -> usize {
 /// A dict of ten dicts that have so many keys together.
 fn ten_dicts(alloc: Global) -> Value {
     let mut value = Value::empty();
-    for i in 0..MANY {
+    'times: for i in 0..MANY {
         let row = Value::from_int(i64::from(i % 10));
         let column = Value::from_int(i64::from(i / 10));
         let _ = set(alloc, &mut value, &[row, column], &Value::empty());
@@ -192,7 +190,7 @@ fn ten_dicts(alloc: Global) -> Value {
 /// How long the text of that dict is whose keys were unset in turn, of each dict the last first.
 fn inner_keys_unset(alloc: Global, dicts: Value) -> usize {
     let mut value = dicts;
-    for i in 0..MANY {
+    'times: for i in 0..MANY {
         let last = MANY - 1 - i;
         let row = Value::from_int(i64::from(last % 10));
         let column = Value::from_int(i64::from(last / 10));
@@ -201,94 +199,74 @@ fn inner_keys_unset(alloc: Global, dicts: Value) -> usize {
     value.text_len()
 }
 
-/// Says on standard output what came of it, and on standard error how long it took.
-macro_rules! timed {
-    ($rt:expr, $name:expr, $work:expr) => {
-        let start = Instant::now($rt)?;
-        let came = $work;
-        let time = start.elapsed($rt)?;
-        let name = $name;
-        println!($rt; "{name}: {came}")?;
-        eprintln!($rt; "{name}: {time:?}")?;
-    };
-}
-
 /// Puts lists in order.
-fn order(rt: &HostRuntime) -> io::Result<()> {
+fn measure_order(rt: &HostRuntime) -> io::Result<()> {
     let alloc = rt.alloc();
     if let (Ok(option), Ok(list)) = (word(alloc, "-integer"), numbers(alloc)) {
         let words = [option, list];
-        timed!(
-            rt,
-            "lsort -integer of 200,000",
-            size(lsort(alloc, Tcl8, &words))
-        );
+    measured!(rt, "lsort -integer of 200,000", size(lsort(alloc, Tcl8, &words)));
     }
     if let Ok(list) = texts(alloc) {
         let words = [list];
-        timed!(rt, "lsort of 200,000", size(lsort(alloc, Tcl8, &words)));
+    measured!(rt, "lsort of 200,000", size(lsort(alloc, Tcl8, &words)));
     }
+    Ok(())
+}
+
+/// Joins a list again that a text was taken apart to.
+fn measure_joining(rt: &HostRuntime, words: &[Value]) -> io::Result<()> {
+    let alloc = rt.alloc();
+    measured!(rt, "join of 262,145", size(join(alloc, words)));
     Ok(())
 }
 
 /// Takes a long text apart and joins it again.
-fn parts(rt: &HostRuntime) -> io::Result<()> {
+fn measure_parts(rt: &HostRuntime) -> io::Result<()> {
     let alloc = rt.alloc();
-    if let (Ok(text), Ok(comma)) = (long_text(alloc), word(alloc, ",")) {
-        let words = [text, comma];
-        let start = Instant::now(rt)?;
-        let given = split(alloc, &words);
-        let time = start.elapsed(rt)?;
-        eprintln!(rt; "split of 1 MB: {time:?}")?;
-        if let Ok(list) = given {
-            let words = [list];
-            timed!(rt, "join of 262,145", size(join(alloc, &words)));
-        }
+    let (Ok(text), Ok(comma)) = (long_text(alloc), word(alloc, ",")) else {
+        return Ok(());
+    };
+    let words = [text, comma];
+    let start = Instant::now(rt)?;
+    let given = split(alloc, &words);
+    took(rt, "split of 1 MB", start)?;
+    match given {
+        Ok(list) => measure_joining(rt, &[list]),
+        Err(_) => Ok(()),
     }
+}
+
+/// Changes lists and dicts.
+fn measure_changes(rt: &HostRuntime, more: &Value) -> io::Result<()> {
+    let alloc = rt.alloc();
+    measured!(rt, "200,000 times lappend", appends(alloc));
+    measured!(rt, "200,000 times lset", sets(alloc));
+    measured!(rt, "200,000 times dict incr", counts(alloc));
+    measured!(rt, "200,000 times dict set", keys_set(alloc));
+    measured!(rt, "200,000 times dict append", longer_values(alloc, more));
     Ok(())
 }
 
 /// Changes what stands inside lists and dicts.
-fn inside(rt: &HostRuntime) -> io::Result<()> {
+fn measure_inside(rt: &HostRuntime, more: &Value) -> io::Result<()> {
     let alloc = rt.alloc();
-    timed!(rt, "200,000 times lset inside", inner_sets(alloc));
-    timed!(rt, "200,000 times dict set inside", inner_keys_set(alloc));
+    measured!(rt, "200,000 times lset inside", inner_sets(alloc));
+    measured!(rt, "200,000 times dict set inside", inner_keys_set(alloc));
     let dicts = ten_dicts(alloc);
-    timed!(
-        rt,
-        "200,000 times dict unset of a nested key",
-        inner_keys_unset(alloc, dicts)
-    );
+    measured!(rt, "200,000 times dict unset of a nested key", inner_keys_unset(alloc, dicts));
     let key = Value::from_int(0);
-    if let Ok(more) = word(alloc, "abcd") {
-        timed!(
-            rt,
-            "200,000 times dict append to one key",
-            longer_value(alloc, &key, &more)
-        );
-    }
-    timed!(
-        rt,
-        "200,000 times dict lappend to one key",
-        longer_list(alloc, &key)
-    );
+    measured!(rt, "200,000 times dict append to one key", longer_value(alloc, &key, more));
+    measured!(rt, "200,000 times dict lappend to one key", longer_list(alloc, &key));
     Ok(())
 }
 
-fn main(rt: HostRuntime) -> io::Result<()> {
-    order(&rt)?;
-    parts(&rt)?;
-    let alloc = rt.alloc();
-    timed!(&rt, "200,000 times lappend", appends(alloc));
-    timed!(&rt, "200,000 times lset", sets(alloc));
-    timed!(&rt, "200,000 times dict incr", counts(alloc));
-    timed!(&rt, "200,000 times dict set", keys_set(alloc));
-    if let Ok(more) = word(alloc, "abcd") {
-        timed!(
-            &rt,
-            "200,000 times dict append",
-            longer_values(alloc, &more)
-        );
+/// Measures commands on lists, and changes of lists and dicts.
+pub(crate) fn measure(rt: &HostRuntime) -> io::Result<()> {
+    measure_order(rt)?;
+    measure_parts(rt)?;
+    if let Ok(more) = word(rt.alloc(), "abcd") {
+        measure_changes(rt, &more)?;
+        measure_inside(rt, &more)?;
     }
-    inside(&rt)
+    Ok(())
 }
