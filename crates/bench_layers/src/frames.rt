@@ -80,7 +80,8 @@ fn many(alloc: Global) -> Result<Frames, FrameError> {
     Ok(frames)
 }
 
-/// Unsets the names from the first on and sets each again, so that the first of them all is unset each time.
+/// Unsets the names from the first on and sets each again, so that the first of them all is unset
+/// each time.
 fn unset_first(frames: &mut Frames, alloc: Global) -> Result<(), FrameError> {
     'numbers: for number in 0..UNSETS {
         let name = numbered(alloc, number)?;
@@ -109,7 +110,8 @@ fn elements(alloc: Global) -> Result<Vec<(Text, Value)>, AllocError> {
     Ok(elements)
 }
 
-/// Sets the elements of an array of many keys at once, unsets those whose keys end in 7, and gives how many are left.
+/// Sets the elements of an array of many keys at once, unsets those whose keys end in 7, and gives
+/// how many are left.
 fn fill_array(frames: &mut Frames, alloc: Global) -> Result<usize, FrameError> {
     let name = Text::new(alloc, "a")?;
     let pattern = Text::new(alloc, "*7")?;
@@ -133,8 +135,16 @@ fn told<T: Drop>(outcome: Result<T, FrameError>) -> &'static str {
 
 /// Unsets one of many names often: the first, and then the last.
 fn measure_unsetting(rt: &HostRuntime, frames: &mut Frames) -> io::Result<()> {
-    measured!(rt, "the first of many unset", told(unset_first(frames, rt.alloc())));
-    measured!(rt, "the last of many unset", told(unset_last(frames, rt.alloc())));
+    measured!(
+        rt,
+        "the first of many unset",
+        told(unset_first(frames, rt.alloc()))
+    );
+    measured!(
+        rt,
+        "the last of many unset",
+        told(unset_last(frames, rt.alloc()))
+    );
     Ok(())
 }
 

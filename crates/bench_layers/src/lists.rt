@@ -204,11 +204,15 @@ fn measure_order(rt: &HostRuntime) -> io::Result<()> {
     let alloc = rt.alloc();
     if let (Ok(option), Ok(list)) = (word(alloc, "-integer"), numbers(alloc)) {
         let words = [option, list];
-    measured!(rt, "lsort -integer of 200,000", size(lsort(alloc, Tcl8, &words)));
+        measured!(
+            rt,
+            "lsort -integer of 200,000",
+            size(lsort(alloc, Tcl8, &words))
+        );
     }
     if let Ok(list) = texts(alloc) {
         let words = [list];
-    measured!(rt, "lsort of 200,000", size(lsort(alloc, Tcl8, &words)));
+        measured!(rt, "lsort of 200,000", size(lsort(alloc, Tcl8, &words)));
     }
     Ok(())
 }
@@ -253,10 +257,22 @@ fn measure_inside(rt: &HostRuntime, more: &Value) -> io::Result<()> {
     measured!(rt, "200,000 times lset inside", inner_sets(alloc));
     measured!(rt, "200,000 times dict set inside", inner_keys_set(alloc));
     let dicts = ten_dicts(alloc);
-    measured!(rt, "200,000 times dict unset of a nested key", inner_keys_unset(alloc, dicts));
+    measured!(
+        rt,
+        "200,000 times dict unset of a nested key",
+        inner_keys_unset(alloc, dicts)
+    );
     let key = Value::from_int(0);
-    measured!(rt, "200,000 times dict append to one key", longer_value(alloc, &key, more));
-    measured!(rt, "200,000 times dict lappend to one key", longer_list(alloc, &key));
+    measured!(
+        rt,
+        "200,000 times dict append to one key",
+        longer_value(alloc, &key, more)
+    );
+    measured!(
+        rt,
+        "200,000 times dict lappend to one key",
+        longer_list(alloc, &key)
+    );
     Ok(())
 }
 

@@ -1,6 +1,7 @@
-//! The times of the layers below scripts: expressions, the table of interpreters, values, strings, frames and lists. The name of
-//! one of them behind the program's name picks it. What comes of the work goes to standard output and the times to standard error,
-//! so that standard output stays the same.
+//! The times of the layers below scripts: expressions, the table of interpreters, values, strings,
+//! frames and lists. The name of one of them behind the program's name picks it. What comes of the
+//! work goes to standard output and the times to standard error, so that standard output stays the
+//! same.
 #![tactic(auto)]
 
 mod expressions;

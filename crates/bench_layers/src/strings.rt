@@ -50,11 +50,19 @@ fn measure_string(rt: &HostRuntime, name: &str, texts: &[&str]) -> io::Result<()
 /// Runs `string` on a long text.
 fn measure_long(rt: &HostRuntime, long: &str) -> io::Result<()> {
     measure_string(rt, "map of two keys", &["map", "a xy bc z", long])?;
-    measure_string(rt, "map of two keys without case", &["map", "-nocase", "A xy BC z", long])?;
+    measure_string(
+        rt,
+        "map of two keys without case",
+        &["map", "-nocase", "A xy BC z", long],
+    )?;
     measure_string(rt, "map of no key that fits", &["map", "q x", long])?;
     measure_string(rt, "length", &["length", long])?;
     measure_string(rt, "index of the last", &["index", long, "end"])?;
-    measure_string(rt, "range of the middle", &["range", long, "262144", "786431"])?;
+    measure_string(
+        rt,
+        "range of the middle",
+        &["range", long, "262144", "786431"],
+    )?;
     measure_string(rt, "first at the end", &["first", "f, x", long])?;
     measure_string(rt, "last at the start", &["last", "xabc", long])?;
     measure_string(rt, "reverse", &["reverse", long])?;

@@ -1,4 +1,5 @@
-//! The times of counting steps by place and by path, at four levels, and of copying a few interpreters out of many.
+//! The times of counting steps by place and by path, at four levels, and of copying a few
+//! interpreters out of many.
 ghost use Rattle.std.specs.Prelude.{List, ℕ};
 ghost use Rattle.tcl_tree.specs.TreeOf.{Names};
 
@@ -115,7 +116,8 @@ fn widen(tree: &mut Tree, alloc: Global, others: u32) -> Result<(), Refusal> {
     Ok(())
 }
 
-/// Copies the interpreter at the path, with all below it, so often, and says how many interpreters the copies have together.
+/// Copies the interpreter at the path, with all below it, so often, and says how many interpreters
+/// the copies have together.
 fn copy_often(tree: &Tree, path: &[Text]) -> Result<usize, Refusal> {
     let mut copied = 0usize;
     'copies: for _ in 0..COPIES {
@@ -125,7 +127,8 @@ fn copy_often(tree: &Tree, path: &[Text]) -> Result<usize, Refusal> {
     Ok(copied)
 }
 
-/// Copies the child with two children, and shows how many interpreters were copied, out of how many, and the time.
+/// Copies the child with two children, and shows how many interpreters were copied, out of how
+/// many, and the time.
 fn show_copied(rt: &HostRuntime, tree: &Tree) -> io::Result<()> {
     let few = [Text::new(rt.alloc(), "n0")?];
     let all = tree.table().len();

@@ -80,7 +80,8 @@ fn place_inside(alloc: Global, place: u32) -> Result<Vec<Value>, AllocError> {
     Ok(path)
 }
 
-/// How long the text of a list is in which one stands whose elements were changed in turn, so often.
+/// How long the text of a list is in which one stands whose elements were changed in turn, so
+/// often.
 fn inner_sets(alloc: Global, parts: usize, times: u32) -> usize {
     let mut value = inner_list(alloc, parts);
     'times: for i in 0..times {
@@ -121,7 +122,8 @@ fn inner_entries(alloc: Global, parts: u32, times: u32) -> usize {
     value.text_len()
 }
 
-/// How long the text of a dict is in which one stands that got a key behind its own and lost it again, so often.
+/// How long the text of a dict is in which one stands that got a key behind its own and lost it
+/// again, so often.
 fn inner_removals(alloc: Global, parts: u32, times: u32) -> usize {
     let mut value = inner_dict(alloc, parts);
     'times: for _ in 0..times {
@@ -216,11 +218,19 @@ fn literal(alloc: Global) -> Result<Value, ValueError> {
 fn measure_texts(rt: &HostRuntime) -> io::Result<()> {
     let alloc = rt.alloc();
     measured!(rt, "10,000,000 increments", increments(INCREMENTS));
-    measured!(rt, "100,000 appends to a text", appends(alloc, CHANGES / 10));
+    measured!(
+        rt,
+        "100,000 appends to a text",
+        appends(alloc, CHANGES / 10)
+    );
     measured!(rt, "1,000,000 appends to a text", appends(alloc, CHANGES));
     measured!(rt, "100,000 appends to a list", pushes(alloc, CHANGES / 10));
     measured!(rt, "1,000,000 appends to a list", pushes(alloc, CHANGES));
-    measured!(rt, "100,000 changes of an element", sets(alloc, CHANGES / 10));
+    measured!(
+        rt,
+        "100,000 changes of an element",
+        sets(alloc, CHANGES / 10)
+    );
     measured!(rt, "1,000,000 changes of an element", sets(alloc, CHANGES));
     Ok(())
 }
@@ -228,22 +238,62 @@ fn measure_texts(rt: &HostRuntime) -> io::Result<()> {
 /// Changes of what stands inside a list.
 fn measure_inner_lists(rt: &HostRuntime) -> io::Result<()> {
     let alloc = rt.alloc();
-    measured!(rt, "10,000 changes in an inner list of 1,000", inner_sets(alloc, PARTS, CHANGES / 100));
-    measured!(rt, "10,000 changes in an inner list of 10,000", inner_sets(alloc, 10 * PARTS, CHANGES / 100));
+    measured!(
+        rt,
+        "10,000 changes in an inner list of 1,000",
+        inner_sets(alloc, PARTS, CHANGES / 100)
+    );
+    measured!(
+        rt,
+        "10,000 changes in an inner list of 10,000",
+        inner_sets(alloc, 10 * PARTS, CHANGES / 100)
+    );
     Ok(())
 }
 
 /// Changes of what stands inside a dict.
 fn measure_inner_dicts(rt: &HostRuntime) -> io::Result<()> {
     let alloc = rt.alloc();
-    measured!(rt, "10,000 changes in an inner dict of 1,000", inner_entries(alloc, KEYS, CHANGES / 100));
-    measured!(rt, "10,000 changes in an inner dict of 10,000", inner_entries(alloc, 10 * KEYS, CHANGES / 100));
-    measured!(rt, "10,000 removals from an inner dict of 1,000", inner_removals(alloc, KEYS, CHANGES / 100));
-    measured!(rt, "10,000 removals from an inner dict of 10,000", inner_removals(alloc, 10 * KEYS, CHANGES / 100));
-    measured!(rt, "100,000 appends to the text of a key", inner_appends(alloc, CHANGES / 10));
-    measured!(rt, "1,000,000 appends to the text of a key", inner_appends(alloc, CHANGES));
-    measured!(rt, "100,000 appends to the list of a key", inner_pushes(alloc, CHANGES / 10));
-    measured!(rt, "1,000,000 appends to the list of a key", inner_pushes(alloc, CHANGES));
+    measured!(
+        rt,
+        "10,000 changes in an inner dict of 1,000",
+        inner_entries(alloc, KEYS, CHANGES / 100)
+    );
+    measured!(
+        rt,
+        "10,000 changes in an inner dict of 10,000",
+        inner_entries(alloc, 10 * KEYS, CHANGES / 100)
+    );
+    measured!(
+        rt,
+        "10,000 removals from an inner dict of 1,000",
+        inner_removals(alloc, KEYS, CHANGES / 100)
+    );
+    measured!(
+        rt,
+        "10,000 removals from an inner dict of 10,000",
+        inner_removals(alloc, 10 * KEYS, CHANGES / 100)
+    );
+    measured!(
+        rt,
+        "100,000 appends to the text of a key",
+        inner_appends(alloc, CHANGES / 10)
+    );
+    measured!(
+        rt,
+        "1,000,000 appends to the text of a key",
+        inner_appends(alloc, CHANGES)
+    );
+    measured!(
+        rt,
+        "100,000 appends to the list of a key",
+        inner_pushes(alloc, CHANGES / 10)
+    );
+    measured!(
+        rt,
+        "1,000,000 appends to the list of a key",
+        inner_pushes(alloc, CHANGES)
+    );
     Ok(())
 }
 
@@ -258,15 +308,27 @@ fn measure_keys(rt: &HostRuntime) -> io::Result<()> {
 /// Changes of a dict's entries.
 fn measure_entries(rt: &HostRuntime, keys: &[Value]) -> io::Result<()> {
     let alloc = rt.alloc();
-    measured!(rt, "100,000 changes of an entry", entries(alloc, keys, CHANGES / 10));
-    measured!(rt, "1,000,000 changes of an entry", entries(alloc, keys, CHANGES));
+    measured!(
+        rt,
+        "100,000 changes of an entry",
+        entries(alloc, keys, CHANGES / 10)
+    );
+    measured!(
+        rt,
+        "1,000,000 changes of an entry",
+        entries(alloc, keys, CHANGES)
+    );
     Ok(())
 }
 
 /// Readings of a literal as a list.
 fn measure_readings(rt: &HostRuntime, literal: &mut Value) -> io::Result<()> {
     let alloc = rt.alloc();
-    measured!(rt, "1,000,000 readings of a literal's list", reads(alloc, literal, CHANGES));
+    measured!(
+        rt,
+        "1,000,000 readings of a literal's list",
+        reads(alloc, literal, CHANGES)
+    );
     Ok(())
 }
 

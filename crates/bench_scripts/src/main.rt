@@ -1,6 +1,6 @@
-//! The times of scripts, and of watching and replaying them. What comes of the work goes to standard output and the times to
-//! standard error, so that standard output stays the same. The word `full` behind the program's name asks for the sizes that
-//! docs/PERFORMANCE.md tells of.
+//! The times of scripts, and of watching and replaying them. What comes of the work goes to
+//! standard output and the times to standard error, so that standard output stays the same. The
+//! word `full` behind the program's name asks for the sizes that docs/PERFORMANCE.md tells of.
 #![tactic(auto)]
 
 mod measuring;

@@ -1,5 +1,5 @@
-//! The times of watching and of replaying: a safe child that calls its parent by an alias, evaluated unwatched, watched, and
-//! replayed by itself.
+//! The times of watching and of replaying: a safe child that calls its parent by an alias,
+//! evaluated unwatched, watched, and replayed by itself.
 use crate::measuring::{STEPS, Size, result_of, run, took};
 use std::alloc::{AllocError, Global};
 use std::io;
@@ -87,7 +87,8 @@ fn outcome_of(alloc: Global, played: Result<Replayed, Unplayed>) -> Result<Strin
     }
 }
 
-/// Runs the script unwatched: what comes of it goes to standard output, and how long it took to standard error.
+/// Runs the script unwatched: what comes of it goes to standard output, and how long it took to
+/// standard error.
 fn measure_unwatched(rt: &HostRuntime, script: &str) -> io::Result<()> {
     let mut tree = planted(rt.alloc())?;
     let start = Instant::now(rt)?;

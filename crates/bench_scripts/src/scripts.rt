@@ -1,4 +1,5 @@
-//! The times of scripts: a loop, a recursion, calls out of a safe child, and children made and deleted.
+//! The times of scripts: a loop, a recursion, calls out of a safe child, and children made and
+//! deleted.
 use crate::measuring::{Size, result_of, run, took};
 use std::alloc::{AllocError, Global};
 use std::io;
@@ -39,28 +40,32 @@ fn counts_of(size: Size) -> Counts {
 /// A loop that counts and adds up.
 fn turning(alloc: Global, turns: u32) -> Result<String, AllocError> {
     format!(in alloc;
-        "set s 0; for {{set i 0}} {{$i < {turns}}} {{incr i}} {{incr s [expr {{$i * 7 % 13}}]}}; set s"
+        "set s 0; for {{set i 0}} {{$i < {turns}}} {{incr i}} \
+         {{incr s [expr {{$i * 7 % 13}}]}}; set s"
     )
 }
 
 /// A recursion, each call of which computes and compares.
 fn recursing(alloc: Global, n: u32) -> Result<String, AllocError> {
     format!(in alloc;
-        "proc fib n {{if {{$n < 2}} {{return $n}}; expr {{[fib [expr {{$n - 1}}]] + [fib [expr {{$n - 2}}]]}}}}; fib {n}"
+        "proc fib n {{if {{$n < 2}} {{return $n}}; \
+         expr {{[fib [expr {{$n - 1}}]] + [fib [expr {{$n - 2}}]]}}}}; fib {n}"
     )
 }
 
 /// A safe child that calls its parent by an alias.
 fn calling(alloc: Global, calls: u32) -> Result<String, AllocError> {
     format!(in alloc;
-        "interp create -safe c; proc take x {{return $x}}; interp alias c take {{}} take; c eval {{for {{set i 0}} {{$i < {calls}}} {{incr i}} {{take $i}}; set i}}"
+        "interp create -safe c; proc take x {{return $x}}; interp alias c take {{}} take; \
+         c eval {{for {{set i 0}} {{$i < {calls}}} {{incr i}} {{take $i}}; set i}}"
     )
 }
 
 /// Children that are made, used and deleted.
 fn bearing(alloc: Global, children: u32) -> Result<String, AllocError> {
     format!(in alloc;
-        "for {{set i 0}} {{$i < {children}}} {{incr i}} {{interp create -safe k; k eval {{set a 1; set b 2}}; interp delete k}}; list $i [interp slaves]"
+        "for {{set i 0}} {{$i < {children}}} {{incr i}} {{interp create -safe k; \
+         k eval {{set a 1; set b 2}}; interp delete k}}; list $i [interp slaves]"
     )
 }
 
@@ -84,7 +89,15 @@ pub(crate) fn measure(rt: &HostRuntime, size: Size) -> io::Result<()> {
     let alloc = rt.alloc();
     let counts = counts_of(size);
     measure_script(rt, "a loop", turning(alloc, counts.turns)?.as_str())?;
-    measure_script(rt, "a recursion", recursing(alloc, counts.fibonacci)?.as_str())?;
-    measure_script(rt, "calls by an alias", calling(alloc, counts.calls)?.as_str())?;
+    measure_script(
+        rt,
+        "a recursion",
+        recursing(alloc, counts.fibonacci)?.as_str(),
+    )?;
+    measure_script(
+        rt,
+        "calls by an alias",
+        calling(alloc, counts.calls)?.as_str(),
+    )?;
     measure_script(rt, "children", bearing(alloc, counts.children)?.as_str())
 }

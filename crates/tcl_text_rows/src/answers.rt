@@ -60,10 +60,7 @@ pub(crate) fn refusal(alloc: Global, refusal: Refusal) -> Result<String, AllocEr
 }
 
 /// What a command answers.
-pub(crate) fn answer(
-    alloc: Global,
-    answer: Result<Answer, Refusal>,
-) -> Result<String, AllocError> {
+pub(crate) fn answer(alloc: Global, answer: Result<Answer, Refusal>) -> Result<String, AllocError> {
     match answer {
         Ok(Answer::Text(given)) => text(alloc, &given),
         Ok(Answer::Number(number)) => behind(alloc, "number", write_int(alloc, number)?.as_str()),

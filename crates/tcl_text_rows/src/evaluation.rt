@@ -1,5 +1,5 @@
-//! What expressions compute. Behind a bar stands what they asked for. The values of `$s`, `$i` and `$z` are 7, 3 and 0, and that of
-//! any other part is a text which is no number.
+//! What expressions compute. Behind a bar stands what they asked for. The values of `$s`, `$i` and
+//! `$z` are 7, 3 and 0, and that of any other part is a text which is no number.
 use crate::answers::text as told;
 use std::alloc::{AllocError, Global};
 use tcl_expr::fault::ExprError;
@@ -119,7 +119,8 @@ fn evaluated(
     computed(alloc, &mut evaluation, tree, style)
 }
 
-/// What an expression computes, or what is told of its fault; where it is asked again, what it computes the second time.
+/// What an expression computes, or what is told of its fault; where it is asked again, what it
+/// computes the second time.
 pub(crate) fn result(
     alloc: Global,
     text: &str,

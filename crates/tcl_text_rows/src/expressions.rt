@@ -6,12 +6,7 @@ use tcl_text::integer::Integers;
 use tcl_text::text::Text;
 
 /// What a verb answers to an expression.
-fn of_text(
-    alloc: Global,
-    style: Integers,
-    verb: &str,
-    text: &str,
-) -> Result<String, AllocError> {
+fn of_text(alloc: Global, style: Integers, verb: &str, text: &str) -> Result<String, AllocError> {
     match verb {
         "token" => tokens::first(alloc, text, false, style),
         "token_behind_minus" => tokens::first(alloc, text, true, style),
@@ -32,8 +27,12 @@ pub(crate) fn answer(
 ) -> Result<String, AllocError> {
     match (verb, words) {
         ("message", [fault, text]) => tokens::message(alloc, fault.as_str(), text.as_str()),
-        ("apply", [symbol, operands @ ..]) =>
-            operators::apply(alloc, style, symbol.as_str(), operands),
+        ("apply", [symbol, operands @ ..]) => operators::apply(
+            alloc,
+            style,
+            symbol.as_str(),
+            operands,
+        ),
         (_, [text]) => of_text(alloc, style, verb, text.as_str()),
         _ => no_call(alloc),
     }

@@ -1,11 +1,13 @@
 //! Rows of texts, numbers, words, strings, commands of strings, and expressions.
 //!
-//! A call is the words of a list: a verb, which is most often the name of a function, and what it is given. It is put in both
-//! styles of integers, and answers what both say, or what each says where they differ. Behind `8` or `9` it is put in that style
-//! alone. `bytes CALL` answers how many bytes the answer has. `keep COUNT OPEN INSIDE CLOSE` keeps a text for the calls that
-//! follow in the group: OPEN so many times, INSIDE, and CLOSE as often. There the word `@` is that text.
+//! A call is the words of a list: a verb, which is most often the name of a function, and what it
+//! is given. It is put in both styles of integers, and answers what both say, or what each says
+//! where they differ. Behind `8` or `9` it is put in that style alone. `bytes CALL` answers how
+//! many bytes the answer has. `keep COUNT OPEN INSIDE CLOSE` keeps a text for the calls that follow
+//! in the group: OPEN so many times, INSIDE, and CLOSE as often. There the word `@` is that text.
 //!
-//! A text is answered as it is, an error behind `error:`, and a list with each element in `<` and `>`.
+//! A text is answered as it is, an error behind `error:`, and a list with each element in `<` and
+//! `>`.
 #![tactic(auto)]
 
 mod answers;
@@ -106,14 +108,6 @@ fn in_its_styles(alloc: Global, layer: Layer, call: &[Text]) -> Result<String, A
     }
 }
 
-/// A text so many times.
-fn push_often(text: &mut String, count: usize, more: &str) -> Result<(), AllocError> {
-    'times: for _ in 0..count {
-        text.push_str(more)?;
-    }
-    Ok(())
-}
-
 /// A text with so many of another before it, and as many of a third behind it.
 fn nested(
     alloc: Global,
@@ -122,10 +116,9 @@ fn nested(
     inside: &Text,
     close: &Text,
 ) -> Result<Text, AllocError> {
-    let mut text = String::new(alloc);
-    push_often(&mut text, count, open.as_str())?;
+    let mut text = open.as_str().repeat(alloc, count)?;
     text.push_str(inside.as_str())?;
-    push_often(&mut text, count, close.as_str())?;
+    text.push_str(close.as_str().repeat(alloc, count)?.as_str())?;
     Text::from_string(alloc, text)
 }
 

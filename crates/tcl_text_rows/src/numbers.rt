@@ -37,12 +37,7 @@ fn index(alloc: Global, style: Integers, end: i64, text: &str) -> Result<String,
 }
 
 /// What a verb answers to a text.
-fn of_text(
-    alloc: Global,
-    style: Integers,
-    verb: &str,
-    word: &str,
-) -> Result<String, AllocError> {
+fn of_text(alloc: Global, style: Integers, verb: &str, word: &str) -> Result<String, AllocError> {
     match verb {
         "integer" => integer(alloc, style, word),
         "boolean" => boolean(alloc, style, word),

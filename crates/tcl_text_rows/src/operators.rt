@@ -1,5 +1,5 @@
-//! Operators and functions applied to values that are at hand. An operator or a function is named as it is written, and `truth`
-//! is whether a text is true.
+//! Operators and functions applied to values that are at hand. An operator or a function is named
+//! as it is written, and `truth` is whether a text is true.
 use crate::answers::{no_call, text as told, whether};
 use std::alloc::{AllocError, Global};
 use tcl_expr_grammar::operator::{BinaryOperator, Function, UnaryOperator};
@@ -77,7 +77,10 @@ fn between(
 ) -> Result<String, AllocError> {
     let mut left = value(left)?;
     let mut right = value(right)?;
-    outcome(alloc, apply_binary(alloc, operator, &mut left, &mut right, style))
+    outcome(
+        alloc,
+        apply_binary(alloc, operator, &mut left, &mut right, style),
+    )
 }
 
 /// What the function of a number's size makes of an operand.

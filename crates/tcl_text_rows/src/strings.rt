@@ -1,4 +1,5 @@
-//! The functions of strings. A verb that ends in `_nocase` is that of a call without the case of letters.
+//! The functions of strings. A verb that ends in `_nocase` is that of a call without the case of
+//! letters.
 use crate::answers::{answer as told, no_call, whether};
 use std::alloc::{AllocError, Global};
 use std::cmp::Ordering;
@@ -37,11 +38,14 @@ fn placed(alloc: Global, place: Option<usize>) -> Result<String, AllocError> {
 
 /// An order.
 fn ordered(alloc: Global, order: Ordering) -> Result<String, AllocError> {
-    String::from_str(alloc, match order {
-        Ordering::Less => "less",
-        Ordering::Equal => "equal",
-        Ordering::Greater => "greater",
-    })
+    String::from_str(
+        alloc,
+        match order {
+            Ordering::Less => "less",
+            Ordering::Equal => "equal",
+            Ordering::Greater => "greater",
+        },
+    )
 }
 
 /// Whether all characters of a text are in a class.

@@ -1,5 +1,5 @@
 //! Texts: lists, backslash sequences and patterns.
-use crate::answers::{elements, list, no_call, whether};
+use crate::answers::{list, no_call, whether};
 use std::alloc::{AllocError, Global};
 use tcl_glob::matches;
 use tcl_text::backslash::read_escape;
@@ -62,7 +62,6 @@ fn of_two(alloc: Global, verb: &str, one: &str, two: &str) -> Result<String, All
 pub(crate) fn answer(alloc: Global, verb: &str, words: &[Text]) -> Result<String, AllocError> {
     match verb {
         "write_list" => write_list(alloc, words),
-        "words" => elements(alloc, words),
         _ => match words {
             [text] => of_one(alloc, verb, text.as_str()),
             [one, two] => of_two(alloc, verb, one.as_str(), two.as_str()),
