@@ -75,18 +75,9 @@ fn of_string(alloc: Global, style: Integers, words: &[Text]) -> Result<String, A
 }
 
 /// A specifier, and what follows it.
-fn specifier(alloc: Global, words: &[Text]) -> Result<String, AllocError> {
-    let text = words.first().map_or("", |word| word.as_str());
+fn specifier(alloc: Global, text: &str) -> Result<String, AllocError> {
     let (read, rest) = read_specifier(text);
     format!(in alloc; "{read:?} <{rest}>")
-}
-
-/// What is told of a specifier that can't be read, and of what follows it.
-fn refused(alloc: Global, words: &[Text]) -> Refusal {
-    match words {
-        [text, rest] => bad_format(alloc, text.as_str(), rest.as_str()),
-        _ => not_enough(alloc),
-    }
 }
 
 /// What a verb answers.
@@ -96,10 +87,14 @@ pub(crate) fn answer(
     verb: &str,
     words: &[Text],
 ) -> Result<String, AllocError> {
-    match verb {
-        "string" => of_string(alloc, style, words),
-        "specifier" => specifier(alloc, words),
-        "bad_format" | "not_enough" => refusal(alloc, refused(alloc, words)),
+    match (verb, words) {
+        ("string", _) => of_string(alloc, style, words),
+        ("specifier", [text]) => specifier(alloc, text.as_str()),
+        ("bad_format", [text, rest]) => refusal(
+            alloc,
+            bad_format(alloc, text.as_str(), rest.as_str()),
+        ),
+        ("not_enough", []) => refusal(alloc, not_enough(alloc)),
         _ => told(alloc, of_makers(alloc, style, verb, words)),
     }
 }

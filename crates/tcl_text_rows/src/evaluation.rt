@@ -13,14 +13,19 @@ use tcl_text::integer::Integers;
 use tcl_text::text::Text;
 use tcl_value::value::Value;
 
-/// What is asked for: the name of a variable, or the text of a script.
+/// What is asked for with a part: the name of a variable, or the text of a script.
+fn asked_of(part: &Part) -> &str {
+    match part {
+        Part::Variable(text) | Part::Literal(text) | Part::Script(text) | Part::Element(text) =>
+            text.as_str(),
+        Part::EndElement => "",
+    }
+}
+
+/// What is asked for with a word.
 fn push_asked(asked: &mut String, word: &Word) -> Result<(), AllocError> {
     'parts: for part in &word.parts {
-        match part {
-            Part::Variable(text) | Part::Literal(text) | Part::Script(text) | Part::Element(text) =>
-                asked.push_str(text.as_str())?,
-            Part::EndElement => {}
-        }
+        asked.push_str(asked_of(part))?;
     }
     asked.push_str(";")
 }

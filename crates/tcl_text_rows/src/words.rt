@@ -49,7 +49,10 @@ fn last_read<'a>(alloc: Global, verb: &str, words: &'a [Text]) -> &'a str {
 
 /// The integer that a word says.
 fn integer(alloc: Global, style: Integers, word: &str) -> Result<String, AllocError> {
-    told(alloc, integer_word(alloc, style, word).map(Answer::Number))
+    match integer_word(alloc, style, word) {
+        Ok(number) => told(alloc, Ok(Answer::Number(number))),
+        Err(refused) => refusal(alloc, refused),
+    }
 }
 
 /// The list that a word says.
