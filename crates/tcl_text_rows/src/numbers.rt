@@ -74,7 +74,7 @@ fn of_text_and_number(
 fn of_one(operator: &str, a: i64) -> Option<Result<i64, ArithmeticFault>> {
     match operator {
         "write_int" => Some(Ok(a)),
-        "int_len" => Some(Ok(int_len(a) as i64)),
+        "int_len" => Some(Ok(i64::try_from(int_len(a)).unwrap_or(-1))),
         "negation" => Some(negation(a)),
         "absolute" => Some(absolute(a)),
         "complement" => Some(Ok(complement(a))),
