@@ -31,12 +31,7 @@ impl Drop for Values {
 }
 
 /// Gives a name to something.
-fn keep<V: Drop>(
-    alloc: Global,
-    named: &mut IndexMap<String, V>,
-    name: &str,
-    kept: V,
-) -> Answer {
+fn keep<V: Drop>(alloc: Global, named: &mut IndexMap<String, V>, name: &str, kept: V) -> Answer {
     let _before = named.insert(String::from_str(alloc, name)?, kept)?;
     text(alloc, "-")
 }
@@ -218,7 +213,10 @@ impl Values {
         let Some(other) = self.made_list(alloc, "clone", other)? else {
             return no_call(alloc);
         };
-        match (self.lists.get_mut(name.as_str()), index.as_str().parse::<usize>()) {
+        match (
+            self.lists.get_mut(name.as_str()),
+            index.as_str().parse::<usize>(),
+        ) {
             (Some(list), Ok(index)) => push_from(alloc, list, &other, index),
             _ => no_call(alloc),
         }
@@ -327,7 +325,10 @@ impl Values {
 
     /// What a line of rows answers.
     fn line(&mut self, alloc: Global, line: &str) -> Answer {
-        match line.strip_prefix("into ").and_then(|rest| rest.split_once(" ")) {
+        match line
+            .strip_prefix("into ")
+            .and_then(|rest| rest.split_once(" "))
+        {
             Some((name, command)) => self.keep_given(alloc, name, command),
             None => self.call(alloc, line),
         }
