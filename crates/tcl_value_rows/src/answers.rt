@@ -1,7 +1,6 @@
 //! How answers are written.
 use std::alloc::Global;
 use std::fmt;
-use tcl_text::text::Text;
 use tcl_value::value::{Value, ValueError};
 use tcl_words::refusal::Refusal;
 
@@ -78,15 +77,10 @@ pub(crate) fn changed_inside(alloc: Global, is_changed: bool, own: &Value) -> An
     text(alloc, "no")
 }
 
-/// A message.
-pub(crate) fn message(alloc: Global, message: &Text) -> Answer {
-    text(alloc, message.as_str())
-}
-
 /// The message of a refusal.
 pub(crate) fn refused(alloc: Global, why: Refusal) -> Answer {
     match why {
-        Refusal::Fault(fault) => message(alloc, &fault),
+        Refusal::Fault(fault) => text(alloc, fault.as_str()),
         Refusal::Memory => Err(ValueError::Memory),
     }
 }

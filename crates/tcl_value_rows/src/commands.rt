@@ -1,4 +1,5 @@
-//! The commands of lists and dicts: those that give a value, and those that change the value of a variable.
+//! The commands of lists and dicts: those that give a value, and those that change the value of a
+//! variable.
 use crate::parts::of_parts;
 use crate::reading::{Call, Verb};
 use std::alloc::Global;
@@ -140,7 +141,8 @@ fn changed_by_dict(
     }
 }
 
-/// What comes of a command that changes a value, if it is one. The first word stands for that value, and isn't looked at.
+/// What comes of a command that changes a value, if it is one. The first word stands for that
+/// value, and isn't looked at.
 pub(crate) fn changed_by_command(
     alloc: Global,
     call: Call<'_>,

@@ -1,5 +1,5 @@
 //! Calls on dicts that stand by themselves.
-use crate::answers::{Answer, count, done, message, no_call, text, told, yes_or_no};
+use crate::answers::{Answer, count, done, no_call, text, told, yes_or_no};
 use crate::reading::number_of;
 use std::alloc::Global;
 use tcl_text::text::Text;
@@ -22,7 +22,7 @@ fn key(alloc: Global, dict: &Dict, index: usize) -> Answer {
     if index >= dict.len() {
         return text(alloc, "no key");
     }
-    message(alloc, &dict.key(index)?)
+    text(alloc, dict.key(index)?.as_str())
 }
 
 /// The value at a place.

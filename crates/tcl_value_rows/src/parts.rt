@@ -120,7 +120,8 @@ fn largest(alloc: Global, words: &[Value]) -> Result<Value, Refusal> {
     }
 }
 
-/// `sorted LIST texts|numbers decreasing|unique`: the list, sorted by the texts or the numbers of its elements.
+/// `sorted LIST texts|numbers decreasing|unique`: the list, sorted by the texts or the numbers of
+/// its elements.
 fn sorted(alloc: Global, style: Integers, words: &[Value]) -> Result<Value, Refusal> {
     let (list, by, how) = three_words(alloc, words, "sorted list by how")?;
     let list = list_word(alloc, list)?;

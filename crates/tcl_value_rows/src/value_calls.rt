@@ -1,6 +1,6 @@
 //! Calls on values, and on what is nested in them.
 use crate::answers::{
-    Answer, changed, changed_inside, count, message, no_call, refused, told, yes_or_no,
+    Answer, changed, changed_inside, count, no_call, refused, text, told, yes_or_no,
 };
 use crate::commands::changed_by_command;
 use crate::reading::{Call, Verb, number_of, path_of, places_of};
@@ -25,7 +25,7 @@ fn number(alloc: Global, style: Integers, own: &mut Value) -> Answer {
 fn list_len(alloc: Global, own: &mut Value) -> Answer {
     match own.as_list(alloc) {
         Ok(list) => count(alloc, list.len()),
-        Err(ListError::Fault(fault)) => message(alloc, &fault.message(alloc)?),
+        Err(ListError::Fault(fault)) => text(alloc, fault.message(alloc)?.as_str()),
         Err(ListError::Memory) => Err(ValueError::Memory),
     }
 }
@@ -34,12 +34,13 @@ fn list_len(alloc: Global, own: &mut Value) -> Answer {
 fn dict_len(alloc: Global, own: &mut Value) -> Answer {
     match own.as_dict(alloc) {
         Ok(dict) => count(alloc, dict.len()),
-        Err(DictError::Fault(fault)) => message(alloc, &fault.message(alloc)?),
+        Err(DictError::Fault(fault)) => text(alloc, fault.message(alloc)?.as_str()),
         Err(DictError::Memory) => Err(ValueError::Memory),
     }
 }
 
-/// What a call answers that looks at a value: of a list, a dict and a script the number of elements, keys and commands.
+/// What a call answers that looks at a value: of a list, a dict and a script the number of
+/// elements, keys and commands.
 fn looked(alloc: Global, style: Integers, verb: &str, own: &mut Value) -> Answer {
     match verb {
         "text" => told(alloc, own),
@@ -63,14 +64,14 @@ fn count_up(own: &mut Value, times: usize) -> Result<(), IntegerFault> {
 
 /// What a call of one word answers.
 fn of_one(alloc: Global, verb: &str, own: &mut Value, word: &Value) -> Answer {
-    let text = word.text(alloc)?;
+    let more = word.text(alloc)?;
     match verb {
-        "is_text" => yes_or_no(alloc, own.is_text(text.as_str().as_bytes())),
+        "is_text" => yes_or_no(alloc, own.is_text(more.as_str().as_bytes())),
         "same" => yes_or_no(alloc, own.same(word)),
         "count_up" => changed(alloc, count_up(own, number_of(alloc, word)?), own),
-        "append" => changed(alloc, own.append(alloc, text.as_str()), own),
+        "append" => changed(alloc, own.append(alloc, more.as_str()), own),
         "push" => changed(alloc, own.push(alloc, word.clone()?), own),
-        "remove_key" => changed(alloc, own.remove_key(alloc, &text), own),
+        "remove_key" => changed(alloc, own.remove_key(alloc, &more), own),
         _ => no_call(alloc),
     }
 }
@@ -78,12 +79,13 @@ fn of_one(alloc: Global, verb: &str, own: &mut Value, word: &Value) -> Answer {
 /// What a value is after a nested change, or why it isn't changed.
 fn nested(alloc: Global, outcome: Result<(), NestedError>, own: &Value) -> Answer {
     match outcome {
-        Err(NestedError::Fault(fault)) => message(alloc, &fault.message(alloc)?),
+        Err(NestedError::Fault(fault)) => text(alloc, fault.message(alloc)?.as_str()),
         other => changed(alloc, other, own),
     }
 }
 
-/// What a change at a path of keys makes of a value. `remove_nested` is `remove_key` of nested dicts.
+/// What a change at a path of keys makes of a value. `remove_nested` is `remove_key` of nested
+/// dicts.
 fn of_keys(alloc: Global, verb: &str, own: &mut Value, path: &[Value], word: &Value) -> Answer {
     match verb {
         "set_value" => nested(alloc, set_value(alloc, own, path, word.clone()?), own),
@@ -126,7 +128,8 @@ fn of_two(
     }
 }
 
-/// What a value is after elements were added to a list inside it: `extend_inside VALUE PATH ELEMENT ..`.
+/// What a value is after elements were added to a list inside it: `extend_inside VALUE PATH ELEMENT
+/// ..`.
 fn extended_inside(alloc: Global, own: &mut Value, words: &[Value]) -> Answer {
     match words {
         [path, elements @ ..] => {

@@ -49,7 +49,8 @@ fn number_or_text(name: &str, word: &Text) -> Result<Value, ValueError> {
     }
 }
 
-/// A text of so many letters: for each binary digit of the number what is there is doubled, and a one adds a letter.
+/// A text of so many letters: for each binary digit of the number what is there is doubled, and a
+/// one adds a letter.
 fn letters(alloc: Global, count: u32) -> Result<Value, ValueError> {
     let mut letters = String::new(alloc);
     'digits: for digit in 0..25u32 {
