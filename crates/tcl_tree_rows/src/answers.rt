@@ -14,12 +14,12 @@ pub(crate) enum Answer {
 }
 
 /// Why a call is refused.
-pub(crate) trait Told: Drop {
+pub(crate) trait Told {
     /// What a row tells of it.
     ///
     /// # Errors
     /// Out of memory.
-    fn told(self, alloc: Global) -> Result<String, AllocError>;
+    fn told(&self, alloc: Global) -> Result<String, AllocError>;
 }
 
 /// The answer of a text.
@@ -28,7 +28,7 @@ pub(crate) fn given(alloc: Global, text: &str) -> Result<Answer, AllocError> {
 }
 
 /// The answer of a refusal.
-pub(crate) fn refused<R: Told>(alloc: Global, refusal: R) -> Result<Answer, AllocError> {
+pub(crate) fn refused<R: Told>(alloc: Global, refusal: &R) -> Result<Answer, AllocError> {
     Ok(Answer::Refused(refusal.told(alloc)?))
 }
 
@@ -38,10 +38,13 @@ pub(crate) fn no_call(alloc: Global) -> Result<Answer, AllocError> {
 }
 
 /// The answer of a call that changes something.
-pub(crate) fn done<R: Told>(alloc: Global, ended: Result<(), R>) -> Result<Answer, AllocError> {
+pub(crate) fn done<R: Told + Drop>(
+    alloc: Global,
+    ended: Result<(), R>,
+) -> Result<Answer, AllocError> {
     match ended {
         Ok(()) => given(alloc, "-"),
-        Err(refusal) => refused(alloc, refusal),
+        Err(refusal) => refused(alloc, &refusal),
     }
 }
 

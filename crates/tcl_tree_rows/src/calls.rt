@@ -1,6 +1,8 @@
-//! What calls of commands are put together from: the words, the commands that they name, and what parameters are bound to.
+//! What calls of commands are put together from: the words, the commands that they name, and what
+//! parameters are bound to.
 //!
-//! A call is a list. It stands by itself, in a new interpreter. An evaluation that ends otherwise answers its code and its text.
+//! A call is a list. It stands by itself, in a new interpreter. An evaluation that ends otherwise
+//! answers its code and its text.
 use crate::answers::{
     Answer, Told, count, given, list, no_call, refused, texts_of, truth, value, written,
 };
@@ -32,9 +34,9 @@ fn completed(alloc: Global, completion: &Completion) -> Result<String, AllocErro
 }
 
 impl Told for Interruption {
-    fn told(self, alloc: Global) -> Result<String, AllocError> {
+    fn told(&self, alloc: Global) -> Result<String, AllocError> {
         match self {
-            Interruption::Completed(completion) => completed(alloc, &completion),
+            Interruption::Completed(completion) => completed(alloc, completion),
             Interruption::Stopped(stop) => format!(in alloc; "stopped {}", stop.levels_up),
             Interruption::Memory => Err(AllocError),
             _ => String::from_str(alloc, "another end"),
@@ -49,7 +51,7 @@ pub(crate) fn ended(
 ) -> Result<Answer, AllocError> {
     match given {
         Ok(given) => value(alloc, &given),
-        Err(interruption) => refused(alloc, interruption),
+        Err(interruption) => refused(alloc, &interruption),
     }
 }
 
@@ -57,11 +59,12 @@ pub(crate) fn ended(
 fn found(alloc: Global, command: Result<Command, Interruption>) -> Result<Answer, AllocError> {
     match command {
         Ok(command) => told_command(alloc, Some(&command)),
-        Err(interruption) => refused(alloc, interruption),
+        Err(interruption) => refused(alloc, &interruption),
     }
 }
 
-/// `spread TEXT`: how many words a text stands for, or `none` where it is no list. `one TEXT` tells that of a word that isn't spread.
+/// `spread TEXT`: how many words a text stands for, or `none` where it is no list. `one TEXT` tells
+/// that of a word that isn't spread.
 fn spread_out(alloc: Global, expand: bool, text: Value) -> Result<Answer, AllocError> {
     let mut words = Vec::new(alloc);
     match spread(alloc, expand, text, &mut words) {
@@ -79,7 +82,7 @@ fn is_expression(tree: &Tree, alloc: Global, text: &Value) -> bool {
 fn condition(alloc: Global, text: Value) -> Result<Answer, AllocError> {
     match holds(alloc, Integers::Tcl8, text) {
         Ok(is_so) => truth(alloc, is_so),
-        Err(interruption) => refused(alloc, interruption),
+        Err(interruption) => refused(alloc, &interruption),
     }
 }
 
@@ -132,18 +135,19 @@ fn told_binding(alloc: Global, binding: Option<&Binding>) -> Result<Answer, Allo
     }
 }
 
-/// `bound PLACE ?WORD ..?`: what the parameter at a place is bound to in a call with these words, or `none`.
+/// `bound PLACE ?WORD ..?`: what the parameter at a place is bound to in a call with these words,
+/// or `none`.
 fn bound(alloc: Global, place: usize, args: &[Value]) -> Result<Answer, AllocError> {
     match bind(alloc, &parameters(alloc)?, args) {
         Ok(Some(bindings)) => told_binding(alloc, bindings.get(place)),
         Ok(None) => given(alloc, "none"),
-        Err(interruption) => refused(alloc, interruption),
+        Err(interruption) => refused(alloc, &interruption),
     }
 }
 
 /// `form NAME`: what is told of a call of the procedure with wrong words.
 fn form(alloc: Global, name: &Value) -> Result<Answer, AllocError> {
-    refused(alloc, wrong_form(alloc, name, &parameters(alloc)?))
+    refused(alloc, &wrong_form(alloc, name, &parameters(alloc)?))
 }
 
 /// What a call of one word answers.
@@ -177,8 +181,8 @@ fn listed(alloc: Global, word: &Text) -> Result<Vec<Value>, AllocError> {
     values_of(alloc, &words_of(alloc, word.as_str())?)
 }
 
-/// What a call of two words answers. `settle VERSION TEXT` tells an expression's value as that version of Tcl reads integers, and
-/// `element NAME KEY` the name of an element.
+/// What a call of two words answers. `settle VERSION TEXT` tells an expression's value as that
+/// version of Tcl reads integers, and `element NAME KEY` the name of an element.
 fn of_two(alloc: Global, call: &str, first: &Text, second: &Text) -> Result<Answer, AllocError> {
     match call {
         "settle" => ended(alloc, settle(alloc, style_of(first), value_of(second)?)),

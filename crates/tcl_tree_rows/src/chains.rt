@@ -1,13 +1,13 @@
 //! Chains of frames.
 //!
-//! A call is a list; one that changes the chain answers `-`, and one that is refused must leave it as it was. `new` puts a new
-//! chain in its place. There is a second chain, which is kept: `keep` makes it a copy of the first, `swap` exchanges the two, and `same` tells
-//! whether they are equal.
+//! A call is a list; one that changes the chain answers `-`, and one that is refused must leave it
+//! as it was. `new` puts a new chain in its place. There is a second chain, which is kept: `keep`
+//! makes it a copy of the first, `swap` exchanges the two, and `same` tells whether they are equal.
 use crate::answers::{
     Answer, Told, count, done, given, joined, list, no_call, refused, texts_of, truth, value,
     written,
 };
-use crate::words::{place_of, value_of, values_of, words_of};
+use crate::words::{pairs_of, place_of, value_of, values_of, words_of};
 use row_runner::World;
 use std::alloc::{AllocError, Global};
 use std::mem::swap;
@@ -19,7 +19,7 @@ use tcl_variables::fault::FrameError;
 use tcl_variables::name_map::NameMap;
 
 impl Told for FrameError {
-    fn told(self, alloc: Global) -> Result<String, AllocError> {
+    fn told(&self, alloc: Global) -> Result<String, AllocError> {
         match self {
             FrameError::Fault(fault) => String::from_str(alloc, fault.message(alloc)?.as_str()),
             FrameError::Memory => Err(AllocError),
@@ -31,7 +31,7 @@ impl Told for FrameError {
 fn told_truth(alloc: Global, is_so: Result<bool, FrameError>) -> Result<Answer, AllocError> {
     match is_so {
         Ok(is_so) => truth(alloc, is_so),
-        Err(error) => refused(alloc, error),
+        Err(error) => refused(alloc, &error),
     }
 }
 
@@ -39,7 +39,7 @@ fn told_truth(alloc: Global, is_so: Result<bool, FrameError>) -> Result<Answer, 
 fn told_count(alloc: Global, counted: Result<usize, FrameError>) -> Result<Answer, AllocError> {
     match counted {
         Ok(counted) => count(alloc, counted),
-        Err(error) => refused(alloc, error),
+        Err(error) => refused(alloc, &error),
     }
 }
 
@@ -50,7 +50,7 @@ pub(crate) fn told_value(
 ) -> Result<Answer, AllocError> {
     match lent {
         Ok(lent) => value(alloc, lent),
-        Err(error) => refused(alloc, error),
+        Err(error) => refused(alloc, &error),
     }
 }
 
@@ -58,7 +58,7 @@ pub(crate) fn told_value(
 fn told_keys(alloc: Global, keys: Result<Vec<Text>, FrameError>) -> Result<Answer, AllocError> {
     match keys {
         Ok(keys) => list(alloc, &keys),
-        Err(error) => refused(alloc, error),
+        Err(error) => refused(alloc, &error),
     }
 }
 
@@ -79,7 +79,7 @@ fn told_elements(
 ) -> Result<Answer, AllocError> {
     match elements {
         Ok(elements) => list(alloc, &flat(alloc, &elements)?),
-        Err(error) => refused(alloc, error),
+        Err(error) => refused(alloc, &error),
     }
 }
 
@@ -100,7 +100,7 @@ fn entries(frames: &Frames, alloc: Global, name: &Text) -> Result<Answer, AllocE
     match frames.array(name) {
         Ok(Some(elements)) => told_entries(alloc, elements),
         Ok(None) => given(alloc, "none"),
-        Err(error) => refused(alloc, error),
+        Err(error) => refused(alloc, &error),
     }
 }
 
@@ -113,7 +113,8 @@ fn scope_of(word: &Text) -> Scope {
     }
 }
 
-/// `words LEVEL`: the words of the call at a level, with a bar between any two, or `none` where there is no such level.
+/// `words LEVEL`: the words of the call at a level, with a bar between any two, or `none` where
+/// there is no such level.
 fn words_at(frames: &Frames, alloc: Global, level: usize) -> Result<Answer, AllocError> {
     match frames.words(level) {
         Some(words) => joined(alloc, &texts_of(alloc, words)?),
@@ -156,7 +157,8 @@ fn seven(frames: &mut Frames, alloc: Global, name: &Text) -> Result<(), FrameErr
     Ok(())
 }
 
-/// What a call of a name answers, or of a level. `number` sets the name to the number 2, which is kept as a number.
+/// What a call of a name answers, or of a level. `number` sets the name to the number 2, which is
+/// kept as a number.
 fn of_name(
     frames: &mut Frames,
     alloc: Global,
@@ -210,7 +212,8 @@ fn of_three(
     }
 }
 
-/// What a call of no words answers: `pop` takes the frame on top off, and `back` brings those back that were set aside last.
+/// What a call of no words answers: `pop` takes the frame on top off, and `back` brings those back
+/// that were set aside last.
 fn of_none(frames: &mut Frames, alloc: Global, call: &str) -> Result<Answer, AllocError> {
     match call {
         "pop" => {
@@ -224,19 +227,6 @@ fn of_none(frames: &mut Frames, alloc: Global, call: &str) -> Result<Answer, All
         "level" => count(alloc, frames.level()),
         _ => no_call(alloc),
     }
-}
-
-/// The words by twos, as keys and values. A key with no value is left out.
-fn pairs(alloc: Global, words: &[Text]) -> Result<Vec<(Text, Value)>, AllocError> {
-    let mut pairs = Vec::new(alloc);
-    let mut waiting: Option<Text> = None;
-    for word in words {
-        match waiting.take() {
-            None => waiting = Some(word.clone()?),
-            Some(key) => pairs.push((key, value_of(word)?))?,
-        }
-    }
-    Ok(pairs)
 }
 
 /// `push ?WORD ..?`: puts a frame on top, of a call with these words.
@@ -254,7 +244,7 @@ fn fill(
 ) -> Result<Answer, AllocError> {
     done(
         alloc,
-        frames.set_elements(alloc, name, pairs(alloc, words)?),
+        frames.set_elements(alloc, name, pairs_of(alloc, words)?),
     )
 }
 

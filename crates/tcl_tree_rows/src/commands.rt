@@ -1,7 +1,8 @@
 //! The commands that run nothing inside.
 //!
-//! A call is one command or more with semicolons between them, each a list, which are made one after the other in a new interpreter. It
-//! answers what came of the last: a text, or the code and the text of another completion.
+//! A call is one command or more with semicolons between them, each a list, which are made one
+//! after the other in a new interpreter. It answers what came of the last: a text, or the code and
+//! the text of another completion.
 use crate::answers::{Answer, given, written};
 use crate::calls::ended;
 use crate::words::{values_of, words_of};

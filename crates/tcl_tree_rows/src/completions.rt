@@ -1,7 +1,8 @@
 //! Completions, and the options of `return`.
 //!
-//! A call is a list, which is made on one completion; one that changes it answers `-`. A completion is told as its code, the code and the
-//! level of its options and its text, and options as their code, their level and their errorcode.
+//! A call is a list, which is made on one completion; one that changes it answers `-`. A completion
+//! is told as its code, the code and the level of its options and its text, and options as their
+//! code, their level and their errorcode.
 use crate::answers::{Answer, Told, given, no_call, number, refused, value, written};
 use crate::words::{value_of, values_of, words_of};
 use row_runner::World;
@@ -18,7 +19,7 @@ use tcl_text::text::Text;
 use tcl_value::value::Value;
 
 impl Told for OptionsError {
-    fn told(self, alloc: Global) -> Result<String, AllocError> {
+    fn told(&self, alloc: Global) -> Result<String, AllocError> {
         match self {
             OptionsError::Fault(fault) => String::from_str(alloc, fault.message(alloc)?.as_str()),
             OptionsError::Memory => Err(AllocError),
@@ -76,7 +77,7 @@ fn told_completion(alloc: Global, made: &Completion) -> Result<Answer, AllocErro
 fn read(alloc: Global, words: &[Value]) -> Result<Answer, AllocError> {
     match Options::read(alloc, Integers::Tcl8, words) {
         Ok(options) => told_options(alloc, &options),
-        Err(error) => refused(alloc, error),
+        Err(error) => refused(alloc, &error),
     }
 }
 
@@ -84,7 +85,7 @@ fn read(alloc: Global, words: &[Value]) -> Result<Answer, AllocError> {
 fn made(alloc: Global, words: &[Value]) -> Result<Answer, AllocError> {
     match return_words(alloc, Integers::Tcl9, words) {
         Ok(made) => told_completion(alloc, &made),
-        Err(error) => refused(alloc, error),
+        Err(error) => refused(alloc, &error),
     }
 }
 
@@ -161,7 +162,8 @@ fn looked_at(own: &Completion, alloc: Global, call: &str) -> Result<Answer, Allo
     }
 }
 
-/// What a call of no words answers. `settle`, `proc` and `file` settle the completion, and let it leave a procedure and a file.
+/// What a call of no words answers. `settle`, `proc` and `file` settle the completion, and let it
+/// leave a procedure and a file.
 fn of_none(own: &mut Completion, alloc: Global, call: &str) -> Result<Answer, AllocError> {
     match call {
         "settle" => settle(alloc, own)?,
@@ -172,7 +174,8 @@ fn of_none(own: &mut Completion, alloc: Global, call: &str) -> Result<Answer, Al
     given(alloc, "-")
 }
 
-/// What a call of one word answers. `error TEXT` makes an error, and `errorcode LIST` gives the completion its errorcode.
+/// What a call of one word answers. `error TEXT` makes an error, and `errorcode LIST` gives the
+/// completion its errorcode.
 fn of_one(
     own: &mut Completion,
     alloc: Global,

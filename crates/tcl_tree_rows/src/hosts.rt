@@ -1,7 +1,8 @@
 //! A host in memory.
 //!
-//! A call is a list, which is made on one host; one that only changes it answers `-`, and one that is refused the refusal's name. `ask
-//! CALL ..` makes a call as a request that is a value, and answers its reply.
+//! A call is a list, which is made on one host; one that only changes it answers `-`, and one that
+//! is refused the refusal's name. `ask CALL ..` makes a call as a request that is a value, and
+//! answers its reply.
 use crate::answers::{Answer, Told, done, given, no_call, number, refused, truth, written};
 use crate::words::{number_of, words_of};
 use row_runner::World;
@@ -15,7 +16,7 @@ use tcl_host::request::Request;
 use tcl_text::text::Text;
 
 impl Told for HostError {
-    fn told(self, alloc: Global) -> Result<String, AllocError> {
+    fn told(&self, alloc: Global) -> Result<String, AllocError> {
         match self {
             HostError::Refused(refusal) => format!(in alloc; "{refusal:?}"),
             HostError::Memory => Err(AllocError),
@@ -35,7 +36,7 @@ fn told_bytes(alloc: Global, bytes: &[u8]) -> Result<Answer, AllocError> {
 fn told_rest(alloc: Global, rest: Result<Bytes, HostError>) -> Result<Answer, AllocError> {
     match rest {
         Ok(bytes) => told_bytes(alloc, bytes.as_slice()),
-        Err(error) => refused(alloc, error),
+        Err(error) => refused(alloc, &error),
     }
 }
 
@@ -44,7 +45,7 @@ fn told_line(alloc: Global, line: Result<Option<Bytes>, HostError>) -> Result<An
     match line {
         Ok(Some(bytes)) => told_bytes(alloc, bytes.as_slice()),
         Ok(None) => given(alloc, "none"),
-        Err(error) => refused(alloc, error),
+        Err(error) => refused(alloc, &error),
     }
 }
 
@@ -52,7 +53,7 @@ fn told_line(alloc: Global, line: Result<Option<Bytes>, HostError>) -> Result<An
 fn told_end(alloc: Global, is_end: Result<bool, HostError>) -> Result<Answer, AllocError> {
     match is_end {
         Ok(is_end) => truth(alloc, is_end),
-        Err(error) => refused(alloc, error),
+        Err(error) => refused(alloc, &error),
     }
 }
 
@@ -60,7 +61,7 @@ fn told_end(alloc: Global, is_end: Result<bool, HostError>) -> Result<Answer, Al
 fn told_channel(alloc: Global, opened: Result<Text, HostError>) -> Result<Answer, AllocError> {
     match opened {
         Ok(channel) => given(alloc, channel.as_str()),
-        Err(error) => refused(alloc, error),
+        Err(error) => refused(alloc, &error),
     }
 }
 
@@ -108,7 +109,8 @@ fn told_message(alloc: Global, refusal: &str, name: &str) -> Result<Answer, Allo
     }
 }
 
-/// The request of a call, which asks for a file to be written, for all that is left, or else that a channel be closed.
+/// The request of a call, which asks for a file to be written, for all that is left, or else that a
+/// channel be closed.
 fn request_of(call: &str, name: Text) -> Request {
     match call {
         "open" => Request::Open(name, OpenMode::Write),
@@ -124,12 +126,13 @@ fn told_reply(alloc: Global, reply: &HostReply) -> Result<Answer, AllocError> {
             Ok(Answer::Given(format!(in alloc; "Opened {}", channel.as_str())?))
         }
         HostReply::Done => given(alloc, "Done"),
-        HostReply::Refused(refusal) => refused(alloc, HostError::Refused(*refusal)),
+        HostReply::Refused(refusal) => refused(alloc, &HostError::Refused(*refusal)),
         _ => given(alloc, "another reply"),
     }
 }
 
-/// `ask CALL NAME`, `fits CALL NAME`: what is replied, or whether it is one of the request's own replies. `done-fits` tells that of `Done`.
+/// `ask CALL NAME`, `fits CALL NAME`: what is replied, or whether it is one of the request's own
+/// replies. `done-fits` tells that of `Done`.
 fn asked(
     host: &mut MemoryHost,
     alloc: Global,
@@ -182,7 +185,8 @@ fn of_channel(
     }
 }
 
-/// What a call of one word answers. `input BYTES` is what there is to read, and from `fail COUNT` on the call of that number fails.
+/// What a call of one word answers. `input BYTES` is what there is to read, and from `fail COUNT`
+/// on the call of that number fails.
 fn of_one(
     host: &mut MemoryHost,
     alloc: Global,

@@ -85,7 +85,7 @@ fn named(tree: &Tree, alloc: Global, path: &[Text]) -> Result<Answer, AllocError
 fn free_name(tree: &Tree, alloc: Global, path: &[Text]) -> Result<Answer, AllocError> {
     match tree.free_name(alloc, path) {
         Ok(name) => given(alloc, name.as_str()),
-        Err(refusal) => refused(alloc, refusal),
+        Err(refusal) => refused(alloc, &refusal),
     }
 }
 
@@ -156,7 +156,8 @@ fn way(tree: &Tree, alloc: Global, path: &[Text], name: &Text) -> Result<Answer,
     }
 }
 
-/// What a call of a path and a name answers. `commands-after PATH COUNT` lists the commands after the first so many.
+/// What a call of a path and a name answers. `commands-after PATH COUNT` lists the commands after
+/// the first so many.
 pub(crate) fn of_name(
     tree: &Tree,
     alloc: Global,

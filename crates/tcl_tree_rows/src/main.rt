@@ -1,4 +1,5 @@
-//! Rows of variables, completions, hosts, trees of interpreters, and calls and commands in one interpreter.
+//! Rows of variables, completions, hosts, trees of interpreters, and calls and commands in one
+//! interpreter.
 #![tactic(auto)]
 
 mod answers;

@@ -1,13 +1,15 @@
-//! Maps of names in the order of insertion, from names to texts.
+//! Maps of names in the order of insertion, from names to values.
 //!
-//! A call is a list; one that changes the map answers `-`. There is a second map, which is kept: `keep` makes it a copy of the first,
-//! `swap` exchanges the two, and `same` tells whether they are equal.
-use crate::answers::{Answer, given, no_call, truth, written};
-use crate::words::{place_of, words_of};
+//! A call is a list; one that changes the map answers `-`. There is a second map, which is kept:
+//! `keep` makes it a copy of the first, `swap` exchanges the two, and `same` tells whether they are
+//! equal.
+use crate::answers::{Answer, given, no_call, truth, value, written};
+use crate::words::{pairs_of, place_of, value_of, words_of};
 use row_runner::World;
 use std::alloc::{AllocError, Global};
 use std::mem::swap;
 use tcl_text::text::Text;
+use tcl_value::value::Value;
 use tcl_variables::comparing::Same;
 use tcl_variables::name_map::NameMap;
 
@@ -18,28 +20,29 @@ fn done(alloc: Global, changed: Result<(), AllocError>) -> Result<Answer, AllocE
 }
 
 /// The names of a map, each followed by its text and a blank.
-fn entries(map: &NameMap<Text>, alloc: Global) -> Result<Answer, AllocError> {
+fn entries(map: &NameMap<Value>, alloc: Global) -> Result<Answer, AllocError> {
     let mut all = String::new(alloc);
     for place in 0..map.len() {
         if let Some((name, text)) = map.entry(place) {
-            write!(all, "{name}{} ", text.as_str())?;
+            write!(all, "{name}{} ", text.text(alloc)?.as_str())?;
         }
     }
     Ok(Answer::Given(all))
 }
 
 /// `get NAME`: the text of a name.
-fn get(map: &NameMap<Text>, alloc: Global, name: &str) -> Result<Answer, AllocError> {
+fn get(map: &NameMap<Value>, alloc: Global, name: &str) -> Result<Answer, AllocError> {
     match map.get(name) {
-        Some(text) => given(alloc, text.as_str()),
+        Some(found) => value(alloc, found),
         None => given(alloc, "none"),
     }
 }
 
 /// `find NAME`: the place of a name and its text.
-fn find(map: &NameMap<Text>, alloc: Global, name: &str) -> Result<Answer, AllocError> {
+fn find(map: &NameMap<Value>, alloc: Global, name: &str) -> Result<Answer, AllocError> {
     match map.find(name) {
         Some((place, text)) => {
+            let text = text.text(alloc)?;
             Ok(Answer::Given(format!(in alloc; "{place} {}", text.as_str())?))
         }
         None => given(alloc, "none"),
@@ -47,43 +50,33 @@ fn find(map: &NameMap<Text>, alloc: Global, name: &str) -> Result<Answer, AllocE
 }
 
 /// `entry PLACE`: the name at a place and its text.
-fn entry(map: &NameMap<Text>, alloc: Global, place: usize) -> Result<Answer, AllocError> {
+fn entry(map: &NameMap<Value>, alloc: Global, place: usize) -> Result<Answer, AllocError> {
     match map.entry(place) {
-        Some((name, text)) => Ok(Answer::Given(format!(in alloc; "{name}{}", text.as_str())?)),
+        Some((name, text)) => {
+            let text = text.text(alloc)?;
+            Ok(Answer::Given(format!(in alloc; "{name}{}", text.as_str())?))
+        }
         None => given(alloc, "none"),
     }
 }
 
 /// `change NAME TEXT`: changes the text of a name where it stands.
-fn change(map: &mut NameMap<Text>, name: &str, new: Text) {
+fn change(map: &mut NameMap<Value>, name: &str, new: Value) {
     if let Some(text) = map.get_mut(name) {
         *text = new;
     }
 }
 
 /// `near PLACE NAME TEXT`: the same, of a name that is looked for at a place first.
-fn near(map: &mut NameMap<Text>, place: usize, name: &str, new: Text) {
+fn near(map: &mut NameMap<Value>, place: usize, name: &str, new: Value) {
     if let Some(text) = map.get_mut_near(place, name) {
         *text = new;
     }
 }
 
-/// The words by twos, as names and texts.
-fn pairs(alloc: Global, words: &[Text]) -> Result<Vec<(Text, Text)>, AllocError> {
-    let mut pairs = Vec::new(alloc);
-    let mut waiting: Option<Text> = None;
-    for word in words {
-        match waiting.take() {
-            None => waiting = Some(word.clone()?),
-            Some(name) => pairs.push((name, word.clone()?))?,
-        }
-    }
-    Ok(pairs)
-}
-
 /// What a call of one word answers. `thin PATTERN` removes the names that a pattern matches.
 fn of_one(
-    map: &mut NameMap<Text>,
+    map: &mut NameMap<Value>,
     alloc: Global,
     call: &str,
     word: &Text,
@@ -106,11 +99,11 @@ fn of_one(
 
 /// What a call of a name and a text answers. `share` inserts a name whose text is shared.
 fn of_two(
-    map: &mut NameMap<Text>,
+    map: &mut NameMap<Value>,
     alloc: Global,
     call: &str,
     name: &Text,
-    text: Text,
+    text: Value,
 ) -> Result<Answer, AllocError> {
     match call {
         "insert" => done(alloc, map.insert(alloc, name.as_str(), text)),
@@ -125,18 +118,18 @@ fn of_two(
 
 /// What a call answers. `all NAME TEXT ..` inserts names together.
 fn answered(
-    map: &mut NameMap<Text>,
+    map: &mut NameMap<Value>,
     alloc: Global,
     call: &str,
     words: &[Text],
 ) -> Result<Answer, AllocError> {
     match words {
-        _ if call == "all" => done(alloc, map.insert_all(alloc, pairs(alloc, words)?)),
+        _ if call == "all" => done(alloc, map.insert_all(alloc, pairs_of(alloc, words)?)),
         [] if call == "entries" => entries(map, alloc),
         [word] => of_one(map, alloc, call, word),
-        [name, text] => of_two(map, alloc, call, name, text.clone()?),
+        [name, text] => of_two(map, alloc, call, name, value_of(text)?),
         [place, name, text] if call == "near" => {
-            near(map, place_of(place), name.as_str(), text.clone()?);
+            near(map, place_of(place), name.as_str(), value_of(text)?);
             given(alloc, "-")
         }
         _ => no_call(alloc),
@@ -144,7 +137,7 @@ fn answered(
 }
 
 /// What a call answers, by its words.
-fn answer(map: &mut NameMap<Text>, alloc: Global, words: &[Text]) -> Result<Answer, AllocError> {
+fn answer(map: &mut NameMap<Value>, alloc: Global, words: &[Text]) -> Result<Answer, AllocError> {
     match words {
         [call, others @ ..] => answered(map, alloc, call.as_str(), others),
         [] => no_call(alloc),
@@ -153,8 +146,8 @@ fn answer(map: &mut NameMap<Text>, alloc: Global, words: &[Text]) -> Result<Answ
 
 /// A map, and one that is kept.
 pub(crate) struct Maps {
-    map: NameMap<Text>,
-    kept: NameMap<Text>,
+    map: NameMap<Value>,
+    kept: NameMap<Value>,
 }
 
 impl Drop for Maps {

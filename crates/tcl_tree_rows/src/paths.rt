@@ -30,7 +30,7 @@ fn of_one(tree: &mut Tree, alloc: Global, call: &str, path: &[Text]) -> Result<A
 fn set(tree: &mut Tree, alloc: Global, path: &[Text], name: &Text) -> Result<Answer, AllocError> {
     match tree.frames_mut(path) {
         Some(frames) => done(alloc, frames.set(alloc, name, Value::empty())),
-        None => refused(alloc, Refusal::NoInterpreter),
+        None => refused(alloc, &Refusal::NoInterpreter),
     }
 }
 
@@ -66,8 +66,8 @@ fn alias_between(
     )
 }
 
-/// What a call of a path, a name and another word answers: `alias PATH NAME UP` and `between PATH NAME TARGET` make aliases, `create PATH
-/// NAME safe` a safe child.
+/// What a call of a path, a name and another word answers: `alias PATH NAME UP` and `between PATH
+/// NAME TARGET` make aliases, `create PATH NAME safe` a safe child.
 fn of_three(
     tree: &mut Tree,
     alloc: Global,
@@ -94,8 +94,9 @@ fn of_three(
     }
 }
 
-/// What a call answers by which one interpreter changes one below it: `steps PATH DOWN COUNT`, `levels PATH DOWN COUNT`, which set limits,
-/// `hide PATH DOWN NAME HIDDEN` and `expose PATH DOWN HIDDEN NAME`.
+/// What a call answers by which one interpreter changes one below it: `steps PATH DOWN COUNT`,
+/// `levels PATH DOWN COUNT`, which set limits, `hide PATH DOWN NAME HIDDEN` and `expose PATH DOWN
+/// HIDDEN NAME`.
 fn of_below(
     tree: &mut Tree,
     alloc: Global,
@@ -125,7 +126,7 @@ fn of_below(
 fn at(tree: &mut Tree, alloc: Global, path: &[Text], words: &[Text]) -> Result<Answer, AllocError> {
     match tree.place(path) {
         Some(place) => at_place(tree, alloc, place, words),
-        None => refused(alloc, Refusal::NoInterpreter),
+        None => refused(alloc, &Refusal::NoInterpreter),
     }
 }
 

@@ -1,8 +1,10 @@
 //! Trees of interpreters.
 //!
-//! A call is a list; one that changes the tree answers `-`, and one that is refused the refusal's name, and must leave the tree as it was.
-//! A path is the list of its names. `new` puts a new tree in its place. There is a second tree, which is kept: `keep` makes it a copy of the first, `copy PATH` one of the
-//! interpreter at a path with all below it, `swap` exchanges the two, and `same` tells whether they are equal.
+//! A call is a list; one that changes the tree answers `-`, and one that is refused the refusal's
+//! name, and must leave the tree as it was. A path is the list of its names. `new` puts a new tree
+//! in its place. There is a second tree, which is kept: `keep` makes it a copy of the first, `copy
+//! PATH` one of the interpreter at a path with all below it, `swap` exchanges the two, and `same`
+//! tells whether they are equal.
 use crate::answers::{Answer, Told, count, done, given, no_call, refused, truth, written};
 use crate::paths::at_path;
 use crate::words::{number_of, place_of, style_of, words_of};
@@ -14,7 +16,7 @@ use tcl_tree::refusal::Refusal;
 use tcl_tree::tree::Tree;
 
 impl Told for Refusal {
-    fn told(self, alloc: Global) -> Result<String, AllocError> {
+    fn told(&self, alloc: Global) -> Result<String, AllocError> {
         format!(in alloc; "{self:?}")
     }
 }
@@ -63,7 +65,8 @@ fn limit_run(tree: &mut Tree, alloc: Global, word: &Text) -> Result<Answer, Allo
     given(alloc, "-")
 }
 
-/// What a call of no words answers. `break` marks the tree as broken, which `broken` tells, and `size` tells how many interpreters there are.
+/// What a call of no words answers. `break` marks the tree as broken, which `broken` tells, and
+/// `size` tells how many interpreters there are.
 fn of_none(tree: &mut Tree, alloc: Global, call: &str) -> Result<Answer, AllocError> {
     match call {
         "size" => count(alloc, tree.table().len()),
@@ -113,7 +116,7 @@ fn on_tree(tree: &mut Tree, alloc: Global, words: &[Text]) -> Result<Answer, All
             let answer = answer(tree, alloc, words)?;
             checked(tree, &before, alloc, answer)
         }
-        Err(refusal) => refused(alloc, refusal),
+        Err(refusal) => refused(alloc, &refusal),
     }
 }
 
@@ -133,7 +136,7 @@ fn replace(
             *old = tree;
             given(alloc, "-")
         }
-        Err(refusal) => refused(alloc, refusal),
+        Err(refusal) => refused(alloc, &refusal),
     }
 }
 
@@ -182,7 +185,8 @@ impl Trees {
         given(alloc, "-")
     }
 
-    /// What a call answers. `chain COUNT` makes a new tree, and `take PATH` makes the tree the copy of an interpreter in it.
+    /// What a call answers. `chain COUNT` makes a new tree, and `take PATH` makes the tree the copy
+    /// of an interpreter in it.
     fn answered(&mut self, alloc: Global, words: &[Text]) -> Result<Answer, AllocError> {
         match words {
             [call] => self.of_none(alloc, call),

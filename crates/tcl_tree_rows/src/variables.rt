@@ -1,14 +1,14 @@
 //! Names, and the variables of one frame.
 //!
-//! A call is a list; one that changes the frame answers `-`. In `value`, `assign` and their kin the name behind the base is the one that
-//! a refusal tells. There is a second frame, which `keep` makes a copy of the first; `same` tells whether they are equal.
+//! A call is a list; one that changes the frame answers `-`. In `value`, `assign` and their kin the
+//! name behind the base is the one that a refusal tells. There is a second frame, which `keep`
+//! makes a copy of the first; `same` tells whether they are equal.
 use crate::answers::{Answer, count, done, given, no_call, truth, written};
 use crate::chains::told_value;
-use crate::words::{value_of, words_of};
+use crate::words::{value_of, values_of, words_of};
 use row_runner::World;
 use std::alloc::{AllocError, Global};
 use tcl_text::text::Text;
-use tcl_value::value::Value;
 use tcl_variables::access::{Part, elements_in, holds_in, value_in};
 use tcl_variables::comparing::Same;
 use tcl_variables::frame::{Change, Frame};
@@ -38,15 +38,19 @@ fn element(alloc: Global, name: &Text, key: &Text) -> Result<Answer, AllocError>
     given(alloc, element_text(alloc, name, key)?.as_str())
 }
 
-/// `link LOCAL`: makes a name a link to an element at level 0.
-fn link(frame: &mut Frame, alloc: Global, local: &str) -> Result<Answer, AllocError> {
-    let place = Place {
-        level: 0,
-        name: Text::new(alloc, "far")?,
-        key: Some(Text::new(alloc, "k")?),
-    };
+/// `link LOCAL NAME KEY`: makes a name a link to an element at level 0.
+fn link(frame: &mut Frame, alloc: Global, local: &str, place: Place) -> Result<Answer, AllocError> {
     frame.link(alloc, local, place)?;
     given(alloc, "-")
+}
+
+/// The place of an element at level 0.
+fn element_at_0(name: Text, key: Text) -> Place {
+    Place {
+        level: 0,
+        name,
+        key: Some(key),
+    }
 }
 
 /// What a call of one word answers.
@@ -58,7 +62,6 @@ fn of_one(frame: &mut Frame, alloc: Global, call: &str, word: &str) -> Result<An
             alloc,
             elements_in(frame.variable(word), Part::Whole).is_some(),
         ),
-        "link" => link(frame, alloc, word),
         _ => of_name(alloc, call, word),
     }
 }
@@ -78,7 +81,8 @@ fn change(
     )
 }
 
-/// What a call of two words answers: `holds BASE KEY`, `element NAME KEY`, or one of a base and a name. `make` makes an array without elements.
+/// What a call of two words answers: `holds BASE KEY`, `element NAME KEY`, or one of a base and a
+/// name. `make` makes an array without elements.
 fn of_two(
     frame: &mut Frame,
     alloc: Global,
@@ -110,6 +114,10 @@ fn of_three(
     match call {
         "value" => told_value(alloc, value_in(frame.variable(base.as_str()), part, name)),
         "unset" => change(frame, alloc, base, name, part, Change::Unset),
+        "link" => {
+            let place = element_at_0(name.clone()?, word.clone()?);
+            link(frame, alloc, base.as_str(), place)
+        }
         "assign" => {
             let value = Change::Assign(value_of(word)?);
             change(frame, alloc, base, name, Part::Whole, value)
@@ -118,7 +126,8 @@ fn of_three(
     }
 }
 
-/// What a call answers. `words` and `variables` tell how many there are, and `put BASE NAME KEY VALUE` sets an element.
+/// What a call answers. `words` and `variables` tell how many there are, and `put BASE NAME KEY
+/// VALUE` sets an element.
 fn answered(
     frame: &mut Frame,
     alloc: Global,
@@ -149,9 +158,8 @@ fn answer(frame: &mut Frame, alloc: Global, words: &[Text]) -> Result<Answer, Al
 
 /// A frame of a call of one word.
 fn frame(alloc: Global) -> Result<Frame, AllocError> {
-    let mut words = Vec::new(alloc);
-    words.push(Value::from_int(1))?;
-    Ok(Frame::new(alloc, words))
+    let words = words_of(alloc, "f")?;
+    Ok(Frame::new(alloc, values_of(alloc, &words)?))
 }
 
 /// A frame, and one that is kept.

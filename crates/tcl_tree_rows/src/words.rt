@@ -30,6 +30,22 @@ pub(crate) fn values_of(alloc: Global, words: &[Text]) -> Result<Vec<Value>, All
     Ok(values)
 }
 
+/// A key and its value.
+fn pair_of(key: &Text, value: &Text) -> Result<(Text, Value), AllocError> {
+    Ok((key.clone()?, value_of(value)?))
+}
+
+/// The words by twos, as keys and values. A key with no value is left out.
+pub(crate) fn pairs_of(alloc: Global, words: &[Text]) -> Result<Vec<(Text, Value)>, AllocError> {
+    let mut pairs = Vec::new(alloc);
+    let mut rest = words;
+    'pairs: while let [key, value, others @ ..] = rest {
+        pairs.push(pair_of(key, value)?)?;
+        rest = others;
+    }
+    Ok(pairs)
+}
+
 /// The number that a word spells; one that spells none is a number that nothing has.
 pub(crate) fn number_of(word: &Text) -> u64 {
     match word.as_str().parse::<u64>() {
