@@ -185,8 +185,8 @@ fn of_channel(
     }
 }
 
-/// What a call of one word answers. `input BYTES` is what there is to read, and from `fail COUNT`
-/// on the call of that number fails.
+/// What a call of one word answers. `input BYTES` gives what there is to read, and after
+/// `fail COUNT` the call of that number, counted from there, fails.
 fn of_one(
     host: &mut MemoryHost,
     alloc: Global,

@@ -66,8 +66,8 @@ fn alias_between(
     )
 }
 
-/// What a call of a path, a name and another word answers: `alias PATH NAME UP` and `between PATH
-/// NAME TARGET` make aliases, `create PATH NAME safe` a safe child.
+/// What a call of a path, a name and another word answers: `create PATH NAME safe` makes a safe
+/// child, and `alias PATH NAME UP` and `between PATH NAME TARGET` make aliases.
 fn of_three(
     tree: &mut Tree,
     alloc: Global,
@@ -94,9 +94,9 @@ fn of_three(
     }
 }
 
-/// What a call answers by which one interpreter changes one below it: `steps PATH DOWN COUNT`,
-/// `levels PATH DOWN COUNT`, which set limits, `hide PATH DOWN NAME HIDDEN` and `expose PATH DOWN
-/// HIDDEN NAME`.
+/// What a call answers by which one interpreter changes one below it: `steps PATH DOWN COUNT` and
+/// `levels PATH DOWN COUNT`, which set limits, `hide PATH DOWN NAME HIDDEN`, and
+/// `expose PATH DOWN HIDDEN NAME`.
 fn of_below(
     tree: &mut Tree,
     alloc: Global,

@@ -2,9 +2,11 @@
 //!
 //! A call is a list; one that changes the tree answers `-`, and one that is refused the refusal's
 //! name, and must leave the tree as it was. A path is the list of its names. `new` puts a new tree
-//! in its place. There is a second tree, which is kept: `keep` makes it a copy of the first, `copy
-//! PATH` one of the interpreter at a path with all below it, `swap` exchanges the two, and `same`
-//! tells whether they are equal.
+//! in its place.
+//!
+//! There is a second tree, which is kept: `keep` makes it a copy of the first, `copy PATH` one of
+//! the interpreter at a path with all below it, `swap` exchanges the two, and `same` tells whether
+//! they are equal.
 use crate::answers::{Answer, Told, count, done, given, no_call, refused, truth, written};
 use crate::paths::at_path;
 use crate::words::{number_of, place_of, style_of, words_of};

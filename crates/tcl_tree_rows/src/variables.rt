@@ -126,8 +126,8 @@ fn of_three(
     }
 }
 
-/// What a call answers. `words` and `variables` tell how many there are, and `put BASE NAME KEY
-/// VALUE` sets an element.
+/// What a call answers. `words` and `variables` tell how many there are, and
+/// `put BASE NAME KEY VALUE` sets an element.
 fn answered(
     frame: &mut Frame,
     alloc: Global,
