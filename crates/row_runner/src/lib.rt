@@ -129,7 +129,8 @@ pub fn run<W: World>(rt: &HostRuntime, name: &str, world: &mut W) -> io::Result<
     println!(rt; "{name}: {rows} rows, {differ} answered otherwise")
 }
 
-/// Puts every beginning of a call to a world, all of it too, which must answer nothing, and returns the tally with them.
+/// Puts every beginning of a call to a world, all of it too, which must answer nothing, and returns
+/// the tally with them.
 fn see_beginnings<W: World>(
     rt: &HostRuntime,
     world: &mut W,
@@ -158,8 +159,9 @@ fn see_beginnings_of_line<W: World>(
     }
 }
 
-/// Puts every beginning of each call in the file `NAME.rows` to a world, all of the call too, which must answer nothing. Each that is answered otherwise is
-/// printed, and last how many there were. No group begins.
+/// Puts every beginning of each call in the file `NAME.rows` to a world, all of the call too, which
+/// must answer nothing. Each that is answered otherwise is printed, and last how many there were. No
+/// group begins.
 ///
 /// # Errors
 /// The file can't be read, the output can't be written, or out of memory.

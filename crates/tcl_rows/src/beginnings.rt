@@ -1,6 +1,7 @@
 //! Every beginning of a script, each watched in a tree of its own in which another script was run
 //! before.
 use crate::ending::{STEPS, evaluated};
+use crate::playing::played;
 use crate::scripts::is_told_incomplete;
 use crate::watching::{Watched, saved, watch_inside, watch_outside};
 use crate::world::Trees;
@@ -99,7 +100,7 @@ fn is_replayed(
     crossed: &[Crossing],
 ) -> Result<bool, AllocError> {
     let moves = moves_of(alloc, crossed)?;
-    match before.replay(alloc, moves.as_slice(), STEPS) {
+    match played(before, alloc, moves.as_slice(), STEPS) {
         Ok(replayed) => is_the_same(tree, alloc, &replayed, crossed),
         Err(_) => Ok(false),
     }
@@ -146,7 +147,8 @@ fn comes_out(alloc: Global, way: Way, before: &str, script: &str) -> Result<bool
     comes_out_in(&mut tree, alloc, way, before, script)
 }
 
-/// How many beginnings of a script, all of it too, come out as they must; or the first that doesn't.
+/// How many beginnings of a script, all of it too, come out as they must; or the first that
+/// doesn't.
 pub(crate) fn beginnings(
     world: &Trees,
     alloc: Global,

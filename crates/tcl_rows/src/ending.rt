@@ -1,6 +1,6 @@
-//! How a run ends, in writing: as a code and a text, `0: ` and the result or `1: ` and the error (no
-//! blank where the text is empty), as `stopped by count` or `stopped by depth`, as `exit` and the
-//! status, or as what refused the run.
+//! How a run ends, in writing: as a code and a text, `0: ` and the result or `1: ` and the error
+//! (no blank where the text is empty), as `stopped by count` or `stopped by depth`, as `exit` and
+//! the status, or as what refused the run.
 use std::alloc::{AllocError, Global};
 use tcl_evaluator::running::{End, Refused, eval};
 use tcl_flow::completion::Completion;
@@ -45,6 +45,18 @@ fn ending(alloc: Global, ended: &Result<End, Refused>) -> Result<String, AllocEr
     }
 }
 
+/// A run of a script in the interpreter at a path, which may make so many steps.
+pub(crate) fn run(
+    tree: &mut Tree,
+    alloc: Global,
+    host: &mut MemoryHost,
+    path: &[Text],
+    script: &str,
+    limit: u64,
+) -> Result<End, Refused> {
+    eval(tree, alloc, host, path, script, limit)
+}
+
 /// How a run of a script in the interpreter at a path ends, which may make so many steps.
 pub(crate) fn evaluated(
     tree: &mut Tree,
@@ -54,6 +66,6 @@ pub(crate) fn evaluated(
     script: &str,
     limit: u64,
 ) -> Result<String, AllocError> {
-    let ended = eval(tree, alloc, host, path, script, limit);
+    let ended = run(tree, alloc, host, path, script, limit);
     ending(alloc, &ended)
 }

@@ -1,8 +1,7 @@
 //! Calls that evaluate scripts in the tree.
-use crate::ending::{STEPS, evaluated};
-use crate::world::{Trees, done, no_call, number_of};
+use crate::ending::{self, STEPS, evaluated};
+use crate::world::{Trees, count_of, done, no_call, number_of};
 use std::alloc::{AllocError, Global};
-use tcl_evaluator::running::eval;
 use tcl_text::list::read_list;
 use tcl_text::text::Text;
 
@@ -26,9 +25,9 @@ pub(crate) fn eval_script(
     run(world, alloc, &[], script, STEPS)
 }
 
-/// Whether a run was refused, or wanted memory.
+/// Whether a run of a script in the root was refused, or wanted memory.
 fn is_refused(world: &mut Trees, alloc: Global, script: &str) -> bool {
-    eval(&mut world.tree, alloc, &mut world.host, &[], script, STEPS).is_err()
+    ending::run(&mut world.tree, alloc, &mut world.host, &[], script, STEPS).is_err()
 }
 
 /// Runs a script in the root, however that ends: its ending may be a long text.
@@ -79,26 +78,17 @@ pub(crate) fn eval_at(
     }
 }
 
-/// So many copies of a text.
-fn copies(alloc: Global, text: &str, count: u64) -> Result<String, AllocError> {
-    let mut all = String::new(alloc);
-    'copies: for _ in 0..count {
-        all.push_str(text)?;
-    }
-    Ok(all)
-}
-
 /// A text in so many pairs of others.
 fn in_pairs(
     alloc: Global,
-    depth: u64,
+    depth: usize,
     open: &str,
     middle: &str,
     close: &str,
 ) -> Result<String, AllocError> {
-    let mut text = copies(alloc, open, depth)?;
+    let mut text = open.repeat(alloc, depth)?;
     text.push_str(middle)?;
-    text.push_str(copies(alloc, close, depth)?.as_str())?;
+    text.push_str(close.repeat(alloc, depth)?.as_str())?;
     Ok(text)
 }
 
@@ -122,7 +112,7 @@ pub(crate) fn eval_nested(
     let [depth, open, middle, close, script] = words else {
         return no_call(alloc);
     };
-    let Some(depth) = number_of(depth) else {
+    let Some(depth) = count_of(depth) else {
         return no_call(alloc);
     };
     let text = in_pairs(alloc, depth, open.as_str(), middle.as_str(), close.as_str())?;
@@ -135,10 +125,10 @@ pub(crate) fn eval_blanks(
     alloc: Global,
     count: &Text,
 ) -> Result<String, AllocError> {
-    let Some(count) = number_of(count) else {
+    let Some(count) = count_of(count) else {
         return no_call(alloc);
     };
-    let blanks = copies(alloc, " ", count)?;
+    let blanks = " ".repeat(alloc, count)?;
     run(world, alloc, &[], blanks.as_str(), 0)
 }
 

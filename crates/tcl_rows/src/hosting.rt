@@ -1,5 +1,5 @@
 //! Calls of the host, and runs of the program over it.
-use crate::world::{Trees, done, no_call, number_of};
+use crate::world::{Trees, count_of, done, no_call, number_of};
 use std::alloc::{AllocError, Global};
 use tcl_host::host::Host;
 use tcl_host::memory::MemoryHost;
@@ -17,19 +17,11 @@ fn bytes_of(alloc: Global, text: &str) -> Result<Vec<u8>, AllocError> {
     Ok(bytes)
 }
 
-/// A new host has so many copies of a text on its standard input.
-fn put_input(world: &mut Trees, alloc: Global, text: &str, count: u64) -> Result<(), AllocError> {
-    let bytes = bytes_of(alloc, text)?;
-    world.host = MemoryHost::new(alloc)?;
-    'copies: for _ in 0..count {
-        world.host.put_input(bytes.as_slice())?;
-    }
-    Ok(())
-}
-
 /// `input TEXT`
 pub(crate) fn input(world: &mut Trees, alloc: Global, text: &str) -> Result<String, AllocError> {
-    put_input(world, alloc, text, 1)?;
+    let bytes = bytes_of(alloc, text)?;
+    world.host = MemoryHost::new(alloc)?;
+    world.host.put_input(bytes.as_slice())?;
     done(alloc)
 }
 
@@ -40,11 +32,11 @@ pub(crate) fn inputs(
     count: &Text,
     text: &str,
 ) -> Result<String, AllocError> {
-    let Some(count) = number_of(count) else {
+    let Some(count) = count_of(count) else {
         return no_call(alloc);
     };
-    put_input(world, alloc, text, count)?;
-    done(alloc)
+    let texts = text.repeat(alloc, count)?;
+    input(world, alloc, texts.as_str())
 }
 
 /// `file NAME TEXT`
@@ -111,13 +103,18 @@ fn command_line(alloc: Global, words: &[Text]) -> Result<Vec<&str>, AllocError> 
     Ok(line)
 }
 
-/// The status with which the program ends.
+/// The status with which the program ends over a host.
+fn status_of(host: &mut MemoryHost, alloc: Global, line: &[&str]) -> u8 {
+    run_args(alloc, line, host)
+}
+
+/// `tclsafe WORD ..`
 pub(crate) fn run_program(
     world: &mut Trees,
     alloc: Global,
     words: &[Text],
 ) -> Result<String, AllocError> {
     let line = command_line(alloc, words)?;
-    let status = run_args(alloc, line.as_slice(), &mut world.host);
+    let status = status_of(&mut world.host, alloc, line.as_slice());
     format!(in alloc; "{status}")
 }

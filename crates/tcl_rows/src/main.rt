@@ -4,24 +4,24 @@
 //! Every answer that a row wants was worked out by hand from the rules of the language.
 //!
 //! In `scripts.rows` and `tcl9.rows` a call is a script, and its answer how a run of it ends in a
-//! new tree of interpreters (`ending.rt` says how that is written); every beginning of each script is
-//! run too. In the other files a call is the words of a list, put to the tree, the host and what else
-//! the group has (`world.rt`). A call that changes these alone answers `-`.
+//! new tree of interpreters (`ending.rt` says how that is written); every beginning of each script
+//! is run too. In the other files a call is the words of a list, put to the tree, the host and what
+//! else the group has (`world.rt`). A call that changes these alone answers `-`.
 //!
 //! Evaluating (`evaluating.rt`):
-//! - `tree SCRIPT`: begins a new tree, in which the script is run first, and how that ends; at first
-//!   the script is empty;
+//! - `tree SCRIPT`: begins a new tree, in which the script is run first, and how that ends; at
+//!   first the script is empty;
 //! - `eval SCRIPT`, `within STEPS SCRIPT`, `at PATH SCRIPT`: how a run of the script ends, in the
 //!   root or at a path;
 //! - `prepare SCRIPT`: runs the script in the root, however that ends;
-//! - `nested DEPTH OPEN MIDDLE CLOSE SCRIPT`: of the script, in which `%` stands for the middle in so
-//!   many pairs;
-//! - `blanks COUNT`: of so many blanks, which may make no step;
+//! - `nested DEPTH OPEN MIDDLE CLOSE SCRIPT`: how a run of the script ends, in which `%` stands for
+//!   the middle in so many pairs;
+//! - `blanks COUNT`: how a run of so many blanks ends, which may make no step;
 //! - `break`: marks the tree broken.
 //!
-//! The host (`hosting.rt`), each of whose texts has a character for each byte:
-//! - `input TEXT`, `inputs COUNT TEXT`, `file NAME TEXT`: a new host with this on its standard input,
-//!   so often, or in a file;
+//! The host (`hosting.rt`), in each of whose texts a character is a byte:
+//! - `input TEXT`, `inputs COUNT TEXT`, `file NAME TEXT`: a new host with this on its standard
+//!   input, so often, or in a file;
 //! - `fault NUMBER`: makes the request of that number from now on fail;
 //! - `tclsafe WORD ..`: the status with which the program ends over the host;
 //! - `output`, `errors`, `failures`: what was put out and told, and how many requests failed;
@@ -30,19 +30,20 @@
 //! Watching (`watching.rt`), where an empty name is that of the root:
 //! - `watch NAME SCRIPT`, `watch_within NAME STEPS SCRIPT`: how a run ends in which that child is
 //!   watched, over a new host;
-//! - `record`, `crossings`: what crossed its boundary in it (`writing.rt`), and how many crossings;
+//! - `record`, `crossings`: what crossed its boundary in it (`writing.rt` says how that is
+//!   written), and how many crossings there were;
 //! - `save NAME LABEL`: keeps the child by itself;
 //! - `same LABEL LABEL`: whether two that were kept are the same.
 //!
 //! Playing (`playing.rt`):
-//! - `play LABEL STEPS MOVES`, `replay LABEL STEPS`: what comes of moves that are played to one that
-//!   was kept, or of those of the record; it is kept as it was left under the label `played`;
+//! - `play LABEL STEPS MOVES`, `replay LABEL STEPS`: what comes of moves that are played to one
+//!   that was kept, or of those of the record; it is kept as it was left under the label `played`;
 //! - `told`, `last`: what it told in that, and what of it last.
 //!
 //! Beginnings (`beginnings.rt`), each in a new tree, and how many of them came out so:
 //! - `ends SCRIPT`: every beginning ends while the root is watched;
-//! - `outside SCRIPT`, `inside SCRIPT`: the child `c`, which is watched while the root or `c` itself
-//!   evaluates the beginning, tells the same by itself and is left the same.
+//! - `outside SCRIPT`, `inside SCRIPT`: the child `c`, which is watched while the root or `c`
+//!   itself evaluates the beginning, tells the same by itself and is left the same.
 //!
 //! Want of memory (`memory.rt`): `eval_again SCRIPT`, `watch_again NAME SCRIPT`, `save_again NAME
 //! LABEL` and `play_again LABEL STEPS MOVES` answer as those without `_again`, whichever of their

@@ -1,8 +1,8 @@
 //! Calls that answer the same whichever of their allocations is refused: where memory was wanted,
 //! they look at what then holds, and are made once more.
 //!
-//! `rt try --fail-alloc N` refuses the one of that number in the whole run, so that the call which is
-//! made once more is answered.
+//! `rt try --fail-alloc N` refuses the one of that number in the whole run, so that the call which
+//! is made once more is answered.
 use crate::ending::{STEPS, evaluated};
 use crate::watching::{saved, watch_outside};
 use crate::world::Trees;

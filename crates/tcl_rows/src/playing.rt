@@ -1,8 +1,8 @@
 //! Calls that play moves.
 //!
 //! A move is a line: `in` and the script that comes to the interpreter, `back` and the ordinary
-//! completion that answers a call, `exit`, an answer by the exit of status 3, or `ended`, an answer by
-//! an end from outside.
+//! completion that answers a call, `exit`, an answer by the exit of status 3, or `ended`, an answer
+//! by an end from outside.
 use crate::world::{Trees, no_call, number_of};
 use crate::writing;
 use std::alloc::{AllocError, Global};
@@ -59,6 +59,16 @@ fn moves_of_lines(alloc: Global, lines: &str) -> Result<Vec<Move>, AllocError> {
     Ok(moves)
 }
 
+/// What comes of moves that are played to an interpreter by itself.
+pub(crate) fn played(
+    saved: &Saved,
+    alloc: Global,
+    moves: &[Move],
+    limit: u64,
+) -> Result<Replayed, Unplayed> {
+    saved.replay(alloc, moves, limit)
+}
+
 /// Keeps what came of moves, and gives their outcome.
 fn note(world: &mut Trees, alloc: Global, replayed: Replayed) -> Result<String, AllocError> {
     let (outcome, told, saved) = replayed.into_parts();
@@ -88,7 +98,7 @@ fn play_moves(
     moves: &[Move],
 ) -> Result<String, AllocError> {
     let played = match world.kept(label) {
-        Some(saved) => saved.replay(alloc, moves, limit),
+        Some(saved) => played(saved, alloc, moves, limit),
         None => return no_call(alloc),
     };
     come(world, alloc, played)
@@ -127,9 +137,9 @@ fn replayed_again(
     moves: &[Move],
     limit: u64,
 ) -> Result<Replayed, Unplayed> {
-    match saved.replay(alloc, moves, limit) {
-        Err(Unplayed::Memory) => saved.replay(alloc, moves, limit),
-        played => played,
+    match played(saved, alloc, moves, limit) {
+        Err(Unplayed::Memory) => played(saved, alloc, moves, limit),
+        come => come,
     }
 }
 

@@ -1,8 +1,7 @@
 //! Scripts, each of them in a tree and over a host of its own.
-use crate::ending::{STEPS, evaluated};
+use crate::ending::{STEPS, evaluated, run};
 use row_runner::World;
 use std::alloc::{AllocError, Global};
-use tcl_evaluator::running::{End, Refused, eval};
 use tcl_host::memory::MemoryHost;
 use tcl_parser::reader::{is_complete, parse};
 use tcl_text::integer::Integers;
@@ -51,19 +50,16 @@ pub(crate) fn is_told_incomplete(alloc: Global, script: &str) -> Result<bool, Al
     Ok(is_complete(alloc, script)? != is_open)
 }
 
-/// How a run of a script ends in a new tree.
-fn run_anew(alloc: Global, script: &str) -> Result<Result<End, Refused>, AllocError> {
-    let mut tree = Tree::new(alloc)?;
+/// Whether a script is run to an end in a tree that is new.
+fn is_run_in(tree: &mut Tree, alloc: Global, script: &str) -> Result<bool, AllocError> {
     let mut host = MemoryHost::new(alloc)?;
-    Ok(eval(&mut tree, alloc, &mut host, &[], script, STEPS))
+    Ok(run(tree, alloc, &mut host, &[], script, STEPS).is_ok())
 }
 
 /// Whether a script is run to an end.
 fn is_run(alloc: Global, script: &str) -> Result<bool, AllocError> {
-    match run_anew(alloc, script)? {
-        Ok(_end) => Ok(true),
-        Err(_) => Ok(false),
-    }
+    let mut tree = Tree::new(alloc)?;
+    is_run_in(&mut tree, alloc, script)
 }
 
 impl World for Beginnings {

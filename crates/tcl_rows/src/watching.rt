@@ -54,6 +54,19 @@ fn told(
     }
 }
 
+/// The host after a watched run, and how that ended, or why there is no record of it.
+fn run_watched(
+    tree: &mut Tree,
+    alloc: Global,
+    path: &[Text],
+    script: &str,
+    limit: u64,
+    watched: &[Text],
+) -> Result<(MemoryHost, Result<(End, Record), Unwatched>), AllocError> {
+    let host = MemoryHost::new(alloc)?;
+    Ok(eval_watched(tree, alloc, host, path, script, limit, watched))
+}
+
 /// A run of a script at a path that may make so many steps, the interpreter at another one being
 /// watched.
 fn watch_at(
@@ -64,8 +77,7 @@ fn watch_at(
     limit: u64,
     watched: &[Text],
 ) -> Result<Watched, AllocError> {
-    let host = MemoryHost::new(alloc)?;
-    let (host, given) = eval_watched(tree, alloc, host, path, script, limit, watched);
+    let (host, given) = run_watched(tree, alloc, path, script, limit, watched)?;
     let (ending, crossings) = told(alloc, given)?;
     Ok(Watched {
         ending,

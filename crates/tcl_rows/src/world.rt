@@ -119,6 +119,11 @@ pub(crate) fn number_of(word: &Text) -> Option<u64> {
     word.as_str().parse::<u64>().ok()
 }
 
+/// The count that a word spells.
+pub(crate) fn count_of(word: &Text) -> Option<usize> {
+    word.as_str().parse::<usize>().ok()
+}
+
 /// What a call of no words answers.
 fn of_none(world: &mut Trees, alloc: Global, call: &str) -> Result<String, AllocError> {
     match call {

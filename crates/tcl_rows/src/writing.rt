@@ -1,9 +1,10 @@
 //! Crossings in writing.
 //!
-//! A crossing is a line: `In`, `Done`, `Out` or `Back`, and what crosses. An entry is `eval` and its
-//! script, `call` and its words, `expose` and its names, or `own`; of a call it comes behind how many
-//! levels it leads above the watched interpreter, a request of the host behind `host`. A reply is the
-//! text of an ordinary completion, a code and a text, `stop`, `exit` and a status, or `ended`.
+//! A crossing is a line: `In`, `Done`, `Out` or `Back`, and what crosses. An entry is `eval` and
+//! its script, `call` and its words, `expose` and its names, or `own`; of a call it comes behind
+//! how many levels it leads above the watched interpreter, a request of the host behind `host`. A
+//! reply is the text of an ordinary completion, a code and a text, `stop`, `exit` and a status, or
+//! `ended`.
 use std::alloc::{AllocError, Global};
 use tcl_flow::completion::Completion;
 use tcl_host::reply::HostReply;
@@ -123,8 +124,8 @@ pub(crate) fn crossings(alloc: Global, crossed: &[Crossing]) -> Result<String, A
     Ok(text)
 }
 
-/// Whether it is the watched interpreter that tells a crossing: a call that goes out, or how an entry
-/// ends.
+/// Whether it is the watched interpreter that tells a crossing: a call that goes out, or how an
+/// entry ends.
 fn is_told(crossing: &Crossing) -> bool {
     matches!(crossing, Crossing::Out { .. } | Crossing::Done { .. })
 }
