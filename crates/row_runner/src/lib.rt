@@ -109,17 +109,68 @@ fn see_line<W: World>(
     }
 }
 
+/// The text of the file `NAME.rows`.
+fn rows_of(rt: &HostRuntime, name: &str) -> io::Result<String> {
+    let path = format!(in rt.alloc(); "{name}.rows")?;
+    fs::read_to_string(rt, path.as_str())
+}
+
 /// Puts the rows of the file `NAME.rows` to a world. Each that is answered otherwise is printed, and last how many rows there were.
 ///
 /// # Errors
 /// The file can't be read, the output can't be written, or out of memory.
 pub fn run<W: World>(rt: &HostRuntime, name: &str, world: &mut W) -> io::Result<()> {
-    let path = format!(in rt.alloc(); "{name}.rows")?;
-    let rows = fs::read_to_string(rt, path.as_str())?;
+    let rows = rows_of(rt, name)?;
     let mut tally = Tally { rows: 0, differ: 0 };
     'rows: for line in rows.lines() {
         tally = see_line(rt, world, tally, line)?;
     }
     let Tally { rows, differ } = tally;
     println!(rt; "{name}: {rows} rows, {differ} answered otherwise")
+}
+
+/// Puts every beginning of a call to a world, all of it too, which must answer nothing, and returns
+/// the tally with them.
+fn see_beginnings<W: World>(
+    rt: &HostRuntime,
+    world: &mut W,
+    tally: Tally,
+    call: &str,
+) -> io::Result<Tally> {
+    let mut tally = tally;
+    'ends: for end in 0..=call.len() {
+        if let Some(beginning) = call.get(..end) {
+            tally = tally.with(see(rt, world, beginning, "")?);
+        }
+    }
+    Ok(tally)
+}
+
+/// Puts every beginning of a line's call to a world, and returns the tally with them.
+fn see_beginnings_of_line<W: World>(
+    rt: &HostRuntime,
+    world: &mut W,
+    tally: Tally,
+    line: &str,
+) -> io::Result<Tally> {
+    match line_of(line) {
+        Line::Row(call, _) => see_beginnings(rt, world, tally, call),
+        Line::Nothing | Line::Group | Line::NoRow => Ok(tally),
+    }
+}
+
+/// Puts every beginning of each call in the file `NAME.rows` to a world, all of the call too, which
+/// must answer nothing. Each that is answered otherwise is printed, and last how many there were. No
+/// group begins.
+///
+/// # Errors
+/// The file can't be read, the output can't be written, or out of memory.
+pub fn run_beginnings<W: World>(rt: &HostRuntime, name: &str, world: &mut W) -> io::Result<()> {
+    let rows = rows_of(rt, name)?;
+    let mut tally = Tally { rows: 0, differ: 0 };
+    'rows: for line in rows.lines() {
+        tally = see_beginnings_of_line(rt, world, tally, line)?;
+    }
+    let Tally { rows, differ } = tally;
+    println!(rt; "{name}: {rows} beginnings, {differ} answered otherwise")
 }

@@ -1,83 +1,76 @@
-//! How scripts are read: words, substitutions, comments, faults.
-use crate::runs::{World, see_beginnings, see_rows};
+//! Scripts, each of them in a tree and over a host of its own.
+use crate::ending::{STEPS, evaluated, run};
+use row_runner::World;
 use std::alloc::{AllocError, Global};
-use std::test::Fail;
+use tcl_host::memory::MemoryHost;
+use tcl_parser::reader::{is_complete, parse};
 use tcl_text::integer::Integers;
+use tcl_tree::tree::Tree;
 
-const WORDS: &str = r##"set a {b c}; list $a {} x => 0: {b c} {} x
-list {*}{a {b c}} \x41 \1011 # => 0: a {b c} A A1 #
-list # a => 0: {#} a
-set a 1; set b [set a]; list $b$a "$b $a" {$b} => 0: 11 {1 1} {$b}
-set ::a 1; set a => 0: 1
-{*}{} => 0:
-set a(x::y) 1 => 0: 1
-list "a;b" a\;b {a;b};# list => 0: {a;b} {a;b} {a;b}
-set x {a b}; list {*}$x {*}"c d" {*} => 0: a b c d *"##;
-
-const FAULTS: &str = r##"set x 1; set y {b => 1: missing close-brace
-set x [list a => 1: missing close-bracket
-list "a => 1: missing "
-set a(x 1 => 0: 1
-list $a(x => 1: missing )
-list ${a => 1: missing close-brace for variable name
-list {a}b => 1: extra characters after close-brace
-list "a"b => 1: extra characters after close-quote
-list {*}"a {b" => 1: unmatched open brace in list
-nosuch a b => 1: invalid command name "nosuch"
-a::b => 1: bad name "a::b"
-set => 1: wrong # args: should be "set varName ?newValue?""##;
-
-#[test]
-fn words_are_substituted_once(rt: HostRuntime) -> Result<(), Fail> {
-    see_rows(rt.alloc(), WORDS)
+/// Answers a script by how a run of it ends.
+#[derive(Drop)]
+pub(crate) struct Scripts {
+    /// The style of integers of the trees.
+    pub(crate) integers: Integers,
 }
 
-#[test]
-fn beginnings_of_words(rt: HostRuntime) -> Result<(), Fail> {
-    see_beginnings(rt.alloc(), WORDS)
+/// How a run of a script ends in a tree that is new.
+fn run_in(tree: &mut Tree, alloc: Global, script: &str) -> Result<String, AllocError> {
+    let mut host = MemoryHost::new(alloc)?;
+    evaluated(tree, alloc, &mut host, &[], script, STEPS)
 }
 
-#[test]
-fn a_fault_is_the_error_after_the_commands_before_it(rt: HostRuntime) -> Result<(), Fail> {
-    see_rows(rt.alloc(), FAULTS)
-}
-
-#[test]
-fn beginnings_of_faults(rt: HostRuntime) -> Result<(), Fail> {
-    see_beginnings(rt.alloc(), FAULTS)
-}
-
-#[test]
-fn an_empty_script_gives_the_empty_text(rt: HostRuntime) -> Result<(), Fail> {
-    World::new(rt.alloc(), Integers::Tcl8)?.see(rt.alloc(), "", "0:")
-}
-
-#[test]
-fn what_was_done_before_a_fault_stays(rt: HostRuntime) -> Result<(), Fail> {
-    let alloc = rt.alloc();
-    let mut world = World::new(alloc, Integers::Tcl8)?;
-    world.see(alloc, "set x 1; set y {b", "1: missing close-brace")?;
-    world.see(alloc, "set x", "0: 1")
-}
-
-/// `list` within brackets, so many deep.
-fn nested(alloc: Global, depth: u32) -> Result<String, AllocError> {
-    let mut script = String::new(alloc);
-    'deeper: for _ in 0..depth {
-        script.push_str("list [")?;
+impl World for Scripts {
+    fn begin(&mut self, _alloc: Global) -> Result<(), AllocError> {
+        Ok(())
     }
-    script.push_str("list x")?;
-    'outwards: for _ in 0..depth {
-        script.push_str("]")?;
+
+    fn answer(&mut self, alloc: Global, call: &str) -> Result<String, AllocError> {
+        let mut tree = Tree::with_integers(alloc, self.integers)?;
+        run_in(&mut tree, alloc, call)
     }
-    Ok(script)
 }
 
-#[test]
-fn brackets_nest_200_deep(rt: HostRuntime) -> Result<(), Fail> {
-    let alloc = rt.alloc();
-    let mut world = World::new(alloc, Integers::Tcl8)?;
-    world.see(alloc, nested(alloc, 200)?.as_str(), "0: x")?;
-    let deeper = nested(alloc, 201)?;
-    world.see(alloc, deeper.as_str(), "1: too many nested brackets")
+/// Answers a beginning of a script by nothing where it is run to an end, and told incomplete where
+/// its fault is a form that is open.
+#[derive(Drop)]
+pub(crate) struct Beginnings;
+
+/// Whether a script's fault is a form that is open at its end.
+fn has_open_form(alloc: Global, script: &str) -> Result<bool, AllocError> {
+    match parse(alloc, script)?.fault {
+        Some(fault) => Ok(fault.is_open()),
+        None => Ok(false),
+    }
+}
+
+/// Whether a script is told incomplete where its fault is a form that is open, and only there.
+pub(crate) fn is_told_incomplete(alloc: Global, script: &str) -> Result<bool, AllocError> {
+    let is_open = has_open_form(alloc, script)?;
+    Ok(is_complete(alloc, script)? != is_open)
+}
+
+/// Whether a script is run to an end in a tree that is new.
+fn is_run_in(tree: &mut Tree, alloc: Global, script: &str) -> Result<bool, AllocError> {
+    let mut host = MemoryHost::new(alloc)?;
+    Ok(run(tree, alloc, &mut host, &[], script, STEPS).is_ok())
+}
+
+/// Whether a script is run to an end.
+fn is_run(alloc: Global, script: &str) -> Result<bool, AllocError> {
+    let mut tree = Tree::new(alloc)?;
+    is_run_in(&mut tree, alloc, script)
+}
+
+impl World for Beginnings {
+    fn begin(&mut self, _alloc: Global) -> Result<(), AllocError> {
+        Ok(())
+    }
+
+    fn answer(&mut self, alloc: Global, call: &str) -> Result<String, AllocError> {
+        if !is_told_incomplete(alloc, call)? {
+            return String::from_str(alloc, "is it complete?");
+        }
+        String::from_str(alloc, if is_run(alloc, call)? { "" } else { "not run" })
+    }
 }
