@@ -1,6 +1,5 @@
 -- What expressions, conditions and the commands with conditions come to.
-use Rattle.tcl_core.specs.Programs.{Wait}
-use Rattle.std.proofs.Common.{◌≡◌, ℕ, pos, ◌<◌, ◌≤◌, Bool, true, false, List, [], ◌∷◌, ◌++◌, length, get_or, Option, Some, None, refl, sym, ◌∙◌, ap, subst, arith}
+use Rattle.std.proofs.Common.{◌≡◌, ℕ, pos, ◌<◌, ◌≤◌, Bool, true, false, List, [], ◌∷◌, ◌++◌, length, Option, Some, None, refl, sym, ap, subst, arith}
 use Rattle.std.specs.Prelude.{Result, Ok, Err, MatchResult, codes}
 use Rattle.tcl_core.specs.Endings.{Completion, Reply, IsQuit, ok}
 use Rattle.tcl_core.specs.Endings.Reply.{Completed, Stop, Exit, Cut}
@@ -8,18 +7,17 @@ use Rattle.tcl_core.specs.Runs.{Ending}
 use Rattle.tcl_core.specs.Paths.{Text, Path}
 use Rattle.tcl_core.specs.Programs.Prog.{done, exit, act, go, inside, call, wait}
 use Rattle.tcl_run.proofs.Proceeding.{completed, passed}
-use Rattle.tcl_core.specs.Trees.{Tree, Event}
+use Rattle.tcl_core.specs.Trees.{Tree}
 use Rattle.tcl_expr.specs.Expressions.{expression_of}
 use Rattle.tcl_expr.specs.Faults.{message_of as expression_message}
-use Rattle.tcl_expression_evaluation.specs.Computations.{Computation, value, refused, substitute, computation_of}
+use Rattle.tcl_expression_evaluation.specs.Computations.{Computation, value, substitute, computation_of}
 use Rattle.tcl_expression_evaluation.specs.Steps.{from}
 use Rattle.tcl_expression_tree.specs.declared.tree.ExprTree.{ExprTree}
 use Rattle.tcl_expression_tree.specs.declared.tree.Node.{Node}
-use Rattle.tcl_flow.specs.View.{completion_of}
 use Rattle.tcl_language.specs.Control.{after_body}
 use Rattle.tcl_language.specs.Expressions.{computed, expression, condition, turn, expr, Branches, branches_of, if_first, runs_branches, first_true, runs_last}
 use Rattle.tcl_language.specs.Faults.{wrong_args}
-use Rattle.tcl_language.specs.Instructions.{Program, either, fits, on_ok, or_fails, too_long}
+use Rattle.tcl_language.specs.Instructions.{Program, either, fits, or_fails, too_long}
 use Rattle.tcl_language.specs.Instructions.Instr.{Script, Parts, Expression}
 use Rattle.tcl_language.specs.Language.{language}
 use Rattle.tcl_language.specs.Scripts.{script, parts}
@@ -33,7 +31,6 @@ use Rattle.tcl_run.specs.declared.interruption.Interruption.TheVariants as inter
 use Rattle.tcl_run.specs.Ends.{Breaks, Gave, IfRan, Interrupts, IsFailure, Stays, failing}
 use Rattle.tcl_run.specs.Runs.{IsAt, Proceeds, Ways}
 use Rattle.tcl_run.proofs.Endings.{Breaks-both, breaks}
-use Rattle.tcl_core.specs.Entries.{Answer}
 use Rattle.tcl_run.proofs.Proceeding.{at_prog, at_reply, goes_on, goes_done, grows, outgrows, reads_on, read_fails, stopped}
 use Rattle.tcl_text.specs.declared.integer.Integers.{Integers}
 use Rattle.tcl_tree.specs.Own.{Own}
@@ -44,7 +41,7 @@ use Rattle.tcl_calls.specs.Expressions.{IsKept, IsRefused, settles}
 use Rattle.tcl_calls.specs.Turns.{After, EndsIn, Goes, Leaves, Turns}
 use Rattle.tcl_calls.specs.Words.{EndsBy}
 use Rattle.tcl_evaluator.proofs.Steps
-use Rattle.tcl_evaluator.specs.Conditional.{TurnGoes, turn_then}
+use Rattle.tcl_evaluator.specs.Conditional.{TurnGoes}
 
 -- an error goes no further
 pub failing_stays : (text : List ℕ) (e : Reply) → e ≡ Completed (failing text) → Stays (Some e)

@@ -1,16 +1,15 @@
 -- What comes of asking an interpreter for an evaluation.
 use Rattle.std.proofs.Common.{◌≡◌, ℕ, ◌<◌, ◌≤◌, Bool, true, false, List, [], ◌∷◌, length, Some, None, refl, sym, ◌∙◌, ap, subst, arith}
 use Rattle.std.specs.Prelude.{Result}
-use Rattle.tcl_core.specs.Endings.{Completion, Reply, settle}
+use Rattle.tcl_core.specs.Endings.{Completion, Reply}
 use Rattle.tcl_core.specs.Endings.Reply.{Completed, Stop, Exit, Cut}
 use Rattle.tcl_core.specs.Entries.{Entry}
 use Rattle.tcl_core.specs.Entries.Entry.{Eval, InvokeHidden}
 use Rattle.tcl_core.specs.Paths.{Path, Text}
 use Rattle.tcl_core.specs.Runs.{Ending}
-use Rattle.tcl_core.specs.Programs.{blocked, is_spent, Wait}
-use Rattle.tcl_core.specs.Programs.Prog.{done, go}
-use Rattle.tcl_core.specs.Trees.{Tree, Node, Event, effect}
-use Rattle.tcl_core.specs.Trees.What.{Changed, Charged}
+use Rattle.tcl_core.specs.Programs.Prog.{done}
+use Rattle.tcl_core.specs.Trees.{Tree, Node, effect}
+use Rattle.tcl_core.specs.Trees.What.{Changed}
 use Rattle.tcl_language.specs.Control.{at_level, level_over}
 use Rattle.tcl_language.specs.Faults.{wrong_args}
 use Rattle.tcl_language.specs.Instructions.{Program, fails, grown}

@@ -1,5 +1,5 @@
 -- What is a run over a host as an outside is a run with the host, and the whole evaluation.
-use Rattle.std.proofs.Common.{◌≡◌, ◌∙◌, ℕ, ◌+◌, Bool, true, false, [], ◌∷◌, Option, None, Some, refl, sym, ap, subst}
+use Rattle.std.proofs.Common.{◌≡◌, ◌∙◌, ℕ, ◌+◌, Bool, true, false, [], ◌∷◌, Option, Some, refl, sym, ap, subst}
 use Rattle.std.specs.Prelude.{Result, Ok, Err, IfErr, IfNone, IfOk, IfSome, is_some, nat_le}
 use Rattle.tcl_budgets.specs.Laws.{ScriptsKeepBudgets}
 use Rattle.tcl_budgets.proofs.Tables.{orderly}

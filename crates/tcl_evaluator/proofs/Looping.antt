@@ -1,14 +1,13 @@
 -- What loops come to.
-use Rattle.tcl_core.specs.Programs.{Wait}
-use Rattle.std.proofs.Common.{◌≡◌, ◌⊎◌, inl, inr, ℕ, zero, suc, pos, ◌<◌, ◌≤◌, Bool, true, false, List, [], ◌∷◌, length, get_or, Option, Some, None, refl, sym, ◌∙◌, ap, subst, arith}
+use Rattle.std.proofs.Common.{◌≡◌, ◌⊎◌, inl, inr, ℕ, zero, suc, pos, ◌<◌, ◌≤◌, List, [], ◌∷◌, length, get_or, Some, arith}
 use Rattle.std.specs.Prelude.{codes}
-use Rattle.tcl_core.specs.Endings.{Completion, Reply, ok}
-use Rattle.tcl_core.specs.Endings.Reply.{Completed, Stop, Exit, Cut}
+use Rattle.tcl_core.specs.Endings.{Completion, Reply}
+use Rattle.tcl_core.specs.Endings.Reply.{Completed}
 use Rattle.tcl_core.specs.Runs.{Ending}
 use Rattle.tcl_core.specs.Paths.{Text, Path}
 use Rattle.tcl_core.specs.Programs.Prog.{done, go}
-use Rattle.tcl_run.proofs.Proceeding.{completed, passed}
-use Rattle.tcl_core.specs.Trees.{Tree, Event}
+use Rattle.tcl_run.proofs.Proceeding.{completed}
+use Rattle.tcl_core.specs.Trees.{Tree}
 use Rattle.tcl_language.specs.Expressions.{while_loop, while_turns, after_next, for_loop, for_turns}
 use Rattle.tcl_language.specs.Faults.{wrong_args}
 use Rattle.tcl_language.specs.Instructions.{Program}

@@ -1,52 +1,48 @@
 -- What the parts of words, words and commands come to, step by step.
-use Rattle.std.proofs.Common.{◌≡◌, ◌⊎◌, inl, inr, ℕ, zero, suc, pos, negsuc, ℤ, ◌+◌, ◌-◌, ◌<◌, ◌≤◌, Bool, true, false, List, [], ◌∷◌, ◌++◌, map, reverse, take, drop, get_or, length, Option, Some, None, refl, sym, ◌∙◌, ap, subst, arith, add-one, append-nil, ◌==◌}
+use Rattle.std.proofs.Common.{◌≡◌, ◌⊎◌, inl, inr, ℕ, suc, pos, ◌+◌, ◌-◌, ◌<◌, ◌≤◌, Bool, true, false, List, [], ◌∷◌, ◌++◌, take, drop, get_or, length, Option, Some, None, refl, sym, ◌∙◌, ap, subst, arith, add-one, ◌==◌}
 use Rattle.std.specs.Prelude.{Result, Ok, Err, MatchResult, IfErr, IfOk, OnOk, is_some}
 use Rattle.std.proofs.Math.Seq.{drop-cons, take-length}
 use Rattle.std.proofs.Math.ListN.{drop_of_length-le}
 use Rattle.std.proofs.lemmas.Bool.Decides.{nat_tests}
-use Rattle.std.proofs.lemmas.List.{map-append, reverse-append}
 use Rattle.tcl_core.specs.Runs.{Ending}
 use Rattle.tcl_core.specs.Paths.{Path}
 use Rattle.tcl_core.specs.Endings.{Completion, Reply, ok}
 use Rattle.tcl_core.specs.Endings.Reply.{Completed, Stop, Exit, Cut}
-use Rattle.tcl_core.specs.Trees.{Tree, Node, Event}
-use Rattle.tcl_core.specs.Programs.{blocked, is_spent, is_deep, Wait}
+use Rattle.tcl_core.specs.Trees.{Tree, Node}
+use Rattle.tcl_core.specs.Programs.{blocked, is_deep}
 use Rattle.tcl_core.specs.Programs.Act.{Charge}
 use Rattle.tcl_core.specs.Programs.Prog.{done, go, act}
 use Rattle.tcl_core.specs.Trees.{effect}
-use Rattle.tcl_core.specs.Trees.What.{Charged, Nested, Unnested}
+use Rattle.tcl_core.specs.Trees.What.{Nested, Unnested}
 use Rattle.tcl_run.proofs.Proceeding.{completed, given_up_after, passed}
 use Rattle.tcl_frames.specs.Chain.{read}
 use Rattle.tcl_language.specs.Faults.{frame_message}
 use Rattle.tcl_language.specs.Instructions.{Instr, Program, Open, fits, too_long, on_ok, on_code, grown, or_fails}
 use Rattle.tcl_language.specs.Instructions.Instr.{Script, Commands, Words, Parts, Call}
 use Rattle.tcl_language.specs.Language.{language}
-use Rattle.tcl_language.specs.Scripts.{script, commands, words, parts, charged, spread, over, closed, element_text}
+use Rattle.tcl_language.specs.Scripts.{script, commands, words, parts, charged, spread, over, element_text}
 use Rattle.tcl_parser.specs.declared.fault.Fault.{Fault}
 use Rattle.tcl_parser.specs.declared.script.Part.{Part}
 use Rattle.tcl_parser.specs.declared.script.Part.TheVariants as part
 use Rattle.tcl_parser.specs.Words.{WordRead, Reading}
-use Rattle.tcl_parser.specs.Reading.{read_script}
 use Rattle.tcl_run.specs.declared.interruption.Interruption.{Interruption}
 use Rattle.tcl_run.specs.declared.interruption.Interruption.TheVariants as interruption
-use Rattle.tcl_run.specs.Ends.{Breaks, IfRan, Interrupts, IfEnded, IsFailure, Stays, IsText, Gave, too_deep_at}
+use Rattle.tcl_run.specs.Ends.{Breaks, IfRan, Interrupts, IfEnded, IsFailure, Stays, Gave, too_deep_at}
 use Rattle.tcl_language.specs.Table.{called}
-use Rattle.tcl_core.specs.Entries.{Answer}
 use Rattle.tcl_run.specs.Runs.{Counts, IsAt, IsThere, Proceeds, RefusesStep, Ways}
 use Rattle.tcl_run.specs.Runs.IsLoss.{unlost}
 use Rattle.tcl_text.specs.Lists.{list_of}
 use Rattle.tcl_text.specs.Writing.{fault_message}
 use Rattle.tcl_text.specs.declared.list.ListFault.{ListFault}
-use Rattle.tcl_run.proofs.Endings.{Breaks-both, Interrupts-more, IfEnded-more, breaks}
+use Rattle.tcl_run.proofs.Endings.{Breaks-both, Interrupts-more, breaks}
 use Rattle.tcl_run.proofs.Proceeding.{at_prog, at_reply, at_finish, looks, goes_on, goes_done, reads_on, read_fails, grows, outgrows, charges, charge_refused, nests_done, nest_refused}
 use Rattle.tcl_text.specs.declared.integer.Integers.{Integers}
 use Rattle.tcl_tree.specs.Own.{Own}
-use Rattle.tcl_tree.specs.TreeOf.{tree_of, Names}
+use Rattle.tcl_tree.specs.TreeOf.{tree_of}
 use Rattle.tcl_tree.specs.declared.tree.Tree.{Tree as Table}
 use Rattle.tcl_tree.specs.declared.tree.Place.{Place as TablePlace}
 use Rattle.tcl_variables.specs.declared.fault.FrameFault.{FrameFault}
-use Rattle.tcl_calls.specs.declared.words.OpenElement.{OpenElement}
-use Rattle.tcl_calls.specs.Words.{open_of, opens, words_of, AtOk, Closes, ClosesBy, Adds, EndsBy}
+use Rattle.tcl_calls.specs.Words.{words_of, AtOk, Closes, ClosesBy, Adds, EndsBy}
 use Rattle.tcl_evaluator.specs.View.{read_so}
 
 -- how far a program comes that is run in an interpreter where an evaluation is in progress

@@ -6,7 +6,6 @@ use Rattle.tcl_core.specs.Endings.{Completion, Reply, ok}
 use Rattle.tcl_core.specs.Endings.Reply.{Completed}
 use Rattle.tcl_core.specs.Entries.Entry.{AskHost}
 use Rattle.tcl_core.specs.Entries.Request.{Write}
-use Rattle.tcl_core.specs.Runs.{Ending}
 use Rattle.tcl_core.specs.Paths.{Text, Path}
 use Rattle.tcl_core.specs.Threads.{event}
 use Rattle.tcl_core.specs.Trees.What.{Out}

@@ -1,17 +1,16 @@
 -- What contracts see of expressions that were read, of conditions, and of the turns of loops.
-use Rattle.std.specs.Prelude.{◌≡◌, ℕ, Bool, true, false, List, [], Some, None, Result, Ok, Err}
-use Rattle.tcl_core.specs.Endings.{Completion, ok}
+use Rattle.std.specs.Prelude.{ℕ, Bool, true, false, List, [], Some, Result}
+use Rattle.tcl_core.specs.Endings.{ok}
 use Rattle.tcl_core.specs.Endings.Reply.{Completed}
 use Rattle.tcl_core.specs.Paths.{Path}
 use Rattle.tcl_core.specs.Runs.{Ending}
-use Rattle.tcl_core.specs.Trees.{Tree, Event}
+use Rattle.tcl_core.specs.Trees.{Tree}
 use Rattle.tcl_expression_tree.specs.declared.tree.ExprTree.{ExprTree}
 use Rattle.tcl_language.specs.Control.{after_body}
 use Rattle.tcl_language.specs.Expressions.{expression, condition, turn}
 use Rattle.tcl_language.specs.Instructions.{Program}
 use Rattle.tcl_language.specs.Language.{language}
 use Rattle.tcl_run.specs.Ends.{IfRan}
-use Rattle.tcl_core.specs.Entries.{Answer}
 use Rattle.tcl_run.specs.Runs.{IsAt, Proceeds, Ways}
 use Rattle.tcl_run.specs.declared.interruption.Interruption.{Interruption}
 use Rattle.tcl_text.specs.declared.integer.Integers.{Integers}

@@ -1,43 +1,33 @@
 -- What contracts see of words that are put together.
-use Rattle.std.specs.Prelude.{◌≡◌, ◌⊎◌, Option, Some, None, ◌≤◌, length, ℕ, Bool, true, false, List, [], ◌∷◌, ◌++◌, reverse, map, Result, Ok, Err}
-use Rattle.std.specs.String.{string_bytes}
+use Rattle.std.specs.Prelude.{◌≡◌, Some, ℕ, Bool, true, false, List, [], ◌∷◌, Result, Ok, Err}
 use Rattle.tcl_core.specs.Paths.{Path}
-use Rattle.tcl_core.specs.Trees.{Tree, Node, Event}
-use Rattle.tcl_core.specs.Endings.{Completion, Reply}
+use Rattle.tcl_core.specs.Trees.{Tree}
+use Rattle.tcl_core.specs.Endings.{Completion}
 use Rattle.tcl_core.specs.Runs.{Ending}
 use Rattle.tcl_core.specs.Endings.Reply.{Completed}
 use Rattle.tcl_core.specs.Programs.Prog.{done, go, inside}
 use Rattle.tcl_core.specs.Programs.Wrap.{Deeper, Framed}
 use Rattle.tcl_language.specs.Instructions.Instr.{Commands, Call, Hidden, Invoke}
 use Rattle.tcl_parser.specs.Words.{Reading}
-use Rattle.tcl_core.specs.Endings.{ok}
-use Rattle.tcl_frames.specs.Chain.{read}
-use Rattle.tcl_language.specs.Faults.{frame_message}
 use Rattle.tcl_core.specs.Endings.{leave_proc}
 use Rattle.tcl_flow.specs.View.{completion_of}
-use Rattle.tcl_run.specs.Ends.{IsFailure, IfEnded, IfRan}
+use Rattle.tcl_run.specs.Ends.{IfEnded, IfRan}
 use Rattle.tcl_run.specs.declared.interruption.Interruption.{Interruption}
 use Rattle.tcl_run.specs.declared.interruption.Interruption.TheVariants as interruption
-use Rattle.tcl_language.specs.Instructions.{Program, Open, fits, look, too_long}
+use Rattle.tcl_language.specs.Instructions.{Program, Open, look}
 use Rattle.tcl_language.specs.Language.{language}
-use Rattle.tcl_language.specs.Scripts.{parts, element_text}
-use Rattle.tcl_language.specs.Control.{at_level, level_over, fit_all, last_form, parameter_form}
+use Rattle.tcl_language.specs.Scripts.{parts}
+use Rattle.tcl_language.specs.Control.{at_level, level_over}
 use Rattle.tcl_core.specs.Entries.{Entry}
 use Rattle.tcl_entries.specs.Asking.{asks_below}
 use Rattle.tcl_language.specs.Interpreters.{asks_at}
-use Rattle.tcl_tree.specs.declared.parameter.Parameter.{Parameter}
 use Rattle.tcl_parser.specs.declared.script.Part.{Part}
-use Rattle.tcl_core.specs.Entries.{Answer}
 use Rattle.tcl_run.specs.Runs.{IsAt, IsThere, Proceeds, Ways}
 use Rattle.tcl_text.specs.declared.integer.Integers.{Integers}
 use Rattle.tcl_tree.specs.Own.{Own}
 use Rattle.tcl_tree.specs.TreeOf.{tree_of}
 use Rattle.tcl_tree.specs.declared.tree.Tree.{Tree as Table}
 use Rattle.tcl_tree.specs.declared.tree.Place.{Place}
-use Rattle.tcl_text.specs.Lists.{list_of}
-use Rattle.tcl_text.specs.declared.list.ListFault.{ListFault}
-use Rattle.tcl_calls.specs.declared.words.OpenElement.{OpenElement}
-use Rattle.tcl_calls.specs.declared.procedures.Binding.{Binding}
 
 -- a script that was read, one level deeper
 abbrev pub read_so : Reading → Program

@@ -1,4 +1,4 @@
-use Rattle.std.proofs.Common.{◌≡◌, ◌≤◌, ◌+◌, [], ◌∷◌, ◌++◌, List, ℕ, Some, length, drop, rules, sym, ap, refl, ◌∙◌, arith, vec_len, subst}
+use Rattle.std.proofs.Common.{◌≡◌, ◌≤◌, [], ◌∷◌, ◌++◌, List, ℕ, Some, length, drop, rules, sym, ap, refl, ◌∙◌, arith, vec_len, subst}
 use Rattle.std.proofs.lemmas.Result.{err_from_is_err_and}
 use Rattle.std.specs.String.{string_bytes}
 use Rattle.tcl_core.specs.Paths.{Path}
@@ -19,7 +19,7 @@ use Rattle.tcl_language.specs.Table.{called}
 use Rattle.tcl_calls.specs.Words.{EndsBy, opens}
 use Rattle.tcl_parser.specs.Words.{WordRead}
 use Rattle.tcl_language.specs.Instructions.{fits, Open}
-use Rattle.tcl_run.proofs.Endings.{IfEnded-more, IfEnded-at, Interrupts-more, Interrupts-at, ended_err, of_text}
+use Rattle.tcl_run.proofs.Endings.{IfEnded-at, Interrupts-more, Interrupts-at}
 use Rattle.tcl_run.proofs.Proceeding.{at_prog, at_reply}
 use Rattle.tcl_run.proofs.Steady.{still_at, still_in_use, still_running, steady-refl, steady-trans, level_steady, nested_steady, begun_at, less_room}
 use Rattle.tcl_evaluator.proofs.Steps
@@ -28,7 +28,7 @@ use Rattle.std.proofs.Common.{true, None}
 use Rattle.tcl_core.specs.Endings.{Reply}
 use Rattle.tcl_core.specs.Trees.{effect}
 use Rattle.tcl_core.specs.Trees.What.{Changed}
-use Rattle.tcl_language.specs.Control.{procedure, bindings, fit_all, in_frame, proc_form}
+use Rattle.tcl_language.specs.Control.{procedure, bindings, in_frame, proc_form}
 use Rattle.tcl_language.specs.Faults.{wrong_args}
 use Rattle.tcl_run.specs.Ends.{failing}
 use Rattle.tcl_tree.specs.declared.parameter.Parameter.{Parameter}
@@ -39,7 +39,6 @@ use Rattle.std.proofs.Common.{take, ◌-◌}
 use Rattle.tcl_language.specs.Faults.{invalid_command}
 use Rattle.tcl_language.specs.Table.{dispatch}
 use Rattle.tcl_run.specs.Ends.{itself}
-use Rattle.tcl_run.proofs.Plain.{does_comes}
 use Rattle.tcl_flow.specs.View.{completion_of}
 use Rattle.tcl_language.specs.Control.{code_text, eval as control_eval, catch as control_catch}
 use Rattle.tcl_calls.specs.Found.{found}
@@ -47,7 +46,7 @@ use Rattle.tcl_evaluator.proofs.Steps.{split_first}
 use Rattle.tcl_evaluator.proofs.Found.{call_found, call_missing}
 use Rattle.tcl_evaluator.proofs.Catching.{caught_ok, caught_err, eval_runs, eval_long, eval_none, catch_goes, catch_passes, catch_none, catch_many}
 use Rattle.tcl_evaluator.specs.View.{targeted, unhidden, invokes_at}
-use Rattle.std.proofs.Common.{Bool, false}
+use Rattle.std.proofs.Common.{false}
 use Rattle.std.specs.Prelude.{Err}
 use Rattle.tcl_run.specs.Runs.{IsThere}
 use Rattle.tcl_text.specs.declared.integer.Integers.{Integers}
@@ -68,13 +67,10 @@ use Rattle.tcl_language.specs.Interpreters.{call_alias as alias_program}
 use Rattle.tcl_language.specs.Table.{serve}
 use Rattle.tcl_tree.specs.declared.command.Command.{Command}
 use Rattle.tcl_language.specs.Faults.{lost_alias}
-use Rattle.tcl_run.specs.Runs.{InUse}
 use Rattle.tcl_evaluator.proofs.Targets.{asks_nobody, calls_untold, settled_more, target_ends, target_refused, entry_stops, entry_calls, entry_evaluates, unhidden_ends, unhidden_refused, same_dispatch, evaluates_there, alias_is, done_on, evaluates_same, calls_there, calls_end, calls_below, calls_nobody, calls_past, lost_so}
 -- (of expressions and the commands with conditions)
 use Rattle.std.proofs.Common.{◌⊎◌, inl, inr, ◌<◌, get_or}
 use Rattle.std.specs.Option.{option_copied}
-use Rattle.tcl_expr.specs.Expressions.{expression_of}
-use Rattle.tcl_expr.specs.Faults.{message_of as expression_message}
 use Rattle.tcl_expression_evaluation.specs.Computations.{value, substitute}
 use Rattle.tcl_expression_evaluation.specs.Steps.{from}
 use Rattle.tcl_language.specs.Control.{after_body}
@@ -142,7 +138,7 @@ use Rattle.tcl_evaluator.proofs.Plainly.{acts_proceeds, asking_last, evaluates_a
 use Rattle.tcl_run.specs.Runs.{room}
 use Rattle.tcl_run.specs.declared.outside.Turn.{Turn}
 use Rattle.tcl_language.specs.Interpreters.{no_interpreter}
-use Rattle.tcl_evaluator.specs.Waiting.{IsWritten, SaysOn, calls}
+use Rattle.tcl_evaluator.specs.Waiting.{IsWritten, SaysOn}
 use Rattle.tcl_evaluator.proofs.+eval.Goals.{hosting::puts-in_default-via-then-args-lt1, hosting::puts-in_default-via-else-args-lt1+else-args-lt2+else-args-lt3+else-args-lt4}
 -- (of what is given up)
 use Rattle.tcl_run.proofs.Endings.{ran, ran_text}

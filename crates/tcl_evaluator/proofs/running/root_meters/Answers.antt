@@ -1,4 +1,4 @@
-use Rattle.std.proofs.Common.{◌≡◌, true, None, Some, [], sym, ap, ◌∙◌}
+use Rattle.std.proofs.Common.{◌≡◌, None, [], sym, ap, ◌∙◌}
 use Rattle.std.specs.Option.{option_copied, option_map}
 use Rattle.tcl_core.proofs.PathLaws.{not_both}
 use Rattle.tcl_tree.proofs.CoreLemmas.{top_there}

@@ -1,7 +1,7 @@
-use Rattle.std.proofs.Common.{rules, ◌≡◌, ◌∙◌, ap, sym, [], None, Some, List, ℕ, length}
+use Rattle.std.proofs.Common.{rules, ◌≡◌, ◌∙◌, ap, sym, [], None, Some}
 use Rattle.tcl_core.specs.Endings.{Reply}
 use Rattle.tcl_core.specs.Entries.Entry.{Eval}
-use Rattle.tcl_core.specs.Paths.{Path, Text}
+use Rattle.tcl_core.specs.Paths.{Text}
 use Rattle.tcl_core.specs.Runs.{Ending}
 use Rattle.tcl_core.specs.Threads.{event}
 use Rattle.tcl_core.specs.Trees.{effect}
@@ -10,8 +10,7 @@ use Rattle.tcl_language.specs.Table.{serve}
 use Rattle.tcl_run.specs.Runs.{ways}
 use Rattle.tcl_run.proofs.Endings.{ended_so}
 use Rattle.tcl_run.proofs.Proceeding.{at_prog, at_start, comes, given_up_after, stopped}
-use Rattle.tcl_tree.specs.TreeOf.{tree_of, marks_of, Names}
-use Rattle.tcl_evaluator.specs.Running.{IsOpenRun}
+use Rattle.tcl_tree.specs.TreeOf.{tree_of, marks_of}
 use Rattle.tcl_evaluator.proofs.Starting.{at_any_err, is_given_up, some_way, told_all}
 use Rattle.tcl_evaluator.proofs.Steps.{EndsAt}
 use Rattle.tcl_evaluator.proofs.running.run.Goals as goal

@@ -1,10 +1,8 @@
-use Rattle.std.proofs.Common.{◌≡◌, ◌<◌, ◌≤◌, ◌+◌, ℕ, true, false, None, Some, [], sym, ap, ◌∙◌, subst, arith}
-use Rattle.std.specs.Prelude.{nat_le, length}
+use Rattle.std.proofs.Common.{◌≡◌, ◌<◌, ◌≤◌, ◌+◌, ℕ, true, false, sym, ◌∙◌, subst, arith}
 use Rattle.std.proofs.lemmas.Bool.Decides.{nat_tests}
 use Rattle.tcl_language.specs.Instructions.{fits}
 use Rattle.tcl_tree.proofs.CoreLemmas.{tree_there}
-use Rattle.tcl_tree.specs.TreeOf.{tree_of, marks_of}
-use Rattle.tcl_evaluator.specs.Running.{root_count, most_steps}
+use Rattle.tcl_evaluator.specs.Running.{most_steps}
 use Rattle.tcl_evaluator.proofs.Starting.{counts_too_far, is_too_long, is_fit}
 use Rattle.tcl_evaluator.proofs.running.start_of.Goals as goal
 
