@@ -4,7 +4,7 @@ use Rattle.tcl_playing.specs.Players.{Begins, IsAtEnd, player_of}
 use Rattle.tcl_reactions.specs.Playing.{Lived}
 use Rattle.tcl_reactions.specs.Playing.Lived.{begun}
 use Rattle.tcl_run.specs.Entering.{whole_entry}
-use Rattle.tcl_tree.specs.TreeOf.{Marks, marks_of, tree_of}
+use Rattle.tcl_tree.specs.TreeOf.{Marks, tree_of}
 use Rattle.tcl_replay.proofs.Serving.{goes_on, where_none, where_some}
 use Rattle.tcl_replay.proofs.replaying.play_entries.Goals as goal
 

@@ -1,7 +1,6 @@
 use Rattle.std.proofs.Common.{◌∙◌, sym}
-use Rattle.tcl_run.specs.Outsides.{hosted}
 use Rattle.tcl_replay.specs.Watched.{AsksTheHostNothing, Counts, CountStaysWithin, LeavesTheOutside, LimitsStay, Reacts, ReactsSo, ReactsUntil, ScriptsStayWithin}
-use Rattle.tcl_replay.proofs.Answers.{both_there, deletions, follows, records, runs, stops, wholes}
+use Rattle.tcl_replay.proofs.Answers.{both_there, deletions, follows, records, stops, wholes}
 use Rattle.tcl_replay.proofs.Recorded as recorded
 use Rattle.tcl_replay.proofs.watching.eval_watched.Goals as goal
 

@@ -1,7 +1,6 @@
 use Rattle.std.proofs.Common.{rules, ◌≡◌, ◌∙◌, sym, ap, subst}
 use Rattle.std.specs.Prelude.{IfOk}
 use Rattle.tcl_core.specs.Paths.{Path}
-use Rattle.tcl_run.specs.Outsides.{hosted}
 use Rattle.tcl_watching.specs.declared.recorder.Recorder.{Recorder}
 use Rattle.tcl_replay.specs.Watched.{IsEntryRun, Watches, recorder_of}
 use Rattle.tcl_replay.proofs.Answers.{watches}
