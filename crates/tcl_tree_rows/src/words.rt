@@ -38,10 +38,10 @@ fn pair_of(key: &Text, value: &Text) -> Result<(Text, Value), AllocError> {
 /// The words by twos, as keys and values. A key with no value is left out.
 pub(crate) fn pairs_of(alloc: Global, words: &[Text]) -> Result<Vec<(Text, Value)>, AllocError> {
     let mut pairs = Vec::new(alloc);
-    let mut rest = words;
-    'pairs: while let [key, value, others @ ..] = rest {
-        pairs.push(pair_of(key, value)?)?;
-        rest = others;
+    'pairs: for pair in words.chunks(2) {
+        if let [key, value] = pair {
+            pairs.push(pair_of(key, value)?)?;
+        }
     }
     Ok(pairs)
 }
