@@ -2,7 +2,7 @@
 use std::alloc::{AllocError, Global};
 use std::io;
 use std::time::Instant;
-use tcl_evaluator::running::{End, Refused, eval};
+use tcl_eval::running::{End, Refused, eval};
 use tcl_host::memory::MemoryHost;
 use tcl_tree::tree::Tree;
 

@@ -4,7 +4,7 @@ use crate::measuring::{STEPS, Size, result_of, run, took};
 use std::alloc::{AllocError, Global};
 use std::io;
 use std::time::Instant;
-use tcl_evaluator::running::End;
+use tcl_eval::running::End;
 use tcl_host::memory::MemoryHost;
 use tcl_playing::moves::{Move, moves_of};
 use tcl_replay::replaying::{Replayed, Unplayed};

@@ -9,29 +9,17 @@ ghost use Rattle.tcl_core.specs.Paths.{Path};
 ghost use Rattle.tcl_run.specs.Plain.{Steps};
 ghost use Rattle.tcl_run.specs.Runs.{IsLevel};
 ghost use Rattle.tcl_tree.specs.TreeOf.{Names};
-ghost use Rattle.tcl_calls.specs.Catching.{Catches, kept_in};
+ghost use Rattle.tcl_calls.specs.Catching.{kept_in};
 
 use crate::setting::set_named;
 use std::alloc::Global;
-use tcl_flow::completion::{self, Completion};
+use tcl_flow::completion::Completion;
 use tcl_flow::returning::caught_options;
 use tcl_run::failure::too_long;
 use tcl_run::interruption::Interruption;
 use tcl_run::steps::known_short;
 use tcl_tree::tree::{Place, Tree};
 use tcl_value::value::{Value, ValueError};
-
-/// The completion that an evaluation ended in. Stops, exits, cuts and want of memory are none: they go further.
-#[inline(never)]
-pub fn caught(ended: Result<Value, Interruption>) -> Result<Completion, Interruption>
-    ensures { Catches ended result }
-{
-    match ended {
-        Ok(text) => Ok(completion::ok(text)),
-        Err(Interruption::Completed(completion)) => Ok(Box::into_inner(completion)),
-        Err(interruption) => Err(interruption),
-    }
-}
 
 /// Sets the variables that `catch` names: the first to the text that was caught, the second to its options. (catch(n))
 ///

@@ -5,10 +5,10 @@ use Rattle.tcl_core.specs.Entries.Entry.{Eval}
 use Rattle.tcl_core.specs.Paths.{Path, Text}
 use Rattle.tcl_core.specs.Trees.{Event}
 use Rattle.tcl_core.proofs.Stops.{stopping}
-use Rattle.tcl_evaluator.specs.Running.{IsRun, IsWhole, first_of, most_steps, root_count, unfit}
-use Rattle.tcl_evaluator.specs.declared.running.End.{End}
-use Rattle.tcl_evaluator.specs.declared.running.Refused.{Refused}
-use Rattle.tcl_evaluator.specs.declared.running.Refused.TheVariants as refused
+use Rattle.tcl_eval.specs.Running.{IsRun, IsWhole, first_of, most_steps, root_count, unfit}
+use Rattle.tcl_eval.specs.declared.running.End.{End}
+use Rattle.tcl_eval.specs.declared.running.Refused.{Refused}
+use Rattle.tcl_eval.specs.declared.running.Refused.TheVariants as refused
 use Rattle.tcl_host.specs.declared.reply.HostReply.{HostReply}
 use Rattle.tcl_host.specs.declared.request.Request.{Request}
 use Rattle.tcl_isolation.specs.Visits.{visit}

@@ -31,10 +31,10 @@ use Rattle.tcl_tree.specs.Own.{Own}
 use Rattle.tcl_tree.specs.TreeOf.{tree_of, marks_of}
 use Rattle.tcl_tree.specs.declared.tree.Tree.{Tree as Table}
 use Rattle.tcl_tree.proofs.CoreLemmas.{top_there}
-use Rattle.tcl_evaluator.specs.Running.{IsOpenRun, ending_of, first_of, most_steps, root_count, unfit}
-use Rattle.tcl_evaluator.specs.declared.running.End.{End}
-use Rattle.tcl_evaluator.specs.declared.running.Refused.{Refused}
-use Rattle.tcl_evaluator.specs.declared.running.Refused.TheVariants as refused
+use Rattle.tcl_eval.specs.Running.{IsOpenRun, ending_of, first_of, most_steps, root_count, unfit}
+use Rattle.tcl_eval.specs.declared.running.End.{End}
+use Rattle.tcl_eval.specs.declared.running.Refused.{Refused}
+use Rattle.tcl_eval.specs.declared.running.Refused.TheVariants as refused
 use Rattle.tcl_watching.specs.Laws.{IsWatched}
 use Rattle.tcl_watching.specs.Recording.{crossed, noted, recorded}
 use Rattle.tcl_watching.specs.declared.recorder.Recorder.{Recorder}

@@ -9,8 +9,8 @@ use Rattle.tcl_core.specs.Lives.Outcome.{Finished}
 use Rattle.tcl_core.specs.Paths.{Path, Text}
 use Rattle.tcl_core.specs.Trees.{Node, Tree, at}
 use Rattle.tcl_core.specs.Views.{moves_of, steps_of, view}
-use Rattle.tcl_evaluator.specs.Running.{root_count, root_limit}
-use Rattle.tcl_evaluator.specs.declared.running.End.{End}
+use Rattle.tcl_eval.specs.Running.{root_count, root_limit}
+use Rattle.tcl_eval.specs.declared.running.End.{End}
 use Rattle.tcl_host.specs.declared.reply.HostReply.{HostReply}
 use Rattle.tcl_host.specs.declared.request.Request.{Request}
 use Rattle.tcl_isolation.specs.Laws.{IsWithin, Suffices}

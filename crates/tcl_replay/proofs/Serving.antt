@@ -11,7 +11,7 @@ use Rattle.tcl_core.specs.Runs.{entering}
 use Rattle.tcl_core.specs.Threads.{Crossings, event, hears}
 use Rattle.tcl_core.specs.Trees.{Event, Move, Tree, What}
 use Rattle.tcl_core.specs.Trees.What.{Charged, Refused, Dropped, Out, In, Done, Back}
-use Rattle.tcl_evaluator.specs.Waiting.{EndsEntry}
+use Rattle.tcl_evaluation.specs.Waiting.{EndsEntry}
 use Rattle.tcl_flow.specs.View.{completion_of}
 use Rattle.tcl_flow.specs.Stopping as stopping
 use Rattle.tcl_language.specs.Language.{language}

@@ -12,10 +12,10 @@ use Rattle.tcl_core.specs.Threads.{Chain, Crossings, before}
 use Rattle.tcl_core.specs.Trees.{Event, Node, Tree, at, effect}
 use Rattle.tcl_core.specs.Trees.What.{Limited}
 use Rattle.tcl_core.specs.Views.{moves_of, steps_of, view}
-use Rattle.tcl_evaluator.specs.Running.{IsRun, IsWhole, ending_of, first_of, most_steps, root_count, root_limit}
-use Rattle.tcl_evaluator.specs.declared.running.End.{End}
-use Rattle.tcl_evaluator.specs.declared.running.Refused.{Refused}
-use Rattle.tcl_evaluator.specs.declared.running.Refused.TheVariants as refused
+use Rattle.tcl_eval.specs.Running.{IsRun, IsWhole, ending_of, first_of, most_steps, root_count, root_limit}
+use Rattle.tcl_eval.specs.declared.running.End.{End}
+use Rattle.tcl_eval.specs.declared.running.Refused.{Refused}
+use Rattle.tcl_eval.specs.declared.running.Refused.TheVariants as refused
 use Rattle.tcl_host.specs.declared.reply.HostReply.{HostReply}
 use Rattle.tcl_host.specs.declared.request.Request.{Request}
 use Rattle.tcl_isolation.specs.Laws.{IsWithin, Suffices}

@@ -5,7 +5,7 @@ use Rattle.tcl_core.specs.Lives.{outs_of}
 use Rattle.tcl_core.specs.Paths.{Path, Text}
 use Rattle.tcl_core.specs.Trees.{Event, Move, at}
 use Rattle.tcl_core.specs.Views.{moves_of}
-use Rattle.tcl_evaluator.specs.declared.running.End.{End}
+use Rattle.tcl_eval.specs.declared.running.End.{End}
 use Rattle.tcl_host.specs.declared.reply.HostReply.{HostReply}
 use Rattle.tcl_host.specs.declared.request.Request.{Request}
 use Rattle.tcl_isolation.specs.Visits.{IsBelowTheTop}

@@ -1,7 +1,7 @@
 //! Moves that are played to a saved interpreter.
 ghost use Rattle.std.specs.Prelude.{◌≡◌, ◌+◌, ◌≤◌, length, nat_le, IfErr, IfNone, IfOk, IfSome, OnOk};
 ghost use Rattle.tcl_core.specs.Lives.{React};
-ghost use Rattle.tcl_evaluator.specs.Running.{most_steps, root_count};
+ghost use Rattle.tcl_eval.specs.Running.{most_steps, root_count};
 ghost use Rattle.tcl_language.specs.Language.{language};
 ghost use Rattle.tcl_playing.specs.Moves.{moves_in};
 ghost use Rattle.tcl_playing.specs.Players.{Stands, player_of, result_of};
@@ -17,7 +17,7 @@ ghost use Rattle.tcl_watching.specs.Crossings.{events_of};
 
 use crate::saving::Saved;
 use std::alloc::{AllocError, Global};
-use tcl_evaluator::waiting::enter;
+use tcl_evaluation::waiting::enter;
 use tcl_playing::moves::Move;
 use tcl_playing::player::{Outcome, Player};
 use tcl_run::entry::Entry;

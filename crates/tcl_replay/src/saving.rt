@@ -2,10 +2,10 @@
 ghost use Rattle.std.specs.Prelude.{◌≡◌, ◌↔◌, IfErr, IfNone, IfOk, IfSome, IsTrue, Err, false};
 ghost use Rattle.tcl_core.specs.Trees.{at};
 ghost use Rattle.tcl_tree.specs.TreeOf.{marks_of, tree_of};
-ghost use Rattle.tcl_evaluator.specs.declared.running.Refused.TheVariants.{Memory};
+ghost use Rattle.tcl_eval.specs.declared.running.Refused.TheVariants.{Memory};
 ghost use Rattle.tcl_replay.specs.Saved.{saved_of, unsavable};
 
-use tcl_evaluator::running::Refused;
+use tcl_eval::running::Refused;
 use tcl_text::text::Text;
 use tcl_tree::refusal::Refusal;
 use tcl_tree::tree::Tree;

@@ -3,8 +3,8 @@ ghost use Rattle.std.specs.Prelude.{◌≡◌, ◌+◌, Err, IfErr, IfNone, IfOk
 ghost use Rattle.tcl_core.specs.Entries.Entry.{Eval};
 ghost use Rattle.tcl_core.specs.Threads.{event};
 ghost use Rattle.tcl_core.specs.Trees.What.{In};
-ghost use Rattle.tcl_evaluator.specs.Running.{IsRun, IsWhole, root_count, unfit};
-ghost use Rattle.tcl_evaluator.specs.declared.running.Refused.TheVariants.{Memory};
+ghost use Rattle.tcl_eval.specs.Running.{IsRun, IsWhole, root_count, unfit};
+ghost use Rattle.tcl_eval.specs.declared.running.Refused.TheVariants.{Memory};
 ghost use Rattle.tcl_language.specs.Instructions.{fits};
 ghost use Rattle.tcl_run.specs.Outsides.{hosted};
 ghost use Rattle.tcl_tree.specs.TreeOf.{marks_of, tree_of};
@@ -13,7 +13,7 @@ ghost use Rattle.tcl_replay.specs.Watched.{AsksTheHostNothing, Counts, CountStay
 ghost use Rattle.tcl_replay.specs.declared.watching.Unwatched.TheVariants as unwatched;
 
 use std::alloc::{AllocError, Global};
-use tcl_evaluator::running::{End, Refused, open_run, refusal};
+use tcl_eval::running::{End, Refused, open_run, refusal};
 use tcl_host::host::Host;
 use tcl_isolation::laws::{asks_the_host_nothing, limits_stay, scripts_stay_within};
 use tcl_run::entry::Entry;

@@ -2,7 +2,7 @@
 //! (no blank where the text is empty), as `stopped by count` or `stopped by depth`, as `exit` and
 //! the status, or as what refused the run.
 use std::alloc::{AllocError, Global};
-use tcl_evaluator::running::{End, Refused, eval};
+use tcl_eval::running::{End, Refused, eval};
 use tcl_flow::completion::Completion;
 use tcl_flow::stop::StopKind;
 use tcl_host::memory::MemoryHost;

@@ -8,7 +8,7 @@ use crate::watching::{saved, watch_outside};
 use crate::world::Trees;
 use crate::{evaluating, watching};
 use std::alloc::{AllocError, Global};
-use tcl_evaluator::running::Refused;
+use tcl_eval::running::Refused;
 use tcl_host::memory::MemoryHost;
 use tcl_tree::tree::Tree;
 

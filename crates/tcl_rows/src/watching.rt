@@ -3,7 +3,7 @@ use crate::ending::{self, STEPS};
 use crate::world::{Trees, done, no_call};
 use crate::writing;
 use std::alloc::{AllocError, Global};
-use tcl_evaluator::running::{End, Refused};
+use tcl_eval::running::{End, Refused};
 use tcl_host::memory::MemoryHost;
 use tcl_replay::saving::{self, Saved};
 use tcl_replay::watching::{Unwatched, eval_watched};

@@ -1,10 +1,11 @@
 -- What contracts see of how an evaluation ends.
-use Rattle.std.specs.Prelude.{◌≡◌, ℕ, zero, suc, pos, List, Some, None, Result, Ok, Err, MatchResult}
+use Rattle.std.specs.Prelude.{◌≡◌, ℕ, zero, suc, pos, List, Some, None, Result, Ok, Err, IsOkAnd, MatchResult}
 use Rattle.tcl_core.specs.Endings as core
 use Rattle.tcl_core.specs.Endings.{Completion, Reply, ok, error}
 use Rattle.tcl_core.specs.Endings.Reply.{Completed, Stop, Exit, Cut}
 use Rattle.tcl_core.specs.Runs.{Ending}
 use Rattle.tcl_flow.specs.View.{completion_of}
+use Rattle.tcl_flow.specs.declared.completion.Completion.{Completion as CodeCompletion}
 use Rattle.tcl_flow.specs.Stopping as stopping
 use Rattle.tcl_language.specs.Instructions.{Program, either, fits, too_long, on_ok}
 use Rattle.tcl_core.specs.Programs.Prog.{done}
@@ -106,3 +107,9 @@ abbrev pub IsText : Result (List ℕ) Interruption → List ℕ → Type 0
 IsText (Ok t) text = t ≡ text
 IsText (Err (interruption.Completed c)) text = (c.value.code ≡ pos 0) × (c.value.text ≡ text)
 IsText (Err i) text = ⊥
+
+-- the completion that an evaluation ended in, or what it can't be told of
+abbrev pub Catches : Result (List ℕ) Interruption → Result CodeCompletion Interruption → Type 0
+Catches (Ok text) r = IsOkAnd r (λ c. completion_of c ≡ ok text)
+Catches (Err (interruption.Completed c)) r = r ≡ Ok c.value
+Catches (Err i) r = r ≡ Err i

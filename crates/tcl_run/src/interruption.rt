@@ -1,10 +1,12 @@
 //! What ends an evaluation other than an ordinary result.
 ghost use Rattle.std.specs.Prelude.{◌≡◌};
+ghost use Rattle.tcl_run.specs.Ends.{Catches};
 ghost use Rattle.tcl_run.specs.declared.interruption.Interruption.TheVariants.{Memory};
 
 use std::alloc::{AllocError, AllocFailed, Global};
-use tcl_flow::completion::Completion;
+use tcl_flow::completion::{self, Completion};
 use tcl_flow::stop::Stop;
+use tcl_value::value::Value;
 
 /// What cuts an evaluation off from outside its tree.
 #[derive(Clone, Copy, Debug, Drop)]
@@ -59,5 +61,21 @@ impl<T: Drop> From<AllocFailed<T>> for Interruption {
 
     fn from(_e: AllocFailed<T>) -> Interruption {
         Interruption::Memory
+    }
+}
+
+/// Returns the completion that an evaluation ended in.
+///
+/// # Errors
+/// A stop, an exit, a cut and want of memory are no completions: they are returned as they came, and
+/// no script catches them.
+#[inline(never)]
+pub fn caught(ended: Result<Value, Interruption>) -> Result<Completion, Interruption>
+    ensures { Catches ended result }
+{
+    match ended {
+        Ok(text) => Ok(completion::ok(text)),
+        Err(Interruption::Completed(completion)) => Ok(Box::into_inner(completion)),
+        Err(interruption) => Err(interruption),
     }
 }

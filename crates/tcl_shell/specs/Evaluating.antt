@@ -4,12 +4,12 @@ use Rattle.std.specs.Str.{IsUtf8}
 use Rattle.std.specs.declared.alloc.AllocError.{AllocError}
 use Rattle.tcl_core.specs.Paths.{Path, Text}
 use Rattle.tcl_flow.specs.declared.completion.Completion.{Completion}
-use Rattle.tcl_evaluator.specs.Running.{IsRun, unfit, root_count}
-use Rattle.tcl_evaluator.specs.declared.running.End.{End}
-use Rattle.tcl_evaluator.specs.declared.running.End.TheVariants.{Done, Exit}
-use Rattle.tcl_evaluator.specs.declared.running.End.TheVariants as end
-use Rattle.tcl_evaluator.specs.declared.running.Refused.{Refused}
-use Rattle.tcl_evaluator.specs.declared.running.Refused.TheVariants.{TooLong}
+use Rattle.tcl_eval.specs.Running.{IsRun, unfit, root_count}
+use Rattle.tcl_eval.specs.declared.running.End.{End}
+use Rattle.tcl_eval.specs.declared.running.End.TheVariants.{Done, Exit}
+use Rattle.tcl_eval.specs.declared.running.End.TheVariants as end
+use Rattle.tcl_eval.specs.declared.running.Refused.{Refused}
+use Rattle.tcl_eval.specs.declared.running.Refused.TheVariants.{TooLong}
 use Rattle.tcl_run.specs.Outsides.{hosted}
 use Rattle.tcl_tree.specs.declared.tree.Tree.{Tree}
 use Rattle.tcl_shell.specs.Beginning.{Begins, path_of, setting_of}

@@ -6,7 +6,7 @@ use crate::begun::{Begun, setting_of};
 use crate::ending::Ending;
 use crate::options::Options;
 use std::alloc::{AllocError, Global};
-use tcl_evaluator::running::{End, Refused, eval};
+use tcl_eval::running::{End, Refused, eval};
 use tcl_flow::completion::OK;
 use tcl_host::host::Host;
 use tcl_text::text::Text;

@@ -1,6 +1,6 @@
 use Rattle.std.proofs.Common.{subst, ◌+◌}
 use Rattle.std.specs.Prelude.{IfOk}
-use Rattle.tcl_evaluator.specs.Running.{IsOpenRun, root_count}
+use Rattle.tcl_eval.specs.Running.{IsOpenRun, root_count}
 use Rattle.tcl_run.specs.Outsides.{hosted}
 use Rattle.tcl_watching.specs.Recording.{recorded}
 use Rattle.tcl_watching.specs.declared.recorder.Recorder.{Recorder}

@@ -1,0 +1,130 @@
+-- What is a run over a host as an outside is a run with the host, and the whole evaluation.
+use Rattle.std.proofs.Common.{◌≡◌, ◌∙◌, ℕ, ◌+◌, Bool, true, false, [], ◌∷◌, Option, Some, refl, sym, ap, subst}
+use Rattle.std.specs.Prelude.{Result, Ok, Err, IfErr, IfNone, IfOk, IfSome, is_some, nat_le}
+use Rattle.tcl_budgets.specs.Laws.{ScriptsKeepBudgets}
+use Rattle.tcl_budgets.proofs.Tables.{orderly}
+use Rattle.tcl_core.specs.Entries.Entry.{Eval}
+use Rattle.tcl_core.specs.Lives.{End as Ending, Whole, limited, unlimited}
+use Rattle.tcl_core.specs.Paths.{Path, Text}
+use Rattle.tcl_core.specs.Runs.{entering}
+use Rattle.tcl_core.specs.Trees.{Tree, Node, effect, with_limit}
+use Rattle.tcl_core.specs.Trees.What.{Limited}
+use Rattle.tcl_core.proofs.PathLaws.{Some-inj}
+use Rattle.tcl_host.specs.declared.reply.HostReply.{HostReply}
+use Rattle.tcl_host.specs.declared.request.Request.{Request}
+use Rattle.tcl_hosting.specs.Language.{leaves_steps}
+use Rattle.tcl_hosting.specs.Laws.{WholeRun}
+use Rattle.tcl_hosting.proofs.Limiting.{language_keeps_tops}
+use Rattle.tcl_hosting.proofs.Wholes.{whole_run}
+use Rattle.tcl_language.specs.Instructions.{fits}
+use Rattle.tcl_language.specs.Language.{language}
+use Rattle.tcl_language.specs.Table.{serve}
+use Rattle.tcl_run.specs.Outsides.{hosted}
+use Rattle.tcl_run.specs.Runs.{Comes, ways}
+use Rattle.tcl_run.proofs.Leads.{at_prog}
+use Rattle.tcl_run.proofs.Losing.{not_at_all}
+use Rattle.tcl_text.specs.declared.integer.Integers.{Integers}
+use Rattle.tcl_tree.specs.Own.{Own}
+use Rattle.tcl_tree.specs.TreeOf.{tree_of, marks_of}
+use Rattle.tcl_tree.specs.declared.tree.Tree.{Tree as Table}
+use Rattle.tcl_tree.proofs.CoreLemmas.{top_there}
+use Rattle.tcl_unfinished.proofs.Beginning.{script_begins}
+use Rattle.tcl_eval.specs.Running.{AsksFirst, IsBudgeted, IsGivenUp, IsOpenRun, IsRun, IsWhole, ending_of, first_of, most_steps, root_count, unfit}
+use Rattle.tcl_eval.specs.declared.running.End.{End}
+use Rattle.tcl_eval.specs.declared.running.Refused.{Refused}
+use Rattle.tcl_eval.specs.declared.running.Refused.TheVariants as refused
+use Rattle.tcl_evaluation.proofs.Steps.{stands}
+
+module _ {S : Type 0} (step : S → Request → HostReply → S → Type 0) (old : Table) (o : S) (path : Path) (script : Text) (most : ℕ) (new : Table) (z : S) where
+  -- the host is told nothing of the end
+  is_hosted : (e : End) → IsOpenRun (hosted step) old o path script most new z e → IsRun (hosted step) old o path script most new z e
+  is_hosted e run = record {
+    during = run.during;
+    reply = run.reply;
+    runs = subst (λ (u : S). Comes (hosted step) (language (marks_of old).integers) (effect [] (Limited (Some most)) (tree_of old)) o path (serve (marks_of old).integers (Eval script)) run.during u run.reply) (sym run.told) run.runs;
+    after = run.after;
+    ends = run.ends;
+  }
+
+  pub if_hosted : {E : Type 0} (r : Result End E) → IfOk r (IsOpenRun (hosted step) old o path script most new z) → IfOk r (IsRun (hosted step) old o path script most new z)
+  if_hosted (Ok e) run = is_hosted e run
+  if_hosted (Err e) run = tt
+
+-- ## The whole evaluation
+
+-- who stands in a tree stands there when its root has another limit
+pub still_stands : (T : Tree Own) (l : Option ℕ) (p : Path) (n : Node Own) → T p ≡ Some n → (m : Node Own) × (effect [] (Limited l) T p ≡ Some m)
+still_stands T l [] n e = (record n { limit = l }, ap (with_limit l) e)
+still_stands T l (x ∷ p) n e = (n, e)
+
+module _ {S : Type 0} (step : S → Request → HostReply → S → Type 0) (old : Table) (o : S) (path : Path) (script : Text) (limit : ℕ) (new : Table) (z : S) where
+  is_whole : (e : End) → is_some (tree_of old path) ≡ true → IsRun (hosted step) old o path script (root_count old + limit) new z e → IsWhole step old o path script limit new z e
+  is_whole e there run =
+      let style : Integers = (marks_of old).integers in
+      let n : (n : Node Own) × (tree_of old path ≡ Some n) = stands (tree_of old path) there in
+      let m : (m : Node Own) × (limited limit (tree_of old) path ≡ Some m) = still_stands (tree_of old) (Some (root_count old + limit)) path n.0 n.1 in
+      let entered : Comes (hosted step) (language style) (limited limit (tree_of old)) o path (entering (language style) (limited limit (tree_of old) path) (Eval script)) run.during z run.reply =
+      at_prog (ap (λ x. entering (language style) x (Eval script)) m.1) run.runs in
+      let w : WholeRun step (language style) (tree_of old) path script limit o run.during z run.reply =
+      whole_run step leaves_steps (language style) (tree_of old) run.during o z path script limit run.reply (language_keeps_tops style) (stands (tree_of old []) (top_there old)) entered in
+      let same : w.ending ≡ ending_of e = Some-inj w.ending (sym w.ends ∙ run.ends) in
+      record {
+        replies = w.replies;
+        outs = w.outs;
+        whole = subst (λ (T : Tree Own). Whole (language style) (tree_of old) path script limit w.replies (ending_of e) w.outs T) (sym run.after)
+            (subst (λ (x : Ending). Whole (language style) (tree_of old) path script limit w.replies x w.outs (unlimited (tree_of old) run.during)) same w.whole);
+        belongs = w.belongs;
+      }
+
+  -- nobody stands where a run is refused
+  fits_there : (r : Result End Refused) (e : End) → r ≡ Ok e → IfSome (unfit old path script limit) (λ x. r ≡ Err x) → is_some (tree_of old path) ≡ true
+  fits_there r e ended why = by (marks_of old).broken (is_some (tree_of old path)) (nat_le (root_count old + limit) most_steps) (fits script) why
+    where
+      clash : {A : Type 0} (x : Refused) → r ≡ Err x → A
+      clash x f = let g : Ok e ≡ Err x = sym ended ∙ f in absurd cc
+
+      by : (b t c s : Bool) → IfSome (first_of b t c s) (λ x. r ≡ Err x) → t ≡ true
+      by true t c s f = clash refused.Broken f
+      by false true c s f = refl
+      by false false c s f = clash refused.NoInterpreter f
+
+  pub if_whole : (r : Result End Refused) → IfSome (unfit old path script limit) (λ x. r ≡ Err x) → IfOk r (IsOpenRun (hosted step) old o path script (root_count old + limit) new z) → IfOk r (IsWhole step old o path script limit new z)
+  if_whole (Ok e) why run = is_whole e (fits_there (Ok e) e refl why) (is_hosted step old o path script (root_count old + limit) new z e run)
+  if_whole (Err e) why run = tt
+
+  -- it keeps all budgets, as each whole evaluation in a table of interpreters does
+  is_budgeted : ScriptsKeepBudgets → (e : End) → IsWhole step old o path script limit new z e → IsBudgeted step old o path script limit new z e
+  is_budgeted law e w = record {
+    whole = w;
+    budget = law (marks_of old).integers (tree_of old) (tree_of new) path script limit w.replies (ending_of e) w.outs w.whole (orderly old);
+  }
+
+  pub if_budgeted : {E : Type 0} → ScriptsKeepBudgets → (r : Result End E) → IfOk r (IsWhole step old o path script limit new z) → IfOk r (IsBudgeted step old o path script limit new z)
+  if_budgeted law (Ok e) w = is_budgeted law e w
+  if_budgeted law (Err e) w = tt
+
+-- ## An evaluation that was given up
+
+module _ {S : Type 0} (step : S → Request → HostReply → S → Type 0) (old : Table) (o : S) (path : Path) (script : Text) (limit : ℕ) (z : S) where
+  -- the host's state is the last one there
+  abbrev Lost : Type 0
+  Lost = IsGivenUp (ways (hosted step) (λ (a b : S). b ≡ a)) old o path script (root_count old + limit) z
+
+  asks_first : is_some (tree_of old path) ≡ true → Lost → AsksFirst step old o path script limit z
+  asks_first there g =
+      let n : (n : Node Own) × (tree_of old path ≡ Some n) = stands (tree_of old path) there in
+      subst (λ (u : S). AsksFirst step old o path script limit u) (sym (not_at_all g.lost)) (script_begins step (marks_of old).integers (tree_of old) path script limit n.0 n.1 g.begun)
+
+  if_asked_there : (r : Result End Refused) → is_some (tree_of old path) ≡ true → IfErr r (λ _. Lost) → IfErr r (λ _. AsksFirst step old o path script limit z)
+  if_asked_there (Ok e) there g = tt
+  if_asked_there (Err e) there g = asks_first there g
+
+  pub if_asked : (r : Result End Refused) → IfNone (unfit old path script limit) (IfErr r (λ _. Lost)) → IfNone (unfit old path script limit) (IfErr r (λ _. AsksFirst step old o path script limit z))
+  if_asked r g = by (marks_of old).broken (is_some (tree_of old path)) (nat_le (root_count old + limit) most_steps) (fits script) refl g
+    where
+      by : (b t c s : Bool) → is_some (tree_of old path) ≡ t → IfNone (first_of b t c s) (IfErr r (λ _. Lost)) → IfNone (first_of b t c s) (IfErr r (λ _. AsksFirst step old o path script limit z))
+      by true t c s e f = tt
+      by false false c s e f = tt
+      by false true false s e f = tt
+      by false true true false e f = tt
+      by false true true true e f = if_asked_there r e f

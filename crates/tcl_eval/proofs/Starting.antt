@@ -1,0 +1,91 @@
+-- When a run can begin.
+use Rattle.std.proofs.Common.{◌≡◌, ◌<◌, ◌≤◌, ◌+◌, true, false, Bool, ℕ, Option, Some, None, refl, ap, ◌∙◌, arith}
+use Rattle.std.specs.Prelude.{is_some, nat_le}
+use Rattle.std.proofs.lemmas.Bool.Decides.{nat_tests}
+use Rattle.tcl_core.specs.Paths.{Path, Text}
+use Rattle.tcl_language.specs.Instructions.{fits}
+use Rattle.tcl_tree.specs.TreeOf.{tree_of, marks_of}
+use Rattle.tcl_tree.specs.declared.tree.Tree.{Tree as Table}
+use Rattle.std.specs.Prelude.{Result, Ok, Err, IfOk, IfErr, IfNone, []}
+use Rattle.tcl_beginnings.specs.Beginnings.{Begun}
+use Rattle.tcl_core.specs.Endings.{Reply}
+use Rattle.tcl_core.specs.Entries.Entry.{Eval}
+use Rattle.tcl_core.specs.Lives.{end_at}
+use Rattle.tcl_core.specs.Runs.{Ending}
+use Rattle.tcl_core.specs.Threads.{Crossings}
+use Rattle.tcl_core.specs.Trees.{Tree, effect}
+use Rattle.tcl_core.specs.Trees.What.{Limited}
+use Rattle.tcl_language.specs.Language.{language}
+use Rattle.tcl_language.specs.Table.{serve}
+use Rattle.tcl_run.specs.declared.interruption.Interruption.{Interruption}
+use Rattle.tcl_run.specs.declared.interruption.Interruption.TheVariants as interruption
+use Rattle.tcl_run.specs.Ends.{IfEnded, IfRan}
+use Rattle.tcl_run.specs.Runs.{IsLoss, Proceeds, Ways}
+use Rattle.tcl_run.specs.Runs.Proceeds.{given_up}
+use Rattle.tcl_tree.specs.Own.{Own}
+use Rattle.tcl_run.proofs.Endings.{IfEnded-both}
+use Rattle.tcl_eval.specs.Running.{IsGivenUp, Tells, ending_of, first_of, most_steps, root_count, unfit}
+use Rattle.tcl_eval.specs.declared.running.End.{End}
+use Rattle.tcl_eval.specs.declared.running.Refused.TheVariants as refused
+
+by_all : (t : Table) (path : Path) (script : Text) (limit : ℕ) (b s n f : Bool) → (marks_of t).broken ≡ b → is_some (tree_of t path) ≡ s → nat_le (root_count t + limit) most_steps ≡ n → fits script ≡ f → unfit t path script limit ≡ first_of b s n f
+by_all t path script limit b s n f eb es en ef =
+    ap (λ x. first_of x (is_some (tree_of t path)) (nat_le (root_count t + limit) most_steps) (fits script)) eb ∙ ap (λ x. first_of b x (nat_le (root_count t + limit) most_steps) (fits script)) es
+    ∙ ap (λ x. first_of b s x (fits script)) en ∙ ap (first_of b s n) ef
+
+pub counts_too_far : (t : Table) (path : Path) (script : Text) (limit : ℕ) → (marks_of t).broken ≡ false → is_some (tree_of t path) ≡ true → most_steps < root_count t + limit → unfit t path script limit ≡ Some refused.CountTooLarge
+counts_too_far t path script limit eb es h = by_all t path script limit false true false (fits script) eb es (grind (arith, nat_tests)) refl
+
+pub is_too_long : (t : Table) (path : Path) (script : Text) (limit : ℕ) → (marks_of t).broken ≡ false → is_some (tree_of t path) ≡ true → root_count t + limit ≤ most_steps → fits script ≡ false → unfit t path script limit ≡ Some refused.TooLong
+is_too_long t path script limit eb es h f = by_all t path script limit false true true false eb es (grind (arith, nat_tests)) f
+
+pub is_fit : (t : Table) (path : Path) (script : Text) (limit : ℕ) → (marks_of t).broken ≡ false → is_some (tree_of t path) ≡ true → root_count t + limit ≤ most_steps → fits script ≡ true → unfit t path script limit ≡ None
+is_fit t path script limit eb es h f = by_all t path script limit false true true true eb es (grind (arith, nat_tests)) f
+
+-- ## How it ended
+
+pub told_so : {E : Type 0} (path : Path) (ended : Result Text Interruption) (result : Result End E) (P : Reply → Type 0) (Q : End → Type 0) → Tells path ended result → IfEnded ended P →
+    ((e : End) (r : Reply) → P r → end_at path r ≡ Some (ending_of e) → Q e) → IfOk result Q
+told_so path ended (Err e) P Q t p k = tt
+told_so path (Ok text) (Ok e) P Q t p k = k e _ p t
+told_so path (Err interruption.Memory) (Ok e) P Q t p k = elim t [ ]
+told_so path (Err (interruption.Completed c)) (Ok e) P Q t p k = k e _ p t
+told_so path (Err (interruption.Stopped s)) (Ok e) P Q t p k = k e _ p t
+told_so path (Err (interruption.Exited n)) (Ok e) P Q t p k = k e _ p t
+told_so path (Err (interruption.Cut c)) (Ok e) P Q t p k = k e _ p t
+
+-- and where the outside is told too
+pub told_all : {E : Type 0} (path : Path) (ended : Result Text Interruption) (result : Result End E) (P D : Reply → Type 0) (Q : End → Type 0) → Tells path ended result → IfEnded ended P → IfOk result (λ e. IfEnded ended D) →
+    ((e : End) (r : Reply) → P r → D r → end_at path r ≡ Some (ending_of e) → Q e) → IfOk result Q
+told_all path ended (Err e) P D Q t p d k = tt
+told_all {E} path ended (Ok e) P D Q t p d k = told_so {E = E} path ended (Ok e) (λ r. P r × D r) Q t (IfEnded-both ended P D (λ r. P r × D r) (λ r a b. (a, b)) p d) (λ x r h s. k x r h.0 h.1 s)
+
+-- ## Where it was given up
+
+-- an evaluation came some way
+pub some_way : (r : Result Text Interruption) (P : Ending → Type 0) (Q : Type 0) → IfRan r P → ((e : Ending) → P e → Q) → Q
+some_way (Ok text) P Q p k = k _ p
+some_way (Err interruption.Memory) P Q p k = k _ p
+some_way (Err (interruption.Completed c)) P Q p k = k _ p
+some_way (Err (interruption.Stopped s)) P Q p k = k _ p
+some_way (Err (interruption.Exited n)) P Q p k = k _ p
+some_way (Err (interruption.Cut c)) P Q p k = k _ p
+
+-- what holds anyway
+pub at_any_err : {A E : Type 0} (r : Result A E) (P : Type 0) → P → IfErr r (λ _. P)
+at_any_err (Ok a) P p = tt
+at_any_err (Err e) P p = p
+
+pub at_none : {A : Type 0} (o : Option A) (P : Type 0) → P → IfNone o P
+at_none None P p = p
+at_none (Some a) P p = tt
+
+module _ {S : Type 0} {ways : Ways S} (old : Table) (o z : S) (path : Path) (script : Text) (most : ℕ) where
+  was_given_up : {last : S} → Begun (Crossings ways.goes) (language (marks_of old).integers) (effect [] (Limited (Some most)) (tree_of old)) o path (serve (marks_of old).integers (Eval script)) last →
+      IsLoss ways.loses last z → IsGivenUp ways old o path script most z
+  was_given_up {last} b l = record { last = last; begun = b; lost = l }
+
+  -- how far the script came
+  pub is_given_up : {V : Tree Own} → Proceeds ways (language (marks_of old).integers) (effect [] (Limited (Some most)) (tree_of old)) o path (serve (marks_of old).integers (Eval script)) V z None →
+      IsGivenUp ways old o path script most z
+  is_given_up (given_up b l) = was_given_up b l

@@ -1,0 +1,2139 @@
+use Rattle.std.proofs.Common.{◌≡◌, ◌≤◌, [], ◌∷◌, ◌++◌, List, ℕ, Some, length, drop, rules, sym, ap, refl, ◌∙◌, arith, vec_len, subst}
+use Rattle.std.proofs.lemmas.Result.{err_from_is_err_and}
+use Rattle.std.specs.String.{string_bytes}
+use Rattle.tcl_core.specs.Paths.{Path}
+use Rattle.tcl_core.specs.Trees.{Node}
+use Rattle.tcl_parser.specs.declared.script.Part.TheVariants as part
+use Rattle.tcl_run.specs.Ends.{too_deep_at, IsFailure}
+use Rattle.tcl_tree.specs.Own.{Own}
+use Rattle.tcl_tree.specs.TreeOf.{tree_of, Names}
+use Rattle.tcl_tree.proofs.CoreLemmas.{tree_there, top_there}
+use Rattle.tcl_run.proofs.Proceeding.{completed}
+use Rattle.tcl_frames.specs.Chain.{read}
+use Rattle.tcl_language.specs.Faults.{frame_message}
+use Rattle.tcl_parser.specs.declared.script.Part.{Part}
+use Rattle.tcl_core.specs.Endings.{ok}
+use Rattle.tcl_core.specs.Endings.Reply.{Completed}
+use Rattle.tcl_language.specs.Scripts.{script, commands, words, parts, over}
+use Rattle.tcl_language.specs.Table.{called}
+use Rattle.tcl_calls.specs.Words.{EndsBy, opens}
+use Rattle.tcl_parser.specs.Words.{WordRead}
+use Rattle.tcl_language.specs.Instructions.{fits, Open}
+use Rattle.tcl_run.proofs.Endings.{IfEnded-at, Interrupts-more, Interrupts-at}
+use Rattle.tcl_run.proofs.Proceeding.{at_prog, at_reply}
+use Rattle.tcl_run.proofs.Steady.{still_at, still_in_use, still_running, steady-refl, steady-trans, level_steady, nested_steady, begun_at, less_room}
+use Rattle.tcl_evaluation.proofs.Steps
+use Rattle.tcl_evaluation.proofs.Steps.{item_on, none_on, no_item, stays_of, EndsFrom, TextEnds, text_ends, VariableEnds, variable_ends, EndsAt, appended, forgets, both, stands}
+use Rattle.std.proofs.Common.{true, None}
+use Rattle.tcl_core.specs.Endings.{Reply}
+use Rattle.tcl_core.specs.Trees.{effect}
+use Rattle.tcl_core.specs.Trees.What.{Changed}
+use Rattle.tcl_language.specs.Control.{procedure, bindings, in_frame, proc_form}
+use Rattle.tcl_language.specs.Faults.{wrong_args}
+use Rattle.tcl_run.specs.Ends.{failing}
+use Rattle.tcl_tree.specs.declared.parameter.Parameter.{Parameter}
+use Rattle.tcl_calls.specs.Procedures.{pairs_of, TooLongBound}
+use Rattle.tcl_evaluation.proofs.Calling.{left_more, call_too_long, call_unbound, call_runs}
+use Rattle.tcl_evaluation.specs.View.{read_so}
+use Rattle.std.proofs.Common.{take, ◌-◌}
+use Rattle.tcl_language.specs.Faults.{invalid_command}
+use Rattle.tcl_language.specs.Table.{dispatch}
+use Rattle.tcl_run.specs.Ends.{itself}
+use Rattle.tcl_flow.specs.View.{completion_of}
+use Rattle.tcl_language.specs.Control.{code_text, eval as control_eval, catch as control_catch}
+use Rattle.tcl_calls.specs.Found.{found}
+use Rattle.tcl_evaluation.proofs.Steps.{split_first}
+use Rattle.tcl_evaluation.proofs.Found.{call_found, call_missing}
+use Rattle.tcl_evaluation.proofs.Catching.{caught_ok, caught_err, eval_runs, eval_long, eval_none, catch_goes, catch_passes, catch_none, catch_many}
+use Rattle.tcl_evaluation.specs.View.{targeted, unhidden, invokes_at}
+use Rattle.std.proofs.Common.{false}
+use Rattle.std.specs.Prelude.{Err}
+use Rattle.tcl_run.specs.Runs.{IsThere}
+use Rattle.tcl_text.specs.declared.integer.Integers.{Integers}
+use Rattle.tcl_evaluation.specs.View.{GoesOn}
+use Rattle.tcl_entries.proofs.Reached.{never_outside}
+use Rattle.tcl_core.specs.Programs.Prog.{done}
+use Rattle.tcl_language.specs.Interpreters.{asks_at, eval as interp_evals}
+use Rattle.tcl_language.specs.Words.{concat}
+use Rattle.tcl_run.specs.Runs.{IsAt}
+use Rattle.tcl_run.proofs.Proceeding.{grows, outgrows}
+use Rattle.tcl_evaluation.proofs.Entered.{asks_another, asks_here, evals, eval_is, eval_few, hidden_stops, hidden_settles, invokes_here, invokes_global}
+use Rattle.tcl_core.specs.Entries.Entry.{Eval, InvokeHidden}
+use Rattle.tcl_language.specs.Table.{invoked}
+use Rattle.tcl_calls.specs.Found.{hidden_found}
+use Rattle.tcl_evaluation.proofs.Found.{invoke_found, invoke_missing}
+use Rattle.tcl_core.specs.Entries.Entry.{CallWords}
+use Rattle.tcl_language.specs.Interpreters.{call_alias as alias_program}
+use Rattle.tcl_language.specs.Table.{serve}
+use Rattle.tcl_tree.specs.declared.command.Command.{Command}
+use Rattle.tcl_language.specs.Faults.{lost_alias}
+use Rattle.tcl_evaluation.proofs.Targets.{asks_nobody, calls_untold, settled_more, target_ends, target_refused, entry_stops, entry_calls, entry_evaluates, unhidden_ends, unhidden_refused, same_dispatch, evaluates_there, alias_is, done_on, evaluates_same, calls_there, calls_end, calls_below, calls_nobody, calls_past, lost_so}
+-- (of expressions and the commands with conditions)
+use Rattle.std.proofs.Common.{◌⊎◌, inl, inr, ◌<◌, get_or}
+use Rattle.std.specs.Option.{option_copied}
+use Rattle.tcl_expression_evaluation.specs.Computations.{value, substitute}
+use Rattle.tcl_expression_evaluation.specs.Steps.{from}
+use Rattle.tcl_language.specs.Control.{after_body}
+use Rattle.tcl_language.specs.Expressions.{after_next, branches_of, computed, expr, expression, first_true, if_first}
+use Rattle.tcl_core.specs.Programs.Prog.{go}
+use Rattle.tcl_language.specs.Instructions.Instr.{Script, While, For}
+use Rattle.tcl_operators.specs.Apply.{truth}
+use Rattle.tcl_operators.specs.Messages.{message_of as operator_message}
+use Rattle.tcl_run.proofs.Proceeding.{charges, charge_refused, goes_done, goes_on}
+use Rattle.tcl_calls.specs.BranchesRead.{seen, tests_of}
+use Rattle.tcl_calls.specs.declared.branches.Branch.{Branch}
+use Rattle.tcl_calls.specs.Expressions.{IsRefused, settles}
+use Rattle.tcl_language.specs.Control.{foreach_turns, is_over, sets_walks, uplevel}
+use Rattle.tcl_language.specs.Instructions.{Walk as Left}
+use Rattle.tcl_language.specs.Instructions.Instr.{Foreach}
+use Rattle.tcl_run.specs.Plain.{Does}
+use Rattle.tcl_tree.specs.TreeOf.{marks_of}
+use Rattle.tcl_calls.specs.Levels.{script_level}
+use Rattle.tcl_calls.specs.Walks.{walks_at}
+use Rattle.tcl_calls.specs.declared.walks.Walk.{Walk}
+use Rattle.std.proofs.Common.{map}
+use Rattle.tcl_evaluation.proofs.Levelling
+use Rattle.tcl_evaluation.proofs.Walking
+use Rattle.tcl_evaluation.proofs.Walking.{passed}
+use Rattle.tcl_evaluation.proofs.Conditions
+use Rattle.tcl_evaluation.proofs.Looping
+use Rattle.tcl_evaluation.proofs.Looping.{next_then}
+use Rattle.tcl_evaluation.specs.Conditional.{ComputesTo, TestGoes, TurnGoes, turn_then}
+use Rattle.tcl_evaluation.proofs.+eval.Goals.{expressions::while_loop-in_default-via-then-args-lt2, expressions::while_loop-in_default-via-else-args-lt2+else-args-lt3, expressions::for_loop-in_default-via-then-args-lt4, expressions::for_loop-in_default-via-else-args-lt4+else-args-lt5}
+-- (of `interp` and children's own commands)
+use Rattle.std.specs.Prelude.{codes}
+use Rattle.tcl_language.specs.Faults.{unknown_subcommand}
+use Rattle.tcl_language.specs.Interpreters.{asks, asks_trusted, invoked_as, child_form, child_path, interp as interp_program, invoke_hidden as invoke_hidden_program, child as child_program, child_eval as child_evals, child_invoke_hidden as child_invokes}
+use Rattle.tcl_language.specs.Naming.{command_name}
+use Rattle.tcl_language.specs.Table.{child_name, builtin as builtin_program}
+use Rattle.tcl_evaluation.specs.View.{Asks}
+use Rattle.tcl_entries.specs.Looking.{GetsToEnd}
+use Rattle.tcl_entries.specs.Subcommands.{program_of, child_subcommand_of, child_program_of}
+use Rattle.tcl_evaluation.proofs.Dispatching.{interp_known, interp_unknown, invoke_is, child_known, child_unknown, child_eval_none, child_eval_some}
+-- (of what reaches the host)
+use Rattle.std.specs.Str.{bytes_eq}
+use Rattle.tcl_core.specs.Paths.{Text}
+use Rattle.tcl_language.specs.Hosting as hosting
+use Rattle.tcl_language.specs.Instructions.{either}
+use Rattle.tcl_value.specs.Limits.{IsPast}
+use Rattle.tcl_evaluation.proofs.Steps.{one_item, two_items}
+use Rattle.tcl_evaluation.proofs.Awaited
+use Rattle.tcl_evaluation.proofs.Writing.{three_items, not_put, past_long, writes_as, writes_heard, writes_over}
+use Rattle.std.proofs.Common.{FitsSigned, w64, ℤ}
+use Rattle.std.proofs.lemmas.Int.{to_z-of_z}
+use Rattle.std.specs.Prelude.{Ok}
+use Rattle.tcl_core.specs.Entries.Entry.{AskHost}
+use Rattle.tcl_core.specs.Entries.Request.{Write}
+use Rattle.tcl_run.specs.Entering.{entry_of, whole_entry}
+use Rattle.tcl_run.specs.Outsides.{OnEntry, reply_of}
+-- (of what is given up)
+use Rattle.tcl_run.specs.Runs.{ways}
+use Rattle.tcl_run.proofs.Endings.{IfRan-more, breaks, fails_err, memory_err, ran_err, says_err}
+use Rattle.tcl_run.proofs.Losing.{lost_again, lost_once}
+use Rattle.tcl_run.proofs.Proceeding.{does_proceeds, stopped, stopped_by}
+use Rattle.tcl_language.specs.Interpreters.{at_path}
+use Rattle.tcl_language.specs.Definitions as definitions
+use Rattle.tcl_tree.specs.declared.builtin.Builtin.{Builtin}
+use Rattle.tcl_evaluation.proofs.Plainly.{acts_proceeds, asking_last, evaluates_at_proceeds, evaluates_proceeds, gets_proceeds, looks_proceed, passes_proceeds, proceeds_as}
+use Rattle.tcl_run.specs.Runs.{room}
+use Rattle.tcl_run.specs.declared.outside.Turn.{Turn}
+use Rattle.tcl_language.specs.Interpreters.{no_interpreter}
+use Rattle.tcl_evaluation.specs.Waiting.{IsWritten, SaysOn}
+use Rattle.tcl_evaluation.proofs.+eval.Goals.{hosting::puts-in_default-via-then-args-lt1, hosting::puts-in_default-via-else-args-lt1+else-args-lt2+else-args-lt3+else-args-lt4}
+-- (of what is given up)
+use Rattle.tcl_run.proofs.Endings.{ran, ran_text}
+use Rattle.tcl_evaluation.proofs.+eval.Goals as goal
+
+-- the words of a command
+
+pub evaluation::eval_command-returns-in_err-words-clause-runs : goal.evaluation::eval_command-returns-in_err-words-clause-runs
+evaluation::eval_command-returns-in_err-words-clause-runs g t c =
+    let p = err_from_is_err_and c.from_residual.result c.from_residual.ensures.1 in
+    memory_err c.from_residual.result p.0 _ _ p.1 p.2 (λ q style at. stopped)
+
+pub evaluation::eval_command-returns-in_err-text-clause-runs : goal.evaluation::eval_command-returns-in_err-text-clause-runs
+evaluation::eval_command-returns-in_err-text-clause-runs g t c =
+    let item = item_on c.deref-word-items.result.now c.words.word-index c.word-item.result c.words-test.true c.word-item.is in
+    let p = err_from_is_err_and c.from_residual-in_err-text.result c.from_residual-in_err-text.ensures.1 in
+    ran_err c.from_residual-in_err-text.result c.in_err-text.field-0.0 p.0 _ _ _ p.1 p.2
+    (stays_of c.eval_word.result c.in_err-text.field-0.0 (EndsFrom (ways g.O.Outside.goes g.O.Outside.loses) c.words.tree c.words.outside c.args.place (λ style. parts c.word-item.result.parts [] []) c.eval_word.new.tree c.eval_word.new.outside) c.in_err-text.ensures.same c.eval_word.ensures.runs c.in_err-text.ensures.stays)
+    (λ e h q style at. c.words.invariant.leads q style at _ _ _ (at_prog (ap (λ (ws : List WordRead). words ws c.words.words.items) item)
+    (Steps.word_stays style c.word-item.result _ c.words.words.items e h.1 (h.0 q style (still_at _ _ c.args.place q style c.words.invariant.steady at)))))
+
+pub evaluation::eval_command-returns-in_err-spread-clause-runs : goal.evaluation::eval_command-returns-in_err-spread-clause-runs
+evaluation::eval_command-returns-in_err-spread-clause-runs g t c =
+    let item = item_on c.deref-word-items.result.now c.words.word-index c.word-item.result c.words-test.true c.word-item.is in
+    let p = err_from_is_err_and c.from_residual-in_err-spread.result c.from_residual-in_err-spread.ensures.1 in
+    let x = ran_text c.eval_word.result c.in_ok-text.text (EndsFrom (ways g.O.Outside.goes g.O.Outside.loses) c.words.tree c.words.outside c.args.place (λ style. parts c.word-item.result.parts [] []) c.eval_word.new.tree c.eval_word.new.outside) c.in_ok-text.ensures.text c.eval_word.ensures.runs in
+    fails_err c.from_residual-in_err-spread.result c.in_err-spread.field-0.0 p.0 _ _ _ p.1 p.2 c.in_err-spread.ensures
+    (λ e h q style at. c.words.invariant.leads q style at _ _ _ (at_prog (ap (λ (ws : List WordRead). words ws c.words.words.items) item)
+    (Steps.word_fails style c.word-item.result _ c.words.words.items x.0 c.in_ok-text.text e _ (ap (λ (w : WordRead). w.expand) c.word.view_is) x.2 x.3 h (x.1 q style (still_at _ _ c.args.place q style c.words.invariant.steady at)))))
+    (λ q style at. c.words.invariant.leads q style at _ _ _ (at_prog (ap (λ (ws : List WordRead). words ws c.words.words.items) item)
+    (Steps.word_lost style c.word-item.result _ c.words.words.items (x.1 q style (still_at _ _ c.args.place q style c.words.invariant.steady at)))))
+
+pub evaluation::eval_command-words-preserved : goal.evaluation::eval_command-words-preserved
+evaluation::eval_command-words-preserved g t c =
+    let item = item_on c.deref-word-items.result.now c.words.word-index c.word-item.result c.words-test.true c.word-item.is in
+    let x = ran_text c.eval_word.result c.in_ok-text.text (EndsFrom (ways g.O.Outside.goes g.O.Outside.loses) c.words.tree c.words.outside c.args.place (λ style. parts c.word-item.result.parts [] []) c.eval_word.new.tree c.eval_word.new.outside) c.in_ok-text.ensures.text c.eval_word.ensures.runs in
+    record {
+      leads = λ q style at V z r run. c.words.invariant.leads q style at _ _ _ (at_prog (ap (λ (ws : List WordRead). words ws c.words.words.items) item)
+          (Steps.word_goes style c.word-item.result _ c.words.words.items _ x.0 c.in_ok-text.text _ (ap (λ (w : WordRead). w.expand) c.word.view_is) x.2 x.3 c.in_ok-spread.ensures (x.1 q style (still_at _ _ c.args.place q style c.words.invariant.steady at)) run));
+      steady = steady-trans _ _ _ c.words.invariant.steady c.eval_word.ensures.steady;
+      left = let a = c.eval_word.ensures.left in let b = c.words.invariant.left in omega arith;
+    }
+
+pub evaluation::eval_command-returns-then-is_empty-clause-runs : goal.evaluation::eval_command-returns-then-is_empty-clause-runs
+evaluation::eval_command-returns-then-is_empty-clause-runs g t c = λ q style at.
+    let none = none_on c.deref-word-items.result.now c.words.word-index c.words-test.false in
+    let zero = Steps.zero_is (vec_len c.words.words) c.is_empty.result c.is_empty.ensures c.if-is_empty.true in
+    let empty : c.words.words.items ≡ [] = no_item c.words.words.items (omega (arith, zero, c.words.words.ok.0)) in
+    c.words.invariant.leads q style at _ _ _ (at_prog (ap (λ (ws : List WordRead). words ws c.words.words.items) none) (Steps.no_words style c.words.words.items empty (ap (λ (x : List ℕ). Completed (ok x)) c.empty.ensures)))
+
+pub evaluation::eval_command-returns-in_err-charge-clause-runs : goal.evaluation::eval_command-returns-in_err-charge-clause-runs
+evaluation::eval_command-returns-in_err-charge-clause-runs g t c =
+    let more = Steps.some_is (vec_len c.words.words) c.is_empty.result c.is_empty.ensures c.if-is_empty.false in
+    let some : 1 ≤ length c.words.words.items = omega (arith, more, c.words.words.ok.0) in
+    let none = none_on c.deref-word-items.result.now c.words.word-index c.words-test.false in
+    let p = err_from_is_err_and c.from_residual-in_err-charge.result c.from_residual-in_err-charge.ensures.1 in
+    says_err c.from_residual-in_err-charge.result c.in_err-charge.field-0.0 p.0 _ _ _ p.1 p.2 c.in_err-charge.ensures.refused
+    (λ e h q style at. c.words.invariant.leads q style at _ _ _ (at_prog (ap (λ (ws : List WordRead). words ws c.words.words.items) none)
+    (Steps.charged_stops style c.words.words.items some (h q (still_at _ _ c.args.place q style c.words.invariant.steady at).names))))
+
+pub evaluation::eval_command-returns-clause-runs : goal.evaluation::eval_command-returns-clause-runs
+evaluation::eval_command-returns-clause-runs g t c =
+    let more = Steps.some_is (vec_len c.words.words) c.is_empty.result c.is_empty.ensures c.if-is_empty.false in
+    let some : 1 ≤ length c.words.words.items = omega (arith, more, c.words.words.ok.0) in
+    let none = none_on c.deref-word-items.result.now c.words.word-index c.words-test.false in
+    IfRan-more c.call.result (EndsFrom (ways g.O.Outside.goes g.O.Outside.loses) c.charge.new.tree c.charge.new.outside c.args.place (λ style. called style c.as_slice.result.now) c.call.new.tree c.call.new.outside)
+    (EndsFrom (ways g.O.Outside.goes g.O.Outside.loses) c.args.tree.now c.args.outside.now c.args.place (λ style. words c.args.command.now []) c.call.new.tree c.call.new.outside) (λ e h q style at.
+    let here = still_at _ _ c.args.place q style c.words.invariant.steady at in
+    let counts = c.in_ok-charge.ensures.counted q here.names in
+    c.words.invariant.leads q style at _ _ _ (at_prog (ap (λ (ws : List WordRead). words ws c.words.words.items) none)
+    (Steps.charged_calls style c.words.words.items some counts (at_prog (ap (called style) (sym c.as_slice.ensures.value)) (h q style (still_at _ _ c.args.place q style (level_steady _ _ c.charge.ensures.level) here)))))) c.call.ensures.runs
+
+-- the commands of a script
+
+pub evaluation::eval_commands-returns-in_err-last-clause-runs : goal.evaluation::eval_commands-returns-in_err-last-clause-runs
+evaluation::eval_commands-returns-in_err-last-clause-runs g t c =
+    let item = item_on c.deref-command-items.result.now c.commands.command-index c.command-item.result c.commands-test.true c.command-item.is in
+    let p = err_from_is_err_and c.from_residual.result c.from_residual.ensures.1 in
+    ran_err c.from_residual.result c.in_err-last.field-0.0 p.0 _ _ _ p.1 p.2
+    (stays_of c.eval_command.result c.in_err-last.field-0.0 (EndsFrom (ways g.O.Outside.goes g.O.Outside.loses) c.commands.tree c.commands.outside c.args.place (λ style. words c.command-item.result []) c.eval_command.new.tree c.eval_command.new.outside) c.in_err-last.ensures.same c.eval_command.ensures.runs c.in_err-last.ensures.stays)
+    (λ e h q style at. c.commands.invariant.leads q style at _ _ _ (at_prog (ap (λ (cs : List (List WordRead)). commands cs c.args.script.now.fault c.commands.last) item)
+    (Steps.command_stays style c.command-item.result _ c.args.script.now.fault c.commands.last e h.1 (h.0 q style (still_at _ _ c.args.place q style c.commands.invariant.steady at)))))
+
+pub evaluation::eval_commands-commands-preserved : goal.evaluation::eval_commands-commands-preserved
+evaluation::eval_commands-commands-preserved g t c =
+    let item = item_on c.deref-command-items.result.now c.commands.command-index c.command-item.result c.commands-test.true c.command-item.is in
+    let x = ran_text c.eval_command.result c.in_ok-last.last (EndsFrom (ways g.O.Outside.goes g.O.Outside.loses) c.commands.tree c.commands.outside c.args.place (λ style. words c.command-item.result []) c.eval_command.new.tree c.eval_command.new.outside) c.in_ok-last.ensures.text c.eval_command.ensures.runs in
+    record {
+      leads = λ q style at V z r run. c.commands.invariant.leads q style at _ _ _ (at_prog (ap (λ (cs : List (List WordRead)). commands cs c.args.script.now.fault c.commands.last) item)
+          (Steps.command_goes style c.command-item.result _ c.args.script.now.fault c.commands.last x.0 c.in_ok-last.last x.2 x.3 (x.1 q style (still_at _ _ c.args.place q style c.commands.invariant.steady at)) run));
+      steady = steady-trans _ _ _ c.commands.invariant.steady c.eval_command.ensures.steady;
+      left = let a = c.eval_command.ensures.left in let b = c.commands.invariant.left in omega arith;
+    }
+
+pub evaluation::eval_commands-returns-clause-runs : goal.evaluation::eval_commands-returns-clause-runs
+evaluation::eval_commands-returns-clause-runs g t c =
+    let none = none_on c.deref-command-items.result.now c.commands.command-index c.commands-test.false in
+    ran c.finish.result (EndsBy (over c.args.script.now.fault c.commands.last))
+    (EndsFrom (ways g.O.Outside.goes g.O.Outside.loses) c.args.tree.now c.args.outside.now c.args.place (λ style. commands c.args.script.now.commands c.args.script.now.fault []) c.commands.tree c.commands.outside) (λ e h q style at. c.commands.invariant.leads q style at _ _ _ (at_prog (ap (λ (cs : List (List WordRead)). commands cs c.args.script.now.fault c.commands.last) none)
+    (Steps.is_over style c.args.script.now.fault c.commands.last e h)))
+    (λ q style at. c.commands.invariant.leads q style at _ _ _ stopped) c.finish.ensures
+
+-- a word that is one part
+
+pub evaluation::eval_lone_part-returns-in_err-clone-in-Literal-clause-runs : goal.evaluation::eval_lone_part-returns-in_err-clone-in-Literal-clause-runs
+evaluation::eval_lone_part-returns-in_err-clone-in-Literal-clause-runs g t c =
+    let p = err_from_is_err_and c.from_residual.result c.from_residual.ensures.1 in
+    memory_err c.from_residual.result p.0 _ _ p.1 p.2 (λ q style at. stopped)
+
+pub evaluation::eval_lone_part-returns-in_ok-clone-in-Literal-clause-runs : goal.evaluation::eval_lone_part-returns-in_ok-clone-in-Literal-clause-runs
+evaluation::eval_lone_part-returns-in_ok-clone-in-Literal-clause-runs g t c =
+    let is : c.args.part.now ≡ part.Literal c.in_ok-clone-in-Literal.field-0 = c.in-Literal.is ∙ ap (λ (text : List ℕ). part.Literal text) (sym c.in_ok-clone-in-Literal.ensures.cases) in
+    ran c.within.result (TextEnds c.in_ok-clone-in-Literal.field-0) (EndsFrom (ways g.O.Outside.goes g.O.Outside.loses) c.args.tree.now c.args.outside.now c.args.place (λ style. parts (c.args.part.now ∷ []) [] []) c.args.tree.now c.args.outside.now)
+    (λ e h q style at. Steps.lone_literal style c.args.part.now c.in_ok-clone-in-Literal.field-0 e is h) (λ q style at. stopped) (text_ends c.within.result c.in_ok-clone-in-Literal.field-0 c.within.ensures.whole c.within.ensures.refused)
+
+pub evaluation::eval_lone_part-returns-in-Variable-clause-runs : goal.evaluation::eval_lone_part-returns-in-Variable-clause-runs
+evaluation::eval_lone_part-returns-in-Variable-clause-runs g t c =
+    ran c.read_variable.result (λ e. (p : Path) (n : Node Own) → Names c.args.tree.now c.args.place p → tree_of c.args.tree.now p ≡ Some n → VariableEnds c.in-Variable.name n e)
+    (EndsFrom (ways g.O.Outside.goes g.O.Outside.loses) c.args.tree.now c.args.outside.now c.args.place (λ style. parts (c.args.part.now ∷ []) [] []) c.args.tree.now c.args.outside.now)
+    (λ e h q style at. let n = stands (tree_of c.args.tree.now q) (tree_there c.args.tree.now q _ at.names) in Steps.lone_variable style c.args.part.now c.in-Variable.name e c.in-Variable.is n.1 (h q n.0 at.names n.1))
+    (λ q style at. stopped)
+    (IfEnded-at c.read_variable.result c.args.tree.now c.args.place (VariableEnds c.in-Variable.name) (λ p n at there. variable_ends c.read_variable.result c.in-Variable.name n c.read_variable.ensures.short (c.read_variable.ensures.read p n at there)))
+
+pub evaluation::eval_lone_part-returns-in-Element-clause-runs : goal.evaluation::eval_lone_part-returns-in-Element-clause-runs
+evaluation::eval_lone_part-returns-in-Element-clause-runs g t c = λ q style at.
+    at_prog (ap (λ (y : Part). parts (y ∷ []) [] []) c.in-Element.is) (Steps.element_goes style c.in-Element.field-0 [] [] [] (at_reply (ap (λ (x : List ℕ). Completed (ok x)) c.empty.ensures) completed))
+
+pub evaluation::eval_lone_part-returns-in-EndElement-clause-runs : goal.evaluation::eval_lone_part-returns-in-EndElement-clause-runs
+evaluation::eval_lone_part-returns-in-EndElement-clause-runs g t c = λ q style at.
+    at_prog (ap (λ (y : Part). parts (y ∷ []) [] []) c.in-EndElement.is) (at_reply (ap (λ (x : List ℕ). Completed (ok x)) c.empty-in-EndElement.ensures) completed)
+
+-- a script
+
+pub evaluation::eval_script-returns-in-Err-clause-runs : goal.evaluation::eval_script-returns-in-Err-clause-runs
+evaluation::eval_script-returns-in-Err-clause-runs g t c = breaks c.too_deep.result (λ e. e ≡ too_deep_at c.in-Err.levels) _ (λ e h q style at.
+    let no = c.in-Err.ensures.refused q at.names in Steps.read_refused style c.args.script.now c.in-Err.levels no.0 no.1 h) (λ q style at. stopped) c.too_deep.ensures
+
+pub evaluation::eval_script-eval_commands-ended-requires : goal.evaluation::eval_script-eval_commands-ended-requires
+evaluation::eval_script-eval_commands-ended-requires g t c κs within =
+    let p = c.requires.0 in
+    let names = c.requires.1 in
+    let free = c.in_default.ensures.nested p names in
+    let top = stands (tree_of c.args.tree.now []) (top_there c.args.tree.now) in
+    let fewer = less_room (tree_of c.args.tree.now) (tree_of c.nest_at.new.self) p top.0 top.1 (c.keeps_form.ensures.most [] top.0 top.1) free.0 free.1 in
+    (search rules, (search rules, (p, c.in_default.ensures.keys p ∙ names, begun_at c.args.tree.now c.nest_at.new.self c.args.place p names free.1)))
+
+pub evaluation::eval_script-unnest-requires : goal.evaluation::eval_script-unnest-requires
+evaluation::eval_script-unnest-requires g t c =
+    let p = c.requires.0 in
+    let names = c.requires.1 in
+    let free = c.in_default.ensures.nested p names in
+    (p, c.eval_commands-ended.ensures.steady.keys p _ (c.in_default.ensures.keys p ∙ names) (begun_at c.args.tree.now c.nest_at.new.self c.args.place p names free.1))
+
+pub evaluation::eval_script-returns-clause-runs : goal.evaluation::eval_script-returns-clause-runs
+evaluation::eval_script-returns-clause-runs g t c =
+    IfRan-more c.eval_commands-ended.result
+    (EndsFrom (ways g.O.Outside.goes g.O.Outside.loses) c.nest_at.new.self c.args.outside.now c.args.place (λ style. commands c.args.script.now.commands c.args.script.now.fault []) c.eval_commands-ended.new.tree c.eval_commands-ended.new.outside)
+    (EndsAt (ways g.O.Outside.goes g.O.Outside.loses) c.args.tree.now c.args.outside.now c.args.place (λ style. read_so c.args.script.now) c.unnest.new.self c.eval_commands-ended.new.outside)
+    (λ e h q style at.
+    let free = c.in_default.ensures.nested q at.names in
+    let running = begun_at c.args.tree.now c.nest_at.new.self c.args.place q at.names free.1 in
+    let names = c.in_default.ensures.keys q ∙ at.names in
+    Steps.reads_end style c.args.script.now free.0 free.1 (c.unnest.ensures.unnested q (c.eval_commands-ended.ensures.steady.keys q _ names running))
+    (h q style (record { names = names; style_is = ap (λ m. m.integers) c.in_default.ensures.marks ∙ at.style_is; running = running })))
+    c.eval_commands-ended.ensures.runs
+
+pub evaluation::eval_script-returns-clause-steady : goal.evaluation::eval_script-returns-clause-steady
+evaluation::eval_script-returns-clause-steady g t c =
+    let p = c.requires.0 in
+    let names = c.requires.1 in
+    let free = c.in_default.ensures.nested p names in
+    let running = begun_at c.args.tree.now c.nest_at.new.self c.args.place p names free.1 in
+    nested_steady c.args.tree.now c.nest_at.new.self c.eval_commands-ended.new.tree c.unnest.new.self p c.in_default.ensures.marks c.in_default.ensures.keys free.1 c.eval_commands-ended.ensures.steady
+    c.unnest.ensures.marks c.unnest.ensures.keys (c.unnest.ensures.unnested p (c.eval_commands-ended.ensures.steady.keys p _ (c.in_default.ensures.keys p ∙ names) running))
+
+pub evaluation::eval_text-returns-in_err-script-clause-runs : goal.evaluation::eval_text-returns-in_err-script-clause-runs
+evaluation::eval_text-returns-in_err-script-clause-runs g t c =
+    let p = err_from_is_err_and c.from_residual.result c.from_residual.ensures.1 in
+    memory_err c.from_residual.result p.0 _ _ p.1 p.2 (λ q style at. stopped)
+
+pub evaluation::eval_text-returns-clause-runs : goal.evaluation::eval_text-returns-clause-runs
+evaluation::eval_text-returns-clause-runs g t c =
+    IfRan-more c.eval_script.result
+    (EndsAt (ways g.O.Outside.goes g.O.Outside.loses) c.args.tree.now c.args.outside.now c.args.place (λ style. read_so c.deref.result.now) c.eval_script.new.tree c.eval_script.new.outside)
+    (EndsAt (ways g.O.Outside.goes g.O.Outside.loses) c.args.tree.now c.args.outside.now c.args.place (λ style. script c.args.text.now) c.eval_script.new.tree c.eval_script.new.outside)
+    (λ e h q style at. at_prog (ap read_so (sym (c.deref.ensures ∙ c.in_ok-script.ensures))) (h q style at)) c.eval_script.ensures.runs
+
+pub evaluation::eval_value-returns-in_err-script-clause-runs : goal.evaluation::eval_value-returns-in_err-script-clause-runs
+evaluation::eval_value-returns-in_err-script-clause-runs g t c =
+    let p = err_from_is_err_and c.from_residual.result c.from_residual.ensures.1 in
+    memory_err c.from_residual.result p.0 _ _ p.1 p.2 (λ q style at. stopped)
+
+pub evaluation::eval_value-returns-clause-runs : goal.evaluation::eval_value-returns-clause-runs
+evaluation::eval_value-returns-clause-runs g t c =
+    IfRan-more c.eval_script.result
+    (EndsAt (ways g.O.Outside.goes g.O.Outside.loses) c.args.tree.now c.args.outside.now c.args.place (λ style. read_so c.deref.result.now) c.eval_script.new.tree c.eval_script.new.outside)
+    (EndsAt (ways g.O.Outside.goes g.O.Outside.loses) c.args.tree.now c.args.outside.now c.args.place (λ style. script c.args.value.now) c.eval_script.new.tree c.eval_script.new.outside)
+    (λ e h q style at. at_prog (ap read_so (sym (c.deref.ensures ∙ c.in_ok-script.ensures.read))) (h q style at)) c.eval_script.ensures.runs
+
+pub evaluation::eval_part-returns-in_err-value-in-Variable-clause-runs : goal.evaluation::eval_part-returns-in_err-value-in-Variable-clause-runs
+evaluation::eval_part-returns-in_err-value-in-Variable-clause-runs g t c =
+    let p = err_from_is_err_and c.from_residual.result c.from_residual.ensures.1 in
+    fails_err c.from_residual.result c.in_err-value-in-Variable.field-0.0 p.0 _ _ _ p.1 p.2
+    (Interrupts-at c.in_err-value-in-Variable.field-0.0 c.args.tree.now c.args.place (λ n e. IsFailure frame_message (read n.own.chain.frames c.in-Variable.name) e) c.in_err-value-in-Variable.ensures.read)
+    (λ e h q style at rest. let n = stands (tree_of c.args.tree.now q) (tree_there c.args.tree.now q _ at.names) in
+    at_prog (ap (λ (y : Part). parts (y ∷ rest) (opens c.args.elements.now.items) (string_bytes c.args.text.now)) c.in-Variable.is)
+    (Steps.variable_fails style c.in-Variable.name rest (opens c.args.elements.now.items) (string_bytes c.args.text.now) n.1 (h q n.0 at.names n.1)))
+    (λ q style at rest. stopped)
+
+pub evaluation::eval_part-returns-in_ok-value-in-Variable-clause-runs : goal.evaluation::eval_part-returns-in_ok-value-in-Variable-clause-runs
+evaluation::eval_part-returns-in_ok-value-in-Variable-clause-runs g t c =
+    appended _ c.append_value.result c.append_value.ensures.added c.append_value.ensures.refused
+    (λ a q style at rest V z r run. let n = stands (tree_of c.args.tree.now q) (tree_there c.args.tree.now q _ at.names) in
+    at_prog (ap (λ (y : Part). parts (y ∷ rest) (opens c.args.elements.now.items) (string_bytes c.args.text.now)) c.in-Variable.is)
+    (Steps.variable_goes style c.in-Variable.name c.in_ok-value-in-Variable.value rest (opens c.args.elements.now.items) (string_bytes c.args.text.now) n.1 (c.in_ok-value-in-Variable.ensures.read q n.0 at.names n.1) a.0
+    (at_prog (ap (parts rest (opens c.args.elements.now.items)) (sym a.1)) run)))
+    (λ e b q style at rest. let n = stands (tree_of c.args.tree.now q) (tree_there c.args.tree.now q _ at.names) in
+    at_prog (ap (λ (y : Part). parts (y ∷ rest) (opens c.args.elements.now.items) (string_bytes c.args.text.now)) c.in-Variable.is)
+    (Steps.variable_long style c.in-Variable.name c.in_ok-value-in-Variable.value rest (opens c.args.elements.now.items) (string_bytes c.args.text.now) n.1 (c.in_ok-value-in-Variable.ensures.read q n.0 at.names n.1) b.0 b.1))
+    (λ q style at rest. stopped)
+
+pub evaluation::eval_part-returns-in-Literal-clause-runs : goal.evaluation::eval_part-returns-in-Literal-clause-runs
+evaluation::eval_part-returns-in-Literal-clause-runs g t c =
+    let is : c.args.part.now ≡ part.Literal c.as_str.result.now = c.in-Literal.is ∙ ap (λ (text : List ℕ). part.Literal text) (sym c.as_str.ensures) in
+    appended _ c.append.result c.append.ensures.added c.append.ensures.refused
+    (λ a q style at rest V z r run. at_prog (ap (λ (y : Part). parts (y ∷ rest) (opens c.args.elements.now.items) (string_bytes c.args.text.now)) is)
+    (Steps.literal_goes style c.as_str.result.now rest (opens c.args.elements.now.items) (string_bytes c.args.text.now) a.0 (at_prog (ap (parts rest (opens c.args.elements.now.items)) (sym a.1)) run)))
+    (λ e b q style at rest. at_prog (ap (λ (y : Part). parts (y ∷ rest) (opens c.args.elements.now.items) (string_bytes c.args.text.now)) is)
+    (Steps.literal_long style c.as_str.result.now rest (opens c.args.elements.now.items) (string_bytes c.args.text.now) b.0 b.1))
+    (λ q style at rest. stopped)
+
+-- a script among the parts of a word
+
+pub evaluation::eval_lone_part-returns-in_err-value-in-Script-clause-runs : goal.evaluation::eval_lone_part-returns-in_err-value-in-Script-clause-runs
+evaluation::eval_lone_part-returns-in_err-value-in-Script-clause-runs g t c =
+    let is : c.args.part.now ≡ part.Script c.in-Script.script = c.in-Script.is in
+    let p = err_from_is_err_and c.from_residual-in_err-value-in-Script.result c.from_residual-in_err-value-in-Script.ensures.1 in
+    ran_err c.from_residual-in_err-value-in-Script.result c.in_err-value-in-Script.field-0.0 p.0 _ _ _ p.1 p.2
+    (stays_of c.eval_text.result c.in_err-value-in-Script.field-0.0
+    (EndsAt (ways g.O.Outside.goes g.O.Outside.loses) c.args.tree.now c.args.outside.now c.args.place (λ style. script c.in-Script.script) c.eval_text.new.tree c.eval_text.new.outside)
+    c.in_err-value-in-Script.ensures.same c.eval_text.ensures.runs c.in_err-value-in-Script.ensures.stays)
+    (λ e h q style at. Steps.lone_stays style c.args.part.now c.in-Script.script e [] [] [] is h.1 (h.0 q style (record { names = at.names; style_is = at.style_is })))
+
+pub evaluation::eval_lone_part-returns-in_ok-value-in-Script-clause-runs : goal.evaluation::eval_lone_part-returns-in_ok-value-in-Script-clause-runs
+evaluation::eval_lone_part-returns-in_ok-value-in-Script-clause-runs g t c =
+    let is : c.args.part.now ≡ part.Script c.in-Script.script = c.in-Script.is in
+    let x = ran_text c.eval_text.result c.in_ok-value-in-Script.value (EndsAt (ways g.O.Outside.goes g.O.Outside.loses) c.args.tree.now c.args.outside.now c.args.place (λ style. script c.in-Script.script) c.eval_text.new.tree c.eval_text.new.outside)
+    c.in_ok-value-in-Script.ensures.text c.eval_text.ensures.runs in
+    λ q style at. Steps.lone_script style c.args.part.now c.in-Script.script c.known_short.result x.0 is x.2 (x.3 ∙ sym c.known_short.ensures.same)
+    (ap fits c.known_short.ensures.same ∙ c.known_short.ensures.short) (x.1 q style (record { names = at.names; style_is = at.style_is }))
+
+pub evaluation::eval_part-returns-in_err-value-in-Script-clause-runs : goal.evaluation::eval_part-returns-in_err-value-in-Script-clause-runs
+evaluation::eval_part-returns-in_err-value-in-Script-clause-runs g t c =
+    let is : c.args.part.now ≡ part.Script c.in-Script.script = c.in-Script.is in
+    let p = err_from_is_err_and c.from_residual-in_err-value-in-Script.result c.from_residual-in_err-value-in-Script.ensures.1 in
+    ran_err c.from_residual-in_err-value-in-Script.result c.in_err-value-in-Script.field-0.0 p.0 _ _ _ p.1 p.2
+    (stays_of c.eval_text.result c.in_err-value-in-Script.field-0.0
+    (EndsAt (ways g.O.Outside.goes g.O.Outside.loses) c.args.tree.now c.args.outside.now c.args.place (λ style. script c.in-Script.script) c.eval_text.new.tree c.eval_text.new.outside)
+    c.in_err-value-in-Script.ensures.same c.eval_text.ensures.runs c.in_err-value-in-Script.ensures.stays)
+    (λ e h q style at rest. Steps.lone_stays style c.args.part.now c.in-Script.script e rest (opens c.args.elements.now.items) (string_bytes c.args.text.now) is h.1 (h.0 q style (record { names = at.names; style_is = at.style_is })))
+
+pub evaluation::eval_part-returns-in_ok-value-in-Script-clause-runs : goal.evaluation::eval_part-returns-in_ok-value-in-Script-clause-runs
+evaluation::eval_part-returns-in_ok-value-in-Script-clause-runs g t c =
+    let is : c.args.part.now ≡ part.Script c.in-Script.script = c.in-Script.is in
+    let x = ran_text c.eval_text.result c.in_ok-value-in-Script.value (EndsAt (ways g.O.Outside.goes g.O.Outside.loses) c.args.tree.now c.args.outside.now c.args.place (λ style. script c.in-Script.script) c.eval_text.new.tree c.eval_text.new.outside)
+    c.in_ok-value-in-Script.ensures.text c.eval_text.ensures.runs in
+    appended _ c.append_value-in-Script.result c.append_value-in-Script.ensures.added c.append_value-in-Script.ensures.refused
+    (λ a q style at rest V z r run. at_prog (ap (λ (y : Part). parts (y ∷ rest) (opens c.args.elements.now.items) (string_bytes c.args.text.now)) is)
+    (Steps.script_goes style c.in-Script.script c.in_ok-value-in-Script.value rest (opens c.args.elements.now.items) (string_bytes c.args.text.now) x.0 x.2 x.3 (x.1 q style (record { names = at.names; style_is = at.style_is })) a.0
+    (at_prog (ap (parts rest (opens c.args.elements.now.items)) (sym a.1)) run)))
+    (λ e b q style at rest. at_prog (ap (λ (y : Part). parts (y ∷ rest) (opens c.args.elements.now.items) (string_bytes c.args.text.now)) is)
+    (Steps.script_long style c.in-Script.script c.in_ok-value-in-Script.value rest (opens c.args.elements.now.items) (string_bytes c.args.text.now) x.0 x.2 x.3 (x.1 q style (record { names = at.names; style_is = at.style_is })) b.0 b.1))
+    (λ q style at rest. at_prog (ap (λ (y : Part). parts (y ∷ rest) (opens c.args.elements.now.items) (string_bytes c.args.text.now)) is)
+    (Steps.script_lost style c.in-Script.script rest (opens c.args.elements.now.items) (string_bytes c.args.text.now) (x.1 q style (record { names = at.names; style_is = at.style_is }))))
+
+pub evaluation::eval_part-returns-in-Element-clause-runs : goal.evaluation::eval_part-returns-in-Element-clause-runs
+evaluation::eval_part-returns-in-Element-clause-runs g t c =
+    forgets _ _ _ c.open_element.result (both _ _ c.open_element.result c.open_element.ensures.opened c.open_element.ensures.empty) c.open_element.ensures.memory
+    (λ a q style at rest V z r run. at_prog (ap (λ (y : Part). parts (y ∷ rest) (opens c.args.elements.now.items) (string_bytes c.args.text.now)) c.in-Element.is)
+    (Steps.element_goes style c.in-Element.name rest (opens c.args.elements.now.items) (string_bytes c.args.text.now)
+    (at_prog (ap (λ (x : List ℕ). parts rest (record { name = c.in-Element.name; before = string_bytes c.args.text.now } ∷ opens c.args.elements.now.items) x) (sym a.1) ∙ ap (λ (es : List Open). parts rest es (string_bytes c.open_element.new.text)) (sym a.0)) run)))
+    (λ q style at rest. stopped)
+
+pub evaluation::eval_part-returns-in-EndElement-clause-runs : goal.evaluation::eval_part-returns-in-EndElement-clause-runs
+evaluation::eval_part-returns-in-EndElement-clause-runs g t c =
+    appended _ c.close_element.result c.close_element.ensures.closes c.close_element.ensures.refused
+    (λ a q style at rest V z r run. let n = stands (tree_of c.args.tree.now q) (tree_there c.args.tree.now q _ at.names) in
+    at_prog (ap (λ (y : Part). parts (y ∷ rest) (opens c.args.elements.now.items) (string_bytes c.args.text.now)) c.in-EndElement.is)
+    (Steps.closing_goes style rest (opens c.args.elements.now.items) (opens c.close_element.new.elements.items) (string_bytes c.args.text.now) (string_bytes c.close_element.new.text) n.1 (a q n.0 at.names n.1) run))
+    (λ e b q style at rest. let n = stands (tree_of c.args.tree.now q) (tree_there c.args.tree.now q _ at.names) in
+    at_prog (ap (λ (y : Part). parts (y ∷ rest) (opens c.args.elements.now.items) (string_bytes c.args.text.now)) c.in-EndElement.is)
+    (Steps.closing_ends style rest (opens c.args.elements.now.items) (string_bytes c.args.text.now) n.1 (b q n.0 at.names n.1)))
+    (λ q style at rest. stopped)
+
+pub evaluation::substitute-returns-in_err-eval_part-clause-runs : goal.evaluation::substitute-returns-in_err-eval_part-clause-runs
+evaluation::substitute-returns-in_err-eval_part-clause-runs g t c =
+    let item = item_on c.args.parts.now c.parts.part-index c.part-item.result c.parts-test.true c.part-item.is in
+    let p = err_from_is_err_and c.from_residual.result c.from_residual.ensures.1 in
+    ran_err c.from_residual.result c.in_err-eval_part.field-0.0 p.0 _ _ _ p.1 p.2 c.in_err-eval_part.ensures.runs
+    (λ e h q style at. c.parts.invariant.leads q style at _ _ _ (at_prog (ap (λ (ps : List Part). parts ps (opens c.parts.elements.items) (string_bytes c.parts.text)) item)
+    (h q style (still_at _ _ c.args.place q style c.parts.invariant.steady at) _)))
+
+pub evaluation::substitute-parts-preserved : goal.evaluation::substitute-parts-preserved
+evaluation::substitute-parts-preserved g t c =
+    let item = item_on c.args.parts.now c.parts.part-index c.part-item.result c.parts-test.true c.part-item.is in
+    record {
+      leads = λ q style at V z r run. c.parts.invariant.leads q style at _ _ _ (at_prog (ap (λ (ps : List Part). parts ps (opens c.parts.elements.items) (string_bytes c.parts.text)) item)
+          (c.in_ok-eval_part.ensures.runs q style (still_at _ _ c.args.place q style c.parts.invariant.steady at) _ V z r run));
+      short = c.in_ok-eval_part.ensures.short;
+      steady = steady-trans _ _ _ c.parts.invariant.steady c.eval_part.ensures.steady;
+      left = let a = c.eval_part.ensures.left in let b = c.parts.invariant.left in omega arith;
+    }
+
+pub evaluation::substitute-returns-in_err-from_string-clause-runs : goal.evaluation::substitute-returns-in_err-from_string-clause-runs
+evaluation::substitute-returns-in_err-from_string-clause-runs g t c =
+    let p = err_from_is_err_and c.from_residual-in_err-from_string.result c.from_residual-in_err-from_string.ensures.1 in
+    memory_err c.from_residual-in_err-from_string.result p.0 _ _ p.1 p.2 (λ q style at. c.parts.invariant.leads q style at _ _ _ stopped)
+
+pub evaluation::substitute-returns-clause-runs : goal.evaluation::substitute-returns-clause-runs
+evaluation::substitute-returns-clause-runs g t c = λ q style at.
+    let none = none_on c.args.parts.now c.parts.part-index c.parts-test.false in
+    c.parts.invariant.leads q style at _ _ _ (at_prog (ap (λ (ps : List Part). parts ps (opens c.parts.elements.items) (string_bytes c.parts.text)) none)
+    (at_reply (ap (λ (x : List ℕ). Completed (ok x)) (c.from_short_text.ensures ∙ c.in_ok-from_string.ensures)) completed))
+
+-- calls of procedures
+
+pub commands::call_procedure-returns-in_err-bindings-clause-runs : goal.commands::call_procedure-returns-in_err-bindings-clause-runs
+commands::call_procedure-returns-in_err-bindings-clause-runs g t c =
+    let p = err_from_is_err_and c.from_residual.result c.from_residual.ensures.1 in
+    fails_err c.from_residual.result c.in_err-bindings.field-0.0 p.0 _ _ _ p.1 p.2 c.in_err-bindings.ensures.refused
+    (λ e h q style at. call_too_long style c.args.procedure.now c.args.word.now c.args.args.now e (subst (λ (ps : List Parameter). TooLongBound (bindings ps c.args.args.now) e) c.parameters.ensures h)) (λ q style at. stopped)
+
+pub commands::call_procedure-returns-in_default-clause-runs : goal.commands::call_procedure-returns-in_default-clause-runs
+commands::call_procedure-returns-in_default-clause-runs g t c =
+    let none = rw c.in_default.is at c.in_ok-bindings.ensures.bound in
+    breaks c.wrong_form.result (λ e. e ≡ Completed (failing (wrong_args (proc_form c.args.word.now c.parameters-in_default.result.now)))) _
+    (λ e h q style at. call_unbound style c.args.procedure.now c.args.word.now c.args.args.now e (ap (λ (ps : List Parameter). bindings ps c.args.args.now) (sym c.parameters.ensures) ∙ none)
+    (h ∙ ap (λ (ps : List Parameter). Completed (failing (wrong_args (proc_form c.args.word.now ps)))) c.parameters-in_default.ensures)) (λ q style at. stopped) c.wrong_form.ensures
+
+pub commands::call_procedure-returns-in_err-words-clause-runs : goal.commands::call_procedure-returns-in_err-words-clause-runs
+commands::call_procedure-returns-in_err-words-clause-runs g t c =
+    let p = err_from_is_err_and c.from_residual-in_err-words.result c.from_residual-in_err-words.ensures.1 in
+    memory_err c.from_residual-in_err-words.result p.0 _ _ p.1 p.2 (λ q style at. stopped)
+
+pub commands::call_procedure-returns-in_err-body-clause-runs : goal.commands::call_procedure-returns-in_err-body-clause-runs
+commands::call_procedure-returns-in_err-body-clause-runs g t c =
+    let p = err_from_is_err_and c.from_residual-in_err-body.result c.from_residual-in_err-body.ensures.1 in
+    memory_err c.from_residual-in_err-body.result p.0 _ _ p.1 p.2 (λ q style at. stopped)
+
+pub commands::call_procedure-returns-in_err-enter_frame-clause-runs : goal.commands::call_procedure-returns-in_err-enter_frame-clause-runs
+commands::call_procedure-returns-in_err-enter_frame-clause-runs g t c =
+    let p = err_from_is_err_and c.from_residual-in_err-enter_frame.result c.from_residual-in_err-enter_frame.ensures.1 in
+    memory_err c.from_residual-in_err-enter_frame.result p.0 _ _ p.1 (p.2 ∙ c.in_err-enter_frame.ensures.memory) (λ q style at. stopped)
+
+pub commands::call_procedure-returns-clause-runs : goal.commands::call_procedure-returns-clause-runs
+commands::call_procedure-returns-clause-runs g t c =
+    let found = rw c.in-Some.is at c.in_ok-bindings.ensures.bound in
+    left_more c.eval_value-ended.result c.left_proc.result
+    (EndsAt (ways g.O.Outside.goes g.O.Outside.loses) c.enter_frame.new.tree c.args.outside.now c.args.place (λ style. script c.in_ok-body.body) c.eval_value-ended.new.tree c.eval_value-ended.new.outside)
+    (EndsFrom (ways g.O.Outside.goes g.O.Outside.loses) c.args.tree.now c.args.outside.now c.args.place (λ style. procedure c.args.procedure.now c.args.word.now c.args.args.now) c.leave_frame.new.tree c.eval_value-ended.new.outside)
+    c.eval_value-ended.ensures.runs c.left_proc.ensures
+    (λ e f h l q style at.
+    let n = stands (tree_of c.args.tree.now q) (tree_there c.args.tree.now q _ at.names) in
+    let here = still_at c.args.tree.now c.enter_frame.new.tree c.args.place q style (level_steady _ _ c.in_ok-enter_frame.ensures.level) at in
+    let after = still_at c.enter_frame.new.tree c.eval_value-ended.new.tree c.args.place q style c.eval_value-ended.ensures.steady here in
+    let m = stands (tree_of c.eval_value-ended.new.tree q) (tree_there c.eval_value-ended.new.tree q _ after.names) in
+    let entered = c.in_ok-enter_frame.ensures.entered q n.0 at.names n.1 in
+    let ws = c.in_ok-words.ensures in
+    let bs = c.as_slice.ensures.value in
+    call_runs style c.args.procedure.now c.args.word.now c.args.args.now (pairs_of c.in-Some.bindings.items) e f
+    (ap (λ (ps : List Parameter). bindings ps c.args.args.now) (sym c.parameters.ensures) ∙ found.0) found.1 n.1
+    (entered ∙ (λ i. effect q (Changed (in_frame (ws i) (pairs_of (bs i)) n.0.own)) (tree_of c.args.tree.now))) m.1 (c.leave_frame.ensures.left q m.0 after.names m.1)
+    (at_prog (ap script (sym (c.in_ok-body.ensures.cases ∙ c.body.ensures))) (h q style (record { names = here.names; style_is = here.style_is }))) l)
+
+pub commands::call-returns-in_default-clause-runs : goal.commands::call-returns-in_default-clause-runs
+commands::call-returns-in_default-clause-runs g t c = λ q style at.
+    at_prog (ap (called style) (no_item c.args.words.now c.in_default.len_below)) (at_reply (ap (λ (x : List ℕ). Completed (ok x)) c.empty.ensures) completed)
+
+pub commands::call-returns-in_err-command-clause-runs : goal.commands::call-returns-in_err-command-clause-runs
+commands::call-returns-in_err-command-clause-runs g t c =
+    let p = err_from_is_err_and c.from_residual.result c.from_residual.ensures.1 in
+    fails_err c.from_residual.result c.in_err-command.field-0.0 p.0 _ _ _ p.1 p.2
+    (Interrupts-at c.in_err-command.field-0.0 c.args.tree.now c.args.place (λ n e. IsFailure itself (found n c.word-item.result) e) c.in_err-command.ensures)
+    (λ e h q style at. let n = stands (tree_of c.args.tree.now q) (tree_there c.args.tree.now q _ at.names) in
+    at_prog (ap (called style) (split_first c.args.words.now c.word-item.result c.in-len1-up.len_at_least c.word-item.is))
+    (call_missing style c.word-item.result _ e n.1 (h q n.0 at.names n.1)))
+    (λ q style at. stopped)
+
+pub commands::call-returns-clause-runs : goal.commands::call-returns-clause-runs
+commands::call-returns-clause-runs g t c =
+    IfRan-more c.call_command.result
+    (EndsFrom (ways g.O.Outside.goes g.O.Outside.loses) c.args.tree.now c.args.outside.now c.args.place (λ style. dispatch style c.word-item.result (take (length c.args.words.now - 1) (drop 1 c.args.words.now)) invalid_command (Some c.in_ok-command.command)) c.call_command.new.tree c.call_command.new.outside)
+    (EndsFrom (ways g.O.Outside.goes g.O.Outside.loses) c.args.tree.now c.args.outside.now c.args.place (λ style. called style c.args.words.now) c.call_command.new.tree c.call_command.new.outside)
+    (λ e h q style at. let n = stands (tree_of c.args.tree.now q) (tree_there c.args.tree.now q _ at.names) in
+    at_prog (ap (called style) (split_first c.args.words.now c.word-item.result c.in-len1-up.len_at_least c.word-item.is))
+    (call_found style c.word-item.result _ c.in_ok-command.command n.1 (c.in_ok-command.ensures q n.0 at.names n.1) (h q style at))) c.call_command.ensures.runs
+
+pub control::catch-returns-in_default-clause-runs : goal.control::catch-returns-in_default-clause-runs
+control::catch-returns-in_default-clause-runs g t c =
+    breaks c.wrong_args.result _ _ (λ e h q style at. catch_none style c.args.args.now c.in_default.len_below h) (λ q style at. stopped) c.wrong_args.ensures
+
+pub control::catch-returns-then-names-gt2-clause-runs : goal.control::catch-returns-then-names-gt2-clause-runs
+control::catch-returns-then-names-gt2-clause-runs g t c =
+    let many = c.if-names-gt2.true in
+    breaks c.wrong_args-then-names-gt2.result _ _ (λ e h q style at.
+    at_prog (ap control_catch (split_first c.args.args.now c.script-item.result c.in-len1-up.len_at_least c.script-item.is))
+    (catch_many style c.script-item.result _ many h)) (λ q style at. stopped) c.wrong_args-then-names-gt2.ensures
+
+pub control::catch-returns-in_err-script-clause-runs : goal.control::catch-returns-in_err-script-clause-runs
+control::catch-returns-in_err-script-clause-runs g t c =
+    let p = err_from_is_err_and c.from_residual.result c.from_residual.ensures.1 in
+    memory_err c.from_residual.result p.0 _ _ p.1 p.2 (λ q style at. stopped)
+
+pub control::catch-returns-in_err-completion-clause-runs : goal.control::catch-returns-in_err-completion-clause-runs
+control::catch-returns-in_err-completion-clause-runs g t c =
+    let few = c.if-names-gt2.false in
+    let p = err_from_is_err_and c.from_residual-in_err-completion.result c.from_residual-in_err-completion.ensures.1 in
+    ran_err c.from_residual-in_err-completion.result c.in_err-completion.field-0.0 p.0 _ _ _ p.1 p.2
+    (caught_err c.eval_value.result c.caught.result c.in_err-completion.field-0.0 (EndsAt (ways g.O.Outside.goes g.O.Outside.loses) c.args.tree.now c.args.outside.now c.args.place (λ style. script c.in_ok-script.script) c.eval_value.new.tree c.eval_value.new.outside)
+    c.in_err-completion.was c.caught.ensures c.eval_value.ensures.runs)
+    (λ e h q style at.
+    at_prog (ap control_catch (split_first c.args.args.now c.script-item.result c.in-len1-up.len_at_least c.script-item.is))
+    (catch_passes style c.script-item.result _ (omega (arith, few)) h.1
+    (at_prog (ap script (sym c.in_ok-script.ensures.cases)) (h.0 q style (record { names = at.names; style_is = at.style_is })))))
+
+pub control::catch-returns-in_err-keep_caught-clause-runs : goal.control::catch-returns-in_err-keep_caught-clause-runs
+control::catch-returns-in_err-keep_caught-clause-runs g t c =
+    let few = c.if-names-gt2.false in
+    let p = err_from_is_err_and c.from_residual-in_err-keep_caught.result c.from_residual-in_err-keep_caught.ensures.1 in
+    let caught = caught_ok c.eval_value.result c.caught.result c.in_ok-completion.completion (EndsAt (ways g.O.Outside.goes g.O.Outside.loses) c.args.tree.now c.args.outside.now c.args.place (λ style. script c.in_ok-script.script) c.eval_value.new.tree c.eval_value.new.outside)
+    c.in_ok-completion.was c.caught.ensures c.eval_value.ensures.runs in
+    fails_err c.from_residual-in_err-keep_caught.result c.in_err-keep_caught.field-0.0 p.0 _ _ _ p.1 p.2 c.in_err-keep_caught.ensures.kept
+    (λ e h q style at.
+    let after = still_at _ _ c.args.place q style c.eval_value.ensures.steady at in
+    at_prog (ap control_catch (split_first c.args.args.now c.script-item.result c.in-len1-up.len_at_least c.script-item.is))
+    (catch_goes style c.script-item.result _ (completion_of c.in_ok-completion.completion) (omega (arith, few))
+    (at_prog (ap script (sym c.in_ok-script.ensures.cases)) (caught q style (record { names = at.names; style_is = at.style_is })))
+    (does_proceeds _ c.eval_value.new.outside (h q after.names _))))
+    (λ q style at.
+    at_prog (ap control_catch (split_first c.args.args.now c.script-item.result c.in-len1-up.len_at_least c.script-item.is))
+    (catch_goes style c.script-item.result _ (completion_of c.in_ok-completion.completion) (omega (arith, few))
+    (at_prog (ap script (sym c.in_ok-script.ensures.cases)) (caught q style (record { names = at.names; style_is = at.style_is }))) stopped))
+
+pub control::catch-returns-clause-runs : goal.control::catch-returns-clause-runs
+control::catch-returns-clause-runs g t c = λ q style at.
+    let few = c.if-names-gt2.false in
+    let caught = caught_ok c.eval_value.result c.caught.result c.in_ok-completion.completion (EndsAt (ways g.O.Outside.goes g.O.Outside.loses) c.args.tree.now c.args.outside.now c.args.place (λ style. script c.in_ok-script.script) c.eval_value.new.tree c.eval_value.new.outside)
+    c.in_ok-completion.was c.caught.ensures c.eval_value.ensures.runs in
+    let after = still_at _ _ c.args.place q style c.eval_value.ensures.steady at in
+    let code : c.from_int.result ≡ code_text (completion_of c.in_ok-completion.completion) = search rules in
+    at_prog (ap control_catch (split_first c.args.args.now c.script-item.result c.in-len1-up.len_at_least c.script-item.is))
+    (catch_goes style c.script-item.result _ (completion_of c.in_ok-completion.completion) (omega (arith, few))
+    (at_prog (ap script (sym c.in_ok-script.ensures.cases)) (caught q style (record { names = at.names; style_is = at.style_is })))
+    (does_proceeds _ c.eval_value.new.outside (c.in_ok-keep_caught.ensures.kept q after.names _ (tree_of c.keep_caught.new.tree) _ (refl, ap (λ (x : List ℕ). Completed (ok x)) code))))
+
+pub control::catch-returns-clause-steady : goal.control::catch-returns-clause-steady
+control::catch-returns-clause-steady g t c = steady-trans _ _ _ c.eval_value.ensures.steady (level_steady _ _ c.keep_caught.ensures.level)
+
+pub control::eval-returns-then-is_empty-clause-runs : goal.control::eval-returns-then-is_empty-clause-runs
+control::eval-returns-then-is_empty-clause-runs g t c =
+    let none = Steps.zero_is (length c.args.args.now) c.is_empty.result c.is_empty.ensures c.if-is_empty.true in
+    breaks c.wrong_args.result _ _ (λ e h q style at. eval_none style c.args.args.now (omega (arith, none)) h) (λ q style at. stopped) c.wrong_args.ensures
+
+pub control::eval-returns-in_err-script-clause-runs : goal.control::eval-returns-in_err-script-clause-runs
+control::eval-returns-in_err-script-clause-runs g t c =
+    let some = Steps.some_is (length c.args.args.now) c.is_empty.result c.is_empty.ensures c.if-is_empty.false in
+    let p = err_from_is_err_and c.from_residual.result c.from_residual.ensures.1 in
+    fails_err c.from_residual.result c.in_err-script.field-0.0 p.0 _ _ _ p.1 p.2 c.in_err-script.ensures.refused
+    (λ e h q style at. eval_long style c.args.args.now some h.0 h.1) (λ q style at. stopped)
+
+pub control::eval-returns-clause-runs : goal.control::eval-returns-clause-runs
+control::eval-returns-clause-runs g t c =
+    let some = Steps.some_is (length c.args.args.now) c.is_empty.result c.is_empty.ensures c.if-is_empty.false in
+    IfRan-more c.eval_value.result
+    (EndsAt (ways g.O.Outside.goes g.O.Outside.loses) c.args.tree.now c.args.outside.now c.args.place (λ style. script c.in_ok-script.script) c.eval_value.new.tree c.eval_value.new.outside)
+    (EndsFrom (ways g.O.Outside.goes g.O.Outside.loses) c.args.tree.now c.args.outside.now c.args.place (λ style. control_eval c.args.args.now) c.eval_value.new.tree c.eval_value.new.outside)
+    (λ e h q style at. eval_runs style c.args.args.now some c.in_ok-script.ensures.whole.1
+    (at_prog (ap script (sym c.in_ok-script.ensures.whole.0)) (h q style (record { names = at.names; style_is = at.style_is })))) c.eval_value.ensures.runs
+
+-- targets of aliases, and entries
+
+pub crossing::call_target-returns-in-Err-clause-runs : goal.crossing::call_target-returns-in-Err-clause-runs
+crossing::call_target-returns-in-Err-clause-runs g t c = breaks c.too_deep.result (λ e. e ≡ too_deep_at c.in-Err.levels) _ (λ e h q style at.
+    let no = c.in-Err.ensures.refused q at.names in target_refused style c.args.words.now c.in-Err.levels no.0 no.1 h) (λ q style at. stopped) c.too_deep.ensures
+
+pub crossing::call_target-call-ended-requires : goal.crossing::call_target-call-ended-requires
+crossing::call_target-call-ended-requires g t c κs within =
+    let p = c.requires.0 in
+    let names = c.requires.1 in
+    let free = c.in_default.ensures.nested p names in
+    let top = stands (tree_of c.args.tree.now []) (top_there c.args.tree.now) in
+    let fewer = less_room (tree_of c.args.tree.now) (tree_of c.nest_at.new.self) p top.0 top.1 (c.keeps_form.ensures.most [] top.0 top.1) free.0 free.1 in
+    (search rules, (search rules, (p, c.in_default.ensures.keys p ∙ names, begun_at c.args.tree.now c.nest_at.new.self c.args.place p names free.1)))
+
+pub crossing::call_target-unnest-requires : goal.crossing::call_target-unnest-requires
+crossing::call_target-unnest-requires g t c =
+    let p = c.requires.0 in
+    let names = c.requires.1 in
+    let free = c.in_default.ensures.nested p names in
+    (p, c.call-ended.ensures.steady.keys p _ (c.in_default.ensures.keys p ∙ names) (begun_at c.args.tree.now c.nest_at.new.self c.args.place p names free.1))
+
+pub crossing::call_target-returns-clause-runs : goal.crossing::call_target-returns-clause-runs
+crossing::call_target-returns-clause-runs g t c =
+    IfRan-more c.call-ended.result
+    (EndsFrom (ways g.O.Outside.goes g.O.Outside.loses) c.nest_at.new.self c.args.outside.now c.args.place (λ style. called style c.args.words.now) c.call-ended.new.tree c.call-ended.new.outside)
+    (EndsAt (ways g.O.Outside.goes g.O.Outside.loses) c.args.tree.now c.args.outside.now c.args.place (λ style. targeted c.args.words.now) c.unnest.new.self c.call-ended.new.outside)
+    (λ e h q style at.
+    let free = c.in_default.ensures.nested q at.names in
+    let running = begun_at c.args.tree.now c.nest_at.new.self c.args.place q at.names free.1 in
+    let names = c.in_default.ensures.keys q ∙ at.names in
+    target_ends style c.args.words.now free.0 free.1 (c.unnest.ensures.unnested q (c.call-ended.ensures.steady.keys q _ names running))
+    (h q style (record { names = names; style_is = ap (λ m. m.integers) c.in_default.ensures.marks ∙ at.style_is; running = running })))
+    c.call-ended.ensures.runs
+
+pub crossing::call_target-returns-clause-steady : goal.crossing::call_target-returns-clause-steady
+crossing::call_target-returns-clause-steady g t c =
+    let p = c.requires.0 in
+    let names = c.requires.1 in
+    let free = c.in_default.ensures.nested p names in
+    let running = begun_at c.args.tree.now c.nest_at.new.self c.args.place p names free.1 in
+    nested_steady c.args.tree.now c.nest_at.new.self c.call-ended.new.tree c.unnest.new.self p c.in_default.ensures.marks c.in_default.ensures.keys free.1 c.call-ended.ensures.steady
+    c.unnest.ensures.marks c.unnest.ensures.keys (c.unnest.ensures.unnested p (c.call-ended.ensures.steady.keys p _ (c.in_default.ensures.keys p ∙ names) running))
+
+-- what stays as it is
+
+pub evaluation::eval_command-eval_word-requires : goal.evaluation::eval_command-eval_word-requires
+evaluation::eval_command-eval_word-requires g t c κs within = (search rules, (search rules, still_running _ _ c.args.place c.words.invariant.steady c.requires.running))
+
+pub evaluation::eval_command-returns-in_err-text-clause-steady : goal.evaluation::eval_command-returns-in_err-text-clause-steady
+evaluation::eval_command-returns-in_err-text-clause-steady g t c = steady-trans _ _ _ c.words.invariant.steady c.eval_word.ensures.steady
+
+pub evaluation::eval_command-returns-in_err-spread-clause-steady : goal.evaluation::eval_command-returns-in_err-spread-clause-steady
+evaluation::eval_command-returns-in_err-spread-clause-steady g t c = steady-trans _ _ _ c.words.invariant.steady c.eval_word.ensures.steady
+
+pub evaluation::eval_command-call-requires : goal.evaluation::eval_command-call-requires
+evaluation::eval_command-call-requires g t c κs within = (search rules, (search rules, still_running _ _ c.args.place (steady-trans _ _ _ c.words.invariant.steady (level_steady _ _ c.charge.ensures.level)) c.requires.running))
+
+pub evaluation::eval_command-returns-clause-steady : goal.evaluation::eval_command-returns-clause-steady
+evaluation::eval_command-returns-clause-steady g t c = steady-trans _ _ _ c.words.invariant.steady (steady-trans _ _ _ (level_steady _ _ c.charge.ensures.level) c.call.ensures.steady)
+
+pub evaluation::eval_commands-returns-in_err-last-clause-steady : goal.evaluation::eval_commands-returns-in_err-last-clause-steady
+evaluation::eval_commands-returns-in_err-last-clause-steady g t c = steady-trans _ _ _ c.commands.invariant.steady c.eval_command.ensures.steady
+
+pub evaluation::substitute-eval_part-requires : goal.evaluation::substitute-eval_part-requires
+evaluation::substitute-eval_part-requires g t c κs within = (search rules, (search rules, (still_running _ _ c.args.place c.parts.invariant.steady c.requires.running, c.parts.invariant.short)))
+
+pub evaluation::substitute-returns-in_err-eval_part-clause-steady : goal.evaluation::substitute-returns-in_err-eval_part-clause-steady
+evaluation::substitute-returns-in_err-eval_part-clause-steady g t c = steady-trans _ _ _ c.parts.invariant.steady c.eval_part.ensures.steady
+
+-- calls for others
+
+pub commands::call_command-returns-in-Alias-clause-runs : goal.commands::call_command-returns-in-Alias-clause-runs
+commands::call_command-returns-in-Alias-clause-runs g t c =
+    IfRan-more c.call_alias.result
+    (EndsFrom (ways g.O.Outside.goes g.O.Outside.loses) c.args.tree.now c.args.outside.now c.args.place (λ style. alias_program c.in-Alias.alias c.args.word.now c.args.args.now) c.call_alias.new.tree c.call_alias.new.outside)
+    (EndsFrom (ways g.O.Outside.goes g.O.Outside.loses) c.args.tree.now c.args.outside.now c.args.place (λ style. dispatch style c.args.word.now c.args.args.now invalid_command (Some c.args.command.now)) c.call_alias.new.tree c.call_alias.new.outside)
+    (λ e h q style at. at_prog (ap (λ (x : Command). dispatch style c.args.word.now c.args.args.now invalid_command (Some x)) c.in-Alias.is) (h q style at)) c.call_alias.ensures.runs
+
+pub crossing::serve_call-returns-in_err-charge-clause-runs : goal.crossing::serve_call-returns-in_err-charge-clause-runs
+crossing::serve_call-returns-in_err-charge-clause-runs g t c =
+    let p = err_from_is_err_and c.from_residual-in_err-charge.result c.from_residual-in_err-charge.ensures.1 in
+    says_err c.from_residual-in_err-charge.result c.in_err-charge.field-0.0 p.0 _ _ _ p.1 p.2 c.in_err-charge.ensures.refused
+    (λ e h q style at. entry_stops style c.args.words.items (h q at.names))
+
+pub crossing::serve_call-returns-in_err-words-clause-runs : goal.crossing::serve_call-returns-in_err-words-clause-runs
+crossing::serve_call-returns-in_err-words-clause-runs g t c =
+    let p = err_from_is_err_and c.from_residual.result c.from_residual.ensures.1 in
+    memory_err c.from_residual.result p.0 _ _ p.1 p.2 (λ q style at. stopped)
+
+pub crossing::serve_call-returns-clause-runs : goal.crossing::serve_call-returns-clause-runs
+crossing::serve_call-returns-clause-runs g t c =
+    IfRan-more c.call_target.result
+    (EndsAt (ways g.O.Outside.goes g.O.Outside.loses) c.charge.new.tree c.charge.new.outside c.args.place (λ style. targeted c.as_slice.result.now) c.call_target.new.tree c.call_target.new.outside)
+    (EndsAt (ways g.O.Outside.goes g.O.Outside.loses) c.args.tree.now c.args.outside.now c.args.place (λ style. serve style (CallWords c.args.words.items)) c.call_target.new.tree c.call_target.new.outside)
+    (λ e h q style at.
+    let counts = c.in_ok-charge.ensures.counted q at.names in
+    entry_calls style c.args.words.items c.as_slice.result.now (search rules) counts
+    (h q style (record { names = c.charge.ensures.level.keys q ∙ at.names; style_is = ap (λ m. m.integers) c.charge.ensures.level.marks ∙ at.style_is }))) c.call_target.ensures.runs
+
+pub crossing::serve_eval-returns-clause-runs : goal.crossing::serve_eval-returns-clause-runs
+crossing::serve_eval-returns-clause-runs g t c =
+    settled_more c.eval_value-ended.result c.settled.result
+    (EndsAt (ways g.O.Outside.goes g.O.Outside.loses) c.args.tree.now c.args.outside.now c.args.place (λ style. script c.args.script.now) c.eval_value-ended.new.tree c.eval_value-ended.new.outside)
+    (EndsAt (ways g.O.Outside.goes g.O.Outside.loses) c.args.tree.now c.args.outside.now c.args.place (λ style. serve style (Eval c.args.script.now)) c.eval_value-ended.new.tree c.eval_value-ended.new.outside)
+    c.eval_value-ended.ensures.runs c.settled.ensures (λ e f h l q style at. entry_evaluates style c.args.script.now e f l (h q style at))
+
+-- hidden commands
+
+pub crossing::invoke-returns-in-Err-clause-runs : goal.crossing::invoke-returns-in-Err-clause-runs
+crossing::invoke-returns-in-Err-clause-runs g t c = breaks c.too_deep.result (λ e. e ≡ too_deep_at c.in-Err.levels) _ (λ e h q style at.
+    let no = c.in-Err.ensures.refused q at.names in unhidden_refused style c.args.words.now c.in-Err.levels no.0 no.1 h) (λ q style at. stopped) c.too_deep.ensures
+
+pub crossing::invoke-call_hidden-ended-requires : goal.crossing::invoke-call_hidden-ended-requires
+crossing::invoke-call_hidden-ended-requires g t c κs within =
+    let p = c.requires.0 in
+    let names = c.requires.1 in
+    let free = c.in_default.ensures.nested p names in
+    let top = stands (tree_of c.args.tree.now []) (top_there c.args.tree.now) in
+    let fewer = less_room (tree_of c.args.tree.now) (tree_of c.nest_at.new.self) p top.0 top.1 (c.keeps_form.ensures.most [] top.0 top.1) free.0 free.1 in
+    (search rules, (search rules, (p, c.in_default.ensures.keys p ∙ names, begun_at c.args.tree.now c.nest_at.new.self c.args.place p names free.1)))
+
+pub crossing::invoke-unnest-requires : goal.crossing::invoke-unnest-requires
+crossing::invoke-unnest-requires g t c =
+    let p = c.requires.0 in
+    let names = c.requires.1 in
+    let free = c.in_default.ensures.nested p names in
+    (p, c.call_hidden-ended.ensures.steady.keys p _ (c.in_default.ensures.keys p ∙ names) (begun_at c.args.tree.now c.nest_at.new.self c.args.place p names free.1))
+
+pub crossing::invoke-returns-clause-there : goal.crossing::invoke-returns-clause-there
+crossing::invoke-returns-clause-there g t c = λ p names.
+    let free = c.in_default.ensures.nested p names in
+    c.unnest.ensures.keys p ∙ c.call_hidden-ended.ensures.steady.keys p _ (c.in_default.ensures.keys p ∙ names) (begun_at c.args.tree.now c.nest_at.new.self c.args.place p names free.1)
+
+pub crossing::invoke-returns-clause-runs : goal.crossing::invoke-returns-clause-runs
+crossing::invoke-returns-clause-runs g t c =
+    IfRan-more c.call_hidden-ended.result
+    (EndsFrom (ways g.O.Outside.goes g.O.Outside.loses) c.nest_at.new.self c.args.outside.now c.args.place (λ style. invoked style c.args.words.now) c.call_hidden-ended.new.tree c.call_hidden-ended.new.outside)
+    (EndsAt (ways g.O.Outside.goes g.O.Outside.loses) c.args.tree.now c.args.outside.now c.args.place (λ style. unhidden c.args.words.now) c.unnest.new.self c.call_hidden-ended.new.outside)
+    (λ e h q style at.
+    let free = c.in_default.ensures.nested q at.names in
+    let running = begun_at c.args.tree.now c.nest_at.new.self c.args.place q at.names free.1 in
+    let names = c.in_default.ensures.keys q ∙ at.names in
+    unhidden_ends style c.args.words.now free.0 free.1 (c.unnest.ensures.unnested q (c.call_hidden-ended.ensures.steady.keys q _ names running))
+    (h q style (record { names = names; style_is = ap (λ m. m.integers) c.in_default.ensures.marks ∙ at.style_is; running = running })))
+    c.call_hidden-ended.ensures.runs
+
+pub crossing::invoke-returns-clause-steady : goal.crossing::invoke-returns-clause-steady
+crossing::invoke-returns-clause-steady g t c =
+    let p = c.requires.0 in
+    let names = c.requires.1 in
+    let free = c.in_default.ensures.nested p names in
+    let running = begun_at c.args.tree.now c.nest_at.new.self c.args.place p names free.1 in
+    nested_steady c.args.tree.now c.nest_at.new.self c.call_hidden-ended.new.tree c.unnest.new.self p c.in_default.ensures.marks c.in_default.ensures.keys free.1 c.call_hidden-ended.ensures.steady
+    c.unnest.ensures.marks c.unnest.ensures.keys (c.unnest.ensures.unnested p (c.call_hidden-ended.ensures.steady.keys p _ (c.in_default.ensures.keys p ∙ names) running))
+
+pub commands::call_hidden-returns-in_default-clause-runs : goal.commands::call_hidden-returns-in_default-clause-runs
+commands::call_hidden-returns-in_default-clause-runs g t c = λ q style at.
+    at_prog (ap (invoked style) (no_item c.args.words.now c.in_default.len_below)) (at_reply (ap (λ (x : List ℕ). Completed (ok x)) c.empty.ensures) completed)
+
+pub commands::call_hidden-returns-in_err-command-clause-runs : goal.commands::call_hidden-returns-in_err-command-clause-runs
+commands::call_hidden-returns-in_err-command-clause-runs g t c =
+    let p = err_from_is_err_and c.from_residual.result c.from_residual.ensures.1 in
+    fails_err c.from_residual.result c.in_err-command.field-0.0 p.0 _ _ _ p.1 p.2
+    (Interrupts-at c.in_err-command.field-0.0 c.args.tree.now c.args.place (λ n e. IsFailure itself (hidden_found n c.word-item.result) e) c.in_err-command.ensures)
+    (λ e h q style at. let n = stands (tree_of c.args.tree.now q) (tree_there c.args.tree.now q _ at.names) in
+    at_prog (ap (invoked style) (split_first c.args.words.now c.word-item.result c.in-len1-up.len_at_least c.word-item.is))
+    (invoke_missing style c.word-item.result _ e n.1 (h q n.0 at.names n.1)))
+    (λ q style at. stopped)
+
+pub commands::call_hidden-returns-clause-runs : goal.commands::call_hidden-returns-clause-runs
+commands::call_hidden-returns-clause-runs g t c =
+    IfRan-more c.call_command.result
+    (EndsFrom (ways g.O.Outside.goes g.O.Outside.loses) c.args.tree.now c.args.outside.now c.args.place (λ style. dispatch style c.word-item.result (take (length c.args.words.now - 1) (drop 1 c.args.words.now)) invalid_command (Some c.in_ok-command.command)) c.call_command.new.tree c.call_command.new.outside)
+    (EndsFrom (ways g.O.Outside.goes g.O.Outside.loses) c.args.tree.now c.args.outside.now c.args.place (λ style. invoked style c.args.words.now) c.call_command.new.tree c.call_command.new.outside)
+    (λ e h q style at. let n = stands (tree_of c.args.tree.now q) (tree_there c.args.tree.now q _ at.names) in
+    at_prog (ap (invoked style) (split_first c.args.words.now c.word-item.result c.in-len1-up.len_at_least c.word-item.is))
+    (invoke_found style c.word-item.result _ c.in_ok-command.command n.1 (c.in_ok-command.ensures q n.0 at.names n.1) (at_prog (same_dispatch style c.word-item.result _ c.in_ok-command.command) (h q style at)))) c.call_command.ensures.runs
+
+pub crossing::serve_hidden-returns-in_err-charge-clause-runs : goal.crossing::serve_hidden-returns-in_err-charge-clause-runs
+crossing::serve_hidden-returns-in_err-charge-clause-runs g t c =
+    let p = err_from_is_err_and c.from_residual-in_err-charge.result c.from_residual-in_err-charge.ensures.1 in
+    says_err c.from_residual-in_err-charge.result c.in_err-charge.field-0.0 p.0 _ _ _ p.1 p.2 c.in_err-charge.ensures.refused
+    (λ e h q style at. hidden_stops style c.args.is_global c.args.words.items (h q at.names))
+
+pub crossing::serve_hidden-returns-in_err-words-clause-runs : goal.crossing::serve_hidden-returns-in_err-words-clause-runs
+crossing::serve_hidden-returns-in_err-words-clause-runs g t c =
+    let p = err_from_is_err_and c.from_residual.result c.from_residual.ensures.1 in
+    memory_err c.from_residual.result p.0 _ _ p.1 p.2 (λ q style at. stopped)
+
+pub crossing::serve_hidden-returns-clause-runs : goal.crossing::serve_hidden-returns-clause-runs
+crossing::serve_hidden-returns-clause-runs g t c =
+    settled_more c.invoke_at-ended.result c.settled.result
+    (λ e. (p : Path) (style : Integers) → IsThere c.charge.new.tree c.args.place p style → GoesOn (ways g.O.Outside.goes g.O.Outside.loses) style (tree_of c.charge.new.tree) c.charge.new.outside p (invokes_at c.args.is_global c.as_slice.result.now) (tree_of c.invoke_at-ended.new.tree) c.invoke_at-ended.new.outside e)
+    (EndsAt (ways g.O.Outside.goes g.O.Outside.loses) c.args.tree.now c.args.outside.now c.args.place (λ style. serve style (InvokeHidden c.args.is_global c.args.words.items)) c.invoke_at-ended.new.tree c.invoke_at-ended.new.outside)
+    c.invoke_at-ended.ensures.runs c.settled.ensures
+    (λ e f h l q style at.
+    let counts = c.in_ok-charge.ensures.counted q at.names in
+    hidden_settles style c.args.is_global c.args.words.items c.as_slice.result.now e f (search rules) counts l
+    (h q style (record { names = c.charge.ensures.level.keys q ∙ at.names; style_is = ap (λ m. m.integers) c.charge.ensures.level.marks ∙ at.style_is })))
+
+pub crossing::invoke_at-returns-then-not-is_global-clause-runs : goal.crossing::invoke_at-returns-then-not-is_global-clause-runs
+crossing::invoke_at-returns-then-not-is_global-clause-runs g t c =
+    let here : c.args.is_global ≡ false = search rules in
+    IfRan-more c.invoke.result (EndsAt (ways g.O.Outside.goes g.O.Outside.loses) c.args.tree.now c.args.outside.now c.args.place (λ style. unhidden c.args.words.now) c.invoke.new.tree c.invoke.new.outside)
+    (λ e. (p : Path) (style : Integers) → IsThere c.args.tree.now c.args.place p style → GoesOn (ways g.O.Outside.goes g.O.Outside.loses) style (tree_of c.args.tree.now) c.args.outside.now p (invokes_at c.args.is_global c.args.words.now) (tree_of c.invoke.new.tree) c.invoke.new.outside e)
+    (λ e h q style at. invokes_here style c.args.is_global c.args.words.now e here (h q style at)) c.invoke.ensures.runs
+
+pub crossing::invoke_at-returns-in_err-set_aside-clause-runs : goal.crossing::invoke_at-returns-in_err-set_aside-clause-runs
+crossing::invoke_at-returns-in_err-set_aside-clause-runs g t c =
+    let p = err_from_is_err_and c.from_residual.result c.from_residual.ensures.1 in
+    memory_err c.from_residual.result p.0 _ _ p.1 (p.2 ∙ c.in_err-set_aside.ensures.memory) (λ q style at k. stopped)
+
+pub crossing::invoke_at-returns-clause-runs : goal.crossing::invoke_at-returns-clause-runs
+crossing::invoke_at-returns-clause-runs g t c =
+    let yes : c.args.is_global ≡ true = search rules in
+    IfRan-more c.invoke-ended.result (EndsAt (ways g.O.Outside.goes g.O.Outside.loses) c.set_aside.new.tree c.args.outside.now c.args.place (λ style. unhidden c.args.words.now) c.invoke-ended.new.tree c.invoke-ended.new.outside)
+    (λ e. (p : Path) (style : Integers) → IsThere c.args.tree.now c.args.place p style → GoesOn (ways g.O.Outside.goes g.O.Outside.loses) style (tree_of c.args.tree.now) c.args.outside.now p (invokes_at c.args.is_global c.args.words.now) (tree_of c.bring_back.new.tree) c.invoke-ended.new.outside e)
+    (λ e h q style at.
+    let n = stands (tree_of c.args.tree.now q) (tree_there c.args.tree.now q _ at.names) in
+    let names = c.set_aside.ensures.level.keys q ∙ at.names in
+    let after = c.invoke-ended.ensures.there q names in
+    let m = stands (tree_of c.invoke-ended.new.tree q) (tree_there c.invoke-ended.new.tree q _ after) in
+    invokes_global style (tree_of c.args.tree.now) c.args.is_global c.args.words.now e yes n.1 (c.in_ok-set_aside.ensures.aside q n.0 at.names n.1) m.1 (c.bring_back.ensures.back q m.0 after m.1)
+    (h q style (record { names = names; style_is = ap (λ m. m.integers) c.set_aside.ensures.level.marks ∙ at.style_is }))) c.invoke-ended.ensures.runs
+
+-- interp eval
+
+pub interpreters::interp_eval-returns-in_default-clause-runs : goal.interpreters::interp_eval-returns-in_default-clause-runs
+interpreters::interp_eval-returns-in_default-clause-runs g t c =
+    let few = c.in_default.len_below in
+    breaks c.wrong_args.result _ _ (λ e h q style at. at_prog (eval_few c.args.args.now (omega (arith, few))) (at_reply h completed)) (λ q style at. stopped) c.wrong_args.ensures
+
+pub interpreters::interp_eval-returns-then-is_empty-clause-runs : goal.interpreters::interp_eval-returns-then-is_empty-clause-runs
+interpreters::interp_eval-returns-then-is_empty-clause-runs g t c =
+    let none = Steps.zero_is (length (take (length c.args.args.now - 1) (drop 1 c.args.args.now))) c.is_empty.result c.is_empty.ensures c.if-is_empty.true in
+    let one = ap length (split_first c.args.args.now c.path-item.result c.in-len1-up.len_at_least c.path-item.is) in
+    breaks c.wrong_args-then-is_empty.result _ _ (λ e h q style at. at_prog (eval_few c.args.args.now (omega (arith, none, one))) (at_reply h completed)) (λ q style at. stopped) c.wrong_args-then-is_empty.ensures
+
+pub interpreters::interp_eval-returns-in_err-found-clause-runs : goal.interpreters::interp_eval-returns-in_err-found-clause-runs
+interpreters::interp_eval-returns-in_err-found-clause-runs g t c =
+    let words = take (length c.args.args.now - 1) (drop 1 c.args.args.now) in
+    let some = Steps.some_is (length words) c.is_empty.result c.is_empty.ensures c.if-is_empty.false in
+    let is = eval_is c.args.args.now c.path-item.result words (split_first c.args.args.now c.path-item.result c.in-len1-up.len_at_least c.path-item.is) some in
+    let p = err_from_is_err_and c.from_residual.result c.from_residual.ensures.1 in
+    proceeds_as (ways g.O.Outside.goes g.O.Outside.loses) c.args.tree.now c.args.tree.now c.args.outside.now c.args.outside.now c.args.place (λ style. interp_evals c.args.args.now) (λ style. at_path c.path-item.result (λ q n. evals words q style)) c.from_residual.result (λ style. is)
+    (passes_proceeds (ways g.O.Outside.goes g.O.Outside.loses) c.args.tree.now c.args.outside.now c.args.place (λ style. at_path c.path-item.result (λ q n. evals words q style)) c.from_residual.result c.in_err-found.field-0.0 p.0 p.1 p.2
+    (Interrupts-more c.in_err-found.field-0.0 _ (GetsToEnd c.args.tree.now c.args.place (λ style. at_path c.path-item.result (λ q n. evals words q style))) (λ e f. f (evals words)) c.in_err-found.ensures.read))
+
+pub interpreters::interp_eval-returns-in_err-script-clause-runs : goal.interpreters::interp_eval-returns-in_err-script-clause-runs
+interpreters::interp_eval-returns-in_err-script-clause-runs g t c =
+    let words = take (length c.args.args.now - 1) (drop 1 c.args.args.now) in
+    let some = Steps.some_is (length words) c.is_empty.result c.is_empty.ensures c.if-is_empty.false in
+    let is = eval_is c.args.args.now c.path-item.result words (split_first c.args.args.now c.path-item.result c.in-len1-up.len_at_least c.path-item.is) some in
+    let p = err_from_is_err_and c.from_residual-in_err-script.result c.from_residual-in_err-script.ensures.1 in
+    fails_err c.from_residual-in_err-script.result c.in_err-script.field-0.0 p.0 _ _ _ p.1 p.2 c.in_err-script.ensures.refused
+    (λ e h q style at. at_prog is (looks_proceed (c.in_ok-found.ensures.read (evals words) q style (record { names = at.names; style_is = at.style_is }))
+    (outgrows (concat words) (λ script. asks_at c.in_ok-found.found.path.items (Eval script) done) h.0 h.1))) (λ q style at. stopped)
+
+pub interpreters::interp_eval-returns-clause-runs : goal.interpreters::interp_eval-returns-clause-runs
+interpreters::interp_eval-returns-clause-runs g t c =
+    let words = take (length c.args.args.now - 1) (drop 1 c.args.args.now) in
+    let some = Steps.some_is (length words) c.is_empty.result c.is_empty.ensures c.if-is_empty.false in
+    let is = eval_is c.args.args.now c.path-item.result words (split_first c.args.args.now c.path-item.result c.in-len1-up.len_at_least c.path-item.is) some in
+    IfRan-more c.ask_entry.result
+    (λ e. (p : Path) (style : Integers) → IsAt c.args.tree.now c.args.place p style → GoesOn (ways g.O.Outside.goes g.O.Outside.loses) style (tree_of c.args.tree.now) c.args.outside.now p (asks_at c.as_slice.result.now (Eval c.in_ok-script.script)) (tree_of c.ask_entry.new.tree) c.ask_entry.new.outside e)
+    (EndsFrom (ways g.O.Outside.goes g.O.Outside.loses) c.args.tree.now c.args.outside.now c.args.place (λ style. interp_evals c.args.args.now) c.ask_entry.new.tree c.ask_entry.new.outside)
+    (λ e h q style at. at_prog is (looks_proceed (c.in_ok-found.ensures.read (evals words) q style (record { names = at.names; style_is = at.style_is }))
+    (grows (concat words) (λ script. asks_at c.in_ok-found.found.path.items (Eval script) done) c.in_ok-script.ensures.whole.1
+    (at_prog (ap (λ (x : Path). asks_at x (Eval (concat words)) done) (sym c.as_slice.ensures.value) ∙ ap (λ (x : List ℕ). asks_at c.as_slice.result.now (Eval x) done) (sym c.in_ok-script.ensures.whole.0))
+    (done_on (ways g.O.Outside.goes g.O.Outside.loses) style (asks_at c.as_slice.result.now (Eval c.in_ok-script.script)) e (h q style at)))))) c.ask_entry.ensures.asks
+
+-- # Expressions, and the commands with conditions
+
+pub expressions::expression-returns-in_err-word-clause-runs : goal.expressions::expression-returns-in_err-word-clause-runs
+expressions::expression-returns-in_err-word-clause-runs g t c =
+    let p = err_from_is_err_and c.from_residual.result c.from_residual.ensures.1 in
+    fails_err c.from_residual.result c.in_err-word.field-0.0 p.0 _ _ _ p.1 p.2 c.in_err-word.ensures.gives
+    (λ e h q style at text is.
+    let same = c.integers-style.ensures ∙ at.style_is in
+    c.parts.invariant.leads q style at text is _ _ _
+    (Conditions.is_refused style _ (settles style) e (subst (λ (s : Integers). IsRefused (from s c.args.kept.now.nodes.items c.parts.evaluation.next c.parts.evaluation.values.items) e) same h)))
+    (λ q style at text is. c.parts.invariant.leads q style at text is _ _ _ stopped)
+
+pub expressions::expression-returns-in_err-value-in-Wants-clause-runs : goal.expressions::expression-returns-in_err-value-in-Wants-clause-runs
+expressions::expression-returns-in_err-value-in-Wants-clause-runs g t c =
+    let wants : from c.integers-style.result c.args.kept.now.nodes.items c.parts.evaluation.next c.parts.evaluation.values.items
+    ≡ substitute c.in-Wants.word.now (λ v. from c.integers-style.result c.args.kept.now.nodes.items c.next_part.new.evaluation.next (c.next_part.new.evaluation.values.items ++ v ∷ [])) = search rules in
+    let p = err_from_is_err_and c.from_residual-in_err-value-in-Wants.result c.from_residual-in_err-value-in-Wants.ensures.1 in
+    ran_err c.from_residual-in_err-value-in-Wants.result c.in_err-value-in-Wants.field-0.0 p.0 _ _ _ p.1 p.2
+    (stays_of c.eval_word.result c.in_err-value-in-Wants.field-0.0 (EndsFrom (ways g.O.Outside.goes g.O.Outside.loses) c.parts.tree c.parts.outside c.args.place (λ style. parts c.in-Wants.word.now.parts [] []) c.eval_word.new.tree c.eval_word.new.outside)
+    c.in_err-value-in-Wants.ensures.same c.eval_word.ensures.runs c.in_err-value-in-Wants.ensures.stays)
+    (λ e h q style at text is.
+    let same = c.integers-style.ensures ∙ at.style_is in
+    c.parts.invariant.leads q style at text is _ _ _
+    (Conditions.wants_part style c.integers-style.result c.args.kept.now.nodes.items c.parts.evaluation.next c.next_part.new.evaluation.next c.parts.evaluation.values.items c.next_part.new.evaluation.values.items c.in-Wants.word.now same wants
+    (Conditions.part_stays style c.in-Wants.word.now (λ v. from style c.args.kept.now.nodes.items c.next_part.new.evaluation.next (c.next_part.new.evaluation.values.items ++ v ∷ [])) (settles style) e h.1 (h.0 q style (still_at _ _ c.args.place q style c.parts.invariant.steady at)))))
+
+pub expressions::expression-returns-in_err-supply-in-Wants-clause-runs : goal.expressions::expression-returns-in_err-supply-in-Wants-clause-runs
+expressions::expression-returns-in_err-supply-in-Wants-clause-runs g t c =
+    let wants : from c.integers-style.result c.args.kept.now.nodes.items c.parts.evaluation.next c.parts.evaluation.values.items
+    ≡ substitute c.in-Wants.word.now (λ v. from c.integers-style.result c.args.kept.now.nodes.items c.next_part.new.evaluation.next (c.next_part.new.evaluation.values.items ++ v ∷ [])) = search rules in
+    let x = ran_text c.eval_word.result c.in_ok-value-in-Wants.value (EndsFrom (ways g.O.Outside.goes g.O.Outside.loses) c.parts.tree c.parts.outside c.args.place (λ style. parts c.in-Wants.word.now.parts [] []) c.eval_word.new.tree c.eval_word.new.outside)
+    c.in_ok-value-in-Wants.ensures.text c.eval_word.ensures.runs in
+    let p = err_from_is_err_and c.from_residual-in_err-supply-in-Wants.result c.from_residual-in_err-supply-in-Wants.ensures.1 in
+    memory_err c.from_residual-in_err-supply-in-Wants.result p.0 _ _ p.1 p.2
+    (λ q style at text is.
+    let same = c.integers-style.ensures ∙ at.style_is in
+    c.parts.invariant.leads q style at text is _ _ _
+    (Conditions.wants_part style c.integers-style.result c.args.kept.now.nodes.items c.parts.evaluation.next c.next_part.new.evaluation.next c.parts.evaluation.values.items c.next_part.new.evaluation.values.items c.in-Wants.word.now same wants
+    (Conditions.part_goes style c.in-Wants.word.now (λ v. from style c.args.kept.now.nodes.items c.next_part.new.evaluation.next (c.next_part.new.evaluation.values.items ++ v ∷ [])) (settles style) x.0 c.in_ok-value-in-Wants.value x.2 x.3 (x.1 q style (still_at _ _ c.args.place q style c.parts.invariant.steady at))
+    stopped)))
+
+pub expressions::expression-returns-in-Done-clause-runs : goal.expressions::expression-returns-in-Done-clause-runs
+expressions::expression-returns-in-Done-clause-runs g t c =
+    let gives : from c.integers-style.result c.args.kept.now.nodes.items c.parts.evaluation.next c.parts.evaluation.values.items ≡ value c.in-Done.value = search rules in
+    ran c.settle.result (EndsBy (settles c.integers-style.result c.in-Done.value)) (ComputesTo (ways g.O.Outside.goes g.O.Outside.loses) c.args.tree.now c.args.outside.now c.args.place c.args.kept.now c.parts.tree c.parts.outside)
+    (λ e h q style at text is.
+    let same = c.integers-style.ensures ∙ at.style_is in
+    c.parts.invariant.leads q style at text is _ _ _
+    (Conditions.is_value style c.integers-style.result c.args.kept.now.nodes.items c.parts.evaluation.next c.parts.evaluation.values.items c.in-Done.value e same gives h))
+    (λ q style at text is. c.parts.invariant.leads q style at text is _ _ _ stopped) c.settle.ensures
+
+pub expressions::expression-parts-preserved : goal.expressions::expression-parts-preserved
+expressions::expression-parts-preserved g t c =
+    let wants : from c.integers-style.result c.args.kept.now.nodes.items c.parts.evaluation.next c.parts.evaluation.values.items
+    ≡ substitute c.in-Wants.word.now (λ v. from c.integers-style.result c.args.kept.now.nodes.items c.next_part.new.evaluation.next (c.next_part.new.evaluation.values.items ++ v ∷ [])) = search rules in
+    let x = ran_text c.eval_word.result c.in_ok-value-in-Wants.value (EndsFrom (ways g.O.Outside.goes g.O.Outside.loses) c.parts.tree c.parts.outside c.args.place (λ style. parts c.in-Wants.word.now.parts [] []) c.eval_word.new.tree c.eval_word.new.outside)
+    c.in_ok-value-in-Wants.ensures.text c.eval_word.ensures.runs in
+    record {
+      leads = λ q style at text is V z r run.
+          let same = c.integers-style.ensures ∙ at.style_is in
+          c.parts.invariant.leads q style at text is _ _ _
+          (Conditions.wants_part style c.integers-style.result c.args.kept.now.nodes.items c.parts.evaluation.next c.next_part.new.evaluation.next c.parts.evaluation.values.items c.next_part.new.evaluation.values.items c.in-Wants.word.now same wants
+          (Conditions.part_goes style c.in-Wants.word.now (λ v. from style c.args.kept.now.nodes.items c.next_part.new.evaluation.next (c.next_part.new.evaluation.values.items ++ v ∷ [])) (settles style) x.0 c.in_ok-value-in-Wants.value x.2 x.3 (x.1 q style (still_at _ _ c.args.place q style c.parts.invariant.steady at))
+          (at_prog (λ i. computed (from style c.args.kept.now.nodes.items (sym c.in_ok-supply-in-Wants.ensures.next i) (sym c.in_ok-supply-in-Wants.ensures.values i)) (settles style)) run)));
+      steady = steady-trans _ _ _ c.parts.invariant.steady c.eval_word.ensures.steady;
+      left = let a = c.eval_word.ensures.left in let b = c.parts.invariant.left in omega arith;
+    }
+
+pub expressions::condition-returns-in_err-value-clause-runs : goal.expressions::condition-returns-in_err-value-clause-runs
+expressions::condition-returns-in_err-value-clause-runs g t c =
+    let p = err_from_is_err_and c.from_residual.result c.from_residual.ensures.1 in
+    ran_err c.from_residual.result c.in_err-value.field-0.0 p.0 _ _ _ p.1 p.2
+    (stays_of c.expression.result c.in_err-value.field-0.0 (ComputesTo (ways g.O.Outside.goes g.O.Outside.loses) c.args.tree.now c.args.outside.now c.args.place c.args.test.now c.expression.new.tree c.expression.new.outside)
+    c.in_err-value.ensures.same c.expression.ensures.runs c.in_err-value.ensures.stays)
+    (λ e h q style at text is k. Conditions.test_stays style text k e h.1 (h.0 q style at text is))
+
+pub expressions::condition-returns-clause-runs : goal.expressions::condition-returns-clause-runs
+expressions::condition-returns-clause-runs g t c =
+    let x = ran_text c.expression.result c.in_ok-value.value (ComputesTo (ways g.O.Outside.goes g.O.Outside.loses) c.args.tree.now c.args.outside.now c.args.place c.args.test.now c.expression.new.tree c.expression.new.outside) c.in_ok-value.ensures.text c.expression.ensures.runs in
+    Conditions.tested (truth c.integers-style.result c.in_ok-value.value) c.holds.result _ _ c.holds.ensures
+    (λ b h q style at text is k V y r run.
+    let same = c.integers-style.ensures ∙ at.style_is in
+    Conditions.test_goes style text k x.0 c.in_ok-value.value b x.2 x.3 (ap (λ (s : Integers). truth s c.in_ok-value.value) (sym same) ∙ h) (x.1 q style at text is) run)
+    (λ e h q style at text is k.
+    let same = c.integers-style.ensures ∙ at.style_is in
+    Conditions.test_refused style text k x.0 c.in_ok-value.value e x.2 x.3 (subst (λ (s : Integers). IsFailure operator_message (truth s c.in_ok-value.value) e) same h) (x.1 q style at text is))
+    (λ q style at text is k. Conditions.test_stopped style text k x.0 c.in_ok-value.value x.2 x.3 (x.1 q style at text is))
+
+pub expressions::expr-returns-then-is_empty-clause-runs : goal.expressions::expr-returns-then-is_empty-clause-runs
+expressions::expr-returns-then-is_empty-clause-runs g t c =
+    let none = Steps.zero_is (length c.args.args.now) c.is_empty.result c.is_empty.ensures c.if-is_empty.true in
+    breaks c.wrong_args.result _ _ (λ e h q style at. Conditions.expr_none style c.args.args.now (omega (arith, none)) h) (λ q style at. stopped) c.wrong_args.ensures
+
+pub expressions::expr-returns-in_err-text-clause-runs : goal.expressions::expr-returns-in_err-text-clause-runs
+expressions::expr-returns-in_err-text-clause-runs g t c =
+    let some = Steps.some_is (length c.args.args.now) c.is_empty.result c.is_empty.ensures c.if-is_empty.false in
+    let p = err_from_is_err_and c.from_residual.result c.from_residual.ensures.1 in
+    fails_err c.from_residual.result c.in_err-text.field-0.0 p.0 _ _ _ p.1 p.2 c.in_err-text.ensures.refused
+    (λ e h q style at. Conditions.expr_long style c.args.args.now some h.0 h.1)
+    (λ q style at. stopped)
+
+pub expressions::expr-returns-in_err-kept-clause-runs : goal.expressions::expr-returns-in_err-kept-clause-runs
+expressions::expr-returns-in_err-kept-clause-runs g t c =
+    let some = Steps.some_is (length c.args.args.now) c.is_empty.result c.is_empty.ensures c.if-is_empty.false in
+    let p = err_from_is_err_and c.from_residual-in_err-kept.result c.from_residual-in_err-kept.ensures.1 in
+    fails_err c.from_residual-in_err-kept.result c.in_err-kept.field-0.0 p.0 _ _ _ p.1 p.2 c.in_err-kept.ensures.refused
+    (λ e h q style at.
+    let same = c.integers.ensures ∙ at.style_is in
+    Conditions.expr_runs style c.args.args.now some c.in_ok-text.ensures.whole.1
+    (at_prog (ap (expression style) (sym c.in_ok-text.ensures.whole.0)) (Conditions.misread style c.in_ok-text.text e (Conditions.misread_in c.integers.result style c.in_ok-text.text e same h))))
+    (λ q style at. stopped)
+
+pub expressions::expr-returns-clause-runs : goal.expressions::expr-returns-clause-runs
+expressions::expr-returns-clause-runs g t c =
+    let some = Steps.some_is (length c.args.args.now) c.is_empty.result c.is_empty.ensures c.if-is_empty.false in
+    IfRan-more c.expression.result (ComputesTo (ways g.O.Outside.goes g.O.Outside.loses) c.args.tree.now c.args.outside.now c.args.place c.deref.result.now c.expression.new.tree c.expression.new.outside)
+    (EndsFrom (ways g.O.Outside.goes g.O.Outside.loses) c.args.tree.now c.args.outside.now c.args.place (λ style. expr c.args.args.now) c.expression.new.tree c.expression.new.outside)
+    (λ e h q style at.
+    let same = c.integers.ensures ∙ at.style_is in
+    Conditions.expr_runs style c.args.args.now some c.in_ok-text.ensures.whole.1
+    (at_prog (ap (expression style) (sym c.in_ok-text.ensures.whole.0)) (h q style at c.in_ok-text.text (Conditions.kept_behind c.integers.result style c.in_ok-text.text c.in_ok-kept.kept.value c.deref.result.now c.deref.ensures same c.in_ok-kept.ensures.read)))) c.expression.ensures.runs
+
+-- if
+
+pub expressions::if_first-returns-in_err-branches-clause-runs : goal.expressions::if_first-returns-in_err-branches-clause-runs
+expressions::if_first-returns-in_err-branches-clause-runs g t c =
+    let p = err_from_is_err_and c.from_residual.result c.from_residual.ensures.1 in
+    memory_err c.from_residual.result p.0 _ _ p.1 p.2
+    (λ q style at. stopped)
+
+pub expressions::if_first-returns-in_default-clause-runs : goal.expressions::if_first-returns-in_default-clause-runs
+expressions::if_first-returns-in_default-clause-runs g t c =
+    let none : branches_of c.args.args.now ≡ None = search rules in
+    breaks c.wrong_args.result _ _ (λ e h q style at. Conditions.if_none style c.args.args.now none h) (λ q style at. stopped) c.wrong_args.ensures
+
+pub expressions::if_first-tests-init : goal.expressions::if_first-tests-init
+expressions::if_first-tests-init g t c =
+    let some : branches_of c.args.args.now ≡ Some (seen c.in-Some.branches) = search rules in
+    record {
+      leads = λ q style at V z r run. Conditions.if_begins style c.args.args.now (seen c.in-Some.branches) some (at_prog (ap (λ (bs : List Branch). first_true style (tests_of bs) (option_copied c.in-Some.branches.last)) (sym c.deref-branch-items.ensures.value)) run);
+      steady = steady-refl _;
+      left = search rules;
+    }
+
+pub expressions::if_first-returns-in_err-test-clause-runs : goal.expressions::if_first-returns-in_err-test-clause-runs
+expressions::if_first-returns-in_err-test-clause-runs g t c =
+    let item = item_on c.deref-branch-items.result.now c.tests.branch-index c.branch-item.result c.tests-test.true c.branch-item.is in
+    let p = err_from_is_err_and c.from_residual-in_err-test.result c.from_residual-in_err-test.ensures.1 in
+    fails_err c.from_residual-in_err-test.result c.in_err-test.field-0.0 p.0 _ _ _ p.1 p.2 c.in_err-test.ensures.refused
+    (λ e h q style at.
+    let here = still_at _ _ c.args.place q style c.tests.invariant.steady at in
+    let same = c.integers.ensures ∙ here.style_is in
+    c.tests.invariant.leads q style at _ _ _ (at_prog (ap (λ (bs : List Branch). first_true style (tests_of bs) (option_copied c.in-Some.branches.last)) item)
+    (Conditions.test_misread style c.branch-item.result.test.now _ e (Conditions.misread_in c.integers.result style c.branch-item.result.test.now e same h))))
+    (λ q style at. c.tests.invariant.leads q style at _ _ _ stopped)
+
+pub expressions::if_first-returns-in_err-condition-clause-runs : goal.expressions::if_first-returns-in_err-condition-clause-runs
+expressions::if_first-returns-in_err-condition-clause-runs g t c =
+    let item = item_on c.deref-branch-items.result.now c.tests.branch-index c.branch-item.result c.tests-test.true c.branch-item.is in
+    let p = err_from_is_err_and c.from_residual-in_err-condition.result c.from_residual-in_err-condition.ensures.1 in
+    ran_err c.from_residual-in_err-condition.result c.in_err-condition.field-0.0 p.0 _ _ _ p.1 p.2 c.in_err-condition.ensures.runs
+    (λ e h q style at.
+    let here = still_at _ _ c.args.place q style c.tests.invariant.steady at in
+    let same = c.integers.ensures ∙ here.style_is in
+    c.tests.invariant.leads q style at _ _ _ (at_prog (ap (λ (bs : List Branch). first_true style (tests_of bs) (option_copied c.in-Some.branches.last)) item)
+    (h q style here c.branch-item.result.test.now (Conditions.kept_behind c.integers.result style c.branch-item.result.test.now c.in_ok-test.test.value c.deref.result.now c.deref.ensures same c.in_ok-test.ensures.read) _)))
+
+pub expressions::if_first-returns-in_err-body-clause-runs : goal.expressions::if_first-returns-in_err-body-clause-runs
+expressions::if_first-returns-in_err-body-clause-runs g t c =
+    let item = item_on c.deref-branch-items.result.now c.tests.branch-index c.branch-item.result c.tests-test.true c.branch-item.is in
+    let holds = subst (TestGoes (ways g.O.Outside.goes g.O.Outside.loses) c.tests.tree c.tests.outside c.args.place c.deref.result.now c.condition.new.tree c.condition.new.outside) c.if-branch.true c.in_ok-condition.ensures.runs in
+    let p = err_from_is_err_and c.from_residual-in_err-body.result c.from_residual-in_err-body.ensures.1 in
+    memory_err c.from_residual-in_err-body.result p.0 _ _ p.1 p.2
+    (λ q style at.
+    let here = still_at _ _ c.args.place q style c.tests.invariant.steady at in
+    let same = c.integers.ensures ∙ here.style_is in
+    c.tests.invariant.leads q style at _ _ _ (at_prog (ap (λ (bs : List Branch). first_true style (tests_of bs) (option_copied c.in-Some.branches.last)) item)
+    (holds q style here c.branch-item.result.test.now (Conditions.kept_behind c.integers.result style c.branch-item.result.test.now c.in_ok-test.test.value c.deref.result.now c.deref.ensures same c.in_ok-test.ensures.read) _ _ _ _ stopped)))
+
+pub expressions::if_first-returns-then-branch-clause-runs : goal.expressions::if_first-returns-then-branch-clause-runs
+expressions::if_first-returns-then-branch-clause-runs g t c =
+    let item = item_on c.deref-branch-items.result.now c.tests.branch-index c.branch-item.result c.tests-test.true c.branch-item.is in
+    let holds = subst (TestGoes (ways g.O.Outside.goes g.O.Outside.loses) c.tests.tree c.tests.outside c.args.place c.deref.result.now c.condition.new.tree c.condition.new.outside) c.if-branch.true c.in_ok-condition.ensures.runs in
+    IfRan-more c.eval_value.result
+    (EndsAt (ways g.O.Outside.goes g.O.Outside.loses) c.condition.new.tree c.condition.new.outside c.args.place (λ style. script c.in_ok-body.body) c.eval_value.new.tree c.eval_value.new.outside)
+    (EndsFrom (ways g.O.Outside.goes g.O.Outside.loses) c.args.tree.now c.args.outside.now c.args.place (λ style. if_first style c.args.args.now) c.eval_value.new.tree c.eval_value.new.outside)
+    (λ e h q style at.
+    let here = still_at _ _ c.args.place q style c.tests.invariant.steady at in
+    let after = still_at _ _ c.args.place q style c.condition.ensures.steady here in
+    let same = c.integers.ensures ∙ here.style_is in
+    c.tests.invariant.leads q style at _ _ _ (at_prog (ap (λ (bs : List Branch). first_true style (tests_of bs) (option_copied c.in-Some.branches.last)) item)
+    (holds q style here c.branch-item.result.test.now (Conditions.kept_behind c.integers.result style c.branch-item.result.test.now c.in_ok-test.test.value c.deref.result.now c.deref.ensures same c.in_ok-test.ensures.read) _ _ _ _
+    (goes_done {i = Script c.branch-item.result.body.now} (at_prog (ap script (sym c.in_ok-body.ensures.cases)) (h q style (record { names = after.names; style_is = after.style_is }))))))) c.eval_value.ensures.runs
+
+pub expressions::if_first-tests-preserved : goal.expressions::if_first-tests-preserved
+expressions::if_first-tests-preserved g t c =
+    let item = item_on c.deref-branch-items.result.now c.tests.branch-index c.branch-item.result c.tests-test.true c.branch-item.is in
+    let holds = subst (TestGoes (ways g.O.Outside.goes g.O.Outside.loses) c.tests.tree c.tests.outside c.args.place c.deref.result.now c.condition.new.tree c.condition.new.outside) c.if-branch.false c.in_ok-condition.ensures.runs in
+    record {
+      leads = λ q style at V z r run.
+          let here = still_at _ _ c.args.place q style c.tests.invariant.steady at in
+          let same = c.integers.ensures ∙ here.style_is in
+          c.tests.invariant.leads q style at _ _ _ (at_prog (ap (λ (bs : List Branch). first_true style (tests_of bs) (option_copied c.in-Some.branches.last)) item)
+          (holds q style here c.branch-item.result.test.now (Conditions.kept_behind c.integers.result style c.branch-item.result.test.now c.in_ok-test.test.value c.deref.result.now c.deref.ensures same c.in_ok-test.ensures.read) _ V z r run));
+      steady = steady-trans _ _ _ c.tests.invariant.steady c.condition.ensures.steady;
+      left = let a = c.condition.ensures.left in let b = c.tests.invariant.left in omega arith;
+    }
+
+pub expressions::if_first-returns-in_default-last-clause-runs : goal.expressions::if_first-returns-in_default-last-clause-runs
+expressions::if_first-returns-in_default-last-clause-runs g t c = λ q style at.
+    let none = none_on c.deref-branch-items.result.now c.tests.branch-index c.tests-test.false in
+    c.tests.invariant.leads q style at _ _ _ (at_prog (ap (λ (bs : List Branch). first_true style (tests_of bs) (option_copied c.in-Some.branches.last)) none)
+    (Conditions.last_none style _ (ap option_copied c.in_default-last.is) (ap (λ (x : List ℕ). Completed (ok x)) c.empty.ensures)))
+
+pub expressions::if_first-returns-in_err-body-2-clause-runs : goal.expressions::if_first-returns-in_err-body-2-clause-runs
+expressions::if_first-returns-in_err-body-2-clause-runs g t c =
+    let p = err_from_is_err_and c.from_residual-in_err-body-2.result c.from_residual-in_err-body-2.ensures.1 in
+    memory_err c.from_residual-in_err-body-2.result p.0 _ _ p.1 p.2
+    (λ q style at. c.tests.invariant.leads q style at _ _ _ stopped)
+
+pub expressions::if_first-returns-clause-runs : goal.expressions::if_first-returns-clause-runs
+expressions::if_first-returns-clause-runs g t c =
+    let none = none_on c.deref-branch-items.result.now c.tests.branch-index c.tests-test.false in
+    IfRan-more c.eval_value-2.result
+    (EndsAt (ways g.O.Outside.goes g.O.Outside.loses) c.tests.tree c.tests.outside c.args.place (λ style. script c.in_ok-body-2.body) c.eval_value-2.new.tree c.eval_value-2.new.outside)
+    (EndsFrom (ways g.O.Outside.goes g.O.Outside.loses) c.args.tree.now c.args.outside.now c.args.place (λ style. if_first style c.args.args.now) c.eval_value-2.new.tree c.eval_value-2.new.outside)
+    (λ e h q style at.
+    let here = still_at _ _ c.args.place q style c.tests.invariant.steady at in
+    c.tests.invariant.leads q style at _ _ _ (at_prog (ap (λ (bs : List Branch). first_true style (tests_of bs) (option_copied c.in-Some.branches.last)) none)
+    (Conditions.last_runs style _ c.in-Some-last.last.now (ap option_copied c.in-Some-last.is)
+    (at_prog (ap script (sym c.in_ok-body-2.ensures.cases)) (h q style (record { names = here.names; style_is = here.style_is })))))) c.eval_value-2.ensures.runs
+
+-- turns
+
+pub expressions::turn-returns-in_err-condition-clause-runs : goal.expressions::turn-returns-in_err-condition-clause-runs
+expressions::turn-returns-in_err-condition-clause-runs g t c =
+    let p = err_from_is_err_and c.from_residual.result c.from_residual.ensures.1 in
+    ran_err c.from_residual.result c.in_err-condition.field-0.0 p.0 _ _ _ p.1 p.2 c.in_err-condition.ensures.runs
+    (λ e h q style at text is more. h q style at text is _)
+
+pub expressions::turn-returns-then-not-branch-clause-runs : goal.expressions::turn-returns-then-not-branch-clause-runs
+expressions::turn-returns-then-not-branch-clause-runs g t c =
+    let fails = subst (TestGoes (ways g.O.Outside.goes g.O.Outside.loses) c.args.tree.now c.args.outside.now c.args.place c.args.test.now c.condition.new.tree c.condition.new.outside) c.if-not-branch.true c.in_ok-condition.ensures.runs in
+    λ q style at text is more. fails q style at text is _ _ _ _ completed
+
+pub expressions::turn-returns-in_err-charge-clause-runs : goal.expressions::turn-returns-in_err-charge-clause-runs
+expressions::turn-returns-in_err-charge-clause-runs g t c =
+    let holds = subst (TestGoes (ways g.O.Outside.goes g.O.Outside.loses) c.args.tree.now c.args.outside.now c.args.place c.args.test.now c.condition.new.tree c.condition.new.outside) c.if-not-branch.false c.in_ok-condition.ensures.runs in
+    let p = err_from_is_err_and c.from_residual-in_err-charge.result c.from_residual-in_err-charge.ensures.1 in
+    says_err c.from_residual-in_err-charge.result c.in_err-charge.field-0.0 p.0 _ _ _ p.1 p.2 c.in_err-charge.ensures.refused
+    (λ e h q style at text is more.
+    holds q style at text is _ _ _ _ (charge_refused (h q (still_at _ _ c.args.place q style c.condition.ensures.steady at).names)))
+
+pub expressions::turn-returns-clause-runs : goal.expressions::turn-returns-clause-runs
+expressions::turn-returns-clause-runs g t c =
+    let holds = subst (TestGoes (ways g.O.Outside.goes g.O.Outside.loses) c.args.tree.now c.args.outside.now c.args.place c.args.test.now c.condition.new.tree c.condition.new.outside) c.if-not-branch.false c.in_ok-condition.ensures.runs in
+    Conditions.turned after_body c.eval_value.result c.goes_on.result
+    (EndsAt (ways g.O.Outside.goes g.O.Outside.loses) c.charge.new.tree c.charge.new.outside c.args.place (λ style. script c.args.body.now) c.eval_value.new.tree c.eval_value.new.outside) _ _ c.eval_value.ensures.runs c.goes_on.ensures
+    (λ d on h goes.
+    Conditions.turn_ends (ways g.O.Outside.goes g.O.Outside.loses) c.args.tree.now c.eval_value.new.tree c.args.outside.now c.eval_value.new.outside c.args.place c.args.test.now c.args.body.now d on
+    (λ q style at text is k V y r run.
+    let here = still_at _ _ c.args.place q style c.condition.ensures.steady at in
+    let after = still_at _ _ c.args.place q style (level_steady _ _ c.charge.ensures.level) here in
+    let counts = c.in_ok-charge.ensures.counted q here.names in
+    holds q style at text is _ V y r (charges counts (goes_on {i = Script c.args.body.now} (h q style (record { names = after.names; style_is = after.style_is })) run))) goes)
+    (λ e h l q style at text is more.
+    let here = still_at _ _ c.args.place q style c.condition.ensures.steady at in
+    let after = still_at _ _ c.args.place q style (level_steady _ _ c.charge.ensures.level) here in
+    let counts = c.in_ok-charge.ensures.counted q here.names in
+    holds q style at text is _ _ _ _ (charges counts (Conditions.leaves_after style after_body c.args.body.now more e l (h q style (record { names = after.names; style_is = after.style_is })))))
+
+-- while
+
+pub expressions::while_loop-returns-in_default-clause-runs : goal.expressions::while_loop-returns-in_default-clause-runs
+expressions::while_loop-returns-in_default-clause-runs g t c =
+    let other : (length c.args.args.now < 2) ⊎ (3 ≤ length c.args.args.now) = elim c.in_default.branch [
+      | expressions::while_loop-in_default-via-then-args-lt2 w ↦ inl (grind arith)
+      | expressions::while_loop-in_default-via-else-args-lt2+else-args-lt3 w ↦ inr (grind arith)
+    ] in
+    breaks c.wrong_args.result _ _ (λ e h q style at. Looping.while_other style c.args.args.now other h) (λ q style at. stopped) c.wrong_args.ensures
+
+pub expressions::while_loop-returns-in_err-test-clause-runs : goal.expressions::while_loop-returns-in_err-test-clause-runs
+expressions::while_loop-returns-in_err-test-clause-runs g t c =
+    let p = err_from_is_err_and c.from_residual.result c.from_residual.ensures.1 in
+    let more = c.in-len2.len_at_least in
+    let test = Looping.item_at c.args.args.now 0 c.test-item.result (omega (arith, more)) c.test-item.is in
+    fails_err c.from_residual.result c.in_err-test.field-0.0 p.0 _ _ _ p.1 p.2 c.in_err-test.ensures.refused
+    (λ e h q style at.
+    Looping.while_begins style c.args.args.now c.in-len2.len_at_least c.in-len2.len_below
+    (Conditions.test_misread style (get_or c.args.args.now 0 []) _ e (Conditions.misread_as c.integers.result style c.test-item.result (get_or c.args.args.now 0 []) e (c.integers.ensures ∙ at.style_is) test h)))
+    (λ q style at. stopped)
+
+pub expressions::while_loop-returns-in_err-body-clause-runs : goal.expressions::while_loop-returns-in_err-body-clause-runs
+expressions::while_loop-returns-in_err-body-clause-runs g t c =
+    let p = err_from_is_err_and c.from_residual-in_err-body.result c.from_residual-in_err-body.ensures.1 in
+    memory_err c.from_residual-in_err-body.result p.0 _ _ p.1 p.2
+    (λ q style at. stopped)
+
+pub expressions::while_loop-turns-init : goal.expressions::while_loop-turns-init
+expressions::while_loop-turns-init g t c =
+    let more = c.in-len2.len_at_least in
+    record {
+      leads = λ q style at V z r run. Looping.while_begins style c.args.args.now c.in-len2.len_at_least c.in-len2.len_below run;
+      body = c.in_ok-body.ensures.cases ∙ Looping.item_at c.args.args.now 1 c.body-item.result (omega (arith, more)) c.body-item.is;
+      steady = steady-refl _;
+      left = search rules;
+    }
+
+pub expressions::while_loop-returns-in_err-turn-clause-runs : goal.expressions::while_loop-returns-in_err-turn-clause-runs
+expressions::while_loop-returns-in_err-turn-clause-runs g t c =
+    let p = err_from_is_err_and c.from_residual-in_err-turn.result c.from_residual-in_err-turn.ensures.1 in
+    let more = c.in-len2.len_at_least in
+    let test = Looping.item_at c.args.args.now 0 c.test-item.result (omega (arith, more)) c.test-item.is in
+    ran_err c.from_residual-in_err-turn.result c.in_err-turn.field-0.0 p.0 _ _ _ p.1 p.2 c.in_err-turn.ensures.runs
+    (λ e h q style at. c.turns.invariant.leads q style at _ _ _
+    (at_prog (ap (λ (body : List ℕ). turn_then style (get_or c.args.args.now 0 []) body (go (While (get_or c.args.args.now 0 []) (get_or c.args.args.now 1 [])) done)) (sym c.turns.invariant.body))
+    (h q style (still_at _ _ c.args.place q style c.turns.invariant.steady at) (get_or c.args.args.now 0 [])
+    (Conditions.kept_as_behind c.integers.result style c.test-item.result (get_or c.args.args.now 0 []) c.in_ok-test.test.value c.deref.result.now c.deref.ensures (c.integers.ensures ∙ at.style_is) test c.in_ok-test.ensures.read) _)))
+
+pub expressions::while_loop-returns-then-not-branch-clause-runs : goal.expressions::while_loop-returns-then-not-branch-clause-runs
+expressions::while_loop-returns-then-not-branch-clause-runs g t c = λ q style at.
+    let more = c.in-len2.len_at_least in
+    let test = Looping.item_at c.args.args.now 0 c.test-item.result (omega (arith, more)) c.test-item.is in
+    let over = subst (TurnGoes (ways g.O.Outside.goes g.O.Outside.loses) c.turns.tree c.turns.outside c.args.place c.deref.result.now c.turns.body c.turn.new.tree c.turn.new.outside) c.if-not-branch.true c.in_ok-turn.ensures.runs in
+    c.turns.invariant.leads q style at _ _ _
+    (at_prog (ap (λ (body : List ℕ). turn_then style (get_or c.args.args.now 0 []) body (go (While (get_or c.args.args.now 0 []) (get_or c.args.args.now 1 [])) done)) (sym c.turns.invariant.body))
+    (at_reply (ap (λ (x : List ℕ). Completed (ok x)) c.empty.ensures)
+    (over q style (still_at _ _ c.args.place q style c.turns.invariant.steady at) (get_or c.args.args.now 0 [])
+    (Conditions.kept_as_behind c.integers.result style c.test-item.result (get_or c.args.args.now 0 []) c.in_ok-test.test.value c.deref.result.now c.deref.ensures (c.integers.ensures ∙ at.style_is) test c.in_ok-test.ensures.read) _)))
+
+pub expressions::while_loop-turns-preserved : goal.expressions::while_loop-turns-preserved
+expressions::while_loop-turns-preserved g t c =
+    let more = c.in-len2.len_at_least in
+    let test = Looping.item_at c.args.args.now 0 c.test-item.result (omega (arith, more)) c.test-item.is in
+    let on = subst (TurnGoes (ways g.O.Outside.goes g.O.Outside.loses) c.turns.tree c.turns.outside c.args.place c.deref.result.now c.turns.body c.turn.new.tree c.turn.new.outside) c.if-not-branch.false c.in_ok-turn.ensures.runs in
+    record {
+      leads = λ q style at V z r run. c.turns.invariant.leads q style at _ _ _
+          (at_prog (ap (λ (body : List ℕ). turn_then style (get_or c.args.args.now 0 []) body (go (While (get_or c.args.args.now 0 []) (get_or c.args.args.now 1 [])) done)) (sym c.turns.invariant.body))
+          (on q style (still_at _ _ c.args.place q style c.turns.invariant.steady at) (get_or c.args.args.now 0 [])
+          (Conditions.kept_as_behind c.integers.result style c.test-item.result (get_or c.args.args.now 0 []) c.in_ok-test.test.value c.deref.result.now c.deref.ensures (c.integers.ensures ∙ at.style_is) test c.in_ok-test.ensures.read) _ V z r
+          (goes_done {i = While (get_or c.args.args.now 0 []) (get_or c.args.args.now 1 [])} run)));
+      body = c.turn.ensures.same ∙ c.turns.invariant.body;
+      steady = steady-trans _ _ _ c.turns.invariant.steady c.turn.ensures.steady;
+      left = let a = c.turn.ensures.left in let b = c.turns.invariant.left in omega arith;
+    }
+
+-- more turns than there are numbers
+pub expressions::while_loop-returns-clause-runs : goal.expressions::while_loop-returns-clause-runs
+expressions::while_loop-returns-clause-runs g t c = λ q style at. c.turns.invariant.leads q style at _ _ _ stopped
+
+-- for
+
+pub expressions::for_loop-returns-in_default-clause-runs : goal.expressions::for_loop-returns-in_default-clause-runs
+expressions::for_loop-returns-in_default-clause-runs g t c =
+    let other : (length c.args.args.now < 4) ⊎ (5 ≤ length c.args.args.now) = elim c.in_default.branch [
+      | expressions::for_loop-in_default-via-then-args-lt4 w ↦ inl (grind arith)
+      | expressions::for_loop-in_default-via-else-args-lt4+else-args-lt5 w ↦ inr (grind arith)
+    ] in
+    breaks c.wrong_args.result _ _ (λ e h q style at. Looping.for_other style c.args.args.now other h) (λ q style at. stopped) c.wrong_args.ensures
+
+pub expressions::for_loop-returns-in_err-start-clause-runs : goal.expressions::for_loop-returns-in_err-start-clause-runs
+expressions::for_loop-returns-in_err-start-clause-runs g t c =
+    let p = err_from_is_err_and c.from_residual.result c.from_residual.ensures.1 in
+    memory_err c.from_residual.result p.0 _ _ p.1 p.2
+    (λ q style at. stopped)
+
+pub expressions::for_loop-returns-in_err-on_ok-clause-runs : goal.expressions::for_loop-returns-in_err-on_ok-clause-runs
+expressions::for_loop-returns-in_err-on_ok-clause-runs g t c =
+    let p = err_from_is_err_and c.from_residual-in_err-on_ok.result c.from_residual-in_err-on_ok.ensures.1 in
+    let more = c.in-len4.len_at_least in
+    let start = c.in_ok-start.ensures.cases ∙ Looping.item_at c.args.args.now 0 c.start-item.result (omega (arith, more)) c.start-item.is in
+    ran_err c.from_residual-in_err-on_ok.result c.in_err-on_ok.field-0.0 p.0 _ _ _ p.1 p.2
+    (stays_of c.eval_value.result c.in_err-on_ok.field-0.0 (EndsAt (ways g.O.Outside.goes g.O.Outside.loses) c.args.tree.now c.args.outside.now c.args.place (λ style. script c.in_ok-start.start) c.eval_value.new.tree c.eval_value.new.outside)
+    c.in_err-on_ok.ensures.same c.eval_value.ensures.runs c.in_err-on_ok.ensures.stays)
+    (λ e h q style at. Looping.for_stays style c.args.args.now e c.in-len4.len_at_least c.in-len4.len_below h.1
+    (at_prog (ap script (sym start)) (h.0 q style (record { names = at.names; style_is = at.style_is }))))
+
+pub expressions::for_loop-returns-in_err-test-clause-runs : goal.expressions::for_loop-returns-in_err-test-clause-runs
+expressions::for_loop-returns-in_err-test-clause-runs g t c =
+    let p = err_from_is_err_and c.from_residual-in_err-test.result c.from_residual-in_err-test.ensures.1 in
+    let more = c.in-len4.len_at_least in
+    let start = c.in_ok-start.ensures.cases ∙ Looping.item_at c.args.args.now 0 c.start-item.result (omega (arith, more)) c.start-item.is in
+    let test = Looping.item_at c.args.args.now 1 c.test-item.result (omega (arith, more)) c.test-item.is in
+    let x = ran_text c.eval_value.result c.in_ok-on_ok.field-0 (EndsAt (ways g.O.Outside.goes g.O.Outside.loses) c.args.tree.now c.args.outside.now c.args.place (λ style. script c.in_ok-start.start) c.eval_value.new.tree c.eval_value.new.outside)
+    c.in_ok-on_ok.ensures.text c.eval_value.ensures.runs in
+    fails_err c.from_residual-in_err-test.result c.in_err-test.field-0.0 p.0 _ _ _ p.1 p.2 c.in_err-test.ensures.refused
+    (λ e h q style at.
+    let here = still_at _ _ c.args.place q style c.eval_value.ensures.steady at in
+    Looping.for_begins style c.args.args.now x.0 c.in_ok-on_ok.field-0 c.in-len4.len_at_least c.in-len4.len_below x.2 x.3
+    (at_prog (ap script (sym start)) (x.1 q style (record { names = at.names; style_is = at.style_is })))
+    (Conditions.test_misread style (get_or c.args.args.now 1 []) _ e (Conditions.misread_as c.integers.result style c.test-item.result (get_or c.args.args.now 1 []) e (c.integers.ensures ∙ here.style_is) test h)))
+    (λ q style at. Looping.for_begins style c.args.args.now x.0 c.in_ok-on_ok.field-0 c.in-len4.len_at_least c.in-len4.len_below x.2 x.3
+    (at_prog (ap script (sym start)) (x.1 q style (record { names = at.names; style_is = at.style_is }))) stopped)
+
+pub expressions::for_loop-returns-in_err-next-clause-runs : goal.expressions::for_loop-returns-in_err-next-clause-runs
+expressions::for_loop-returns-in_err-next-clause-runs g t c =
+    let more = c.in-len4.len_at_least in
+    let start = c.in_ok-start.ensures.cases ∙ Looping.item_at c.args.args.now 0 c.start-item.result (omega (arith, more)) c.start-item.is in
+    let x = ran_text c.eval_value.result c.in_ok-on_ok.field-0 (EndsAt (ways g.O.Outside.goes g.O.Outside.loses) c.args.tree.now c.args.outside.now c.args.place (λ style. script c.in_ok-start.start) c.eval_value.new.tree c.eval_value.new.outside)
+    c.in_ok-on_ok.ensures.text c.eval_value.ensures.runs in
+    let p = err_from_is_err_and c.from_residual-in_err-next.result c.from_residual-in_err-next.ensures.1 in
+    memory_err c.from_residual-in_err-next.result p.0 _ _ p.1 p.2
+    (λ q style at. Looping.for_begins style c.args.args.now x.0 c.in_ok-on_ok.field-0 c.in-len4.len_at_least c.in-len4.len_below x.2 x.3
+    (at_prog (ap script (sym start)) (x.1 q style (record { names = at.names; style_is = at.style_is }))) stopped)
+
+pub expressions::for_loop-returns-in_err-body-clause-runs : goal.expressions::for_loop-returns-in_err-body-clause-runs
+expressions::for_loop-returns-in_err-body-clause-runs g t c =
+    let more = c.in-len4.len_at_least in
+    let start = c.in_ok-start.ensures.cases ∙ Looping.item_at c.args.args.now 0 c.start-item.result (omega (arith, more)) c.start-item.is in
+    let x = ran_text c.eval_value.result c.in_ok-on_ok.field-0 (EndsAt (ways g.O.Outside.goes g.O.Outside.loses) c.args.tree.now c.args.outside.now c.args.place (λ style. script c.in_ok-start.start) c.eval_value.new.tree c.eval_value.new.outside)
+    c.in_ok-on_ok.ensures.text c.eval_value.ensures.runs in
+    let p = err_from_is_err_and c.from_residual-in_err-body.result c.from_residual-in_err-body.ensures.1 in
+    memory_err c.from_residual-in_err-body.result p.0 _ _ p.1 p.2
+    (λ q style at. Looping.for_begins style c.args.args.now x.0 c.in_ok-on_ok.field-0 c.in-len4.len_at_least c.in-len4.len_below x.2 x.3
+    (at_prog (ap script (sym start)) (x.1 q style (record { names = at.names; style_is = at.style_is }))) stopped)
+
+pub expressions::for_loop-turns-init : goal.expressions::for_loop-turns-init
+expressions::for_loop-turns-init g t c =
+    let more = c.in-len4.len_at_least in
+    let start = c.in_ok-start.ensures.cases ∙ Looping.item_at c.args.args.now 0 c.start-item.result (omega (arith, more)) c.start-item.is in
+    let x = ran_text c.eval_value.result c.in_ok-on_ok.field-0 (EndsAt (ways g.O.Outside.goes g.O.Outside.loses) c.args.tree.now c.args.outside.now c.args.place (λ style. script c.in_ok-start.start) c.eval_value.new.tree c.eval_value.new.outside)
+    c.in_ok-on_ok.ensures.text c.eval_value.ensures.runs in
+    record {
+      leads = λ q style at V z r run.
+          Looping.for_begins style c.args.args.now x.0 c.in_ok-on_ok.field-0 c.in-len4.len_at_least c.in-len4.len_below x.2 x.3
+          (at_prog (ap script (sym start)) (x.1 q style (record { names = at.names; style_is = at.style_is }))) run;
+      next = c.in_ok-next.ensures.cases ∙ Looping.item_at c.args.args.now 2 c.next-item.result (omega (arith, more)) c.next-item.is;
+      body = c.in_ok-body.ensures.cases ∙ Looping.item_at c.args.args.now 3 c.body-item.result (omega (arith, more)) c.body-item.is;
+      steady = c.eval_value.ensures.steady;
+      left = c.eval_value.ensures.left;
+    }
+
+pub expressions::for_loop-returns-in_err-turn-clause-runs : goal.expressions::for_loop-returns-in_err-turn-clause-runs
+expressions::for_loop-returns-in_err-turn-clause-runs g t c =
+    let p = err_from_is_err_and c.from_residual-in_err-turn.result c.from_residual-in_err-turn.ensures.1 in
+    let more = c.in-len4.len_at_least in
+    let test = Looping.item_at c.args.args.now 1 c.test-item.result (omega (arith, more)) c.test-item.is in
+    ran_err c.from_residual-in_err-turn.result c.in_err-turn.field-0.0 p.0 _ _ _ p.1 p.2 c.in_err-turn.ensures.runs
+    (λ e h q style at.
+    let first = still_at _ _ c.args.place q style c.eval_value.ensures.steady at in
+    c.turns.invariant.leads q style at _ _ _
+    (at_prog (ap (λ (body : List ℕ). turn_then style (get_or c.args.args.now 1 []) body (next_then (get_or c.args.args.now 1 []) (get_or c.args.args.now 2 []) (get_or c.args.args.now 3 []))) (sym c.turns.invariant.body))
+    (h q style (still_at _ _ c.args.place q style c.turns.invariant.steady at) (get_or c.args.args.now 1 [])
+    (Conditions.kept_as_behind c.integers.result style c.test-item.result (get_or c.args.args.now 1 []) c.in_ok-test.test.value c.deref.result.now c.deref.ensures (c.integers.ensures ∙ first.style_is) test c.in_ok-test.ensures.read) _)))
+
+pub expressions::for_loop-returns-in_err-turn-clause-steady : goal.expressions::for_loop-returns-in_err-turn-clause-steady
+expressions::for_loop-returns-in_err-turn-clause-steady g t c = steady-trans _ _ _ c.turns.invariant.steady c.turn.ensures.steady
+
+pub expressions::for_loop-returns-then-not-branch-clause-runs : goal.expressions::for_loop-returns-then-not-branch-clause-runs
+expressions::for_loop-returns-then-not-branch-clause-runs g t c = λ q style at.
+    let more = c.in-len4.len_at_least in
+    let test = Looping.item_at c.args.args.now 1 c.test-item.result (omega (arith, more)) c.test-item.is in
+    let over = subst (TurnGoes (ways g.O.Outside.goes g.O.Outside.loses) c.turns.tree c.turns.outside c.args.place c.deref.result.now c.turns.body c.turn.new.tree c.turn.new.outside) c.if-not-branch.true c.in_ok-turn.ensures.runs in
+    let first = still_at _ _ c.args.place q style c.eval_value.ensures.steady at in
+    c.turns.invariant.leads q style at _ _ _
+    (at_prog (ap (λ (body : List ℕ). turn_then style (get_or c.args.args.now 1 []) body (next_then (get_or c.args.args.now 1 []) (get_or c.args.args.now 2 []) (get_or c.args.args.now 3 []))) (sym c.turns.invariant.body))
+    (at_reply (ap (λ (x : List ℕ). Completed (ok x)) c.empty.ensures)
+    (over q style (still_at _ _ c.args.place q style c.turns.invariant.steady at) (get_or c.args.args.now 1 [])
+    (Conditions.kept_as_behind c.integers.result style c.test-item.result (get_or c.args.args.now 1 []) c.in_ok-test.test.value c.deref.result.now c.deref.ensures (c.integers.ensures ∙ first.style_is) test c.in_ok-test.ensures.read) _)))
+
+pub expressions::for_loop-returns-then-not-branch-clause-steady : goal.expressions::for_loop-returns-then-not-branch-clause-steady
+expressions::for_loop-returns-then-not-branch-clause-steady g t c = steady-trans _ _ _ c.turns.invariant.steady c.turn.ensures.steady
+
+pub expressions::for_loop-returns-in_err-turns_on-clause-runs : goal.expressions::for_loop-returns-in_err-turns_on-clause-runs
+expressions::for_loop-returns-in_err-turns_on-clause-runs g t c =
+    let p = err_from_is_err_and c.from_residual-in_err-turns_on.result c.from_residual-in_err-turns_on.ensures.1 in
+    let more = c.in-len4.len_at_least in
+    let test = Looping.item_at c.args.args.now 1 c.test-item.result (omega (arith, more)) c.test-item.is in
+    let on = subst (TurnGoes (ways g.O.Outside.goes g.O.Outside.loses) c.turns.tree c.turns.outside c.args.place c.deref.result.now c.turns.body c.turn.new.tree c.turn.new.outside) c.if-not-branch.false c.in_ok-turn.ensures.runs in
+    ran_err c.from_residual-in_err-turns_on.result c.in_err-turns_on.field-0.0 p.0 _ _ _ p.1 p.2
+    (Conditions.turned_err after_next c.eval_value-in-turns.result c.in_err-turns_on.field-0.0
+    (EndsAt (ways g.O.Outside.goes g.O.Outside.loses) c.turn.new.tree c.turn.new.outside c.args.place (λ style. script c.turns.next) c.eval_value-in-turns.new.tree c.eval_value-in-turns.new.outside) c.in_err-turns_on.ensures c.eval_value-in-turns.ensures.runs)
+    (λ e h q style at.
+    let first = still_at _ _ c.args.place q style c.eval_value.ensures.steady at in
+    let here = still_at _ _ c.args.place q style c.turns.invariant.steady at in
+    let after = still_at _ _ c.args.place q style c.turn.ensures.steady here in
+    c.turns.invariant.leads q style at _ _ _
+    (at_prog (ap (λ (body : List ℕ). turn_then style (get_or c.args.args.now 1 []) body (next_then (get_or c.args.args.now 1 []) (get_or c.args.args.now 2 []) (get_or c.args.args.now 3 []))) (sym c.turns.invariant.body))
+    (on q style here (get_or c.args.args.now 1 [])
+    (Conditions.kept_as_behind c.integers.result style c.test-item.result (get_or c.args.args.now 1 []) c.in_ok-test.test.value c.deref.result.now c.deref.ensures (c.integers.ensures ∙ first.style_is) test c.in_ok-test.ensures.read) _ _ _ _
+    (Conditions.leaves_after style after_next (get_or c.args.args.now 2 []) _ e h.1 (at_prog (ap script (sym c.turns.invariant.next)) (h.0 q style (record { names = after.names; style_is = after.style_is })))))))
+
+pub expressions::for_loop-returns-in_err-turns_on-clause-steady : goal.expressions::for_loop-returns-in_err-turns_on-clause-steady
+expressions::for_loop-returns-in_err-turns_on-clause-steady g t c = steady-trans _ _ _ (steady-trans _ _ _ c.turns.invariant.steady c.turn.ensures.steady) c.eval_value-in-turns.ensures.steady
+
+pub expressions::for_loop-returns-then-not-branch-2-clause-runs : goal.expressions::for_loop-returns-then-not-branch-2-clause-runs
+expressions::for_loop-returns-then-not-branch-2-clause-runs g t c = λ q style at.
+    let more = c.in-len4.len_at_least in
+    let test = Looping.item_at c.args.args.now 1 c.test-item.result (omega (arith, more)) c.test-item.is in
+    let on = subst (TurnGoes (ways g.O.Outside.goes g.O.Outside.loses) c.turns.tree c.turns.outside c.args.place c.deref.result.now c.turns.body c.turn.new.tree c.turn.new.outside) c.if-not-branch.false c.in_ok-turn.ensures.runs in
+    let x = Conditions.turned_ok after_next c.eval_value-in-turns.result c.in_ok-turns_on.field-0 false
+    (EndsAt (ways g.O.Outside.goes g.O.Outside.loses) c.turn.new.tree c.turn.new.outside c.args.place (λ style. script c.turns.next) c.eval_value-in-turns.new.tree c.eval_value-in-turns.new.outside) c.in_ok-turns_on.ensures c.if-not-branch-2.true c.eval_value-in-turns.ensures.runs in
+    let first = still_at _ _ c.args.place q style c.eval_value.ensures.steady at in
+    let here = still_at _ _ c.args.place q style c.turns.invariant.steady at in
+    let after = still_at _ _ c.args.place q style c.turn.ensures.steady here in
+    c.turns.invariant.leads q style at _ _ _
+    (at_prog (ap (λ (body : List ℕ). turn_then style (get_or c.args.args.now 1 []) body (next_then (get_or c.args.args.now 1 []) (get_or c.args.args.now 2 []) (get_or c.args.args.now 3 []))) (sym c.turns.invariant.body))
+    (on q style here (get_or c.args.args.now 1 [])
+    (Conditions.kept_as_behind c.integers.result style c.test-item.result (get_or c.args.args.now 1 []) c.in_ok-test.test.value c.deref.result.now c.deref.ensures (c.integers.ensures ∙ first.style_is) test c.in_ok-test.ensures.read) _ _ _ _
+    (goes_on {i = Script (get_or c.args.args.now 2 [])} (at_prog (ap script (sym c.turns.invariant.next)) (x.1 q style (record { names = after.names; style_is = after.style_is })))
+    (at_prog (x.2 (go (For (get_or c.args.args.now 1 []) (get_or c.args.args.now 2 []) (get_or c.args.args.now 3 [])) done)) (at_reply (ap (λ (y : List ℕ). Completed (ok y)) c.empty-then-not-branch-2.ensures) completed)))))
+
+pub expressions::for_loop-returns-then-not-branch-2-clause-steady : goal.expressions::for_loop-returns-then-not-branch-2-clause-steady
+expressions::for_loop-returns-then-not-branch-2-clause-steady g t c = steady-trans _ _ _ (steady-trans _ _ _ c.turns.invariant.steady c.turn.ensures.steady) c.eval_value-in-turns.ensures.steady
+
+pub expressions::for_loop-turns-preserved : goal.expressions::for_loop-turns-preserved
+expressions::for_loop-turns-preserved g t c =
+    let more = c.in-len4.len_at_least in
+    let test = Looping.item_at c.args.args.now 1 c.test-item.result (omega (arith, more)) c.test-item.is in
+    let on = subst (TurnGoes (ways g.O.Outside.goes g.O.Outside.loses) c.turns.tree c.turns.outside c.args.place c.deref.result.now c.turns.body c.turn.new.tree c.turn.new.outside) c.if-not-branch.false c.in_ok-turn.ensures.runs in
+    let x = Conditions.turned_ok after_next c.eval_value-in-turns.result c.in_ok-turns_on.field-0 true
+    (EndsAt (ways g.O.Outside.goes g.O.Outside.loses) c.turn.new.tree c.turn.new.outside c.args.place (λ style. script c.turns.next) c.eval_value-in-turns.new.tree c.eval_value-in-turns.new.outside) c.in_ok-turns_on.ensures c.if-not-branch-2.false c.eval_value-in-turns.ensures.runs in
+    record {
+      leads = λ q style at V z r run.
+          let first = still_at _ _ c.args.place q style c.eval_value.ensures.steady at in
+          let here = still_at _ _ c.args.place q style c.turns.invariant.steady at in
+          let after = still_at _ _ c.args.place q style c.turn.ensures.steady here in
+          c.turns.invariant.leads q style at _ _ _
+          (at_prog (ap (λ (body : List ℕ). turn_then style (get_or c.args.args.now 1 []) body (next_then (get_or c.args.args.now 1 []) (get_or c.args.args.now 2 []) (get_or c.args.args.now 3 []))) (sym c.turns.invariant.body))
+          (on q style here (get_or c.args.args.now 1 [])
+          (Conditions.kept_as_behind c.integers.result style c.test-item.result (get_or c.args.args.now 1 []) c.in_ok-test.test.value c.deref.result.now c.deref.ensures (c.integers.ensures ∙ first.style_is) test c.in_ok-test.ensures.read) _ V z r
+          (goes_on {i = Script (get_or c.args.args.now 2 [])} (at_prog (ap script (sym c.turns.invariant.next)) (x.1 q style (record { names = after.names; style_is = after.style_is })))
+          (at_prog (x.2 (go (For (get_or c.args.args.now 1 []) (get_or c.args.args.now 2 []) (get_or c.args.args.now 3 [])) done))
+          (goes_done {i = For (get_or c.args.args.now 1 []) (get_or c.args.args.now 2 []) (get_or c.args.args.now 3 [])} run)))));
+      next = c.eval_value-in-turns.ensures.same ∙ c.turns.invariant.next;
+      body = c.turn.ensures.same ∙ c.turns.invariant.body;
+      steady = steady-trans _ _ _ (steady-trans _ _ _ c.turns.invariant.steady c.turn.ensures.steady) c.eval_value-in-turns.ensures.steady;
+      left = let a = c.turn.ensures.left in let b = c.turns.invariant.left in let d = c.eval_value-in-turns.ensures.left in omega arith;
+    }
+
+-- more turns than there are numbers
+pub expressions::for_loop-returns-clause-runs : goal.expressions::for_loop-returns-clause-runs
+expressions::for_loop-returns-clause-runs g t c = λ q style at. c.turns.invariant.leads q style at _ _ _ stopped
+
+-- # Loops over lists, and scripts at another level
+
+pub loops::foreach-returns-in_default-clause-runs : goal.loops::foreach-returns-in_default-clause-runs
+loops::foreach-returns-in_default-clause-runs g t c =
+    breaks c.wrong_args.result _ _ (λ e h q style at. Walking.foreach_none style c.args.args.now c.in_default.ensures h) (λ q style at. stopped) c.wrong_args.ensures
+
+pub loops::foreach-returns-in_err-walks-clause-runs : goal.loops::foreach-returns-in_err-walks-clause-runs
+loops::foreach-returns-in_err-walks-clause-runs g t c =
+    let p = err_from_is_err_and c.from_residual.result c.from_residual.ensures.1 in
+    fails_err c.from_residual.result c.in_err-walks.field-0.0 p.0 _ _ _ p.1 p.2 c.in_err-walks.ensures.refused
+    (λ e h q style at. Walking.foreach_misread style c.args.args.now c.in-Some.words.now c.in-Some.body.now e c.in-Some.ensures h) (λ q style at. stopped)
+
+pub loops::foreach-returns-in_err-body-clause-runs : goal.loops::foreach-returns-in_err-body-clause-runs
+loops::foreach-returns-in_err-body-clause-runs g t c =
+    let p = err_from_is_err_and c.from_residual-in_err-body.result c.from_residual-in_err-body.ensures.1 in
+    memory_err c.from_residual-in_err-body.result p.0 _ _ p.1 p.2 (λ q style at. stopped)
+
+pub loops::foreach-turns-init : goal.loops::foreach-turns-init
+loops::foreach-turns-init g t c = record {
+  leads = λ q style at V z r run. Walking.foreach_begins style c.args.args.now c.in-Some.words.now c.in-Some.body.now c.in_ok-walks.walks.items c.in-Some.ensures c.in_ok-walks.ensures.read
+      (at_prog (ap (foreach_turns (walks_at 0 c.in_ok-walks.walks.items)) (sym c.in_ok-body.ensures.cases)) run);
+  body = refl;
+  steady = steady-refl _;
+  left = search rules;
+}
+
+pub loops::foreach-returns-then-is_over-clause-runs : goal.loops::foreach-returns-then-is_over-clause-runs
+loops::foreach-returns-then-is_over-clause-runs g t c = λ q style at.
+    let over = ap (λ (ws : List Walk). is_over (walks_at c.turns.turns ws)) (sym c.as_slice.ensures.value) ∙ sym c.is_over.ensures ∙ c.if-is_over.true in
+    c.turns.invariant.leads q style at _ _ _
+    (Walking.turn_over style (walks_at c.turns.turns c.in_ok-walks.walks.items) c.in_ok-body.body over (ap (λ (x : List ℕ). Completed (ok x)) c.empty.ensures))
+
+pub loops::foreach-returns-in_err-charge-clause-runs : goal.loops::foreach-returns-in_err-charge-clause-runs
+loops::foreach-returns-in_err-charge-clause-runs g t c =
+    let more = ap (λ (ws : List Walk). is_over (walks_at c.turns.turns ws)) (sym c.as_slice.ensures.value) ∙ sym c.is_over.ensures ∙ c.if-is_over.false in
+    let p = err_from_is_err_and c.from_residual-in_err-charge.result c.from_residual-in_err-charge.ensures.1 in
+    says_err c.from_residual-in_err-charge.result c.in_err-charge.field-0.0 p.0 _ _ _ p.1 p.2 c.in_err-charge.ensures.refused
+    (λ e h q style at. c.turns.invariant.leads q style at _ _ _
+    (Walking.turn_stops style (walks_at c.turns.turns c.in_ok-walks.walks.items) c.in_ok-body.body more (h q (still_at _ _ c.args.place q style c.turns.invariant.steady at).names)))
+
+pub loops::foreach-returns-in_err-set_walks-clause-runs : goal.loops::foreach-returns-in_err-set_walks-clause-runs
+loops::foreach-returns-in_err-set_walks-clause-runs g t c =
+    let more = ap (λ (ws : List Walk). is_over (walks_at c.turns.turns ws)) (sym c.as_slice.ensures.value) ∙ sym c.is_over.ensures ∙ c.if-is_over.false in
+    let p = err_from_is_err_and c.from_residual-in_err-set_walks.result c.from_residual-in_err-set_walks.ensures.1 in
+    fails_err c.from_residual-in_err-set_walks.result c.in_err-set_walks.field-0.0 p.0 _ _ _ p.1 p.2 c.in_err-set_walks.ensures.set
+    (λ e h q style at.
+    let here = still_at _ _ c.args.place q style c.turns.invariant.steady at in
+    let after = still_at _ _ c.args.place q style (level_steady _ _ c.charge.ensures.level) here in
+    let counts = c.in_ok-charge.ensures.counted q here.names in
+    c.turns.invariant.leads q style at _ _ _
+    (Walking.turn_fails style (walks_at c.turns.turns c.in_ok-walks.walks.items) c.in_ok-body.body more counts
+    (λ k. subst (λ (ws : List Walk). Does (sets_walks (walks_at c.turns.turns ws) (λ rest. k)) (tree_of c.charge.new.tree) q (tree_of c.set_walks.new.tree) e) c.as_slice-in-turns.ensures.value (h q after.names k))))
+    (λ q style at.
+    let here = still_at _ _ c.args.place q style c.turns.invariant.steady at in
+    let counts = c.in_ok-charge.ensures.counted q here.names in
+    c.turns.invariant.leads q style at _ _ _ (Walking.turn_given_up style (walks_at c.turns.turns c.in_ok-walks.walks.items) c.in_ok-body.body more counts))
+
+pub loops::foreach-returns-in_err-goes_on-clause-runs : goal.loops::foreach-returns-in_err-goes_on-clause-runs
+loops::foreach-returns-in_err-goes_on-clause-runs g t c =
+    let more = ap (λ (ws : List Walk). is_over (walks_at c.turns.turns ws)) (sym c.as_slice.ensures.value) ∙ sym c.is_over.ensures ∙ c.if-is_over.false in
+    let p = err_from_is_err_and c.from_residual-in_err-goes_on.result c.from_residual-in_err-goes_on.ensures.1 in
+    ran_err c.from_residual-in_err-goes_on.result c.in_err-goes_on.field-0.0 p.0 _ _ _ p.1 p.2
+    (Conditions.turned_err after_body c.eval_value.result c.in_err-goes_on.field-0.0
+    (EndsAt (ways g.O.Outside.goes g.O.Outside.loses) c.set_walks.new.tree c.charge.new.outside c.args.place (λ style. script c.turns.body) c.eval_value.new.tree c.eval_value.new.outside) c.in_err-goes_on.ensures c.eval_value.ensures.runs)
+    (λ e h q style at.
+    let here = still_at _ _ c.args.place q style c.turns.invariant.steady at in
+    let after = still_at _ _ c.args.place q style (level_steady _ _ c.charge.ensures.level) here in
+    let set = still_at _ _ c.args.place q style (level_steady _ _ c.set_walks.ensures.level) after in
+    let counts = c.in_ok-charge.ensures.counted q here.names in
+    c.turns.invariant.leads q style at _ _ _
+    (Walking.turn_begins style (walks_at c.turns.turns c.in_ok-walks.walks.items) c.in_ok-body.body more counts
+    (Walking.walks_set (walks_at c.turns.turns c.in_ok-walks.walks.items) (tree_of c.charge.new.tree) (tree_of c.set_walks.new.tree) q
+    (λ k V r d. subst (λ (ws : List Walk). Does (sets_walks (walks_at c.turns.turns ws) (λ rest. k)) (tree_of c.charge.new.tree) q V r) c.as_slice-in-turns.ensures.value (c.in_ok-set_walks.ensures.set q after.names k V r d)))
+    (Conditions.leaves_after style after_body c.in_ok-body.body _ e h.1 (at_prog (ap script (sym c.turns.invariant.body)) (h.0 q style (record { names = set.names; style_is = set.style_is }))))))
+
+pub loops::foreach-returns-then-not-branch-clause-runs : goal.loops::foreach-returns-then-not-branch-clause-runs
+loops::foreach-returns-then-not-branch-clause-runs g t c = λ q style at.
+    let more = ap (λ (ws : List Walk). is_over (walks_at c.turns.turns ws)) (sym c.as_slice.ensures.value) ∙ sym c.is_over.ensures ∙ c.if-is_over.false in
+    let x = Conditions.turned_ok after_body c.eval_value.result c.in_ok-goes_on.field-0 false
+    (EndsAt (ways g.O.Outside.goes g.O.Outside.loses) c.set_walks.new.tree c.charge.new.outside c.args.place (λ style. script c.turns.body) c.eval_value.new.tree c.eval_value.new.outside) c.in_ok-goes_on.ensures c.if-not-branch.true c.eval_value.ensures.runs in
+    let here = still_at _ _ c.args.place q style c.turns.invariant.steady at in
+    let after = still_at _ _ c.args.place q style (level_steady _ _ c.charge.ensures.level) here in
+    let set = still_at _ _ c.args.place q style (level_steady _ _ c.set_walks.ensures.level) after in
+    let counts = c.in_ok-charge.ensures.counted q here.names in
+    c.turns.invariant.leads q style at _ _ _
+    (Walking.turn_begins style (walks_at c.turns.turns c.in_ok-walks.walks.items) c.in_ok-body.body more counts
+    (Walking.walks_set (walks_at c.turns.turns c.in_ok-walks.walks.items) (tree_of c.charge.new.tree) (tree_of c.set_walks.new.tree) q
+    (λ k V r d. subst (λ (ws : List Walk). Does (sets_walks (walks_at c.turns.turns ws) (λ rest. k)) (tree_of c.charge.new.tree) q V r) c.as_slice-in-turns.ensures.value (c.in_ok-set_walks.ensures.set q after.names k V r d)))
+    (goes_on {i = Script c.in_ok-body.body} (at_prog (ap script (sym c.turns.invariant.body)) (x.1 q style (record { names = set.names; style_is = set.style_is })))
+    (at_prog (x.2 (go (Foreach (map passed (walks_at c.turns.turns c.in_ok-walks.walks.items)) c.in_ok-body.body) done)) (at_reply (ap (λ (y : List ℕ). Completed (ok y)) c.empty-then-not-branch.ensures) completed))))
+
+pub loops::foreach-turns-preserved : goal.loops::foreach-turns-preserved
+loops::foreach-turns-preserved g t c =
+    let more = ap (λ (ws : List Walk). is_over (walks_at c.turns.turns ws)) (sym c.as_slice.ensures.value) ∙ sym c.is_over.ensures ∙ c.if-is_over.false in
+    let x = Conditions.turned_ok after_body c.eval_value.result c.in_ok-goes_on.field-0 true
+    (EndsAt (ways g.O.Outside.goes g.O.Outside.loses) c.set_walks.new.tree c.charge.new.outside c.args.place (λ style. script c.turns.body) c.eval_value.new.tree c.eval_value.new.outside) c.in_ok-goes_on.ensures c.if-not-branch.false c.eval_value.ensures.runs in
+    record {
+      leads = λ q style at V z r run.
+          let here = still_at _ _ c.args.place q style c.turns.invariant.steady at in
+          let after = still_at _ _ c.args.place q style (level_steady _ _ c.charge.ensures.level) here in
+          let set = still_at _ _ c.args.place q style (level_steady _ _ c.set_walks.ensures.level) after in
+          let counts = c.in_ok-charge.ensures.counted q here.names in
+          c.turns.invariant.leads q style at _ _ _
+          (Walking.turn_begins style (walks_at c.turns.turns c.in_ok-walks.walks.items) c.in_ok-body.body more counts
+          (Walking.walks_set (walks_at c.turns.turns c.in_ok-walks.walks.items) (tree_of c.charge.new.tree) (tree_of c.set_walks.new.tree) q
+          (λ k V r d. subst (λ (ws : List Walk). Does (sets_walks (walks_at c.turns.turns ws) (λ rest. k)) (tree_of c.charge.new.tree) q V r) c.as_slice-in-turns.ensures.value (c.in_ok-set_walks.ensures.set q after.names k V r d)))
+          (goes_on {i = Script c.in_ok-body.body} (at_prog (ap script (sym c.turns.invariant.body)) (x.1 q style (record { names = set.names; style_is = set.style_is })))
+          (at_prog (x.2 (go (Foreach (map passed (walks_at c.turns.turns c.in_ok-walks.walks.items)) c.in_ok-body.body) done))
+          (goes_done {i = Foreach (map passed (walks_at c.turns.turns c.in_ok-walks.walks.items)) c.in_ok-body.body}
+          (at_prog (ap (λ (ws : List Left). foreach_turns ws c.in_ok-body.body) (Walking.walks_next c.turns.turns c.in_ok-walks.walks.items)) run)))));
+      body = c.eval_value.ensures.same ∙ c.turns.invariant.body;
+      steady = steady-trans _ _ _ (steady-trans _ _ _ (steady-trans _ _ _ c.turns.invariant.steady (level_steady _ _ c.charge.ensures.level)) (level_steady _ _ c.set_walks.ensures.level)) c.eval_value.ensures.steady;
+      left = let a = c.eval_value.ensures.left in let b = c.turns.invariant.left in omega arith;
+    }
+
+pub loops::foreach-returns-clause-runs : goal.loops::foreach-returns-clause-runs
+loops::foreach-returns-clause-runs g t c = λ q style at. c.turns.invariant.leads q style at _ _ _ stopped
+
+pub loops::uplevel-returns-in_err-level-clause-runs : goal.loops::uplevel-returns-in_err-level-clause-runs
+loops::uplevel-returns-in_err-level-clause-runs g t c =
+    let p = err_from_is_err_and c.from_residual.result c.from_residual.ensures.1 in
+    fails_err c.from_residual.result c.in_err-level.field-0.0 p.0 _ _ _ p.1 p.2
+    (Interrupts-at c.in_err-level.field-0.0 c.args.tree.now c.args.place (λ n e. IsFailure itself (script_level (marks_of c.args.tree.now).integers n c.args.args.now) e) c.in_err-level.ensures)
+    (λ e h q style at. let n = stands (tree_of c.args.tree.now q) (tree_there c.args.tree.now q _ at.names) in
+    Levelling.up_fails style c.args.args.now e n.1 (subst (λ (s : Integers). IsFailure itself (script_level s n.0 c.args.args.now) e) at.style_is (h q n.0 at.names n.1)))
+    (λ q style at. stopped)
+
+pub loops::uplevel-returns-in_err-script-clause-runs : goal.loops::uplevel-returns-in_err-script-clause-runs
+loops::uplevel-returns-in_err-script-clause-runs g t c =
+    let p = err_from_is_err_and c.from_residual-in_err-script.result c.from_residual-in_err-script.ensures.1 in
+    fails_err c.from_residual-in_err-script.result c.in_err-script.field-0.0 p.0 _ _ _ p.1 p.2 c.in_err-script.ensures.refused
+    (λ e h q style at. let n = stands (tree_of c.args.tree.now q) (tree_there c.args.tree.now q _ at.names) in
+    Levelling.up_found style c.args.args.now c.in_ok-level.words.now c.in_ok-level.level n.1
+    (ap (λ (s : Integers). script_level s n.0 c.args.args.now) (sym at.style_is) ∙ c.in_ok-level.ensures q n.0 at.names n.1)
+    (Levelling.up_long style c.in_ok-level.words.now c.in_ok-level.level h.0 h.1))
+    (λ q style at. stopped)
+
+pub loops::uplevel-returns-in_err-set_aside-clause-runs : goal.loops::uplevel-returns-in_err-set_aside-clause-runs
+loops::uplevel-returns-in_err-set_aside-clause-runs g t c =
+    let p = err_from_is_err_and c.from_residual-in_err-set_aside.result c.from_residual-in_err-set_aside.ensures.1 in
+    memory_err c.from_residual-in_err-set_aside.result p.0 _ _ p.1 (p.2 ∙ c.in_err-set_aside.ensures.memory) (λ q style at. stopped)
+
+pub loops::uplevel-returns-clause-runs : goal.loops::uplevel-returns-clause-runs
+loops::uplevel-returns-clause-runs g t c =
+    IfRan-more c.eval_value-ended.result
+    (EndsAt (ways g.O.Outside.goes g.O.Outside.loses) c.set_aside.new.tree c.args.outside.now c.args.place (λ style. script c.in_ok-script.script) c.eval_value-ended.new.tree c.eval_value-ended.new.outside)
+    (EndsFrom (ways g.O.Outside.goes g.O.Outside.loses) c.args.tree.now c.args.outside.now c.args.place (λ style. uplevel style c.args.args.now) c.bring_back.new.tree c.eval_value-ended.new.outside)
+    (λ e h q style at.
+    let n = stands (tree_of c.args.tree.now q) (tree_there c.args.tree.now q _ at.names) in
+    let here = still_at c.args.tree.now c.set_aside.new.tree c.args.place q style (level_steady _ _ c.in_ok-set_aside.ensures.level) at in
+    let after = still_at c.set_aside.new.tree c.eval_value-ended.new.tree c.args.place q style c.eval_value-ended.ensures.steady here in
+    let m = stands (tree_of c.eval_value-ended.new.tree q) (tree_there c.eval_value-ended.new.tree q _ after.names) in
+    Levelling.up_found style c.args.args.now c.in_ok-level.words.now c.in_ok-level.level n.1
+    (ap (λ (s : Integers). script_level s n.0 c.args.args.now) (sym at.style_is) ∙ c.in_ok-level.ensures q n.0 at.names n.1)
+    (Levelling.up_runs style c.in_ok-level.words.now c.in_ok-level.level c.in_ok-script.ensures.whole.1 n.1 (c.in_ok-set_aside.ensures.aside q n.0 at.names n.1) m.1 (c.bring_back.ensures.back q m.0 after.names m.1)
+    (at_prog (ap script (sym c.in_ok-script.ensures.whole.0)) (h q style (record { names = here.names; style_is = here.style_is }))))) c.eval_value-ended.ensures.runs
+
+-- what stays as it is, in conditions and loops
+
+pub expressions::if_first-condition-requires : goal.expressions::if_first-condition-requires
+expressions::if_first-condition-requires g t c κs within = (search rules, (search rules, still_running _ _ c.args.place c.tests.invariant.steady c.requires))
+
+pub expressions::if_first-returns-in_err-condition-clause-steady : goal.expressions::if_first-returns-in_err-condition-clause-steady
+expressions::if_first-returns-in_err-condition-clause-steady g t c = steady-trans _ _ _ c.tests.invariant.steady c.condition.ensures.steady
+
+pub expressions::if_first-returns-in_err-body-clause-steady : goal.expressions::if_first-returns-in_err-body-clause-steady
+expressions::if_first-returns-in_err-body-clause-steady g t c = steady-trans _ _ _ c.tests.invariant.steady c.condition.ensures.steady
+
+pub expressions::if_first-eval_value-requires : goal.expressions::if_first-eval_value-requires
+expressions::if_first-eval_value-requires g t c κs within = (search rules, (search rules, let r = still_running _ _ c.args.place (steady-trans _ _ _ c.tests.invariant.steady c.condition.ensures.steady) c.requires in (r.0, r.1)))
+
+pub expressions::if_first-returns-then-branch-clause-steady : goal.expressions::if_first-returns-then-branch-clause-steady
+expressions::if_first-returns-then-branch-clause-steady g t c = steady-trans _ _ _ c.tests.invariant.steady (steady-trans _ _ _ c.condition.ensures.steady c.eval_value.ensures.steady)
+
+pub expressions::if_first-returns-clause-steady : goal.expressions::if_first-returns-clause-steady
+expressions::if_first-returns-clause-steady g t c = steady-trans _ _ _ c.tests.invariant.steady c.eval_value-2.ensures.steady
+
+pub expressions::while_loop-returns-in_err-turn-clause-steady : goal.expressions::while_loop-returns-in_err-turn-clause-steady
+expressions::while_loop-returns-in_err-turn-clause-steady g t c = steady-trans _ _ _ c.turns.invariant.steady c.turn.ensures.steady
+
+pub expressions::while_loop-returns-then-not-branch-clause-steady : goal.expressions::while_loop-returns-then-not-branch-clause-steady
+expressions::while_loop-returns-then-not-branch-clause-steady g t c = steady-trans _ _ _ c.turns.invariant.steady c.turn.ensures.steady
+
+pub expressions::for_loop-turn-requires : goal.expressions::for_loop-turn-requires
+expressions::for_loop-turn-requires g t c κs within = (search rules, (search rules, still_running _ _ c.args.place c.turns.invariant.steady c.requires))
+
+pub expressions::for_loop-eval_value-requires-in-turns : goal.expressions::for_loop-eval_value-requires-in-turns
+expressions::for_loop-eval_value-requires-in-turns g t c κs within = (search rules, (search rules, let r = still_running _ _ c.args.place (steady-trans _ _ _ c.turns.invariant.steady c.turn.ensures.steady) c.requires in (r.0, r.1)))
+
+pub loops::foreach-returns-in_err-goes_on-clause-steady : goal.loops::foreach-returns-in_err-goes_on-clause-steady
+loops::foreach-returns-in_err-goes_on-clause-steady g t c = steady-trans _ _ _ c.turns.invariant.steady (steady-trans _ _ _ (level_steady _ _ c.charge.ensures.level) (steady-trans _ _ _ (level_steady _ _ c.set_walks.ensures.level) c.eval_value.ensures.steady))
+
+pub loops::foreach-returns-then-not-branch-clause-steady : goal.loops::foreach-returns-then-not-branch-clause-steady
+loops::foreach-returns-then-not-branch-clause-steady g t c = steady-trans _ _ _ c.turns.invariant.steady (steady-trans _ _ _ (level_steady _ _ c.charge.ensures.level) (steady-trans _ _ _ (level_steady _ _ c.set_walks.ensures.level) c.eval_value.ensures.steady))
+
+-- `interp`, and a child's own command
+
+pub interpreters::interp-returns-in_default-clause-runs : goal.interpreters::interp-returns-in_default-clause-runs
+interpreters::interp-returns-in_default-clause-runs g t c =
+    breaks c.wrong_args.result _ _ (λ e h q style at. at_prog (ap (interp_program style) (no_item c.args.args.now c.in_default.len_below)) (at_reply h completed)) (λ q style at. stopped) c.wrong_args.ensures
+
+pub interpreters::interp-returns-in_err-name-clause-runs : goal.interpreters::interp-returns-in_err-name-clause-runs
+interpreters::interp-returns-in_err-name-clause-runs g t c =
+    let p = err_from_is_err_and c.from_residual.result c.from_residual.ensures.1 in
+    memory_err c.from_residual.result p.0 _ _ p.1 p.2 (λ q style at. stopped)
+
+pub interpreters::interp-returns-in_default-subcommand_named-clause-runs : goal.interpreters::interp-returns-in_default-subcommand_named-clause-runs
+interpreters::interp-returns-in_default-subcommand_named-clause-runs g t c =
+    let is = split_first c.args.args.now c.word-item.result c.in-len1-up.len_at_least c.word-item.is in
+    let word = c.as_str.ensures ∙ c.in_ok-name.ensures in
+    breaks c.unknown_subcommand.result _ _ (λ e h q style at. at_prog (interp_unknown style c.args.args.now c.word-item.result c.as_str.result.now _ c.subcommand_named.result is word c.subcommand_named.ensures c.in_default-subcommand_named.is)
+    (at_reply (h ∙ ap (λ (x : List ℕ). Completed (failing (unknown_subcommand x))) (c.as_str-in_default-subcommand_named.ensures ∙ sym c.as_str.ensures)) completed)) (λ q style at. stopped) c.unknown_subcommand.ensures
+
+pub interpreters::interp-returns-clause-runs : goal.interpreters::interp-returns-clause-runs
+interpreters::interp-returns-clause-runs g t c =
+    let is = split_first c.args.args.now c.word-item.result c.in-len1-up.len_at_least c.word-item.is in
+    let word = c.as_str.ensures ∙ c.in_ok-name.ensures in
+    IfRan-more c.call_subcommand.result (EndsFrom (ways g.O.Outside.goes g.O.Outside.loses) c.args.tree.now c.args.outside.now c.args.place (λ style. program_of style c.in-Some.subcommand (take (length c.args.args.now - 1) (drop 1 c.args.args.now))) c.call_subcommand.new.tree c.call_subcommand.new.outside)
+    (EndsFrom (ways g.O.Outside.goes g.O.Outside.loses) c.args.tree.now c.args.outside.now c.args.place (λ style. interp_program style c.args.args.now) c.call_subcommand.new.tree c.call_subcommand.new.outside)
+    (λ e h q style at. at_prog (interp_known style c.args.args.now c.word-item.result c.as_str.result.now _ c.subcommand_named.result c.in-Some.subcommand is word c.subcommand_named.ensures c.in-Some.is) (h q style at)) c.call_subcommand.ensures.runs
+
+pub interpreters::call_subcommand-returns-in_default-clause-runs : goal.interpreters::call_subcommand-returns-in_default-clause-runs
+interpreters::call_subcommand-returns-in_default-clause-runs g t c =
+    evaluates_proceeds (ways g.O.Outside.goes g.O.Outside.loses) c.args.tree.now c.interp_own.new.tree c.args.outside.now c.interp_own.new.outside c.args.place (λ style. program_of style c.args.subcommand c.args.args.now) c.interp_own.result
+    c.interp_own.ensures.evaluates c.interp_own.ensures.lost
+
+pub interpreters::interp_invoke_hidden-returns-in_default-clause-runs : goal.interpreters::interp_invoke_hidden-returns-in_default-clause-runs
+interpreters::interp_invoke_hidden-returns-in_default-clause-runs g t c =
+    breaks c.wrong_args.result _ _ (λ e h q style at. at_prog (ap invoke_hidden_program (no_item c.args.args.now c.in_default.len_below)) (at_reply h completed)) (λ q style at. stopped) c.wrong_args.ensures
+
+pub interpreters::interp_invoke_hidden-returns-in_err-call-clause-runs : goal.interpreters::interp_invoke_hidden-returns-in_err-call-clause-runs
+interpreters::interp_invoke_hidden-returns-in_err-call-clause-runs g t c =
+    let is = invoke_is c.args.args.now c.path-item.result (take (length c.args.args.now - 1) (drop 1 c.args.args.now)) (split_first c.args.args.now c.path-item.result c.in-len1-up.len_at_least c.path-item.is) in
+    let p = err_from_is_err_and c.from_residual.result c.from_residual.ensures.1 in
+    fails_err c.from_residual.result c.in_err-call.field-0.0 p.0 _ _ _ p.1 p.2 c.in_err-call.ensures.refused
+    (λ e h q style at. at_prog (is ∙ h.1 c.path-item.result) (at_reply h.2 completed)) (λ q style at. stopped)
+
+pub interpreters::interp_invoke_hidden-returns-in_err-permit-clause-runs : goal.interpreters::interp_invoke_hidden-returns-in_err-permit-clause-runs
+interpreters::interp_invoke_hidden-returns-in_err-permit-clause-runs g t c =
+    let is = invoke_is c.args.args.now c.path-item.result (take (length c.args.args.now - 1) (drop 1 c.args.args.now)) (split_first c.args.args.now c.path-item.result c.in-len1-up.len_at_least c.path-item.is) in
+    let p = err_from_is_err_and c.from_residual-in_err-permit.result c.from_residual-in_err-permit.ensures.1 in
+    proceeds_as (ways g.O.Outside.goes g.O.Outside.loses) c.args.tree.now c.args.tree.now c.args.outside.now c.args.outside.now c.args.place (λ style. invoke_hidden_program c.args.args.now) (λ style. asks_trusted c.path-item.result (InvokeHidden c.in_ok-call.call.is_global c.in_ok-call.call.words.items)) c.from_residual-in_err-permit.result (λ style. is ∙ c.in_ok-call.ensures.called c.path-item.result)
+    (passes_proceeds (ways g.O.Outside.goes g.O.Outside.loses) c.args.tree.now c.args.outside.now c.args.place (λ style. asks_trusted c.path-item.result (InvokeHidden c.in_ok-call.call.is_global c.in_ok-call.call.words.items)) c.from_residual-in_err-permit.result c.in_err-permit.field-0.0 p.0 p.1 p.2
+    (Interrupts-more c.in_err-permit.field-0.0 _ (GetsToEnd c.args.tree.now c.args.place (λ style. asks_trusted c.path-item.result (InvokeHidden c.in_ok-call.call.is_global c.in_ok-call.call.words.items))) (λ e f. f (λ style. asks c.path-item.result (InvokeHidden c.in_ok-call.call.is_global c.in_ok-call.call.words.items))) c.in_err-permit.ensures))
+
+pub interpreters::interp_invoke_hidden-returns-in_err-found-clause-runs : goal.interpreters::interp_invoke_hidden-returns-in_err-found-clause-runs
+interpreters::interp_invoke_hidden-returns-in_err-found-clause-runs g t c =
+    let is = invoke_is c.args.args.now c.path-item.result (take (length c.args.args.now - 1) (drop 1 c.args.args.now)) (split_first c.args.args.now c.path-item.result c.in-len1-up.len_at_least c.path-item.is) in
+    let p = err_from_is_err_and c.from_residual-in_err-found.result c.from_residual-in_err-found.ensures.1 in
+    proceeds_as (ways g.O.Outside.goes g.O.Outside.loses) c.args.tree.now c.args.tree.now c.args.outside.now c.args.outside.now c.args.place (λ style. invoke_hidden_program c.args.args.now) (λ style. asks_trusted c.path-item.result (InvokeHidden c.in_ok-call.call.is_global c.in_ok-call.call.words.items)) c.from_residual-in_err-found.result (λ style. is ∙ c.in_ok-call.ensures.called c.path-item.result)
+    (gets_proceeds (ways g.O.Outside.goes g.O.Outside.loses) c.args.tree.now c.args.outside.now c.args.place (λ style. asks_trusted c.path-item.result (InvokeHidden c.in_ok-call.call.is_global c.in_ok-call.call.words.items)) (λ style. asks c.path-item.result (InvokeHidden c.in_ok-call.call.is_global c.in_ok-call.call.words.items)) c.args.tree.now c.args.outside.now c.from_residual-in_err-found.result (c.in_ok-permit.ensures (λ style. asks c.path-item.result (InvokeHidden c.in_ok-call.call.is_global c.in_ok-call.call.words.items)))
+    (passes_proceeds (ways g.O.Outside.goes g.O.Outside.loses) c.args.tree.now c.args.outside.now c.args.place (λ style. asks c.path-item.result (InvokeHidden c.in_ok-call.call.is_global c.in_ok-call.call.words.items)) c.from_residual-in_err-found.result c.in_err-found.field-0.0 p.0 p.1 p.2
+    (Interrupts-more c.in_err-found.field-0.0 _ (GetsToEnd c.args.tree.now c.args.place (λ style. asks c.path-item.result (InvokeHidden c.in_ok-call.call.is_global c.in_ok-call.call.words.items))) (λ e f. f (λ path style. asks_at path (InvokeHidden c.in_ok-call.call.is_global c.in_ok-call.call.words.items) done)) c.in_err-found.ensures.read)))
+
+pub interpreters::interp_invoke_hidden-returns-clause-runs : goal.interpreters::interp_invoke_hidden-returns-clause-runs
+interpreters::interp_invoke_hidden-returns-clause-runs g t c =
+    let is = invoke_is c.args.args.now c.path-item.result (take (length c.args.args.now - 1) (drop 1 c.args.args.now)) (split_first c.args.args.now c.path-item.result c.in-len1-up.len_at_least c.path-item.is) in
+    proceeds_as (ways g.O.Outside.goes g.O.Outside.loses) c.args.tree.now c.ask_entry.new.tree c.args.outside.now c.ask_entry.new.outside c.args.place (λ style. invoke_hidden_program c.args.args.now) (λ style. asks_trusted c.path-item.result (InvokeHidden c.in_ok-call.call.is_global c.in_ok-call.call.words.items)) c.ask_entry.result (λ style. is ∙ c.in_ok-call.ensures.called c.path-item.result)
+    (gets_proceeds (ways g.O.Outside.goes g.O.Outside.loses) c.args.tree.now c.args.outside.now c.args.place (λ style. asks_trusted c.path-item.result (InvokeHidden c.in_ok-call.call.is_global c.in_ok-call.call.words.items)) (λ style. asks c.path-item.result (InvokeHidden c.in_ok-call.call.is_global c.in_ok-call.call.words.items)) c.ask_entry.new.tree c.ask_entry.new.outside c.ask_entry.result (c.in_ok-permit.ensures (λ style. asks c.path-item.result (InvokeHidden c.in_ok-call.call.is_global c.in_ok-call.call.words.items)))
+    (gets_proceeds (ways g.O.Outside.goes g.O.Outside.loses) c.args.tree.now c.args.outside.now c.args.place (λ style. asks c.path-item.result (InvokeHidden c.in_ok-call.call.is_global c.in_ok-call.call.words.items)) (λ style. asks_at c.in_ok-found.found.path.items (InvokeHidden c.in_ok-call.call.is_global c.in_ok-call.call.words.items) done) c.ask_entry.new.tree c.ask_entry.new.outside c.ask_entry.result (c.in_ok-found.ensures.read (λ path style. asks_at path (InvokeHidden c.in_ok-call.call.is_global c.in_ok-call.call.words.items) done))
+    (asking_last (ways g.O.Outside.goes g.O.Outside.loses) c.args.tree.now c.ask_entry.new.tree c.args.outside.now c.ask_entry.new.outside c.args.place c.in_ok-found.found.path.items (InvokeHidden c.in_ok-call.call.is_global c.in_ok-call.call.words.items) c.ask_entry.result
+    (subst (λ (x : Path). Asks (ways g.O.Outside.goes g.O.Outside.loses) c.args.tree.now c.args.outside.now c.args.place x (InvokeHidden c.in_ok-call.call.is_global c.in_ok-call.call.words.items) c.ask_entry.new.tree c.ask_entry.new.outside c.ask_entry.result) c.as_slice.ensures.value c.ask_entry.ensures.asks))))
+
+pub children::child-returns-in_err-name-clause-runs : goal.children::child-returns-in_err-name-clause-runs
+children::child-returns-in_err-name-clause-runs g t c =
+    let p = err_from_is_err_and c.from_residual.result c.from_residual.ensures.1 in
+    memory_err c.from_residual.result p.0 _ _ p.1 p.2 (λ q style at. stopped)
+
+pub children::child-returns-in_default-clause-runs : goal.children::child-returns-in_default-clause-runs
+children::child-returns-in_default-clause-runs g t c =
+    let kept = c.in_ok-name.ensures in
+    breaks c.wrong_child_args.result _ _ (λ e h q style at. at_prog (ap (λ (n : List ℕ). child_program style n c.args.args.now) (sym kept) ∙ ap (child_program style c.in_ok-name.name) (no_item c.args.args.now c.in_default.len_below)) (at_reply h completed)) (λ q style at. stopped) c.wrong_child_args.ensures
+
+pub children::child-returns-in_err-text-clause-runs : goal.children::child-returns-in_err-text-clause-runs
+children::child-returns-in_err-text-clause-runs g t c =
+    let p = err_from_is_err_and c.from_residual-in_err-text.result c.from_residual-in_err-text.ensures.1 in
+    memory_err c.from_residual-in_err-text.result p.0 _ _ p.1 p.2 (λ q style at. stopped)
+
+pub children::child-returns-in_default-named-clause-runs : goal.children::child-returns-in_default-named-clause-runs
+children::child-returns-in_default-named-clause-runs g t c =
+    let kept = c.in_ok-name.ensures in
+    let is = split_first c.args.args.now c.first-item.result c.in-len1-up.len_at_least c.first-item.is in
+    let none = ap child_subcommand_of (sym (c.as_str.ensures ∙ c.in_ok-text.ensures)) ∙ sym c.named.ensures ∙ c.in_default-named.is in
+    breaks c.unknown_subcommand.result _ _ (λ e h q style at. at_prog (ap (λ (n : List ℕ). child_program style n c.args.args.now) (sym kept) ∙ child_unknown style c.in_ok-name.name c.args.args.now c.first-item.result _ is none)
+    (at_reply (h ∙ ap (λ (x : List ℕ). Completed (failing (unknown_subcommand x))) (c.as_str-in_default-named.ensures ∙ c.in_ok-text.ensures)) completed)) (λ q style at. stopped) c.unknown_subcommand.ensures
+
+pub children::child-returns-clause-runs : goal.children::child-returns-clause-runs
+children::child-returns-clause-runs g t c =
+    let kept = c.in_ok-name.ensures in
+    let is = split_first c.args.args.now c.first-item.result c.in-len1-up.len_at_least c.first-item.is in
+    let known = ap child_subcommand_of (sym (c.as_str.ensures ∙ c.in_ok-text.ensures)) ∙ sym c.named.ensures ∙ c.in-Some.is in
+    IfRan-more c.call_subcommand.result (EndsFrom (ways g.O.Outside.goes g.O.Outside.loses) c.args.tree.now c.args.outside.now c.args.place (λ style. child_program_of style c.in_ok-name.name c.in-Some.subcommand (take (length c.args.args.now - 1) (drop 1 c.args.args.now))) c.call_subcommand.new.tree c.call_subcommand.new.outside)
+    (EndsFrom (ways g.O.Outside.goes g.O.Outside.loses) c.args.tree.now c.args.outside.now c.args.place (λ style. child_program style (child_name (command_name c.args.word.now)) c.args.args.now) c.call_subcommand.new.tree c.call_subcommand.new.outside)
+    (λ e h q style at. at_prog (ap (λ (n : List ℕ). child_program style n c.args.args.now) (sym kept) ∙ child_known style c.in_ok-name.name c.args.args.now c.first-item.result _ c.in-Some.subcommand is known) (h q style at)) c.call_subcommand.ensures.runs
+
+pub children::call_subcommand-returns-in_default-clause-runs : goal.children::call_subcommand-returns-in_default-clause-runs
+children::call_subcommand-returns-in_default-clause-runs g t c =
+    evaluates_proceeds (ways g.O.Outside.goes g.O.Outside.loses) c.args.tree.now c.child_own.new.tree c.args.outside.now c.child_own.new.outside c.args.place (λ style. child_program_of style c.args.name.now c.args.subcommand c.args.args.now) c.child_own.result
+    c.child_own.ensures.evaluates c.child_own.ensures.lost
+
+pub children::child_eval-returns-then-is_empty-clause-runs : goal.children::child_eval-returns-then-is_empty-clause-runs
+children::child_eval-returns-then-is_empty-clause-runs g t c =
+    let none = Steps.zero_is (length c.args.args.now) c.is_empty.result c.is_empty.ensures c.if-is_empty.true in
+    breaks c.wrong_child_args.result _ _ (λ e h q style at. at_prog (child_eval_none c.args.name.now c.args.args.now (omega (arith, none))) (at_reply h completed)) (λ q style at. stopped) c.wrong_child_args.ensures
+
+pub children::child_eval-returns-in_err-script-clause-runs : goal.children::child_eval-returns-in_err-script-clause-runs
+children::child_eval-returns-in_err-script-clause-runs g t c =
+    let some = Steps.some_is (length c.args.args.now) c.is_empty.result c.is_empty.ensures c.if-is_empty.false in
+    let p = err_from_is_err_and c.from_residual.result c.from_residual.ensures.1 in
+    fails_err c.from_residual.result c.in_err-script.field-0.0 p.0 _ _ _ p.1 p.2 c.in_err-script.ensures.refused
+    (λ e h q style at. at_prog (child_eval_some c.args.name.now c.args.args.now some) (outgrows (concat c.args.args.now) (λ script. asks_at (c.args.name.now ∷ []) (Eval script) done) h.0 h.1)) (λ q style at. stopped)
+
+pub children::child_eval-returns-clause-runs : goal.children::child_eval-returns-clause-runs
+children::child_eval-returns-clause-runs g t c =
+    let some = Steps.some_is (length c.args.args.now) c.is_empty.result c.is_empty.ensures c.if-is_empty.false in
+    IfRan-more c.ask_entry.result (EndsFrom (ways g.O.Outside.goes g.O.Outside.loses) c.args.tree.now c.args.outside.now c.args.place (λ style. asks_at (c.args.name.now ∷ []) (Eval c.in_ok-script.script) done) c.ask_entry.new.tree c.ask_entry.new.outside)
+    (EndsFrom (ways g.O.Outside.goes g.O.Outside.loses) c.args.tree.now c.args.outside.now c.args.place (λ style. child_evals c.args.name.now c.args.args.now) c.ask_entry.new.tree c.ask_entry.new.outside)
+    (λ e h q style at. at_prog (child_eval_some c.args.name.now c.args.args.now some) (grows (concat c.args.args.now) (λ script. asks_at (c.args.name.now ∷ []) (Eval script) done) c.in_ok-script.ensures.whole.1
+    (at_prog (ap (λ (x : List ℕ). asks_at (c.args.name.now ∷ []) (Eval x) done) (sym c.in_ok-script.ensures.whole.0)) (h q style at))))
+    (asking_last (ways g.O.Outside.goes g.O.Outside.loses) c.args.tree.now c.ask_entry.new.tree c.args.outside.now c.ask_entry.new.outside c.args.place (c.args.name.now ∷ []) (Eval c.in_ok-script.script) c.ask_entry.result
+    (subst (λ (x : Path). Asks (ways g.O.Outside.goes g.O.Outside.loses) c.args.tree.now c.args.outside.now c.args.place x (Eval c.in_ok-script.script) c.ask_entry.new.tree c.ask_entry.new.outside c.ask_entry.result) c.from_ref.ensures.value c.ask_entry.ensures.asks))
+
+pub children::child_invoke_hidden-returns-in_err-form-clause-runs : goal.children::child_invoke_hidden-returns-in_err-form-clause-runs
+children::child_invoke_hidden-returns-in_err-form-clause-runs g t c =
+    let p = err_from_is_err_and c.from_residual.result c.from_residual.ensures.1 in
+    memory_err c.from_residual.result p.0 _ _ p.1 p.2 (λ q style at. stopped)
+
+pub children::child_invoke_hidden-returns-in_err-call-clause-runs : goal.children::child_invoke_hidden-returns-in_err-call-clause-runs
+children::child_invoke_hidden-returns-in_err-call-clause-runs g t c =
+    let form : c.as_str.result.now ≡ child_form c.args.name.now (codes "invokehidden ?-global? hiddenName ?arg ...?") = c.as_str.ensures.value ∙ c.in_ok-form.ensures in
+    let p = err_from_is_err_and c.from_residual-in_err-call.result c.from_residual-in_err-call.ensures.1 in
+    fails_err c.from_residual-in_err-call.result c.in_err-call.field-0.0 p.0 _ _ _ p.1 p.2 c.in_err-call.ensures.refused
+    (λ e h q style at. at_prog (ap (λ (x : List ℕ). invoked_as (child_path c.args.name.now) x false c.args.args.now) (sym form) ∙ h.1 (child_path c.args.name.now)) (at_reply h.2 completed)) (λ q style at. stopped)
+
+pub children::child_invoke_hidden-returns-in_err-permit-clause-runs : goal.children::child_invoke_hidden-returns-in_err-permit-clause-runs
+children::child_invoke_hidden-returns-in_err-permit-clause-runs g t c =
+    let form : c.as_str.result.now ≡ child_form c.args.name.now (codes "invokehidden ?-global? hiddenName ?arg ...?") = c.as_str.ensures.value ∙ c.in_ok-form.ensures in
+    let p = err_from_is_err_and c.from_residual-in_err-permit.result c.from_residual-in_err-permit.ensures.1 in
+    proceeds_as (ways g.O.Outside.goes g.O.Outside.loses) c.args.tree.now c.args.tree.now c.args.outside.now c.args.outside.now c.args.place (λ style. child_invokes c.args.name.now c.args.args.now) (λ style. asks_trusted (child_path c.args.name.now) (InvokeHidden c.in_ok-call.call.is_global c.in_ok-call.call.words.items)) c.from_residual-in_err-permit.result (λ style. ap (λ (x : List ℕ). invoked_as (child_path c.args.name.now) x false c.args.args.now) (sym form) ∙ c.in_ok-call.ensures.called (child_path c.args.name.now))
+    (passes_proceeds (ways g.O.Outside.goes g.O.Outside.loses) c.args.tree.now c.args.outside.now c.args.place (λ style. asks_trusted (child_path c.args.name.now) (InvokeHidden c.in_ok-call.call.is_global c.in_ok-call.call.words.items)) c.from_residual-in_err-permit.result c.in_err-permit.field-0.0 p.0 p.1 p.2
+    (Interrupts-more c.in_err-permit.field-0.0 _ (GetsToEnd c.args.tree.now c.args.place (λ style. asks_trusted (child_path c.args.name.now) (InvokeHidden c.in_ok-call.call.is_global c.in_ok-call.call.words.items))) (λ e f. f (λ style. asks (child_path c.args.name.now) (InvokeHidden c.in_ok-call.call.is_global c.in_ok-call.call.words.items))) c.in_err-permit.ensures))
+
+pub children::child_invoke_hidden-returns-in_err-child_stands-clause-runs : goal.children::child_invoke_hidden-returns-in_err-child_stands-clause-runs
+children::child_invoke_hidden-returns-in_err-child_stands-clause-runs g t c =
+    let form : c.as_str.result.now ≡ child_form c.args.name.now (codes "invokehidden ?-global? hiddenName ?arg ...?") = c.as_str.ensures.value ∙ c.in_ok-form.ensures in
+    let p = err_from_is_err_and c.from_residual-in_err-child_stands.result c.from_residual-in_err-child_stands.ensures.1 in
+    proceeds_as (ways g.O.Outside.goes g.O.Outside.loses) c.args.tree.now c.args.tree.now c.args.outside.now c.args.outside.now c.args.place (λ style. child_invokes c.args.name.now c.args.args.now) (λ style. asks_trusted (child_path c.args.name.now) (InvokeHidden c.in_ok-call.call.is_global c.in_ok-call.call.words.items)) c.from_residual-in_err-child_stands.result (λ style. ap (λ (x : List ℕ). invoked_as (child_path c.args.name.now) x false c.args.args.now) (sym form) ∙ c.in_ok-call.ensures.called (child_path c.args.name.now))
+    (gets_proceeds (ways g.O.Outside.goes g.O.Outside.loses) c.args.tree.now c.args.outside.now c.args.place (λ style. asks_trusted (child_path c.args.name.now) (InvokeHidden c.in_ok-call.call.is_global c.in_ok-call.call.words.items)) (λ style. asks (child_path c.args.name.now) (InvokeHidden c.in_ok-call.call.is_global c.in_ok-call.call.words.items)) c.args.tree.now c.args.outside.now c.from_residual-in_err-child_stands.result (c.in_ok-permit.ensures (λ style. asks (child_path c.args.name.now) (InvokeHidden c.in_ok-call.call.is_global c.in_ok-call.call.words.items)))
+    (passes_proceeds (ways g.O.Outside.goes g.O.Outside.loses) c.args.tree.now c.args.outside.now c.args.place (λ style. asks (child_path c.args.name.now) (InvokeHidden c.in_ok-call.call.is_global c.in_ok-call.call.words.items)) c.from_residual-in_err-child_stands.result c.in_err-child_stands.field-0.0 p.0 p.1 p.2
+    (Interrupts-more c.in_err-child_stands.field-0.0 _ (GetsToEnd c.args.tree.now c.args.place (λ style. asks (child_path c.args.name.now) (InvokeHidden c.in_ok-call.call.is_global c.in_ok-call.call.words.items))) (λ e f. f (λ path style. asks_at path (InvokeHidden c.in_ok-call.call.is_global c.in_ok-call.call.words.items) done)) c.in_err-child_stands.ensures)))
+
+pub children::child_invoke_hidden-returns-clause-runs : goal.children::child_invoke_hidden-returns-clause-runs
+children::child_invoke_hidden-returns-clause-runs g t c =
+    let form : c.as_str.result.now ≡ child_form c.args.name.now (codes "invokehidden ?-global? hiddenName ?arg ...?") = c.as_str.ensures.value ∙ c.in_ok-form.ensures in
+    proceeds_as (ways g.O.Outside.goes g.O.Outside.loses) c.args.tree.now c.ask_entry.new.tree c.args.outside.now c.ask_entry.new.outside c.args.place (λ style. child_invokes c.args.name.now c.args.args.now) (λ style. asks_trusted (child_path c.args.name.now) (InvokeHidden c.in_ok-call.call.is_global c.in_ok-call.call.words.items)) c.ask_entry.result (λ style. ap (λ (x : List ℕ). invoked_as (child_path c.args.name.now) x false c.args.args.now) (sym form) ∙ c.in_ok-call.ensures.called (child_path c.args.name.now))
+    (gets_proceeds (ways g.O.Outside.goes g.O.Outside.loses) c.args.tree.now c.args.outside.now c.args.place (λ style. asks_trusted (child_path c.args.name.now) (InvokeHidden c.in_ok-call.call.is_global c.in_ok-call.call.words.items)) (λ style. asks (child_path c.args.name.now) (InvokeHidden c.in_ok-call.call.is_global c.in_ok-call.call.words.items)) c.ask_entry.new.tree c.ask_entry.new.outside c.ask_entry.result (c.in_ok-permit.ensures (λ style. asks (child_path c.args.name.now) (InvokeHidden c.in_ok-call.call.is_global c.in_ok-call.call.words.items)))
+    (gets_proceeds (ways g.O.Outside.goes g.O.Outside.loses) c.args.tree.now c.args.outside.now c.args.place (λ style. asks (child_path c.args.name.now) (InvokeHidden c.in_ok-call.call.is_global c.in_ok-call.call.words.items)) (λ style. asks_at (c.args.name.now ∷ []) (InvokeHidden c.in_ok-call.call.is_global c.in_ok-call.call.words.items) done) c.ask_entry.new.tree c.ask_entry.new.outside c.ask_entry.result (c.in_ok-child_stands.ensures (λ path style. asks_at path (InvokeHidden c.in_ok-call.call.is_global c.in_ok-call.call.words.items) done))
+    (asking_last (ways g.O.Outside.goes g.O.Outside.loses) c.args.tree.now c.ask_entry.new.tree c.args.outside.now c.ask_entry.new.outside c.args.place (c.args.name.now ∷ []) (InvokeHidden c.in_ok-call.call.is_global c.in_ok-call.call.words.items) c.ask_entry.result
+    (subst (λ (x : Path). Asks (ways g.O.Outside.goes g.O.Outside.loses) c.args.tree.now c.args.outside.now c.args.place x (InvokeHidden c.in_ok-call.call.is_global c.in_ok-call.call.words.items) c.ask_entry.new.tree c.ask_entry.new.outside c.ask_entry.result) c.from_ref.ensures.value c.ask_entry.ensures.asks))))
+
+pub commands::call_command-returns-in-Child-clause-runs : goal.commands::call_command-returns-in-Child-clause-runs
+commands::call_command-returns-in-Child-clause-runs g t c =
+    IfRan-more c.child.result
+    (EndsFrom (ways g.O.Outside.goes g.O.Outside.loses) c.args.tree.now c.args.outside.now c.args.place (λ style. child_program style (child_name (command_name c.args.word.now)) c.args.args.now) c.child.new.tree c.child.new.outside)
+    (EndsFrom (ways g.O.Outside.goes g.O.Outside.loses) c.args.tree.now c.args.outside.now c.args.place (λ style. dispatch style c.args.word.now c.args.args.now invalid_command (Some c.args.command.now)) c.child.new.tree c.child.new.outside)
+    (λ e h q style at. at_prog (ap (λ (x : Command). dispatch style c.args.word.now c.args.args.now invalid_command (Some x)) c.in-Child.is) (h q style at)) c.child.ensures.runs
+
+pub commands::call_builtin-returns-in-Rename-clause-runs : goal.commands::call_builtin-returns-in-Rename-clause-runs
+commands::call_builtin-returns-in-Rename-clause-runs g t c =
+    proceeds_as (ways g.O.Outside.goes g.O.Outside.loses) c.args.tree.now c.rename.new.tree c.args.outside.now c.rename.new.outside c.args.place (λ style. builtin_program style c.args.builtin c.args.word.now c.args.args.now) (λ style. definitions.rename c.args.args.now) c.rename.result
+    (λ style. ap (λ (b : Builtin). builtin_program style b c.args.word.now c.args.args.now) c.in-Rename.is)
+    (evaluates_proceeds (ways g.O.Outside.goes g.O.Outside.loses) c.args.tree.now c.rename.new.tree c.args.outside.now c.rename.new.outside c.args.place (λ style. definitions.rename c.args.args.now) c.rename.result c.rename.ensures.evaluates c.rename.ensures.lost)
+
+pub commands::call_builtin-returns-in_default : goal.commands::call_builtin-returns-in_default
+commands::call_builtin-returns-in_default g t c = record {
+  runs = acts_proceeds (ways g.O.Outside.goes g.O.Outside.loses) c.args.tree.now c.call_plain.new.tree c.args.outside.now c.args.place (λ style. builtin_program style c.args.builtin c.args.word.now c.args.args.now) c.call_plain.result c.call_plain.ensures.acts;
+  steady = level_steady _ _ c.call_plain.ensures.level;
+  left = omega arith;
+}
+
+-- # What reaches the host
+
+pub hosting::put_line-returns-in-Ok-clause-runs : goal.hosting::put_line-returns-in-Ok-clause-runs
+hosting::put_line-returns-in-Ok-clause-runs g t c =
+    let line : c.append.new.self ≡ c.args.text.now ++ hosting.newline = search rules in
+    let short : fits (c.args.text.now ++ hosting.newline) ≡ true = search rules in
+    IfRan-more c.write.result (EndsFrom (ways g.O.Outside.goes g.O.Outside.loses) c.args.tree.now c.args.outside.now c.args.place (λ style. hosting.writes c.args.channel.now c.append.new.self) c.write.new.tree c.write.new.outside)
+    (EndsFrom (ways g.O.Outside.goes g.O.Outside.loses) c.args.tree.now c.args.outside.now c.args.place (λ style. hosting.puts_line c.args.channel.now c.args.text.now) c.write.new.tree c.write.new.outside)
+    (λ e h q style at. grows (c.args.text.now ++ hosting.newline) (hosting.writes c.args.channel.now) short (at_prog (ap (hosting.writes c.args.channel.now) (sym line)) (h q style at))) c.write.ensures.runs
+
+pub hosting::put_line-returns-in-Err-TooLong-clause-runs : goal.hosting::put_line-returns-in-Err-TooLong-clause-runs
+hosting::put_line-returns-in-Err-TooLong-clause-runs g t c =
+    let same : c.in_ok-line.line ≡ c.args.text.now = search rules in
+    let long = past_long (c.args.text.now ++ hosting.newline) (subst (λ (x : Text). IsPast (x ++ hosting.newline)) same (c.in-Err-TooLong.ensures.refused.0 (ap (λ x. Err x) c.in-Err-TooLong.field-0-is))) in
+    breaks c.too_long.result _ _ (λ e h q style at. outgrows (c.args.text.now ++ hosting.newline) (hosting.writes c.args.channel.now) long h) (λ q style at. stopped) c.too_long.ensures
+
+pub hosting::put_line-returns-clause-runs : goal.hosting::put_line-returns-clause-runs
+hosting::put_line-returns-clause-runs g t c = λ q style at. stopped
+
+pub hosting::put_line-returns-in_err-line-clause-runs : goal.hosting::put_line-returns-in_err-line-clause-runs
+hosting::put_line-returns-in_err-line-clause-runs g t c =
+    let p = err_from_is_err_and c.from_residual.result c.from_residual.ensures.1 in
+    memory_err c.from_residual.result p.0 _ _ p.1 p.2 (λ q style at. stopped)
+
+pub hosting::puts-returns-in_err-stdout-in-len1-clause-runs : goal.hosting::puts-returns-in_err-stdout-in-len1-clause-runs
+hosting::puts-returns-in_err-stdout-in-len1-clause-runs g t c =
+    let p = err_from_is_err_and c.from_residual.result c.from_residual.ensures.1 in
+    memory_err c.from_residual.result p.0 _ _ p.1 p.2 (λ q style at. stopped)
+
+pub hosting::puts-returns-in_err-word-in-len2-clause-runs : goal.hosting::puts-returns-in_err-word-in-len2-clause-runs
+hosting::puts-returns-in_err-word-in-len2-clause-runs g t c =
+    let p = err_from_is_err_and c.from_residual-in_err-word-in-len2.result c.from_residual-in_err-word-in-len2.ensures.1 in
+    memory_err c.from_residual-in_err-word-in-len2.result p.0 _ _ p.1 p.2 (λ q style at. stopped)
+
+pub hosting::puts-returns-in_err-stdout-in-len2-clause-runs : goal.hosting::puts-returns-in_err-stdout-in-len2-clause-runs
+hosting::puts-returns-in_err-stdout-in-len2-clause-runs g t c =
+    let p = err_from_is_err_and c.from_residual-in_err-stdout-in-len2.result c.from_residual-in_err-stdout-in-len2.ensures.1 in
+    memory_err c.from_residual-in_err-stdout-in-len2.result p.0 _ _ p.1 p.2 (λ q style at. stopped)
+
+pub hosting::puts-returns-in_err-text-in-len3-clause-runs : goal.hosting::puts-returns-in_err-text-in-len3-clause-runs
+hosting::puts-returns-in_err-text-in-len3-clause-runs g t c =
+    let p = err_from_is_err_and c.from_residual-in_err-text-in-len3.result c.from_residual-in_err-text-in-len3.ensures.1 in
+    memory_err c.from_residual-in_err-text-in-len3.result p.0 _ _ p.1 p.2 (λ q style at. stopped)
+
+pub hosting::puts-returns-in_err-text-in-len3-2-clause-runs : goal.hosting::puts-returns-in_err-text-in-len3-2-clause-runs
+hosting::puts-returns-in_err-text-in-len3-2-clause-runs g t c =
+    let p = err_from_is_err_and c.from_residual-in_err-text-in-len3-2.result c.from_residual-in_err-text-in-len3-2.ensures.1 in
+    memory_err c.from_residual-in_err-text-in-len3-2.result p.0 _ _ p.1 p.2 (λ q style at. stopped)
+
+pub hosting::puts-returns-then-eq-clause-runs : goal.hosting::puts-returns-then-eq-clause-runs
+hosting::puts-returns-then-eq-clause-runs g t c =
+    let is = two_items c.args.args.now c.word-item.result c.text-item-then-args-lt3.result c.in-len2.len_at_least c.in-len2.len_below c.word-item.is c.text-item-then-args-lt3.is in
+    let yes : bytes_eq c.word-item.result (codes "-nonewline") ≡ true = search rules in
+    IfRan-more c.write-then-eq.result (EndsFrom (ways g.O.Outside.goes g.O.Outside.loses) c.args.tree.now c.args.outside.now c.args.place (λ style. hosting.writes c.in_ok-stdout-in-len2.field-0 c.text-item-then-args-lt3.result) c.write-then-eq.new.tree c.write-then-eq.new.outside)
+    (EndsFrom (ways g.O.Outside.goes g.O.Outside.loses) c.args.tree.now c.args.outside.now c.args.place (λ style. hosting.puts c.args.args.now) c.write-then-eq.new.tree c.write-then-eq.new.outside)
+    (λ e h q style at. at_prog (ap hosting.puts is ∙ ap (λ b. either b (hosting.writes hosting.stdout c.text-item-then-args-lt3.result) (hosting.puts_line c.word-item.result c.text-item-then-args-lt3.result)) yes
+    ∙ ap (λ (x : Text). hosting.writes x c.text-item-then-args-lt3.result) (sym c.in_ok-stdout-in-len2.ensures)) (h q style at)) c.write-then-eq.ensures.runs
+
+pub hosting::puts-returns-then-eq-2-clause-runs : goal.hosting::puts-returns-then-eq-2-clause-runs
+hosting::puts-returns-then-eq-2-clause-runs g t c =
+    let is = three_items c.args.args.now c.word-item-then-args-lt4.result c.channel-item.result c.text-item-then-args-lt4.result c.in-len3.len_at_least c.in-len3.len_below c.word-item-then-args-lt4.is c.channel-item.is c.text-item-then-args-lt4.is in
+    let yes : bytes_eq c.word-item-then-args-lt4.result (codes "-nonewline") ≡ true = search rules in
+    IfRan-more c.write-then-eq-2-2.result (EndsFrom (ways g.O.Outside.goes g.O.Outside.loses) c.args.tree.now c.args.outside.now c.args.place (λ style. hosting.writes c.in_ok-text-in-len3-2.field-0 c.text-item-then-args-lt4.result) c.write-then-eq-2-2.new.tree c.write-then-eq-2-2.new.outside)
+    (EndsFrom (ways g.O.Outside.goes g.O.Outside.loses) c.args.tree.now c.args.outside.now c.args.place (λ style. hosting.puts c.args.args.now) c.write-then-eq-2-2.new.tree c.write-then-eq-2-2.new.outside)
+    (λ e h q style at. at_prog (ap hosting.puts is ∙ ap (λ b. either b (hosting.writes c.channel-item.result c.text-item-then-args-lt4.result) hosting.puts_form) yes
+    ∙ ap (λ (x : Text). hosting.writes x c.text-item-then-args-lt4.result) (sym c.in_ok-text-in-len3-2.ensures)) (h q style at)) c.write-then-eq-2-2.ensures.runs
+
+pub hosting::puts-returns-in_ok-stdout-in-len1-clause-runs : goal.hosting::puts-returns-in_ok-stdout-in-len1-clause-runs
+hosting::puts-returns-in_ok-stdout-in-len1-clause-runs g t c =
+    let is = one_item c.args.args.now c.text-item.result c.in-len1.len_at_least c.in-len1.len_below c.text-item.is in
+    IfRan-more c.put_line-in-len1.result (EndsFrom (ways g.O.Outside.goes g.O.Outside.loses) c.args.tree.now c.args.outside.now c.args.place (λ style. hosting.puts_line c.in_ok-stdout-in-len1.field-0 c.text-item.result) c.put_line-in-len1.new.tree c.put_line-in-len1.new.outside)
+    (EndsFrom (ways g.O.Outside.goes g.O.Outside.loses) c.args.tree.now c.args.outside.now c.args.place (λ style. hosting.puts c.args.args.now) c.put_line-in-len1.new.tree c.put_line-in-len1.new.outside)
+    (λ e h q style at. at_prog (ap hosting.puts is ∙ ap (λ (x : Text). hosting.puts_line x c.text-item.result) (sym c.in_ok-stdout-in-len1.ensures)) (h q style at)) c.put_line-in-len1.ensures.runs
+
+pub hosting::puts-returns-else-eq-clause-runs : goal.hosting::puts-returns-else-eq-clause-runs
+hosting::puts-returns-else-eq-clause-runs g t c =
+    let is = two_items c.args.args.now c.word-item.result c.text-item-then-args-lt3.result c.in-len2.len_at_least c.in-len2.len_below c.word-item.is c.text-item-then-args-lt3.is in
+    let no : bytes_eq c.word-item.result (codes "-nonewline") ≡ false = search rules in
+    IfRan-more c.put_line-in-len2.result (EndsFrom (ways g.O.Outside.goes g.O.Outside.loses) c.args.tree.now c.args.outside.now c.args.place (λ style. hosting.puts_line c.in_ok-word-in-len2.word c.text-item-then-args-lt3.result) c.put_line-in-len2.new.tree c.put_line-in-len2.new.outside)
+    (EndsFrom (ways g.O.Outside.goes g.O.Outside.loses) c.args.tree.now c.args.outside.now c.args.place (λ style. hosting.puts c.args.args.now) c.put_line-in-len2.new.tree c.put_line-in-len2.new.outside)
+    (λ e h q style at. at_prog (ap hosting.puts is ∙ ap (λ b. either b (hosting.writes hosting.stdout c.text-item-then-args-lt3.result) (hosting.puts_line c.word-item.result c.text-item-then-args-lt3.result)) no
+    ∙ ap (λ (x : Text). hosting.puts_line x c.text-item-then-args-lt3.result) (sym c.in_ok-word-in-len2.ensures)) (h q style at)) c.put_line-in-len2.ensures.runs
+
+pub hosting::puts-returns-else-eq-2-clause-runs : goal.hosting::puts-returns-else-eq-2-clause-runs
+hosting::puts-returns-else-eq-2-clause-runs g t c =
+    let is = three_items c.args.args.now c.word-item-then-args-lt4.result c.channel-item.result c.text-item-then-args-lt4.result c.in-len3.len_at_least c.in-len3.len_below c.word-item-then-args-lt4.is c.channel-item.is c.text-item-then-args-lt4.is in
+    let no : bytes_eq c.word-item-then-args-lt4.result (codes "-nonewline") ≡ false = search rules in
+    breaks c.wrong_args.result _ _ (λ e h q style at.
+    at_prog (ap hosting.puts is ∙ ap (λ b. either b (hosting.writes c.channel-item.result c.text-item-then-args-lt4.result) hosting.puts_form) no) (at_reply h completed)) (λ q style at. stopped) c.wrong_args.ensures
+
+pub hosting::puts-returns-in_default-clause-runs : goal.hosting::puts-returns-in_default-clause-runs
+hosting::puts-returns-in_default-clause-runs g t c =
+    let other : hosting.puts c.args.args.now ≡ hosting.puts_form = elim c.in_default.branch [
+      | hosting::puts-in_default-via-then-args-lt1 w ↦ not_put c.args.args.now (inl (search rules))
+      | hosting::puts-in_default-via-else-args-lt1+else-args-lt2+else-args-lt3+else-args-lt4 w ↦ not_put c.args.args.now (inr (search rules))
+    ] in
+    breaks c.wrong_args-in_default.result _ _ (λ e h q style at. at_prog other (at_reply h completed)) (λ q style at. stopped) c.wrong_args-in_default.ensures
+
+pub hosting::write-returns-in_err-clone-clause-runs : goal.hosting::write-returns-in_err-clone-clause-runs
+hosting::write-returns-in_err-clone-clause-runs g t c =
+    let p = err_from_is_err_and c.from_residual.result c.from_residual.ensures.1 in
+    memory_err c.from_residual.result p.0 _ _ p.1 p.2 (λ q style at. stopped)
+
+pub hosting::write-returns-in_err-text-clause-runs : goal.hosting::write-returns-in_err-text-clause-runs
+hosting::write-returns-in_err-text-clause-runs g t c =
+    let p = err_from_is_err_and c.from_residual-in_err-text.result c.from_residual-in_err-text.ensures.1 in
+    memory_err c.from_residual-in_err-text.result p.0 _ _ p.1 p.2 (λ q style at. stopped)
+
+pub hosting::write-returns-in_err-passes_top-clause-runs : goal.hosting::write-returns-in_err-passes_top-clause-runs
+hosting::write-returns-in_err-passes_top-clause-runs g t c =
+    let p = err_from_is_err_and c.from_residual-in_err-passes_top.result c.from_residual-in_err-passes_top.ensures.1 in
+    memory_err c.from_residual-in_err-passes_top.result p.0 _ _ p.1 p.2 (λ q style at. stopped_by (lost_once c.passes_top.ensures.lost))
+
+pub hosting::write-returns-in_err-reply-clause-runs : goal.hosting::write-returns-in_err-reply-clause-runs
+hosting::write-returns-in_err-reply-clause-runs g t c =
+    let channel : c.in_ok-clone.field-0 ≡ c.args.channel.now = search rules in
+    let p = err_from_is_err_and c.from_residual-in_err-reply.result c.from_residual-in_err-reply.ensures.1 in
+    writes_as (ways g.O.Outside.goes g.O.Outside.loses) c.args.tree.now c.wait.new.tree c.args.outside.now c.wait.new.outside c.args.place c.args.channel.now c.args.text.now c.in_ok-clone.field-0 c.in_ok-text.field-0 c.from_residual-in_err-reply.result
+    channel c.in_ok-text.ensures
+    (writes_over (ways g.O.Outside.goes g.O.Outside.loses) c.args.tree.now c.wait.new.tree c.args.outside.now c.passes_top.new.self c.wait.new.outside c.args.place c.in_ok-clone.field-0 c.in_ok-text.field-0 c.from_residual-in_err-reply.result
+    c.in_err-reply.field-0.0 p.0 (λ q at. c.in_ok-passes_top.ensures.told q at refl) p.1 p.2 c.in_err-reply.ensures.runs)
+
+pub hosting::write-returns-clause-runs : goal.hosting::write-returns-clause-runs
+hosting::write-returns-clause-runs g t c =
+    let channel : c.in_ok-clone.field-0 ≡ c.args.channel.now = search rules in
+    let named : c.as_str.result.now ≡ c.args.channel.now = search rules in
+    writes_as (ways g.O.Outside.goes g.O.Outside.loses) c.args.tree.now c.wait.new.tree c.args.outside.now c.wait.new.outside c.args.place c.args.channel.now c.args.text.now c.in_ok-clone.field-0 c.in_ok-text.field-0 c.written.result
+    channel c.in_ok-text.ensures
+    (writes_heard (ways g.O.Outside.goes g.O.Outside.loses) c.args.tree.now c.wait.new.tree c.args.outside.now c.passes_top.new.self c.wait.new.outside c.args.place c.in_ok-clone.field-0 c.in_ok-text.field-0 c.written.result
+    (λ q at. c.in_ok-passes_top.ensures.told q at refl) c.in-Heard.reply
+    (subst (SaysOn (ways g.O.Outside.goes g.O.Outside.loses) c.args.tree.now c.passes_top.new.self c.args.place None (AskHost (Write c.in_ok-clone.field-0 c.in_ok-text.field-0)) c.wait.new.tree c.wait.new.outside) c.in-Heard.is c.in_ok-reply.ensures.runs)
+    (subst (λ (x : Text). IsWritten x c.in-Heard.reply c.written.result) (named ∙ sym channel) c.written.ensures))
+
+-- # Calls between interpreters
+
+pub crossing::ask_below-unreachable-requires : goal.crossing::ask_below-unreachable-requires
+crossing::ask_below-unreachable-requires g t c = never_outside c.args.tree.now c.args.place c.args.path.now (λ p at. c.in-Outside.ensures p at) c.requires.0 c.requires.1
+
+pub crossing::ask_below-returns-in-There-clause-asks : goal.crossing::ask_below-returns-in-There-clause-asks
+crossing::ask_below-returns-in-There-clause-asks g t c =
+    calls_below (ways g.O.Outside.goes g.O.Outside.loses) c.args.tree.now c.call_there.new.tree c.args.outside.now c.args.place 0 c.args.path.now (whole_entry c.args.entry) c.call_there.result c.call_there.new.outside refl c.call_there.ensures.runs
+
+pub crossing::ask_below-returns-in-Missing-clause-asks : goal.crossing::ask_below-returns-in-Missing-clause-asks
+crossing::ask_below-returns-in-Missing-clause-asks g t c =
+    asks_nobody (ways g.O.Outside.goes g.O.Outside.loses) c.args.tree.now c.args.outside.now c.find_nobody.new.outside c.args.place c.args.path.now (whole_entry c.args.entry) c.find_nobody.result
+    (λ p at. c.in-Missing.ensures p at)
+    (lost_so c.no_interpreter-lost.result c.find_nobody.result (λ (e : Reply). e ≡ Completed (failing (no_interpreter []))) c.no_interpreter-lost.ensures c.find_nobody.ensures.told) c.find_nobody.ensures.misses c.find_nobody.ensures.lost
+
+pub crossing::ask_entry-returns-then-is_empty-clause-asks : goal.crossing::ask_entry-returns-then-is_empty-clause-asks
+crossing::ask_entry-returns-then-is_empty-clause-asks g t c =
+    let zero = Steps.zero_is (length c.args.path.now) c.is_empty.result c.is_empty.ensures c.if-is_empty.true in
+    asks_here (ways g.O.Outside.goes g.O.Outside.loses) c.args.tree.now c.serve_entry.new.tree c.args.outside.now c.serve_entry.new.outside c.args.place c.args.path.now (whole_entry c.args.entry) c.serve_entry.result
+    (no_item c.args.path.now (omega (arith, zero))) c.serve_entry.ensures.runs
+
+pub crossing::ask_entry-returns-clause-asks : goal.crossing::ask_entry-returns-clause-asks
+crossing::ask_entry-returns-clause-asks g t c =
+    let some = Steps.some_is (length c.args.path.now) c.is_empty.result c.is_empty.ensures c.if-is_empty.false in
+    asks_another (ways g.O.Outside.goes g.O.Outside.loses) c.args.tree.now c.ask_below.new.tree c.args.outside.now c.ask_below.new.outside c.args.place c.args.path.now (whole_entry c.args.entry) c.ask_below.result some c.ask_below.ensures.asks
+
+pub crossing::call_alias-returns-in_err-target_words-clause-runs : goal.crossing::call_alias-returns-in_err-target_words-clause-runs
+crossing::call_alias-returns-in_err-target_words-clause-runs g t c =
+    let p = err_from_is_err_and c.from_residual.result c.from_residual.ensures.1 in
+    memory_err c.from_residual.result p.0 _ _ p.1 p.2 (λ q style at. stopped)
+
+pub crossing::call_alias-returns-in-There-clause-runs : goal.crossing::call_alias-returns-in-There-clause-runs
+crossing::call_alias-returns-in-There-clause-runs g t c =
+    let up : c.up-up.result ≡ c.args.alias.now.up = search rules in
+    let same = alias_is c.args.alias.now c.args.word.now c.args.args.now c.up-up.result c.down-down.result.now c.in_ok-target_words.field-0.items up c.down-down.ensures
+    (c.in_ok-target_words.ensures ∙ ap (λ (ws : List (List ℕ)). ws ++ c.args.args.now) c.words.ensures) in
+    evaluates_same (ways g.O.Outside.goes g.O.Outside.loses) c.args.tree.now c.call_there.new.tree c.args.outside.now c.call_there.new.outside c.args.place (alias_program c.args.alias.now c.args.word.now c.args.args.now) _ c.call_there.result same
+    (calls_end (ways g.O.Outside.goes g.O.Outside.loses) c.args.tree.now c.call_there.new.tree c.args.outside.now c.args.place c.up-up.result c.down-down.result.now (CallWords c.in_ok-target_words.field-0.items) c.call_there.result
+    c.call_there.new.outside (failing (lost_alias c.args.word.now)) c.call_there.ensures.runs)
+
+pub crossing::call_alias-returns-in-Missing-clause-runs : goal.crossing::call_alias-returns-in-Missing-clause-runs
+crossing::call_alias-returns-in-Missing-clause-runs g t c =
+    let up : c.up-up.result ≡ c.args.alias.now.up = search rules in
+    let same = alias_is c.args.alias.now c.args.word.now c.args.args.now c.up-up.result c.down-down.result.now c.in_ok-target_words.field-0.items up c.down-down.ensures
+    (c.in_ok-target_words.ensures ∙ ap (λ (ws : List (List ℕ)). ws ++ c.args.args.now) c.words.ensures) in
+    evaluates_same (ways g.O.Outside.goes g.O.Outside.loses) c.args.tree.now c.args.tree.now c.args.outside.now c.miss_alias.new.outside c.args.place (alias_program c.args.alias.now c.args.word.now c.args.args.now) _ c.miss_alias.result same
+    (calls_nobody (ways g.O.Outside.goes g.O.Outside.loses) c.args.tree.now c.args.outside.now c.miss_alias.new.outside c.args.place c.up-up.result c.down-down.result.now (CallWords c.in_ok-target_words.field-0.items) c.miss_alias.result
+    (failing (lost_alias c.args.word.now)) (λ p at. c.in-Missing.ensures p at) c.miss_alias.ensures.told c.miss_alias.ensures.misses c.miss_alias.ensures.lost)
+
+pub crossing::call_alias-returns-in-Outside-clause-runs : goal.crossing::call_alias-returns-in-Outside-clause-runs
+crossing::call_alias-returns-in-Outside-clause-runs g t c =
+    let up : c.up-up.result ≡ c.args.alias.now.up = search rules in
+    let same = alias_is c.args.alias.now c.args.word.now c.args.args.now c.up-up.result c.down-down.result.now c.in_ok-target_words.field-0.items up c.down-down.ensures
+    (c.in_ok-target_words.ensures ∙ ap (λ (ws : List (List ℕ)). ws ++ c.args.args.now) c.words.ensures) in
+    evaluates_same (ways g.O.Outside.goes g.O.Outside.loses) c.args.tree.now c.call_past_top.new.tree c.args.outside.now c.call_past_top.new.outside c.args.place (alias_program c.args.alias.now c.args.word.now c.args.args.now) _ c.call_past_top.result same
+    (calls_past (ways g.O.Outside.goes g.O.Outside.loses) c.args.tree.now c.call_past_top.new.tree c.args.outside.now c.call_past_top.new.outside c.args.place c.up-up.result c.down-down.result.now (CallWords c.in_ok-target_words.field-0.items)
+    c.call_past_top.result (failing (lost_alias c.args.word.now)) c.call_past_top.ensures.runs)
+
+pub crossing::call_past_top-returns-in_err-passes_top-clause-runs : goal.crossing::call_past_top-returns-in_err-passes_top-clause-runs
+crossing::call_past_top-returns-in_err-passes_top-clause-runs g t c =
+    let p = err_from_is_err_and c.from_residual.result c.from_residual.ensures.1 in
+    Awaited.calls_out_lost (ways g.O.Outside.goes g.O.Outside.loses) c.args.tree.now c.args.outside.now c.passes_top.new.self c.args.caller (Some c.args.up) c.args.down.now (whole_entry c.args.entry) c.from_residual.result p.0 p.1 p.2 (lost_once c.passes_top.ensures.lost)
+
+pub crossing::call_past_top-returns-in_err-value-clause-runs : goal.crossing::call_past_top-returns-in_err-value-clause-runs
+crossing::call_past_top-returns-in_err-value-clause-runs g t c =
+    let p = err_from_is_err_and c.from_residual-in_err-value.result c.from_residual-in_err-value.ensures.1 in
+    Awaited.calls_out_over (ways g.O.Outside.goes g.O.Outside.loses) c.args.tree.now c.wait.new.tree c.args.outside.now c.passes_top.new.self c.wait.new.outside c.args.caller (Some c.args.up) c.args.down.now (whole_entry c.args.entry)
+    (λ q at e. c.in_ok-passes_top.ensures.told q at e) c.requires.above c.from_residual-in_err-value.result c.in_err-value.field-0.0 p.0 p.1 p.2 c.in_err-value.ensures.runs
+
+pub crossing::call_past_top-returns-clause-runs : goal.crossing::call_past_top-returns-clause-runs
+crossing::call_past_top-returns-clause-runs g t c =
+    Awaited.calls_out_on (ways g.O.Outside.goes g.O.Outside.loses) c.args.tree.now c.wait.new.tree c.args.outside.now c.passes_top.new.self c.wait.new.outside c.args.caller (Some c.args.up) c.args.down.now (whole_entry c.args.entry)
+    (λ q at e. c.in_ok-passes_top.ensures.told q at e) c.requires.above c.in-Completed.value
+    (subst (SaysOn (ways g.O.Outside.goes g.O.Outside.loses) c.args.tree.now c.passes_top.new.self c.args.caller (Some c.args.up) (whole_entry c.args.entry) c.wait.new.tree c.wait.new.outside) c.in-Completed.is c.in_ok-value.ensures.runs)
+
+pub crossing::call_there-come_back-requires : goal.crossing::call_there-come_back-requires
+crossing::call_there-come_back-requires g t c =
+    let p = c.requires.running.0 in
+    (p, c.serve_entry-ended.ensures.steady.keys p _ c.requires.running.1 c.requires.running.2)
+
+pub crossing::call_there-returns-in_err-enters-clause-runs : goal.crossing::call_there-returns-in_err-enters-clause-runs
+crossing::call_there-returns-in_err-enters-clause-runs g t c =
+    let p = err_from_is_err_and c.from_residual.result c.from_residual.ensures.1 in
+    calls_untold (ways g.O.Outside.goes g.O.Outside.loses) c.args.tree.now c.args.outside.now c.enters.new.self c.args.caller c.args.up c.args.down.now (whole_entry c.args.entry) c.from_residual.result p.0 p.1 p.2 (lost_once c.enters.ensures.lost)
+
+pub crossing::call_there-returns-clause-runs : goal.crossing::call_there-returns-clause-runs
+crossing::call_there-returns-clause-runs g t c =
+    calls_there (ways g.O.Outside.goes g.O.Outside.loses) c.args.tree.now c.serve_entry-ended.new.tree c.args.outside.now c.args.caller c.args.up c.args.down.now (whole_entry c.args.entry) c.come_back.result
+    c.enters.new.self c.serve_entry-ended.new.outside c.come_back.new.outside c.args.target c.serve_entry-ended.result c.requires.leads (λ p a at e. c.in_ok-enters.ensures.told p a at e)
+    c.serve_entry-ended.ensures.runs c.come_back.ensures.comes c.come_back.ensures.lost c.serve_entry-ended.ensures.steady
+
+pub crossing::serve_entry-returns-in-Own-clause-runs : goal.crossing::serve_entry-returns-in-Own-clause-runs
+crossing::serve_entry-returns-in-Own-clause-runs g t c =
+    evaluates_there (ways g.O.Outside.goes g.O.Outside.loses) c.args.tree.now c.serve.new.tree c.args.outside.now c.serve.new.outside c.args.place (whole_entry c.args.entry) (entry_of c.in-Own.own) c.serve.result (ap whole_entry c.in-Own.is)
+    (evaluates_at_proceeds (ways g.O.Outside.goes g.O.Outside.loses) c.args.tree.now c.serve.new.tree c.args.outside.now c.serve.new.outside c.args.place (λ style. serve style (entry_of c.in-Own.own)) c.serve.result c.serve.ensures.runs c.serve.ensures.lost)
+
+pub crossing::serve_entry-returns-clause-runs : goal.crossing::serve_entry-returns-clause-runs
+crossing::serve_entry-returns-clause-runs g t c =
+    λ p style at. at_prog (ap (λ i. serve style (whole_entry i)) c.in-AskHost.is) (at_reply (ap (λ (x : List ℕ). Completed (ok x)) c.empty.ensures) completed)
+
+-- # Calls that pass the top of the tree, and what is handed in
+
+pub waiting::enter-returns-in-Some-clause-runs : goal.waiting::enter-returns-in-Some-clause-runs
+waiting::enter-returns-in-Some-clause-runs g t c =
+    Awaited.enters_there (ways g.O.Outside.goes g.O.Outside.loses) c.args.tree.now c.serve_entry.new.tree c.args.outside.now c.serve_entry.new.outside c.in-Some.place c.args.target.now (whole_entry c.args.entry) c.serve_entry.result
+    c.in-Some.ensures.there c.serve_entry.ensures.runs
+
+pub waiting::enter-returns-in-None-clause-runs : goal.waiting::enter-returns-in-None-clause-runs
+waiting::enter-returns-in-None-clause-runs g t c =
+    Awaited.enters_nobody (ways g.O.Outside.goes g.O.Outside.loses) c.args.tree.now c.args.outside.now c.args.target.now (whole_entry c.args.entry) c.no_interpreter.result c.in-None.ensures.missing c.no_interpreter.ensures
+
+pub waiting::hand_in-returns-in_err-entry_leaves-clause-runs : goal.waiting::hand_in-returns-in_err-entry_leaves-clause-runs
+waiting::hand_in-returns-in_err-entry_leaves-clause-runs g t c =
+    let p = err_from_is_err_and c.from_residual.result c.from_residual.ensures.1 in
+    Awaited.handed_over (ways g.O.Outside.goes g.O.Outside.loses) c.args.tree.now c.enter-ended.new.tree c.args.outside.now c.enter-ended.new.outside c.args.place c.args.up (whole_entry c.args.entry.now) c.as_slice-path.result.now c.args.target.items
+    (whole_entry c.args.inner) c.enter-ended.result c.entry_leaves.new.self c.from_residual.result p.0 p.1 p.2 c.as_slice-path.ensures.value c.enter-ended.ensures.runs (lost_once c.entry_leaves.ensures.lost)
+
+pub waiting::hand_in-returns-in_err-status-clause-runs : goal.waiting::hand_in-returns-in_err-status-clause-runs
+waiting::hand_in-returns-in_err-status-clause-runs g t c =
+    let p = err_from_is_err_and c.from_residual-in_err-status.result c.from_residual-in_err-status.ensures.1 in
+    Awaited.handed_over (ways g.O.Outside.goes g.O.Outside.loses) c.args.tree.now c.enter-ended.new.tree c.args.outside.now c.enter-ended.new.outside c.args.place c.args.up (whole_entry c.args.entry.now) c.as_slice-path.result.now c.args.target.items
+    (whole_entry c.args.inner) c.enter-ended.result c.entry_leaves.new.self c.from_residual-in_err-status.result p.0 p.1 p.2 c.as_slice-path.ensures.value c.enter-ended.ensures.runs (lost_once c.entry_leaves.ensures.lost)
+
+pub waiting::hand_in-returns-in_default-clause-runs : goal.waiting::hand_in-returns-in_default-clause-runs
+waiting::hand_in-returns-in_default-clause-runs g t c =
+    Awaited.handed_on (ways g.O.Outside.goes g.O.Outside.loses) c.args.tree.now c.enter-ended.new.tree c.args.outside.now c.enter-ended.new.outside c.args.place c.args.up (whole_entry c.args.entry.now) c.as_slice-path.result.now c.args.target.items
+    (whole_entry c.args.inner) c.enter-ended.result c.entry_leaves.new.self c.in_ok-status.field-0 c.in_default.is c.as_slice-path.ensures.value c.enter-ended.ensures.runs c.in_ok-entry_leaves.ensures.told c.in_ok-status.ensures
+
+pub waiting::hand_in-returns-in_err-exit_comes_back-clause-runs : goal.waiting::hand_in-returns-in_err-exit_comes_back-clause-runs
+waiting::hand_in-returns-in_err-exit_comes_back-clause-runs g t c =
+    let p = err_from_is_err_and c.from_residual-in_err-exit_comes_back.result c.from_residual-in_err-exit_comes_back.ensures.1 in
+    Awaited.handed_over (ways g.O.Outside.goes g.O.Outside.loses) c.args.tree.now c.enter-ended.new.tree c.args.outside.now c.enter-ended.new.outside c.args.place c.args.up (whole_entry c.args.entry.now) c.as_slice-path.result.now c.args.target.items
+    (whole_entry c.args.inner) c.enter-ended.result c.exit_comes_back.new.self c.from_residual-in_err-exit_comes_back.result p.0 p.1 p.2 c.as_slice-path.ensures.value c.enter-ended.ensures.runs (lost_again c.entry_leaves.new.self c.entry_leaves.ensures.lost c.exit_comes_back.ensures.lost)
+
+pub waiting::hand_in-returns-clause-runs : goal.waiting::hand_in-returns-clause-runs
+waiting::hand_in-returns-clause-runs g t c =
+    let fits_it : FitsSigned w64 c.in-Some.status = search rules in
+    let same = to_z-of_z w64 c.in-Some.status fits_it in
+    Awaited.handed_out (ways g.O.Outside.goes g.O.Outside.loses) c.args.tree.now c.enter-ended.new.tree c.args.outside.now c.enter-ended.new.outside c.args.place c.args.up (whole_entry c.args.entry.now) c.as_slice-path.result.now c.args.target.items
+    (whole_entry c.args.inner) c.enter-ended.result c.entry_leaves.new.self c.exit_comes_back.new.self _ c.in_ok-status.field-0 (c.in-Some.is ∙ ap (λ (n : ℤ). Some n) (sym same)) c.as_slice-path.ensures.value
+    c.enter-ended.ensures.runs c.in_ok-entry_leaves.ensures.told c.in_ok-status.ensures (λ p at e. c.in_ok-exit_comes_back.ensures.told c.requires.handed p at e) c.enter-ended.ensures.steady
+
+pub waiting::wait-returns-in_err-target-clause-runs : goal.waiting::wait-returns-in_err-target-clause-runs
+waiting::wait-returns-in_err-target-clause-runs g t c =
+    let p = err_from_is_err_and c.from_residual.result c.from_residual.ensures.1 in
+    ran_err c.from_residual.result c.in_err-target.field-0.0 p.0 _ _ _ p.1 p.2
+    (Awaited.ends_wait (ways g.O.Outside.goes g.O.Outside.loses) c.args.tree.now c.turns.tree c.args.outside.now c.turns.outside c.next.new.self c.args.place c.args.up (whole_entry c.args.entry.now) c.in_err-target.field-0.0
+    c.turns.invariant.leads c.turns.invariant.steady c.requires.above (λ q at e. c.in_err-target.ensures.comes q at e) c.in_err-target.ensures.lost) (λ e h. h)
+
+pub waiting::wait-hand_in-requires : goal.waiting::wait-hand_in-requires
+waiting::wait-hand_in-requires g t c =
+    let p = c.requires.running.0 in
+    let named = c.turns.invariant.steady.keys p _ c.requires.running.1 c.requires.running.2 in
+    let comes = Awaited.turned (ways g.O.Outside.goes g.O.Outside.loses) g.O.Outside.hands_in (tree_of c.turns.tree) c.turns.outside c.next.new.self p c.args.up (whole_entry c.args.entry.now) c.in_ok-target.field-0 _ c.in-Entry.is
+    (c.in_ok-target.ensures.comes p named (c.requires.above p c.requires.running.1)) in
+    let fewer = subst (λ (x : Turn). OnEntry (Ok x) (g.O.Outside.entries_left c.next.new.self < g.O.Outside.entries_left c.turns.outside)) c.in-Entry.is c.in_ok-target.ensures.fewer in
+    let left = c.turns.invariant.left in
+    let most : room (tree_of c.turns.tree) ≤ 1000 = omega arith in
+    λ κs h. (search rules, (search rules, ((p, named, still_in_use c.args.tree.now c.turns.tree p c.turns.invariant.steady c.requires.running.2), comes.1)))
+
+pub waiting::wait-turns-preserved : goal.waiting::wait-turns-preserved
+waiting::wait-turns-preserved g t c = record {
+  leads = Awaited.waits_on (ways g.O.Outside.goes g.O.Outside.loses) c.args.tree.now c.turns.tree c.hand_in.new.tree c.args.outside.now c.turns.outside c.next.new.self c.hand_in.new.outside c.args.place c.args.up (whole_entry c.args.entry.now)
+      c.in-Entry.target.items (whole_entry c.in-Entry.inner) c.turns.invariant.leads c.turns.invariant.steady c.requires.above
+      (λ p at e. (Awaited.turned (ways g.O.Outside.goes g.O.Outside.loses) g.O.Outside.hands_in (tree_of c.turns.tree) c.turns.outside c.next.new.self p c.args.up (whole_entry c.args.entry.now) c.in_ok-target.field-0 _ c.in-Entry.is (c.in_ok-target.ensures.comes p at e)).0)
+      c.in_ok-hand_in-in-Entry.ensures.runs;
+  steady = steady-trans _ _ _ c.turns.invariant.steady c.hand_in.ensures.steady;
+  left = let a = c.hand_in.ensures.left in let b = c.turns.invariant.left in let d = c.next.ensures.left in omega arith;
+}
+
+pub waiting::wait-returns-in_err-hand_in-in-Entry-clause-runs : goal.waiting::wait-returns-in_err-hand_in-in-Entry-clause-runs
+waiting::wait-returns-in_err-hand_in-in-Entry-clause-runs g t c =
+    let p = err_from_is_err_and c.from_residual-in_err-hand_in-in-Entry.result c.from_residual-in_err-hand_in-in-Entry.ensures.1 in
+    ran_err c.from_residual-in_err-hand_in-in-Entry.result c.in_err-hand_in-in-Entry.field-0.0 p.0 _ _ _ p.1 p.2
+    (Awaited.waits_out (ways g.O.Outside.goes g.O.Outside.loses) c.args.tree.now c.turns.tree c.hand_in.new.tree c.args.outside.now c.turns.outside c.next.new.self c.hand_in.new.outside c.args.place c.args.up (whole_entry c.args.entry.now)
+    c.in-Entry.target.items (whole_entry c.in-Entry.inner) c.in_err-hand_in-in-Entry.field-0.0 c.turns.invariant.leads c.turns.invariant.steady c.requires.above
+    (λ q at e. (Awaited.turned (ways g.O.Outside.goes g.O.Outside.loses) g.O.Outside.hands_in (tree_of c.turns.tree) c.turns.outside c.next.new.self q c.args.up (whole_entry c.args.entry.now) c.in_ok-target.field-0 _ c.in-Entry.is (c.in_ok-target.ensures.comes q at e)).0)
+    c.in_err-hand_in-in-Entry.ensures.runs) (λ e h. h)
+
+pub waiting::wait-returns-in_err-hand_in-in-Entry-clause-steady : goal.waiting::wait-returns-in_err-hand_in-in-Entry-clause-steady
+waiting::wait-returns-in_err-hand_in-in-Entry-clause-steady g t c = steady-trans _ _ _ c.turns.invariant.steady c.hand_in.ensures.steady
+
+pub waiting::wait-returns-in-Completed-clause-runs : goal.waiting::wait-returns-in-Completed-clause-runs
+waiting::wait-returns-in-Completed-clause-runs g t c =
+    Awaited.completes_wait (ways g.O.Outside.goes g.O.Outside.loses) c.args.tree.now c.turns.tree c.args.outside.now c.turns.outside c.next.new.self c.args.place c.args.up (whole_entry c.args.entry.now) c.in-Completed.value
+    c.turns.invariant.leads c.turns.invariant.steady c.requires.above
+    (λ p at e. Awaited.turned (ways g.O.Outside.goes g.O.Outside.loses) g.O.Outside.hands_in (tree_of c.turns.tree) c.turns.outside c.next.new.self p c.args.up (whole_entry c.args.entry.now) c.in_ok-target.field-0 _ c.in-Completed.is (c.in_ok-target.ensures.comes p at e))
+
+pub waiting::wait-returns-in-Heard-clause-runs : goal.waiting::wait-returns-in-Heard-clause-runs
+waiting::wait-returns-in-Heard-clause-runs g t c =
+    Awaited.hears_wait (ways g.O.Outside.goes g.O.Outside.loses) c.args.tree.now c.turns.tree c.args.outside.now c.turns.outside c.next.new.self c.args.place c.args.up (whole_entry c.args.entry.now) (reply_of c.in-Heard.reply)
+    c.turns.invariant.leads c.turns.invariant.steady c.requires.above
+    (λ p at e. Awaited.turned (ways g.O.Outside.goes g.O.Outside.loses) g.O.Outside.hands_in (tree_of c.turns.tree) c.turns.outside c.next.new.self p c.args.up (whole_entry c.args.entry.now) c.in_ok-target.field-0 _ c.in-Heard.is (c.in_ok-target.ensures.comes p at e))
+
+pub waiting::wait-returns-in-Heard-clause-own : goal.waiting::wait-returns-in-Heard-clause-own
+waiting::wait-returns-in-Heard-clause-own g t c =
+    let p = c.requires.running.0 in
+    let named = c.turns.invariant.steady.keys p _ c.requires.running.1 c.requires.running.2 in
+    (Awaited.turned (ways g.O.Outside.goes g.O.Outside.loses) g.O.Outside.hands_in (tree_of c.turns.tree) c.turns.outside c.next.new.self p c.args.up (whole_entry c.args.entry.now) c.in_ok-target.field-0 _ c.in-Heard.is
+    (c.in_ok-target.ensures.comes p named (c.requires.above p c.requires.running.1))).1

@@ -1,0 +1,260 @@
+use Rattle.std.proofs.Common.{◌≡◌, ◌≤◌, ◌+◌, ◌-◌, ◌*◌, ℕ, List, [], drop, get_or, length}
+use Rattle.std.specs.Option.{option_copied}
+use Rattle.std.specs.String.{string_bytes}
+use Rattle.tcl_core.specs.Paths.{Path}
+use Rattle.tcl_language.specs.Scripts.{commands, words, parts}
+use Rattle.tcl_run.specs.Entering.{whole_entry}
+use Rattle.tcl_run.specs.Runs.{IsAt, IsSteady, room, ways}
+use Rattle.tcl_text.specs.declared.integer.Integers.{Integers}
+use Rattle.tcl_tree.specs.TreeOf.{tree_of}
+use Rattle.tcl_calls.specs.Words.{opens, IsShort}
+use Rattle.tcl_expression_evaluation.specs.Steps.{from}
+use Rattle.tcl_language.specs.Expressions.{expression, computed, if_first, first_true, while_loop, while_turns, for_loop, for_turns}
+use Rattle.tcl_language.specs.Control.{foreach, foreach_turns}
+use Rattle.tcl_calls.specs.BranchesRead.{tests_of}
+use Rattle.tcl_calls.specs.Expressions.{IsKept, settles}
+use Rattle.tcl_calls.specs.Walks.{walks_at}
+use Rattle.tcl_evaluation.specs.View.{Leads}
+use Rattle.tcl_evaluation.proofs.Awaited.{WaitsFrom}
+use Rattle.tcl_evaluation.proofs.+eval.Given as goal
+
+abbrev pub decreases-evaluation::eval_script : goal.decreases-evaluation::eval_script
+decreases-evaluation::eval_script g l = 16016 * g.O.Outside.entries_left l.outside.now + 16 * room (tree_of l.tree.now) + 0
+
+abbrev pub decreases-evaluation::eval_text : goal.decreases-evaluation::eval_text
+decreases-evaluation::eval_text g l = 16016 * g.O.Outside.entries_left l.outside.now + 16 * room (tree_of l.tree.now) + 1
+
+abbrev pub decreases-evaluation::eval_value : goal.decreases-evaluation::eval_value
+decreases-evaluation::eval_value g l = 16016 * g.O.Outside.entries_left l.outside.now + 16 * room (tree_of l.tree.now) + 1
+
+abbrev pub decreases-control::eval : goal.decreases-control::eval
+decreases-control::eval g l = 16016 * g.O.Outside.entries_left l.outside.now + 16 * room (tree_of l.tree.now) + 2
+
+abbrev pub decreases-control::catch : goal.decreases-control::catch
+decreases-control::catch g l = 16016 * g.O.Outside.entries_left l.outside.now + 16 * room (tree_of l.tree.now) + 2
+
+abbrev pub decreases-commands::call_procedure : goal.decreases-commands::call_procedure
+decreases-commands::call_procedure g l = 16016 * g.O.Outside.entries_left l.outside.now + 16 * room (tree_of l.tree.now) + 2
+
+abbrev pub decreases-evaluation::eval_part : goal.decreases-evaluation::eval_part
+decreases-evaluation::eval_part g l = 16016 * g.O.Outside.entries_left l.outside.now + 16 * room (tree_of l.tree.now) + 2
+
+abbrev pub decreases-evaluation::eval_lone_part : goal.decreases-evaluation::eval_lone_part
+decreases-evaluation::eval_lone_part g l = 16016 * g.O.Outside.entries_left l.outside.now + 16 * room (tree_of l.tree.now) + 2
+
+abbrev pub decreases-commands::call_builtin : goal.decreases-commands::call_builtin
+decreases-commands::call_builtin g l = 16016 * g.O.Outside.entries_left l.outside.now + 16 * room (tree_of l.tree.now) + 10
+
+abbrev pub decreases-evaluation::substitute : goal.decreases-evaluation::substitute
+decreases-evaluation::substitute g l = 16016 * g.O.Outside.entries_left l.outside.now + 16 * room (tree_of l.tree.now) + 3
+
+abbrev pub decreases-evaluation::eval_word : goal.decreases-evaluation::eval_word
+decreases-evaluation::eval_word g l = 16016 * g.O.Outside.entries_left l.outside.now + 16 * room (tree_of l.tree.now) + 4
+
+abbrev pub decreases-commands::call_command : goal.decreases-commands::call_command
+decreases-commands::call_command g l = 16016 * g.O.Outside.entries_left l.outside.now + 16 * room (tree_of l.tree.now) + 11
+
+abbrev pub decreases-commands::call : goal.decreases-commands::call
+decreases-commands::call g l = 16016 * g.O.Outside.entries_left l.outside.now + 16 * room (tree_of l.tree.now) + 12
+
+abbrev pub decreases-evaluation::eval_command : goal.decreases-evaluation::eval_command
+decreases-evaluation::eval_command g l = 16016 * g.O.Outside.entries_left l.outside.now + 16 * room (tree_of l.tree.now) + 13
+
+abbrev pub decreases-evaluation::eval_commands : goal.decreases-evaluation::eval_commands
+decreases-evaluation::eval_commands g l = 16016 * g.O.Outside.entries_left l.outside.now + 16 * room (tree_of l.tree.now) + 14
+
+abbrev pub decreases-crossing::call_target : goal.decreases-crossing::call_target
+decreases-crossing::call_target g l = 16016 * g.O.Outside.entries_left l.outside.now + 16 * room (tree_of l.tree.now) + 0
+
+abbrev pub decreases-crossing::serve_call : goal.decreases-crossing::serve_call
+decreases-crossing::serve_call g l = 16016 * g.O.Outside.entries_left l.outside.now + 16 * room (tree_of l.tree.now) + 1
+
+abbrev pub decreases-crossing::call_alias : goal.decreases-crossing::call_alias
+decreases-crossing::call_alias g l = 16016 * g.O.Outside.entries_left l.outside.now + 16 * room (tree_of l.tree.now) + 5
+
+abbrev pub decreases-crossing::invoke : goal.decreases-crossing::invoke
+decreases-crossing::invoke g l = 16016 * g.O.Outside.entries_left l.outside.now + 16 * room (tree_of l.tree.now) + 0
+
+abbrev pub decreases-crossing::invoke_at : goal.decreases-crossing::invoke_at
+decreases-crossing::invoke_at g l = 16016 * g.O.Outside.entries_left l.outside.now + 16 * room (tree_of l.tree.now) + 1
+
+abbrev pub decreases-crossing::serve_hidden : goal.decreases-crossing::serve_hidden
+decreases-crossing::serve_hidden g l = 16016 * g.O.Outside.entries_left l.outside.now + 16 * room (tree_of l.tree.now) + 2
+
+abbrev pub decreases-crossing::serve_eval : goal.decreases-crossing::serve_eval
+decreases-crossing::serve_eval g l = 16016 * g.O.Outside.entries_left l.outside.now + 16 * room (tree_of l.tree.now) + 2
+
+abbrev pub decreases-commands::call_hidden : goal.decreases-commands::call_hidden
+decreases-commands::call_hidden g l = 16016 * g.O.Outside.entries_left l.outside.now + 16 * room (tree_of l.tree.now) + 12
+
+abbrev pub decreases-interpreters::interp_eval : goal.decreases-interpreters::interp_eval
+decreases-interpreters::interp_eval g l = 16016 * g.O.Outside.entries_left l.outside.now + 16 * room (tree_of l.tree.now) + 7
+
+abbrev pub decreases-interpreters::interp : goal.decreases-interpreters::interp
+decreases-interpreters::interp g l = 16016 * g.O.Outside.entries_left l.outside.now + 16 * room (tree_of l.tree.now) + 9
+
+abbrev pub decreases-interpreters::interp_invoke_hidden : goal.decreases-interpreters::interp_invoke_hidden
+decreases-interpreters::interp_invoke_hidden g l = 16016 * g.O.Outside.entries_left l.outside.now + 16 * room (tree_of l.tree.now) + 7
+
+abbrev pub decreases-interpreters::call_subcommand : goal.decreases-interpreters::call_subcommand
+decreases-interpreters::call_subcommand g l = 16016 * g.O.Outside.entries_left l.outside.now + 16 * room (tree_of l.tree.now) + 8
+
+abbrev pub decreases-children::child_eval : goal.decreases-children::child_eval
+decreases-children::child_eval g l = 16016 * g.O.Outside.entries_left l.outside.now + 16 * room (tree_of l.tree.now) + 7
+
+abbrev pub decreases-children::child_invoke_hidden : goal.decreases-children::child_invoke_hidden
+decreases-children::child_invoke_hidden g l = 16016 * g.O.Outside.entries_left l.outside.now + 16 * room (tree_of l.tree.now) + 7
+
+abbrev pub decreases-children::call_subcommand : goal.decreases-children::call_subcommand
+decreases-children::call_subcommand g l = 16016 * g.O.Outside.entries_left l.outside.now + 16 * room (tree_of l.tree.now) + 8
+
+abbrev pub decreases-children::child : goal.decreases-children::child
+decreases-children::child g l = 16016 * g.O.Outside.entries_left l.outside.now + 16 * room (tree_of l.tree.now) + 9
+
+abbrev pub invariant-evaluation::eval_commands-commands : goal.invariant-evaluation::eval_commands-commands
+invariant-evaluation::eval_commands-commands g l = record {
+  leads : (p : Path) (style : Integers) → IsAt l.fn.tree l.place p style →
+      Leads (ways g.O.Outside.goes g.O.Outside.loses) style (tree_of l.fn.tree) l.fn.outside p (commands l.fn.script.commands l.fn.script.fault []) (tree_of l.tree) l.outside (commands (drop l.command-index l.command-items) l.fn.script.fault l.last);
+  steady : IsSteady l.fn.tree l.tree;
+  left : g.O.Outside.entries_left l.outside ≤ g.O.Outside.entries_left l.fn.outside;
+}
+
+abbrev pub invariant-evaluation::eval_command-words : goal.invariant-evaluation::eval_command-words
+invariant-evaluation::eval_command-words g l = record {
+  leads : (p : Path) (style : Integers) → IsAt l.fn.tree l.place p style →
+      Leads (ways g.O.Outside.goes g.O.Outside.loses) style (tree_of l.fn.tree) l.fn.outside p (words l.fn.command []) (tree_of l.tree) l.outside (words (drop l.word-index l.word-items) l.words.items);
+  steady : IsSteady l.fn.tree l.tree;
+  left : g.O.Outside.entries_left l.outside ≤ g.O.Outside.entries_left l.fn.outside;
+}
+
+abbrev pub invariant-evaluation::substitute-parts : goal.invariant-evaluation::substitute-parts
+invariant-evaluation::substitute-parts g l = record {
+  leads : (p : Path) (style : Integers) → IsAt l.fn.tree l.place p style →
+      Leads (ways g.O.Outside.goes g.O.Outside.loses) style (tree_of l.fn.tree) l.fn.outside p (parts l.fn.parts [] []) (tree_of l.tree) l.outside (parts (drop l.part-index l.parts) (opens l.elements.items) (string_bytes l.text));
+  short : IsShort (string_bytes l.text);
+  steady : IsSteady l.fn.tree l.tree;
+  left : g.O.Outside.entries_left l.outside ≤ g.O.Outside.entries_left l.fn.outside;
+}
+
+-- Expressions, and the commands with conditions.
+
+abbrev pub decreases-expressions::expression : goal.decreases-expressions::expression
+decreases-expressions::expression g l = 16016 * g.O.Outside.entries_left l.outside.now + 16 * room (tree_of l.tree.now) + 5
+
+abbrev pub decreases-expressions::condition : goal.decreases-expressions::condition
+decreases-expressions::condition g l = 16016 * g.O.Outside.entries_left l.outside.now + 16 * room (tree_of l.tree.now) + 6
+
+abbrev pub decreases-expressions::expr : goal.decreases-expressions::expr
+decreases-expressions::expr g l = 16016 * g.O.Outside.entries_left l.outside.now + 16 * room (tree_of l.tree.now) + 6
+
+abbrev pub decreases-expressions::if_first : goal.decreases-expressions::if_first
+decreases-expressions::if_first g l = 16016 * g.O.Outside.entries_left l.outside.now + 16 * room (tree_of l.tree.now) + 7
+
+abbrev pub decreases-expressions::turn : goal.decreases-expressions::turn
+decreases-expressions::turn g l = 16016 * g.O.Outside.entries_left l.outside.now + 16 * room (tree_of l.tree.now) + 7
+
+abbrev pub decreases-expressions::while_loop : goal.decreases-expressions::while_loop
+decreases-expressions::while_loop g l = 16016 * g.O.Outside.entries_left l.outside.now + 16 * room (tree_of l.tree.now) + 8
+
+abbrev pub decreases-expressions::for_loop : goal.decreases-expressions::for_loop
+decreases-expressions::for_loop g l = 16016 * g.O.Outside.entries_left l.outside.now + 16 * room (tree_of l.tree.now) + 8
+
+abbrev pub decreases-expressions::expression-parts : goal.decreases-expressions::expression-parts
+decreases-expressions::expression-parts g l = length l.kept.nodes.items - l.evaluation.next
+
+abbrev pub invariant-expressions::expression-parts : goal.invariant-expressions::expression-parts
+invariant-expressions::expression-parts g l = record {
+  leads : (p : Path) (style : Integers) → IsAt l.fn.tree l.place p style → (text : List ℕ) → IsKept style text l.fn.kept →
+      Leads (ways g.O.Outside.goes g.O.Outside.loses) style (tree_of l.fn.tree) l.fn.outside p (expression style text) (tree_of l.tree) l.outside (computed (from style l.kept.nodes.items l.evaluation.next l.evaluation.values.items) (settles style));
+  steady : IsSteady l.fn.tree l.tree;
+  left : g.O.Outside.entries_left l.outside ≤ g.O.Outside.entries_left l.fn.outside;
+}
+
+abbrev pub invariant-expressions::if_first-tests : goal.invariant-expressions::if_first-tests
+invariant-expressions::if_first-tests g l = record {
+  leads : (p : Path) (style : Integers) → IsAt l.fn.tree l.place p style →
+      Leads (ways g.O.Outside.goes g.O.Outside.loses) style (tree_of l.fn.tree) l.fn.outside p (if_first style l.fn.args) (tree_of l.tree) l.outside (first_true style (tests_of (drop l.branch-index l.branch-items)) (option_copied l.last));
+  steady : IsSteady l.fn.tree l.tree;
+  left : g.O.Outside.entries_left l.outside ≤ g.O.Outside.entries_left l.fn.outside;
+}
+
+abbrev pub invariant-expressions::while_loop-turns : goal.invariant-expressions::while_loop-turns
+invariant-expressions::while_loop-turns g l = record {
+  leads : (p : Path) (style : Integers) → IsAt l.fn.tree l.place p style →
+      Leads (ways g.O.Outside.goes g.O.Outside.loses) style (tree_of l.fn.tree) l.fn.outside p (while_loop l.fn.args) (tree_of l.tree) l.outside (while_turns style (get_or l.fn.args 0 []) (get_or l.fn.args 1 []));
+  body : l.body ≡ get_or l.fn.args 1 [];
+  steady : IsSteady l.fn.tree l.tree;
+  left : g.O.Outside.entries_left l.outside ≤ g.O.Outside.entries_left l.fn.outside;
+}
+
+abbrev pub invariant-expressions::for_loop-turns : goal.invariant-expressions::for_loop-turns
+invariant-expressions::for_loop-turns g l = record {
+  leads : (p : Path) (style : Integers) → IsAt l.fn.tree l.place p style →
+      Leads (ways g.O.Outside.goes g.O.Outside.loses) style (tree_of l.fn.tree) l.fn.outside p (for_loop l.fn.args) (tree_of l.tree) l.outside (for_turns style (get_or l.fn.args 1 []) (get_or l.fn.args 2 []) (get_or l.fn.args 3 []));
+  next : l.next ≡ get_or l.fn.args 2 [];
+  body : l.body ≡ get_or l.fn.args 3 [];
+  steady : IsSteady l.fn.tree l.tree;
+  left : g.O.Outside.entries_left l.outside ≤ g.O.Outside.entries_left l.fn.outside;
+}
+
+-- Loops over lists, and scripts at another level.
+
+abbrev pub decreases-loops::foreach : goal.decreases-loops::foreach
+decreases-loops::foreach g l = 16016 * g.O.Outside.entries_left l.outside.now + 16 * room (tree_of l.tree.now) + 7
+
+abbrev pub decreases-loops::uplevel : goal.decreases-loops::uplevel
+decreases-loops::uplevel g l = 16016 * g.O.Outside.entries_left l.outside.now + 16 * room (tree_of l.tree.now) + 2
+
+abbrev pub invariant-loops::foreach-turns : goal.invariant-loops::foreach-turns
+invariant-loops::foreach-turns g l = record {
+  leads : (p : Path) (style : Integers) → IsAt l.fn.tree l.place p style →
+      Leads (ways g.O.Outside.goes g.O.Outside.loses) style (tree_of l.fn.tree) l.fn.outside p (foreach l.fn.args) (tree_of l.tree) l.outside (foreach_turns (walks_at l.turns l.walks.items) l.initial.body);
+  body : l.body ≡ l.initial.body;
+  steady : IsSteady l.fn.tree l.tree;
+  left : g.O.Outside.entries_left l.outside ≤ g.O.Outside.entries_left l.fn.outside;
+}
+
+-- Crossings, and what stands outside of the tree.
+
+abbrev pub decreases-crossing::serve_entry : goal.decreases-crossing::serve_entry
+decreases-crossing::serve_entry g l = 16016 * g.O.Outside.entries_left l.outside.now + 16 * room (tree_of l.tree.now) + 3
+
+abbrev pub decreases-crossing::call_there : goal.decreases-crossing::call_there
+decreases-crossing::call_there g l = 16016 * g.O.Outside.entries_left l.outside.now + 16 * room (tree_of l.tree.now) + 4
+
+abbrev pub decreases-crossing::call_past_top : goal.decreases-crossing::call_past_top
+decreases-crossing::call_past_top g l = 16016 * g.O.Outside.entries_left l.outside.now + 16 * room (tree_of l.tree.now) + 1
+
+abbrev pub decreases-crossing::ask_below : goal.decreases-crossing::ask_below
+decreases-crossing::ask_below g l = 16016 * g.O.Outside.entries_left l.outside.now + 16 * room (tree_of l.tree.now) + 5
+
+abbrev pub decreases-crossing::ask_entry : goal.decreases-crossing::ask_entry
+decreases-crossing::ask_entry g l = 16016 * g.O.Outside.entries_left l.outside.now + 16 * room (tree_of l.tree.now) + 6
+
+abbrev pub decreases-waiting::wait : goal.decreases-waiting::wait
+decreases-waiting::wait g l = 16016 * g.O.Outside.entries_left l.outside.now + 16 * room (tree_of l.tree.now) + 0
+
+abbrev pub decreases-waiting::hand_in : goal.decreases-waiting::hand_in
+decreases-waiting::hand_in g l = 16016 * g.O.Outside.entries_left l.outside.now + 16 * room (tree_of l.tree.now) + 5
+
+abbrev pub decreases-waiting::enter : goal.decreases-waiting::enter
+decreases-waiting::enter g l = 16016 * g.O.Outside.entries_left l.outside.now + 16 * room (tree_of l.tree.now) + 4
+
+abbrev pub decreases-hosting::write : goal.decreases-hosting::write
+decreases-hosting::write g l = 16016 * g.O.Outside.entries_left l.outside.now + 16 * room (tree_of l.tree.now) + 1
+
+abbrev pub decreases-hosting::put_line : goal.decreases-hosting::put_line
+decreases-hosting::put_line g l = 16016 * g.O.Outside.entries_left l.outside.now + 16 * room (tree_of l.tree.now) + 2
+
+abbrev pub decreases-hosting::puts : goal.decreases-hosting::puts
+decreases-hosting::puts g l = 16016 * g.O.Outside.entries_left l.outside.now + 16 * room (tree_of l.tree.now) + 3
+
+abbrev pub decreases-waiting::wait-turns : goal.decreases-waiting::wait-turns
+decreases-waiting::wait-turns g l = g.O.Outside.entries_left l.outside
+
+abbrev pub invariant-waiting::wait-turns : goal.invariant-waiting::wait-turns
+invariant-waiting::wait-turns g l = record {
+  leads : WaitsFrom (ways g.O.Outside.goes g.O.Outside.loses) l.fn.tree l.fn.outside l.place l.up (whole_entry l.entry) l.tree l.outside;
+  steady : IsSteady l.fn.tree l.tree;
+  left : g.O.Outside.entries_left l.outside ≤ g.O.Outside.entries_left l.fn.outside;
+}

@@ -1,0 +1,3 @@
+pub mod Conditional
+pub mod View
+pub mod Waiting

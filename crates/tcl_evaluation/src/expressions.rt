@@ -1,0 +1,257 @@
+//! Expressions, and the commands with conditions.
+ghost use Rattle.std.specs.Prelude.{◌≡◌, ◌≤◌, MatchResult};
+ghost use Rattle.tcl_language.specs.Expressions as expressions;
+ghost use Rattle.tcl_run.specs.Ends.{Breaks};
+ghost use Rattle.tcl_run.specs.Runs.{IsRunning, IsSteady, ProceedsIn, ways};
+ghost use Rattle.tcl_evaluation.specs.Conditional.{Computes, TestGoes, TestBreaks, TurnGoes, TurnBreaks};
+
+use crate::evaluation::{eval_value, eval_word};
+use std::alloc::Global;
+use tcl_calls::branches::{Branches, branches_of};
+use tcl_calls::expressions::{holds, next_part, read_expression, settle};
+use tcl_calls::scripts::script_of;
+use tcl_calls::turns::{goes_on, turns_on};
+use tcl_expression_evaluation::evaluation::{Evaluation, Progress};
+use tcl_expression_tree::tree::ExprTree;
+use tcl_run::failure::wrong_args;
+use tcl_run::interruption::Interruption;
+use tcl_run::outside::Outside;
+use tcl_run::steps::{charge, on_ok};
+use tcl_tree::tree::{Place, Tree};
+use tcl_value::value::Value;
+
+/// The value of an expression that was read. Its parts are substituted as they are needed, from left to right.
+///
+/// # Errors
+/// 111 to 113 and 212 to 216 of the operands; those of what is substituted; want of memory.
+#[cycle(eval)]
+#[inline(never)]
+fn expression<O: Outside>(
+    tree: &mut Tree,
+    alloc: Global,
+    outside: &mut O,
+    place: Place,
+    evaluation: &mut Evaluation,
+    kept: &ExprTree,
+) -> Result<Value, Interruption>
+    requires { IsRunning tree.old place }
+    ensures runs { Computes (ways O.goes O.loses) tree.old outside.old place kept.now tree.new outside.new result }
+    ensures steady { IsSteady tree.old tree.new }
+    ensures left { O.entries_left outside.new ≤ O.entries_left outside.old }
+{
+    let style = tree.integers();
+    evaluation.restart();
+    'parts: loop {
+        match next_part(evaluation, alloc, kept, style)? {
+            Progress::Wants(word) => {
+                let value = on_ok(eval_word(tree, alloc, outside, place, word))?;
+                evaluation.supply(value)?;
+            }
+            Progress::Done(value) => return settle(alloc, style, value),
+        }
+    }
+}
+
+/// Whether a condition that was read holds.
+#[cycle(eval)]
+#[inline(never)]
+fn condition<O: Outside>(
+    tree: &mut Tree,
+    alloc: Global,
+    outside: &mut O,
+    place: Place,
+    evaluation: &mut Evaluation,
+    test: &ExprTree,
+) -> Result<bool, Interruption>
+    requires { IsRunning tree.old place }
+    ensures runs { MatchResult result
+        (λ holds. TestGoes (ways O.goes O.loses) tree.old outside.old place test.now tree.new outside.new holds)
+        (λ i. Breaks i (TestBreaks (ways O.goes O.loses) tree.old outside.old place test.now tree.new outside.new)) }
+    ensures steady { IsSteady tree.old tree.new }
+    ensures left { O.entries_left outside.new ≤ O.entries_left outside.old }
+{
+    let style = tree.integers();
+    let value = on_ok(expression(tree, alloc, outside, place, evaluation, test))?;
+    holds(alloc, style, value)
+}
+
+/// `expr arg ?arg ...?`: the value of the expression that the words are put together to. (expr(n))
+///
+/// # Errors
+/// 241; 122; 211 and 217 of the text; 111 to 113 and 212 to 216 of the operands; those of what is substituted; want of memory.
+#[cycle(eval)]
+#[inline(never)]
+pub fn expr<O: Outside>(
+    tree: &mut Tree,
+    alloc: Global,
+    outside: &mut O,
+    place: Place,
+    args: &[Value],
+) -> Result<Value, Interruption>
+    requires { IsRunning tree.old place }
+    ensures runs { ProceedsIn (ways O.goes O.loses) tree.old outside.old place (λ style. expressions.expr args.now) tree.new outside.new result }
+    ensures steady { IsSteady tree.old tree.new }
+    ensures left { O.entries_left outside.new ≤ O.entries_left outside.old }
+{
+    if args.is_empty() {
+        return Err(wrong_args(alloc, "expr arg ?arg ...?"));
+    }
+    let text = script_of(alloc, args)?;
+    let kept = read_expression(tree, alloc, tree.integers(), &text)?;
+    let mut evaluation = Evaluation::new(alloc);
+    expression(tree, alloc, outside, place, &mut evaluation, &kept)
+}
+
+/// `if expr1 ?then? body1 ?elseif expr2 ?then? body2 ...? ?else? ?bodyN?`: evaluates the first body whose condition holds. (if(n))
+///
+/// # Errors
+/// 241; those of the conditions, as of `expr`; those of the body; want of memory.
+#[cycle(eval)]
+#[inline(never)]
+pub fn if_first<O: Outside>(
+    tree: &mut Tree,
+    alloc: Global,
+    outside: &mut O,
+    place: Place,
+    args: &[Value],
+) -> Result<Value, Interruption>
+    requires { IsRunning tree.old place }
+    ensures runs { ProceedsIn (ways O.goes O.loses) tree.old outside.old place (λ style. expressions.if_first style args.now) tree.new outside.new result }
+    ensures steady { IsSteady tree.old tree.new }
+    ensures left { O.entries_left outside.new ≤ O.entries_left outside.old }
+{
+    let Some(branches) = branches_of(alloc, args)? else {
+        return Err(wrong_args(alloc, IF));
+    };
+    let Branches { tests, last } = branches;
+    let mut evaluation = Evaluation::new(alloc);
+    'tests: for branch in &tests {
+        let test = read_expression(tree, alloc, tree.integers(), branch.test)?;
+        if condition(tree, alloc, outside, place, &mut evaluation, &test)? {
+            let mut body = branch.body.clone()?;
+            return eval_value(tree, alloc, outside, place, &mut body);
+        }
+    }
+    let Some(last) = last else {
+        return Ok(Value::empty());
+    };
+    let mut body = last.clone()?;
+    eval_value(tree, alloc, outside, place, &mut body)
+}
+
+/// A turn of a loop with a condition: whether the loop goes on. Where the condition holds, the turn is counted and the body runs.
+#[cycle(eval)]
+#[inline(never)]
+fn turn<O: Outside>(
+    tree: &mut Tree,
+    alloc: Global,
+    outside: &mut O,
+    place: Place,
+    evaluation: &mut Evaluation,
+    test: &ExprTree,
+    body: &mut Value,
+) -> Result<bool, Interruption>
+    requires { IsRunning tree.old place }
+    ensures runs { MatchResult result
+        (λ on. TurnGoes (ways O.goes O.loses) tree.old outside.old place test.now body.old tree.new outside.new on)
+        (λ i. Breaks i (TurnBreaks (ways O.goes O.loses) tree.old outside.old place test.now body.old tree.new outside.new)) }
+    ensures same { body.new ≡ body.old }
+    ensures steady { IsSteady tree.old tree.new }
+    ensures left { O.entries_left outside.new ≤ O.entries_left outside.old }
+{
+    if !condition(tree, alloc, outside, place, evaluation, test)? {
+        return Ok(false);
+    }
+    charge(tree, outside, place)?;
+    goes_on(eval_value(tree, alloc, outside, place, body))
+}
+
+/// `while test command`: a counted turn as long as the condition holds, which is read once. (while(n)) A loop has fewer turns than its count of steps can be, and so never comes to the end of the numbers.
+///
+/// # Errors
+/// 241; those of the condition, as of `expr`; the stop 308; those of the body but for `break` and `continue`; want of memory.
+#[cycle(eval)]
+#[inline(never)]
+pub fn while_loop<O: Outside>(
+    tree: &mut Tree,
+    alloc: Global,
+    outside: &mut O,
+    place: Place,
+    args: &[Value],
+) -> Result<Value, Interruption>
+    requires { IsRunning tree.old place }
+    ensures runs { ProceedsIn (ways O.goes O.loses) tree.old outside.old place (λ style. expressions.while_loop args.now) tree.new outside.new result }
+    ensures steady { IsSteady tree.old tree.new }
+    ensures left { O.entries_left outside.new ≤ O.entries_left outside.old }
+{
+    let [test, body] = args else {
+        return Err(wrong_args(alloc, "while test command"));
+    };
+    let test = read_expression(tree, alloc, tree.integers(), test)?;
+    let mut body = body.clone()?;
+    let mut evaluation = Evaluation::new(alloc);
+    'turns: for _turn in 0..u64::MAX {
+        if !turn(
+            tree,
+            alloc,
+            outside,
+            place,
+            &mut evaluation,
+            &test,
+            &mut body,
+        )? {
+            return Ok(Value::empty());
+        }
+    }
+    Err(Interruption::Memory)
+}
+
+/// `for start test next command`: a counted turn as long as the condition holds, which is read once, behind the first script. (for(n))
+///
+/// # Errors
+/// 241; those of the first script; those of the condition, as of `expr`; the stop 308; those of the body but for `break` and `continue`, and of the script between two turns but for
+/// `break`; want of memory.
+#[cycle(eval)]
+#[inline(never)]
+pub fn for_loop<O: Outside>(
+    tree: &mut Tree,
+    alloc: Global,
+    outside: &mut O,
+    place: Place,
+    args: &[Value],
+) -> Result<Value, Interruption>
+    requires { IsRunning tree.old place }
+    ensures runs { ProceedsIn (ways O.goes O.loses) tree.old outside.old place (λ style. expressions.for_loop args.now) tree.new outside.new result }
+    ensures steady { IsSteady tree.old tree.new }
+    ensures left { O.entries_left outside.new ≤ O.entries_left outside.old }
+{
+    let [start, test, next, body] = args else {
+        return Err(wrong_args(alloc, "for start test next command"));
+    };
+    let mut start = start.clone()?;
+    on_ok(eval_value(tree, alloc, outside, place, &mut start))?;
+    let test = read_expression(tree, alloc, tree.integers(), test)?;
+    let mut next = next.clone()?;
+    let mut body = body.clone()?;
+    let mut evaluation = Evaluation::new(alloc);
+    'turns: for _turn in 0..u64::MAX {
+        if !turn(
+            tree,
+            alloc,
+            outside,
+            place,
+            &mut evaluation,
+            &test,
+            &mut body,
+        )? {
+            return Ok(Value::empty());
+        }
+        if !turns_on(eval_value(tree, alloc, outside, place, &mut next))? {
+            return Ok(Value::empty());
+        }
+    }
+    Err(Interruption::Memory)
+}
+
+/// The form of `if`.
+const IF: &str = "if expr1 ?then? body1 ?elseif expr2 ?then? body2 ...? ?else? ?bodyN?";

@@ -1,0 +1,13 @@
+//! The evaluation of scripts over a tree of interpreters.
+#![tactic(auto)]
+
+mod children;
+mod commands;
+mod control;
+pub mod crossing;
+pub mod evaluation;
+mod expressions;
+mod hosting;
+mod interpreters;
+mod loops;
+pub mod waiting;
