@@ -66,7 +66,8 @@ struct Start {
 /// Evaluates a script in the interpreter at the path, as one entry into it, with at most so many counted steps in the whole tree.
 ///
 /// # Errors
-/// 402, 403, 404 and 122, which are looked for in this order and change nothing; and 401, until when the host was asked what the whole evaluation asks it first.
+/// 402, 403, 404 and 122, which are looked for in this order and change nothing; and 401, until
+/// when the host was asked what the script asks it first, and what the whole evaluation does.
 pub fn eval<H: Host>(
     tree: &mut Tree,
     alloc: Global,
@@ -79,6 +80,11 @@ pub fn eval<H: Host>(
     ensures unchanged { IfSome (unfit tree.old path.now script.now limit) (λ _. (tree.new ≡ tree.old) × (host.new ≡ host.old)) }
     ensures begun { IfNone (unfit tree.old path.now script.now limit) (IfErr result (λ e. e ≡ Memory)) }
     ensures broken { IsErrOf result Memory → (marks_of tree.new).broken ≡ true }
+    ensures marks { IfOk result (λ _. marks_of tree.new ≡ marks_of tree.old) }
+    ensures style { (marks_of tree.new).integers ≡ (marks_of tree.old).integers }
+    ensures given_up { IfNone (unfit tree.old path.now script.now limit)
+        (IfErr result (λ _. IsGivenUp (ways (hosted H.step) (λ o z. z ≡ o)) tree.old host.old
+        path.now script.now (root_count tree.old + limit) host.new)) }
     ensures asked { IfNone (unfit tree.old path.now script.now limit) (IfErr result (λ _. AsksFirst H.step tree.old host.old path.now script.now limit host.new)) }
     ensures runs { IfOk result (λ end. IsRun (hosted H.step) tree.old host.old path.now script.now (root_count tree.old + limit) tree.new host.new end) }
     ensures whole { IfOk result (λ end. IsWhole H.step tree.old host.old path.now script.now limit tree.new host.new end) }
@@ -104,6 +110,8 @@ pub fn open_run<O: Outside>(
     ensures unchanged { IfSome (unfit tree.old path.now script.now limit) (λ _. (tree.new ≡ tree.old) × (outside.new ≡ outside.old)) }
     ensures begun { IfNone (unfit tree.old path.now script.now limit) (IfErr result (λ e. e ≡ Memory)) }
     ensures broken { IsErrOf result Memory → (marks_of tree.new).broken ≡ true }
+    ensures marks { IfOk result (λ _. marks_of tree.new ≡ marks_of tree.old) }
+    ensures style { (marks_of tree.new).integers ≡ (marks_of tree.old).integers }
     ensures given_up { IfNone (unfit tree.old path.now script.now limit) (IfErr result (λ _. IsGivenUp (ways O.goes O.loses) tree.old outside.old path.now script.now (root_count tree.old + limit) outside.new)) }
     ensures runs { IfOk result (λ end. IsOpenRun O.goes tree.old outside.old path.now script.now (root_count tree.old + limit) tree.new outside.new end) }
 {
@@ -187,6 +195,7 @@ fn run<O: Outside>(
     requires short { fits script.now ≡ true }
     requires place { Names tree.old start.place path.now }
     requires own { start.own ≡ root_limit tree.old }
+    ensures marks { marks_of tree.new ≡ marks_of tree.old }
     ensures given_up { IfErr result (λ _. IsGivenUp (ways O.goes O.loses) tree.old outside.old path.now script.now start.most outside.new) }
     ensures runs { IfOk result (λ end. IsOpenRun O.goes tree.old outside.old path.now script.now start.most tree.new outside.new end) }
 {
