@@ -4,7 +4,7 @@
 
 ghost use Rattle.tcl_budgets.specs.Laws.{DepthsHold, LimitsHold, RootsCount, ScriptsKeepBudgets, ScriptsSetNoLimit, StepsAreBounded, StepsAreCounted, StopsHold, TablesAreOrderly};
 
-use tcl_language::safe_scripts_set_no_limit;
+use tcl_language_laws::safe_scripts_set_no_limit;
 
 /// A whole evaluation makes at most as many counted steps as it may.
 pub fn steps_are_bounded<O, I>()

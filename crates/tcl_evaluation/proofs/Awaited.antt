@@ -20,7 +20,7 @@ use Rattle.tcl_flow.specs.View.{completion_of}
 use Rattle.tcl_language.specs.Instructions.{Program}
 use Rattle.tcl_language.specs.Interpreters.{finished, no_interpreter}
 use Rattle.tcl_language.specs.Table.{serve}
-use Rattle.tcl_language.specs.Language.{language}
+use Rattle.tcl_language_laws.specs.Language.{language}
 use Rattle.tcl_run.specs.Ends.{Breaks, IfEnded, Interrupts, WhereMemory, cause_of, failing}
 use Rattle.tcl_run.specs.Outsides.{Answers, ComesNext}
 use Rattle.tcl_run.specs.Runs.{IsAt, IsLoss, IsSteady, IsThere, Proceeds, ProceedsAt, Ways}

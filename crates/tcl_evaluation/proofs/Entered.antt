@@ -15,7 +15,7 @@ use Rattle.tcl_language.specs.Faults.{wrong_args}
 use Rattle.tcl_language.specs.Instructions.{Program, fails, grown}
 use Rattle.tcl_language.specs.Instructions.Instr.{Invoke}
 use Rattle.tcl_language.specs.Interpreters.{asks_at, at_path, eval}
-use Rattle.tcl_language.specs.Language.{language}
+use Rattle.tcl_language_laws.specs.Language.{language}
 use Rattle.tcl_language.specs.Table.{invoked_at, serve, settled, some_words}
 use Rattle.tcl_language.specs.Words.{concat}
 use Rattle.tcl_run.specs.Runs.{Counts, IsAt, IsThere, Proceeds, ProceedsAt, RefusesStep, Ways}

@@ -13,7 +13,7 @@ use Rattle.tcl_host.specs.declared.reply.HostReply.{HostReply as TheirReply}
 use Rattle.tcl_host.specs.declared.reply.HostReply.TheVariants as theirs
 use Rattle.tcl_language.specs.Hosting.{channel_message, heard, puts, puts_form, writes, written}
 use Rattle.tcl_language.specs.Instructions.{fits}
-use Rattle.tcl_language.specs.Language.{language}
+use Rattle.tcl_language_laws.specs.Language.{language}
 use Rattle.tcl_run.specs.Ends.{Breaks, IfEnded, failing}
 use Rattle.tcl_run.specs.Outsides.{number_of, reply_of}
 use Rattle.tcl_run.specs.Runs.{IsAt, Proceeds, ProceedsIn, Ways}

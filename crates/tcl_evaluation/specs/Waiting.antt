@@ -17,7 +17,7 @@ use Rattle.tcl_host.specs.declared.reply.HostReply.TheVariants as theirs
 use Rattle.tcl_language.specs.Hosting.{channel_message}
 use Rattle.tcl_language.specs.Instructions.{Program}
 use Rattle.tcl_language.specs.Interpreters.{finished}
-use Rattle.tcl_language.specs.Language.{language}
+use Rattle.tcl_language_laws.specs.Language.{language}
 use Rattle.tcl_run.specs.Ends.{Breaks, IfEnded, IfRan, failing}
 use Rattle.tcl_run.specs.Outsides.{Going, Misses, number_of, reply_of}
 use Rattle.tcl_run.specs.Runs.{IsAt, Proceeds, Ways}

@@ -32,7 +32,7 @@ use Rattle.tcl_hosting.proofs.Limiting.{language_keeps_tops}
 use Rattle.tcl_hosting.proofs.Nearness.{limited_top}
 use Rattle.tcl_hosting.proofs.Taping.{Taped, all_written, tapes, unwritten}
 use Rattle.tcl_hosting.specs.Language.{leaves_steps}
-use Rattle.tcl_language.specs.Language.{language}
+use Rattle.tcl_language_laws.specs.Language.{language}
 use Rattle.tcl_language.specs.Table.{serve}
 use Rattle.tcl_text.specs.declared.integer.Integers.{Integers}
 

@@ -10,8 +10,9 @@ use Rattle.tcl_core.specs.Trees.{Node}
 use Rattle.tcl_core.proofs.Disciplines.{bad}
 use Rattle.tcl_language.specs.Instructions.{Program, at_node, either}
 use Rattle.tcl_language.specs.Interpreters.{is_depth_limit}
-use Rattle.tcl_language.specs.Language.{language}
-use Rattle.tcl_language.specs.Safety.{KeepsLimits, is_modest}
+use Rattle.tcl_language_laws.specs.Language.{language}
+use Rattle.tcl_language_laws.specs.Safety.{KeepsLimits}
+use Rattle.tcl_language.specs.Safety.{is_modest}
 use Rattle.tcl_text.specs.declared.integer.Integers.{Integers}
 use Rattle.tcl_tree.specs.Own.{Own}
 use Rattle.tcl_isolation.proofs.Lowering.{Ruled, Rules, everywhere, rules_of}

@@ -5,7 +5,7 @@ ghost use Rattle.tcl_isolation.specs.Laws.{CountRises, CountStaysWithin, Entries
 ghost use Rattle.tcl_isolation.specs.Scripts.{AsksTheHostNothing, LimitsStay, ScriptsStayWithin};
 
 use tcl_host::host::Host;
-use tcl_language::{safe_scripts_ask_nothing, safe_scripts_set_no_limit};
+use tcl_language_laws::{safe_scripts_ask_nothing, safe_scripts_set_no_limit};
 use tcl_run::outside::Outside;
 
 /// What code threads in an entry is a watched visit, if the watched interpreter isn't dropped in it.

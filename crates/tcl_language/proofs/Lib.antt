@@ -1,5 +1,6 @@
 mod Branching
-mod Keeping
-mod Plainness
-mod Played
-mod RowsComputed
+pub mod Calls
+pub mod Commands
+pub mod Everywhere
+pub mod Facts
+pub mod RowsComputed

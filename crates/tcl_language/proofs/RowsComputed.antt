@@ -1,4 +1,4 @@
--- Worked scripts, computed.
+-- Worked scripts, computed: whatever proof the table of the commands brings along.
 use Rattle.std.proofs.Common.{refl}
 use Rattle.std.specs.Char.{encode_utf8}
 use Rattle.std.specs.Fmt.{digits}
@@ -16,11 +16,12 @@ use Rattle.tcl_expr.specs.Tokens.{after_word, after_parts}
 use Rattle.tcl_expr.specs.Expressions.{tokens_from}
 use Rattle.tcl_expr_grammar.specs.Reading as grammar
 use Rattle.tcl_expression_evaluation.specs.Computations.{computes, arguments}
+use Rattle.tcl_language.specs.Language.{ProgramsCall, language_with}
 use Rattle.tcl_language.specs.Rows.{AreRows}
 
-pub rows : AreRows
+pub rows : (calls : ProgramsCall) → AreRows (language_with calls)
 unfolding encode_utf8 digits chars place_named read exists_at bind unbind written made_array removed linked names_held names_own variables_at names_of array_at words_at popped set_aside brought_back closed opened element_of colons_after after_colon after_colons name_of is_plain bound next walk passes links_in links end_of joined after_white after_gap in_braces after_name read_parts read_words read_commands after_script several number_len escape count_all close_brace units element_at elements writing.written power after_word after_parts tokens_from grammar.depth grammar.settle grammar.step grammar.run computes arguments
-rows = record {
+rows calls = record {
   empty = refl;
   list = refl;
   open_brace = refl;

@@ -1,20 +1,25 @@
--- The language: the table of its commands.
+-- The table of the commands, but for the proof that it brings along.
 use Rattle.std.specs.Prelude.{codes}
 use Rattle.tcl_core.specs.Endings.{error}
-use Rattle.tcl_core.specs.Programs.{Table}
+use Rattle.tcl_core.specs.Entries.{Entry}
+use Rattle.tcl_core.specs.Programs.{Calls_only, Table}
 use Rattle.tcl_text.specs.declared.integer.Integers.{Integers}
 use Rattle.tcl_tree.specs.Own.{Own}
 use Rattle.tcl_language.specs.Instructions.{Instr}
 use Rattle.tcl_language.specs.Interpreters.{no_interpreter}
 use Rattle.tcl_language.specs.Table.{program, serve}
-use Rattle.tcl_language.specs.Calling as calling
 
--- the language, in a style of integer texts
-abbrev pub language : Integers → Table Own Instr
-language style = record {
+-- The programs of the commands call, and never wait without a call.
+abbrev pub ProgramsCall : Type 0
+ProgramsCall = (style : Integers) →
+    ((i : Instr) → Calls_only (program style i)) × ((entry : Entry) → Calls_only (serve style entry))
+
+-- the language, in a style of integer texts, once that is proved
+abbrev pub language_with : ProgramsCall → Integers → Table Own Instr
+language_with calls style = record {
   program = program style;
   entry = serve style;
   lost = error (no_interpreter (codes ""));
-  programs_call = calling.program style;
-  entries_call = calling.serve style;
+  programs_call = (calls style).0;
+  entries_call = (calls style).1;
 }

@@ -1,5 +1,4 @@
 pub mod Branching
-pub mod Calling
 pub mod Control
 pub mod Data
 pub mod Definitions

@@ -1,8 +1,6 @@
--- What the commands keep to in a safe interpreter.
+-- What there is in a safe interpreter, and what can go on in it.
 use Rattle.std.specs.Prelude.{Bool, true, false, not, ◌&&◌, [], ◌∷◌}
-use Rattle.tcl_core.specs.Paths.{Place}
-use Rattle.tcl_core.specs.Tables.{Keeps_to, exposes, sets_limit, hostless, unlimiting}
-use Rattle.tcl_text.specs.declared.integer.Integers.{Integers}
+use Rattle.tcl_core.specs.Tables.{exposes, sets_limit}
 use Rattle.tcl_tree.specs.Own.{Own, CommandMap}
 use Rattle.tcl_tree.specs.declared.builtin.Builtin.{Builtin}
 use Rattle.tcl_tree.specs.declared.builtin.Builtin.TheVariants as name
@@ -10,7 +8,6 @@ use Rattle.tcl_tree.specs.declared.command.Command.{Command}
 use Rattle.tcl_tree.specs.declared.command.Command.TheVariants as command
 use Rattle.tcl_language.specs.Instructions.{Instr}
 use Rattle.tcl_language.specs.Instructions.Instr.{Invoke, Hidden, Serve}
-use Rattle.tcl_language.specs.Language.{language}
 
 -- a command that reaches the host; `exit` doesn't
 abbrev pub is_host : Builtin → Bool
@@ -49,11 +46,3 @@ is_quiet _ = true
 abbrev pub is_modest : Instr → Bool
 is_modest (Serve entry) = not (sets_limit entry)
 is_modest _ = true
-
--- Scripts in a safe interpreter ask the host for nothing where they have no command that does.
-abbrev pub KeepsQuiet : Type 0
-KeepsQuiet = (style : Integers) → Keeps_to (hostless plain is_quiet) (language style)
-
--- And they set no limit.
-abbrev pub KeepsLimits : Type 0
-KeepsLimits = (style : Integers) (limited : Place → Bool) → Keeps_to (unlimiting is_modest limited) (language style)

@@ -21,7 +21,7 @@ use Rattle.tcl_hosting.proofs.Limiting.{language_keeps_tops}
 use Rattle.tcl_hosting.proofs.Taping.{Taped}
 use Rattle.tcl_hosting.proofs.Wholes.{WholeTape, whole_tape}
 use Rattle.tcl_language.specs.Instructions.{fits}
-use Rattle.tcl_language.specs.Language.{language}
+use Rattle.tcl_language_laws.specs.Language.{language}
 use Rattle.tcl_language.specs.Table.{serve}
 use Rattle.tcl_run.specs.Outsides.{hosted}
 use Rattle.tcl_run.specs.Runs.{Comes}

@@ -14,7 +14,7 @@ use Rattle.tcl_core.specs.Trees.What.{Charged, Refused, Dropped, Out, In, Done, 
 use Rattle.tcl_evaluation.specs.Waiting.{EndsEntry}
 use Rattle.tcl_flow.specs.View.{completion_of}
 use Rattle.tcl_flow.specs.Stopping as stopping
-use Rattle.tcl_language.specs.Language.{language}
+use Rattle.tcl_language_laws.specs.Language.{language}
 use Rattle.tcl_playing.specs.Players.{Begins, played, player_of}
 use Rattle.tcl_playing.specs.declared.player.Player as declared
 use Rattle.tcl_reactions.specs.Playing.{IsOver, Lived, Player, beginner, outcome, plays, tree_left}

@@ -10,7 +10,7 @@ use Rattle.tcl_core.specs.Threads.{event}
 use Rattle.tcl_core.specs.Trees.{Tree}
 use Rattle.tcl_core.specs.Trees.What.{Done}
 use Rattle.tcl_eval.specs.Running.{most_steps}
-use Rattle.tcl_language.specs.Language.{language}
+use Rattle.tcl_language_laws.specs.Language.{language}
 use Rattle.tcl_reactions.specs.Playing.{Player, plays}
 use Rattle.tcl_run.specs.Runs.{Comes}
 use Rattle.tcl_run.specs.declared.interruption.Interruption.{Interruption}

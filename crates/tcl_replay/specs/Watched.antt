@@ -22,7 +22,7 @@ use Rattle.tcl_isolation.specs.Laws.{IsWithin, Suffices}
 use Rattle.tcl_isolation.specs.Limits.{AreLowering}
 use Rattle.tcl_isolation.specs.Visits.{CallsNobody, IsBelowTheTop, visit}
 use Rattle.tcl_language.specs.Instructions.{fits}
-use Rattle.tcl_language.specs.Language.{language}
+use Rattle.tcl_language_laws.specs.Language.{language}
 use Rattle.tcl_language.specs.Safety.{plain}
 use Rattle.tcl_run.specs.Outsides.{hosted}
 use Rattle.tcl_tree.specs.Own.{Own}

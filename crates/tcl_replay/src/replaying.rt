@@ -2,7 +2,7 @@
 ghost use Rattle.std.specs.Prelude.{◌≡◌, ◌+◌, ◌≤◌, length, nat_le, IfErr, IfNone, IfOk, IfSome, OnOk};
 ghost use Rattle.tcl_core.specs.Lives.{React};
 ghost use Rattle.tcl_eval.specs.Running.{most_steps, root_count};
-ghost use Rattle.tcl_language.specs.Language.{language};
+ghost use Rattle.tcl_language_laws.specs.Language.{language};
 ghost use Rattle.tcl_playing.specs.Moves.{moves_in};
 ghost use Rattle.tcl_playing.specs.Players.{Stands, player_of, result_of};
 ghost use Rattle.tcl_reactions.specs.Playing as playing;

@@ -1,4 +1,4 @@
-use Rattle.tcl_language.specs.Language.{language}
+use Rattle.tcl_language_laws.specs.Language.{language}
 use Rattle.tcl_language.specs.Safety.{is_modest}
 use Rattle.tcl_budgets.proofs.Wholes.{counts, depths, limits, own_limit, root_count, steps, stops, within}
 use Rattle.tcl_budgets.proofs.scripts_keep_budgets.Goals as goal

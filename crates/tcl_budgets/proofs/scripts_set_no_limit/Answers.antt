@@ -1,4 +1,4 @@
-use Rattle.tcl_language.specs.Language.{language}
+use Rattle.tcl_language_laws.specs.Language.{language}
 use Rattle.tcl_language.specs.Safety.{is_modest}
 use Rattle.tcl_budgets.proofs.Wholes.{limits}
 use Rattle.tcl_budgets.proofs.scripts_set_no_limit.Goals as goal

@@ -1,4 +1,4 @@
-use Rattle.tcl_language.specs.Language.{language}
+use Rattle.tcl_language_laws.specs.Language.{language}
 use Rattle.tcl_language.specs.Safety.{is_modest}
 use Rattle.tcl_isolation.proofs.Limited.{language_rules}
 use Rattle.tcl_isolation.proofs.Safe.{all_lowering, within_limit}

@@ -1,5 +1,0 @@
-use Rattle.tcl_language.proofs.Played.{play_is_run}
-use Rattle.tcl_language.proofs.play_is_run.Goals as goal
-
-pub returns : goal.returns
-returns g c = play_is_run

@@ -1,5 +1,0 @@
-use Rattle.tcl_language.proofs.Plainness.{keeps_limits}
-use Rattle.tcl_language.proofs.safe_scripts_set_no_limit.Goals as goal
-
-pub returns : goal.returns
-returns g c = keeps_limits c

@@ -1,0 +1,3 @@
+mod Disciplines
+mod Plainness
+mod Played
