@@ -39,16 +39,16 @@ use Rattle.tcl_text.specs.Lists.{list_of}
 use Rattle.tcl_text.specs.Writing.{written_list, fault_message}
 use Rattle.tcl_tree.specs.Own.{Own}
 use Rattle.tcl_tree.specs.Commands.{ProcedureView}
-use Rattle.tcl_tree.specs.declared.builtin.Builtin.{Builtin}
-use Rattle.tcl_tree.specs.declared.builtin.Builtin.TheVariants as name
-use Rattle.tcl_tree.specs.declared.command.Command.{Command}
-use Rattle.tcl_tree.specs.declared.command.Command.TheVariants as command
+use Rattle.tcl_interpreter.specs.declared.builtin.Builtin.{Builtin}
+use Rattle.tcl_interpreter.specs.declared.builtin.Builtin.TheVariants as name
+use Rattle.tcl_interpreter.specs.declared.command.Command.{Command}
+use Rattle.tcl_interpreter.specs.declared.command.Command.TheVariants as command
 use Rattle.tcl_language.specs.Instructions.{Open, Walk, Instr, Program, either, fits, fails, grown, on_code, on_ok, or_fails, at_node, look, change}
 use Rattle.tcl_language.specs.Instructions.Instr.{Script, Commands, Words, Parts, Call, Target, Invoke, Hidden, Foreach, Expression, While, For, Serve}
 use Rattle.tcl_language.specs.Faults.{frame_message, integer_message, invalid_command, invalid_hidden, bad_name}
 use Rattle.tcl_language.specs.Names.{is_name}
 use Rattle.tcl_language.specs.Naming.{Named, command_name, removed, renamed}
-use Rattle.tcl_tree.specs.declared.parameter.Parameter.{Parameter}
+use Rattle.tcl_interpreter.specs.declared.parameter.Parameter.{Parameter}
 use Rattle.tcl_language.specs.Words.{concat, is_level}
 use Rattle.tcl_language.specs.Scripts as scripts
 use Rattle.tcl_language.specs.Variables as variables

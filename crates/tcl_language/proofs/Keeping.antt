@@ -41,11 +41,11 @@ use Rattle.tcl_text.specs.Writing.{written_list, fault_message}
 use Rattle.tcl_language.specs.Naming.{Named, command_name, named, cleared, hidden_as, exposed_as, removed, renamed}
 use Rattle.tcl_tree.specs.Own.{Own, new_own, with_new_child, without_old_child}
 use Rattle.tcl_tree.specs.Commands.{ProcedureView, AliasView}
-use Rattle.tcl_tree.specs.declared.parameter.Parameter.{Parameter}
-use Rattle.tcl_tree.specs.declared.builtin.Builtin.{Builtin}
-use Rattle.tcl_tree.specs.declared.builtin.Builtin.TheVariants as name
-use Rattle.tcl_tree.specs.declared.command.Command.{Command}
-use Rattle.tcl_tree.specs.declared.command.Command.TheVariants as command
+use Rattle.tcl_interpreter.specs.declared.parameter.Parameter.{Parameter}
+use Rattle.tcl_interpreter.specs.declared.builtin.Builtin.{Builtin}
+use Rattle.tcl_interpreter.specs.declared.builtin.Builtin.TheVariants as name
+use Rattle.tcl_interpreter.specs.declared.command.Command.{Command}
+use Rattle.tcl_interpreter.specs.declared.command.Command.TheVariants as command
 use Rattle.tcl_language.specs.Instructions.{Open, Walk, Instr, Program, either, fits, fails, grown, on_code, on_ok, or_fails, at_node, look, change, with_chain, too_long}
 use Rattle.tcl_language.specs.Instructions.Instr.{Script, Commands, Words, Parts, Call, Target, Invoke, Hidden, Foreach, Expression, While, For, Serve}
 use Rattle.tcl_language.specs.Faults.{frame_message, integer_message, invalid_command, invalid_hidden, bad_name, wrong_args}

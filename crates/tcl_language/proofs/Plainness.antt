@@ -12,9 +12,9 @@ use Rattle.tcl_language.specs.Naming as naming
 use Rattle.tcl_language.specs.Naming.{Named, by_name, keeps_child, command_name, named, cleared, hidden_as, exposed_as, removed, renamed}
 use Rattle.tcl_tree.specs.Changes.{is_child}
 use Rattle.tcl_tree.specs.Own.{Own, CommandMap, command_in, hidden_in}
-use Rattle.tcl_tree.specs.declared.builtin.Builtin.{Builtin}
-use Rattle.tcl_tree.specs.declared.command.Command.{Command}
-use Rattle.tcl_tree.specs.declared.command.Command.TheVariants as command
+use Rattle.tcl_interpreter.specs.declared.builtin.Builtin.{Builtin}
+use Rattle.tcl_interpreter.specs.declared.command.Command.{Command}
+use Rattle.tcl_interpreter.specs.declared.command.Command.TheVariants as command
 use Rattle.tcl_language.specs.Instructions.{Instr}
 use Rattle.tcl_language.specs.Table.{serve as serve_program}
 use Rattle.tcl_language.specs.Safety.{is_host, is_plain, are_plain, plain, is_quiet, is_modest, KeepsQuiet, KeepsLimits}
