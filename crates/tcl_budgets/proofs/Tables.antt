@@ -9,7 +9,7 @@ use Rattle.tcl_core.proofs.PathLaws.{Some-inj, strip-sound}
 use Rattle.tcl_tree.specs.Nodes.{Heap, IsGuarded, NodeView, child_in, follow, safe_in, tree_in, view_of}
 use Rattle.tcl_tree.specs.Paths.{Path}
 use Rattle.tcl_tree.specs.TreeOf.{tree_of}
-use Rattle.tcl_tree.specs.declared.node.Node.{Node as Entry}
+use Rattle.tcl_interpreter.specs.declared.node.Node.{Node as Entry}
 use Rattle.tcl_tree.specs.declared.tree.Tree.{Tree as Table}
 use Rattle.tcl_tree.proofs.CoreLemmas.{top_there, tree_there}
 use Rattle.tcl_tree.proofs.HeapLemmas.{tree-at}

@@ -1,7 +1,7 @@
 -- What kinds of built-in commands there are.
 use Rattle.std.specs.Prelude.{Bool, true, false}
-use Rattle.tcl_tree.specs.declared.builtin.Builtin.{Builtin}
-use Rattle.tcl_tree.specs.declared.builtin.Builtin.TheVariants as name
+use Rattle.tcl_interpreter.specs.declared.builtin.Builtin.{Builtin}
+use Rattle.tcl_interpreter.specs.declared.builtin.Builtin.TheVariants as name
 
 -- A plain one evaluates nothing, and asks neither another interpreter nor the host.
 abbrev pub is_plain : Builtin → Bool

@@ -5,7 +5,7 @@ use Rattle.std.proofs.lemmas.List.{map-append}
 use Rattle.std.proofs.lemmas.Option.{same_Some}
 use Rattle.tcl_language.specs.Control.{bindings, also, by_default, fit_all}
 use Rattle.tcl_language.specs.Instructions.{fits}
-use Rattle.tcl_tree.specs.declared.parameter.Parameter.{Parameter}
+use Rattle.tcl_interpreter.specs.declared.parameter.Parameter.{Parameter}
 use Rattle.tcl_core.specs.Endings.{Reply}
 use Rattle.tcl_calls.specs.Procedures.{pair_of, pairs_of, joined, next_bound, TooLongBound}
 use Rattle.tcl_calls.specs.declared.procedures.Binding.{Binding}

@@ -7,7 +7,7 @@ use Rattle.tcl_core.specs.Trees.{Node}
 use Rattle.tcl_language.specs.Faults.{bad_name, invalid_command, invalid_hidden}
 use Rattle.tcl_language.specs.Naming.{command_name}
 use Rattle.tcl_tree.specs.Own.{Own, CommandMap}
-use Rattle.tcl_tree.specs.declared.command.Command.{Command}
+use Rattle.tcl_interpreter.specs.declared.command.Command.{Command}
 
 -- the command, or the error that there is none
 abbrev pub or_missing : Text → Option Command → Result Command Text

@@ -4,7 +4,7 @@ use Rattle.tcl_core.specs.Endings.{Reply}
 use Rattle.tcl_core.specs.Endings.Reply.{Completed}
 use Rattle.tcl_language.specs.Control.{fit_all, last_form, parameter_form}
 use Rattle.tcl_language.specs.Instructions.{too_long}
-use Rattle.tcl_tree.specs.declared.parameter.Parameter.{Parameter}
+use Rattle.tcl_interpreter.specs.declared.parameter.Parameter.{Parameter}
 use Rattle.tcl_calls.specs.declared.procedures.Binding.{Binding}
 
 -- names with what they are bound to

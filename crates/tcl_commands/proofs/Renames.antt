@@ -23,10 +23,10 @@ use Rattle.tcl_tree.specs.Naming as tree
 use Rattle.tcl_tree.specs.Naming.{Becomes, RefusesNaming, Refuses}
 use Rattle.tcl_tree.specs.Own.{Own, command_in}
 use Rattle.tcl_tree.specs.TreeOf.{tree_of, key_of, marks_of, Names}
-use Rattle.tcl_tree.specs.declared.command.Command.{Command}
-use Rattle.tcl_tree.specs.declared.command.Command.TheVariants as command
-use Rattle.tcl_tree.specs.declared.refusal.Refusal.{Refusal}
-use Rattle.tcl_tree.specs.declared.refusal.Refusal.TheVariants as refusal
+use Rattle.tcl_interpreter.specs.declared.command.Command.{Command}
+use Rattle.tcl_interpreter.specs.declared.command.Command.TheVariants as command
+use Rattle.tcl_interpreter.specs.declared.refusal.Refusal.{Refusal}
+use Rattle.tcl_interpreter.specs.declared.refusal.Refusal.TheVariants as refusal
 use Rattle.tcl_tree.specs.declared.tree.Tree.{Tree as Table}
 use Rattle.tcl_tree.specs.declared.tree.Place.{Place as TablePlace}
 use Rattle.tcl_tree.proofs.CoreLemmas.{tree_there}

@@ -5,7 +5,7 @@ use Rattle.tcl_language.specs.Definitions.{parameter, parameters}
 use Rattle.tcl_language.specs.Instructions.{Program, or_fails}
 use Rattle.tcl_text.specs.Lists.{list_of}
 use Rattle.tcl_text.specs.Writing.{fault_message}
-use Rattle.tcl_tree.specs.declared.parameter.Parameter.{Parameter}
+use Rattle.tcl_interpreter.specs.declared.parameter.Parameter.{Parameter}
 
 -- on with those before it and the parameter that a text is
 abbrev pub reads_parameter : Text → List Parameter → (List Parameter → Program) → Program

@@ -10,10 +10,10 @@ use Rattle.tcl_run.specs.Ends.{Interrupts, failing}
 use Rattle.tcl_run.specs.declared.interruption.Interruption.{Interruption}
 use Rattle.tcl_run.specs.declared.interruption.Interruption.TheVariants as interruption
 use Rattle.tcl_tree.specs.Naming as tree
-use Rattle.tcl_tree.specs.declared.command.Command.{Command}
-use Rattle.tcl_tree.specs.declared.command.Command.TheVariants as command
-use Rattle.tcl_tree.specs.declared.refusal.Refusal.{Refusal}
-use Rattle.tcl_tree.specs.declared.refusal.Refusal.TheVariants as refusal
+use Rattle.tcl_interpreter.specs.declared.command.Command.{Command}
+use Rattle.tcl_interpreter.specs.declared.command.Command.TheVariants as command
+use Rattle.tcl_interpreter.specs.declared.refusal.Refusal.{Refusal}
+use Rattle.tcl_interpreter.specs.declared.refusal.Refusal.TheVariants as refusal
 
 abbrev pub is_memory : Refusal → Bool
 is_memory refusal.Memory = true

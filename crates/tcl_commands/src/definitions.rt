@@ -13,8 +13,8 @@ ghost use Rattle.tcl_run.specs.Runs.{IsLevel};
 ghost use Rattle.tcl_tree.specs.TreeOf.{tree_of, Names};
 ghost use Rattle.tcl_tree.specs.Own.{Own};
 ghost use Rattle.tcl_core.specs.Trees as core;
-ghost use Rattle.tcl_tree.specs.declared.command.Command.TheVariants as command;
-ghost use Rattle.tcl_tree.specs.declared.parameter.Parameter.{Parameter};
+ghost use Rattle.tcl_interpreter.specs.declared.command.Command.TheVariants as command;
+ghost use Rattle.tcl_interpreter.specs.declared.parameter.Parameter.{Parameter};
 ghost use Rattle.tcl_commands.specs.Parameters.{reads_parameter, parameters_from};
 ghost use Rattle.tcl_commands.specs.Ending.{EndsSo};
 

@@ -12,10 +12,10 @@ use Rattle.tcl_tree.specs.Changes as changes
 use Rattle.tcl_tree.specs.Changes.{is_child, is_alias, is_colon, with_command, without_command}
 use Rattle.tcl_tree.specs.Naming as tree
 use Rattle.tcl_tree.specs.Own.{Own, command_in, hidden_in}
-use Rattle.tcl_tree.specs.declared.command.Command.{Command}
-use Rattle.tcl_tree.specs.declared.command.Command.TheVariants as command
-use Rattle.tcl_tree.specs.declared.refusal.Refusal.{Refusal}
-use Rattle.tcl_tree.specs.declared.refusal.Refusal.TheVariants as refusal
+use Rattle.tcl_interpreter.specs.declared.command.Command.{Command}
+use Rattle.tcl_interpreter.specs.declared.command.Command.TheVariants as command
+use Rattle.tcl_interpreter.specs.declared.refusal.Refusal.{Refusal}
+use Rattle.tcl_interpreter.specs.declared.refusal.Refusal.TheVariants as refusal
 use Rattle.tcl_variables.specs.Names.{colons_after, has_colons, after_colons}
 use Rattle.tcl_entries.specs.Naming.{hiding_text}
 

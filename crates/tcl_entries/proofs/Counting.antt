@@ -10,7 +10,7 @@ use Rattle.tcl_language.specs.Instructions.{either}
 use Rattle.tcl_language.specs.Interpreters.{numbered, least_free, free_name}
 use Rattle.tcl_tree.specs.Changes.{IsFirstFree}
 use Rattle.tcl_tree.specs.Own.{Own, CommandMap}
-use Rattle.tcl_tree.specs.declared.command.Command.{Command}
+use Rattle.tcl_interpreter.specs.declared.command.Command.{Command}
 
 abbrev bit_of : Bool → ℕ
 bit_of true = 1

@@ -5,7 +5,7 @@ use Rattle.std.proofs.Math.ListN.{drop_of_length-le}
 use Rattle.tcl_core.specs.Paths.{Text}
 use Rattle.tcl_language.specs.Interpreters.{alias_only, aliases_in, names_in}
 use Rattle.tcl_tree.specs.Own.{CommandMap}
-use Rattle.tcl_tree.specs.declared.command.Command.{Command}
+use Rattle.tcl_interpreter.specs.declared.command.Command.{Command}
 use Rattle.tcl_entries.specs.Listing.{first_of}
 
 drop_at : {A : Type 0} (xs : List A) (i : ℕ) (x : A) → slice_get xs i ≡ Some x → drop i xs ≡ x ∷ drop (suc i) xs

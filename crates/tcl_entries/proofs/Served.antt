@@ -43,8 +43,8 @@ use Rattle.tcl_tree.specs.Naming as tree
 use Rattle.tcl_tree.specs.Naming.{Becomes, Refuses, RefusesNaming}
 use Rattle.tcl_tree.specs.Own.{Own, new_own, with_new_child, without_old_child, command_in}
 use Rattle.tcl_tree.specs.TreeOf.{tree_of, Names}
-use Rattle.tcl_tree.specs.declared.refusal.Refusal.{Refusal}
-use Rattle.tcl_tree.specs.declared.refusal.Refusal.TheVariants as refusal
+use Rattle.tcl_interpreter.specs.declared.refusal.Refusal.{Refusal}
+use Rattle.tcl_interpreter.specs.declared.refusal.Refusal.TheVariants as refusal
 use Rattle.tcl_tree.specs.declared.tree.Tree.{Tree as Table}
 use Rattle.tcl_tree.specs.declared.tree.Place.{Place as TablePlace}
 use Rattle.tcl_tree.proofs.CoreLemmas.{tree_there}

@@ -8,8 +8,8 @@ use Rattle.tcl_run.specs.Ends.{Interrupts, failing}
 use Rattle.tcl_run.specs.declared.interruption.Interruption.{Interruption}
 use Rattle.tcl_run.specs.declared.interruption.Interruption.TheVariants as interruption
 use Rattle.tcl_text.specs.Writing.{written_list}
-use Rattle.tcl_tree.specs.declared.refusal.Refusal.{Refusal}
-use Rattle.tcl_tree.specs.declared.refusal.Refusal.TheVariants as refusal
+use Rattle.tcl_interpreter.specs.declared.refusal.Refusal.{Refusal}
+use Rattle.tcl_interpreter.specs.declared.refusal.Refusal.TheVariants as refusal
 
 -- An error of this message is told of a refusal; want of memory isn't told.
 abbrev pub Tells : Refusal → Text → Interruption → Type 0

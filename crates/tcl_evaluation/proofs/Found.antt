@@ -16,7 +16,7 @@ use Rattle.tcl_run.specs.Runs.{Proceeds, Ways}
 use Rattle.tcl_run.proofs.Proceeding.{at_prog, at_reply, completed, looks}
 use Rattle.tcl_text.specs.declared.integer.Integers.{Integers}
 use Rattle.tcl_tree.specs.Own.{Own}
-use Rattle.tcl_tree.specs.declared.command.Command.{Command}
+use Rattle.tcl_interpreter.specs.declared.command.Command.{Command}
 use Rattle.tcl_calls.specs.Found.{found, hidden_found, or_missing, kept_as}
 
 module _ {S : Type 0} {ways : Ways S} (style : Integers) where

@@ -21,8 +21,8 @@ use Rattle.tcl_language_laws.specs.Language.{language}
 use Rattle.tcl_language.specs.Scripts.{script}
 use Rattle.tcl_language.specs.Faults.{invalid_command, invalid_hidden}
 use Rattle.tcl_language.specs.Table.{called, dispatch, invoked, program, serve, some_words}
-use Rattle.tcl_tree.specs.declared.command.Command.{Command}
-use Rattle.tcl_tree.specs.declared.command.Command.TheVariants as command
+use Rattle.tcl_interpreter.specs.declared.command.Command.{Command}
+use Rattle.tcl_interpreter.specs.declared.command.Command.TheVariants as command
 use Rattle.tcl_run.specs.declared.interruption.Interruption.{Interruption}
 use Rattle.tcl_run.specs.declared.interruption.Interruption.TheVariants as interruption
 use Rattle.tcl_run.specs.Ends.{IfEnded, IfRan, Interrupts, cause_of, failing, too_deep_at}

@@ -62,11 +62,11 @@ use Rattle.tcl_text.specs.Writing.{fault_message, written_list}
 use Rattle.tcl_text.specs.declared.integer.Integers.{Integers}
 use Rattle.tcl_tree.specs.Commands.{AliasView, ProcedureView}
 use Rattle.tcl_tree.specs.Own.{Own}
-use Rattle.tcl_tree.specs.declared.builtin.Builtin.{Builtin}
-use Rattle.tcl_tree.specs.declared.builtin.Builtin.TheVariants as name
-use Rattle.tcl_tree.specs.declared.command.Command.{Command}
-use Rattle.tcl_tree.specs.declared.command.Command.TheVariants as command
-use Rattle.tcl_tree.specs.declared.parameter.Parameter.{Parameter}
+use Rattle.tcl_interpreter.specs.declared.builtin.Builtin.{Builtin}
+use Rattle.tcl_interpreter.specs.declared.builtin.Builtin.TheVariants as name
+use Rattle.tcl_interpreter.specs.declared.command.Command.{Command}
+use Rattle.tcl_interpreter.specs.declared.command.Command.TheVariants as command
+use Rattle.tcl_interpreter.specs.declared.parameter.Parameter.{Parameter}
 use Rattle.tcl_variables.specs.Names.{is_plain, name_of}
 use Rattle.tcl_variables.specs.declared.fault.FrameFault.{FrameFault}
 use Rattle.tcl_variables.specs.declared.fault.FrameFault.TheVariants as frame_fault

@@ -14,8 +14,8 @@ use Rattle.tcl_language.specs.Safety.{is_host}
 use Rattle.tcl_language.proofs.Everywhere.{Demands}
 use Rattle.tcl_tree.specs.Commands.{AliasView, ProcedureView}
 use Rattle.tcl_tree.specs.Own.{Own, new_own, with_new_child, without_old_child}
-use Rattle.tcl_tree.specs.declared.builtin.Builtin.{Builtin}
-use Rattle.tcl_tree.specs.declared.command.Command.TheVariants as command
+use Rattle.tcl_interpreter.specs.declared.builtin.Builtin.{Builtin}
+use Rattle.tcl_interpreter.specs.declared.command.Command.TheVariants as command
 
 -- what every interpreter may ask of another one, and of itself
 abbrev pub is_open : Entry → Bool

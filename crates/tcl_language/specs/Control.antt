@@ -16,7 +16,7 @@ use Rattle.tcl_text.specs.Lists.{list_of}
 use Rattle.tcl_text.specs.Writing.{written_list, fault_message}
 use Rattle.tcl_tree.specs.Own.{Own}
 use Rattle.tcl_tree.specs.Commands.{ProcedureView}
-use Rattle.tcl_tree.specs.declared.parameter.Parameter.{Parameter}
+use Rattle.tcl_interpreter.specs.declared.parameter.Parameter.{Parameter}
 use Rattle.tcl_language.specs.Instructions.{Walk, Program, either, fits, fails, grown, or_fails, look, with_chain, too_long}
 use Rattle.tcl_language.specs.Instructions.Instr.{Script, Foreach}
 use Rattle.tcl_language.specs.Faults.{wrong_args}

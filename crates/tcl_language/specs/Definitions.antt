@@ -10,8 +10,8 @@ use Rattle.tcl_text.specs.Writing.{written_list, fault_message}
 use Rattle.tcl_tree.specs.Changes.{is_child}
 use Rattle.tcl_language.specs.Naming.{command_name, named, renamed, removed}
 use Rattle.tcl_tree.specs.Own.{Own, command_in}
-use Rattle.tcl_tree.specs.declared.command.Command.TheVariants as command
-use Rattle.tcl_tree.specs.declared.parameter.Parameter.{Parameter}
+use Rattle.tcl_interpreter.specs.declared.command.Command.TheVariants as command
+use Rattle.tcl_interpreter.specs.declared.parameter.Parameter.{Parameter}
 use Rattle.tcl_language.specs.Instructions.{Program, either, fails, or_fails, look}
 use Rattle.tcl_language.specs.Faults.{wrong_args, bad_name}
 use Rattle.tcl_language.specs.Interpreters.{renaming, done_so, delete}

@@ -18,10 +18,10 @@ use Rattle.tcl_text.specs.Writing.{written_list, fault_message}
 use Rattle.tcl_tree.specs.Own.{Own, CommandMap, new_own, with_new_child, without_old_child}
 use Rattle.tcl_tree.specs.Commands.{AliasView}
 use Rattle.tcl_language.specs.Naming.{Named, named, cleared, hidden_as, exposed_as}
-use Rattle.tcl_tree.specs.declared.refusal.Refusal.{Refusal}
-use Rattle.tcl_tree.specs.declared.refusal.Refusal.TheVariants as refusal
-use Rattle.tcl_tree.specs.declared.command.Command.{Command}
-use Rattle.tcl_tree.specs.declared.command.Command.TheVariants as command
+use Rattle.tcl_interpreter.specs.declared.refusal.Refusal.{Refusal}
+use Rattle.tcl_interpreter.specs.declared.refusal.Refusal.TheVariants as refusal
+use Rattle.tcl_interpreter.specs.declared.command.Command.{Command}
+use Rattle.tcl_interpreter.specs.declared.command.Command.TheVariants as command
 use Rattle.tcl_language.specs.Instructions.{Program, either, fails, fits, gives, grown, or_fails, look, change, too_long}
 use Rattle.tcl_language.specs.Instructions.Instr.{Serve}
 use Rattle.tcl_variables.specs.Messages.{quoted}

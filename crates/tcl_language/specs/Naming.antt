@@ -6,10 +6,10 @@ use Rattle.tcl_core.specs.Paths.{Text}
 use Rattle.tcl_variables.specs.Names.{has_colons, after_colons}
 use Rattle.tcl_tree.specs.Changes.{with_command, without_command, is_child}
 use Rattle.tcl_tree.specs.Own.{Own, command_in, hidden_in}
-use Rattle.tcl_tree.specs.declared.command.Command.{Command}
-use Rattle.tcl_tree.specs.declared.command.Command.TheVariants as command
-use Rattle.tcl_tree.specs.declared.refusal.Refusal.{Refusal}
-use Rattle.tcl_tree.specs.declared.refusal.Refusal.TheVariants.{BadName, Exists, NoCommand, NoHidden}
+use Rattle.tcl_interpreter.specs.declared.command.Command.{Command}
+use Rattle.tcl_interpreter.specs.declared.command.Command.TheVariants as command
+use Rattle.tcl_interpreter.specs.declared.refusal.Refusal.{Refusal}
+use Rattle.tcl_interpreter.specs.declared.refusal.Refusal.TheVariants.{BadName, Exists, NoCommand, NoHidden}
 
 abbrev pub without_colons : Text → Option Text
 without_colons name = cond (has_colons name) None (Some name)

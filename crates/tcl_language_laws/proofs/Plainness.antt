@@ -22,9 +22,9 @@ use Rattle.tcl_language_laws.specs.Safety.{KeepsLimits, KeepsQuiet}
 use Rattle.tcl_text.specs.declared.integer.Integers.{Integers}
 use Rattle.tcl_tree.specs.Changes.{is_child}
 use Rattle.tcl_tree.specs.Own.{Own, CommandMap, command_in, hidden_in, new_own}
-use Rattle.tcl_tree.specs.declared.builtin.Builtin.{Builtin}
-use Rattle.tcl_tree.specs.declared.command.Command.{Command}
-use Rattle.tcl_tree.specs.declared.command.Command.TheVariants as command
+use Rattle.tcl_interpreter.specs.declared.builtin.Builtin.{Builtin}
+use Rattle.tcl_interpreter.specs.declared.command.Command.{Command}
+use Rattle.tcl_interpreter.specs.declared.command.Command.TheVariants as command
 
 abbrev pick : Bool → Type 0 → Type 0
 pick true A = A

@@ -8,10 +8,10 @@ use Rattle.tcl_core.specs.Trees.{on_node, at_end, where_some, effect, with_own}
 use Rattle.tcl_core.specs.Trees.What.{Changed, Made, Dropped}
 use Rattle.tcl_core.specs.Programs.{either}
 use Rattle.tcl_core.proofs.PathLaws.{strip-sound, strip_own}
-use Rattle.tcl_tree.specs.Paths.{Text, Path, is_above, with_node}
-use Rattle.tcl_tree.specs.Own.{Own, with_new_child, without_old_child}
+use Rattle.tcl_interpreter.specs.Paths.{Text, Path, is_above, with_node}
+use Rattle.tcl_interpreter.specs.Own.{Own, with_new_child, without_old_child}
 use Rattle.tcl_tree.specs.Nodes.{NodeView, with_child, without_child, grown, deleted}
-use Rattle.tcl_tree.proofs.PathLemmas.{path_cases}
+use Rattle.tcl_interpreter.proofs.PathLemmas.{path_cases}
 use Rattle.tcl_tree.proofs.CoreLemmas.{above_is}
 
 append_none : (p : Path) → p ++ [] ≡ p

@@ -8,10 +8,10 @@ use Rattle.std.proofs.lemmas.Map.Entries.{place_from_lookup}
 use Rattle.std.proofs.lemmas.Map.Made.{is_some-lookup}
 use Rattle.std.proofs.lemmas.Slice.Eq.{bytes_eq-Decides}
 use Rattle.indexmap.specs.IndexMap.{get, keys}
-use Rattle.tcl_tree.specs.Paths.{Text, Path}
+use Rattle.tcl_interpreter.specs.Paths.{Text, Path}
 use Rattle.tcl_tree.specs.Walking.{SameBelow, SameChildren}
 use Rattle.tcl_tree.specs.Nodes.{Heap, view_of, child_in, follow, tree_in}
-use Rattle.tcl_tree.specs.declared.node.Node.{Node}
+use Rattle.tcl_interpreter.specs.declared.node.Node.{Node}
 use Rattle.tcl_tree.proofs.HeapLemmas.{follow-nil, tree-at}
 use Rattle.tcl_tree.proofs.StepLemmas.{child-at, child-none}
 

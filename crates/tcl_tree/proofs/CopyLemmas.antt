@@ -11,16 +11,17 @@ use Rattle.std.proofs.lemmas.Slice.Eq.{bytes_eq-Decides}
 use Rattle.indexmap.specs.IndexMap.{get, keys}
 use Rattle.slab.specs.Slab as slab
 use Rattle.slab.specs.Slab.{Slab}
-use Rattle.tcl_tree.specs.Paths.{Text, Path}
+use Rattle.tcl_interpreter.specs.Paths.{Text, Path}
 use Rattle.tcl_tree.specs.Nodes.{Heap, NodeView, state_view, view_of, child_in, follow, tree_in, level_in, safe_in, children_in, IsSound, IsGuarded}
 use Rattle.tcl_tree.specs.Copying.{IsBare, IsLike, IsWhole, Adds, IsPart, IsCopy, IsPair, IsListed, IsWalk, left_of}
 use Rattle.tcl_tree.specs.Walking.{entries_in, sum_of, weight}
-use Rattle.tcl_tree.specs.declared.node.Node.{Node}
-use Rattle.tcl_tree.specs.declared.node.State.{State}
-use Rattle.tcl_tree.proofs.HeapLemmas.{Grows, follow-nil, then_child, one_path, clash, sound-grows, follow_grown, follow-shrinks}
+use Rattle.tcl_interpreter.specs.declared.node.Node.{Node}
+use Rattle.tcl_interpreter.specs.declared.node.State.{State}
+use Rattle.tcl_interpreter.proofs.Outcomes.{clash}
+use Rattle.tcl_tree.proofs.HeapLemmas.{Grows, follow-nil, then_child, one_path, sound-grows, follow_grown, follow-shrinks}
 use Rattle.tcl_tree.proofs.StepLemmas.{child-at, link-none, level-at, safe-at, children-at, children-none, children-eq, follow_append, sound-single, guarded-single}
 use Rattle.tcl_tree.proofs.MakeLemmas.{grows_joined, guarded_joined}
-use Rattle.tcl_tree.proofs.SameLemmas.{name_at, names_length}
+use Rattle.tcl_interpreter.proofs.SameLemmas.{name_at, names_length}
 use Rattle.tcl_tree.proofs.ComparingLemmas.{top_at, below_child, below_none, missing, found}
 use Rattle.tcl_tree.proofs.WalkLemmas.{from_place, weight_step, child_is, not_yet}
 

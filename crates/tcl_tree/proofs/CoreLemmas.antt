@@ -9,24 +9,14 @@ use Rattle.tcl_core.specs.Trees.{on_node, on_line, on_some, at_end, where_some}
 use Rattle.tcl_core.specs.Programs.{blocked, nearer}
 use Rattle.tcl_core.specs.Programs as programs
 use Rattle.tcl_core.proofs.PathLaws.{same-refl, same-sound, strip-sound, strip_own, rise_past}
-use Rattle.tcl_tree.specs.Paths.{Text, Path, is_above, ancestor, with_node}
+use Rattle.tcl_interpreter.specs.Paths.{Text, Path, is_above, ancestor, with_node}
 use Rattle.tcl_tree.specs.Nodes.{NodeView, NoneFull, IsNearestFull, charged, full_up}
 use Rattle.tcl_tree.specs.declared.tree.Tree.{Tree as Table}
 use Rattle.slab.specs.Slab.{get}
 use Rattle.tcl_tree.specs.TreeOf.{tree_of, key_of}
 use Rattle.tcl_tree.proofs.HeapLemmas.{tree-at, tree-none, follow-nil}
 use Rattle.tcl_tree.proofs.StepLemmas.{some_there, leads_somewhere}
-use Rattle.tcl_tree.proofs.PathLemmas.{path_cases, text_cases}
-
-pub same_is : (x y : Text) → same x y ≡ bytes_eq x y
-same_is x y = elim (text_cases x y) [
-  | inl w ↦ ap (same x) (sym w.0) ∙ same-refl x ∙ sym w.1
-  | inr w ↦ by (same x y) (same-sound x y) w.0 ∙ sym w.1
-]
-  where
-    by : (b : Bool) → (b ≡ true → x ≡ y) → x ≢ y → b ≡ false
-    by true h n = absurd (n (h refl))
-    by false h n = refl
+use Rattle.tcl_interpreter.proofs.PathLemmas.{path_cases, text_cases, same_is}
 
 pub above_is : (q p : Path) → is_above q p ≡ is_some (strip q p)
 unfolding is_above
@@ -144,25 +134,6 @@ never_full p f = λ m h. by (f (ancestor p m))
     by : (o : Option NodeView) → option_map_or (λ n. false) o false ≡ false
     by None = refl
     by (Some n) = refl
-
-pub rise_is : (n : ℕ) (p : Path) → n ≤ length p → rise n p ≡ Some (ancestor p n)
-unfolding ancestor
-rise_is zero [] h = refl
-rise_is (suc n) [] h = absurd (omega arith)
-rise_is n (x ∷ xs) h = by (rise_is n xs) (cases n (length xs))
-  where
-    cases : (a b : ℕ) → (a ≤ b) ⊎ (b < a)
-    cases a b = grind arith
-
-    by : (n ≤ length xs → rise n xs ≡ Some (take (length xs - n) xs)) → (n ≤ length xs) ⊎ (length xs < n) → rejoined x (rise n xs) (nat_eq n (suc (length xs))) ≡ Some (take (suc (length xs) - n) (x ∷ xs))
-    by ih (inl le) =
-        let e : suc (length xs) - n ≡ suc (length xs - n) = omega arith in
-        ap (λ o. rejoined x o (nat_eq n (suc (length xs)))) (ih le) ∙ ap (λ k. Some (take k (x ∷ xs))) (sym e)
-    by ih (inr lt) =
-        let z : n ≡ suc (length xs) = omega arith in
-        let e : suc (length xs) - n ≡ 0 = omega arith in
-        let t : nat_eq n (suc (length xs)) ≡ true = grind (arith, nat_tests) in
-        (λ i. rejoined x (rise_past n xs lt i) (t i)) ∙ ap (λ k. Some (take k (x ∷ xs))) (sym e)
 
 -- where a key is, there is an interpreter, and elsewhere none
 pub tree_there : (t : Table) (p : Path) (k : ℕ) → key_of t p ≡ Some k → is_some (tree_of t p) ≡ true

@@ -4,7 +4,7 @@ use Rattle.std.specs.Prelude.{nat_le}
 use Rattle.std.proofs.lemmas.Bool.Decides.{nat_tests}
 use Rattle.std.proofs.lemmas.List.{reverse-append}
 use Rattle.tcl_core.specs.Paths.{falls, shorter}
-use Rattle.tcl_tree.specs.Paths.{Text, Path, ancestor}
+use Rattle.tcl_interpreter.specs.Paths.{Text, Path, ancestor}
 
 -- a path is what is so many levels above it, and its last names
 all_of : (n : ℕ) (x : Text) (xs : Path) → length xs < n → falls n (x ∷ xs) ≡ x ∷ xs

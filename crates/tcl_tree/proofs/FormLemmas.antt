@@ -4,16 +4,16 @@ use Rattle.std.proofs.Common.{◌≡◌, ◌≤◌, ℕ, subst, refl, sym, ◌�
 use Rattle.std.specs.Option.{option_map}
 use Rattle.std.proofs.lemmas.Option.{same_Some}
 use Rattle.slab.specs.Slab.{get}
-use Rattle.tcl_tree.specs.Paths.{Path}
+use Rattle.tcl_interpreter.specs.Paths.{Path}
 use Rattle.tcl_tree.specs.Nodes.{Heap, NodeView, view_of, tree_in, follow}
 use Rattle.tcl_tree.specs.Changes.{most_depth, RefusesToDeepen, RefusesLimit, RefusesDepthLimit}
 use Rattle.tcl_tree.specs.Naming.{Named, IsTrusted, Nowhere, Untrusted}
 use Rattle.tcl_tree.specs.Order.{FirstOfLimit, FirstOfDepth, FirstOfDepthLimit, FirstOfAsked}
-use Rattle.tcl_tree.specs.Own.{Own}
+use Rattle.tcl_interpreter.specs.Own.{Own}
 use Rattle.tcl_tree.specs.TreeOf.{tree_of}
-use Rattle.tcl_tree.specs.declared.node.Node.{Node}
-use Rattle.tcl_tree.specs.declared.refusal.Refusal.{Refusal}
-use Rattle.tcl_tree.specs.declared.refusal.Refusal.TheVariants.{Memory, BadName, BadCount, NoInterpreter, Exists, InUse, Denied, NoCommand, NoHidden, TooMany, CountLimit, DepthLimit, BadDepthLimit}
+use Rattle.tcl_interpreter.specs.declared.node.Node.{Node}
+use Rattle.tcl_interpreter.specs.declared.refusal.Refusal.{Refusal}
+use Rattle.tcl_interpreter.specs.declared.refusal.Refusal.TheVariants.{Memory, BadName, BadCount, NoInterpreter, Exists, InUse, Denied, NoCommand, NoHidden, TooMany, CountLimit, DepthLimit, BadDepthLimit}
 use Rattle.tcl_tree.specs.declared.tree.Tree.{Tree}
 use Rattle.tcl_tree.proofs.HeapLemmas.{tree-at, tree-none}
 

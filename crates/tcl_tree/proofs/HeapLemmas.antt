@@ -8,10 +8,11 @@ use Rattle.std.proofs.lemmas.Slice.Eq.{bytes_eq-Decides}
 use Rattle.std.proofs.lemmas.Option.{some_pair_parts, same_Some}
 use Rattle.indexmap.specs.IndexMap.{get, keys}
 use Rattle.std.specs.Map.{lookup, keys_of}
-use Rattle.tcl_tree.specs.Paths.{Text, Path, path_eq, with_node}
+use Rattle.tcl_interpreter.specs.Paths.{Text, Path, path_eq, with_node}
 use Rattle.tcl_tree.specs.Nodes.{Heap, view_of, link_of, shape_of, view_shape, child_in, follow, tree_in, link_in, level_in, safe_in, children_in, IsSound, IsGuarded}
-use Rattle.tcl_tree.specs.declared.node.Node.{Node}
-use Rattle.tcl_tree.proofs.PathLemmas.{snoc_ind, ends_cases, snoc_not_empty, snoc_same, snoc_longer, path_cases, text_cases}
+use Rattle.tcl_interpreter.specs.declared.node.Node.{Node}
+use Rattle.tcl_interpreter.proofs.Outcomes.{clash}
+use Rattle.tcl_interpreter.proofs.PathLemmas.{snoc_ind, ends_cases, snoc_not_empty, snoc_same, snoc_longer, path_cases, text_cases}
 
 pub follow-snoc : (h : Heap) (p : Path) (k : ℕ) (n : Text) → follow h k (p ++ n ∷ []) ≡ option_and_then (λ c. child_in h c n) (follow h k p)
 unfolding follow
@@ -28,9 +29,6 @@ follow-snoc h (m ∷ p) k n = by (child_in h k m) (λ c. follow-snoc h p c n)
 
 pub same_link : (a b : ℕ) (n m : Text) → ◌≡◌ {A = Option (Option (ℕ × Text))} (Some (Some (a, n))) (Some (Some (b, m))) → (a ≡ b) × (n ≡ m)
 same_link a b n m e = some_pair_parts a b n m (same_Some _ _ e)
-
-pub clash : {A : Type 0} (a : A) → None ≡ Some a → Prim.⊥
-clash a e = cc
 
 pub follow-nil : (h : Heap) (k : ℕ) → follow h k [] ≡ Some k
 unfolding follow

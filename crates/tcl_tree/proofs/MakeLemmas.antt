@@ -15,10 +15,10 @@ use Rattle.indexmap.specs.IndexMap.{IndexMap, get, keys, insert_entry}
 use Rattle.indexmap.proofs.CallerLemmas.{insert_entry-new}
 use Rattle.slab.specs.Slab as slab
 use Rattle.slab.specs.Slab.{Slab}
-use Rattle.tcl_tree.specs.Paths.{Text, Path, is_above, with_node}
+use Rattle.tcl_interpreter.specs.Paths.{Text, Path, is_above, with_node}
 use Rattle.tcl_tree.specs.Nodes.{Heap, NodeView, Shape, view_of, shape_of, with_child, without_child, Attached, Joined, Detached, SameTable, grown, pruned, deleted, child_in, follow, tree_in, link_in, level_in, safe_in, children_in, IsSound, IsGuarded}
-use Rattle.tcl_tree.specs.declared.node.Node.{Node}
-use Rattle.tcl_tree.proofs.PathLemmas.{path_cases, text_cases, above_cases, above_self, above_append, not_above_front}
+use Rattle.tcl_interpreter.specs.declared.node.Node.{Node}
+use Rattle.tcl_interpreter.proofs.PathLemmas.{path_cases, text_cases, above_cases, above_self, above_append, not_above_front}
 use Rattle.tcl_tree.proofs.HeapLemmas.{same_link, last_step, then_child, one_path, tree-none, Grows, guarded-grows, guarded-shrinks, tree-grows, tree-shrinks, sound-grows, sound-shrinks, follow-shrinks, follow_grown, sound_kept, guarded_kept, follow_kept, tree_kept}
 use Rattle.tcl_tree.proofs.StepLemmas.{child-at, child-eq, child-none, link-at, link-none, link-eq, level-at, level-none, level-eq, safe-at, safe-eq, children-at, children-none, children-eq, tree_some, follow_append}
 
@@ -29,12 +29,6 @@ shorter_removed test (x ∷ xs) = by (test x) (shorter_removed test xs)
     by : (b : Bool) → length (remove_key test xs) ≤ length xs → length (cond b xs (x ∷ remove_key test xs)) ≤ suc (length xs)
     by true h = omega arith
     by false h = omega arith
-
--- a new key goes last among the keys
-pub keys_pushed : {S : Type 0} (m n : IndexMap Text ℕ S) (label : Text) (key : ℕ) → n.entries ≡ insert_entry bytes_eq m.entries label key → get bytes_eq m label ≡ None
-    → keys n ≡ keys m ++ label ∷ []
-keys_pushed m n label key e absent =
-    ap keys_of (e ∙ insert_entry-new bytes_eq m label key absent) ∙ map-append (λ p. p.0) m.entries ((label, key) ∷ [])
 
 -- what a new child does to the table
 module _ (s t : Slab Node) (pk : ℕ) (label : Text) (node : Node) (key : ℕ) (a : Joined s t pk label node key)
@@ -143,19 +137,8 @@ module _ (s r : Slab Node) (pk : ℕ) (up : Node) (same : SameTable s r) (up_is 
       by None e = tt
       by (Some n) e = subst P (sym (same_Some _ _ e)) h
 
-cancel : (a b h : ℕ) → a + h ≡ b + 1 → h ≡ 1 → a ≡ b
-cancel a b h e f = omega arith
-
 pub length_keys : (es : List (Text × ℕ)) → length (keys_of es) ≡ length es
 length_keys es = length-map es (λ p. p.0)
-
--- a value that is written over another
-pub len_kept : (s : Slab Node) (k : ℕ) (old new : Node) → slab.get s k ≡ Some old → slab.slab_len (slab.with_value s k new) ≡ slab.slab_len s
-len_kept s k old new is =
-    let within : k < length s.slots = ContainsKey-within s k (ap is_some is) in
-    let counted : count_by is_some (set s.slots k (Some new)) + cond (is_some (get_or s.slots k None)) 1 0 ≡ count_by is_some s.slots + 1 = sum_by-set (λ (o : Option Node). cond (is_some o) 1 0) s.slots k (Some new) None within in
-    let here : cond (is_some (get_or s.slots k None)) 1 0 ≡ 1 = ap (λ (o : Option Node). cond (is_some o) 1 0) is in
-    cancel (count_by is_some (set s.slots k (Some new))) (count_by is_some s.slots) _ counted here
 
 -- room was made, and then a node attached: how the table has grown
 module _ (s r t : Slab Node) (root pk : ℕ) (name label : Text) (node up : Node) (same : SameTable s r) (a : Attached r t pk label node)

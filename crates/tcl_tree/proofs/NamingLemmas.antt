@@ -5,16 +5,17 @@ use Rattle.std.proofs.lemmas.Option.{same_Some}
 use Rattle.slab.specs.Slab as slab
 use Rattle.slab.specs.Slab.{Slab}
 use Rattle.indexmap.specs.IndexMap.{keys}
-use Rattle.tcl_tree.specs.Paths.{Text, Path}
-use Rattle.tcl_tree.specs.Own.{Own}
+use Rattle.tcl_interpreter.specs.Paths.{Text, Path}
+use Rattle.tcl_interpreter.specs.Own.{Own}
 use Rattle.tcl_tree.specs.Nodes.{Heap, NodeView, own_view, state_view, view_of, tree_in, follow, IsSound}
 use Rattle.tcl_tree.specs.Naming.{Named, Follows, StaysSo, Becomes, Refuses, RefusesNaming, RefusesThere, RefusesAt, RefusesSo, named_so}
 use Rattle.tcl_tree.specs.TreeOf.{tree_of, key_of}
 use Rattle.tcl_tree.specs.declared.tree.Tree.{Tree}
-use Rattle.tcl_tree.specs.declared.naming.Naming.{Naming}
-use Rattle.tcl_tree.specs.declared.node.Node.{Node}
-use Rattle.tcl_tree.specs.declared.node.State.{State}
-use Rattle.tcl_tree.specs.declared.refusal.Refusal.{Refusal}
+use Rattle.tcl_interpreter.specs.declared.naming.Naming.{Naming}
+use Rattle.tcl_interpreter.specs.declared.node.Node.{Node}
+use Rattle.tcl_interpreter.specs.declared.node.State.{State}
+use Rattle.tcl_interpreter.specs.declared.refusal.Refusal.{Refusal}
+pub use Rattle.tcl_interpreter.proofs.Outcomes.{if_ok_map}
 use Rattle.tcl_tree.proofs.HeapLemmas.{SamePlace}
 use Rattle.tcl_tree.proofs.StepLemmas.{tree_some, tree_write}
 use Rattle.tcl_tree.proofs.CoreLemmas.{node_done, tree_there}
@@ -86,6 +87,3 @@ pub if_none : {T P : Type 0} (o : Option T) → P → IfNone o P
 if_none None h = h
 if_none (Some x) h = tt
 
-pub if_ok_map : {T E : Type 0} {P Q : T → Type 0} (r : Result T E) → IfOk r P → ((x : T) → P x → Q x) → IfOk r Q
-if_ok_map (Ok x) h f = f x h
-if_ok_map (Err e) h f = tt

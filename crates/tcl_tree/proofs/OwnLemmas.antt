@@ -9,13 +9,13 @@ use Rattle.slab.specs.Slab.{Slab}
 use Rattle.tcl_core.specs.Trees.{effect}
 use Rattle.tcl_core.specs.Trees.What.{Limited, DepthLimited}
 use Rattle.tcl_frames.specs.Chain.{Chain}
-use Rattle.tcl_tree.specs.Paths.{Path, with_node}
-use Rattle.tcl_tree.proofs.PathLemmas.{path_cases}
-use Rattle.tcl_tree.specs.Own.{Own}
+use Rattle.tcl_interpreter.specs.Paths.{Path, with_node}
+use Rattle.tcl_interpreter.proofs.PathLemmas.{path_cases}
+use Rattle.tcl_interpreter.specs.Own.{Own}
 use Rattle.tcl_tree.specs.Nodes.{NodeView, view_of, tree_in, follow, IsSound, IsGuarded}
 use Rattle.tcl_tree.specs.Changes.{Rewrites}
 use Rattle.tcl_tree.specs.Lending.{with_frames, with_frames_at}
-use Rattle.tcl_tree.specs.declared.node.Node.{Node}
+use Rattle.tcl_interpreter.specs.declared.node.Node.{Node}
 use Rattle.tcl_tree.proofs.HeapLemmas.{SamePlace, tree-at}
 use Rattle.tcl_tree.proofs.StepLemmas.{tree_some, tree_write, sound_write, guarded_write, follow_write, leads_somewhere}
 use Rattle.tcl_tree.proofs.CoreLemmas.{node_done}

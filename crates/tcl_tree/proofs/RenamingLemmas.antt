@@ -3,15 +3,15 @@ use Rattle.std.proofs.Common.{◌≡◌, ℕ, suc, ◌∙◌, sym, ap, inr, Bool
 use Rattle.std.specs.Prelude.{◌==◌}
 use Rattle.std.proofs.lemmas.Bool.Decides.{nat_tests}
 use Rattle.std.specs.Option.{option_and_then}
-use Rattle.tcl_tree.specs.Paths.{Text, Path}
-use Rattle.tcl_tree.specs.Own.{command_in}
+use Rattle.tcl_interpreter.specs.Paths.{Text, Path}
+use Rattle.tcl_interpreter.specs.Own.{command_in}
 use Rattle.tcl_tree.specs.Changes.{is_child}
 use Rattle.tcl_tree.specs.Nodes.{NodeView}
 use Rattle.tcl_tree.specs.Naming.{Refuses, RefusesAt, RefusesTaking, RefusesRename, renamed, removed}
 use Rattle.tcl_tree.specs.TreeOf.{tree_of, key_of}
 use Rattle.tcl_tree.specs.declared.tree.Tree.{Tree}
-use Rattle.tcl_tree.specs.declared.command.Command.{Command}
-use Rattle.tcl_tree.specs.declared.refusal.Refusal.{Refusal}
+use Rattle.tcl_interpreter.specs.declared.command.Command.{Command}
+use Rattle.tcl_interpreter.specs.declared.refusal.Refusal.{Refusal}
 use Rattle.tcl_tree.proofs.NamingLemmas.{standing}
 
 never : (n : ℕ) → (suc n == 0) ≡ true → Prim.⊥

@@ -11,14 +11,14 @@ use Rattle.std.specs.Prelude.{Result, Ok, Err, OnOk, OnErr, IsOk, IfSome, ⊤}
 use Rattle.std.specs.Map.{lookup, keys_of}
 use Rattle.slab.specs.Slab as slab
 use Rattle.slab.specs.Slab.{Slab}
-use Rattle.tcl_tree.specs.Paths.{Text, Path, is_above, ancestor, with_node}
+use Rattle.tcl_interpreter.specs.Paths.{Text, Path, is_above, ancestor, with_node}
 use Rattle.tcl_tree.specs.Nodes.{Heap, NodeView, view_of, state_view, full_of, full_up, charged, charged_below, child_in, follow, tree_in, link_of, link_in, level_in, safe_in, children_in, IsSound, IsGuarded}
 use Rattle.tcl_tree.specs.TreeOf.{alone}
-use Rattle.tcl_tree.specs.declared.node.Node.{Node}
-use Rattle.tcl_tree.specs.declared.node.State.{State}
-use Rattle.tcl_tree.specs.declared.node.Meter.{Meter}
-use Rattle.tcl_tree.specs.declared.node.Meter.TheVariants.{Steps, Levels, Back}
-use Rattle.tcl_tree.proofs.PathLemmas.{path_cases, ends_cases, ancestor_length, ancestor_front, ancestor_above, above_same, test_cases, above_fits}
+use Rattle.tcl_interpreter.specs.declared.node.Node.{Node}
+use Rattle.tcl_interpreter.specs.declared.node.State.{State}
+use Rattle.tcl_interpreter.specs.declared.node.Meter.{Meter}
+use Rattle.tcl_interpreter.specs.declared.node.Meter.TheVariants.{Steps, Levels, Back}
+use Rattle.tcl_interpreter.proofs.PathLemmas.{path_cases, ends_cases, ancestor_length, ancestor_front, ancestor_above, above_same, test_cases, above_fits}
 use Rattle.slab.proofs.SlabLemmas.{Updates-with_value}
 use Rattle.tcl_tree.proofs.HeapLemmas.{follow-nil, same_link, last_step, tree-at, tree-none, SamePlace, sound-same, guarded-same, follow-same, level-same, tree-same, then_child, linked}
 
@@ -193,10 +193,6 @@ module _ (s : Slab Node) (root : ℕ) (sound : IsSound (slab.get s) root) (p : P
   tree_write g e q =
       tree-same (slab.get s) (slab.get (slab.with_value s k new)) k old new is updates-write.changed same updates-write.others root sound p at q
       ∙ ap (λ v. with_node (tree_in (slab.get s) root) p v q) (sym (ap (option_map g) (tree_some (slab.get s) root p k old at is) ∙ ap Some e))
-
-pub on_ok : {T E P : Type 0} (r : Result T E) → OnOk r P → IsOk r → P
-on_ok (Ok x) h ok = h
-on_ok (Err e) h ok = let x : false ≡ true = ok in cc
 
 pub at_some : {T : Type 0} (o : Option T) (P : T → Type 0) (x : T) → o ≡ Some x → IfSome o P → P x
 at_some o P x e h = MatchOption-at_some ⊤ P x e h

@@ -10,14 +10,14 @@ use Rattle.std.proofs.lemmas.Map.Keys.{IsDistinct-head, IsDistinct-tail}
 use Rattle.std.proofs.lemmas.Option.{same_Some, slice_get_within}
 use Rattle.std.proofs.lemmas.Slice.Eq.{bytes_eq-Decides}
 use Rattle.indexmap.specs.IndexMap.{get, index_of, keys, values}
-use Rattle.tcl_tree.specs.Paths.{Text, Path}
+use Rattle.tcl_interpreter.specs.Paths.{Text, Path}
 use Rattle.tcl_tree.specs.Nodes.{Heap, IsSound, NodeView, child_in, follow, level_in, link_in, link_of, view_of}
 use Rattle.tcl_tree.specs.Walking.{SameBelow, SameChildren, Twins, Reached, behind_in, entries_behind, entries_in, first_in, left, left_behind, link_above, parent_in, sibling_in, sum_of, weight, weight_behind}
 use Rattle.tcl_tree.specs.Walking.Reached.{Tops, Children}
-use Rattle.tcl_tree.specs.declared.node.Node.{Node}
+use Rattle.tcl_interpreter.specs.declared.node.Node.{Node}
 use Rattle.tcl_tree.proofs.HeapLemmas.{follow-nil, then_child, tree-at}
 use Rattle.tcl_tree.proofs.StepLemmas.{child-at}
-use Rattle.tcl_tree.proofs.SameLemmas.{name_at, names_length}
+use Rattle.tcl_interpreter.proofs.SameLemmas.{name_at, names_length}
 use Rattle.tcl_tree.proofs.ComparingLemmas.{all_same, nowhere, same_text}
 
 -- ## Places in lists of entries

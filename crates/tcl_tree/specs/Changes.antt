@@ -1,20 +1,18 @@
 -- What calls on a tree change, and when they are refused.
 use Rattle.std.specs.Str.{bytes_eq}
 use Rattle.std.specs.Option.{unwrap_or}
-use Rattle.std.specs.Map.{lookup, remove_entry}
+use Rattle.std.specs.Map.{lookup}
 use Rattle.std.specs.Fmt.{decimal}
-use Rattle.indexmap.specs.IndexMap.{insert_entry}
-use Rattle.tcl_tree.specs.declared.command.Command.{Command}
-use Rattle.tcl_tree.specs.declared.command.Command.TheVariants.{Alias, Child}
-use Rattle.std.specs.Prelude.{◌≡◌, ◌≢◌, ◌⊎◌, ◌<◌, ◌≤◌, ℕ, Bool, true, false, List, [], ◌∷◌, ◌++◌, ◌==◌, ◌&&◌, ◌||◌, not, codes, length, Option, Some, None, IsSome}
+use Rattle.std.specs.Prelude.{◌≡◌, ◌≢◌, ◌⊎◌, ◌<◌, ◌≤◌, ℕ, Bool, true, false, [], ◌∷◌, ◌++◌, codes, length, Option, Some, None, IsSome}
 use Rattle.tcl_core.specs.Trees.{effect}
 use Rattle.tcl_core.specs.Trees.What.{Changed, Made, Dropped}
 use Rattle.tcl_core.specs.Programs.{blocked, is_spent, is_deep, either, most_steps}
-use Rattle.tcl_tree.specs.Paths.{Text, Path}
-use Rattle.tcl_tree.specs.Own.{Own, CommandMap, new_own, with_new_child, without_old_child, command_in}
+use Rattle.tcl_interpreter.specs.Paths.{Text, Path}
+use Rattle.tcl_interpreter.specs.Own.{Own, CommandMap, new_own, with_new_child, without_old_child, command_in}
+pub use Rattle.tcl_interpreter.specs.Names.{is_colon, has_colons, is_name, with_command, without_command, is_command_name, is_child, is_alias}
 use Rattle.tcl_tree.specs.Nodes.{NodeView}
-use Rattle.tcl_tree.specs.declared.refusal.Refusal.{Refusal}
-use Rattle.tcl_tree.specs.declared.refusal.Refusal.TheVariants.{Memory, BadName, NoInterpreter, Exists, InUse, Denied, BadCount, BadDepthLimit, TooMany, CountLimit, DepthLimit}
+use Rattle.tcl_interpreter.specs.declared.refusal.Refusal.{Refusal}
+use Rattle.tcl_interpreter.specs.declared.refusal.Refusal.TheVariants.{Memory, BadName, NoInterpreter, Exists, InUse, Denied, BadCount, BadDepthLimit, TooMany, CountLimit, DepthLimit}
 
 -- the own part of the interpreter at p is changed so, and nothing else
 abbrev pub Rewrites : (Path → Option NodeView) → (Path → Option NodeView) → Path → (Own → Own) → Type 0
@@ -33,20 +31,6 @@ RefusesLevel (DepthLimit n) f p = IsSome (f p) × (blocked is_deep f p ≡ Some 
 RefusesLevel _ f p = Prim.⊥
 
 -- ## Children
-
--- two colons side by side: no name of a command has them
-abbrev pub is_colon : List ℕ → Bool
-is_colon [] = false
-is_colon (x ∷ xs) = x == 58
-
-abbrev pub has_colons : List ℕ → Bool
-has_colons [] = false
-has_colons (x ∷ xs) = ((x == 58) && is_colon xs) || has_colons xs
-
--- a name that a child can have: it isn't empty, and has no two colons side by side
-abbrev pub is_name : Text → Bool
-is_name [] = false
-is_name (x ∷ xs) = not (has_colons (x ∷ xs))
 
 -- the most children that an interpreter has
 abbrev pub most_children : ℕ
@@ -146,27 +130,6 @@ abbrev pub RefusesCopy : Refusal → (Path → Option NodeView) → Path → Typ
 RefusesCopy NoInterpreter f p = f p ≡ None
 RefusesCopy Memory f p = Unit {0}
 RefusesCopy _ f p = Prim.⊥
-
--- ## Commands
-
--- the name stands for this, where it did or at the end
-abbrev pub with_command : Text → Command → Own → Own
-with_command n c own = record own { commands = insert_entry bytes_eq own.commands n c }
-
-abbrev pub without_command : Text → Own → Own
-without_command n own = record own { commands = remove_entry (bytes_eq n) own.commands }
-
--- a name that commands can have: no two colons stand side by side in it
-abbrev pub is_command_name : Text → Bool
-is_command_name n = not (has_colons n)
-
-abbrev pub is_child : Option Command → Bool
-is_child (Some Child) = true
-is_child _ = false
-
-abbrev pub is_alias : Option Command → Bool
-is_alias (Some (Alias a)) = true
-is_alias _ = false
 
 -- ## Names of new children
 

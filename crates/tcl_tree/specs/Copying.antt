@@ -3,18 +3,11 @@ use Rattle.std.specs.Prelude.{◌≡◌, ◌⊎◌, ℕ, suc, ◌+◌, ◌-◌, 
 use Rattle.indexmap.specs.IndexMap.{keys}
 use Rattle.slab.specs.Slab as slab
 use Rattle.slab.specs.Slab.{Slab}
-use Rattle.tcl_tree.specs.Paths.{Text, Path}
+use Rattle.tcl_interpreter.specs.Paths.{Text, Path}
 use Rattle.tcl_tree.specs.Nodes.{Heap, Joined, IsSound, IsGuarded, state_view, child_in, children_in, follow, level_in, tree_in}
+use Rattle.tcl_interpreter.specs.Copying.{IsBare}
 use Rattle.tcl_tree.specs.Walking.{entries_in, sum_of, weight}
-use Rattle.tcl_tree.specs.declared.node.Node.{Node}
-
--- a node that has what another has, but no children, and its own parent and name
-pub record IsBare (old made : Node) (above : Option ℕ) (label : Text) : Type 0 where
-  pub parent : made.parent ≡ above
-  pub name : made.name ≡ label
-  pub level : made.level ≡ old.level
-  pub leaf : made.children.entries ≡ []
-  pub state : (names : List Text) → state_view made.state names ≡ state_view old.state names
+use Rattle.tcl_interpreter.specs.declared.node.Node.{Node}
 
 -- The node at t of one table has what that at k of another has, and the first of its children.
 pub record IsLike (h g : Heap) (k t : ℕ) : Type 0 where

@@ -1,6 +1,6 @@
 -- What holds of the interpreters of every tree.
 use Rattle.std.specs.Prelude.{◌≡◌, ◌≤◌, Option, Some}
-use Rattle.tcl_tree.specs.Paths.{Path}
+use Rattle.tcl_interpreter.specs.Paths.{Path}
 use Rattle.tcl_tree.specs.Nodes.{NodeView}
 use Rattle.tcl_tree.specs.Changes.{most_depth}
 

@@ -9,8 +9,8 @@ use Rattle.std.specs.contracts.alloc.Global.{the_row as global_row}
 use Rattle.std.specs.contracts.impls.GlobalAllocator.TheImpl.{ghosts}
 use Rattle.tcl_frames.specs.Chain.{Chain}
 use Rattle.tcl_frames.specs.contracts.frames.Frames.{the_row as frames_row}
-use Rattle.tcl_tree.specs.declared.node.Node.{Node}
-use Rattle.tcl_tree.specs.contracts.node.Node.{the_row as node_row}
+use Rattle.tcl_interpreter.specs.declared.node.Node.{Node}
+use Rattle.tcl_interpreter.specs.contracts.node.Node.{the_row as node_row}
 
 -- the node with other frames
 abbrev pub with_frames : Node → Chain → Node

@@ -3,7 +3,7 @@ use Rattle.std.specs.Prelude.{◌≡◌, Option, IsSome}
 use Rattle.std.specs.Borrow.{LendsSo, MutBor, Fml}
 use Rattle.tcl_frames.specs.Chain.{Chain}
 use Rattle.tcl_frames.specs.contracts.frames.Frames.{the_row as frames_row}
-use Rattle.tcl_tree.specs.Paths.{Path}
+use Rattle.tcl_interpreter.specs.Paths.{Path}
 use Rattle.tcl_tree.specs.Changes.{Rewrites}
 use Rattle.tcl_tree.specs.TreeOf.{tree_of, key_of, marks_of, Names}
 use Rattle.tcl_tree.specs.declared.tree.Tree.{Tree}

@@ -1,7 +1,8 @@
-pub mod Builtins
-pub mod Commands
-pub mod Own
-pub mod Paths
+pub use Rattle.tcl_interpreter.specs.Builtins
+pub use Rattle.tcl_interpreter.specs.Commands
+pub use Rattle.tcl_interpreter.specs.Own
+pub use Rattle.tcl_interpreter.specs.Paths
+pub use Rattle.tcl_interpreter.specs.Refusals
 pub mod Nodes
 pub mod Walking
 pub mod Copying
@@ -9,7 +10,6 @@ pub mod TreeOf
 pub mod Changes
 pub mod Lending
 pub mod LendingTree
-pub mod Refusals
 pub mod Naming
 pub mod Order
 pub mod Reaching

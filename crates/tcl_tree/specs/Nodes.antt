@@ -1,67 +1,18 @@
 -- What a contract sees of a table of interpreters.
-use Rattle.std.specs.Prelude.{◌≡◌, ◌≢◌, ℕ, suc, pred, ◌+◌, ◌^◌, ◌<◌, ◌≤◌, ◌&&◌, Bool, true, false, cond, nat_lt, List, [], ◌∷◌, ◌++◌, length, Option, Some, None, IfSome}
+use Rattle.std.specs.Prelude.{◌≡◌, ℕ, ◌+◌, ◌^◌, ◌<◌, ◌≤◌, ◌&&◌, Bool, true, false, cond, nat_lt, List, [], ◌∷◌, ◌++◌, length, Option, Some, None, IfSome}
 use Rattle.std.specs.Option.{option_and_then, option_map, option_map_or}
 use Rattle.std.specs.Str.{bytes_eq}
 use Rattle.indexmap.specs.IndexMap.{get, keys}
 use Rattle.std.specs.Map.{keys_of}
 use Rattle.slab.specs.Slab as slab
 use Rattle.slab.specs.Slab.{Slab}
-use Rattle.tcl_core.specs.Trees as core
-use Rattle.tcl_core.specs.Programs.{is_spent, is_deep}
-use Rattle.tcl_tree.specs.Paths.{Text, Path, is_above, ancestor, with_node}
-use Rattle.tcl_tree.specs.Own.{Own, new_own, with_new_child, without_old_child}
-use Rattle.tcl_tree.specs.declared.node.Node.{Node}
-use Rattle.tcl_tree.specs.declared.node.State.{State}
-use Rattle.tcl_tree.specs.declared.node.Meter.{Meter}
-use Rattle.tcl_tree.specs.declared.node.Meter.TheVariants.{Steps, Levels, Back}
+use Rattle.tcl_interpreter.specs.Paths.{Text, Path, is_above, ancestor, with_node}
+pub use Rattle.tcl_interpreter.specs.Nodes.{NodeView, own_view, state_view, view_of, new_view, full_of, moved, with_child, without_child, Shape, shape_of, shape_at, SameTable, Attached, Joined, Detached}
+use Rattle.tcl_interpreter.specs.declared.node.Node.{Node}
 
 -- what stands at each key
 abbrev pub Heap : Type 0
 Heap = ℕ → Option Node
-
--- an interpreter as contracts see it: with no keys
-abbrev pub NodeView : Type 0
-NodeView = core.Node Own
-
-abbrev pub own_view : State → List Text → Own
-own_view s names = record { chain = s.frames; commands = s.commands.entries; hidden = s.hidden.entries; children = names }
-
-abbrev pub state_view : State → List Text → NodeView
-state_view s names = record {
-  own = own_view s names;
-  safe = s.safe;
-  root = s.root;
-  count = s.count;
-  limit = s.limit;
-  depth = s.depth;
-  depth_limit = s.depth_limit;
-}
-
-abbrev pub view_of : Node → NodeView
-view_of node = state_view node.state (keys node.children)
-
--- a new interpreter, the root of its tree or not, with this limit of depth and these children
-abbrev pub new_view : Bool → Bool → ℕ → List Text → NodeView
-new_view safe top depth_limit names = record {
-  own = record (new_own safe) { children = names };
-  safe = safe;
-  root = top;
-  count = 0;
-  limit = None;
-  depth = 0;
-  depth_limit = depth_limit;
-}
-
--- a meter that may not be moved, and one that was
-abbrev pub full_of : Meter → NodeView → Bool
-full_of Steps n = is_spent n
-full_of Levels n = is_deep n
-full_of Back n = false
-
-abbrev pub moved : Meter → NodeView → NodeView
-moved Steps n = record n { count = suc n.count }
-moved Levels n = record n { depth = suc n.depth }
-moved Back n = record n { depth = pred n.depth }
 
 -- the key of the child of this name
 unfoldable pub child_in : Heap → ℕ → Text → Option ℕ
@@ -107,12 +58,6 @@ pub record IsGuarded (h : Heap) : Type 0 where
   pub safe : (k : ℕ) (n : Text) (c : ℕ) → child_in h k n ≡ Some c → safe_in h k ≡ true → safe_in h c ≡ true
   pub few : (k : ℕ) → children_in h k ≤ 256
 
-abbrev pub with_child : Text → NodeView → NodeView
-with_child n v = record v { own = with_new_child n v.own }
-
-abbrev pub without_child : Text → NodeView → NodeView
-without_child n v = record v { own = without_old_child n v.own }
-
 abbrev pub Tree_fn : Type 0
 Tree_fn = Path → Option NodeView
 
@@ -129,68 +74,8 @@ deleted f p n q = cond (is_above (p ++ n ∷ []) q) None (with_node f p (option_
 unfoldable pub charged : (NodeView → NodeView) → Tree_fn → Path → Tree_fn
 charged once f p q = cond (is_above q p) (option_map once (f q)) (f q)
 
--- a node but for the room of its maps
-abbrev pub Shape : Type 0
-Shape = Option ℕ × Text × ℕ × List (Text × ℕ) × NodeView
-
-abbrev pub shape_of : Node → Shape
-shape_of node = (node.parent, node.name, node.level, node.children.entries, state_view node.state [])
-
 abbrev pub view_shape : Shape → NodeView
 view_shape shape = record shape.4 { own = record shape.4.own { children = keys_of shape.3 } }
-
-abbrev pub shape_at : Slab Node → ℕ → Option Shape
-shape_at s k = option_map shape_of (slab.get s k)
-
--- the two differ in room alone
-abbrev pub SameTable : Slab Node → Slab Node → Type 0
-SameTable s t = (k : ℕ) → shape_at t k ≡ shape_at s k
-
--- t is s with the node under a new key, and under the label among the children of the node at pk
-pub record Attached (s t : Slab Node) (pk : ℕ) (label : Text) (node : Node) : Type 0 where
-  pub key : ℕ
-  pub was : slab.get s key ≡ None
-  pub here : slab.get t key ≡ Some node
-  pub old : Node
-  pub old_is : slab.get s pk ≡ Some old
-  pub new : Node
-  pub new_is : slab.get t pk ≡ Some new
-  pub parent : new.parent ≡ old.parent
-  pub name : new.name ≡ old.name
-  pub level : new.level ≡ old.level
-  pub view : view_of new ≡ with_child label (view_of old)
-  pub gets : (q : Text) → get bytes_eq new.children q ≡ cond (bytes_eq label q) (Some key) (get bytes_eq old.children q)
-  pub others : (k : ℕ) → k ≢ pk → k ≢ key → slab.get t k ≡ slab.get s k
-
--- t is s with the node under a new key, and under the label among the children of the node at pk, whatever else that has
-pub record Joined (s t : Slab Node) (pk : ℕ) (label : Text) (node : Node) (key : ℕ) : Type 0 where
-  pub was : slab.get s key ≡ None
-  pub here : slab.get t key ≡ Some node
-  pub old : Node
-  pub old_is : slab.get s pk ≡ Some old
-  pub new : Node
-  pub new_is : slab.get t pk ≡ Some new
-  pub parent : new.parent ≡ old.parent
-  pub name : new.name ≡ old.name
-  pub level : new.level ≡ old.level
-  pub safe : new.state.safe ≡ old.state.safe
-  pub names : keys new.children ≡ keys old.children ++ label ∷ []
-  pub gets : (q : Text) → get bytes_eq new.children q ≡ cond (bytes_eq label q) (Some key) (get bytes_eq old.children q)
-  pub others : (k : ℕ) → k ≢ pk → k ≢ key → slab.get t k ≡ slab.get s k
-
--- t is s with no node under the key, and none of its name among the children of the node at pk
-pub record Detached (s t : Slab Node) (key : ℕ) (node : Node) (pk : ℕ) : Type 0 where
-  pub gone : slab.get t key ≡ None
-  pub old : Node
-  pub old_is : slab.get s pk ≡ Some old
-  pub new : Node
-  pub new_is : slab.get t pk ≡ Some new
-  pub parent : new.parent ≡ old.parent
-  pub name : new.name ≡ old.name
-  pub level : new.level ≡ old.level
-  pub view : view_of new ≡ without_child node.name (view_of old)
-  pub gets : (q : Text) → get bytes_eq new.children q ≡ cond (bytes_eq node.name q) None (get bytes_eq old.children q)
-  pub others : (k : ℕ) → k ≢ pk → k ≢ key → slab.get t k ≡ slab.get s k
 
 -- the node at the key has no children
 abbrev pub IsLeaf : Slab Node → ℕ → Type 0

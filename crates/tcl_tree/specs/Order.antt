@@ -3,13 +3,13 @@
 use Rattle.std.specs.Option.{unwrap_or}
 use Rattle.std.specs.Prelude.{◌≡◌, ◌≢◌, ◌⊎◌, ◌<◌, ℕ, true, false, [], ◌++◌, Option, Some, None, IsSome}
 use Rattle.tcl_core.specs.Programs.{most_steps}
-use Rattle.tcl_tree.specs.Paths.{Path}
-use Rattle.tcl_tree.specs.Own.{Own}
+use Rattle.tcl_interpreter.specs.Paths.{Path}
+use Rattle.tcl_interpreter.specs.Own.{Own}
 use Rattle.tcl_tree.specs.Nodes.{NodeView}
 use Rattle.tcl_tree.specs.Changes.{IsRoot, most_depth}
 use Rattle.tcl_tree.specs.Naming.{Named, IsTrusted, RefusesAt, Untrusted}
-use Rattle.tcl_tree.specs.declared.refusal.Refusal.{Refusal}
-use Rattle.tcl_tree.specs.declared.refusal.Refusal.TheVariants.{NoInterpreter, Denied, BadCount, BadDepthLimit}
+use Rattle.tcl_interpreter.specs.declared.refusal.Refusal.{Refusal}
+use Rattle.tcl_interpreter.specs.declared.refusal.Refusal.TheVariants.{NoInterpreter, Denied, BadCount, BadDepthLimit}
 
 -- the interpreter that asks is there, and safe
 abbrev pub IsSafe : (Path → Option NodeView) → Path → Type 0

@@ -1,7 +1,7 @@
 -- How one interpreter is reached from another.
 use Rattle.std.specs.Prelude.{◌≡◌, ℕ, ◌++◌, Some, None}
 use Rattle.tcl_core.specs.Paths.{rise}
-use Rattle.tcl_tree.specs.Paths.{Path}
+use Rattle.tcl_interpreter.specs.Paths.{Path}
 use Rattle.tcl_tree.specs.TreeOf.{tree_of, Names}
 use Rattle.tcl_tree.specs.declared.tree.Tree.{Tree}
 use Rattle.tcl_tree.specs.declared.tree.places.Reach.{Reach}

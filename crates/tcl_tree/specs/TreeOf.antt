@@ -1,10 +1,10 @@
 -- A table as the tree that it holds.
 use Rattle.std.specs.Prelude.{◌≡◌, ℕ, Bool, true, false, [], ◌∷◌, Option, Some, None}
 use Rattle.slab.specs.Slab.{get, Slab}
-use Rattle.tcl_tree.specs.declared.node.Node.{Node}
+use Rattle.tcl_interpreter.specs.declared.node.Node.{Node}
 use Rattle.tcl_text.specs.declared.integer.Integers.{Integers}
-use Rattle.tcl_tree.specs.Paths.{Path}
-use Rattle.tcl_tree.specs.Own.{new_own}
+use Rattle.tcl_interpreter.specs.Paths.{Path}
+use Rattle.tcl_interpreter.specs.Own.{new_own}
 use Rattle.tcl_tree.specs.Nodes.{NodeView, tree_in, follow}
 use Rattle.tcl_tree.specs.declared.tree.Tree.{Tree}
 use Rattle.tcl_tree.specs.declared.tree.Place.{Place}

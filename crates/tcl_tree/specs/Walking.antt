@@ -4,9 +4,9 @@ use Rattle.std.specs.Option.{option_and_then, option_map_or}
 use Rattle.std.specs.List.{IsDistinct}
 use Rattle.std.specs.Str.{bytes_eq}
 use Rattle.indexmap.specs.IndexMap.{get, index_of, keys, values}
-use Rattle.tcl_tree.specs.Paths.{Text, Path}
+use Rattle.tcl_interpreter.specs.Paths.{Text, Path}
 use Rattle.tcl_tree.specs.Nodes.{Heap, tree_in, view_of, level_in}
-use Rattle.tcl_tree.specs.declared.node.Node.{Node}
+use Rattle.tcl_interpreter.specs.declared.node.Node.{Node}
 
 -- the child that comes first
 abbrev pub first_in : Heap → ℕ → Option ℕ

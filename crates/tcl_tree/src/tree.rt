@@ -4,12 +4,12 @@ ghost use Rattle.std.specs.Option.{option_copied};
 ghost use Rattle.slab.specs.Slab.{get};
 ghost use Rattle.tcl_tree.specs.Nodes.{IsSound, IsGuarded};
 
-use crate::node::{Meter, Node, State};
 use crate::tree::limits::MOST_DEPTH;
 use indexmap::IndexMap;
 use slab::Slab;
 use std::alloc::{AllocError, Global};
 use std::cell::RefCell;
+use tcl_interpreter::node::{Meter, Node, State};
 use tcl_readings::readings::Readings;
 use tcl_text::integer::Integers;
 use tcl_text::text::Text;

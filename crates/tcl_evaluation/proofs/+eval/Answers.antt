@@ -31,7 +31,7 @@ use Rattle.tcl_core.specs.Trees.What.{Changed}
 use Rattle.tcl_language.specs.Control.{procedure, bindings, in_frame, proc_form}
 use Rattle.tcl_language.specs.Faults.{wrong_args}
 use Rattle.tcl_run.specs.Ends.{failing}
-use Rattle.tcl_tree.specs.declared.parameter.Parameter.{Parameter}
+use Rattle.tcl_interpreter.specs.declared.parameter.Parameter.{Parameter}
 use Rattle.tcl_calls.specs.Procedures.{pairs_of, TooLongBound}
 use Rattle.tcl_evaluation.proofs.Calling.{left_more, call_too_long, call_unbound, call_runs}
 use Rattle.tcl_evaluation.specs.View.{read_so}
@@ -65,7 +65,7 @@ use Rattle.tcl_evaluation.proofs.Found.{invoke_found, invoke_missing}
 use Rattle.tcl_core.specs.Entries.Entry.{CallWords}
 use Rattle.tcl_language.specs.Interpreters.{call_alias as alias_program}
 use Rattle.tcl_language.specs.Table.{serve}
-use Rattle.tcl_tree.specs.declared.command.Command.{Command}
+use Rattle.tcl_interpreter.specs.declared.command.Command.{Command}
 use Rattle.tcl_language.specs.Faults.{lost_alias}
 use Rattle.tcl_evaluation.proofs.Targets.{asks_nobody, calls_untold, settled_more, target_ends, target_refused, entry_stops, entry_calls, entry_evaluates, unhidden_ends, unhidden_refused, same_dispatch, evaluates_there, alias_is, done_on, evaluates_same, calls_there, calls_end, calls_below, calls_nobody, calls_past, lost_so}
 -- (of expressions and the commands with conditions)
@@ -133,7 +133,7 @@ use Rattle.tcl_run.proofs.Losing.{lost_again, lost_once}
 use Rattle.tcl_run.proofs.Proceeding.{does_proceeds, stopped, stopped_by}
 use Rattle.tcl_language.specs.Interpreters.{at_path}
 use Rattle.tcl_language.specs.Definitions as definitions
-use Rattle.tcl_tree.specs.declared.builtin.Builtin.{Builtin}
+use Rattle.tcl_interpreter.specs.declared.builtin.Builtin.{Builtin}
 use Rattle.tcl_evaluation.proofs.Plainly.{acts_proceeds, asking_last, evaluates_at_proceeds, evaluates_proceeds, gets_proceeds, looks_proceed, passes_proceeds, proceeds_as}
 use Rattle.tcl_run.specs.Runs.{room}
 use Rattle.tcl_run.specs.declared.outside.Turn.{Turn}

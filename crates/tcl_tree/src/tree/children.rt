@@ -3,16 +3,16 @@ ghost use Rattle.std.specs.Prelude.{◌≡◌, ◌≢◌, ◌+◌, List, ℕ, Bo
 ghost use Rattle.slab.specs.Slab.{slab_len};
 ghost use Rattle.tcl_core.specs.Programs.{either};
 ghost use Rattle.tcl_tree.specs.Changes.{interp_name, IsFirstFree, RefusesName};
-ghost use Rattle.tcl_tree.specs.declared.refusal.Refusal.TheVariants.{Memory};
+ghost use Rattle.tcl_interpreter.specs.declared.refusal.Refusal.TheVariants.{Memory};
 
-use crate::command::Commands;
-use crate::name::is_name;
-use crate::node::{Node, State};
-use crate::refusal::Refusal;
-use crate::steps::{attach, detach, make_room};
 use crate::tree::{Place, Tree};
 use indexmap::IndexMap;
 use std::alloc::{AllocError, Global};
+use tcl_interpreter::command::Commands;
+use tcl_interpreter::name::is_name;
+use tcl_interpreter::node::{Node, State};
+use tcl_interpreter::refusal::Refusal;
+use tcl_interpreter::steps::{attach, detach, make_room};
 use tcl_text::text::Text;
 
 /// The most children that an interpreter has.
@@ -50,7 +50,7 @@ fn first_free(alloc: Global, commands: &Commands) -> Result<Text, AllocError>
 }
 
 impl Tree {
-    ghost use Rattle.tcl_tree.specs.Paths.{is_above};
+    ghost use Rattle.tcl_interpreter.specs.Paths.{is_above};
     ghost use Rattle.tcl_tree.specs.Nodes.{NodeView, IsLeaf, pruned};
     ghost use Rattle.tcl_tree.specs.Changes.{MayMake, Makes, RefusesMake, Drops, RefusesDrop};
     ghost use Rattle.tcl_tree.specs.TreeOf.{tree_of, key_of, marks_of, Names};

@@ -2,22 +2,22 @@
 ghost use Rattle.std.specs.Prelude.{◌≡◌, ◌++◌, ◌∷◌, [], List, ℕ, false, IfErr, OnOk, OnErr, IsSome, Some};
 ghost use Rattle.std.specs.Option.{option_copied, option_and_then};
 
-use crate::alias::Alias;
-use crate::command::{Command, is_child};
-use crate::procedure::Procedure;
-use crate::refusal::Refusal;
 use crate::tree::{Place, Tree};
 use std::alloc::Global;
+use tcl_interpreter::alias::Alias;
+use tcl_interpreter::command::{Command, is_child};
+use tcl_interpreter::procedure::Procedure;
+use tcl_interpreter::refusal::Refusal;
 use tcl_text::text::Text;
 use tcl_value::value::Value;
 
 impl Tree {
-    ghost use Rattle.tcl_tree.specs.Commands.{way_between};
-    ghost use Rattle.tcl_tree.specs.Own.{command_in, hidden_in};
-    ghost use Rattle.tcl_tree.specs.Paths.{is_above};
+    ghost use Rattle.tcl_interpreter.specs.Commands.{way_between};
+    ghost use Rattle.tcl_interpreter.specs.Own.{command_in, hidden_in};
+    ghost use Rattle.tcl_interpreter.specs.Paths.{is_above};
     ghost use Rattle.tcl_tree.specs.Naming.{Becomes, RefusesThere, RefusesAt, Renames, RefusesRename, named, cleared};
     ghost use Rattle.tcl_tree.specs.TreeOf.{tree_of, key_of, marks_of, Names};
-    ghost use Rattle.tcl_tree.specs.declared.command.Command.TheVariants as command;
+    ghost use Rattle.tcl_interpreter.specs.declared.command.Command.TheVariants as command;
 
     /// What a name stands for among the commands of the interpreter that the place names. This takes no memory.
     pub fn command_at(&self, place: Place, name: &Text) -> Option<&Command>

@@ -5,10 +5,10 @@ ghost use Rattle.std.specs.Option.{option_map};
 ghost use Rattle.std.specs.Str.{bytes_eq};
 ghost use Rattle.indexmap.specs.IndexMap.{keys};
 ghost use Rattle.slab.specs.Slab.{get};
-ghost use Rattle.tcl_tree.specs.declared.node.Node.{Node as NodeRecord};
+ghost use Rattle.tcl_interpreter.specs.declared.node.Node.{Node as NodeRecord};
 
-use crate::comparing::same_names;
 use crate::tree::Tree;
+use tcl_interpreter::comparing::same_names;
 
 impl Tree {
     ghost use Rattle.tcl_tree.specs.Nodes.{view_of};

@@ -2,13 +2,13 @@
 ghost use Rattle.std.specs.Prelude.{◌≡◌, IfOk, IfErr, IfSome, IfNone, OnOk, IsSome, false, List, ℕ, Some};
 ghost use Rattle.slab.specs.Slab.{get};
 
-use crate::node::Node;
-use crate::refusal::Refusal;
-use crate::steps::join;
 use crate::tree::Tree;
 use slab::Slab;
 use std::alloc::AllocError;
 use std::cell::RefCell;
+use tcl_interpreter::node::Node;
+use tcl_interpreter::refusal::Refusal;
+use tcl_interpreter::steps::join;
 use tcl_readings::readings::Readings;
 use tcl_text::text::Text;
 

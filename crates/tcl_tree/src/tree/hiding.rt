@@ -1,8 +1,8 @@
 //! Commands that are hidden and exposed.
 ghost use Rattle.std.specs.Prelude.{◌≡◌, ◌⊎◌, ◌++◌, List, ℕ, Some, IfOk, IfErr, OnOk, OnErr, IsSome};
 
-use crate::refusal::Refusal;
 use crate::tree::{Place, Tree};
+use tcl_interpreter::refusal::Refusal;
 use tcl_text::text::Text;
 
 impl Tree {

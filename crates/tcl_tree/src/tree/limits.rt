@@ -1,9 +1,9 @@
 //! Steps and levels: what is counted in an interpreter and in all above it.
 ghost use Rattle.std.specs.Prelude.{◌≡◌, ◌++◌, List, ℕ, IfOk, IfErr, OnOk, OnErr, Some, None, [], IsSome};
 
-use crate::node::{MOST_STEPS, Meter};
-use crate::refusal::Refusal;
 use crate::tree::{Place, Tree};
+use tcl_interpreter::node::{MOST_STEPS, Meter};
+use tcl_interpreter::refusal::Refusal;
 use tcl_text::text::Text;
 
 /// The greatest limit of depth.
@@ -211,7 +211,7 @@ impl Tree {
     ///
     /// # Errors
     /// Refusals, in this order: 301 of the path; 304 where the one that asks is safe or would limit itself; 301 of the names; 245 where
-    /// the limit is greater than [`MOST_STEPS`](crate::node::MOST_STEPS).
+    /// the limit is greater than [`MOST_STEPS`](tcl_interpreter::node::MOST_STEPS).
     pub fn set_limit(
         &mut self,
         path: &[Text],

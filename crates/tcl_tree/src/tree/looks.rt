@@ -2,11 +2,11 @@
 ghost use Rattle.std.specs.Prelude.{◌≡◌, option_map, is_some};
 ghost use Rattle.std.specs.Option.{option_copied};
 
-use crate::command::Commands;
-use crate::node::Node;
 use crate::tree::Tree;
 use indexmap::map::Keys;
 use slab::Slab;
+use tcl_interpreter::command::Commands;
+use tcl_interpreter::node::Node;
 use tcl_text::text::Text;
 
 impl Tree {

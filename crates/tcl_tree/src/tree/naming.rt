@@ -1,18 +1,18 @@
 //! The names of commands, in an interpreter that a place names.
 ghost use Rattle.std.specs.Prelude.{◌≡◌, List, ℕ, IfErr, OnOk, OnErr};
 
-use crate::alias::Alias;
-use crate::command::Command;
-use crate::naming::Naming;
-use crate::procedure::Procedure;
-use crate::refusal::Refusal;
 use crate::tree::{Place, Tree};
+use tcl_interpreter::alias::Alias;
+use tcl_interpreter::command::Command;
+use tcl_interpreter::naming::Naming;
+use tcl_interpreter::procedure::Procedure;
+use tcl_interpreter::refusal::Refusal;
 use tcl_text::text::Text;
 
 impl Tree {
     ghost use Rattle.tcl_tree.specs.Naming.{Becomes, Refuses, RefusesNaming, RefusesSo, named, cleared, renamed, removed, hidden_under, exposed_under, named_so};
     ghost use Rattle.tcl_tree.specs.TreeOf.{tree_of, key_of, marks_of, Names};
-    ghost use Rattle.tcl_tree.specs.declared.command.Command.TheVariants as command;
+    ghost use Rattle.tcl_interpreter.specs.declared.command.Command.TheVariants as command;
 
     // Does this to the name of a command.
     pub(crate) fn name_at(&mut self, place: Place, naming: Naming<'_>) -> Result<(), Refusal>

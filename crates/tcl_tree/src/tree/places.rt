@@ -2,9 +2,9 @@
 ghost use Rattle.std.specs.Prelude.{◌≡◌, ◌++◌, ◌∷◌, [], List, ℕ, Some, None, IfSome, IfNone, IfOk};
 ghost use Rattle.std.specs.Option.{option_copied, option_map};
 
-use crate::node::Node;
 use crate::tree::{Place, Tree};
 use std::alloc::{AllocError, Global};
+use tcl_interpreter::node::Node;
 use tcl_text::text::Text;
 
 /// What a way of levels up and names down leads to.

@@ -5,10 +5,10 @@ ghost use Rattle.std.specs.Borrow.{sem};
 ghost use Rattle.slab.specs.Slab.{get};
 ghost use Rattle.tcl_tree.specs.Lending.{LendsFrames, LendsFramesAt};
 
-use crate::node::Node;
 use crate::tree::{Place, Tree};
 use slab::Slab;
 use tcl_frames::frames::Frames;
+use tcl_interpreter::node::Node;
 use tcl_text::text::Text;
 
 // The frames of a node, to write.

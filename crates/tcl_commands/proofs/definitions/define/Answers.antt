@@ -6,7 +6,7 @@ use Rattle.tcl_language.specs.Naming as language
 use Rattle.tcl_tree.specs.Changes.{with_command}
 use Rattle.tcl_tree.specs.Naming as tree
 use Rattle.tcl_tree.specs.Own.{command_in}
-use Rattle.tcl_tree.specs.declared.command.Command.TheVariants as command
+use Rattle.tcl_interpreter.specs.declared.command.Command.TheVariants as command
 use Rattle.tcl_commands.proofs.Going.{passed_acts}
 use Rattle.tcl_commands.proofs.Renames.{bad_name_ends, named_so, renaming_done, renaming_level, renaming_refused}
 use Rattle.tcl_commands.proofs.definitions.define.Goals as goal

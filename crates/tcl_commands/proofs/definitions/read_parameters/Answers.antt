@@ -2,7 +2,7 @@ use Rattle.std.proofs.Common.{◌≡◌, ◌+◌, ℕ, List, [], ◌∷◌, ◌+
 use Rattle.std.proofs.lemmas.Result.{err_from_is_err_and}
 use Rattle.tcl_language.specs.Instructions.{Program}
 use Rattle.tcl_run.proofs.Endings.{at_err}
-use Rattle.tcl_tree.specs.declared.parameter.Parameter.{Parameter}
+use Rattle.tcl_interpreter.specs.declared.parameter.Parameter.{Parameter}
 use Rattle.tcl_commands.specs.Ending.{EndsSo}
 use Rattle.tcl_commands.specs.Parameters.{parameters_from, reads_parameter}
 use Rattle.tcl_commands.proofs.Defining.{parameters_end, parameters_more}

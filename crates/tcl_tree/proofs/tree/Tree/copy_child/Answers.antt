@@ -5,7 +5,7 @@ use Rattle.std.specs.Str.{bytes_eq}
 use Rattle.slab.specs.Slab.{get}
 use Rattle.tcl_tree.specs.Copying.{IsBare}
 use Rattle.tcl_tree.specs.Nodes.{Joined}
-use Rattle.tcl_tree.specs.declared.node.Node.{Node}
+use Rattle.tcl_interpreter.specs.declared.node.Node.{Node}
 use Rattle.tcl_tree.proofs.CopyLemmas.{whole_at_end, next_child, next_first, next_absent, next_missing, next_there}
 use Rattle.tcl_tree.proofs.tree.Tree.copy_child.Goals as goal
 

@@ -5,7 +5,7 @@ use Rattle.std.specs.Map.{keys_of, lookup}
 use Rattle.std.proofs.lemmas.Option.{same_Some}
 use Rattle.slab.specs.Slab.{get}
 use Rattle.tcl_core.specs.Programs.{either}
-use Rattle.tcl_tree.specs.Own.{new_own}
+use Rattle.tcl_interpreter.specs.Own.{new_own}
 use Rattle.tcl_core.specs.Trees as core
 use Rattle.tcl_tree.specs.Nodes.{NodeView, Shape, view_of, new_view, tree_in}
 use Rattle.tcl_tree.proofs.HeapLemmas.{sound_kept, guarded_kept, tree_kept, follow_kept}

@@ -1,7 +1,7 @@
 use Rattle.std.proofs.Common.{◌≡◌, Some, ◌-◌, ◌^◌, ◌++◌}
 use Rattle.slab.specs.Slab.{get}
 use Rattle.tcl_tree.specs.Nodes.{level_in}
-use Rattle.tcl_tree.specs.Paths.{Path}
+use Rattle.tcl_interpreter.specs.Paths.{Path}
 use Rattle.tcl_tree.specs.TreeOf.{key_of}
 use Rattle.tcl_tree.proofs.tree.Tree.deepest.Given as goal
 

@@ -2,9 +2,9 @@ use Rattle.std.proofs.Common.{◌≡◌, Some, sym, ◌∙◌, ap, [], ◌∷◌
 use Rattle.std.proofs.lemmas.Option.{same_Some}
 use Rattle.slab.specs.Slab.{get}
 use Rattle.tcl_tree.specs.Nodes.{follow}
-use Rattle.tcl_tree.specs.Paths.{Path, Text}
+use Rattle.tcl_interpreter.specs.Paths.{Path, Text}
 use Rattle.tcl_tree.specs.TreeOf.{tree_of}
-use Rattle.tcl_tree.proofs.PathLemmas.{ends_cases}
+use Rattle.tcl_interpreter.proofs.PathLemmas.{ends_cases}
 use Rattle.tcl_tree.proofs.MakeLemmas.{deleted_all, pruned_below, outside_apart}
 use Rattle.tcl_tree.proofs.ChildLemmas.{dropped_is}
 use Rattle.tcl_tree.proofs.tree.Tree.fell.Goals as goal

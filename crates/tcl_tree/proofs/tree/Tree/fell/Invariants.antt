@@ -1,6 +1,6 @@
 use Rattle.std.proofs.Common.{◌≡◌, ℕ, List, [], ◌∷◌, Some, false, ◌++◌}
 use Rattle.slab.specs.Slab.{slab_len}
-use Rattle.tcl_tree.specs.Paths.{Path, is_above}
+use Rattle.tcl_interpreter.specs.Paths.{Path, is_above}
 use Rattle.tcl_tree.specs.TreeOf.{tree_of, key_of, marks_of}
 use Rattle.tcl_tree.proofs.tree.Tree.fell.Given as goal
 

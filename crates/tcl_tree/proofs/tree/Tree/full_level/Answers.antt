@@ -3,7 +3,7 @@ use Rattle.slab.specs.Slab.{get}
 use Rattle.indexmap.specs.IndexMap.{keys}
 use Rattle.tcl_tree.specs.Nodes.{full_up, full_of, follow}
 use Rattle.tcl_tree.specs.TreeOf.{tree_of}
-use Rattle.tcl_tree.proofs.PathLemmas.{ancestor_itself}
+use Rattle.tcl_interpreter.proofs.PathLemmas.{ancestor_itself}
 use Rattle.tcl_tree.proofs.StepLemmas.{full_at_is, climb_up, climb_end, leads_somewhere}
 use Rattle.tcl_tree.proofs.tree.Tree.full_level.Goals as goal
 

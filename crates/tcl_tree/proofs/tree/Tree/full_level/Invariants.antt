@@ -1,7 +1,7 @@
 use Rattle.std.proofs.Common.{◌≡◌, ℕ, Some, false, ◌+◌, ◌<◌, ◌≤◌, ◌^◌, length}
 use Rattle.slab.specs.Slab.{get}
 use Rattle.tcl_tree.specs.Nodes.{full_up, full_of, level_in}
-use Rattle.tcl_tree.specs.Paths.{Path, ancestor}
+use Rattle.tcl_interpreter.specs.Paths.{Path, ancestor}
 use Rattle.tcl_tree.specs.TreeOf.{tree_of, key_of}
 use Rattle.tcl_tree.proofs.tree.Tree.full_level.Given as goal
 

@@ -1,6 +1,6 @@
 use Rattle.std.proofs.Common.{sym, ◌∙◌, ap}
 use Rattle.std.specs.Option.{option_copied, option_and_then}
-use Rattle.tcl_tree.specs.Own.{hidden_in}
+use Rattle.tcl_interpreter.specs.Own.{hidden_in}
 use Rattle.tcl_tree.specs.Nodes.{NodeView}
 use Rattle.tcl_tree.proofs.StepLemmas.{tree_some, tree_vacant}
 use Rattle.tcl_tree.proofs.tree.Tree.hidden_at.Goals as goal

@@ -3,8 +3,8 @@ use Rattle.std.proofs.lemmas.List.{length-reverse}
 use Rattle.slab.specs.Slab.{get}
 use Rattle.tcl_core.specs.Paths.{falls}
 use Rattle.tcl_tree.specs.Nodes.{follow}
-use Rattle.tcl_tree.specs.Paths.{Path, ancestor}
-use Rattle.tcl_tree.proofs.PathLemmas.{ancestor_itself}
+use Rattle.tcl_interpreter.specs.Paths.{Path, ancestor}
+use Rattle.tcl_interpreter.proofs.PathLemmas.{ancestor_itself}
 use Rattle.tcl_tree.proofs.StepLemmas.{climb_up, climb_end, climb_name, leads_somewhere}
 use Rattle.tcl_tree.proofs.FallLemmas.{falls_behind, falls_all, one_more, nothing_above}
 use Rattle.tcl_tree.proofs.tree.Tree.last_names.Goals.{else-climb-test, then-climb-test+in_default, then-climb-test+in-Some+in_default-parent}

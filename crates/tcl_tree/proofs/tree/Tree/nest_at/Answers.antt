@@ -1,6 +1,6 @@
 use Rattle.tcl_core.specs.Programs.{is_deep}
 use Rattle.tcl_tree.specs.Nodes.{moved}
-use Rattle.tcl_tree.specs.declared.node.Meter.TheVariants.{Levels}
+use Rattle.tcl_interpreter.specs.declared.node.Meter.TheVariants.{Levels}
 use Rattle.tcl_tree.proofs.CoreLemmas.{on_both, if_err, line_done, none_blocked, near_blocked}
 use Rattle.tcl_tree.proofs.tree.Tree.nest_at.Goals as goal
 

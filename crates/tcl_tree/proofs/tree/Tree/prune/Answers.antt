@@ -1,5 +1,5 @@
 use Rattle.std.proofs.Common.{◌≡◌, sym, []}
-use Rattle.tcl_tree.specs.declared.node.Node.{Node}
+use Rattle.tcl_interpreter.specs.declared.node.Node.{Node}
 use Rattle.tcl_tree.proofs.StepLemmas.{leads_somewhere, at_some}
 use Rattle.tcl_tree.proofs.MakeLemmas.{no_parent_is_root, sound_detached, guarded_detached, keys_detached, parent_detached, tree_detached, parent_there, parent_apart}
 use Rattle.tcl_tree.proofs.tree.Tree.prune.Goals as goal

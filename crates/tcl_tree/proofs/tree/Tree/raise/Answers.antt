@@ -3,9 +3,9 @@ use Rattle.std.specs.Option.{option_map_or}
 use Rattle.slab.specs.Slab.{get}
 use Rattle.indexmap.specs.IndexMap.{keys}
 use Rattle.tcl_tree.specs.Nodes.{follow, level_in, charged_below, moved, full_of}
-use Rattle.tcl_tree.specs.Paths.{ancestor}
+use Rattle.tcl_interpreter.specs.Paths.{ancestor}
 use Rattle.tcl_tree.specs.TreeOf.{tree_of}
-use Rattle.tcl_tree.proofs.PathLemmas.{ancestor_itself}
+use Rattle.tcl_interpreter.proofs.PathLemmas.{ancestor_itself}
 use Rattle.tcl_tree.proofs.HeapLemmas.{SamePlace}
 use Rattle.tcl_tree.proofs.StepLemmas.{charge_none, charge_all, charge_tree, charge_leads, charge_smaller, charge_fits, sound_write, guarded_write, follow_write, leads_somewhere, at_next, at_end, full_any}
 use Rattle.tcl_tree.proofs.tree.Tree.raise.Goals as goal

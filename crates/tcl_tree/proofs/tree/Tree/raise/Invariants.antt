@@ -3,7 +3,7 @@ use Rattle.std.specs.Prelude.{MatchOption}
 use Rattle.std.specs.Option.{option_map_or}
 use Rattle.slab.specs.Slab.{get}
 use Rattle.tcl_tree.specs.Nodes.{charged_below, level_in, moved}
-use Rattle.tcl_tree.specs.Paths.{Path, ancestor}
+use Rattle.tcl_interpreter.specs.Paths.{Path, ancestor}
 use Rattle.tcl_tree.specs.TreeOf.{tree_of, key_of, marks_of}
 use Rattle.tcl_tree.proofs.tree.Tree.raise.Given as goal
 

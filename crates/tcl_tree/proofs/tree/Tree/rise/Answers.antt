@@ -4,10 +4,10 @@ use Rattle.tcl_tree.specs.TreeOf.{key_of}
 use Rattle.slab.specs.Slab.{get}
 use Rattle.tcl_core.proofs.PathLaws.{rise_past}
 use Rattle.tcl_tree.specs.Nodes.{follow}
-use Rattle.tcl_tree.specs.Paths.{Path, ancestor}
-use Rattle.tcl_tree.proofs.PathLemmas.{ancestor_itself}
+use Rattle.tcl_interpreter.specs.Paths.{Path, ancestor}
+use Rattle.tcl_interpreter.proofs.PathLemmas.{ancestor_itself}
 use Rattle.tcl_tree.proofs.StepLemmas.{climb_up, climb_end, leads_somewhere}
-use Rattle.tcl_tree.proofs.CoreLemmas.{rise_is}
+use Rattle.tcl_interpreter.proofs.PathLemmas.{rise_is}
 use Rattle.tcl_tree.proofs.NamingLemmas.{if_none}
 use Rattle.tcl_tree.proofs.tree.Tree.rise.Goals as goal
 

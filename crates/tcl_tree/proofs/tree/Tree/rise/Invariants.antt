@@ -1,5 +1,5 @@
 use Rattle.std.proofs.Common.{◌≡◌, Some, ◌≤◌, ◌-◌, length}
-use Rattle.tcl_tree.specs.Paths.{Path, ancestor}
+use Rattle.tcl_interpreter.specs.Paths.{Path, ancestor}
 use Rattle.tcl_tree.specs.TreeOf.{key_of}
 use Rattle.tcl_tree.proofs.tree.Tree.rise.Given as goal
 

@@ -1,7 +1,7 @@
 use Rattle.std.proofs.Common.{◌≡◌, ◌<◌, ◌++◌, ◌∷◌, [], ℕ, List, sym, ap, ◌∙◌, subst}
 use Rattle.slab.specs.Slab.{Slab, get}
 use Rattle.tcl_tree.specs.Copying.{Adds, IsWalk, IsWhole, left_of}
-use Rattle.tcl_tree.specs.declared.node.Node.{Node}
+use Rattle.tcl_interpreter.specs.declared.node.Node.{Node}
 use Rattle.tcl_tree.proofs.StepLemmas.{leads_somewhere, vacant_slots, at_some, at_none}
 use Rattle.tcl_tree.proofs.CopyLemmas.{less_listed, walk_first, walk_like, walk_popped, walk_more, walk_less, walk_done}
 use Rattle.tcl_tree.proofs.tree.Tree.subtable.Goals as goal

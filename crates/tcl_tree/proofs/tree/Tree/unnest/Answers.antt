@@ -1,5 +1,5 @@
 use Rattle.tcl_tree.specs.Nodes.{moved}
-use Rattle.tcl_tree.specs.declared.node.Meter.TheVariants.{Back}
+use Rattle.tcl_interpreter.specs.declared.node.Meter.TheVariants.{Back}
 use Rattle.tcl_tree.proofs.CoreLemmas.{line_done, never_full}
 use Rattle.tcl_tree.proofs.tree.Tree.unnest.Goals as goal
 

@@ -2,7 +2,7 @@ use Rattle.std.proofs.Common.{arith, ◌∙◌, refl, ap, false, true}
 use Rattle.std.specs.Map.{keys_of}
 use Rattle.indexmap.specs.IndexMap.{keys}
 use Rattle.tcl_tree.specs.Nodes.{new_view}
-use Rattle.tcl_tree.specs.Paths.{Path}
+use Rattle.tcl_interpreter.specs.Paths.{Path}
 use Rattle.tcl_tree.specs.TreeOf.{alone}
 use Rattle.tcl_tree.proofs.StepLemmas.{sound-single, guarded-single, tree-single, vacant_slots}
 use Rattle.tcl_tree.proofs.tree.Tree.with_integers.Goals as goal

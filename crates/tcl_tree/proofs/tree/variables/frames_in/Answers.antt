@@ -2,7 +2,7 @@ use Rattle.std.proofs.Common.{◌≡◌, ◌≤◌, refl}
 use Rattle.std.proofs.Math.Bridge.{le_prop}
 use Rattle.tcl_frames.specs.Chain.{Chain}
 use Rattle.tcl_tree.specs.Lending.{with_frames}
-use Rattle.tcl_tree.specs.declared.node.Node.{Node}
+use Rattle.tcl_interpreter.specs.declared.node.Node.{Node}
 use Rattle.tcl_tree.proofs.tree.variables.frames_in.Goals as goal
 
 -- whichever proofs the limits of its depth have

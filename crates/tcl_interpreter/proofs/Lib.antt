@@ -1,0 +1,5 @@
+pub mod PathLemmas
+pub mod Outcomes
+pub mod TableLemmas
+pub mod AliasLemmas
+pub mod SameLemmas

@@ -1,0 +1,9 @@
+pub mod Builtins
+pub mod Commands
+pub mod Own
+pub mod Paths
+pub mod Nodes
+pub mod Names
+pub mod Naming
+pub mod Copying
+pub mod Refusals

@@ -1,0 +1,85 @@
+//! Why a call on the tree is refused.
+ghost use Rattle.std.specs.Prelude.{◌≡◌, IfOk};
+ghost use Rattle.std.specs.String.{string_bytes};
+ghost use Rattle.tcl_interpreter.specs.declared.refusal.Refusal.TheVariants.{Memory};
+
+use std::alloc::{AllocError, AllocFailed, Global};
+
+/// Why a call on the tree did nothing.
+#[derive(Clone, Copy, Debug, Drop)]
+pub enum Refusal {
+    /// Want of memory.
+    Memory,
+    /// No name of a command may be this (238).
+    BadName,
+    /// No number of steps may be this (245).
+    BadCount,
+    /// There is no such interpreter (301).
+    NoInterpreter,
+    /// There is a command of this name (302).
+    Exists,
+    /// An evaluation is in progress in the interpreter, or it is the one that asks (303).
+    InUse,
+    /// The interpreter may not do this (304).
+    Denied,
+    /// There is no such command (305).
+    NoCommand,
+    /// There is no such hidden command (306).
+    NoHidden,
+    /// The parent has as many children as it may have (307).
+    TooMany,
+    /// A step would pass the limit of the interpreter so many levels up (308).
+    CountLimit(usize),
+    /// An evaluation would pass the limit of the interpreter so many levels up (308).
+    DepthLimit(usize),
+    /// No limit of depth may be this (309).
+    BadDepthLimit,
+}
+
+impl From<AllocError> for Refusal {
+    ghost from_gives = { λ _ e. e ≡ Memory };
+
+    fn from(_error: AllocError) -> Refusal {
+        Refusal::Memory
+    }
+}
+
+impl<T: Drop> From<AllocFailed<T>> for Refusal {
+    ghost from_gives = { λ _ e. e ≡ Memory };
+
+    fn from(_error: AllocFailed<T>) -> Refusal {
+        Refusal::Memory
+    }
+}
+
+impl Refusal {
+    ghost use Rattle.tcl_interpreter.specs.Refusals.{text_of};
+
+    /// The text of the refusal; the word is the one that is refused, as it was written.
+    ///
+    /// # Errors
+    /// Want of memory.
+    pub fn text(self, alloc: Global, word: &str) -> Result<String, AllocError>
+        ensures { IfOk result (λ text. string_bytes text ≡ text_of self word.now) }
+    {
+        match self {
+            Refusal::Memory => format!(in alloc; "out of memory"),
+            Refusal::BadName => format!(in alloc; "bad name \"{word}\""),
+            Refusal::BadCount => format!(in alloc; "bad count \"{word}\""),
+            Refusal::NoInterpreter => format!(in alloc; "could not find interpreter \"{word}\""),
+            Refusal::Exists => format!(in alloc; "\"{word}\" already exists"),
+            Refusal::InUse => format!(in alloc; "interpreter \"{word}\" is in use"),
+            Refusal::Denied => format!(in alloc; "permission denied"),
+            Refusal::NoCommand => format!(in alloc; "invalid command name \"{word}\""),
+            Refusal::NoHidden => format!(in alloc; "invalid hidden command name \"{word}\""),
+            Refusal::TooMany => format!(in alloc; "too many interpreters"),
+            Refusal::CountLimit(_) => format!(in alloc; "command count limit exceeded"),
+            Refusal::DepthLimit(_) => {
+                format!(in alloc; "too many nested evaluations (infinite loop?)")
+            }
+            Refusal::BadDepthLimit => {
+                format!(in alloc; "recursion limit must be between 1 and 1000")
+            }
+        }
+    }
+}

@@ -1,8 +1,0 @@
-use Rattle.std.proofs.Common.{◌≡◌, drop, ◌&&◌}
-use Rattle.std.specs.Prelude.{◌||◌}
-use Rattle.tcl_tree.specs.Changes.{has_colons, is_colon}
-use Rattle.tcl_tree.proofs.name.has_colons.Given as goal
-
--- whether two colons begin at the byte before, or later
-abbrev pub invariant-scan : goal.invariant-scan
-invariant-scan l = has_colons l.bytes ≡ ((l.after_colon && is_colon (drop l.byte-index l.bytes)) || has_colons (drop l.byte-index l.bytes))
