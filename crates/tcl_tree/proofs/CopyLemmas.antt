@@ -13,7 +13,8 @@ use Rattle.slab.specs.Slab as slab
 use Rattle.slab.specs.Slab.{Slab}
 use Rattle.tcl_interpreter.specs.Paths.{Text, Path}
 use Rattle.tcl_tree.specs.Nodes.{Heap, NodeView, state_view, view_of, child_in, follow, tree_in, level_in, safe_in, children_in, IsSound, IsGuarded}
-use Rattle.tcl_tree.specs.Copying.{IsBare, IsLike, IsWhole, Adds, IsPart, IsCopy, IsPair, IsListed, IsWalk, left_of}
+use Rattle.tcl_interpreter.specs.Copying.{IsBare}
+use Rattle.tcl_tree.specs.Copying.{IsLike, IsWhole, Adds, IsPart, IsCopy, IsPair, IsListed, IsWalk, left_of}
 use Rattle.tcl_tree.specs.Walking.{entries_in, sum_of, weight}
 use Rattle.tcl_interpreter.specs.declared.node.Node.{Node}
 use Rattle.tcl_interpreter.specs.declared.node.State.{State}

@@ -3,7 +3,7 @@ use Rattle.std.specs.Prelude.{IfSome, slice_get}
 use Rattle.std.specs.Map.{lookup}
 use Rattle.std.specs.Str.{bytes_eq}
 use Rattle.slab.specs.Slab.{get}
-use Rattle.tcl_tree.specs.Copying.{IsBare}
+use Rattle.tcl_interpreter.specs.Copying.{IsBare}
 use Rattle.tcl_tree.specs.Nodes.{Joined}
 use Rattle.tcl_interpreter.specs.declared.node.Node.{Node}
 use Rattle.tcl_tree.proofs.CopyLemmas.{whole_at_end, next_child, next_first, next_absent, next_missing, next_there}
