@@ -1,4 +1,5 @@
 mod Branching
+pub mod Counting
 mod Keeping
 mod Plainness
 mod Played
