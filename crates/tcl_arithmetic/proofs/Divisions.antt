@@ -78,7 +78,7 @@ is_minus_one b f e = sym (plain b f) ∙ ap (to_z w64) e
 floor : (a : ℤ) (b : ℕ) → 0 < b → (q : ℤ) × (r : ℤ) × IsDivision a (pos b) q r
 floor a b h = let d = shifted a b h in (shr_z a b, d.0, d.1)
 
-opposite : (a q r : ℤ) (b : ℕ) → IsDivision (neg_ℤ a) (pos (suc b)) q r → IsDivision a (negsuc b) q (neg_ℤ r)
+pub opposite : (a q r : ℤ) (b : ℕ) → IsDivision (neg_ℤ a) (pos (suc b)) q r → IsDivision a (negsuc b) q (neg_ℤ r)
 opposite a q r b d = record {
   whole = let times : q *ℤ negsuc b ≡ neg_ℤ (q *ℤ pos (suc b)) = *ℤ-negsuc q b in
       let turned : neg_ℤ (neg_ℤ a) ≡ neg_ℤ ((q *ℤ pos (suc b)) +ℤ r) = ap neg_ℤ d.whole in

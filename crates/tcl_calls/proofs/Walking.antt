@@ -1,5 +1,5 @@
 -- How loops over lists are read, and how their variables are set.
-use Rattle.std.proofs.Common.{◌≡◌, ℕ, zero, suc, ◌+◌, ◌-◌, ◌*◌, ◌<◌, ◌≤◌, ◌%◌, ◌==◌, true, false, List, [], ◌∷◌, ◌++◌, take, drop, get_or, length, refl, sym, ◌∙◌, ap, subst, arith}
+use Rattle.std.proofs.Common.{◌≡◌, ℕ, zero, suc, ◌+◌, ◌-◌, ◌*◌, ◌<◌, ◌≤◌, ◌%◌, true, false, List, [], ◌∷◌, ◌++◌, take, drop, get_or, length, refl, sym, ◌∙◌, ap, subst, arith}
 use Rattle.std.specs.Prelude.{Result, Ok, Err, ◌&&◌}
 use Rattle.std.proofs.lemmas.Bool.Decides.{nat_tests}
 use Rattle.std.proofs.Math.Seq.{drop-cons, take-length}
@@ -16,6 +16,7 @@ use Rattle.tcl_text.specs.Lists.{list_of}
 use Rattle.tcl_text.specs.Writing.{fault_message}
 use Rattle.tcl_text.specs.declared.list.ListFault.{ListFault}
 use Rattle.tcl_language.specs.Variables.{is_odd, sets}
+use Rattle.tcl_language.proofs.Counting.{odd_is}
 use Rattle.tcl_run.specs.Runs.{IsLevel}
 use Rattle.tcl_tree.specs.declared.tree.Tree.{Tree as Table}
 use Rattle.tcl_calls.specs.Walks.{whole, walks_at, ReadsWalk, MisreadsWalk}
@@ -23,11 +24,6 @@ use Rattle.tcl_calls.specs.Words.{EndsBy}
 use Rattle.tcl_calls.specs.declared.walks.Walk as read
 
 -- ## The words of a `foreach`
-
-pub odd_is : {A : Type 0} (xs : List A) → is_odd xs ≡ (length xs % 2 == 1)
-odd_is [] = refl
-odd_is (x ∷ []) = refl
-odd_is (x ∷ y ∷ xs) = let n : suc (suc (length xs)) % 2 ≡ length xs % 2 = omega arith in odd_is xs ∙ ap (λ m. m == 1) (sym n)
 
 pub even_is : {A : Type 0} (xs : List A) → (length xs % 2 ≡ 1 → ⊥) → is_odd xs ≡ false
 even_is xs h = let e = odd_is xs in grind (arith, nat_tests)

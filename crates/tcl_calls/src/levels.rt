@@ -1,16 +1,14 @@
 //! The levels at which commands evaluate scripts.
-ghost use Rattle.std.specs.Prelude.{◌≡◌, ◌<◌, ◌^◌, IfErr, MatchResult, Ok, OnOk, Some};
+ghost use Rattle.std.specs.Prelude.{◌≡◌, IfErr, MatchResult, Ok, OnOk, Some};
 ghost use Rattle.tcl_core.specs.Paths.{Path};
 ghost use Rattle.tcl_core.specs.Trees as core;
 ghost use Rattle.tcl_core.specs.Trees.{effect};
 ghost use Rattle.tcl_core.specs.Trees.What.{Changed};
 ghost use Rattle.tcl_language.specs.Control.{at_level, level_over};
-ghost use Rattle.tcl_language.specs.Variables as variables;
 ghost use Rattle.tcl_language.specs.Words.{are_digits, is_level, some_digits};
 ghost use Rattle.tcl_run.specs.Ends.{Gave, Interrupts, IsFailure, itself};
 ghost use Rattle.tcl_run.specs.Runs.{IsLevel};
 ghost use Rattle.tcl_run.specs.declared.interruption.Interruption.TheVariants.{Memory};
-ghost use Rattle.tcl_text.specs.Numbers.{integer_of};
 ghost use Rattle.tcl_tree.specs.Own.{Own};
 ghost use Rattle.tcl_tree.specs.TreeOf.{tree_of, marks_of, Names};
 ghost use Rattle.tcl_calls.specs.Levels.{level_at_node, script_level};
@@ -18,49 +16,10 @@ ghost use Rattle.tcl_calls.specs.Levels.{level_at_node, script_level};
 use std::alloc::Global;
 use tcl_run::failure::{bad_level, wrong_args};
 use tcl_run::interruption::Interruption;
-use tcl_text::integer::{Integers, read_int};
+use tcl_run::levels::{MOST_LEVELS, level_of};
 use tcl_tree::tree::{Place, Tree};
 use tcl_value::value::Value;
 use tcl_variables::fault::FrameError;
-
-/// The greatest level that an integer text names. No memory holds a chain that goes further.
-const MOST_LEVELS: usize = 9_223_372_036_854_775_807;
-
-/// The level of this number, where there is one.
-fn level_numbered(current: usize, number: i64) -> Option<usize>
-    ensures { result ≡ variables.level_at current (Some number) }
-{
-    if number < 0 {
-        return None;
-    }
-    let level = number as usize;
-    if level <= current { Some(level) } else { None }
-}
-
-/// The level that an integer text names, where there is one.
-fn level_at(style: Integers, current: usize, number: &str) -> Option<usize>
-    requires { current < 2 ^ 63 }
-    ensures { result ≡ variables.level_at current (integer_of style number.now) }
-{
-    match read_int(number, style) {
-        Ok(number) => level_numbered(current, number),
-        Err(_) => None,
-    }
-}
-
-/// The level that a word names, where there is one: `N` is N levels up, `#N` is level N.
-fn level_of(style: Integers, current: usize, word: &str) -> Option<usize>
-    requires { current < 2 ^ 63 }
-    ensures { result ≡ variables.level_of style current word.now }
-{
-    match word.strip_prefix('#') {
-        Some(number) => level_at(style, current, number),
-        None => {
-            let up = level_at(style, current, word)?;
-            Some(current - up)
-        }
-    }
-}
 
 /// The level that a word names. (uplevel(n))
 ///

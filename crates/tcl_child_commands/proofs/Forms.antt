@@ -1,7 +1,6 @@
 -- The forms of a child's subcommands.
-use Rattle.std.proofs.Common.{◌≡◌, ℕ, ◌==◌, Bool, true, false, ◌⊎◌, inl, inr, ◌<◌, ◌≤◌, ◌-◌, List, [], ◌∷◌, length, take, drop, refl, sym, ◌∙◌, ap, arith, get_or}
+use Rattle.std.proofs.Common.{◌≡◌, ◌⊎◌, inl, inr, ◌<◌, ◌≤◌, ◌-◌, List, [], ◌∷◌, length, take, drop, refl, sym, ◌∙◌, ap, arith, get_or}
 use Rattle.std.specs.Prelude.{codes}
-use Rattle.std.proofs.lemmas.Bool.Decides.{nat_tests}
 use Rattle.std.proofs.Math.Seq.{take-length}
 use Rattle.tcl_core.specs.Entries.{Question}
 use Rattle.tcl_core.specs.Entries.Entry.{Ask, SetAlias}
@@ -13,19 +12,6 @@ use Rattle.tcl_language.specs.Interpreters as interpreters
 use Rattle.tcl_language.specs.Interpreters.{child_form, asks_at, with_text}
 use Rattle.tcl_text.specs.declared.integer.Integers.{Integers}
 use Rattle.tcl_tree.specs.Commands.{AliasView}
-
-pub zero_is : (n : ℕ) (b : Bool) → b ≡ (n == 0) → b ≡ true → n ≡ 0
-zero_is n b h e = grind (arith, nat_tests)
-
-pub some_is : (n : ℕ) (b : Bool) → b ≡ (n == 0) → b ≡ false → 1 ≤ n
-some_is n b h e = grind (arith, nat_tests)
-
--- a first item, and those behind it
-pub split_first : {A : Type 0} (xs : List A) (x : A) → 1 ≤ length xs → x ≡ get_or xs 0 x → xs ≡ x ∷ take (length xs - 1) (drop 1 xs)
-split_first [] x h e = absurd (omega arith)
-split_first (y ∷ ys) x h e =
-    let n : length (y ∷ ys) - 1 ≡ length ys = omega arith in
-    ap (λ z. z ∷ ys) (sym e) ∙ ap (λ zs. x ∷ zs) (sym (ap (λ m. take m ys) n ∙ take-length ys))
 
 -- what is asked after the subcommand's word alone
 pub asked_alone : (name form : Text) (q : Question) (args : List Text) → length args ≡ 0 → interpreters.child_question name form q args ≡ asks_at (name ∷ []) (Ask q) done

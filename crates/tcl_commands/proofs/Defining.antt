@@ -16,6 +16,7 @@ use Rattle.tcl_run.proofs.Endings.{Interrupts-more}
 use Rattle.tcl_text.specs.Lists.{list_of}
 use Rattle.tcl_text.specs.Writing.{fault_message}
 use Rattle.tcl_text.specs.declared.list.ListFault.{ListFault}
+use Rattle.tcl_text.proofs.Items.{three_items}
 use Rattle.tcl_tree.specs.Commands.{ProcedureView}
 use Rattle.tcl_tree.specs.TreeOf.{tree_of}
 use Rattle.tcl_interpreter.specs.declared.command.Command.TheVariants as command
@@ -100,13 +101,6 @@ pub parameters_end : (texts : List Text) (text : Text) (rest : List Text) (befor
 parameters_end texts text rest before k x r is e h = ends_as x (reads_parameter text before (λ more. parameters rest more k)) r (is ∙ ap (λ (ts : List Text). parameters ts before k) e) (h (λ more. parameters rest more k))
 
 -- ## `proc`
-
-three_items : {A : Type 0} (xs : List A) (x y z : A) → 3 ≤ length xs → length xs < 4 → x ≡ get_or xs 0 x → y ≡ get_or xs 1 y → z ≡ get_or xs 2 z → xs ≡ x ∷ y ∷ z ∷ []
-three_items [] x y z h k a b c = absurd (omega arith)
-three_items (p ∷ []) x y z h k a b c = absurd (omega arith)
-three_items (p ∷ q ∷ []) x y z h k a b c = absurd (omega arith)
-three_items (p ∷ q ∷ r ∷ []) x y z h k a b c = ap (λ w. w ∷ q ∷ r ∷ []) (sym a) ∙ ap (λ w. x ∷ w ∷ r ∷ []) (sym b) ∙ ap (λ w. x ∷ y ∷ w ∷ []) (sym c)
-three_items (p ∷ q ∷ r ∷ s ∷ ss) x y z h k a b c = absurd (omega arith)
 
 module _ (t : Table) (place : TablePlace) (args : List Text) (name text body : Text) (many : 3 ≤ length args) (few : length args < 4) (a : name ≡ get_or args 0 name) (b : text ≡ get_or args 1 text) (c : body ≡ get_or args 2 body) where
   defines : List Parameter → Program

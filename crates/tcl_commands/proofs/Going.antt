@@ -1,5 +1,5 @@
 -- How steps are put together.
-use Rattle.std.proofs.Common.{◌≡◌, ℕ, List, [], ◌∷◌, Some, refl, sym, ap, subst, ◌∙◌, length, get_or, ◌<◌, ◌≤◌, arith}
+use Rattle.std.proofs.Common.{◌≡◌, ℕ, List, Some, refl, sym, ap, subst, ◌∙◌}
 use Rattle.std.specs.Prelude.{Result, Ok, Err, IfErr, OnOk, OnErr}
 use Rattle.tcl_core.specs.Endings.{Completion, Reply, ok}
 use Rattle.tcl_core.specs.Endings.Reply.{Completed}
@@ -15,7 +15,7 @@ use Rattle.tcl_run.specs.Plain.{Does, Acts}
 use Rattle.tcl_run.specs.Runs.{IsThere, IsLevel, Rechained}
 use Rattle.tcl_run.specs.declared.interruption.Interruption.{Interruption}
 use Rattle.tcl_run.specs.declared.interruption.Interruption.TheVariants as interruption
-use Rattle.tcl_run.proofs.Endings.{Interrupts-more, IfEnded-more}
+use Rattle.tcl_run.proofs.Endings.{Interrupts-more, IfEnded-more, Interrupts-at}
 use Rattle.tcl_run.proofs.Plain.{does_look, does_read, does_fail, does_change}
 use Rattle.tcl_run.proofs.Steady.{stands}
 use Rattle.tcl_text.specs.declared.integer.Integers.{Integers}
@@ -78,16 +78,6 @@ found_by_reading {A} {F} t place message read (Ok a) given = λ rest V r e p sty
 found_by_reading {A} {F} t place message read (Err i) given = λ rest. Interrupts-more i _ _ (λ r f p style at.
     does_fail (tree_of t) p message (read style) (λ x. rest x style) r (subst (λ (s : Integers). IsFailure message (read s) r) at.style_is f)) given
 
--- what holds of an interruption wherever the place is
-Interrupts-at : (i : Interruption) (t : Table) (place : TablePlace) (P : Node Own → Reply → Type 0) →
-    ((p : Path) (n : Node Own) → Names t place p → tree_of t p ≡ Some n → Interrupts i (P n)) →
-    Interrupts i (λ e. (p : Path) (n : Node Own) → Names t place p → tree_of t p ≡ Some n → P n e)
-Interrupts-at interruption.Memory t place P f = tt
-Interrupts-at (interruption.Completed c) t place P f = f
-Interrupts-at (interruption.Stopped s) t place P f = f
-Interrupts-at (interruption.Exited n) t place P f = f
-Interrupts-at (interruption.Cut c) t place P f = f
-
 -- what was read of the interpreter
 pub found_by_look : {A F : Type 0} (t : Table) (place : TablePlace) (message : F → List ℕ) (read : Node Own → Result A F) (result : Result A Interruption) →
     ((p : Path) (n : Node Own) → Names t place p → tree_of t p ≡ Some n → Gave message (read n) result) →
@@ -127,17 +117,3 @@ set_steps t u place name value (Err i) level written refused same = λ rest. Int
     ends_as (sets name value (rest style)) (tree_of t) (tree_of u) (tree_of t) p r same
     (does_look (tree_of t) (tree_of t) p r n.0 (λ m. chain_becomes m.own (after_set m.own.chain name value) (rest style)) n.1
     (does_fail (tree_of t) p frame_message (after_set n.0.own.chain name value) (λ chain. change (with_chain n.0.own chain) (rest style)) r (f p n.0 at.names n.1)))) refused
-
--- ## Words by their number
-
-module _ {A : Type 0} where
-  pub one_item : (xs : List A) (x : A) → 1 ≤ length xs → length xs < 2 → x ≡ get_or xs 0 x → xs ≡ x ∷ []
-  one_item [] x h k e = absurd (omega arith)
-  one_item (y ∷ []) x h k e = ap (λ z. z ∷ []) (sym e)
-  one_item (y ∷ z ∷ zs) x h k e = absurd (omega arith)
-
-  pub two_items : (xs : List A) (x y : A) → 2 ≤ length xs → length xs < 3 → x ≡ get_or xs 0 x → y ≡ get_or xs 1 y → xs ≡ x ∷ y ∷ []
-  two_items [] x y h k e d = absurd (omega arith)
-  two_items (a ∷ []) x y h k e d = absurd (omega arith)
-  two_items (a ∷ b ∷ []) x y h k e d = ap (λ z. z ∷ b ∷ []) (sym e) ∙ ap (λ z. x ∷ z ∷ []) (sym d)
-  two_items (a ∷ b ∷ c ∷ cs) x y h k e d = absurd (omega arith)

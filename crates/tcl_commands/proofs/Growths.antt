@@ -1,5 +1,5 @@
 -- What the commands come to that add to variables.
-use Rattle.std.proofs.Common.{◌≡◌, ℕ, Bool, true, false, List, [], ◌∷◌, ◌++◌, Option, Some, None, ◌≤◌, length, refl, sym, ap, subst, ◌∙◌, arith}
+use Rattle.std.proofs.Common.{◌≡◌, ℕ, Bool, true, false, List, [], ◌∷◌, ◌++◌, Option, Some, ◌≤◌, length, refl, sym, ap, subst, ◌∙◌, arith}
 use Rattle.std.specs.Prelude.{Result, Ok, Err}
 use Rattle.tcl_core.specs.Endings.{Completion, Reply, ok}
 use Rattle.tcl_core.specs.Endings.Reply.{Completed}
@@ -11,11 +11,10 @@ use Rattle.tcl_frames.specs.Chain.{Chain, read, after_set}
 use Rattle.tcl_language.specs.Data as collections
 use Rattle.tcl_language.specs.Faults.{frame_message}
 use Rattle.tcl_language.specs.Instructions as long
-use Rattle.tcl_language.specs.Instructions.{Program, change, either, fits, look, or_fails, too_long, with_chain}
+use Rattle.tcl_language.specs.Instructions.{Program, either, fits, look, or_fails, too_long, with_chain}
 use Rattle.tcl_language.specs.Variables as variables
 use Rattle.tcl_lists.specs.Lists.{lappend_of, list_value}
 use Rattle.tcl_lists.specs.Refusing.{RefusesChange}
-use Rattle.tcl_lists.proofs.Lengths.{limited_past, limited_within}
 use Rattle.tcl_text.specs.declared.integer.Integers.{Integers}
 use Rattle.tcl_text.specs.declared.list.ListFault.{ListFault}
 use Rattle.tcl_value.specs.Changes as list_changes
@@ -40,6 +39,7 @@ use Rattle.tcl_tree.specs.declared.tree.Place.{Place as TablePlace}
 use Rattle.tcl_tree.proofs.CoreLemmas.{tree_there}
 use Rattle.tcl_variables.specs.declared.fault.FrameFault.{FrameFault}
 use Rattle.tcl_words.specs.Outcomes.{Outcome}
+use Rattle.tcl_words.proofs.WordLemmas.{limited_past, limited_within}
 use Rattle.tcl_commands.specs.Steps.{EndsAt}
 use Rattle.tcl_commands.proofs.Going.{acts_more}
 use Rattle.tcl_commands.proofs.Same.{set_same}

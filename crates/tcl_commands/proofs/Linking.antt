@@ -1,6 +1,6 @@
 -- What the commands come to that link variables.
-use Rattle.std.proofs.Common.{Some, ◌≡◌, ℕ, suc, true, false, ◌<◌, ◌≤◌, List, [], ◌∷◌, length, length-drop, get_or, take, drop, refl, sym, ap, subst, ◌∙◌, arith}
-use Rattle.std.specs.Prelude.{Result, Err, codes, ◌==◌, ◌%◌, ◌-◌}
+use Rattle.std.proofs.Common.{Some, ◌≡◌, ℕ, true, false, ◌<◌, ◌≤◌, List, [], ◌∷◌, length, length-drop, get_or, take, drop, refl, sym, ap, subst, ◌∙◌, arith}
+use Rattle.std.specs.Prelude.{Result, Err, codes, ◌==◌, ◌-◌}
 use Rattle.std.proofs.lemmas.Bool.Decides.{nat_tests}
 use Rattle.std.proofs.lemmas.List.{take_all}
 use Rattle.tcl_core.specs.Endings.{ok}
@@ -71,14 +71,6 @@ link_over at (x ∷ []) h = refl
 link_over at (x ∷ y ∷ xs) h = absurd (omega arith)
 
 -- ## `upvar`
-
-pub odd_is : {A : Type 0} (xs : List A) → is_odd xs ≡ (length xs % 2 == 1)
-odd_is [] = refl
-odd_is (x ∷ []) = refl
-odd_is (x ∷ y ∷ xs) = odd_is xs ∙ ap (λ n. n == 1) (by (length xs))
-  where
-    by : (n : ℕ) → n % 2 ≡ suc (suc n) % 2
-    by n = omega arith
 
 pub upvar_plain : (style : Integers) (args : List Text) → 2 ≤ length args → is_odd args ≡ false → upvar style args ≡ level style (codes "1") (λ at. link_all at args)
 upvar_plain style [] h e = absurd (omega arith)

@@ -1,5 +1,5 @@
 -- Commands that look at the interpreter where they are called.
-use Rattle.std.proofs.Common.{◌≡◌, List, [], ◌∷◌, Some, refl, sym, subst, length, ◌<◌, arith}
+use Rattle.std.proofs.Common.{◌≡◌, Some, refl, sym, subst}
 use Rattle.std.specs.Prelude.{Result}
 use Rattle.tcl_core.specs.Endings.{ok}
 use Rattle.tcl_core.specs.Endings.Reply.{Completed}
@@ -42,7 +42,3 @@ fails_acts t place text i h = Interrupts-more i _ _ (λ r e p style at. (refl, e
 -- a text that may be too long
 pub gives_acts : (t : Table) (place : TablePlace) (text : Text) (result : Result Text Interruption) → IfEnded result (λ r. r ≡ Completed (either (fits text) (ok text) too_long)) → Acts t place (λ style. gives text) t result
 gives_acts t place text result h = acts_more t t place (λ style. gives text) (λ r. r ≡ Completed (either (fits text) (ok text) too_long)) result (λ r e p style at. (refl, e)) h
-
-pub no_items : {A : Type 0} (xs : List A) → length xs < 1 → xs ≡ []
-no_items [] h = refl
-no_items (x ∷ xs) h = absurd (omega arith)

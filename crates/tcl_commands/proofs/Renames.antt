@@ -10,7 +10,7 @@ use Rattle.tcl_core.specs.Trees.{Node}
 use Rattle.tcl_language.specs.Instructions.{change, or_fails}
 use Rattle.tcl_language.specs.Interpreters.{done_so, refused_text, renaming}
 use Rattle.tcl_language.specs.Naming as language
-use Rattle.tcl_language.specs.Naming.{command_name, without_colons, of_global}
+use Rattle.tcl_language.specs.Naming.{command_name, without_colons, of_global, with_word}
 use Rattle.tcl_run.specs.Ends.{Interrupts, failing}
 use Rattle.tcl_run.specs.Plain.{Acts}
 use Rattle.tcl_run.specs.Runs.{IsLevel}
@@ -31,7 +31,7 @@ use Rattle.tcl_tree.specs.declared.tree.Tree.{Tree as Table}
 use Rattle.tcl_tree.specs.declared.tree.Place.{Place as TablePlace}
 use Rattle.tcl_tree.proofs.CoreLemmas.{tree_there}
 use Rattle.tcl_variables.specs.Names as names
-use Rattle.tcl_commands.specs.Renaming.{IsBadName, IsNoOwnCommand, IsOwnCommand, TellsRefusal, Told, is_memory, with_word}
+use Rattle.tcl_commands.specs.Renaming.{IsBadName, IsNoOwnCommand, IsOwnCommand, TellsRefusal, Told, is_memory}
 use Rattle.tcl_commands.specs.Steps.{EndsAt}
 
 -- ## Names

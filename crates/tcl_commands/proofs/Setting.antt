@@ -1,10 +1,8 @@
 -- What the commands come to that set variables.
-use Rattle.std.proofs.Common.{◌≡◌, ℤ, pos, negsuc, Bool, true, false, ◌<◌, ◌^◌, List, [], ◌∷◌, Some, refl, sym, ap, subst, ◌∙◌, arith, FitsSigned, w64, to_z, of_z, length, get_or, ◌≤◌, inl, inr}
+use Rattle.std.proofs.Common.{◌≡◌, ℤ, pos, negsuc, true, false, ◌<◌, ◌^◌, List, [], ◌∷◌, Some, sym, ap, subst, ◌∙◌, arith, FitsSigned, w64, to_z, of_z, length, get_or, ◌≤◌, inl, inr}
 use Rattle.std.proofs.lemmas.Bool.Decides.{nat_tests}
 use Rattle.std.proofs.lemmas.Int.{ints, to_z-of_z}
-use Rattle.std.specs.Prelude.{Result, Ok, Err, Option, None, cond, codes, IfOk}
-use Rattle.tcl_text.specs.declared.integer.IntegerFault.{IntegerFault}
-use Rattle.tcl_text.specs.declared.integer.IntegerFault.TheVariants.{TooLarge}
+use Rattle.std.specs.Prelude.{Result, Ok, Err, Option, codes, IfOk}
 use Rattle.tcl_core.specs.Endings.{Completion, ok}
 use Rattle.tcl_core.specs.Endings.Reply.{Completed}
 use Rattle.tcl_core.specs.Paths.{Path, Text}
@@ -19,6 +17,7 @@ use Rattle.tcl_run.specs.Plain.{Acts}
 use Rattle.tcl_run.specs.declared.interruption.Interruption.{Interruption}
 use Rattle.tcl_text.specs.declared.integer.Integers.{Integers}
 use Rattle.tcl_text.specs.Numbers.{fits_64, in_64_bits, integer_of}
+use Rattle.tcl_text.proofs.Fitting.{read_fits, handed}
 use Rattle.tcl_tree.specs.Own.{Own}
 use Rattle.tcl_tree.specs.TreeOf.{tree_of, marks_of, Names}
 use Rattle.tcl_tree.proofs.PathLemmas.{text_cases}
@@ -72,19 +71,6 @@ integer_finds t place text own result same given =
 pub fits_so : (z : ℤ) → FitsSigned w64 z → fits_64 z ≡ true
 fits_so (pos n) f = let small : n < 2 ^ 63 = omega (arith, ints) in grind (arith, nat_tests)
 fits_so (negsuc n) f = let small : n < 2 ^ 63 = omega (arith, ints) in grind (arith, nat_tests)
-
-fits_back : (z : ℤ) → fits_64 z ≡ true → FitsSigned w64 z
-fits_back (pos n) e = let small : n < 2 ^ 63 = grind (arith, nat_tests) in omega (arith, ints)
-fits_back (negsuc n) e = let small : n < 2 ^ 63 = grind (arith, nat_tests) in omega (arith, ints)
-
--- an integer that was read fits
-read_fits : (o : Option ℤ) (n : ℤ) → in_64_bits o ≡ Ok n → FitsSigned w64 n
-read_fits None n e = let clash : in_64_bits None ≡ Ok n = e in cc
-read_fits (Some z) n e = by (fits_64 z) refl e
-  where
-    by : (b : Bool) → fits_64 z ≡ b → cond b (Ok z) (Err TooLarge) ≡ Ok n → FitsSigned w64 n
-    by true f g = let plain : ◌≡◌ {A = Result ℤ IntegerFault} (Ok z) (Ok n) = g in let same : z ≡ n = cc in subst (FitsSigned w64) same (fits_back z f)
-    by false f g = let clash : ◌≡◌ {A = Result ℤ IntegerFault} (Err TooLarge) (Ok n) = g in cc
 
 pub given_fits : (text : Text) (o : Option ℤ) (n : ℤ) → Gave (integer_message text) (in_64_bits o) (Ok n) → FitsSigned w64 n
 given_fits text o n given = read_fits o n given

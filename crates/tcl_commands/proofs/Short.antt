@@ -16,7 +16,7 @@ use Rattle.tcl_format.specs.declared.specifier.Conversion.{Conversion}
 use Rattle.tcl_format.specs.declared.specifier.Conversion.TheVariants as conversion
 use Rattle.tcl_format.specs.declared.specifier.Specifier.{Specifier}
 use Rattle.tcl_string_commands.specs.Comparing as comparing
-use Rattle.tcl_glob.specs.Patterns.{is_match}
+use Rattle.tcl_glob.specs.Patterns.{is_match, letters}
 use Rattle.tcl_string_commands.specs.Making.{mapping_word, times}
 use Rattle.tcl_string_commands.specs.Options.{nocase_words}
 use Rattle.tcl_string_commands.specs.Parts.{replaced, white}
@@ -28,7 +28,7 @@ use Rattle.tcl_string_ensemble.specs.declared.subcommand.Subcommand.TheVariants 
 use Rattle.tcl_strings.specs.Mapping.{mapped}
 use Rattle.tcl_strings.specs.Order.{order}
 use Rattle.tcl_strings.specs.Places.{first_place, last_place}
-use Rattle.tcl_strings.specs.Texts.{copies, joined, letters, text_of, trim_start, trim_end}
+use Rattle.tcl_strings.specs.Texts.{copies, joined, text_of, trim_start, trim_end}
 use Rattle.tcl_text.specs.declared.index.Index.TheVariants.{Before, Beyond}
 use Rattle.tcl_text.specs.declared.integer.Integers.{Integers}
 use Rattle.tcl_value.specs.Limits.{IsWithin}

@@ -1,8 +1,6 @@
 -- Commands on their way.
-use Rattle.std.proofs.Common.{◌≡◌, ℕ, List, [], ◌∷◌, ◌+◌, ◌<◌, ◌≤◌, drop, length, get_or, refl, sym, ap, subst, ◌∙◌, suc, add-one}
+use Rattle.std.proofs.Common.{◌≡◌, ℕ, List, refl, subst, ◌∙◌}
 use Rattle.std.specs.Prelude.{Result, Err}
-use Rattle.std.proofs.Math.Seq.{drop-cons}
-use Rattle.std.proofs.Math.ListN.{drop_of_length-le}
 use Rattle.tcl_core.specs.Endings.{Completion}
 use Rattle.tcl_core.specs.Endings.Reply.{Completed}
 use Rattle.tcl_core.specs.Paths.{Path}
@@ -41,12 +39,3 @@ pub way_passes : (a b c : Table) (place : TablePlace) (whole now : Styled) (i y 
     Interrupts i (EndsAt b place now (tree_of c)) → Acts a place whole c result
 way_passes a b c place whole now i y result e same way h =
     passed_acts a c place whole i y result e same (Interrupts-more i (EndsAt b place now (tree_of c)) (EndsAt a place whole (tree_of c)) (λ r g. way.leads (tree_of c) r g) h)
-
--- ## Lists
-
-module _ {A : Type 0} where
-  pub item_on : (xs : List A) (i : ℕ) (x : A) → i < length xs → x ≡ get_or xs i x → drop i xs ≡ x ∷ drop (i + 1) xs
-  item_on xs i x h e = drop-cons xs i x h ∙ ap (λ z. z ∷ drop (suc i) xs) (sym e) ∙ ap (λ j. x ∷ drop j xs) (sym (add-one i))
-
-  pub none_on : (xs : List A) (i : ℕ) → length xs ≤ i → drop i xs ≡ []
-  none_on xs i h = drop_of_length-le xs h

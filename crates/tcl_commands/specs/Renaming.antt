@@ -1,5 +1,5 @@
 -- What refusals to name a command come to.
-use Rattle.std.specs.Prelude.{◌≡◌, Bool, true, false, Option, Some, None, Ok, Err}
+use Rattle.std.specs.Prelude.{◌≡◌, Bool, true, false, Option, Some, None}
 use Rattle.tcl_core.specs.Endings.{Reply}
 use Rattle.tcl_core.specs.Endings.Reply.{Completed}
 use Rattle.tcl_core.specs.Paths.{Text}
@@ -26,11 +26,6 @@ Told false e word i = Interrupts i (λ r. r ≡ Completed (failing (refusal_text
 -- a refusal is told, with the word that is wrong
 abbrev pub TellsRefusal : Refusal → Text → Interruption → Type 0
 TellsRefusal e word i = Told (is_memory e) e word i
-
--- what a table makes of an own part, with the word that is wrong where it refuses
-abbrev pub with_word : Text → tree.Named → language.Named
-with_word word (Ok own) = Ok own
-with_word word (Err e) = Err (e, word)
 
 -- the end where no command has the name
 abbrev pub IsBadName : Text → Option Text → Reply → Type 0

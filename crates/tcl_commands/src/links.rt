@@ -6,7 +6,6 @@ ghost use Rattle.tcl_frames.specs.Chain.{after_link};
 ghost use Rattle.tcl_language.specs.Instructions.{look};
 ghost use Rattle.tcl_run.specs.Plain.{Acts};
 ghost use Rattle.tcl_run.specs.Runs.{IsLevel};
-ghost use Rattle.tcl_text.specs.Numbers.{integer_of};
 ghost use Rattle.tcl_tree.specs.TreeOf.{marks_of, Names};
 ghost use Rattle.tcl_variables.specs.Names.{name_of};
 ghost use Rattle.tcl_commands.specs.Steps.{Steps, Finds};
@@ -16,50 +15,11 @@ use crate::steps::{frames_seen, link_variable};
 use std::alloc::{AllocError, Global};
 use tcl_run::failure::{bad_level, wrong_args};
 use tcl_run::interruption::Interruption;
-use tcl_text::integer::{Integers, read_int};
+use tcl_run::levels::{MOST_LEVELS, level_of};
 use tcl_text::text::Text;
 use tcl_tree::tree::{Place, Tree};
 use tcl_value::value::Value;
 use tcl_variables::name::read_name;
-
-/// The greatest level that an integer text names. No memory holds a chain that goes further.
-const MOST_LEVELS: usize = 9_223_372_036_854_775_807;
-
-/// The level of this number, where there is one.
-fn level_numbered(current: usize, number: i64) -> Option<usize>
-    ensures { result ≡ variables.level_at current (Some number) }
-{
-    if number < 0 {
-        return None;
-    }
-    let level = number as usize;
-    if level <= current { Some(level) } else { None }
-}
-
-/// The level that an integer text names, where there is one.
-fn level_at(style: Integers, current: usize, number: &str) -> Option<usize>
-    requires { current < 2 ^ 63 }
-    ensures { result ≡ variables.level_at current (integer_of style number.now) }
-{
-    match read_int(number, style) {
-        Ok(number) => level_numbered(current, number),
-        Err(_) => None,
-    }
-}
-
-/// The level that a word names, where there is one: `N` is N levels up, `#N` is level N.
-fn level_of(style: Integers, current: usize, word: &str) -> Option<usize>
-    requires { current < 2 ^ 63 }
-    ensures { result ≡ variables.level_of style current word.now }
-{
-    match word.strip_prefix('#') {
-        Some(number) => level_at(style, current, number),
-        None => {
-            let up = level_at(style, current, word)?;
-            Some(current - up)
-        }
-    }
-}
 
 /// The level that a word names.
 fn level(tree: &Tree, alloc: Global, place: Place, word: &str) -> Result<usize, Interruption>

@@ -1,7 +1,6 @@
 -- What calls nobody outside changes nothing there.
-use Rattle.std.proofs.Common.{sym, ◌≡◌, ℕ, List, ◌++◌, Option, Some, None, refl, ◌∙◌, ap, subst, append_assoc}
+use Rattle.std.proofs.Common.{sym, ◌≡◌, ◌++◌, Option, Some, None, refl, ◌∙◌, ap, subst, append_assoc}
 use Rattle.tcl_core.specs.Paths.{Path, Place, Height, strip, rise_to}
-use Rattle.tcl_core.specs.Entries.{Entry}
 use Rattle.tcl_core.specs.Trees.{Node, What, effect}
 use Rattle.tcl_core.specs.Trees.What.{Out, In, Done}
 use Rattle.tcl_core.specs.Programs.{spot, Prog, Table}
@@ -10,15 +9,13 @@ use Rattle.tcl_core.specs.Runs.{World, Step, Ending, entering, where_stands}
 use Rattle.tcl_core.specs.Rules.{Derives}
 use Rattle.tcl_core.specs.Rules.Derives.{completed, exited, acted, refused, unheard, went, passed, halted, wrapped, wrapped_passed, wrapped_halted, too_deep, shut, unheard_inside, called, called_passed, called_halted, unreached, called_out, unanswered, unfit, answered, heard, answered_passed, entered, entered_halted, entered_exiting, born, fallen}
 use Rattle.tcl_core.specs.Laws.{rest, Inward, AreInward, Untouched}
-use Rattle.tcl_core.proofs.PathLaws.{not_both, Some-inj, strip_own, strip-sound, rise_to_within, rise_to_past}
-use Rattle.tcl_core.proofs.TreeLaws.{spot_within}
+use Rattle.tcl_core.proofs.PathLaws.{Some-inj, strip_own, strip-sound, rise_to_within, rise_to_past}
+use Rattle.tcl_core.proofs.TreeLaws.{reached_at, spot_in}
 use Rattle.tcl_core.proofs.Outside.{effect_rest}
 use Rattle.tcl_core.proofs.RuleLaws.{runs_derived}
+use Rattle.tcl_core.proofs.Callers.{entering_calls}
 
-spot_in : (c p q : Place) (s : Option (List ℕ)) → strip c p ≡ Some q → strip c (spot p s) ≡ Some (spot q s)
-spot_in c p q s e = ap (λ r. strip c (spot r s)) (strip-sound c p q e) ∙ ap (strip c) (spot_within c q s) ∙ strip_own c (spot q s)
-
-past : (c p q : Place) (h : Height) → strip c p ≡ Some q → rise_to h p ≡ None → rise_to h q ≡ None
+pub past : (c p q : Place) (h : Height) → strip c p ≡ Some q → rise_to h p ≡ None → rise_to h q ≡ None
 past c p q h e f = rise_to_past c q h (subst (λ r. rise_to h r ≡ None) (strip-sound c p q e) f)
 
 module _ {O : Type 0} (c : Place) where
@@ -44,12 +41,8 @@ module _ {O : Type 0} (c : Place) where
   run : (w u v : World O) → Kept w u → (AreInward c u.tape → Kept u v) → Kept w v
   run w u v a g = let b : Kept u v = g a.1 in (b.0 ∙ a.0, b.1)
 
-  reached_at : (n : Option (Node O)) (t p : Place) → where_stands n p ≡ Some t → t ≡ p
-  reached_at None t p e = absurd (not_both refl e)
-  reached_at (Some n) t p e = sym (Some-inj p e)
-
   -- where a call within the subtree goes
-  goes_to : (p q a : Place) (h : Height) (down : Path) (t : Place) (n : Option (Node O)) → strip c p ≡ Some q → rise_to h p ≡ Some a → (rise_to h q ≡ None → Prim.⊥) → where_stands n (a ++ down) ≡ Some t → (z : Place) × (strip c t ≡ Some z)
+  pub goes_to : (p q a : Place) (h : Height) (down : Path) (t : Place) (n : Option (Node O)) → strip c p ≡ Some q → rise_to h p ≡ Some a → (rise_to h q ≡ None → Prim.⊥) → where_stands n (a ++ down) ≡ Some t → (z : Place) × (strip c t ≡ Some z)
   goes_to p q a h down t n e f g j = by (rise_to h q) refl
     where
       by : (o : Option Place) → rise_to h q ≡ o → (z : Place) × (strip c t ≡ Some z)
@@ -60,10 +53,6 @@ module _ {O : Type 0} (c : Place) where
           (b ++ down, ap (strip c) there ∙ strip_own c (b ++ down))
 
 module _ {O I : Type 0} (c : Place) (prog : Table O I) where
-  fit_entry : (n : Option (Node O)) (i : Entry) → Calls_only (entering prog n i)
-  fit_entry None i = tt
-  fit_entry (Some n) i = prog.entries_call i
-
   keep : {w : World O} {p : Place} {x : Prog O I} {v : World O} {e : Ending} → Derives prog w p x v e → (q : Place) → strip c p ≡ Some q → Calls_only x → AreInward c w.tape → Kept c w v
   keep (completed w p y) q n f h = (refl, h)
   keep (exited w p y) q n f h = (refl, h)
@@ -84,17 +73,17 @@ module _ {O I : Type 0} (c : Place) (prog : Table O I) where
   keep (called w p h down i lost k a t out inner left told back v r y e g s1 j s2 x s3 so s4 b) q n f m =
       let o : Stepped c w (Some q) (Out h down i) out = one c w p q (Out h down i) out n s1 m in
       let z : (z : Place) × (strip c t ≡ Some z) = goes_to c p q a h down t (out.tree (a ++ down)) n g o.1 j in
-      step c w p q _ out v n s1 m (λ l. step c out t z.0 _ inner v z.1 s2 l (λ l2. run c inner left v (keep x z.0 z.1 (fit_entry (out.tree t) i) l2)
+      step c w p q _ out v n s1 m (λ l. step c out t z.0 _ inner v z.1 s2 l (λ l2. run c inner left v (keep x z.0 z.1 (entering_calls prog (out.tree t) i) l2)
       (λ l3. step c left t z.0 _ told v z.1 s3 l3 (λ l4. step c told p q _ back v n s4 l4 (λ l5. keep b q n (f _) l5)))))
   keep (called_passed w p h down i lost k a t out inner left told back r g s1 j s2 x s3 y s4) q n f m =
       let o : Stepped c w (Some q) (Out h down i) out = one c w p q (Out h down i) out n s1 m in
       let z : (z : Place) × (strip c t ≡ Some z) = goes_to c p q a h down t (out.tree (a ++ down)) n g o.1 j in
-      step c w p q _ out back n s1 m (λ l. step c out t z.0 _ inner back z.1 s2 l (λ l2. run c inner left back (keep x z.0 z.1 (fit_entry (out.tree t) i) l2)
+      step c w p q _ out back n s1 m (λ l. step c out t z.0 _ inner back z.1 s2 l (λ l2. run c inner left back (keep x z.0 z.1 (entering_calls prog (out.tree t) i) l2)
       (λ l3. step c left t z.0 _ told back z.1 s3 l3 (λ l4. step c told p q _ back back n s4 l4 (λ l5. (refl, l5))))))
   keep (called_halted w p h down i lost k a t out inner left g s1 j s2 x) q n f m =
       let o : Stepped c w (Some q) (Out h down i) out = one c w p q (Out h down i) out n s1 m in
       let z : (z : Place) × (strip c t ≡ Some z) = goes_to c p q a h down t (out.tree (a ++ down)) n g o.1 j in
-      step c w p q _ out left n s1 m (λ l. step c out t z.0 _ inner left z.1 s2 l (λ l2. keep x z.0 z.1 (fit_entry (out.tree t) i) l2))
+      step c w p q _ out left n s1 m (λ l. step c out t z.0 _ inner left z.1 s2 l (λ l2. keep x z.0 z.1 (entering_calls prog (out.tree t) i) l2))
   keep (unreached w p h down i lost k a out back v e g s1 j s2 x) q n f m = step c w p q _ out v n s1 m (λ l. step c out p q _ back v n s2 l (λ l2. keep x q n (f _) l2))
   keep (called_out w p h down i lost k u v e g s a) q n f m =
       let o : Stepped c w (Some q) (Out h down i) u = one c w p q (Out h down i) u n s m in
@@ -115,6 +104,6 @@ module _ {O I : Type 0} where
   untouched prog c w v t i r a f =
       let n : strip c (c ++ t) ≡ Some t = strip_own c t in
       let k : Kept c w v =
-      step c w (c ++ t) t (In None i) a.entered v n a.entry f (λ j. run c a.entered a.left v (keep c prog (runs_derived prog a.entered (c ++ t) (entering prog (w.tree (c ++ t)) i) a.left (Some r) a.run) t n (fit_entry c prog (w.tree (c ++ t)) i) j)
+      step c w (c ++ t) t (In None i) a.entered v n a.entry f (λ j. run c a.entered a.left v (keep c prog (runs_derived prog a.entered (c ++ t) (entering prog (w.tree (c ++ t)) i) a.left (Some r) a.run) t n (entering_calls prog (w.tree (c ++ t)) i) j)
       (λ l. step c a.left (c ++ t) t (Done None r) v v n a.leaving l (λ m. (refl, m)))) in
       k.0

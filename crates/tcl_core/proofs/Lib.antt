@@ -14,6 +14,9 @@ pub mod Budgets
 pub mod Plain
 pub mod Balance
 pub mod Reacting
+pub mod Halts
+pub mod Callers
+pub mod Tracking
 pub mod Outside
 pub mod Stops
 pub mod Disciplines

@@ -18,13 +18,13 @@ use Rattle.tcl_core.specs.Endings.Cause.{Above, Over}
 use Rattle.tcl_core.specs.Trees.Grant.{Allow, Deny}
 use Rattle.tcl_core.specs.Trees.Grants.{Listed, Budget}
 use Rattle.tcl_core.specs.Programs.Prog.{done, exit, act, go, inside, call, wait}
-use Rattle.tcl_core.specs.Runs.{World, Step, Ending, Halts, fits, Exits, Exiting, Follows, Hears, Leaves, Visits, Returns, Reaches, Closes, Opened, Stays, carried, reached, where_stands, entering, ends_call, height_of}
+use Rattle.tcl_core.specs.Runs.{World, Step, Ending, Halts, fits, Exits, Exiting, Follows, Hears, Leaves, Visits, Returns, Reaches, Closes, Opened, Stays, carried, reached, entering, ends_call, height_of}
 use Rattle.tcl_core.specs.Rules.{Derives, IsNoExit}
 use Rattle.tcl_core.specs.Rules.Derives.{completed, exited, acted, refused, unheard, went, passed, halted, wrapped, wrapped_passed, wrapped_halted, too_deep, shut, unheard_inside, called, called_passed, called_halted, unreached, called_out, unanswered, unfit, answered, heard, answered_passed, entered, entered_halted, entered_exiting, born, fallen}
 use Rattle.tcl_core.specs.Laws.{ReadsMove, AtMove}
 use Rattle.tcl_core.proofs.PathLaws.{not_both, Some-inj, rise_back}
 use Rattle.tcl_core.proofs.Plain.{IsPlain}
-use Rattle.tcl_core.proofs.TreeLaws.{IsLife}
+use Rattle.tcl_core.proofs.TreeLaws.{IsLife, reached_at}
 use Rattle.tcl_core.proofs.RuleLaws.{Ruled, open_rule, reach_rule, enter_rule}
 
 module _ {O : Type 0} where
@@ -245,10 +245,6 @@ module _ {O I : Type 0} (prog : Table O I) where
   stays_ruled w p s k (Stop n m) v e f a = a
   stays_ruled w p s k (Cut c) v e f a = a
   stays_ruled w p s k (Exit n) v e f a = absurd f
-
-  reached_at : (n : Option (Node O)) (t p : Place) → where_stands n p ≡ Some t → t ≡ p
-  reached_at None t p e = absurd (not_both refl e)
-  reached_at (Some n) t p e = sym (Some-inj p e)
 
   pub in_silent : (u : World O) (a t : Place) (down : Path) (i : Entry) → reached u.tree a down ≡ Some t → (ms : List (Move O)) → ms ≡ asked t (In (Some (length down)) i) ms
   in_silent u a t down i e ms = sym (ap (λ r. asked r (In (Some (length down)) i) ms) (reached_at (u.tree (a ++ down)) t (a ++ down) e) ∙ ap (λ o. where_none o (Enter (a ++ down) i) ms) (rise_back a down))

@@ -261,3 +261,8 @@ seen_rise q (Some n) = go (rise n q) refl
     go : (o : Option (List (List ℕ))) → rise n q ≡ o → rise_to (seen_height q (Some n)) q ≡ rise n q
     go None e = ap (λ h. rise_to h q) (seen_out q (Some n) e) ∙ sym e
     go (Some a) e = ap (λ h. rise_to h q) (seen_in q (Some n) a e)
+
+-- a child is no top
+pub child_no_top : (p : Path) (name : List ℕ) → p ++ name ∷ [] ≡ [] → Prim.⊥
+child_no_top [] name e = cc
+child_no_top (x ∷ p) name e = cc

@@ -24,7 +24,7 @@ use Rattle.tcl_core.proofs.Keeping.{KeepsSteps, derived_keep}
 use Rattle.tcl_core.proofs.Counts.{bounded}
 use Rattle.tcl_core.proofs.Conclusions.{determinism}
 use Rattle.tcl_core.proofs.RuleLaws.{runs_derived}
-use Rattle.tcl_core.proofs.Outside.{halted_tape}
+use Rattle.tcl_core.proofs.Halts.{halted_tape}
 use Rattle.tcl_core.proofs.Refusals.{IsRefusal, clash}
 use Rattle.tcl_core.proofs.Lending.{moves_append, IsListed, IsStop, Alike, runs_meet}
 use Rattle.tcl_core.proofs.Beginnings.{Nested, nested, no_longer, not_at, NoEnds, no_ends, no_end_in}

@@ -15,7 +15,7 @@ use Rattle.tcl_core.specs.Programs.Act.{Look, Change, Charge, Limit, LimitDepth,
 use Rattle.tcl_core.specs.Endings.Cause.{Above, Over}
 use Rattle.tcl_core.specs.Programs.Next.{On, TooDeep, Off}
 use Rattle.tcl_core.specs.Programs.Wrap.{Deeper, Framed}
-use Rattle.tcl_core.specs.Runs.{World, Step, Ending, Halts, Exits, Exiting, carried, reached, where_stands, ends_call, height_of}
+use Rattle.tcl_core.specs.Runs.{World, Step, Ending, Halts, Exits, Exiting, carried, reached, ends_call, height_of}
 use Rattle.tcl_core.specs.Rules.{Derives, IsOn}
 use Rattle.tcl_core.specs.Rules.Derives.{completed, exited, acted, refused, unheard, went, passed, halted, wrapped, wrapped_passed, wrapped_halted, too_deep, shut, unheard_inside, called, called_passed, called_halted, unreached, called_out, unanswered, unfit, answered, heard, answered_passed, entered, entered_halted, entered_exiting, born, fallen}
 use Rattle.tcl_core.specs.Lives.{outs_of, put, told}
@@ -24,6 +24,7 @@ use Rattle.tcl_core.proofs.PathLaws.{not_both, Some-inj, rise_back}
 use Rattle.tcl_core.proofs.Stops.{changing_on, making_on, dropping_on}
 use Rattle.tcl_core.specs.Lives.{Uncut}
 use Rattle.tcl_core.proofs.Unended.{IsNoCut, decide_uncut, opens_uncut}
+use Rattle.tcl_core.proofs.TreeLaws.{reached_at}
 
 pub cut_or : (n : Next) → IsNoCut n ⊎ ((c : Cause) × (n ≡ Off (Cut c)))
 cut_or On = inl tt
@@ -36,13 +37,13 @@ cut_or (Off (Cut c)) = inr (c, refl)
 on_cut : {A : Type 0} (n : Next) (c : Cause) → IsOn n → n ≡ Off (Cut c) → A
 on_cut n c f e = absurd (let g : IsOn (Off (Cut c)) = subst IsOn e f in g)
 
-no_off : {A : Type 0} (r : Reply) → On ≡ Off r → A
+pub no_off : {A : Type 0} (r : Reply) → On ≡ Off r → A
 no_off r e = absurd (bad e)
   where
     bad : On ≡ Off r → Prim.⊥
     bad f = cc
 
-by_limit_fine : {A : Type 0} (m : Meter) (n : ℕ) (c : Cause) → by_limit m n ≡ Off (Cut c) → A
+pub by_limit_fine : {A : Type 0} (m : Meter) (n : ℕ) (c : Cause) → by_limit m n ≡ Off (Cut c) → A
 by_limit_fine Count n c e = absurd (bad e)
   where
     bad : Off (Stop n Count) ≡ Off (Cut c) → Prim.⊥
@@ -163,10 +164,6 @@ module _ {O : Type 0} where
 
   none_demand : (v : World O) → Demand None v
   none_demand v c e = absurd (not_both refl e)
-
-  reached_at : (n : Option (Node O)) (t p : Place) → where_stands n p ≡ Some t → t ≡ p
-  reached_at None t p e = absurd (not_both refl e)
-  reached_at (Some n) t p e = sym (Some-inj p e)
 
   within : (T : Tree O) (a t : Place) (down : Path) → reached T a down ≡ Some t → rise_to (Some (length down)) t ≡ Some a
   within T a t down e = subst (λ z. rise_to (Some (length down)) z ≡ Some a) (sym (reached_at (T (a ++ down)) t (a ++ down) e)) (rise_back a down)

@@ -79,7 +79,7 @@ is_top (Some (x ∷ p)) = false
 abbrev elsewhere : Place → Place → Bool
 elsewhere q p = not (is_top (strip p q))
 
-not_true : (b : Bool) → not b ≡ true → b ≡ false
+pub not_true : (b : Bool) → not b ≡ true → b ≡ false
 not_true true e = bad e
 not_true false e = refl
 

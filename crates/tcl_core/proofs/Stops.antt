@@ -17,12 +17,12 @@ use Rattle.tcl_core.specs.Programs.{Deed, spot, Act, Wrap, Wait, Next, Prog, Tab
 use Rattle.tcl_core.specs.Programs.Next.{On, TooDeep, Off}
 use Rattle.tcl_core.specs.Programs.Act.{Look, Change, Charge, Limit, LimitDepth, Make, Drop}
 use Rattle.tcl_core.specs.Programs.Wrap.{Deeper, Framed}
-use Rattle.tcl_core.specs.Runs.{World, Step, Ending, Halts, Exits, Exiting, carried, lessened, reached, where_stands, ends_call, height_of}
+use Rattle.tcl_core.specs.Runs.{World, Step, Ending, Halts, Exits, Exiting, carried, lessened, reached, ends_call, height_of}
 use Rattle.tcl_core.specs.Rules.{Derives, IsOn}
 use Rattle.tcl_core.specs.Rules.Derives.{completed, exited, acted, refused, unheard, went, passed, halted, wrapped, wrapped_passed, wrapped_halted, too_deep, shut, unheard_inside, called, called_passed, called_halted, unreached, called_out, unanswered, unfit, answered, heard, answered_passed, entered, entered_halted, entered_exiting, born, fallen}
 use Rattle.tcl_core.specs.Laws.{ends_in, raised_in, raised_at, freed, unmoved_by, Unmoved, Obeys, Stopping}
 use Rattle.tcl_core.proofs.PathLaws.{not_both, Some-inj, strip_own, strip-sound, rise_to_within, rise_to_out, rise_to_elsewhere, rise_back}
-use Rattle.tcl_core.proofs.TreeLaws.{metered_here, opens_here}
+use Rattle.tcl_core.proofs.TreeLaws.{metered_here, opens_here, reached_at}
 use Rattle.tcl_core.proofs.Seeing.{rise-measure}
 use Rattle.tcl_core.proofs.RuleLaws.{runs_derived}
 
@@ -240,10 +240,6 @@ caller_ends c p a (Some h) down q2 b r e f g k = here (strip c p) refl
     here (Some q) j = risen q j (rise_to (Some h) q) refl
 
 module _ {O I : Type 0} (c : Place) (prog : Table O I) where
-  reached_at : (n : Option (Node O)) (t p : Place) → where_stands n p ≡ Some t → t ≡ p
-  reached_at None t p e = absurd (not_both refl e)
-  reached_at (Some n) t p e = sym (Some-inj p e)
-
   -- what a call's entry is asked for, where its caller goes on, or ends so
   call_demand : (p a t : Place) (h : Height) (down : Path) (u : World O) (left told : World O) (r : Reply) → rise_to h p ≡ Some a → reached u.tree a down ≡ Some t → Step left t (Done (Some (length down)) r) told →
       ((q : Place) → strip c p ≡ Some q → ends_in q (carried h p down r) ≡ true → Unmoved c told.tape) → Demand c t (Some r) left

@@ -15,7 +15,7 @@ use Rattle.tcl_core.specs.Programs.{Wrap, Next, Deed, spot, Act, decide, opens, 
 use Rattle.tcl_core.specs.Programs.Next.{On, TooDeep, Off}
 use Rattle.tcl_core.specs.Programs.Act.{Look, Change, Charge, Limit, LimitDepth, Make, Drop}
 use Rattle.tcl_core.specs.Programs.Wrap.{Deeper, Framed}
-use Rattle.tcl_core.specs.Runs.{World, Step}
+use Rattle.tcl_core.specs.Runs.{World, Step, where_stands}
 use Rattle.tcl_core.specs.Views.{grants_of, moves_of, kept, view, inside_of, from_above}
 use Rattle.tcl_core.proofs.PathLaws.{strip-sound, beside, not_both, Some-inj, strip-append, strip_own, apart, at_end-apart, seen_past, seen_near}
 
@@ -347,3 +347,17 @@ module _ {O : Type 0} where
   pub opens_here : (b : Wrap O) (T : Tree O) (p : Place) (gs : Grants) (x : Deed O) → opens b T p gs ≡ Some x → x.0 ≡ None
   opens_here Deeper T p gs x e = metered_here Depth Nested (blocked is_deep T p) gs x e
   opens_here (Framed o back) T p gs x e = ap (λ z. z.0) (sym (Some-inj (changing o (T p)) e)) ∙ changing_here o (T p)
+
+-- a name's interpreter is where its own interpreter is, or its child
+pub spot_in : (c p q : Place) (s : Option (List ℕ)) → strip c p ≡ Some q → strip c (spot p s) ≡ Some (spot q s)
+spot_in c p q s e = ap (λ r. strip c (spot r s)) (strip-sound c p q e) ∙ ap (strip c) (spot_within c q s) ∙ strip_own c (spot q s)
+
+-- whoever is reached stands there
+pub reached_at : {O : Type 0} (n : Option (Node O)) (t p : Place) → where_stands n p ≡ Some t → t ≡ p
+reached_at None t p e = absurd (not_both refl e)
+reached_at (Some n) t p e = sym (Some-inj p e)
+
+-- a budget says nothing more where it refuses
+pub denied_budget : (o : Option Place) (n : ℕ) → denied o (Budget n) ≡ Budget n
+denied_budget None n = refl
+denied_budget (Some a) n = refl

@@ -37,12 +37,12 @@ abbrev NoCutEnd : Ending → Type 0
 NoCutEnd None = Unit {0}
 NoCutEnd (Some r) = NotCut r
 
-on_no_cut : (n : Next) → IsOn n → IsNoCut n
+pub on_no_cut : (n : Next) → IsOn n → IsNoCut n
 on_no_cut On f = tt
 on_no_cut TooDeep f = tt
 on_no_cut (Off r) f = absurd f
 
-off_no_cut : (n : Next) (r : Reply) → n ≡ Off r → NotCut r → IsNoCut n
+pub off_no_cut : (n : Next) (r : Reply) → n ≡ Off r → NotCut r → IsNoCut n
 off_no_cut n (Completed c) e f = subst IsNoCut (sym e) tt
 off_no_cut n (Stop l m) e f = subst IsNoCut (sym e) tt
 off_no_cut n (Exit l) e f = subst IsNoCut (sym e) tt

@@ -28,7 +28,7 @@ use Rattle.tcl_core.proofs.RuleLaws.{Ruled, derived_runs, runs_derived, enter_ru
 use Rattle.tcl_core.proofs.Budgets.{budgeted}
 use Rattle.tcl_core.proofs.Balance.{in_at, done_at, ins, dones, Owes, owes, visit_owes, view_ins, view_dones}
 use Rattle.tcl_core.proofs.Reacting.{IsHanded, IsLasting, lasting, lasts, no_move, exits_idle, visit_budget, after_visit, balanced_after, never_halts, lift_visits, life_of}
-use Rattle.tcl_core.proofs.Outside.{halted_tape}
+use Rattle.tcl_core.proofs.Halts.{halted_tape}
 use Rattle.tcl_core.proofs.Parting.{cut, Beyond, Stops, Result, Run_of, part}
 use Rattle.tcl_core.proofs.Conclusions.{determinism, lives_within}
 

@@ -7,6 +7,7 @@ use Rattle.tcl_text.specs.Lists.{list_of}
 use Rattle.tcl_text.specs.declared.list.ListFault.{ListFault}
 use Rattle.tcl_words.specs.Outcomes.{Outcome, next}
 use Rattle.tcl_words.specs.Words.{list_or}
+use Rattle.tcl_words.proofs.WordLemmas.{limited_within}
 use Rattle.tcl_value.specs.Limits.{IsWithin}
 use Rattle.tcl_value.specs.Writing.{write}
 use Rattle.tcl_value.specs.Texts.{flat}
@@ -14,13 +15,10 @@ use Rattle.tcl_value.specs.Dicts.{Pairs, put, value_of, dict_of}
 use Rattle.tcl_value.specs.Inside.{at_list, at_dict, value_or_empty, entry_made, elements_added}
 use Rattle.tcl_value.specs.declared.dict_fault.DictFault.{DictFault}
 use Rattle.tcl_nested.proofs.Lengths.{value_longer}
+use Rattle.tcl_nested.proofs.Places.{same_some}
 use Rattle.tcl_lists.specs.Lists.{Texts, list_value}
-use Rattle.tcl_lists.proofs.Lengths.{limited_within}
 use Rattle.tcl_dicts.specs.Dicts.{dict_or, dict_value}
 use Rattle.tcl_dicts.specs.Changing.{lengthened, lappend_of, put_of, joined, appended, append_of}
-
-same_some : (x y : List ℕ) → ◌≡◌ {A = Option (List ℕ)} (Some x) (Some y) → x ≡ y
-same_some x y e = cc
 
 made_up : (o : Option (List ℕ)) (es : Pairs) (k now : List ℕ) → option_map (λ x. write (flat (put es k x))) o ≡ Some now → (x : List ℕ) × (o ≡ Some x) × (write (flat (put es k x)) ≡ now)
 made_up (Some x) es k now e = (x, refl, same_some (write (flat (put es k x))) now e)

@@ -8,12 +8,12 @@ use Rattle.tcl_value.specs.declared.value.ValueError.{ValueError}
 use Rattle.tcl_value.specs.declared.value.ValueError.TheVariants.{Memory as NoMemory, TooLong}
 use Rattle.tcl_words.specs.Outcomes.{Outcome, Refuses, next}
 use Rattle.tcl_words.specs.Faults.{too_long}
+use Rattle.tcl_words.proofs.WordLemmas.{limited_past}
 use Rattle.tcl_value.specs.Limits.{IsPast}
 use Rattle.tcl_value.specs.Writing.{write}
 use Rattle.tcl_value.specs.Texts.{flat}
 use Rattle.tcl_value.specs.Dicts.{Pairs, put, without}
 use Rattle.tcl_lists.specs.Lists.{Texts}
-use Rattle.tcl_lists.proofs.Lengths.{limited_past}
 use Rattle.tcl_dicts.specs.Dicts.{put_within, put_words, without_within}
 
 pub put_past : (es : Pairs) (k v : List ℕ) → IsPast (write (flat (put es k v))) → put_within es k v ≡ Err too_long

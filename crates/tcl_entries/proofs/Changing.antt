@@ -6,7 +6,7 @@ use Rattle.std.specs.Str.{bytes_eq}
 use Rattle.tcl_core.specs.Paths.{Text}
 use Rattle.tcl_language.specs.Interpreters.{refusal_text}
 use Rattle.tcl_language.specs.Naming as language
-use Rattle.tcl_language.specs.Naming.{command_name, of_global, without_colons}
+use Rattle.tcl_language.specs.Naming.{command_name, of_global, without_colons, with_word}
 use Rattle.tcl_language.specs.Names.{is_name}
 use Rattle.tcl_tree.specs.Changes as changes
 use Rattle.tcl_tree.specs.Changes.{is_child, is_alias, is_colon, with_command, without_command}
@@ -52,10 +52,6 @@ is_plain : (x plain : Text) → command_name x ≡ Some plain → changes.is_com
 is_plain x plain e = ap not (sym (has_same plain) ∙ kept_plain x plain e)
 
 -- ## What the table makes of a name, with the word that is wrong
-
-abbrev pub with_word : Text → tree.Named → language.Named
-with_word x (Ok own) = Ok own
-with_word x (Err e) = Err (e, x)
 
 kept_child : (b : Bool) (x : Text) (k : tree.Named) → cond b (Err (refusal.Exists, x)) (with_word x k) ≡ with_word x (cond b (Err refusal.Exists) k)
 kept_child true x k = refl

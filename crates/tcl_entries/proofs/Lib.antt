@@ -4,7 +4,6 @@ pub mod Changing
 pub mod Counting
 pub mod Listed
 pub mod Looks
-pub mod Numbers
 pub mod Reached
 pub mod Served
 pub mod Standing

@@ -1,17 +1,13 @@
 -- The names of commands and children, in order.
-use Rattle.std.proofs.Common.{◌≡◌, ℕ, zero, suc, ◌+◌, ◌≤◌, List, [], ◌∷◌, ◌++◌, drop, length, Some, None, refl, sym, ◌∙◌, ap, append-nil, append_assoc, add-one}
+use Rattle.std.proofs.Common.{◌≡◌, ℕ, ◌+◌, ◌≤◌, List, [], ◌∷◌, ◌++◌, drop, length, Some, refl, sym, ◌∙◌, ap, append-nil, append_assoc, add-one}
 use Rattle.std.specs.Prelude.{slice_get}
 use Rattle.std.proofs.Math.ListN.{drop_of_length-le}
 use Rattle.tcl_core.specs.Paths.{Text}
 use Rattle.tcl_language.specs.Interpreters.{alias_only, aliases_in, names_in}
 use Rattle.tcl_tree.specs.Own.{CommandMap}
 use Rattle.tcl_interpreter.specs.declared.command.Command.{Command}
+use Rattle.tcl_text.proofs.Items.{drop_at}
 use Rattle.tcl_entries.specs.Listing.{first_of}
-
-drop_at : {A : Type 0} (xs : List A) (i : ℕ) (x : A) → slice_get xs i ≡ Some x → drop i xs ≡ x ∷ drop (suc i) xs
-drop_at [] i x e = let clash : None ≡ Some x = e in cc
-drop_at (y ∷ ys) zero x e = let same : y ≡ x = cc in ap (λ z. z ∷ ys) same
-drop_at (y ∷ ys) (suc i) x e = drop_at ys i x e
 
 pub alias_step : (es : CommandMap) (i : ℕ) (name : Text) (c : Command) → slice_get es i ≡ Some (name, c) → alias_only name c (aliases_in (drop (i + 1) es)) ≡ aliases_in (drop i es)
 alias_step es i name c e = ap (λ n. alias_only name c (aliases_in (drop n es))) (add-one i) ∙ sym (ap aliases_in (drop_at es i (name, c) e))

@@ -24,6 +24,7 @@ use Rattle.tcl_run.specs.declared.interruption.Interruption.TheVariants as inter
 use Rattle.tcl_run.proofs.Endings.{IfEnded-more, Interrupts-more}
 use Rattle.tcl_run.proofs.Leads.{at_prog, at_reply}
 use Rattle.tcl_text.specs.declared.integer.Integers.{Integers}
+use Rattle.tcl_text.proofs.Items.{one_item}
 use Rattle.tcl_tree.specs.Commands.{AliasView}
 use Rattle.tcl_tree.specs.Own.{Own}
 use Rattle.tcl_tree.specs.TreeOf.{tree_of, Names}
@@ -81,33 +82,6 @@ running_there t place h = (h.0, h.1)
 -- a program that fails
 pub fails_told : {S : Type 0} (goes : Going S) (t : Table) (o : S) (place : TablePlace) (whole : Styled) (message : Text) (i : Interruption) → ((style : Integers) → whole style ≡ fails message) → Interrupts i (λ e. e ≡ Completed (failing message)) → Interrupts i (EndsIn goes t o place whole (tree_of t) o)
 fails_told goes t o place whole message i same told = Interrupts-more i (λ e. e ≡ Completed (failing message)) (EndsIn goes t o place whole (tree_of t) o) (λ e f p style at. at_prog (same style) (at_reply f completed)) told
-
--- ## Words by their number
-
-module _ {A : Type 0} where
-  pub one_item : (xs : List A) (x : A) → 1 ≤ length xs → length xs < 2 → x ≡ get_or xs 0 x → xs ≡ x ∷ []
-  one_item [] x h k e = absurd (omega arith)
-  one_item (y ∷ []) x h k e = ap (λ z. z ∷ []) (sym e)
-  one_item (y ∷ z ∷ zs) x h k e = absurd (omega arith)
-
-  pub two_items : (xs : List A) (x y : A) → 2 ≤ length xs → length xs < 3 → x ≡ get_or xs 0 x → y ≡ get_or xs 1 y → xs ≡ x ∷ y ∷ []
-  two_items [] x y h k e d = absurd (omega arith)
-  two_items (a ∷ []) x y h k e d = absurd (omega arith)
-  two_items (a ∷ b ∷ []) x y h k e d = ap (λ z. z ∷ b ∷ []) (sym e) ∙ ap (λ z. x ∷ z ∷ []) (sym d)
-  two_items (a ∷ b ∷ c ∷ cs) x y h k e d = absurd (omega arith)
-
-  pub three_items : (xs : List A) (x y z : A) → 3 ≤ length xs → length xs < 4 → x ≡ get_or xs 0 x → y ≡ get_or xs 1 y → z ≡ get_or xs 2 z → xs ≡ x ∷ y ∷ z ∷ []
-  three_items [] x y z h k e d f = absurd (omega arith)
-  three_items (a ∷ bs) x y z h k e d f = ap (λ w. w ∷ bs) (sym e) ∙ ap (λ ws. x ∷ ws) (two_items bs y z (omega arith) (omega arith) d f)
-
-  pub four_items : (xs : List A) (x y z w : A) → 4 ≤ length xs → length xs < 5 → x ≡ get_or xs 0 x → y ≡ get_or xs 1 y → z ≡ get_or xs 2 z → w ≡ get_or xs 3 w → xs ≡ x ∷ y ∷ z ∷ w ∷ []
-  four_items [] x y z w h k e d f b = absurd (omega arith)
-  four_items (a ∷ bs) x y z w h k e d f b = ap (λ v. v ∷ bs) (sym e) ∙ ap (λ ws. x ∷ ws) (three_items bs y z w (omega arith) (omega arith) d f b)
-
-  -- a first item, and those behind it
-  pub first_item : (xs : List A) (x : A) → 1 ≤ length xs → x ≡ get_or xs 0 x → xs ≡ x ∷ drop 1 xs
-  first_item [] x h e = absurd (omega arith)
-  first_item (y ∷ ys) x h e = ap (λ z. z ∷ ys) (sym e)
 
 pub asked_none : (form : Text) (entry : Entry) (args : List Text) → length args < 1 → asked_of form entry args ≡ asks [] entry
 asked_none form entry [] h = refl

@@ -1,5 +1,5 @@
 -- What is a run over a host as an outside is a run with the host, and the whole evaluation.
-use Rattle.std.proofs.Common.{◌≡◌, ◌∙◌, ℕ, ◌+◌, Bool, true, false, [], ◌∷◌, Option, Some, refl, sym, ap, subst}
+use Rattle.std.proofs.Common.{◌≡◌, ◌∙◌, ℕ, ◌+◌, Bool, true, false, [], Some, refl, sym, ap, subst}
 use Rattle.std.specs.Prelude.{Result, Ok, Err, IfErr, IfNone, IfOk, IfSome, is_some, nat_le}
 use Rattle.tcl_budgets.specs.Laws.{ScriptsKeepBudgets}
 use Rattle.tcl_budgets.proofs.Tables.{orderly}
@@ -7,7 +7,7 @@ use Rattle.tcl_core.specs.Entries.Entry.{Eval}
 use Rattle.tcl_core.specs.Lives.{End as Ending, Whole, limited, unlimited}
 use Rattle.tcl_core.specs.Paths.{Path, Text}
 use Rattle.tcl_core.specs.Runs.{entering}
-use Rattle.tcl_core.specs.Trees.{Tree, Node, effect, with_limit}
+use Rattle.tcl_core.specs.Trees.{Tree, Node, effect}
 use Rattle.tcl_core.specs.Trees.What.{Limited}
 use Rattle.tcl_core.proofs.PathLaws.{Some-inj}
 use Rattle.tcl_host.specs.declared.reply.HostReply.{HostReply}
@@ -23,6 +23,7 @@ use Rattle.tcl_run.specs.Outsides.{hosted}
 use Rattle.tcl_run.specs.Runs.{Comes, ways}
 use Rattle.tcl_run.proofs.Leads.{at_prog}
 use Rattle.tcl_run.proofs.Losing.{not_at_all}
+use Rattle.tcl_run.proofs.Steady.{stands, still_stands}
 use Rattle.tcl_text.specs.declared.integer.Integers.{Integers}
 use Rattle.tcl_tree.specs.Own.{Own}
 use Rattle.tcl_tree.specs.TreeOf.{tree_of, marks_of}
@@ -33,7 +34,6 @@ use Rattle.tcl_eval.specs.Running.{AsksFirst, IsBudgeted, IsGivenUp, IsOpenRun, 
 use Rattle.tcl_eval.specs.declared.running.End.{End}
 use Rattle.tcl_eval.specs.declared.running.Refused.{Refused}
 use Rattle.tcl_eval.specs.declared.running.Refused.TheVariants as refused
-use Rattle.tcl_evaluation.proofs.Steps.{stands}
 
 module _ {S : Type 0} (step : S → Request → HostReply → S → Type 0) (old : Table) (o : S) (path : Path) (script : Text) (most : ℕ) (new : Table) (z : S) where
   -- the host is told nothing of the end
@@ -51,11 +51,6 @@ module _ {S : Type 0} (step : S → Request → HostReply → S → Type 0) (old
   if_hosted (Err e) run = tt
 
 -- ## The whole evaluation
-
--- who stands in a tree stands there when its root has another limit
-pub still_stands : (T : Tree Own) (l : Option ℕ) (p : Path) (n : Node Own) → T p ≡ Some n → (m : Node Own) × (effect [] (Limited l) T p ≡ Some m)
-still_stands T l [] n e = (record n { limit = l }, ap (with_limit l) e)
-still_stands T l (x ∷ p) n e = (n, e)
 
 module _ {S : Type 0} (step : S → Request → HostReply → S → Type 0) (old : Table) (o : S) (path : Path) (script : Text) (limit : ℕ) (new : Table) (z : S) where
   is_whole : (e : End) → is_some (tree_of old path) ≡ true → IsRun (hosted step) old o path script (root_count old + limit) new z e → IsWhole step old o path script limit new z e

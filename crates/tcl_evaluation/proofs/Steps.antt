@@ -1,9 +1,6 @@
 -- What the parts of words, words and commands come to, step by step.
-use Rattle.std.proofs.Common.{◌≡◌, ◌⊎◌, inl, inr, ℕ, suc, pos, ◌+◌, ◌-◌, ◌<◌, ◌≤◌, Bool, true, false, List, [], ◌∷◌, ◌++◌, take, drop, get_or, length, Option, Some, None, refl, sym, ◌∙◌, ap, subst, arith, add-one, ◌==◌}
-use Rattle.std.specs.Prelude.{Result, Ok, Err, MatchResult, IfErr, IfOk, OnOk, is_some}
-use Rattle.std.proofs.Math.Seq.{drop-cons, take-length}
-use Rattle.std.proofs.Math.ListN.{drop_of_length-le}
-use Rattle.std.proofs.lemmas.Bool.Decides.{nat_tests}
+use Rattle.std.proofs.Common.{◌≡◌, ◌⊎◌, inl, inr, ℕ, pos, ◌≤◌, Bool, true, false, List, [], ◌∷◌, ◌++◌, length, Option, Some, None, refl, sym, ◌∙◌, ap, subst, arith}
+use Rattle.std.specs.Prelude.{Result, Ok, Err, MatchResult, IfErr, IfOk, OnOk}
 use Rattle.tcl_core.specs.Runs.{Ending}
 use Rattle.tcl_core.specs.Paths.{Path}
 use Rattle.tcl_core.specs.Endings.{Completion, Reply, ok}
@@ -53,43 +50,6 @@ EndsFrom ways old o place program new z e = (p : Path) (style : Integers) → Is
 abbrev pub EndsAt : {S : Type 0} → Ways S → Table → S → TablePlace → (Integers → Program) → Table → S → Ending → Type 0
 EndsAt ways old o place program new z e = (p : Path) (style : Integers) → IsThere old place p style → Proceeds ways (language style) (tree_of old) o p (program style) (tree_of new) z e
 
--- ## Lists by their items
-
-module _ {A : Type 0} where
-  pub no_item : (xs : List A) → length xs < 1 → xs ≡ []
-  no_item [] h = refl
-  no_item (y ∷ ys) h = absurd (omega arith)
-
-  pub one_item : (xs : List A) (x : A) → 1 ≤ length xs → length xs < 2 → x ≡ get_or xs 0 x → xs ≡ x ∷ []
-  one_item [] x h k e = absurd (omega arith)
-  one_item (y ∷ []) x h k e = ap (λ z. z ∷ []) (sym e)
-  one_item (y ∷ z ∷ zs) x h k e = absurd (omega arith)
-
-  pub two_items : (xs : List A) (x y : A) → 2 ≤ length xs → length xs < 3 → x ≡ get_or xs 0 x → y ≡ get_or xs 1 y → xs ≡ x ∷ y ∷ []
-  two_items [] x y h k e d = absurd (omega arith)
-  two_items (a ∷ []) x y h k e d = absurd (omega arith)
-  two_items (a ∷ b ∷ []) x y h k e d = ap (λ z. z ∷ b ∷ []) (sym e) ∙ ap (λ z. x ∷ z ∷ []) (sym d)
-  two_items (a ∷ b ∷ c ∷ cs) x y h k e d = absurd (omega arith)
-
-  pub item_on : (xs : List A) (i : ℕ) (x : A) → i < length xs → x ≡ get_or xs i x → drop i xs ≡ x ∷ drop (i + 1) xs
-  item_on xs i x h e = drop-cons xs i x h ∙ ap (λ z. z ∷ drop (suc i) xs) (sym e) ∙ ap (λ j. x ∷ drop j xs) (sym (add-one i))
-
-  -- a first item, and those behind it
-  pub split_first : (xs : List A) (x : A) → 1 ≤ length xs → x ≡ get_or xs 0 x → xs ≡ x ∷ take (length xs - 1) (drop 1 xs)
-  split_first [] x h e = absurd (omega arith)
-  split_first (y ∷ ys) x h e =
-      let n : length (y ∷ ys) - 1 ≡ length ys = omega arith in
-      ap (λ z. z ∷ ys) (sym e) ∙ ap (λ zs. x ∷ zs) (sym (ap (λ m. take m ys) n ∙ take-length ys))
-
-  pub none_on : (xs : List A) (i : ℕ) → length xs ≤ i → drop i xs ≡ []
-  none_on xs i h = drop_of_length-le xs h
-
-pub zero_is : (n : ℕ) (b : Bool) → b ≡ (n == 0) → b ≡ true → n ≡ 0
-zero_is n b h e = grind (arith, nat_tests)
-
-pub some_is : (n : ℕ) (b : Bool) → b ≡ (n == 0) → b ≡ false → 1 ≤ n
-some_is n b h e = grind (arith, nat_tests)
-
 -- ## Interruptions
 
 -- how a text ends that is a word by itself
@@ -107,11 +67,6 @@ VariableEnds name n e = ((value : List ℕ) × (read n.own.chain.frames name ≡
 pub variable_ends : (r : Result (List ℕ) Interruption) (name : List ℕ) (n : Node Own) → IfOk r (λ v. fits v ≡ true) → Gave frame_message (read n.own.chain.frames name) r → IfEnded r (VariableEnds name n)
 variable_ends (Ok v) name n f g = inl (v, g, f, refl)
 variable_ends (Err i) name n f g = Interrupts-more i _ _ (λ e h. inr h) g
-
--- an interpreter whose key a place has
-pub stands : {A : Type 0} (o : Option A) → is_some o ≡ true → (a : A) × (o ≡ Some a)
-stands None e = let x : false ≡ true = e in cc
-stands (Some a) e = (a, refl)
 
 pub appended : {A P : Type 0} {B : Reply → Type 0} (Q : Ending → Type 0) (r : Result (Unit {0}) Interruption) → OnOk r A → IfErr r (λ i. Interrupts i B) → (A → P) → ((e : Reply) → B e → Q (Some e)) → Q None → MatchResult r (λ u. P) (λ i. Breaks i Q)
 appended Q (Ok u) f g h k n = h f

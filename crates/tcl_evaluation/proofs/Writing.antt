@@ -1,5 +1,5 @@
 -- What asking the host comes to.
-use Rattle.std.proofs.Common.{◌≡◌, ◌⊎◌, inl, inr, ◌<◌, ◌≤◌, List, [], ◌∷◌, length, get_or, Some, None, false, refl, sym, ◌∙◌, ap, subst, arith}
+use Rattle.std.proofs.Common.{◌≡◌, ◌⊎◌, inl, inr, ◌<◌, ◌≤◌, List, [], ◌∷◌, length, Some, None, false, refl, subst, arith}
 use Rattle.std.specs.Prelude.{Result, Err}
 use Rattle.std.proofs.lemmas.Bool.Decides.{nat_tests}
 use Rattle.tcl_core.specs.Endings.{Completion, Reply, ok}
@@ -64,13 +64,6 @@ writes_over ways old new o u z place channel text result i y leaves is same ends
     (λ e h p style at. ends_out ways style None [] (AskHost (Write channel text)) (ok []) (heard (written channel)) e (λ c. refl) refl (leaves p at.names) (h p style at))
 
 -- ## Words
-
-pub three_items : {A : Type 0} (xs : List A) (x y z : A) → 3 ≤ length xs → length xs < 4 → x ≡ get_or xs 0 x → y ≡ get_or xs 1 y → z ≡ get_or xs 2 z → xs ≡ x ∷ y ∷ z ∷ []
-three_items [] x y z h k e d f = absurd (omega arith)
-three_items (a ∷ []) x y z h k e d f = absurd (omega arith)
-three_items (a ∷ b ∷ []) x y z h k e d f = absurd (omega arith)
-three_items (a ∷ b ∷ c ∷ []) x y z h k e d f = ap (λ v. v ∷ b ∷ c ∷ []) (sym e) ∙ ap (λ v. x ∷ v ∷ c ∷ []) (sym d) ∙ ap (λ v. x ∷ y ∷ v ∷ []) (sym f)
-three_items (a ∷ b ∷ c ∷ v ∷ vs) x y z h k e d f = absurd (omega arith)
 
 -- no other words than one, two or three are put
 pub not_put : (xs : List Text) → (length xs < 1) ⊎ (4 ≤ length xs) → puts xs ≡ puts_form

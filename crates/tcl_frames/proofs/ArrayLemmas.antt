@@ -8,9 +8,10 @@ use Rattle.tcl_variables.specs.Arrays.{Elements, is_taken, taken}
 use Rattle.tcl_variables.specs.Faults.{Refuses}
 use Rattle.tcl_variables.specs.declared.fault.FrameError.{FrameError}
 use Rattle.tcl_variables.specs.declared.fault.FrameFault.{FrameFault}
+use Rattle.tcl_text.proofs.Items.{drop_at}
 use Rattle.tcl_frames.specs.Arrays.{of_elements, is_found, element_if}
 use Rattle.tcl_frames.specs.Chain.{kept_if}
-use Rattle.tcl_frames.proofs.NamesLemmas.{drop_at, drop_over, kept_append}
+use Rattle.tcl_frames.proofs.NamesLemmas.{drop_over, kept_append}
 
 keys_case : (b : Bool) (e : Text × Text) (es : Elements) → keys_of (cond b (e ∷ es) es) ≡ kept_if b e.0 (keys_of es)
 keys_case true e es = refl

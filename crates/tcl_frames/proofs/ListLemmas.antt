@@ -12,10 +12,8 @@ use Rattle.tcl_frames.specs.Places.{plus_link, links_in}
 use Rattle.tcl_frames.specs.Sound.{IsWithin, AreWithin}
 use Rattle.tcl_variables.specs.declared.variable.Variable.{Variable}
 use Rattle.tcl_variables.specs.declared.variable.Variable.TheVariants.{Scalar, Array, Link}
+use Rattle.tcl_variables.proofs.EntryLemmas.{same_bytes}
 use Rattle.tcl_frames.proofs.WalkLemmas.{test_of}
-
-pub same_bytes : (x y : Text) → bytes_eq x y ≡ true → x ≡ y
-same_bytes x y h = (bytes_decides x y).0 h
 
 pub bytes_same : (x y : Text) → x ≡ y → bytes_eq x y ≡ true
 bytes_same x y e = (bytes_decides x y).1 e

@@ -3,16 +3,12 @@ use Rattle.std.proofs.Common.{◌≡◌, ℕ, zero, suc, pred, ◌+◌, ◌-◌,
 use Rattle.std.proofs.lemmas.Bool.Decides.{nat_tests}
 use Rattle.tcl_variables.specs.Names.{Text}
 use Rattle.tcl_variables.specs.Variables.{Frame, Variables}
+use Rattle.tcl_text.proofs.Items.{drop_at}
 use Rattle.tcl_frames.specs.Places.{Levels, current, end_of}
 use Rattle.tcl_frames.specs.Chain.{holds, kept_if, names_held, names_own, is_own, variables_at, names_of}
 use Rattle.tcl_frames.specs.Reached.{start}
 use Rattle.tcl_variables.specs.declared.variable.Variable.{Variable}
 use Rattle.tcl_frames.specs.declared.scope.Scope.TheVariants.{Visible, Global, Local}
-
-pub drop_at : {A : Type 0} (xs : List A) (i : ℕ) (x : A) → slice_get xs i ≡ Some x → drop i xs ≡ x ∷ drop (suc i) xs
-drop_at [] i x e = absurd (cc)
-drop_at (y ∷ ys) zero x e = let same : y ≡ x = cc in ap (λ z. z ∷ ys) same
-drop_at (y ∷ ys) (suc i) x e = drop_at ys i x e
 
 pub kept_append : (b : Bool) (x : Text) (xs : List Text) → kept_if b x xs ≡ kept_if b x [] ++ xs
 kept_append true x xs = refl

@@ -12,7 +12,8 @@ use Rattle.tcl_frames.specs.Sound.{IsWithin, AreWithin, hop_to, hop_by, hop, End
 use Rattle.tcl_variables.specs.declared.variable.Place.{Place}
 use Rattle.tcl_variables.specs.declared.variable.Variable.{Variable}
 use Rattle.tcl_variables.specs.declared.variable.Variable.TheVariants.{Scalar, Array, Link}
-use Rattle.tcl_frames.proofs.ListLemmas.{link_at, links_inserted, links_removed, lookup_inserted, lookup_apart, lookup_removed, unique_inserted, unique_removed, within_inserted, within_removed, within_found, same_bytes, bytes_flip, at_true, at_false}
+use Rattle.tcl_variables.proofs.EntryLemmas.{same_bytes}
+use Rattle.tcl_frames.proofs.ListLemmas.{link_at, links_inserted, links_removed, lookup_inserted, lookup_apart, lookup_removed, unique_inserted, unique_removed, within_inserted, within_removed, within_found, bytes_flip, at_true, at_false}
 use Rattle.tcl_frames.proofs.WalkLemmas.{test_of, walk_on, walk_none, ends_at, ends_step, ends_back, ends_not_zero, ends_more, ends_add, ends_same, ends_fresh, ends_again}
 
 -- a name that is no link

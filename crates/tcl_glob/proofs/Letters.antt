@@ -1,7 +1,7 @@
 -- The letters of texts.
-use Rattle.std.proofs.Common.{◌≡◌, ℕ, ◌<◌, Bool, true, false, cond, List, [], ◌∷◌, ◌++◌, length, map, sym, ◌∙◌, ap, arith, length-append}
+use Rattle.std.proofs.Common.{◌≡◌, ℕ, ◌<◌, Bool, true, false, cond, List, [], ◌∷◌, ◌++◌, length, map, sym, ◌∙◌, ap, arith, length-append, drop}
 use Rattle.std.specs.Char.{to_ascii_lowercase, encode_utf8}
-use Rattle.std.specs.Str.{IsUtf8}
+use Rattle.std.specs.Str.{IsUtf8, chars}
 use Rattle.std.proofs.lemmas.Str.{chars_past_char, length-encode, len_utf8_bounds, chars-nil}
 use Rattle.tcl_glob.specs.Patterns.{letters}
 
@@ -22,3 +22,9 @@ pub found_letter : (nocase : Bool) (text old new rest : List ℕ) (c letter : �
 found_letter nocase text old new rest c letter u is_old is_new e is_letter =
     let whole : text ≡ encode_utf8 c ++ rest = sym is_old ∙ e ∙ ap (λ r. encode_utf8 c ++ r) (sym is_new) in
     (next_letter nocase text rest c u whole ∙ ap (λ l. l ∷ letters nocase rest) (sym is_letter), shorter_rest text rest c whole)
+
+-- what follows the first character, where the characters of old are those of the text and new is what follows
+pub behind_first : (text old new rest : List ℕ) (c : ℕ) → IsUtf8 text → old ≡ text → rest ≡ new → old ≡ encode_utf8 c ++ new → chars rest ≡ drop 1 (chars text)
+behind_first text old new rest c u is_old is_new e =
+    let whole : text ≡ encode_utf8 c ++ rest = sym is_old ∙ e ∙ ap (λ r. encode_utf8 c ++ r) (sym is_new) in
+    sym (ap (drop 1) (chars_past_char text rest c u whole))

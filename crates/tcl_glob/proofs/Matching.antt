@@ -5,22 +5,19 @@ use Rattle.std.proofs.lemmas.Bool.Decides.{nat_tests}
 use Rattle.std.specs.Str.{chars, IsUtf8}
 use Rattle.std.specs.Char.{to_ascii_lowercase}
 use Rattle.std.proofs.lemmas.Str.{encodes-chars}
-use Rattle.tcl_glob.proofs.Letters.{no_letter}
+use Rattle.std.proofs.lemmas.Bool.{or_right}
 use Rattle.std.specs.Prelude.{◌==◌, ◌&&◌, ◌||◌}
 use Rattle.tcl_glob.specs.Patterns.{PatternItem, run, any_one, one_of, plain, takes, some_end, matches_items, items, letters}
 use Rattle.tcl_glob.specs.Fronts.{whole, some, item_of}
 use Rattle.tcl_glob.specs.declared.Item.{Item}
 use Rattle.tcl_glob.specs.declared.Item.TheVariants.{Run, AnyOne, OneOf, Plain}
+use Rattle.tcl_glob.proofs.Letters.{no_letter}
 
 -- ---- tests
 
 pub or_left : (a b : Bool) → a ≡ true → (a || b) ≡ true
 or_left true b h = refl
 or_left false b h = absurd (cc)
-
-pub or_right : (a b : Bool) → b ≡ true → (a || b) ≡ true
-or_right true b h = refl
-or_right false b h = h
 
 pub or_cases : (a b : Bool) → (a || b) ≡ true → (a ≡ true) ⊎ (b ≡ true)
 or_cases true b h = inl refl

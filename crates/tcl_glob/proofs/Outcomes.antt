@@ -6,9 +6,10 @@ use Rattle.std.specs.Str.{chars, IsUtf8}
 use Rattle.std.proofs.lemmas.List.{map-append}
 use Rattle.std.proofs.lemmas.Str.{chars-append, chars-nil}
 use Rattle.std.proofs.lemmas.Bool.Decides.{nat_tests, Decides-eqb}
+use Rattle.std.proofs.lemmas.Bool.{or_right}
 use Rattle.tcl_glob.specs.Patterns.{PatternItem, run, plain, items, matches_items, some_end, letters}
 use Rattle.tcl_glob.specs.Laws.{IsPlain, Occurs, RunTakesFront, PlainMatchesItself, StarMatchesAll, StarsFindPlain}
-use Rattle.tcl_glob.proofs.Matching.{or_right, or_cases, some_from_whole}
+use Rattle.tcl_glob.proofs.Matching.{or_cases, some_from_whole}
 use Rattle.tcl_glob.proofs.Sets.{plain_first}
 
 -- ---- ends

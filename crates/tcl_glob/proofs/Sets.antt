@@ -2,11 +2,9 @@
 use Rattle.std.proofs.Common.{◌≡◌, ℕ, Bool, true, false, cond, List, [], ◌∷◌, refl, sym, ◌∙◌, ap, arith}
 use Rattle.std.specs.Prelude.{◌==◌, ◌≢◌, ◌||◌}
 use Rattle.std.proofs.lemmas.Bool.Decides.{nat_tests, Decides-eqb}
+use Rattle.std.proofs.lemmas.Bool.{ne_eqb}
 use Rattle.tcl_glob.specs.Patterns.{set_text, contains, is_between, run, any_one, one_of, plain, items, items_at, outside, escaped, inside}
 use Rattle.tcl_glob.specs.Fronts.{behind_set, range_end}
-
-other : (a b : ℕ) → a ≢ b → (a == b) ≡ false
-other a b h = grind (arith, nat_tests)
 
 equal : (a b : ℕ) → a ≡ b → (a == b) ≡ true
 equal a b h = (Decides-eqb a b).1 h
@@ -41,7 +39,7 @@ no_range a b cs h = choice (b == 93)
   where
     choice : (t : Bool) → range_end a (cond t [] (b ∷ set_text cs)) ≡ (a, cond t [] (b ∷ set_text cs))
     choice true = refl
-    choice false = no_minus a b (set_text cs) (other b 45 h)
+    choice false = no_minus a b (set_text cs) (ne_eqb b 45 h)
 
 pub last_minus : (a : ℕ) → range_end a (set_text (45 ∷ [])) ≡ (a, set_text (45 ∷ []))
 last_minus a = refl
@@ -54,7 +52,7 @@ closed_minus a d cs h = choice (d == 93) (equal d 93 h)
     choice false e = absurd (cc)
 
 pub one_range : (a d : ℕ) (cs : List ℕ) → d ≢ 93 → range_end a (set_text (45 ∷ d ∷ cs)) ≡ (d, set_text cs)
-one_range a d cs h = choice (d == 93) (other d 93 h)
+one_range a d cs h = choice (d == 93) (ne_eqb d 93 h)
   where
     choice : (t : Bool) → t ≡ false → range_end a (45 ∷ cond t [] (d ∷ set_text cs)) ≡ (d, set_text cs)
     choice true e = absurd (cc)
@@ -94,13 +92,13 @@ bracket_first cs c e = ap (λ d. items (d ∷ cs)) e ∙ ap (λ is. one_of (set_
 
 pub plain_first : (cs : List ℕ) (c : ℕ) → c ≢ 42 → c ≢ 63 → c ≢ 92 → c ≢ 91 → items (c ∷ cs) ≡ plain c ∷ items cs
 plain_first cs c no_star no_question no_backslash no_bracket =
-    at_false (c == 42) _ _ (other c 42 no_star) ∙ at_false (c == 63) _ _ (other c 63 no_question) ∙ at_false (c == 92) _ _ (other c 92 no_backslash) ∙ at_false (c == 91) _ _ (other c 91 no_bracket)
+    at_false (c == 42) _ _ (ne_eqb c 42 no_star) ∙ at_false (c == 63) _ _ (ne_eqb c 63 no_question) ∙ at_false (c == 92) _ _ (ne_eqb c 92 no_backslash) ∙ at_false (c == 91) _ _ (ne_eqb c 91 no_bracket)
 
 -- ---- the ranges of a set
 
 pub range_more : (cs after : List ℕ) (from letter to : ℕ) (among : Bool) → from ≢ 93 → to ≡ (range_end from (set_text cs)).0 → set_text after ≡ (range_end from (set_text cs)).1 → among ≡ is_between from to letter → among ≡ false → contains (set_text after) letter ≡ contains (set_text (from ∷ cs)) letter
 range_more cs after from letter to among no_close is_to is_rest is_among apart =
-    sym (ap (λ set. contains set letter) (at_false (from == 93) [] (from ∷ set_text cs) (other from 93 no_close))
+    sym (ap (λ set. contains set letter) (at_false (from == 93) [] (from ∷ set_text cs) (ne_eqb from 93 no_close))
     ∙ contains_range from (set_text cs) letter
     ∙ ap (λ d. is_between from d letter || contains (range_end from (set_text cs)).1 letter) (sym is_to)
     ∙ ap (λ t. t || contains (range_end from (set_text cs)).1 letter) (sym is_among ∙ apart)

@@ -5,7 +5,10 @@ ghost use Rattle.std.specs.Prelude.{◌≡◌, ◌∷◌, ◌<◌, ◌≤◌, �
 ghost use Rattle.tcl_glob.specs.Patterns.{items, items_at, escaped, set_text, contains, is_between, takes, letters, is_match};
 ghost use Rattle.tcl_glob.specs.Fronts.{item_of, behind_set, range_end, some, IsFront};
 
+pub mod characters;
 pub mod laws;
+
+use crate::characters::first_letter;
 
 /// An item of a pattern.
 #[derive(Clone, Copy)]
@@ -191,19 +194,4 @@ fn is_between(a: char, b: char, letter: char) -> bool
     ensures { result ≡ is_between a b letter }
 {
     (a <= letter && letter <= b) || (b <= letter && letter <= a)
-}
-
-/// The first character of a text, in lower case if it is an ASCII letter and case doesn't count, and what follows it.
-fn first_letter(text: &str, nocase: bool) -> Option<(char, &str)>
-    ensures { MatchOption result (letters nocase text.now ≡ [])
-        (λ found. (letters nocase text.now ≡ found.0 ∷ letters nocase found.1.now) × (length found.1.now < length text.now)) }
-{
-    let mut characters = text.chars();
-    let first = characters.next()?;
-    let letter = if nocase {
-        first.to_ascii_lowercase()
-    } else {
-        first
-    };
-    Some((letter, characters.as_str()))
 }

@@ -14,7 +14,7 @@ use Rattle.tcl_core.specs.Trees.{Event, Grants, Node, Tree, What, granted}
 use Rattle.tcl_core.specs.Trees.Grant.{Allow, Deny}
 use Rattle.tcl_core.specs.Trees.Grants.{Listed, Budget}
 use Rattle.tcl_core.specs.Trees.What.{Seen, Charged, Refused, Nested, Limited, DepthLimited, Out, In, Done, Back}
-use Rattle.tcl_core.proofs.PathLaws.{not_both, Some-inj, rise_some}
+use Rattle.tcl_core.proofs.PathLaws.{not_both, Some-inj, rise_some, child_no_top}
 use Rattle.tcl_core.proofs.TreeLaws.{blocked_near}
 use Rattle.tcl_core.proofs.Unended.{IsNoCut}
 use Rattle.tcl_host.specs.declared.reply.HostReply.{HostReply as TheirReply}
@@ -22,11 +22,6 @@ use Rattle.tcl_host.specs.declared.request.Request.{Request as TheirRequest}
 use Rattle.tcl_run.specs.Outsides.{hosted, hosted_at}
 use Rattle.tcl_tree.specs.Own.{Own}
 use Rattle.tcl_hosting.proofs.Nearness.{Inside, Near}
-
--- a child is no top
-child_no_top : (p : Place) (name : List ℕ) → p ++ name ∷ [] ≡ [] → Prim.⊥
-child_no_top [] name e = cc
-child_no_top (x ∷ p) name e = cc
 
 -- the act sets no limit of steps
 abbrev pub SetsNone : {O : Type 0} → Act O → Type 0

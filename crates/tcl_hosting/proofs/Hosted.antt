@@ -1,8 +1,9 @@
 -- What comes with an outside that goes as a host does comes with the host and the call that is open to it, and the same happens: one proof over how runs come.
 use Rattle.std.proofs.Common.{◌≡◌, refl, sym, ◌∙◌, ap, subst, ℕ, Bool, true, false, ◌+◌, ◌-◌, nat_lt, List, [], ◌∷◌, ◌++◌, Option, Some, None, length}
+use Rattle.std.proofs.lemmas.Bool.{false≢true}
 use Rattle.tcl_core.specs.Endings.{Completion, Meter, Reply, IsQuit, error}
 use Rattle.tcl_core.specs.Endings.Reply.{Completed, Stop, Exit, Cut}
-use Rattle.tcl_core.specs.Entries.{Answer, Entry, Said}
+use Rattle.tcl_core.specs.Entries.{Answer, Entry}
 use Rattle.tcl_core.specs.Entries.Answer.{Replied, Heard}
 use Rattle.tcl_core.specs.Entries.Entry.{AskHost}
 use Rattle.tcl_core.specs.Entries.Said.{Finished, Told as told_so}
@@ -11,14 +12,16 @@ use Rattle.tcl_core.specs.Programs.{Act, Calls_only, Prog, Table, Wait, spot, cl
 use Rattle.tcl_core.specs.Programs.Act.{Look, Change, Charge, Limit, LimitDepth, Make, Drop}
 use Rattle.tcl_core.specs.Programs.Next.{Off}
 use Rattle.tcl_core.specs.Programs.Prog.{done, exit, act, go, inside, call, wait}
-use Rattle.tcl_core.specs.Runs.{carried, entering, fits, height_of, lessened, reached, where_stands}
+use Rattle.tcl_core.specs.Runs.{carried, entering, fits, height_of, lessened, reached}
 use Rattle.tcl_core.specs.Threads.{Threads, event, passing}
 use Rattle.tcl_core.specs.Threads.Threads.{completed, exited, acted, refused, went, passed, wrapped, wrapped_passed, too_deep, shut, called, called_passed, unreached, called_out, answered, heard, answered_passed, entered, entered_exiting}
 use Rattle.tcl_core.specs.Trees.{Event, Node, Tree, What, at}
 use Rattle.tcl_core.specs.Trees.What.{Out, In, Done, Back}
 use Rattle.tcl_core.specs.Trees.Move.{Come}
-use Rattle.tcl_core.proofs.PathLaws.{not_both, Some-inj, rise_back}
+use Rattle.tcl_core.proofs.PathLaws.{rise_back}
 use Rattle.tcl_core.proofs.Unended.{IsNoCut, NotCut}
+use Rattle.tcl_core.proofs.Callers.{waits_for, Fits, no_wait, fit, entering_calls}
+use Rattle.tcl_core.proofs.TreeLaws.{reached_at}
 use Rattle.tcl_hosting.specs.Limits.{AsksBelow, HasTop, KeepTops, LimitsBelow, sets_steps}
 use Rattle.tcl_host.specs.declared.reply.HostReply.{HostReply as TheirReply}
 use Rattle.tcl_host.specs.declared.request.Request.{Request as TheirRequest}
@@ -29,12 +32,6 @@ use Rattle.tcl_hosting.proofs.Nearness.{Inside, Near, top_near}
 use Rattle.tcl_hosting.proofs.Holding.{Goes, Holding, holding, keeps_call, within, asks, hears, misses}
 use Rattle.tcl_hosting.proofs.Deeds.{Goes_so, SetsNone, closes_near, decides_near, opens_near, unheard}
 use Rattle.tcl_hosting.proofs.Taping.{Taped}
-
-no_true : {A : Type 0} → false ≡ true → A
-no_true e = absurd (bad e)
-  where
-    bad : false ≡ true → Prim.⊥
-    bad f = cc
 
 lessened_uncut : (b : Bool) (n : ℕ) (m : Meter) → NotCut (lessened b n m)
 lessened_uncut true n m = tt
@@ -69,44 +66,12 @@ asked_below [] (x ∷ down) i f e = cc
 asked_below (y ∷ a) (x ∷ down) i f e = cc
 
 module _ {O I : Type 0} where
-  -- the call that a program waits for
-  abbrev pub waits_for : Prog O I → Wait
-  waits_for (wait s k) = s
-  waits_for x = None
-
-  -- it goes on as what calls
-  abbrev pub Fits : Prog O I → Type 0
-  Fits (wait s k) = (a : Said) → Calls_only (k a)
-  Fits x = Calls_only x
-
-  pub no_wait : (x : Prog O I) → Calls_only x → waits_for x ≡ None
-  no_wait (done c) f = refl
-  no_wait (exit n) f = refl
-  no_wait (act d k) f = refl
-  no_wait (go i k) f = refl
-  no_wait (inside b i k) f = refl
-  no_wait (call h down i lost k) f = refl
-  no_wait (wait s k) f = absurd f
-
-  pub fit : (x : Prog O I) → Calls_only x → Fits x
-  fit (done c) f = f
-  fit (exit n) f = f
-  fit (act d k) f = f
-  fit (go i k) f = f
-  fit (inside b i k) f = f
-  fit (call h down i lost k) f = f
-  fit (wait s k) f = absurd f
-
-  pub entering_calls : (prog : Table O I) (n : Option (Node O)) (i : Entry) → Calls_only (entering prog n i)
-  entering_calls prog None i = tt
-  entering_calls prog (Some n) i = prog.entries_call i
-
 module _ {O I : Type 0} (fine : I → Bool) where
   -- what sets no limit may set one
   weaken : (x : Prog O I) → LimitsBelow fine false x → LimitsBelow fine true x
   weaken (done c) f = tt
   weaken (exit n) f = tt
-  weaken (act (Limit l) k) f = no_true f.0
+  weaken (act (Limit l) k) f = absurd (false≢true f.0)
   weaken (act Look k) f = λ T. weaken (k T) (f T)
   weaken (act (Change own) k) f = λ T. weaken (k T) (f T)
   weaken (act Charge k) f = λ T. weaken (k T) (f T)
@@ -126,7 +91,7 @@ module _ {O I : Type 0} (fine : I → Bool) where
   sets_none Look k f = tt
   sets_none (Change own) k f = tt
   sets_none Charge k f = tt
-  sets_none (Limit l) k f = no_true f.0
+  sets_none (Limit l) k f = absurd (false≢true f.0)
   sets_none (LimitDepth l) k f = tt
   sets_none (Make name own s) k f = tt
   sets_none (Drop name) k f = tt
@@ -148,12 +113,8 @@ module _ {O I : Type 0} (fine : I → Bool) where
   entering_limits prog keep (Some n) i [] f = keep.entries i (f refl)
   entering_limits prog keep (Some n) i (y ∷ t) f = keep.limiting i
 
-reached_at : {O : Type 0} (n : Option (Node O)) (t p : Place) → where_stands n p ≡ Some t → t ≡ p
-reached_at None t p e = absurd (not_both refl e)
-reached_at (Some n) t p e = sym (Some-inj p e)
-
 -- an entry within the tree comes from there
-comes_within : {O : Type 0} (T : Tree O) (a t : Place) (down : Path) → reached T a down ≡ Some t → Inside (Some (length down)) t
+pub comes_within : {O : Type 0} (T : Tree O) (a t : Place) (down : Path) → reached T a down ≡ Some t → Inside (Some (length down)) t
 comes_within T a t down e = (a, ap (rise_to (Some (length down))) (reached_at (T (a ++ down)) t (a ++ down) e) ∙ rise_back a down)
 
 -- An outside `goes` by steps each of which is one of the host that it holds; what happens is written down.
@@ -192,12 +153,12 @@ module _ {I S R : Type 0} (step : S → TheirRequest → TheirReply → S → Ty
   -- how a call past the top is answered
   by_host : (o u : S) (p : Place) (s : Wait) (a : Answer) → rise_to (height_of s) p ≡ None → fits {O = Own} s (Come a) ≡ true → hosted_by step o s (Back (height_of s) a) u →
       Goes step (holding o s) p (Back (height_of s) a) (holding u None)
-  by_host o u p None a past f g = no_true f
+  by_host o u p None a past f g = absurd (false≢true f)
   by_host o u p (Some (None, AskHost request)) (Heard a) past f (q, reply, e1, e2, s) = hears q reply (ap (λ z. Back None (Heard z)) (sym e2)) (ap (λ z. Some (None, AskHost z)) (sym e1)) s refl
   by_host o u p (Some (None, AskHost request)) (Replied r) past f g = absurd g
-  by_host o u p (Some (None, i)) (Heard a) past f g = no_true f
+  by_host o u p (Some (None, i)) (Heard a) past f g = absurd (false≢true f)
   by_host o u p (Some (None, i)) (Replied r) past f g = absurd g
-  by_host o u p (Some (Some n, i)) (Heard a) past f g = no_true f
+  by_host o u p (Some (Some n, i)) (Heard a) past f g = absurd (false≢true f)
   by_host o u p (Some (Some n, i)) (Replied r) past f (same, is) = misses n i (ap (λ z. Back (Some n) (Replied z)) is) past refl (ap (λ z. holding z None) same)
 
   comes_back : (T : Tree Own) (o u : State) (p : Place) (s : Wait) (a : Answer) → rise_to (height_of s) p ≡ None → fits {O = Own} s (Come a) ≡ true → Taped goes T o s (event p (Back (height_of s) a)) u →
@@ -211,7 +172,7 @@ module _ {I S R : Type 0} (step : S → TheirRequest → TheirReply → S → Ty
 
   -- and by no end
   quits_not : {A : Type 0} (o u : S) (p : Place) (s : Wait) (r : Reply) → IsQuit r → fits {O = Own} s (Come (Replied r)) ≡ true → hosted_by step o s (Back (height_of s) (Replied r)) u → A
-  quits_not o u p None r q f g = no_true f
+  quits_not o u p None r q f g = absurd (false≢true f)
   quits_not o u p (Some (None, AskHost request)) r q f g = absurd g
   quits_not o u p (Some (None, i)) r q f g = absurd g
   quits_not o u p (Some (Some n, i)) r q f (same, is) = not_quit (error (no_interpreter [])) r is q

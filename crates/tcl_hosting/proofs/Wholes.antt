@@ -19,6 +19,7 @@ use Rattle.tcl_core.proofs.Budgets.{budgeted, derived_budget}
 use Rattle.tcl_core.proofs.Following.{Rest, Says, ahead, chain-append, follows, handed, handed-all, handed-append}
 use Rattle.tcl_core.proofs.RuleLaws.{derived_runs}
 use Rattle.tcl_core.proofs.Unended.{NotCut}
+use Rattle.tcl_core.proofs.Callers.{entering_calls, fit}
 use Rattle.tcl_hosting.specs.Laws.{WholeRun}
 use Rattle.tcl_hosting.specs.Limits.{HasTop, KeepTops}
 use Rattle.tcl_host.specs.declared.reply.HostReply.{HostReply as TheirReply}
@@ -27,7 +28,7 @@ use Rattle.tcl_run.specs.Outsides.{Going, hosted}
 use Rattle.tcl_tree.specs.Own.{Own}
 use Rattle.tcl_hosting.proofs.Counted.{comes_keeps, steps_within}
 use Rattle.tcl_hosting.proofs.Holding.{Hosts, ends, holding, hosts, keeps_call}
-use Rattle.tcl_hosting.proofs.Hosted.{Held, calm, entering_calls, entering_limits, fit, held}
+use Rattle.tcl_hosting.proofs.Hosted.{Held, calm, entering_limits, held}
 use Rattle.tcl_hosting.proofs.Limiting.{language_keeps_tops}
 use Rattle.tcl_hosting.proofs.Nearness.{limited_top}
 use Rattle.tcl_hosting.proofs.Taping.{Taped, all_written, tapes, unwritten}

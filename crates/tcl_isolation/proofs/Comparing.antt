@@ -21,7 +21,7 @@ use Rattle.tcl_core.proofs.Conclusions.{determinism, lives_within}
 use Rattle.tcl_core.proofs.Keeping.{KeepsSteps, derived_keep}
 use Rattle.tcl_core.proofs.Lending.{moves_append}
 use Rattle.tcl_core.proofs.MoreMoves.{asked_more}
-use Rattle.tcl_core.proofs.Outside.{halted_tape}
+use Rattle.tcl_core.proofs.Halts.{halted_tape}
 use Rattle.tcl_core.proofs.Parting.{Beyond, Run_of, Stops, cut}
 use Rattle.tcl_core.proofs.Reacting.{IsLasting, Lasting}
 use Rattle.tcl_core.proofs.RuleLaws.{derived_runs, runs_derived}

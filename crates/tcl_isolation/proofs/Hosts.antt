@@ -15,7 +15,7 @@ use Rattle.tcl_host.specs.declared.request.Request.{Request}
 use Rattle.tcl_run.specs.Outsides.{hosted, hosted_at, hosted_by}
 use Rattle.tcl_tree.specs.Own.{Own}
 use Rattle.tcl_isolation.specs.Visits.{CallsNobody, WatchedVisit, visit}
-use Rattle.tcl_isolation.proofs.Tracking.{nothing_between}
+use Rattle.tcl_isolation.proofs.Between.{nothing_between}
 use Rattle.tcl_isolation.proofs.Watching.{life}
 use Rattle.tcl_isolation.proofs.Untouching.{AreUnheard, Unheard, nothing_comes}
 

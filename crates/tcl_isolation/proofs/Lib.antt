@@ -1,3 +1,4 @@
+pub mod Between
 pub mod Comparing
 pub mod Entering
 pub mod Hosts
@@ -5,7 +6,6 @@ pub mod Limited
 pub mod Lowering
 pub mod Records
 pub mod Safe
-pub mod Tracking
 pub mod Turning
 pub mod Untouching
 pub mod Watching

@@ -30,6 +30,7 @@ use Rattle.tcl_core.proofs.Disciplines.{bad}
 use Rattle.tcl_core.proofs.PathLaws.{Some-inj, not_both, strip-sound, strip_own}
 use Rattle.tcl_core.proofs.RuleLaws.{runs_derived}
 use Rattle.tcl_core.proofs.Standing.{held_left}
+use Rattle.tcl_core.proofs.Safeguards.{not_true}
 use Rattle.tcl_isolation.specs.Limits.{AreLowering, AtMost, Lowering}
 
 -- ## Programs
@@ -363,10 +364,6 @@ module _ {O I : Type 0} (prog : Table O I) (fine : I → Bool) (all : Rules fine
   lowering c w v a f s m t = lowers c w.tape (fine_view c w v a f s m t)
 
 -- ## Tables that set limits as they are asked to
-
-not_true : (b : Bool) → not b ≡ true → b ≡ false
-not_true true e = bad e
-not_true false e = refl
 
 abbrev pub everywhere : Place → Bool
 everywhere p = true

@@ -1,5 +1,5 @@
 -- What calls nobody outside is told of nobody there.
-use Rattle.std.proofs.Common.{◌≡◌, ℕ, List, [], ◌∷◌, ◌++◌, Option, Some, None, length, refl, sym, ◌∙◌, ap, subst, append_assoc}
+use Rattle.std.proofs.Common.{◌≡◌, List, [], ◌∷◌, ◌++◌, Option, Some, None, length, refl, sym, ◌∙◌, ap, subst}
 use Rattle.std.proofs.Common.{inl, inr}
 use Rattle.tcl_core.specs.Endings.{Reply}
 use Rattle.tcl_core.specs.Entries.{Entry}
@@ -14,11 +14,12 @@ use Rattle.tcl_core.specs.Threads.{before, event}
 use Rattle.tcl_core.specs.Trees.{Event, Node, Tree, What, seen_what}
 use Rattle.tcl_core.specs.Trees.What.{Out, In, Done, Back, Dropped}
 use Rattle.tcl_core.specs.Views.{from_above, kept, view}
-use Rattle.tcl_core.proofs.Inward.{untouched}
-use Rattle.tcl_core.proofs.PathLaws.{Some-inj, not_both, rise_back, rise_to_past, rise_to_within, strip-sound, strip_own}
+use Rattle.tcl_core.proofs.Inward.{untouched, goes_to}
+use Rattle.tcl_core.proofs.PathLaws.{not_both, rise_back, strip_own}
 use Rattle.tcl_core.proofs.Plain.{IsPlain, closes_plain, decide_plain, opens_plain}
 use Rattle.tcl_core.proofs.RuleLaws.{runs_derived}
-use Rattle.tcl_core.proofs.TreeLaws.{spot_within}
+use Rattle.tcl_core.proofs.TreeLaws.{spot_in, reached_at}
+use Rattle.tcl_core.proofs.Callers.{entering_calls}
 use Rattle.tcl_watching.specs.Boundary.{boundary, past, past_the_top}
 use Rattle.tcl_isolation.specs.Visits.{CallsNobody, WatchedVisit, visit}
 use Rattle.tcl_isolation.proofs.Records.{Kind, kind}
@@ -69,12 +70,6 @@ module _ {O : Type 0} where
   unheard_front [] τ f = tt
   unheard_front (ev ∷ σ) τ f = (f.0, unheard_front σ τ f.1)
 
-spot_in : (c p q : Place) (s : Option (List ℕ)) → strip c p ≡ Some q → strip c (spot p s) ≡ Some (spot q s)
-spot_in c p q s e = ap (λ r. strip c (spot r s)) (strip-sound c p q e) ∙ ap (strip c) (spot_within c q s) ∙ strip_own c (spot q s)
-
-out_of : (c p q : Place) (h : Height) → strip c p ≡ Some q → rise_to h p ≡ None → rise_to h q ≡ None
-out_of c p q h e f = rise_to_past c q h (subst (λ r. rise_to h r ≡ None) (strip-sound c p q e) f)
-
 module _ {O : Type 0} (c : Place) where
   -- what is left of a world still calls nobody outside, and nothing came
   abbrev Quiet : World O → World O → Type 0
@@ -94,30 +89,11 @@ module _ {O : Type 0} (c : Place) where
   run : (w u v : World O) → Quiet w u → (AreInward c u.tape → Quiet u v) → Quiet w v
   run w u v a g = let b : Quiet u v = g a.0 in (b.0, λ k. a.1 (b.1 k))
 
-  reached_at : (n : Option (Node O)) (t p : Place) → where_stands n p ≡ Some t → t ≡ p
-  reached_at None t p e = absurd (not_both refl e)
-  reached_at (Some n) t p e = sym (Some-inj p e)
-
-  -- where a call within the subtree goes
-  goes_to : (p q a : Place) (h : Height) (down : Path) (t : Place) (n : Option (Node O)) → strip c p ≡ Some q → rise_to h p ≡ Some a → (rise_to h q ≡ None → Prim.⊥) → where_stands n (a ++ down) ≡ Some t → (z : Place) × (strip c t ≡ Some z)
-  goes_to p q a h down t n e f g j = by (rise_to h q) refl
-    where
-      by : (o : Option Place) → rise_to h q ≡ o → (z : Place) × (strip c t ≡ Some z)
-      by None k = absurd (g k)
-      by (Some b) k =
-          let top : a ≡ c ++ b = Some-inj a (sym f ∙ ap (rise_to h) (strip-sound c p q e) ∙ rise_to_within c q h b k) in
-          let there : t ≡ c ++ (b ++ down) = reached_at n t (a ++ down) j ∙ ap (λ l. l ++ down) top ∙ append_assoc c b down in
-          (b ++ down, ap (strip c) there ∙ strip_own c (b ++ down))
-
   -- it comes in there from within the tree
   comes_in : (a : Place) (down : Path) (t : Place) (n : Option (Node O)) → where_stands n (a ++ down) ≡ Some t → rise_to (Some (length down)) t ≡ None → Prim.⊥
   comes_in a down t n j e = not_both e (ap (rise_to (Some (length down))) (reached_at n t (a ++ down) j) ∙ rise_back a down)
 
 module _ {O I : Type 0} (c : Place) (prog : Table O I) where
-  pub fit_entry : (n : Option (Node O)) (i : Entry) → Calls_only (entering prog n i)
-  fit_entry None i = tt
-  fit_entry (Some n) i = prog.entries_call i
-
   pub keep : {w : World O} {p : Place} {x : Prog O I} {v : World O} {e : Ending} → Derives prog w p x v e → (q : Place) → strip c p ≡ Some q → Calls_only x → AreInward c w.tape → Quiet c w v
   keep (completed w p y) q n f h = here c w h
   keep (exited w p y) q n f h = here c w h
@@ -140,17 +116,17 @@ module _ {O I : Type 0} (c : Place) (prog : Table O I) where
   keep (called w p h down i lost k a t out inner left told back v r y e g s1 j s2 x s3 so s4 b) q n f m =
       let o : Inward {O = O} (Some q) (Out h down i) × AreInward c out.tape = one c w p q (Out h down i) out n s1 m in
       let z : (z : Place) × (strip c t ≡ Some z) = goes_to c p q a h down t (out.tree (a ++ down)) n g o.0 j in
-      step c w p q _ out v n tt s1 m (λ l. step c out t z.0 _ inner v z.1 (comes_in c a down t (out.tree (a ++ down)) j) s2 l (λ l2. run c inner left v (keep x z.0 z.1 (fit_entry (out.tree t) i) l2)
+      step c w p q _ out v n tt s1 m (λ l. step c out t z.0 _ inner v z.1 (comes_in c a down t (out.tree (a ++ down)) j) s2 l (λ l2. run c inner left v (keep x z.0 z.1 (entering_calls prog (out.tree t) i) l2)
       (λ l3. step c left t z.0 _ told v z.1 tt s3 l3 (λ l4. step c told p q _ back v n (λ up. not_both up g) s4 l4 (λ l5. keep b q n (f _) l5)))))
   keep (called_passed w p h down i lost k a t out inner left told back r g s1 j s2 x s3 y s4) q n f m =
       let o : Inward {O = O} (Some q) (Out h down i) × AreInward c out.tape = one c w p q (Out h down i) out n s1 m in
       let z : (z : Place) × (strip c t ≡ Some z) = goes_to c p q a h down t (out.tree (a ++ down)) n g o.0 j in
-      step c w p q _ out back n tt s1 m (λ l. step c out t z.0 _ inner back z.1 (comes_in c a down t (out.tree (a ++ down)) j) s2 l (λ l2. run c inner left back (keep x z.0 z.1 (fit_entry (out.tree t) i) l2)
+      step c w p q _ out back n tt s1 m (λ l. step c out t z.0 _ inner back z.1 (comes_in c a down t (out.tree (a ++ down)) j) s2 l (λ l2. run c inner left back (keep x z.0 z.1 (entering_calls prog (out.tree t) i) l2)
       (λ l3. step c left t z.0 _ told back z.1 tt s3 l3 (λ l4. step c told p q _ back back n (λ up. not_both up g) s4 l4 (λ l5. here c back l5)))))
   keep (called_halted w p h down i lost k a t out inner left g s1 j s2 x) q n f m =
       let o : Inward {O = O} (Some q) (Out h down i) × AreInward c out.tape = one c w p q (Out h down i) out n s1 m in
       let z : (z : Place) × (strip c t ≡ Some z) = goes_to c p q a h down t (out.tree (a ++ down)) n g o.0 j in
-      step c w p q _ out left n tt s1 m (λ l. step c out t z.0 _ inner left z.1 (comes_in c a down t (out.tree (a ++ down)) j) s2 l (λ l2. keep x z.0 z.1 (fit_entry (out.tree t) i) l2))
+      step c w p q _ out left n tt s1 m (λ l. step c out t z.0 _ inner left z.1 (comes_in c a down t (out.tree (a ++ down)) j) s2 l (λ l2. keep x z.0 z.1 (entering_calls prog (out.tree t) i) l2))
   keep (unreached w p h down i lost k a out back v e g s1 j s2 x) q n f m =
       step c w p q _ out v n tt s1 m (λ l. step c out p q _ back v n (λ up. not_both up g) s2 l (λ l2. keep x q n (f _) l2))
   keep (called_out w p h down i lost k u v e g s a) q n f m =
@@ -184,6 +160,6 @@ module _ {O I S : Type 0} (goes : Tree O → S → Wait → Event O → S → Ty
       let first : event (c ++ u) (In None i) ∷ (w.events ++ event (c ++ u) (Done None r) ∷ []) ≡ event (c ++ u) (In None i) ∷ a.entered.tape = a.entry.tape in
       let between : w.events ++ event (c ++ u) (Done None r) ∷ [] ≡ a.entered.tape = cc in
       let g : AreInward c (w.events ++ event (c ++ u) (Done None r) ∷ []) = (all_inward w f).1 in
-      let k : Quiet c a.entered a.left = keep c prog (runs_derived prog a.entered (c ++ u) (entering prog (T (c ++ u)) i) a.left (Some r) a.run) u (strip_own c u) (fit_entry c prog (T (c ++ u)) i) (subst (AreInward c) between g) in
+      let k : Quiet c a.entered a.left = keep c prog (runs_derived prog a.entered (c ++ u) (entering prog (T (c ++ u)) i) a.left (Some r) a.run) u (strip_own c u) (entering_calls prog (T (c ++ u)) i) (subst (AreInward c) between g) in
       let last : AreUnheard a.left.tape = subst AreUnheard (sym a.leaving.tape) (tt, tt) in
       unheard_front w.events (event (c ++ u) (Done None r) ∷ []) (subst AreUnheard (sym between) (k.1 last))

@@ -1,12 +1,12 @@
 -- `info`, which tells of the interpreter that asks.
-use Rattle.std.specs.Prelude.{ℕ, zero, suc, ℤ, pos, negsuc, Bool, true, false, List, [], ◌∷◌, Option, Some, None, codes, ◌-◌, nat_le, cond}
+use Rattle.std.specs.Prelude.{ℕ, zero, suc, ℤ, pos, negsuc, Bool, false, List, [], ◌∷◌, Option, Some, None, codes, ◌-◌, nat_le, cond}
 use Rattle.std.specs.Fmt.{decimal}
 use Rattle.std.specs.Str.{bytes_eq}
 use Rattle.tcl_core.specs.Paths.{Text}
 use Rattle.tcl_core.specs.Endings.{ok}
 use Rattle.tcl_core.specs.Trees.{Node}
 use Rattle.tcl_core.specs.Programs.Prog.{done}
-use Rattle.tcl_frames.specs.Chain.{exists_at, names_of, words_at}
+use Rattle.tcl_frames.specs.Chain.{exists_at, names_of, words_at, kept_if}
 use Rattle.tcl_frames.specs.Places.{current}
 use Rattle.tcl_frames.specs.declared.scope.Scope.{Scope}
 use Rattle.tcl_frames.specs.declared.scope.Scope.TheVariants.{Visible, Global, Local}
@@ -17,10 +17,6 @@ use Rattle.tcl_tree.specs.Own.{Own}
 use Rattle.tcl_language.specs.Instructions.{Program, either, fails, gives, or_fails, look}
 use Rattle.tcl_language.specs.Faults.{frame_message, wrong_args, unknown_subcommand, bad_level}
 use Rattle.tcl_language.specs.Variables.{integer}
-
-abbrev pub kept_if : Bool → Text → List Text → List Text
-kept_if true x xs = x ∷ xs
-kept_if false x xs = xs
 
 -- the names that have the form of a pattern
 abbrev pub matching : Text → List Text → List Text

@@ -5,6 +5,7 @@ use Rattle.std.specs.Map.{remove_entry}
 use Rattle.tcl_core.specs.Paths.{Text}
 use Rattle.tcl_variables.specs.Names.{has_colons, after_colons}
 use Rattle.tcl_tree.specs.Changes.{with_command, without_command, is_child}
+use Rattle.tcl_tree.specs.Naming as tree
 use Rattle.tcl_tree.specs.Own.{Own, command_in, hidden_in}
 use Rattle.tcl_interpreter.specs.declared.command.Command.{Command}
 use Rattle.tcl_interpreter.specs.declared.command.Command.TheVariants as command
@@ -25,6 +26,11 @@ command_name name = of_global name (after_colons name)
 -- what is left of the interpreter's own part; or the refusal, and the text that is wrong
 abbrev pub Named : Type 0
 Named = Result Own (Refusal × Text)
+
+-- what the table makes of an own part, with the text that is wrong where it refuses
+abbrev pub with_word : Text → tree.Named → Named
+with_word word (Ok own) = Ok own
+with_word word (Err e) = Err (e, word)
 
 -- on with the name by which a command is kept
 abbrev pub by_name : Option Text → Text → (Text → Named) → Named

@@ -1,18 +1,14 @@
 -- Texts added to others.
-use Rattle.std.proofs.Common.{◌≡◌, ℕ, ◌+◌, Bool, true, false, List, [], ◌∷◌, ◌++◌, length, refl, sym, ◌∙◌, ap, arith, length-append, append_assoc}
+use Rattle.std.proofs.Common.{◌≡◌, ℕ, ◌+◌, Bool, true, false, List, [], ◌∷◌, ◌++◌, length, refl, sym, ◌∙◌, ap, length-append, append_assoc}
 use Rattle.std.specs.Prelude.{◌==◌, codes}
 use Rattle.std.specs.List.{flat_map}
 use Rattle.std.specs.Str.{chars, IsUtf8}
 use Rattle.std.proofs.lemmas.Bool.{false≢true}
-use Rattle.std.proofs.lemmas.Bool.Decides.{Decides-eqb}
 use Rattle.std.proofs.lemmas.List.{append-nil}
 use Rattle.std.proofs.lemmas.Str.{chars_past_char}
 use Rattle.std.specs.Char.{encode_utf8}
+use Rattle.tcl_text.proofs.Emptiness.{is_nothing}
 use Rattle.tcl_list_texts.specs.Joining.{with_part, gap, onto}
-
-pub is_nothing : (text : List ℕ) (empty : Bool) → empty ≡ (length text == 0) → empty ≡ true → text ≡ []
-is_nothing [] empty e h = refl
-is_nothing (b ∷ text) empty e h = let x : length (b ∷ text) ≡ 0 = (Decides-eqb (length (b ∷ text)) 0).0 (sym e ∙ h) in absurd (omega arith)
 
 -- a part that is added, where there is anything of it
 pub part_added : (made text : List ℕ) (l : List (List ℕ)) (empty : Bool) → empty ≡ (length text == 0) → empty ≡ false → onto (made ++ (gap made ++ text)) l ≡ onto made (with_part text l)

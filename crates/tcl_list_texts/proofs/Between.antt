@@ -6,7 +6,7 @@ use Rattle.std.specs.Str.{chars}
 use Rattle.std.proofs.lemmas.Str.{chars-nil}
 use Rattle.std.proofs.lemmas.Bool.{false≢true}
 use Rattle.tcl_lists.specs.Lists.{Texts, list_value}
-use Rattle.tcl_list_texts.proofs.Added.{is_nothing}
+use Rattle.tcl_text.proofs.Emptiness.{is_nothing}
 use Rattle.tcl_list_texts.specs.Splitting.{Parts, parts, part_texts, letter_text, split_at}
 
 -- the parts that were made, the one that is being made, and those of what is left

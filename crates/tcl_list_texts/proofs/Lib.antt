@@ -1,4 +1,3 @@
 pub mod Added
 pub mod Between
 pub mod Undone
-pub mod Trims

@@ -5,11 +5,11 @@ use Rattle.std.proofs.lemmas.Bool.{false≢true}
 use Rattle.std.proofs.lemmas.Bool.Decides.{Decides-eqb}
 use Rattle.std.proofs.lemmas.List.{append-nil}
 use Rattle.tcl_words.specs.Faults.{too_long}
+use Rattle.tcl_words.proofs.WordLemmas.{limited_past}
 use Rattle.tcl_value.specs.Writing.{write}
 use Rattle.tcl_value.specs.Texts.{weight_from}
 use Rattle.tcl_value.proofs.Weights.{length-write}
 use Rattle.tcl_lists.specs.Lists.{Texts, list_value, copies}
-use Rattle.tcl_lists.proofs.Lengths.{limited_past}
 
 copies_of_none : (n : ℕ) → copies n [] ≡ []
 copies_of_none zero = refl

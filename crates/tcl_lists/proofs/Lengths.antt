@@ -1,26 +1,12 @@
 -- How long the texts of lists are.
-use Rattle.std.proofs.Common.{◌≡◌, ℕ, ◌<◌, ◌≤◌, Bool, true, false, cond, List, [], ◌∷◌, ◌++◌, length, Ok, Err, ◌∙◌, ap, arith}
-use Rattle.std.specs.Prelude.{nat_le}
-use Rattle.std.proofs.lemmas.Bool.Decides.{nat_tests}
-use Rattle.tcl_words.specs.Limits.{limited}
+use Rattle.std.proofs.Common.{◌≡◌, ◌≤◌, Bool, true, false, [], ◌∷◌, ◌++◌, Err, ◌∙◌, ap, arith}
 use Rattle.tcl_words.specs.Faults.{too_long}
+use Rattle.tcl_words.proofs.WordLemmas.{limited_past}
 use Rattle.tcl_value.specs.Limits.{IsPast}
 use Rattle.tcl_value.specs.Writing.{write}
 use Rattle.tcl_value.specs.Texts.{weight_from}
 use Rattle.tcl_value.proofs.Weights.{length-write}
 use Rattle.tcl_lists.specs.Lists.{Texts, list_value}
-
-past : (n : ℕ) → 16777216 < n → nat_le n 16777216 ≡ false
-past n h = grind (arith, nat_tests)
-
-within : (n : ℕ) → n ≤ 16777216 → nat_le n 16777216 ≡ true
-within n h = grind (arith, nat_tests)
-
-pub limited_past : (text : List ℕ) → 16777216 < length text → limited text ≡ Err too_long
-limited_past text h = ap (λ t. cond t (Ok text) (Err too_long)) (past (length text) h)
-
-pub limited_within : (text : List ℕ) → length text ≤ 16777216 → limited text ≡ Ok text
-limited_within text h = ap (λ t. cond t (Ok text) (Err too_long)) (within (length text) h)
 
 weight-append : (first : Bool) (xs ys : Texts) → weight_from first xs ≤ weight_from first (xs ++ ys)
 weight-append first [] ys = omega arith

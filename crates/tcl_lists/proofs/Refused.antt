@@ -5,6 +5,7 @@ use Rattle.tcl_text.specs.declared.list.ListFault.{ListFault}
 use Rattle.tcl_words.specs.declared.refusal.Refusal.{Refusal}
 use Rattle.tcl_words.specs.Outcomes.{Refuses, next}
 use Rattle.tcl_words.specs.Words.{list_or}
+use Rattle.tcl_words.proofs.WordLemmas.{limited_past}
 use Rattle.tcl_value.specs.Limits.{IsPast}
 use Rattle.tcl_value.specs.Writing.{write}
 use Rattle.tcl_value.specs.declared.value.ChangeError.{ChangeError}
@@ -12,7 +13,6 @@ use Rattle.tcl_value.specs.declared.value.ChangeError.TheVariants.{Memory, TooLo
 use Rattle.tcl_value.specs.Changes as changes
 use Rattle.tcl_lists.specs.Lists.{Texts, list_value}
 use Rattle.tcl_lists.specs.Refusing.{RefusesChange}
-use Rattle.tcl_lists.proofs.Lengths.{limited_past}
 
 pub push_refused : (r : Refusal) (why : ChangeError) (read : Result Texts ListFault) (word : List ℕ) → RefusesChange r why → changes.Refuses why read (λ list. IsPast (write (list ++ word ∷ []))) (λ _. ⊥) → Refuses r (next (list_or read) (λ l. list_value (l ++ word ∷ [])))
 push_refused r Memory read word h k = h (next (list_or read) (λ l. list_value (l ++ word ∷ [])))

@@ -1,26 +1,19 @@
 -- The places that indexes name.
-use Rattle.std.proofs.Common.{◌≡◌, ℕ, ◌≤◌, IfOk, IfErr, subst, ℤ, pos, ◌-ℤ◌, FitsSigned, w64, to_z, of_z, arith, List, Ok, Err, Option, Some, None, refl, sym, ◌∙◌, ap}
+use Rattle.std.proofs.Common.{◌≡◌, ℕ, ◌≤◌, IfOk, IfErr, subst, ℤ, pos, ◌-ℤ◌, w64, to_z, of_z, List, Ok, Err, Option, Some, None, refl, sym, ◌∙◌, ap}
 use Rattle.std.specs.Prelude.{ok_or, option_map}
 use Rattle.tcl_text.specs.declared.integer.Integers.{Integers}
 use Rattle.tcl_text.specs.Indexes.{index_of, place}
-use Rattle.std.proofs.lemmas.Int.{ints, to_z-of_z}
+use Rattle.std.proofs.lemmas.Int.{to_z-of_z}
 use Rattle.std.specs.declared.result.Result.{Result}
 use Rattle.tcl_text.specs.declared.index.Index.{Index}
 use Rattle.tcl_text.specs.declared.index.IndexFault.{IndexFault}
 use Rattle.tcl_text.specs.declared.index.IndexFault.TheVariants.{BadIndex as NoIndex}
+use Rattle.tcl_text.proofs.Fitting.{fits_last}
 use Rattle.tcl_nested.specs.Nested.{place_within, place_found, place_or, Refuses}
 use Rattle.tcl_nested.specs.declared.fault.NestedFault.{NestedFault}
 use Rattle.tcl_nested.specs.declared.fault.NestedFault.TheVariants.{BadIndex, NoPlace}
 use Rattle.tcl_nested.specs.declared.fault.NestedError.{NestedError}
 use Rattle.tcl_nested.specs.declared.fault.NestedError.TheVariants.{Fault}
-
-fits_last : (n : ℕ) → n ≤ 16777216 → FitsSigned w64 (pos n -ℤ pos 1)
-fits_last n h = omega (arith, ints)
-
-pub last_place_of : (n : ℕ) → n ≤ 16777216 → to_z w64 (of_z w64 (to_z w64 n -ℤ pos 1)) ≡ pos n -ℤ pos 1
-last_place_of n h =
-    let plain : to_z w64 n ≡ pos n = omega (arith, ints) in
-    ap (λ (z : ℤ). to_z w64 (of_z w64 (z -ℤ pos 1))) plain ∙ to_z-of_z w64 (pos n -ℤ pos 1) (fits_last n h)
 
 different : (p : Index) → ◌≡◌ {A = Result Index IndexFault} (Ok p) (Err NoIndex) → ⊥
 different p e = cc

@@ -26,7 +26,7 @@ append_one : (l : List ℕ) (n : ℕ) (m : List ℕ) → (l ++ n ∷ []) ++ m �
 append_one [] n m = refl
 append_one (x ∷ l) n m = ap (λ k. x ∷ k) (append_one l n m)
 
-same_some : (x y : List ℕ) → ◌≡◌ {A = Option (List ℕ)} (Some x) (Some y) → x ≡ y
+pub same_some : (x y : List ℕ) → ◌≡◌ {A = Option (List ℕ)} (Some x) (Some y) → x ≡ y
 same_some x y e = cc
 
 pub leads_none : (style : Integers) (path : Texts) (before : List ℕ) (text : List ℕ) → path ≡ [] → Leads style path before before text

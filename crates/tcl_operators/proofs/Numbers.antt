@@ -2,7 +2,7 @@
 use Rattle.std.proofs.Common.{◌≡◌, ◌∙◌, sym, ap, subst, refl, ℕ, zero, suc, ◌^◌, ◌<◌, Bool, true, false, cond, ℤ, pos, negsuc, ◌+ℤ◌, ◌-ℤ◌, ◌*ℤ◌, ◌<ℤ◌, FitsSigned, w64, arith, Result, Ok, Err, IfOk, IfErr}
 use Rattle.std.proofs.lemmas.Bool.Decides.{nat_tests}
 use Rattle.std.proofs.lemmas.Int.{ints}
-use Rattle.std.proofs.Math.IntN.{neg_ℤ, *ℤ-negsuc, neg_ℤ-neg_ℤ, neg_ℤ-+ℤ}
+use Rattle.std.proofs.Math.IntN.{neg_ℤ}
 use Rattle.std.proofs.Math.Nat.{two-pow-succ}
 use Rattle.std.specs.Int.Signed.{shr_z}
 use Rattle.tcl_text.specs.Numbers.{fits_64}
@@ -12,7 +12,7 @@ use Rattle.tcl_arithmetic.specs.Division.{IsDivision}
 use Rattle.tcl_arithmetic.specs.Digits.{digit}
 use Rattle.tcl_arithmetic.specs.Results.{IsChecked}
 use Rattle.tcl_arithmetic.proofs.Shifts.{shifted}
-use Rattle.tcl_arithmetic.proofs.Divisions.{one_division}
+use Rattle.tcl_arithmetic.proofs.Divisions.{one_division, opposite}
 use Rattle.tcl_arithmetic.proofs.DigitLaws.{same_number}
 use Rattle.tcl_operators.specs.WholeNumbers.{floor, quotient_of, remainder_of, divided, shifted_right, Divides, checked, in_range}
 
@@ -63,12 +63,6 @@ exact a b q r d = subst (IsDivision a b q) (left_over a b q r d) d
 pub floors : (a : ℤ) (d : ℕ) → 0 < d → (r : ℤ) × IsDivision a (pos d) (floor a d) r
 floors a d h = let s = shifted a d h in (s.0, subst (λ (q : ℤ). IsDivision a (pos d) q s.0) (floor_is a d) s.1)
 
-opposite : (a q r : ℤ) (b : ℕ) → IsDivision (neg_ℤ a) (pos (suc b)) q r → IsDivision a (negsuc b) q (neg_ℤ r)
-opposite a q r b d = record {
-  whole = let times : q *ℤ negsuc b ≡ neg_ℤ (q *ℤ pos (suc b)) = *ℤ-negsuc q b in
-      let turned : neg_ℤ (neg_ℤ a) ≡ neg_ℤ ((q *ℤ pos (suc b)) +ℤ r) = ap neg_ℤ d.whole in
-      sym (neg_ℤ-neg_ℤ a) ∙ turned ∙ neg_ℤ-+ℤ (q *ℤ pos (suc b)) r ∙ ap (λ (x : ℤ). x +ℤ neg_ℤ r) (sym times);
-  rest = let least = d.rest.0 in let most = d.rest.1 in (omega (arith, ints), omega (arith, ints));
 }
 
 pub divides : Divides

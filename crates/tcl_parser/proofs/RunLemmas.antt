@@ -1,31 +1,15 @@
 -- The run that a text begins with.
 use Rattle.std.proofs.Common.{◌≡◌, ℕ, ◌+◌, ◌<◌, ◌≤◌, Bool, true, false, not, List, [], ◌∷◌, length, get_or, take, drop, refl, subst, sym, ◌∙◌, inl, inr, arith, IsCharBoundary, ap, add_comm, add-one, length-drop}
 use Rattle.std.specs.List.{prefix_len}
-use Rattle.std.proofs.lemmas.List.Sums.{prefix_len-le-length, prefix_len_passes, prefix_len_stops, prefix_len_is}
-use Rattle.std.proofs.lemmas.Bool.{cases_lt, cases_Bool, false≢true}
+use Rattle.std.proofs.lemmas.List.Sums.{prefix_len-le-length}
+use Rattle.std.proofs.lemmas.Bool.{cases_Bool, false≢true}
 use Rattle.std.proofs.lemmas.Bool.Decides.{nat_tests}
 use Rattle.std.proofs.lemmas.Str.{IsCharBoundary-before_ascii, IsCharBoundary-end}
+use Rattle.tcl_text.proofs.Fronts.{prefix_len_grows, prefix_len_ends}
 use Rattle.tcl_parser.specs.declared.scan.Run.{Run}
 use Rattle.tcl_parser.specs.declared.scan.Run.TheVariants.{Comment, Braces, VariableName, Index, Quotes, Bare}
 use Rattle.tcl_parser.specs.Runs.{ends_run, run_len, run_of, after_run}
 use Rattle.tcl_parser.specs.Texts.{IsNotAscii, begins_with}
-
--- one more element passes
-pub prefix_len_grows : (p : ℕ → Bool) (s : List ℕ) (n : ℕ) → n ≤ prefix_len p s → n < length s → p (get_or s n 0) ≡ true → n + 1 ≤ prefix_len p s
-prefix_len_grows p s n h l e =
-    elim (cases_lt n (prefix_len p s)) [
-      | inl lt ↦ omega arith
-      | inr le ↦
-          let same : n ≡ prefix_len p s = omega arith in
-          let stop = prefix_len_stops p s 0 (subst (λ k. k < length s) same l) in
-          let here : p (get_or s n 0) ≡ false = subst (λ k. p (get_or s k 0) ≡ false) (sym same) stop in
-          absurd (false≢true (sym here ∙ e))
-    ]
-
--- no more element passes
-pub prefix_len_ends : (p : ℕ → Bool) (s : List ℕ) (n : ℕ) → n ≤ prefix_len p s → (n < length s → p (get_or s n 0) ≡ false) → prefix_len p s ≡ n
-prefix_len_ends p s n h e =
-    prefix_len_is p s n 0 (omega (arith, prefix_len-le-length p s)) (λ k lt. prefix_len_passes p s k 0 (omega arith)) e
 
 -- what ends a run is ASCII
 pub ends_run_ascii : (run : Run) (b : ℕ) → ends_run run b ≡ true → b < 128

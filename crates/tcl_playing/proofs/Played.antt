@@ -1,8 +1,7 @@
 -- What a player's calls come to.
-use Rattle.std.proofs.Common.{◌≡◌, ℕ, ℤ, Bool, true, false, List, ◌∷◌, ◌++◌, length, Option, Some, None, refl, sym, ap, subst, ◌∙◌, arith}
+use Rattle.std.proofs.Common.{◌≡◌, ℕ, ℤ, Bool, true, false, List, ◌∷◌, ◌++◌, length, Option, Some, None, refl, sym, ap, subst, ◌∙◌}
 use Rattle.std.specs.Option.{option_map}
 use Rattle.std.specs.Prelude.{is_some, IfNone, IfSome, Result, Ok, Err}
-use Rattle.std.proofs.lemmas.Bool.Decides.{Decides-int_eq}
 use Rattle.tcl_core.specs.Endings.{Reply}
 use Rattle.tcl_core.specs.Endings.Cause.{Over}
 use Rattle.tcl_core.specs.Endings.Reply.{Completed, Stop, Exit, Cut}
@@ -11,13 +10,14 @@ use Rattle.tcl_core.specs.Entries.Answer.{Replied, Heard}
 use Rattle.tcl_core.specs.Lives.{Outcome, ending_of}
 use Rattle.tcl_core.specs.Lives.Outcome.{Exited}
 use Rattle.tcl_core.specs.Paths.{Path, Place, Height, rise, rise_to}
-use Rattle.tcl_core.specs.Runs.{is_exit, is_own}
+use Rattle.tcl_core.specs.Runs.{is_own}
 use Rattle.tcl_core.specs.Trees.{Event, Move, Tree}
 use Rattle.tcl_core.specs.Trees.Move.{Enter, Come, Born, Fall}
 use Rattle.tcl_core.proofs.PathLaws.{rise_back}
 use Rattle.tcl_reactions.specs.Playing.{Answers, IsCut, IsNoCut, Player, last_end, past, reading, stopping, suits, telling, Tells}
 use Rattle.tcl_reactions.specs.Playing.Answers.{reads, ends, unfits, passes}
 use Rattle.tcl_reactions.specs.Playing.Fate.{Unfits, EndsAbove}
+use Rattle.tcl_reactions.proofs.Free.{same_exit, own_exit}
 use Rattle.tcl_run.specs.Outsides as outsides
 use Rattle.tcl_run.specs.Outsides.{ComesNext, Enters, Misses, Returns}
 use Rattle.tcl_run.specs.declared.interruption.Interruption.{Interruption}
@@ -83,17 +83,6 @@ no_cut (Replied (Completed c)) e = tt
 no_cut (Replied (Stop n m)) e = tt
 no_cut (Replied (Exit n)) e = tt
 no_cut (Heard a) e = tt
-
-pub same_exit : (n : ℤ) (a : Answer) → is_exit n a ≡ true → a ≡ Replied (Exit n)
-same_exit n (Heard a) e = let clash : false ≡ true = e in absurd cc
-same_exit n (Replied (Completed c)) e = let clash : false ≡ true = e in absurd cc
-same_exit n (Replied (Stop k m)) e = let clash : false ≡ true = e in absurd cc
-same_exit n (Replied (Cut c)) e = let clash : false ≡ true = e in absurd cc
-same_exit n (Replied (Exit k)) e = let f : n ≡ k = grind (arith, Decides-int_eq n k, e) in ap (λ j. Replied (Exit j)) (sym f)
-
-own_exit : (h : Height) (i : Entry) (n : ℤ) → is_own h i (Replied (Exit n)) ≡ true
-own_exit (Some h) i n = refl
-own_exit None i n = refl
 
 own_cut : (h : Height) (i : Entry) → is_own h i (Replied (Cut Over)) ≡ true
 own_cut (Some h) i = refl

@@ -1,5 +1,5 @@
 -- Calls within the tree, and calls that leave it, in a run to which moves are played.
-use Rattle.std.proofs.Common.{sym, ◌≡◌, ℕ, ℤ, ◌+◌, Bool, true, false, List, [], ◌∷◌, ◌++◌, Option, Some, None, length, refl, ◌∙◌, ap, subst}
+use Rattle.std.proofs.Common.{sym, ◌≡◌, ℕ, ℤ, ◌+◌, Bool, true, false, List, [], ◌∷◌, ◌++◌, Some, None, length, refl, ◌∙◌, ap, subst}
 use Rattle.std.specs.Prelude.{nat_lt, ◌-◌}
 use Rattle.tcl_core.specs.Paths.{falls, together, Path, Place, Height, rise_to}
 use Rattle.tcl_core.specs.Endings.{Completion, Meter, Reply, IsQuit}
@@ -7,15 +7,16 @@ use Rattle.tcl_core.specs.Endings.Reply.{Completed, Stop, Exit, Cut}
 use Rattle.tcl_core.specs.Entries.{Entry, Said}
 use Rattle.tcl_core.specs.Entries.Answer.{Replied}
 use Rattle.tcl_core.specs.Entries.Said.{Finished}
-use Rattle.tcl_core.specs.Trees.{Tree, Node, Event, Move, Grants}
+use Rattle.tcl_core.specs.Trees.{Tree, Event, Move, Grants}
 use Rattle.tcl_core.specs.Trees.What.{In, Out, Done, Back}
 use Rattle.tcl_core.specs.Programs.{Prog, Table}
 use Rattle.tcl_core.specs.Programs.Prog.{call, wait}
-use Rattle.tcl_core.specs.Runs.{Step, carried, lessened, entering, reached, where_stands}
+use Rattle.tcl_core.specs.Runs.{Step, carried, lessened, entering, reached}
 use Rattle.tcl_core.specs.Rules.{Derives, IsNoExit}
 use Rattle.tcl_core.specs.Threads.{Crossings, event}
-use Rattle.tcl_core.proofs.PathLaws.{not_both, Some-inj, rise_back}
+use Rattle.tcl_core.proofs.PathLaws.{rise_back}
 use Rattle.tcl_core.proofs.Unended.{NotCut}
+use Rattle.tcl_core.proofs.TreeLaws.{reached_at}
 use Rattle.tcl_reactions.specs.Playing.{IsEnd, Player, last_end, plays}
 use Rattle.tcl_reactions.proofs.Ways.{Calm, Way, ahead, inner_asked, inner_same, inner_way, next, out_way}
 use Rattle.tcl_reactions.proofs.Leads.{Result, after_way, around, calls, end_carried, end_quits, first, stops_more, tail, way_end, world}
@@ -54,12 +55,8 @@ carried_fine (Some h) p down (Stop n m) f = lessened_fine (nat_lt (n + together 
 carried_fine h p down (Exit n) f = tt
 carried_fine h p down (Cut d) f = absurd f
 
-reached_at : (O : Type 0) (n : Option (Node O)) (t p : Place) → where_stands n p ≡ Some t → t ≡ p
-reached_at O None t p e = absurd (not_both refl e)
-reached_at O (Some n) t p e = sym (Some-inj p e)
-
 pub within : (O : Type 0) (T : Tree O) (a t : Place) (down : Path) → reached T a down ≡ Some t → rise_to (Some (length down)) t ≡ Some a
-within O T a t down e = subst (λ z. rise_to (Some (length down)) z ≡ Some a) (sym (reached_at O (T (a ++ down)) t (a ++ down) e)) (rise_back a down)
+within O T a t down e = subst (λ z. rise_to (Some (length down)) z ≡ Some a) (sym (reached_at (T (a ++ down)) t (a ++ down) e)) (rise_back a down)
 
 module _ {O I : Type 0} (prog : Table O I) where
   -- A call goes out to t and comes in there; s is how it was done there.

@@ -9,11 +9,10 @@ use Rattle.tcl_core.specs.Trees.{Tree, What, Grants, granted}
 use Rattle.tcl_core.specs.Trees.Grant.{Allow, Deny}
 use Rattle.tcl_core.specs.Trees.Grants.{Listed, Budget}
 use Rattle.tcl_core.specs.Trees.What.{Seen, Charged, Nested, Limited, DepthLimited, Refused, Done}
-use Rattle.tcl_core.specs.Programs.{Deed, Next, spot, Act, Wrap, decide, opens, changing, making, dropping, metered, by_limit, blocked, is_spent, is_deep}
+use Rattle.tcl_core.specs.Programs.{Deed, spot, Act, Wrap, decide, opens, changing, making, dropping, metered, by_limit, blocked, is_spent, is_deep}
 use Rattle.tcl_core.specs.Programs.Act.{Look, Change, Charge, Limit, LimitDepth, Make, Drop}
 use Rattle.tcl_core.specs.Programs.Wrap.{Deeper, Framed}
-use Rattle.tcl_core.specs.Programs.Next.{On, TooDeep, Off}
-use Rattle.tcl_core.specs.Rules.{IsOn}
+use Rattle.tcl_core.specs.Programs.Next.{On, Off}
 use Rattle.tcl_core.specs.Threads.{Crossings, Decides, Opens_so, event}
 use Rattle.tcl_core.specs.Lives.{Outcome, Uncut, outcome_at}
 use Rattle.tcl_core.proofs.Budgets.{decide_budget, opens_budget}
@@ -22,40 +21,16 @@ use Rattle.tcl_core.proofs.PathLaws.{not_both, Some-inj}
 use Rattle.tcl_core.proofs.Plain.{IsPlain, decide_plain, opens_plain}
 use Rattle.tcl_core.proofs.Stops.{changing_on, making_on, dropping_on}
 use Rattle.tcl_core.proofs.Unended.{IsNoCut, NotCut, decide_uncut, opens_uncut}
+use Rattle.tcl_core.proofs.Refusals.{no_off, by_limit_fine}
 use Rattle.tcl_reactions.specs.Playing.{Player, last_end, plays}
 use Rattle.tcl_reactions.proofs.Ways.{Calm, IsBudget, Way, granted_paid, plain_way}
 use Rattle.tcl_reactions.proofs.Leads.{way_end}
-
-pub on_no_cut : (n : Next) → IsOn n → IsNoCut n
-on_no_cut On f = tt
-on_no_cut TooDeep f = tt
-on_no_cut (Off r) f = absurd f
 
 pub off_not_cut : (r : Reply) → IsNoCut (Off r) → NotCut r
 off_not_cut (Completed c) f = tt
 off_not_cut (Stop n m) f = tt
 off_not_cut (Exit n) f = tt
 off_not_cut (Cut c) f = f
-
-no_off : {A : Type 0} (r : Reply) → On ≡ Off r → A
-no_off r e = absurd (bad e)
-  where
-    bad : On ≡ Off r → Prim.⊥
-    bad f = cc
-
-by_limit_fine : {A : Type 0} (m : Meter) (n : ℕ) (c : Cause) → by_limit m n ≡ Off (Cut c) → A
-by_limit_fine Count n c e = absurd (bad e)
-  where
-    bad : Off (Stop n Count) ≡ Off (Cut c) → Prim.⊥
-    bad f = cc
-by_limit_fine Depth zero c e = absurd (bad e)
-  where
-    bad : TooDeep ≡ Off (Cut c) → Prim.⊥
-    bad f = cc
-by_limit_fine Depth (suc n) c e = absurd (bad e)
-  where
-    bad : Off (Stop (suc n) Depth) ≡ Off (Cut c) → Prim.⊥
-    bad f = cc
 
 module _ {O : Type 0} where
   pub decided : (d : Act O) (T : Tree O) (p : Place) (x : Deed O) → Decides d T p x → Uncut (spot p x.0) x.1 → (gs : Grants) → IsBudget gs → decide d T p (granted (spot p x.0) x.1 gs) ≡ Some x

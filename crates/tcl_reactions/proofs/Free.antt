@@ -1,6 +1,7 @@
 -- Who plays moves is never at a loss.
 use Rattle.std.proofs.Common.{sym, ◌≡◌, ◌⊎◌, inl, inr, ℕ, zero, suc, ℤ, Bool, true, false, List, [], ◌∷◌, Option, Some, None, refl, ◌∙◌, ap, subst, arith}
 use Rattle.std.proofs.lemmas.Bool.Decides.{Decides-int_eq}
+use Rattle.std.proofs.lemmas.Bool.{false≢true}
 use Rattle.tcl_core.specs.Paths.{Path, Place, Height, rise_to}
 use Rattle.tcl_core.specs.Endings.Meter.{Count}
 use Rattle.tcl_core.specs.Endings.Reply.{Completed, Stop, Exit, Cut}
@@ -23,12 +24,6 @@ use Rattle.tcl_reactions.specs.Playing.Fate.{Waits, Unfits, EndsAbove, Spends}
 use Rattle.tcl_reactions.proofs.Turns.{done_end}
 use Rattle.tcl_reactions.proofs.Waited.{fits_open}
 
-not_true : {A : Type 0} → false ≡ true → A
-not_true e = absurd (bad e)
-  where
-    bad : false ≡ true → Prim.⊥
-    bad f = cc
-
 cut_or_not : (a : Answer) → IsCut a ⊎ IsNoCut a
 cut_or_not (Heard a) = inr tt
 cut_or_not (Replied (Completed c)) = inr tt
@@ -36,14 +31,14 @@ cut_or_not (Replied (Stop n m)) = inr tt
 cut_or_not (Replied (Exit n)) = inr tt
 cut_or_not (Replied (Cut c)) = inl tt
 
-same_exit : (n : ℤ) (a : Answer) → is_exit n a ≡ true → a ≡ Replied (Exit n)
-same_exit n (Heard a) e = not_true e
-same_exit n (Replied (Completed c)) e = not_true e
-same_exit n (Replied (Stop k m)) e = not_true e
-same_exit n (Replied (Cut c)) e = not_true e
+pub same_exit : (n : ℤ) (a : Answer) → is_exit n a ≡ true → a ≡ Replied (Exit n)
+same_exit n (Heard a) e = absurd (false≢true e)
+same_exit n (Replied (Completed c)) e = absurd (false≢true e)
+same_exit n (Replied (Stop k m)) e = absurd (false≢true e)
+same_exit n (Replied (Cut c)) e = absurd (false≢true e)
 same_exit n (Replied (Exit k)) e = let f : n ≡ k = grind (arith, Decides-int_eq n k, e) in ap (λ j. Replied (Exit j)) (sym f)
 
-own_exit : (h : Height) (i : Entry) (n : ℤ) → is_own h i (Replied (Exit n)) ≡ true
+pub own_exit : (h : Height) (i : Entry) (n : ℤ) → is_own h i (Replied (Exit n)) ≡ true
 own_exit (Some h) i n = refl
 own_exit None i n = refl
 
@@ -54,9 +49,9 @@ own O x h i a e = e
 
 only_exit : {A O : Type 0} (n : ℤ) (s : Wait) (m : Move O) → suits (Exited n) s m ≡ true → (m ≡ Come (Replied (Exit n)) → A) → A
 only_exit n s (Come a) e f = f (ap Come (same_exit n a e))
-only_exit n s (Enter t i) e f = not_true e
-only_exit n s (Born o b) e f = not_true e
-only_exit n s Fall e f = not_true e
+only_exit n s (Enter t i) e f = absurd (false≢true e)
+only_exit n s (Born o b) e f = absurd (false≢true e)
+only_exit n s Fall e f = absurd (false≢true e)
 
 module _ {O : Type 0} where
   within : (l : Option Place) (o : Player O) (t : Player O → Type 0) → ((z : Player O) × t z) → (z : Player O) × past l o z (t z)

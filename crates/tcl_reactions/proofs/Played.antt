@@ -17,14 +17,14 @@ use Rattle.tcl_core.specs.Threads.Threads.{completed, exited, acted, refused, we
 use Rattle.tcl_core.specs.Lives.{Outcome, copies, idle, never}
 use Rattle.tcl_core.specs.Lives.Outcome.{Finished, Exited}
 use Rattle.tcl_core.proofs.Unended
-use Rattle.tcl_core.proofs.Unended.{NotCut}
+use Rattle.tcl_core.proofs.Unended.{NotCut, on_no_cut}
 use Rattle.tcl_reactions.specs.Playing
-use Rattle.tcl_reactions.specs.Playing.{Fate, HandsIn, IsEnd, Lived, Player, last_end, plays, reading, telling}
+use Rattle.tcl_reactions.specs.Playing.{Fate, HandsIn, IsEnd, Lived, Player, last_end, plays, telling}
 use Rattle.tcl_reactions.proofs.Ways.{allowed_budget, Calm, IsBudget, Rest, Way, ahead, ahead-append, calm_finished, here, later, next}
 use Rattle.tcl_reactions.proofs.Leads.{Affords, Breaks, Comes, Halting, Leads, May, Prefix, Result, StopsAt, after_way, calls, first, may_end, rest, stops_more, tail_leads, world}
 use Rattle.tcl_reactions.proofs.Leads.Breaks.{halts, unwinds}
 use Rattle.tcl_reactions.proofs.Leads.Result.{ran, broke}
-use Rattle.tcl_reactions.proofs.Deeds.{act_calm, act_way, on_no_cut, open_calm, open_way}
+use Rattle.tcl_reactions.proofs.Deeds.{act_calm, act_way, open_calm, open_way}
 use Rattle.tcl_reactions.proofs.Plays.{acted_by, at_once, passed_by, refused_by, shut_by, too_deep_by, went_by, wrapped_by, wrapped_passed_by}
 use Rattle.tcl_reactions.proofs.Crossed.{called_by, called_out_by, called_passed_by, starts, starts_same, unreached_by}
 use Rattle.tcl_reactions.proofs.Waited.{answered_by, answered_passed_by, entered_by, entered_exiting_by, heard_by}

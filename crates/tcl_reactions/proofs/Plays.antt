@@ -22,7 +22,7 @@ use Rattle.tcl_core.proofs.Parting.{closes_silent}
 use Rattle.tcl_core.proofs.Plain.{closes_plain}
 use Rattle.tcl_core.proofs.Refusals.{cut_or}
 use Rattle.tcl_core.proofs.Unended
-use Rattle.tcl_core.proofs.Unended.{NotCut}
+use Rattle.tcl_core.proofs.Unended.{NotCut, on_no_cut}
 use Rattle.tcl_reactions.specs.Playing.{Fate, IsEnd, Player, Refuses, last_end, plays, stopping}
 use Rattle.tcl_reactions.specs.Playing.Fate.{Spends}
 use Rattle.tcl_reactions.proofs.Ways.{allowed_budget, Calm, IsBudget, Rest, Way, ahead, closes_same, closes_uncut, here, next, plain_way}
@@ -30,7 +30,7 @@ use Rattle.tcl_reactions.proofs.Leads.{Breaks, Comes, Result, after_way, around,
 use Rattle.tcl_reactions.proofs.Leads.Breaks.{halts, unwinds}
 use Rattle.tcl_reactions.proofs.Leads.Comes.{came}
 use Rattle.tcl_reactions.proofs.Leads.Result.{ran, broke}
-use Rattle.tcl_reactions.proofs.Deeds.{act_calm, act_cut, act_uncut, act_way, decided, off_not_cut, on_no_cut, open_calm, open_cut, open_uncut, open_way, opened, plain_calm}
+use Rattle.tcl_reactions.proofs.Deeds.{act_calm, act_cut, act_uncut, act_way, decided, off_not_cut, open_calm, open_cut, open_uncut, open_way, opened, plain_calm}
 use Rattle.tcl_reactions.proofs.Turns.{not_some}
 
 pub plus_none : (n : ℕ) → n ≡ n + 0

@@ -1,5 +1,6 @@
 -- Calls that wait for the outside, in a run to which moves are played.
 use Rattle.std.proofs.Common.{sym, ◌≡◌, ℕ, suc, ℤ, true, false, List, [], ◌∷◌, ◌++◌, Some, None, refl, ◌∙◌, ap, subst}
+use Rattle.std.proofs.lemmas.Bool.{false≢true}
 use Rattle.tcl_core.specs.Paths.{Path, Place, Height, rise_to}
 use Rattle.tcl_core.specs.Endings.{Completion, Reply, IsQuit, Cause}
 use Rattle.tcl_core.specs.Endings.Reply.{Completed, Stop, Exit, Cut}
@@ -28,12 +29,6 @@ use Rattle.tcl_reactions.proofs.Leads.Result.{ran, broke}
 use Rattle.tcl_reactions.proofs.Plays.{came_to}
 use Rattle.tcl_reactions.proofs.Turns.{After, answers_at, back_way, calm_ending, cut_of, done_end, done_on, done_over, ended_at_once, in_way, not_some, reply_no_cut, same_end, visit_way}
 
-not_true : {A : Type 0} → false ≡ true → A
-not_true e = absurd (bad e)
-  where
-    bad : false ≡ true → Prim.⊥
-    bad f = cc
-
 -- an end fits every open call
 pub fits_open : (O : Type 0) (c : Height × Entry) (r : Reply) → IsEnd (Replied r) → fits {O = O} (Some c) (Come (Replied r)) ≡ true
 fits_open O c (Completed d) f = absurd f
@@ -44,15 +39,15 @@ fits_open O (None, i) (Exit n) f = refl
 fits_open O (None, i) (Cut d) f = refl
 
 pub fits_end : (O : Type 0) (s : Wait) (a : Answer) → fits {O = O} s (Come a) ≡ true → (r : Reply) → IsEnd (Replied r) → fits {O = O} s (Come (Replied r)) ≡ true
-fits_end O None a e r f = not_true e
+fits_end O None a e r f = absurd (false≢true e)
 fits_end O (Some c) a e r f = fits_open O c r f
 
 ends_fit : (O : Type 0) (s : Wait) (n : ℤ) → fits {O = O} s (Come (Replied (Exit n))) ≡ true → ends_call s n (Replied (Exit n)) ≡ true
-ends_fit O None n e = not_true e
+ends_fit O None n e = absurd (false≢true e)
 ends_fit O (Some c) n e = is_exit_self n
 
 not_exit_cut : {A : Type 0} (O : Type 0) (x : Outcome) (n : ℤ) (s : Wait) (b : Answer) (d : Cause) → x ≡ Exited n → b ≡ Replied (Cut d) → suits {O = O} x s (Come b) ≡ true → A
-not_exit_cut O x n s b d e f g = not_true (subst (λ a. suits {O = O} (Exited n) s (Come a) ≡ true) f (subst (λ y. suits {O = O} y s (Come b) ≡ true) e g))
+not_exit_cut O x n s b d e f g = absurd (false≢true (subst (λ a. suits {O = O} (Exited n) s (Come a) ≡ true) f (subst (λ y. suits {O = O} y s (Come b) ≡ true) e g)))
 
 module _ {O : Type 0} where
   back_step : (T : Tree O) (p : Place) (h : Height) (a : Answer) (ms : List (Move O)) (gs : Grants) (ρ : List (Event O)) → rise_to h p ≡ None → Step (world T (Come a ∷ ms) gs (event p (Back h a) ∷ ρ)) p (Back h a) (world T ms gs ρ)

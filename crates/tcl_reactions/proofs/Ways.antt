@@ -5,7 +5,7 @@ use Rattle.tcl_core.specs.Endings.{Reply}
 use Rattle.tcl_core.specs.Endings.Reply.{Cut}
 use Rattle.tcl_core.specs.Entries.{Entry}
 use Rattle.tcl_core.specs.Entries.Answer.{Replied}
-use Rattle.tcl_core.specs.Trees.{Tree, Node, What, Event, Move, Grants, effect, asked, granted, denied, paid, where_none}
+use Rattle.tcl_core.specs.Trees.{Tree, Node, What, Event, Move, Grants, effect, asked, granted, paid, where_none}
 use Rattle.tcl_core.specs.Trees.Grants.{Budget}
 use Rattle.tcl_core.specs.Trees.Move.{Enter, Come}
 use Rattle.tcl_core.specs.Trees.What.{Charged, Refused, Nested, Out, In, Done, Back}
@@ -18,6 +18,7 @@ use Rattle.tcl_core.specs.Lives.Outcome.{Finished, Exited}
 use Rattle.tcl_core.proofs.Beginnings.{outs_append}
 use Rattle.tcl_core.proofs.Following.{handed, allowed, handed-append, allowed-append}
 use Rattle.tcl_core.proofs.Plain.{IsPlain}
+use Rattle.tcl_core.proofs.TreeLaws.{denied_budget}
 use Rattle.tcl_reactions.specs.Playing.{Answers, Fate, HandsIn, Player, Tells, past, plays, suits, telling}
 
 -- no entry ended by an exit
@@ -35,10 +36,6 @@ calm_finished x e = subst Calm (sym e) tt
 
 abbrev pub IsBudget : Grants → Type 0
 IsBudget gs = (n : ℕ) × (gs ≡ Budget n)
-
-pub denied_budget : (o : Option Place) (n : ℕ) → denied o (Budget n) ≡ Budget n
-denied_budget None n = refl
-denied_budget (Some a) n = refl
 
 more_plus : (o : Option Place) (a b c : ℕ) → a ≡ b + c → one_more o a ≡ one_more o b + c
 more_plus None a b c e = omega (arith, e)

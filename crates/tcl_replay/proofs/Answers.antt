@@ -15,6 +15,7 @@ use Rattle.tcl_isolation.specs.Visits.{visit}
 use Rattle.tcl_language.specs.Instructions.{fits}
 use Rattle.tcl_language_laws.specs.Language.{language}
 use Rattle.tcl_run.specs.Outsides.{hosted}
+use Rattle.tcl_run.proofs.Steady.{stands}
 use Rattle.tcl_tree.specs.Own.{Own}
 use Rattle.tcl_tree.specs.TreeOf.{marks_of, tree_of}
 use Rattle.tcl_tree.specs.declared.tree.Tree.{Tree as Table}
@@ -24,7 +25,6 @@ use Rattle.tcl_watching.proofs.Fates as fates
 use Rattle.tcl_replay.specs.Watched.{IfDeleted, IfEnds, IfRefused, IsDeletion, IsEntryRun, IsRecord, IsRecorded, Stops, Watches, answer_if, answer_of, recorder_of, unwatchable}
 use Rattle.tcl_replay.specs.declared.watching.Unwatched.{Unwatched}
 use Rattle.tcl_replay.specs.declared.watching.Unwatched.TheVariants as unwatched
-use Rattle.tcl_replay.proofs.Entered.{stands}
 use Rattle.tcl_replay.proofs.Stopped.{obeys_entry}
 
 -- ## Before it

@@ -1,5 +1,5 @@
 -- A run with a recorder, and the run without it.
-use Rattle.std.proofs.Common.{◌≡◌, ◌∙◌, ℕ, ◌+◌, Bool, true, false, List, [], ◌∷◌, ◌++◌, Option, None, Some, refl, sym, ap, subst}
+use Rattle.std.proofs.Common.{◌≡◌, ◌∙◌, ℕ, ◌+◌, Bool, true, false, List, [], ◌∷◌, ◌++◌, None, Some, refl, sym, ap, subst}
 use Rattle.std.specs.Prelude.{Result, Ok, Err, IfOk, is_some, nat_le}
 use Rattle.tcl_core.specs.Endings.{Reply}
 use Rattle.tcl_core.specs.Entries.Entry.{Eval}
@@ -8,8 +8,8 @@ use Rattle.tcl_core.specs.Paths.{Path, Text}
 use Rattle.tcl_core.specs.Runs.{Runs, entering}
 use Rattle.tcl_core.specs.Programs.{Wait}
 use Rattle.tcl_core.specs.Threads.{Chain, Crossings, before, event}
-use Rattle.tcl_core.specs.Trees.{Event, Tree, Node, effect, with_limit}
-use Rattle.tcl_core.specs.Trees.What.{Limited, In, Done}
+use Rattle.tcl_core.specs.Trees.{Event, Tree, Node}
+use Rattle.tcl_core.specs.Trees.What.{In, Done}
 use Rattle.tcl_core.proofs.Following.{ahead-all, nothing}
 use Rattle.tcl_core.proofs.PathLaws.{Some-inj}
 use Rattle.tcl_core.proofs.RuleLaws.{derived_runs}
@@ -26,6 +26,7 @@ use Rattle.tcl_language.specs.Table.{serve}
 use Rattle.tcl_run.specs.Outsides.{hosted}
 use Rattle.tcl_run.specs.Runs.{Comes}
 use Rattle.tcl_run.proofs.Leads.{at_prog}
+use Rattle.tcl_run.proofs.Steady.{stands, still_stands}
 use Rattle.tcl_text.specs.declared.integer.Integers.{Integers}
 use Rattle.tcl_tree.specs.Own.{Own}
 use Rattle.tcl_tree.specs.TreeOf.{tree_of, marks_of}
@@ -42,15 +43,6 @@ use Rattle.tcl_watching.proofs.Fates.{fate_parts}
 use Rattle.tcl_watching.proofs.Visits.{after_parts, visits}
 use Rattle.tcl_watching.proofs.Watched.{after_one, step as recorder_step, unwatched, watched}
 use Rattle.tcl_replay.specs.Watched.{IsEntryRun}
-
-pub stands : {A : Type 0} (o : Option A) → is_some o ≡ true → (a : A) × (o ≡ Some a)
-stands None e = let x : false ≡ true = e in cc
-stands (Some a) e = (a, refl)
-
--- who stands in a tree stands there when its root has another limit
-pub still_stands : (T : Tree Own) (l : Option ℕ) (p : Path) (n : Node Own) → T p ≡ Some n → (m : Node Own) × (effect [] (Limited l) T p ≡ Some m)
-still_stands T l [] n e = (record n { limit = l }, ap (with_limit l) e)
-still_stands T l (x ∷ p) n e = (n, e)
 
 -- where a run can begin, the interpreter stands, and the script is short
 first_there : (b t c s : Bool) → first_of b t c s ≡ None → t ≡ true

@@ -1,4 +1,5 @@
 pub mod Leads
+pub mod Levelling
 pub mod Endings
 pub mod Steady
 pub mod Plain

@@ -4,8 +4,8 @@ use Rattle.std.specs.Prelude.{is_some}
 use Rattle.std.specs.Option.{option_map}
 use Rattle.std.proofs.lemmas.Bool.Decides.{nat_tests}
 use Rattle.tcl_core.specs.Paths.{Path, strip}
-use Rattle.tcl_core.specs.Trees.{Tree, Node, effect, at_end, where_some, with_own, counted, deeper, shallower}
-use Rattle.tcl_core.specs.Trees.What.{Changed, Charged, Nested, Unnested}
+use Rattle.tcl_core.specs.Trees.{Tree, Node, effect, at_end, where_some, with_own, counted, deeper, shallower, with_limit}
+use Rattle.tcl_core.specs.Trees.What.{Changed, Charged, Nested, Unnested, Limited}
 use Rattle.tcl_core.proofs.PathLaws.{strip_own, strip-sound, not_both}
 use Rattle.tcl_core.specs.Programs.{blocked, is_deep, nearer, full_at}
 use Rattle.tcl_tree.specs.Own.{Own}
@@ -184,3 +184,8 @@ changed_same T p n there = λ i q. at_place q i
 pub stands : {A : Type 0} (o : Option A) → is_some o ≡ true → (a : A) × (o ≡ Some a)
 stands None e = let x : false ≡ true = e in cc
 stands (Some a) e = (a, refl)
+
+-- who stands in a tree stands there when its root has another limit
+pub still_stands : (T : Tree Own) (l : Option ℕ) (p : Path) (n : Node Own) → T p ≡ Some n → (m : Node Own) × (effect [] (Limited l) T p ≡ Some m)
+still_stands T l [] n e = (record n { limit = l }, ap (with_limit l) e)
+still_stands T l (x ∷ p) n e = (n, e)

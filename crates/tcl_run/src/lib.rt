@@ -4,5 +4,6 @@
 pub mod entry;
 pub mod failure;
 pub mod interruption;
+pub mod levels;
 pub mod outside;
 pub mod steps;

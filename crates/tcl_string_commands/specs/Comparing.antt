@@ -5,8 +5,7 @@ use Rattle.std.specs.declared.cmp.Ordering.TheVariants.{Less, Equal, Greater}
 use Rattle.std.specs.Ordering.{is_eq}
 use Rattle.std.specs.Fmt.{signed_decimal}
 use Rattle.tcl_words.specs.Outcomes.{Outcome, next}
-use Rattle.tcl_glob.specs.Patterns.{is_match}
-use Rattle.tcl_strings.specs.Texts.{letters}
+use Rattle.tcl_glob.specs.Patterns.{is_match, letters}
 use Rattle.tcl_strings.specs.Order.{order}
 use Rattle.tcl_string_commands.specs.Options.{nocase_words}
 

@@ -1,7 +1,7 @@
 //! The subcommands that compare: `equal`, `compare`, `match`.
 ghost use Rattle.std.specs.Prelude.{◌≡◌};
 ghost use Rattle.std.specs.Ordering.{is_eq};
-ghost use Rattle.tcl_strings.specs.Texts.{letters};
+ghost use Rattle.tcl_glob.specs.Patterns.{letters};
 ghost use Rattle.tcl_strings.specs.Order.{order};
 ghost use Rattle.tcl_words.specs.Outcomes.{Gives, answer_text};
 ghost use Rattle.tcl_string_commands.specs.Comparing.{truth, sign, equal_of, compare_of, match_of};

@@ -2,8 +2,8 @@
 use Rattle.std.specs.Prelude.{ℕ, ◌≡◌, ◌⊎◌, Bool, List, [], ◌∷◌, ◌++◌, length}
 use Rattle.std.specs.Char.{encode_utf8}
 use Rattle.std.specs.Str.{chars}
-use Rattle.tcl_strings.specs.Texts.{letters}
 use Rattle.tcl_strings.specs.Mapping.{folded, mapped}
+use Rattle.tcl_glob.specs.Patterns.{letters}
 
 -- a key that isn't empty, with which these characters begin
 pub record Fits (nocase : Bool) (key cs : List ℕ) : Type 0 where

@@ -6,10 +6,9 @@ use Rattle.std.proofs.lemmas.Str.{encodes-append, encodes-chars, chars-append, c
 use Rattle.std.proofs.lemmas.List.{take-append-drop, same_lists, get_or-append-add, get_or_append_left, get_or-drop, get_or-take, length-take, length-drop}
 use Rattle.std.proofs.lemmas.Grind.{get_or_default_zero}
 use Rattle.memchr.specs.Find.{OccursAt, Nowhere}
+use Rattle.tcl_text.proofs.Emptiness.{is_nothing, is_filled}
 use Rattle.tcl_strings.specs.Texts.{text_of}
 use Rattle.std.specs.Prelude.{◌==◌}
-use Rattle.std.proofs.lemmas.Bool.{false≢true}
-use Rattle.std.proofs.lemmas.Bool.Decides.{Decides-eqb}
 use Rattle.tcl_strings.specs.Places.{first_from, last_from, first_place, last_place, counted_from}
 use Rattle.tcl_strings.proofs.LetterSteps.{some_character}
 use Rattle.tcl_strings.proofs.StandLemmas.{Absent, NoShorter, NoLonger, some_first, some_last, longer_front}
@@ -136,22 +135,14 @@ pub filled : (text : List ℕ) → (text ≡ [] → ⊥) → 0 < length text
 filled [] h = absurd (h refl)
 filled (b ∷ text) h = omega arith
 
-is_empty : (text : List ℕ) (empty : Bool) → empty ≡ (length text == 0) → empty ≡ true → text ≡ []
-is_empty [] empty e h = refl
-is_empty (b ∷ text) empty e h = let x : length (b ∷ text) ≡ 0 = (Decides-eqb (length (b ∷ text)) 0).0 (sym e ∙ h) in absurd (omega arith)
-
-is_filled : (text : List ℕ) (empty : Bool) → empty ≡ (length text == 0) → empty ≡ false → 0 < length text
-is_filled [] empty e h = absurd (false≢true (sym h ∙ e))
-is_filled (b ∷ text) empty e h = omega arith
-
 no_letters : (needle : List ℕ) → needle ≡ [] → chars needle ≡ []
 no_letters needle e = ap chars e ∙ chars-nil
 
 pub first_of_empty : (needle text : List ℕ) (start : ℕ) (empty : Bool) → empty ≡ (length needle == 0) → empty ≡ true → None ≡ first_place (chars needle) (chars text) start
-first_of_empty needle text start empty e h = sym (ap (λ n. first_place n (chars text) start) (no_letters needle (is_empty needle empty e h)))
+first_of_empty needle text start empty e h = sym (ap (λ n. first_place n (chars text) start) (no_letters needle (is_nothing needle empty e h)))
 
 pub last_of_empty : (needle text : List ℕ) (end : ℕ) (empty : Bool) → empty ≡ (length needle == 0) → empty ≡ true → None ≡ last_place (chars needle) (chars text) end
-last_of_empty needle text end empty e h = sym (ap (λ n. last_place n (chars text) end) (no_letters needle (is_empty needle empty e h)))
+last_of_empty needle text end empty e h = sym (ap (λ n. last_place n (chars text) end) (no_letters needle (is_nothing needle empty e h)))
 
 first_of : (needle cs : List ℕ) (start : ℕ) → 0 < length needle → first_place needle cs start ≡ first_from needle (drop start cs) start
 first_of [] cs start h = absurd (omega arith)
@@ -173,7 +164,7 @@ pub characters_le_bytes : (text : List ℕ) → IsUtf8 text → length (chars te
 characters_le_bytes text u = let size = ap length (encodes-chars text u) in omega (arith, length-le-encodes (chars text))
 
 pub no_letters_of : (text : List ℕ) (empty : Bool) → empty ≡ (length text == 0) → empty ≡ true → chars text ≡ []
-no_letters_of text empty e h = no_letters text (is_empty text empty e h)
+no_letters_of text empty e h = no_letters text (is_nothing text empty e h)
 
 pub letters_of : (text : List ℕ) (empty : Bool) → IsUtf8 text → empty ≡ (length text == 0) → empty ≡ false → 0 < length (chars text)
 letters_of text empty u e h = some_letters text u (is_filled text empty e h)

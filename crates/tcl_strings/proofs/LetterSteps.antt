@@ -1,33 +1,16 @@
 -- The letters of texts.
-use Rattle.std.proofs.Common.{◌≡◌, ℕ, ◌-◌, ◌<◌, ◌≤◌, Bool, true, false, cond, List, [], ◌∷◌, ◌++◌, length, map, take, drop, reverse, refl, sym, ◌∙◌, ap, subst, arith, length-append, append-nil}
+use Rattle.std.proofs.Common.{◌≡◌, ℕ, ◌-◌, ◌<◌, ◌≤◌, Bool, true, false, List, [], ◌∷◌, ◌++◌, length, map, take, drop, reverse, refl, sym, ◌∙◌, ap, subst, arith, length-append, append-nil}
 use Rattle.std.specs.Char.{to_ascii_lowercase, encode_utf8}
 use Rattle.std.specs.Str.{chars, IsUtf8, IsCharBoundary}
-use Rattle.std.proofs.lemmas.Str.{chars_past_char, length-encode, len_utf8_bounds, chars-nil, chars-append, encodes-chars, chars_from_encodes, IsUtf8-drop, IsCharBoundary-from_take, IsCharBoundary-at_seam}
+use Rattle.std.proofs.lemmas.Str.{chars_past_char, chars-nil, chars-append, encodes-chars, chars_from_encodes, IsUtf8-drop, IsCharBoundary-from_take, IsCharBoundary-at_seam}
 use Rattle.std.proofs.lemmas.List.{reverse-reverse, length-map}
 use Rattle.std.proofs.Math.Seq.{take-append_seam, drop-append_seam}
-use Rattle.tcl_strings.specs.Texts.{letters, text_of}
-
-pub next_letter : (nocase : Bool) (text rest : List ℕ) (c : ℕ) → IsUtf8 text → text ≡ encode_utf8 c ++ rest → letters nocase text ≡ cond nocase (to_ascii_lowercase c) c ∷ letters nocase rest
-next_letter true text rest c u e = ap (map to_ascii_lowercase) (chars_past_char text rest c u e)
-next_letter false text rest c u e = chars_past_char text rest c u e
-
-pub shorter_rest : (text rest : List ℕ) (c : ℕ) → text ≡ encode_utf8 c ++ rest → length rest < length text
-shorter_rest text rest c e = omega (arith, ap length e, length-append (encode_utf8 c) rest, length-encode c, len_utf8_bounds c)
-
--- the first letter, where the characters of old are those of the text and new is what follows
-pub found_letter : (nocase : Bool) (text old new rest : List ℕ) (c letter : ℕ) → IsUtf8 text → old ≡ text → rest ≡ new → old ≡ encode_utf8 c ++ new → letter ≡ cond nocase (to_ascii_lowercase c) c → (letters nocase text ≡ letter ∷ letters nocase rest) × (length rest < length text)
-found_letter nocase text old new rest c letter u is_old is_new e is_letter =
-    let whole : text ≡ encode_utf8 c ++ rest = sym is_old ∙ e ∙ ap (λ r. encode_utf8 c ++ r) (sym is_new) in
-    (next_letter nocase text rest c u whole ∙ ap (λ l. l ∷ letters nocase rest) (sym is_letter), shorter_rest text rest c whole)
+use Rattle.tcl_glob.specs.Patterns.{letters}
+use Rattle.tcl_strings.specs.Texts.{text_of}
 
 -- a text is that of its characters
 pub text_of-chars : (text cs : List ℕ) → IsUtf8 text → chars text ≡ cs → text ≡ text_of cs
 text_of-chars text cs u e = sym (encodes-chars text u) ∙ ap text_of e
-
-pub no_letter : (nocase : Bool) (text : List ℕ) → length text ≡ 0 → letters nocase text ≡ []
-no_letter true [] h = ap (map to_ascii_lowercase) chars-nil
-no_letter false [] h = chars-nil
-no_letter nocase (c ∷ cs) h = absurd (omega arith)
 
 -- a text that isn't empty begins with a character
 pub some_character : (text : List ℕ) → IsUtf8 text → 0 < length text → (c : ℕ) × (cs : List ℕ) × (chars text ≡ c ∷ cs)
@@ -54,12 +37,6 @@ last_character text front c u v e =
 -- characters that were taken from the end
 pub reversed_from_encodes : (cs text : List ℕ) → IsUtf8 text → text_of (reverse cs) ≡ text → cs ≡ reverse (chars text)
 reversed_from_encodes cs text u e = sym (reverse-reverse cs) ∙ ap reverse (chars_from_encodes (reverse cs) text u e)
-
--- what follows the first character, where the characters of old are those of the text and new is what follows
-pub behind_first : (text old new rest : List ℕ) (c : ℕ) → IsUtf8 text → old ≡ text → rest ≡ new → old ≡ encode_utf8 c ++ new → chars rest ≡ drop 1 (chars text)
-behind_first text old new rest c u is_old is_new e =
-    let whole : text ≡ encode_utf8 c ++ rest = sym is_old ∙ e ∙ ap (λ r. encode_utf8 c ++ r) (sym is_new) in
-    sym (ap (drop 1) (chars_past_char text rest c u whole))
 
 -- where the first character ends
 pub first_cut : (text old new rest : List ℕ) (c : ℕ) → IsUtf8 rest → old ≡ text → rest ≡ new → old ≡ encode_utf8 c ++ new → IsCharBoundary text (length text - length rest)

@@ -4,3 +4,4 @@ pub mod Orders
 pub mod StandLemmas
 pub mod ByteLemmas
 pub mod MapLemmas
+pub mod Trims

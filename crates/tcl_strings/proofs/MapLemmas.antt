@@ -6,8 +6,8 @@ use Rattle.std.specs.Str.{chars}
 use Rattle.std.proofs.lemmas.Bool.Decides.{Decides-eqb}
 use Rattle.std.proofs.lemmas.List.{drop-drop, length-drop}
 use Rattle.std.proofs.Math.Seq.{take-length}
+use Rattle.tcl_glob.specs.Patterns.{letters}
 use Rattle.tcl_strings.specs.Places.{begins}
-use Rattle.tcl_strings.specs.Texts.{letters}
 use Rattle.tcl_strings.specs.Mapping.{folded, fits, fitting, put, mapped}
 use Rattle.tcl_strings.proofs.LetterSteps.{length-letters}
 

@@ -9,7 +9,8 @@ use Rattle.std.specs.Str.{chars, IsUtf8, bytes_eq}
 use Rattle.std.specs.Cmp.Lexicographic.{bytes_decides}
 use Rattle.std.proofs.lemmas.Bool.{false≢true}
 use Rattle.std.proofs.lemmas.Str.{encodes-chars}
-use Rattle.tcl_strings.specs.Texts.{letters, text_of}
+use Rattle.tcl_glob.specs.Patterns.{letters}
+use Rattle.tcl_strings.specs.Texts.{text_of}
 use Rattle.tcl_strings.specs.Order.{order}
 
 pub order_self : (cs : List ℕ) → order cs cs ≡ Equal

@@ -3,8 +3,8 @@ use Rattle.std.specs.Prelude.{ℕ, zero, suc, ◌-◌, Bool, false, if◌then◌
 use Rattle.std.specs.declared.option.Option.{Option}
 use Rattle.std.specs.Char.{encode_utf8, to_ascii_lowercase}
 use Rattle.std.specs.Str.{chars}
+use Rattle.tcl_glob.specs.Patterns.{letters}
 use Rattle.tcl_strings.specs.Places.{begins}
-use Rattle.tcl_strings.specs.Texts.{letters}
 
 -- characters as they are compared
 abbrev pub folded : Bool → List ℕ → List ℕ

@@ -1,16 +1,11 @@
 -- Texts, over their characters.
-use Rattle.std.specs.Prelude.{ℕ, zero, suc, ◌==◌, Bool, if◌then◌else◌, List, [], ◌∷◌, ◌++◌, map}
-use Rattle.std.specs.Char.{to_ascii_lowercase}
+use Rattle.std.specs.Prelude.{ℕ, zero, suc, ◌==◌, Bool, if◌then◌else◌, List, [], ◌∷◌, ◌++◌}
 use Rattle.std.specs.List.{list_any}
-use Rattle.std.specs.Str.{chars, encode_utf8_all}
+use Rattle.std.specs.Str.{encode_utf8_all}
 
 -- the text of these characters
 abbrev pub text_of : List ℕ → List ℕ
 text_of cs = encode_utf8_all cs
-
--- the characters of a text, their ASCII letters in lower case if case doesn't count
-abbrev pub letters : Bool → List ℕ → List ℕ
-letters nocase text = if nocase then map to_ascii_lowercase (chars text) else chars text
 
 -- a text, so many times
 abbrev pub copies : ℕ → List ℕ → List ℕ

@@ -3,12 +3,13 @@ ghost use Rattle.std.specs.Prelude.{◌≡◌, ℕ, suc, ◌<◌, ◌≤◌, [],
 ghost use Rattle.std.specs.Str.{chars};
 ghost use Rattle.std.specs.String.{string_bytes};
 ghost use Rattle.tcl_strings.specs.Places.{begins};
-ghost use Rattle.tcl_strings.specs.Texts.{letters};
+ghost use Rattle.tcl_glob.specs.Patterns.{letters};
 ghost use Rattle.tcl_strings.specs.Mapping.{fits, fitting, mapped};
 
-use crate::letters::{first_letter, split_first};
+use crate::letters::split_first;
 use crate::limit::{LimitError, append};
 use std::alloc::Global;
+use tcl_glob::characters::first_letter;
 use tcl_text::text::Text;
 
 /// What follows a key with which a text begins.

@@ -1,10 +1,10 @@
 //! The order of texts.
 ghost use Rattle.std.specs.Prelude.{◌≡◌, ◌↔◌, IsTrue, if◌then◌else◌};
-ghost use Rattle.tcl_strings.specs.Texts.{letters};
+ghost use Rattle.tcl_glob.specs.Patterns.{letters};
 ghost use Rattle.tcl_strings.specs.Order.{order};
 
-use crate::letters::first_letter;
 use std::cmp::Ordering;
+use tcl_glob::characters::first_letter;
 
 /// Whether two texts have the same characters; with `nocase` the ASCII letters of both are taken in lower case.
 pub fn equal(a: &str, b: &str, nocase: bool) -> bool

@@ -3,7 +3,7 @@ use Rattle.std.proofs.Common.{◌≡◌, ◌≢◌, ℕ, ◌-◌, ◌≤◌, Boo
 use Rattle.std.specs.Prelude.{IsTrue, ◌↔◌}
 use Rattle.std.specs.Str.{bytes_eq}
 use Rattle.std.proofs.lemmas.Slice.Eq.{bytes_eq-Decides}
-use Rattle.std.proofs.lemmas.List.{take_more}
+use Rattle.std.proofs.lemmas.List.{take_more, append_cancel_left}
 use Rattle.std.proofs.Math.Seq.{take-length}
 
 -- a test tells whether two texts are equal
@@ -14,13 +14,9 @@ eq_means r xs ys e = search (rules, bytes_eq-Decides)
 pub means_same : {R : Type 0} (t x y : List ℕ) → R ↔ (t ≡ x) → y ≡ x → R ↔ (t ≡ y)
 means_same t x y h e = (λ r. h.0 r ∙ sym e, λ s. h.1 (s ∙ e))
 
-cancel : (a x y : List ℕ) → a ++ x ≡ a ++ y → x ≡ y
-cancel [] x y e = e
-cancel (b ∷ a) x y e = cancel a x y (cc)
-
 -- what is left of a text after a front that it must have
 pub behind_means : {R : Type 0} (t front rest x y : List ℕ) → t ≡ front ++ rest → R ↔ (rest ≡ x) → y ≡ front ++ x → R ↔ (t ≡ y)
-behind_means t front rest x y e h w = (λ r. e ∙ ap (λ z. front ++ z) (h.0 r) ∙ sym w, λ s. h.1 (cancel front rest x (sym e ∙ s ∙ w)))
+behind_means t front rest x y e h w = (λ r. e ∙ ap (λ z. front ++ z) (h.0 r) ∙ sym w, λ s. h.1 (append_cancel_left front rest x (sym e ∙ s ∙ w)))
 
 pub never_means : (t front x y : List ℕ) → ((rest : List ℕ) → t ≢ front ++ rest) → y ≡ front ++ x → IsTrue false ↔ (t ≡ y)
 never_means t front x y h w = (λ r. absurd (let e : false ≡ true = r in cc), λ s. absurd (h x (s ∙ w)))

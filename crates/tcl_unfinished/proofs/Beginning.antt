@@ -1,5 +1,5 @@
 -- What a host was asked by an evaluation that was given up on its way is what the whole evaluation begins with.
-use Rattle.std.proofs.Common.{◌≡◌, refl, sym, ◌∙◌, ap, subst, arith, ℕ, suc, ◌+◌, List, [], ◌∷◌, ◌++◌, Option, Some, None}
+use Rattle.std.proofs.Common.{◌≡◌, refl, sym, ◌∙◌, ap, subst, arith, ℕ, suc, ◌+◌, List, [], ◌∷◌, ◌++◌, Some, None}
 use Rattle.tcl_core.specs.Endings.{Reply}
 use Rattle.tcl_core.specs.Endings.Reply.{Completed, Stop, Exit, Cut}
 use Rattle.tcl_core.specs.Entries.{Answer}
@@ -10,7 +10,7 @@ use Rattle.tcl_core.specs.Programs.{Prog, Table}
 use Rattle.tcl_core.specs.Rules.{Derives}
 use Rattle.tcl_core.specs.Runs.{Runs, World, entering}
 use Rattle.tcl_core.specs.Threads.{Crossings, event}
-use Rattle.tcl_core.specs.Trees.{Event, Node, Tree, What, denied, granted, paid, with_limit}
+use Rattle.tcl_core.specs.Trees.{Event, Node, Tree, What, granted, paid, with_limit}
 use Rattle.tcl_core.specs.Trees.Grants.{Budget}
 use Rattle.tcl_core.specs.Trees.What.{Charged, Nested, Refused, In, Done}
 use Rattle.tcl_core.specs.Views.{steps_of}
@@ -20,6 +20,8 @@ use Rattle.tcl_core.proofs.PathLaws.{not_both}
 use Rattle.tcl_core.proofs.RuleLaws.{derived_runs, runs_derived}
 use Rattle.tcl_core.proofs.SameRuns.{asked-inj}
 use Rattle.tcl_core.proofs.Unended.{NotCut}
+use Rattle.tcl_core.proofs.TreeLaws.{denied_budget}
+use Rattle.tcl_core.proofs.Callers.{entering_calls}
 use Rattle.tcl_beginnings.specs.Beginnings.{Begins, BeginsEach, Begun, allowed, handed, handing}
 use Rattle.tcl_beginnings.proofs.Begins.{begins}
 use Rattle.tcl_host.specs.declared.reply.HostReply.{HostReply as TheirReply}
@@ -31,7 +33,6 @@ use Rattle.tcl_text.specs.declared.integer.Integers.{Integers}
 use Rattle.tcl_tree.specs.Own.{Own}
 use Rattle.tcl_unfinished.specs.Laws.{IsBeginning}
 use Rattle.tcl_unfinished.proofs.Holding.{Hosts, hosts, keeps_call}
-use Rattle.tcl_unfinished.proofs.Hosted.{entering_calls}
 use Rattle.tcl_unfinished.proofs.Unfinished.{kept}
 use Rattle.tcl_unfinished.proofs.Uncut.{comes_answers, AreAnswers, done_uncut, uncut}
 
@@ -41,11 +42,6 @@ ends_uncut p (Completed c) e f = tt
 ends_uncut p (Stop n m) e f = tt
 ends_uncut p (Exit n) e f = tt
 ends_uncut p (Cut c) e f = absurd (not_both refl f)
-
--- a budget says nothing more where it refuses
-denied_budget : (o : Option Place) (n : ℕ) → denied o (Budget n) ≡ Budget n
-denied_budget None n = refl
-denied_budget (Some a) n = refl
 
 module _ {O : Type 0} where
   -- of a budget a happening reads its step

@@ -1,81 +1,32 @@
 -- What comes with a host comes with the host and the call that is open to it, and the same happens.
-use Rattle.std.proofs.Common.{◌≡◌, refl, sym, ◌∙◌, ap, subst, true, false, ◌++◌, Option, Some, None, length}
+use Rattle.std.proofs.Common.{◌≡◌, refl, sym, ap, subst, true, Some, None, length}
+use Rattle.std.proofs.lemmas.Bool.{false≢true}
 use Rattle.tcl_core.specs.Endings.{Reply}
 use Rattle.tcl_core.specs.Endings.Reply.{Completed}
-use Rattle.tcl_core.specs.Entries.{Answer, Entry, Said}
+use Rattle.tcl_core.specs.Entries.{Answer, Entry}
 use Rattle.tcl_core.specs.Entries.Answer.{Replied, Heard}
 use Rattle.tcl_core.specs.Entries.Entry.{AskHost}
 use Rattle.tcl_core.specs.Entries.Said.{Finished, Told as told_so}
 use Rattle.tcl_core.specs.Paths.{Path, Place, Height, rise_to}
 use Rattle.tcl_core.specs.Programs.{Calls_only, Prog, Table, Wait, spot, closes}
-use Rattle.tcl_core.specs.Programs.Prog.{done, exit, act, go, inside, call, wait}
-use Rattle.tcl_core.specs.Runs.{carried, entering, fits, height_of, reached, where_stands}
+use Rattle.tcl_core.specs.Runs.{carried, fits, height_of}
 use Rattle.tcl_core.specs.Threads.{Crossings, Threads, event, passing}
 use Rattle.tcl_core.specs.Threads.Threads.{completed, exited, acted, refused, went, passed, wrapped, wrapped_passed, too_deep, shut, called, called_passed, unreached, called_out, answered, heard, answered_passed, entered, entered_exiting}
-use Rattle.tcl_core.specs.Trees.{Event, Node, Tree, What, at}
+use Rattle.tcl_core.specs.Trees.{Event, Tree, What, at}
 use Rattle.tcl_core.specs.Trees.What.{Refused, Out, In, Done, Back}
 use Rattle.tcl_core.specs.Trees.Move.{Come}
-use Rattle.tcl_core.proofs.PathLaws.{not_both, Some-inj, rise_back}
+use Rattle.tcl_core.proofs.Callers.{waits_for, Fits, no_wait, fit, entering_calls}
 use Rattle.tcl_beginnings.specs.Beginnings.{Unrefused}
 use Rattle.tcl_host.specs.declared.reply.HostReply.{HostReply as TheirReply}
 use Rattle.tcl_host.specs.declared.request.Request.{Request as TheirRequest}
 use Rattle.tcl_run.specs.Outsides.{hosted, hosted_at, hosted_by}
 use Rattle.tcl_tree.specs.Own.{Own}
-use Rattle.tcl_unfinished.proofs.Placed.{Inside, Placed, decides_placed, opens_placed, closes_placed}
+use Rattle.tcl_hosting.proofs.Hosted.{comes_within}
+use Rattle.tcl_hosting.proofs.Nearness.{Inside}
+use Rattle.tcl_unfinished.proofs.Placed.{Placed, decides_placed, opens_placed, closes_placed}
 use Rattle.tcl_unfinished.proofs.Holding.{Goes, keeps_call, within, asks, hears, misses}
 
--- yes is not no
-no_true : {A : Type 0} → false ≡ true → A
-no_true e = absurd (bad e)
-  where
-    bad : false ≡ true → Prim.⊥
-    bad f = cc
-
 module _ {O I : Type 0} where
-  -- the call that a program waits for
-  abbrev pub waits_for : Prog O I → Wait
-  waits_for (wait s k) = s
-  waits_for x = None
-
-  -- it goes on as what calls
-  abbrev pub Fits : Prog O I → Type 0
-  Fits (wait s k) = (a : Said) → Calls_only (k a)
-  Fits x = Calls_only x
-
-  -- what calls waits for nothing
-  pub no_wait : (x : Prog O I) → Calls_only x → waits_for x ≡ None
-  no_wait (done c) f = refl
-  no_wait (exit n) f = refl
-  no_wait (act d k) f = refl
-  no_wait (go i k) f = refl
-  no_wait (inside b i k) f = refl
-  no_wait (call h down i lost k) f = refl
-  no_wait (wait s k) f = absurd f
-
-  -- and goes on as what calls
-  pub fit : (x : Prog O I) → Calls_only x → Fits x
-  fit (done c) f = f
-  fit (exit n) f = f
-  fit (act d k) f = f
-  fit (go i k) f = f
-  fit (inside b i k) f = f
-  fit (call h down i lost k) f = f
-  fit (wait s k) f = absurd f
-
-  -- what an entry does calls
-  pub entering_calls : (prog : Table O I) (n : Option (Node O)) (i : Entry) → Calls_only (entering prog n i)
-  entering_calls prog None i = tt
-  entering_calls prog (Some n) i = prog.entries_call i
-
--- whoever is reached stands there
-reached_at : {O : Type 0} (n : Option (Node O)) (t p : Place) → where_stands n p ≡ Some t → t ≡ p
-reached_at None t p e = absurd (not_both refl e)
-reached_at (Some n) t p e = sym (Some-inj p e)
-
--- an entry within the tree comes from there
-pub comes_within : {O : Type 0} (T : Tree O) (a t : Place) (down : Path) → reached T a down ≡ Some t → Inside (Some (length down)) t
-comes_within T a t down e = (a, ap (rise_to (Some (length down))) (reached_at (T (a ++ down)) t (a ++ down) e) ∙ rise_back a down)
-
 module _ {I S : Type 0} (step : S → TheirRequest → TheirReply → S → Type 0) (prog : Table Own I) where
   -- how the host goes, who is told of all crossings
   abbrev pub Goes_so : Tree Own → S → Wait → Event Own → S → Type 0
@@ -121,12 +72,12 @@ module _ {I S : Type 0} (step : S → TheirRequest → TheirReply → S → Type
   -- how a call past the top is answered
   by_host : (o u : S) (p : Place) (s : Wait) (a : Answer) → rise_to (height_of s) p ≡ None → fits {O = Own} s (Come a) ≡ true → hosted_by step o s (Back (height_of s) a) u →
       Goes step (o, s) p (Back (height_of s) a) (u, None)
-  by_host o u p None a past f g = no_true f
+  by_host o u p None a past f g = absurd (false≢true f)
   by_host o u p (Some (None, AskHost request)) (Heard a) past f (q, reply, e1, e2, s) = hears q reply (ap (λ z. Back None (Heard z)) (sym e2)) (ap (λ z. Some (None, AskHost z)) (sym e1)) s refl
   by_host o u p (Some (None, AskHost request)) (Replied r) past f g = absurd g
-  by_host o u p (Some (None, i)) (Heard a) past f g = no_true f
+  by_host o u p (Some (None, i)) (Heard a) past f g = absurd (false≢true f)
   by_host o u p (Some (None, i)) (Replied r) past f g = absurd g
-  by_host o u p (Some (Some n, i)) (Heard a) past f g = no_true f
+  by_host o u p (Some (Some n, i)) (Heard a) past f g = absurd (false≢true f)
   by_host o u p (Some (Some n, i)) (Replied r) past f (same, is) = misses n i (ap (λ z. Back (Some n) (Replied z)) is) past refl (ap (λ z. (z, None)) same)
 
   -- and from then on none is open

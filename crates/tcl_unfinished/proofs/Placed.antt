@@ -4,7 +4,7 @@ use Rattle.tcl_core.specs.Endings.{Meter}
 use Rattle.tcl_core.specs.Endings.Meter.{Count, Depth}
 use Rattle.tcl_core.specs.Endings.Reply.{Cut}
 use Rattle.tcl_core.specs.Endings.Cause.{Above, Over}
-use Rattle.tcl_core.specs.Paths.{Place, Height, rise_to}
+use Rattle.tcl_core.specs.Paths.{Place}
 use Rattle.tcl_core.specs.Programs.{Act, Deed, Wrap, spot, closes, changing, making, dropping, dropping_at, metered, by_limit, blocked, is_spent, is_deep}
 use Rattle.tcl_core.specs.Programs.Act.{Look, Change, Charge, Limit, LimitDepth, Make, Drop}
 use Rattle.tcl_core.specs.Programs.Next.{On, Off}
@@ -14,11 +14,8 @@ use Rattle.tcl_core.specs.Trees.{Grants, Node, Tree, What, granted}
 use Rattle.tcl_core.specs.Trees.Grant.{Allow, Deny}
 use Rattle.tcl_core.specs.Trees.Grants.{Listed, Budget}
 use Rattle.tcl_core.specs.Trees.What.{Seen, Charged, Refused, Nested, Limited, DepthLimited, Made, Dropped, Out, In, Done, Back}
-use Rattle.tcl_core.proofs.PathLaws.{not_both, Some-inj}
-
--- a way so far up stays in the tree
-abbrev pub Inside : Height → Place → Type 0
-Inside h p = (a : Place) × (rise_to h p ≡ Some a)
+use Rattle.tcl_core.proofs.PathLaws.{not_both, Some-inj, child_no_top}
+use Rattle.tcl_hosting.proofs.Nearness.{Inside}
 
 -- it crosses no boundary of the tree, and neither makes nor drops its top
 abbrev pub Placed : {O : Type 0} → Place → What O → Type 0
@@ -29,11 +26,6 @@ Placed p (Done h r) = Inside h p
 Placed p (Made o s) = p ≡ [] → Prim.⊥
 Placed p Dropped = p ≡ [] → Prim.⊥
 Placed p _ = Unit {0}
-
--- a child is no top
-child_no_top : (p : Place) (name : List ℕ) → p ++ name ∷ [] ≡ [] → Prim.⊥
-child_no_top [] name e = cc
-child_no_top (x ∷ p) name e = cc
 
 module _ {O : Type 0} where
   -- the same of what an act comes to

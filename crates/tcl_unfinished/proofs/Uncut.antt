@@ -1,13 +1,12 @@
 -- Where answers alone are handed in, what isn't cut off in the end was nowhere.
-use Rattle.std.proofs.Common.{◌≡◌, sym, ◌∷◌, [], List, Option, Some, None, length, subst}
+use Rattle.std.proofs.Common.{sym, ◌∷◌, [], List, Option, Some, None, length, subst}
 use Rattle.tcl_core.specs.Endings.{Reply}
 use Rattle.tcl_core.specs.Endings.Reply.{Completed, Stop, Exit, Cut}
 use Rattle.tcl_core.specs.Entries.{Answer, Entry}
 use Rattle.tcl_core.specs.Entries.Answer.{Replied}
 use Rattle.tcl_core.specs.Lives.{IsUncut, Uncut, comes}
 use Rattle.tcl_core.specs.Paths.{Path, Place, Height, rise_to}
-use Rattle.tcl_core.specs.Programs.{Next, Prog, Table, Wrap, closes}
-use Rattle.tcl_core.specs.Programs.Next.{On, TooDeep, Off}
+use Rattle.tcl_core.specs.Programs.{Prog, Table, Wrap, closes}
 use Rattle.tcl_core.specs.Programs.Wrap.{Deeper, Framed}
 use Rattle.tcl_core.specs.Rules.{Derives, IsOn}
 use Rattle.tcl_core.specs.Rules.Derives.{completed, exited, acted, refused, unheard, went, passed, halted, wrapped, wrapped_passed, wrapped_halted, too_deep, shut, unheard_inside, called, called_passed, called_halted, unreached, called_out, unanswered, unfit, answered, heard, answered_passed, entered, entered_halted, entered_exiting, born, fallen}
@@ -16,20 +15,7 @@ use Rattle.tcl_core.specs.Trees.{Move, Node, What, asked, at_top, where_none}
 use Rattle.tcl_core.specs.Trees.Move.{Born, Fall, Enter, Come}
 use Rattle.tcl_core.specs.Trees.What.{Made, Dropped, In, Done, Back}
 use Rattle.tcl_core.proofs.Keeping.{KeepsSteps, derived_keep}
-use Rattle.tcl_core.proofs.Unended.{IsNoCut, NotCut, carried_cut, decide_uncut, opens_uncut}
-
--- what goes on is not cut off
-on_no_cut : (n : Next) → IsOn n → IsNoCut n
-on_no_cut On f = tt
-on_no_cut TooDeep f = tt
-on_no_cut (Off r) f = absurd f
-
--- nor what ends otherwise
-off_no_cut : (n : Next) (r : Reply) → n ≡ Off r → NotCut r → IsNoCut n
-off_no_cut n (Completed c) e f = subst IsNoCut (sym e) tt
-off_no_cut n (Stop l m) e f = subst IsNoCut (sym e) tt
-off_no_cut n (Exit l) e f = subst IsNoCut (sym e) tt
-off_no_cut n (Cut c) e f = absurd f
+use Rattle.tcl_core.proofs.Unended.{NotCut, carried_cut, decide_uncut, opens_uncut, on_no_cut, off_no_cut}
 
 -- the run halts, or isn't cut off
 abbrev pub Unended : Ending → Type 0

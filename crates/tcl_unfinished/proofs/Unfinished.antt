@@ -12,15 +12,18 @@ use Rattle.tcl_core.specs.Runs.{carried}
 use Rattle.tcl_core.specs.Threads.{Crossings, event}
 use Rattle.tcl_core.specs.Trees.{Tree, at}
 use Rattle.tcl_core.specs.Trees.What.{Out, In, Done, Back}
+use Rattle.tcl_core.proofs.Callers.{Fits, entering_calls, fit, no_wait, waits_for}
 use Rattle.tcl_beginnings.specs.Beginnings.{Begun}
 use Rattle.tcl_beginnings.specs.Beginnings.Begun.{stopped, ended, acted, going, went, within, wrapped, too_deep, calling_out, calling, returning, called, unreached, called_out, answered, heard, entering_in, leaving, left, entered}
 use Rattle.tcl_host.specs.declared.reply.HostReply.{HostReply as TheirReply}
 use Rattle.tcl_host.specs.declared.request.Request.{Request as TheirRequest}
 use Rattle.tcl_run.specs.Outsides.{hosted}
 use Rattle.tcl_tree.specs.Own.{Own}
-use Rattle.tcl_unfinished.proofs.Placed.{Inside, decides_placed, opens_placed, closes_placed}
+use Rattle.tcl_hosting.proofs.Nearness.{Inside}
+use Rattle.tcl_hosting.proofs.Hosted.{comes_within}
+use Rattle.tcl_unfinished.proofs.Placed.{decides_placed, opens_placed, closes_placed}
 use Rattle.tcl_unfinished.proofs.Holding.{keeps_call}
-use Rattle.tcl_unfinished.proofs.Hosted.{Fits, Goes_so, comes_back, comes_within, enters_not, entering_calls, fit, calls, held, leaves, no_wait, stays, unasked, waits_for}
+use Rattle.tcl_unfinished.proofs.Hosted.{Goes_so, comes_back, enters_not, calls, held, leaves, stays, unasked}
 
 module _ {I S : Type 0} (step : S → TheirRequest → TheirReply → S → Type 0) (prog : Table Own I) where
   -- what is given up so, with the call that is open at first, and none in the end

@@ -2,6 +2,7 @@
 use Rattle.std.proofs.Common.{◌≡◌, ◌≢◌, ℕ, ◌+◌, ◌<◌, suc, Bool, true, false, List, [], ◌∷◌, ◌++◌, length, refl, sym, ◌∙◌, ap, arith, get_or, drop, drop-cons, add-one}
 use Rattle.std.specs.Prelude.{◌==◌, IsTrue, ◌↔◌}
 use Rattle.std.proofs.lemmas.Bool.Decides.{nat_tests}
+use Rattle.std.proofs.lemmas.List.{append_cancel_left}
 use Rattle.tcl_value.specs.Writing.{write_element, write_rest, write, placed, write_from}
 use Rattle.tcl_value.specs.Texts.{flat, pairs}
 use Rattle.tcl_value.proofs.Writes.{pairs-get, length-pairs}
@@ -21,14 +22,10 @@ told t x y h e = (λ r. h.0 r ∙ e, λ s. h.1 (s ∙ sym e))
 pub told_from : (t x y : List ℕ) → x ≡ y → (t ≡ x) ↔ (t ≡ y)
 told_from t x y e = (λ s. s ∙ e, λ s. s ∙ sym e)
 
-cancel : (a x y : List ℕ) → a ++ x ≡ a ++ y → x ≡ y
-cancel [] x y e = e
-cancel (b ∷ a) x y e = cancel a x y (cc)
-
 -- a front that both have is left out
 pub behind : {R : Type 0} (rest front after x all : List ℕ) → R ↔ (rest ≡ all) → all ≡ front ++ x → rest ≡ front ++ after → R ↔ (after ≡ x)
 behind rest front after x all h w e =
-    (λ r. cancel front after x (sym e ∙ h.0 r ∙ w), λ s. h.1 (e ∙ ap (λ z. front ++ z) s ∙ sym w))
+    (λ r. append_cancel_left front after x (sym e ∙ h.0 r ∙ w), λ s. h.1 (e ∙ ap (λ z. front ++ z) s ∙ sym w))
 
 -- a front that one of them lacks
 pub never : {R : Type 0} (rest front x all : List ℕ) → R ↔ (rest ≡ all) → all ≡ front ++ x → ((more : List ℕ) → rest ≢ front ++ more) → IsTrue false ↔ R

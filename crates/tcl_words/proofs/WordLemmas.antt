@@ -1,7 +1,7 @@
 -- Outcomes one behind another.
-use Rattle.std.proofs.Common.{◌≡◌, ℕ, ◌≤◌, ℤ, pos, ◌-ℤ◌, FitsSigned, w64, to_z, of_z, true, cond, arith, List, Ok, Err, Option, Some, None, refl, sym, ◌∙◌, ap}
+use Rattle.std.proofs.Common.{◌≡◌, ℕ, ◌≤◌, ℤ, pos, ◌-ℤ◌, w64, to_z, true, cond, arith, List, Ok, Err, Option, Some, None, refl, sym, ◌∙◌, ap, false, length, ◌<◌}
 use Rattle.std.specs.Prelude.{ok_or, option_map, nat_le}
-use Rattle.std.proofs.lemmas.Int.{ints, to_z-of_z}
+use Rattle.std.proofs.lemmas.Int.{ints}
 use Rattle.std.proofs.lemmas.Bool.Decides.{nat_tests}
 use Rattle.tcl_text.specs.declared.integer.Integers.{Integers}
 use Rattle.std.specs.declared.result.Result.{Result}
@@ -15,6 +15,7 @@ use Rattle.std.specs.Fmt.{signed_decimal}
 use Rattle.tcl_words.specs.Faults.{bad_index, too_long}
 use Rattle.tcl_words.specs.Words.{index_or, index_word}
 use Rattle.tcl_words.specs.Outcomes.{next, Refuses}
+use Rattle.tcl_words.specs.Limits.{limited}
 
 -- a refusal of the first is that of both
 pub refuses_next : {X Y : Type 0} (e : Refusal) (outcome : Result X (List ℕ)) (go : X → Result Y (List ℕ)) → Refuses e outcome → Refuses e (next outcome go)
@@ -39,26 +40,26 @@ pub index_err : (text : List ℕ) (found : Option ℤ) (fault : IndexFault) → 
 index_err text None fault h = refl
 index_err text (Some n) fault h = let e : ◌≡◌ {A = Result Index IndexFault} (Err fault) (Ok (place n)) = h in cc
 
+within : (n : ℕ) → n ≤ 16777216 → nat_le n 16777216 ≡ true
+within n h = grind (arith, nat_tests)
+
 -- a count that fits
 pub counted : (style : Integers) (count : ℕ) (text : List ℕ) → count ≤ 16777216 → index_word style count text ≡ index_or text (index_of style (pos count -ℤ pos 1) text)
-counted style count text h = ap (λ t. cond t (index_or text (index_of style (pos count -ℤ pos 1) text)) (Err too_long)) (within h)
-  where
-    within : count ≤ 16777216 → nat_le count 16777216 ≡ true
-    within h = grind (arith, nat_tests)
-
-pub fits_last : (n : ℕ) → n ≤ 16777216 → FitsSigned w64 (pos n -ℤ pos 1)
-fits_last n h = omega (arith, ints)
-
-pub last_place_of : (n : ℕ) → n ≤ 16777216 → to_z w64 (of_z w64 (to_z w64 n -ℤ pos 1)) ≡ pos n -ℤ pos 1
-last_place_of n h =
-    let plain : to_z w64 n ≡ pos n = omega (arith, ints) in
-    ap (λ (z : ℤ). to_z w64 (of_z w64 (z -ℤ pos 1))) plain ∙ to_z-of_z w64 (pos n -ℤ pos 1) (fits_last n h)
+counted style count text h = ap (λ t. cond t (index_or text (index_of style (pos count -ℤ pos 1) text)) (Err too_long)) (within count h)
 
 pub plain_count : (n : ℕ) → n ≤ 16777216 → to_z w64 n ≡ pos n
 plain_count n h = omega (arith, ints)
 
 pub count_text : (n : ℕ) → n ≤ 16777216 → ◌≡◌ {A = Result (List ℕ) (List ℕ)} (cond (nat_le n 16777216) (Ok (signed_decimal (pos n))) (Err too_long)) (Ok (signed_decimal (to_z w64 n)))
 count_text n h = ap (λ t. cond t (Ok (signed_decimal (pos n))) (Err too_long)) (within n h) ∙ ap (λ (z : ℤ). Ok (signed_decimal z)) (sym (plain_count n h))
+
+-- ---- the limit
+
+pub limited_past : (text : List ℕ) → 16777216 < length text → limited text ≡ Err too_long
+limited_past text h = ap (λ t. cond t (Ok text) (Err too_long)) (past (length text) h)
   where
-    within : (n : ℕ) → n ≤ 16777216 → nat_le n 16777216 ≡ true
-    within n h = grind (arith, nat_tests)
+    past : (n : ℕ) → 16777216 < n → nat_le n 16777216 ≡ false
+    past n h = grind (arith, nat_tests)
+
+pub limited_within : (text : List ℕ) → length text ≤ 16777216 → limited text ≡ Ok text
+limited_within text h = ap (λ t. cond t (Ok text) (Err too_long)) (within (length text) h)

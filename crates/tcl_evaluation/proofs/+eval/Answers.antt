@@ -21,9 +21,9 @@ use Rattle.tcl_parser.specs.Words.{WordRead}
 use Rattle.tcl_language.specs.Instructions.{fits, Open}
 use Rattle.tcl_run.proofs.Endings.{IfEnded-at, Interrupts-more, Interrupts-at}
 use Rattle.tcl_run.proofs.Proceeding.{at_prog, at_reply}
-use Rattle.tcl_run.proofs.Steady.{still_at, still_in_use, still_running, steady-refl, steady-trans, level_steady, nested_steady, begun_at, less_room}
+use Rattle.tcl_run.proofs.Steady.{still_at, still_in_use, still_running, steady-refl, steady-trans, level_steady, nested_steady, begun_at, less_room, stands}
 use Rattle.tcl_evaluation.proofs.Steps
-use Rattle.tcl_evaluation.proofs.Steps.{item_on, none_on, no_item, stays_of, EndsFrom, TextEnds, text_ends, VariableEnds, variable_ends, EndsAt, appended, forgets, both, stands}
+use Rattle.tcl_evaluation.proofs.Steps.{stays_of, EndsFrom, TextEnds, text_ends, VariableEnds, variable_ends, EndsAt, appended, forgets, both}
 use Rattle.std.proofs.Common.{true, None}
 use Rattle.tcl_core.specs.Endings.{Reply}
 use Rattle.tcl_core.specs.Trees.{effect}
@@ -42,7 +42,6 @@ use Rattle.tcl_run.specs.Ends.{itself}
 use Rattle.tcl_flow.specs.View.{completion_of}
 use Rattle.tcl_language.specs.Control.{code_text, eval as control_eval, catch as control_catch}
 use Rattle.tcl_calls.specs.Found.{found}
-use Rattle.tcl_evaluation.proofs.Steps.{split_first}
 use Rattle.tcl_evaluation.proofs.Found.{call_found, call_missing}
 use Rattle.tcl_evaluation.proofs.Catching.{caught_ok, caught_err, eval_runs, eval_long, eval_none, catch_goes, catch_passes, catch_none, catch_many}
 use Rattle.tcl_evaluation.specs.View.{targeted, unhidden, invokes_at}
@@ -50,6 +49,7 @@ use Rattle.std.proofs.Common.{false}
 use Rattle.std.specs.Prelude.{Err}
 use Rattle.tcl_run.specs.Runs.{IsThere}
 use Rattle.tcl_text.specs.declared.integer.Integers.{Integers}
+use Rattle.tcl_text.proofs.Items.{item_on, none_on, no_item, split_first, one_item, two_items, three_items}
 use Rattle.tcl_evaluation.specs.View.{GoesOn}
 use Rattle.tcl_entries.proofs.Reached.{never_outside}
 use Rattle.tcl_core.specs.Programs.Prog.{done}
@@ -116,9 +116,8 @@ use Rattle.tcl_core.specs.Paths.{Text}
 use Rattle.tcl_language.specs.Hosting as hosting
 use Rattle.tcl_language.specs.Instructions.{either}
 use Rattle.tcl_value.specs.Limits.{IsPast}
-use Rattle.tcl_evaluation.proofs.Steps.{one_item, two_items}
 use Rattle.tcl_evaluation.proofs.Awaited
-use Rattle.tcl_evaluation.proofs.Writing.{three_items, not_put, past_long, writes_as, writes_heard, writes_over}
+use Rattle.tcl_evaluation.proofs.Writing.{not_put, past_long, writes_as, writes_heard, writes_over}
 use Rattle.std.proofs.Common.{FitsSigned, w64, ℤ}
 use Rattle.std.proofs.lemmas.Int.{to_z-of_z}
 use Rattle.std.specs.Prelude.{Ok}

@@ -19,7 +19,7 @@ items-preserved c =
     let item = item_of c.args.nocase c.in-Some.item in
     let apart = not_run c.args.nocase c.in-Some.item c.in_default-item.not-Run in
     let found = c.in-Some.ensures in
-    let letter = c.in-Some-first_letter.ensures in
+    let letter = c.in-Some-first_letter.ensures.letters in
     let taken = sym c.takes.ensures ∙ c.if-not-takes.false in (
       search rules,
       search rules,

@@ -12,14 +12,14 @@ Tells nocase pattern found =
 
 pub returns : goal.returns
 returns c =
-    let first = ap items c.in_ok-letter.ensures.0 in
+    let first = ap items c.in_ok-letter.ensures.letters.0 in
     let rest = letters c.args.nocase c.in_ok-letter.rest.now in
     let letter = c.in_ok-letter.letter in
     let tells = Tells c.args.nocase c.args.pattern.now in
     elim c.match-letter.branch [
-      | in-42 w ↦ subst tells (sym w.found-is) (first ∙ star_first rest letter w.in-42.is, c.in_ok-letter.ensures.1)
-      | in-63 w ↦ subst tells (sym w.found-is) (first ∙ question_first rest letter w.in-63.is, c.in_ok-letter.ensures.1)
-      | in-92 w ↦ subst tells (sym w.found-is) (first ∙ backslash_first rest letter w.in-92.is ∙ w.escaped_item-found.ensures.item, omega (arith, w.escaped_item-found.ensures.shorter, c.in_ok-letter.ensures.1))
-      | in-91 w ↦ subst tells (sym w.found-is) (first ∙ bracket_first rest letter w.in-91.is ∙ ap (λ cs. one_of (set_text rest) ∷ items cs) (sym w.behind_set.ensures.rest), omega (arith, w.behind_set.ensures.shorter, c.in_ok-letter.ensures.1))
-      | in_default w ↦ subst tells (sym w.found-is) (first ∙ plain_first rest letter (λ e. omega (arith, e)) (λ e. omega (arith, e)) (λ e. omega (arith, e)) (λ e. omega (arith, e)), c.in_ok-letter.ensures.1)
+      | in-42 w ↦ subst tells (sym w.found-is) (first ∙ star_first rest letter w.in-42.is, c.in_ok-letter.ensures.letters.1)
+      | in-63 w ↦ subst tells (sym w.found-is) (first ∙ question_first rest letter w.in-63.is, c.in_ok-letter.ensures.letters.1)
+      | in-92 w ↦ subst tells (sym w.found-is) (first ∙ backslash_first rest letter w.in-92.is ∙ w.escaped_item-found.ensures.item, omega (arith, w.escaped_item-found.ensures.shorter, c.in_ok-letter.ensures.letters.1))
+      | in-91 w ↦ subst tells (sym w.found-is) (first ∙ bracket_first rest letter w.in-91.is ∙ ap (λ cs. one_of (set_text rest) ∷ items cs) (sym w.behind_set.ensures.rest), omega (arith, w.behind_set.ensures.shorter, c.in_ok-letter.ensures.letters.1))
+      | in_default w ↦ subst tells (sym w.found-is) (first ∙ plain_first rest letter (λ e. omega (arith, e)) (λ e. omega (arith, e)) (λ e. omega (arith, e)) (λ e. omega (arith, e)), c.in_ok-letter.ensures.letters.1)
     ]

@@ -1,5 +1,5 @@
 use Rattle.std.proofs.lemmas.Result.{err_from_is_err_and}
-use Rattle.tcl_commands.proofs.Going.{one_item}
+use Rattle.tcl_text.proofs.Items.{one_item}
 use Rattle.tcl_builtins.proofs.Statuses.{exit_fails}
 use Rattle.tcl_builtins.proofs.exits.exit.Goals as goal
 

@@ -5,8 +5,9 @@ use Rattle.tcl_core.specs.Paths.{Text}
 use Rattle.tcl_run.specs.Ends.{IsFailure, itself}
 use Rattle.tcl_run.proofs.Endings.{ended_err}
 use Rattle.tcl_language.specs.Words.{is_level}
+use Rattle.tcl_text.proofs.Emptiness.{some_is, zero_is}
 use Rattle.tcl_calls.specs.Levels.{level_at_node, script_level}
-use Rattle.tcl_calls.proofs.Levelling.{alone_level, some_is, with_fails, with_level, without_level, zero_is}
+use Rattle.tcl_calls.proofs.Levelling.{alone_level, with_fails, with_level, without_level}
 use Rattle.tcl_calls.proofs.levels.script_level.Goals.{else-not-is_empty-via-then-not-is_empty+else-is_level, else-not-is_empty-via-else-not-is_empty}
 use Rattle.tcl_calls.proofs.levels.script_level.Goals as goal
 

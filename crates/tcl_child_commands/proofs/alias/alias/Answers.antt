@@ -2,8 +2,9 @@ use Rattle.std.proofs.Common.{◌-◌, [], ◌∷◌, length, take, drop, ap}
 use Rattle.std.specs.Prelude.{codes}
 use Rattle.tcl_language.specs.Faults.{wrong_args}
 use Rattle.tcl_language.specs.Interpreters as interpreters
-use Rattle.tcl_language.specs.Interpreters.{asks_at, child_form, child_path}
-use Rattle.tcl_entries.proofs.Telling.{evaluates_as, fails_told, one_item}
+use Rattle.tcl_language.specs.Interpreters.{child_form}
+use Rattle.tcl_entries.proofs.Telling.{evaluates_as, fails_told}
+use Rattle.tcl_text.proofs.Items.{one_item}
 use Rattle.tcl_child_commands.proofs.Forms as forms
 use Rattle.tcl_child_commands.proofs.alias.alias.Goals as goal
 

@@ -1,7 +1,7 @@
 use Rattle.std.proofs.Common.{◌∙◌, true, false, length, take, drop, ◌-◌}
 use Rattle.tcl_language.specs.Interpreters as interpreters
+use Rattle.tcl_text.proofs.Items.{split_first}
 use Rattle.tcl_child_commands.specs.HiddenCalls.{Pathed, called_as}
-use Rattle.tcl_child_commands.proofs.Forms.{split_first}
 use Rattle.tcl_child_commands.proofs.Invoking.{called_more, refused_more, invokes_as, fails_as, global_call, plain_call}
 use Rattle.tcl_child_commands.proofs.hidden.hidden_call.Goals as goal
 

@@ -3,8 +3,9 @@ use Rattle.std.specs.Prelude.{codes}
 use Rattle.tcl_core.specs.Entries.Entry.{Hide}
 use Rattle.tcl_language.specs.Faults.{wrong_args}
 use Rattle.tcl_language.specs.Interpreters as interpreters
-use Rattle.tcl_language.specs.Interpreters.{asks_at, child_form, child_path}
-use Rattle.tcl_entries.proofs.Telling.{evaluates_as, fails_told, one_item, two_items}
+use Rattle.tcl_language.specs.Interpreters.{child_form, child_path}
+use Rattle.tcl_entries.proofs.Telling.{evaluates_as, fails_told}
+use Rattle.tcl_text.proofs.Items.{one_item, two_items}
 use Rattle.tcl_child_commands.proofs.Forms as forms
 use Rattle.tcl_child_commands.proofs.hiding.hide.Goals.{in_default-via-then-args-lt1, in_default-via-else-args-lt1+else-args-lt2+else-args-lt3}
 use Rattle.tcl_child_commands.proofs.hiding.hide.Goals as goal

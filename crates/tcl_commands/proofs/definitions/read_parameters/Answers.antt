@@ -3,10 +3,10 @@ use Rattle.std.proofs.lemmas.Result.{err_from_is_err_and}
 use Rattle.tcl_language.specs.Instructions.{Program}
 use Rattle.tcl_run.proofs.Endings.{at_err}
 use Rattle.tcl_interpreter.specs.declared.parameter.Parameter.{Parameter}
+use Rattle.tcl_text.proofs.Items.{item_on}
 use Rattle.tcl_commands.specs.Ending.{EndsSo}
 use Rattle.tcl_commands.specs.Parameters.{parameters_from, reads_parameter}
 use Rattle.tcl_commands.proofs.Defining.{parameters_end, parameters_more}
-use Rattle.tcl_commands.proofs.Ways.{item_on}
 use Rattle.tcl_commands.proofs.definitions.read_parameters.Goals as goal
 
 pub texts-preserved : goal.texts-preserved

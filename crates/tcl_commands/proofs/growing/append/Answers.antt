@@ -1,6 +1,6 @@
 use Rattle.std.proofs.Common.{◌≡◌, ℕ, ◌≤◌, List, [], ◌∷◌, drop, length, length-drop, sym, ap, ◌∙◌, arith}
 use Rattle.std.specs.Prelude.{take, ◌-◌}
-use Rattle.tcl_commands.proofs.Going.{one_item}
+use Rattle.tcl_text.proofs.Items.{one_item}
 use Rattle.tcl_commands.proofs.Growths.{append_acts}
 use Rattle.tcl_commands.proofs.Linking.{behind, one_front}
 use Rattle.tcl_commands.proofs.Setting.{append_reads}

@@ -1,7 +1,7 @@
 use Rattle.std.proofs.Common.{◌≡◌, ℕ, List, [], ◌∷◌, sym, ap, ◌∙◌}
 use Rattle.tcl_frames.specs.Chain.{exists_at}
 use Rattle.tcl_run.proofs.Endings.{tells}
-use Rattle.tcl_commands.proofs.Going.{one_item}
+use Rattle.tcl_text.proofs.Items.{one_item}
 use Rattle.tcl_commands.proofs.Telling.{exists_ends, exists_fails}
 use Rattle.tcl_commands.proofs.inspection.exists.Goals as goal
 

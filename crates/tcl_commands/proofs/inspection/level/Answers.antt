@@ -5,9 +5,8 @@ use Rattle.tcl_language.specs.Inspection as inspection
 use Rattle.tcl_language.specs.Instructions.{look}
 use Rattle.tcl_run.specs.Plain.{Acts}
 use Rattle.tcl_text.specs.Numbers.{integer_of}
+use Rattle.tcl_text.proofs.Items.{one_item, no_item}
 use Rattle.tcl_tree.specs.TreeOf.{marks_of}
-use Rattle.tcl_commands.proofs.Going.{one_item}
-use Rattle.tcl_commands.proofs.Looking.{no_items}
 use Rattle.tcl_commands.proofs.Setting.{given_fits, handed}
 use Rattle.tcl_commands.proofs.Telling.{level_acts, level_ends, level_fails}
 use Rattle.tcl_commands.proofs.inspection.level.Goals as goal
@@ -20,7 +19,7 @@ returns-in_err-number-in-len1 c =
 
 pub returns-in_ok-number_value-in-empty : goal.returns-in_ok-number_value-in-empty
 returns-in_ok-number_value-in-empty c =
-    level_ends c.args.tree.now c.args.place c.args.args.now c.in_ok-number_value-in-empty.field-0 c.level.result c.frames_seen.result.now (no_items c.args.args.now c.in-empty.len_below)
+    level_ends c.args.tree.now c.args.place c.args.args.now c.in_ok-number_value-in-empty.field-0 c.level.result c.frames_seen.result.now (no_item c.args.args.now c.in-empty.len_below)
     c.in_ok-number_value-in-empty.ensures c.level.ensures c.frames_seen.ensures
 
 pub returns-in_ok-number-in-len1 : goal.returns-in_ok-number-in-len1

@@ -1,13 +1,12 @@
 use Rattle.std.proofs.Common.{◌≡◌, ℕ, List, ap, ◌∙◌}
 use Rattle.tcl_language.specs.Inspection.{matching}
-use Rattle.tcl_commands.proofs.Going.{one_item}
-use Rattle.tcl_commands.proofs.Looking.{no_items}
+use Rattle.tcl_text.proofs.Items.{one_item, no_item}
 use Rattle.tcl_commands.proofs.Telling.{names_all, names_matching}
 use Rattle.tcl_commands.proofs.inspection.names.Goals as goal
 
 pub returns-in_ok-names-in-empty : goal.returns-in_ok-names-in-empty
 returns-in_ok-names-in-empty c =
-    names_all c.args.tree.now c.args.place c.args.scope c.args.form.now c.args.args.now c.frames_seen.result.now c.as_slice.result.now c.list_value.result (no_items c.args.args.now c.in-empty.len_below)
+    names_all c.args.tree.now c.args.place c.args.scope c.args.form.now c.args.args.now c.frames_seen.result.now c.as_slice.result.now c.list_value.result (no_item c.args.args.now c.in-empty.len_below)
     (c.as_slice.ensures.value ∙ c.in_ok-names-in-empty.ensures) c.frames_seen.ensures c.list_value.ensures
 
 pub returns-in_ok-kept-in-len1 : goal.returns-in_ok-kept-in-len1

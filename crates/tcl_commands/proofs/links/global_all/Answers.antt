@@ -1,8 +1,9 @@
 use Rattle.std.proofs.Common.{◌≡◌, ◌+◌, ℕ, List, ◌∷◌, drop, sym, ap, ◌∙◌, arith}
 use Rattle.std.proofs.lemmas.Result.{err_from_is_err_and}
 use Rattle.tcl_language.specs.Variables.{global_all}
+use Rattle.tcl_text.proofs.Items.{item_on}
 use Rattle.tcl_commands.proofs.Linking.{global_goes, global_ends}
-use Rattle.tcl_commands.proofs.Ways.{item_on, way_goes, way_passes}
+use Rattle.tcl_commands.proofs.Ways.{way_goes, way_passes}
 use Rattle.tcl_commands.proofs.links.global_all.Goals as goal
 
 pub names-preserved : goal.names-preserved

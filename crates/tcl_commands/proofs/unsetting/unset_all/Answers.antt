@@ -3,8 +3,9 @@ use Rattle.std.proofs.lemmas.Result.{err_from_is_err_and}
 use Rattle.tcl_language.specs.Variables.{unset_all}
 use Rattle.tcl_run.specs.Ends.{Interrupts}
 use Rattle.tcl_tree.specs.TreeOf.{tree_of}
+use Rattle.tcl_text.proofs.Items.{item_on}
 use Rattle.tcl_commands.specs.Steps.{EndsAt, Leads}
-use Rattle.tcl_commands.proofs.Ways.{item_on, way_goes, way_passes}
+use Rattle.tcl_commands.proofs.Ways.{way_goes, way_passes}
 use Rattle.tcl_commands.proofs.unsetting.unset_all.Goals as goal
 
 pub names-preserved : goal.names-preserved

@@ -1,6 +1,6 @@
 use Rattle.std.proofs.Common.{◌≡◌, ℕ, List, [], ◌∷◌, sym, ap, ◌∙◌}
 use Rattle.std.proofs.lemmas.Result.{err_from_is_err_and}
-use Rattle.tcl_commands.proofs.Going.{one_item, two_items}
+use Rattle.tcl_text.proofs.Items.{one_item, two_items}
 use Rattle.tcl_commands.proofs.Setting.{set_reads, set_sets, set_passes}
 use Rattle.tcl_commands.proofs.variables.set.Goals as goal
 

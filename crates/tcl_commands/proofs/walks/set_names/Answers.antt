@@ -10,11 +10,12 @@ use Rattle.tcl_run.specs.Ends.{IsFailure}
 use Rattle.tcl_run.proofs.Endings.{at_err}
 use Rattle.tcl_tree.specs.Own.{Own}
 use Rattle.tcl_tree.specs.TreeOf.{tree_of, Names}
+use Rattle.tcl_text.proofs.Items.{item_on, none_on}
 use Rattle.tcl_commands.specs.Reaching.{GetsToEnd, Reaches}
 use Rattle.tcl_commands.specs.Reaching.Reaches.{here}
 use Rattle.tcl_commands.proofs.Reached.{reaches-trans, reaches_end}
 use Rattle.tcl_commands.proofs.Turns.{first_at, name_refused, name_set}
-use Rattle.tcl_commands.proofs.Ways.{item_on, level-trans, none_on}
+use Rattle.tcl_commands.proofs.Ways.{level-trans}
 use Rattle.tcl_commands.proofs.walks.set_names.Goals as goal
 
 pub names-init : goal.names-init

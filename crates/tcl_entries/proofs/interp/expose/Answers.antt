@@ -2,8 +2,8 @@ use Rattle.std.proofs.Common.{length, ap}
 use Rattle.tcl_core.specs.Entries.Entry.{Expose}
 use Rattle.tcl_language.specs.Faults.{wrong_args}
 use Rattle.tcl_language.specs.Interpreters as interpreters
-use Rattle.tcl_language.specs.Interpreters.{asks_at}
-use Rattle.tcl_entries.proofs.Telling.{evaluates_as, fails_told, two_items, three_items}
+use Rattle.tcl_text.proofs.Items.{two_items, three_items}
+use Rattle.tcl_entries.proofs.Telling.{evaluates_as, fails_told}
 use Rattle.std.proofs.Common.{◌⊎◌, inl, inr, ◌<◌, ◌≤◌, rules}
 use Rattle.std.specs.Prelude.{codes}
 use Rattle.tcl_entries.proofs.Telling.{expose_wrong}

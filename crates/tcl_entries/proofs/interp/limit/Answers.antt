@@ -1,8 +1,8 @@
 use Rattle.std.proofs.Common.{◌≡◌, [], ◌∷◌, length, ap}
 use Rattle.tcl_language.specs.Faults.{wrong_args}
 use Rattle.tcl_language.specs.Interpreters as interpreters
-use Rattle.tcl_language.specs.Interpreters.{asks_at}
-use Rattle.tcl_entries.proofs.Telling.{evaluates_as, fails_told, two_items, four_items}
+use Rattle.tcl_text.proofs.Items.{two_items, four_items}
+use Rattle.tcl_entries.proofs.Telling.{evaluates_as, fails_told}
 use Rattle.std.proofs.Common.{◌⊎◌, inl, inr, ◌<◌, ◌≤◌, rules}
 use Rattle.tcl_entries.proofs.Telling.{limit_wrong}
 use Rattle.tcl_entries.proofs.interp.limit.Goals.{in_default-via-then-args-lt2, in_default-via-else-args-lt2+else-args-lt3+then-args-lt4, in_default-via-else-args-lt2+else-args-lt3+else-args-lt4+else-args-lt5}

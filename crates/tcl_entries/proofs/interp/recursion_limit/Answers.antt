@@ -3,8 +3,8 @@ use Rattle.tcl_core.specs.Entries.Entry.{Ask}
 use Rattle.tcl_core.specs.Entries.Question.{DepthLimitOf}
 use Rattle.tcl_language.specs.Faults.{wrong_args}
 use Rattle.tcl_language.specs.Interpreters as interpreters
-use Rattle.tcl_language.specs.Interpreters.{asks_at}
-use Rattle.tcl_entries.proofs.Telling.{evaluates_as, fails_told, one_item, two_items}
+use Rattle.tcl_text.proofs.Items.{one_item, two_items}
+use Rattle.tcl_entries.proofs.Telling.{evaluates_as, fails_told}
 use Rattle.std.proofs.Common.{◌⊎◌, inl, inr, ◌<◌, ◌≤◌, rules}
 use Rattle.std.specs.Prelude.{codes}
 use Rattle.tcl_entries.proofs.Telling.{recursion_wrong}

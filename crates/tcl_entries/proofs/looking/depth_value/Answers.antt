@@ -4,7 +4,7 @@ use Rattle.tcl_run.proofs.Endings.{ended_err}
 use Rattle.tcl_tree.specs.TreeOf.{marks_of}
 use Rattle.std.proofs.lemmas.Result.{err_from_is_err_and}
 use Rattle.tcl_text.specs.Numbers.{integer_of}
-use Rattle.tcl_entries.proofs.Numbers.{handed}
+use Rattle.tcl_text.proofs.Fitting.{handed}
 use Rattle.tcl_entries.proofs.Looks.{integer_fails, depth_found}
 use Rattle.tcl_entries.proofs.looking.depth_value.Goals as goal
 

@@ -5,7 +5,7 @@ use Rattle.tcl_tree.specs.TreeOf.{tree_of, marks_of}
 use Rattle.std.proofs.Common.{Some}
 use Rattle.std.proofs.lemmas.Result.{err_from_is_err_and}
 use Rattle.tcl_text.specs.Numbers.{integer_of}
-use Rattle.tcl_entries.proofs.Numbers.{handed}
+use Rattle.tcl_text.proofs.Fitting.{handed}
 use Rattle.tcl_entries.proofs.Looks.{gets_as, gets_end, gets_failed, looks_then, is_program, no_limit, limit_fails, limit_goes, untrue}
 use Rattle.tcl_entries.proofs.looking.limit_value.Goals as goal
 

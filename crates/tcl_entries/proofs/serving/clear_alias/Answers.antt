@@ -4,9 +4,10 @@ use Rattle.tcl_core.specs.Paths.{Text}
 use Rattle.tcl_language.specs.Naming as language
 use Rattle.tcl_tree.specs.Naming as tree
 use Rattle.tcl_language.specs.Interpreters.{renaming, done_so, refusal_text}
+use Rattle.tcl_language.specs.Naming.{with_word}
 use Rattle.std.proofs.Common.{inr}
 use Rattle.tcl_entries.specs.Naming.{Tells}
-use Rattle.tcl_entries.proofs.Changing.{cleared_is, bad_cleared, with_word}
+use Rattle.tcl_entries.proofs.Changing.{cleared_is, bad_cleared}
 use Rattle.tcl_entries.proofs.Served.{passed_acts, renaming_bad, renaming_done, renaming_refused}
 use Rattle.tcl_entries.proofs.Standing.{named_level}
 use Rattle.tcl_entries.proofs.serving.clear_alias.Goals as goal

@@ -4,9 +4,10 @@ use Rattle.tcl_core.specs.Paths.{Text}
 use Rattle.tcl_language.specs.Naming as language
 use Rattle.tcl_tree.specs.Naming as tree
 use Rattle.tcl_language.specs.Interpreters.{renaming, done_so, refusal_text}
+use Rattle.tcl_language.specs.Naming.{with_word}
 use Rattle.tcl_interpreter.specs.declared.command.Command.TheVariants as command
 use Rattle.tcl_entries.specs.Naming.{Tells}
-use Rattle.tcl_entries.proofs.Changing.{named_is, bad_named, with_word}
+use Rattle.tcl_entries.proofs.Changing.{named_is, bad_named}
 use Rattle.tcl_entries.proofs.Served.{passed_acts, renaming_bad, renaming_done, renaming_refused}
 use Rattle.tcl_entries.proofs.Standing.{named_level}
 use Rattle.tcl_entries.proofs.serving.set_alias.Goals as goal

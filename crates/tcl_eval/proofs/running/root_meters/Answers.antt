@@ -4,7 +4,7 @@ use Rattle.tcl_core.proofs.PathLaws.{not_both}
 use Rattle.tcl_tree.proofs.CoreLemmas.{top_there}
 use Rattle.tcl_tree.specs.Nodes.{view_of}
 use Rattle.tcl_tree.specs.TreeOf.{tree_of}
-use Rattle.tcl_evaluation.proofs.Steps.{stands}
+use Rattle.tcl_run.proofs.Steady.{stands}
 use Rattle.tcl_eval.proofs.running.root_meters.Goals as goal
 
 pub unreachable-requires : goal.unreachable-requires

@@ -1,5 +1,5 @@
 use Rattle.std.proofs.Common.{false, refl}
-use Rattle.tcl_strings.proofs.LetterSteps.{found_letter}
+use Rattle.tcl_glob.proofs.Letters.{found_letter}
 use Rattle.tcl_format.proofs.specifier.first.Goals as goal
 
 pub returns : goal.returns

@@ -3,8 +3,8 @@ use Rattle.std.proofs.lemmas.Result.{err_from_is_err_and}
 use Rattle.tcl_language.specs.Interpreters as interpreters
 use Rattle.tcl_run.proofs.Losing.{lost_twice}
 use Rattle.tcl_run.proofs.Steady.{steady-trans, still_running}
-use Rattle.tcl_commands.proofs.Ways.{item_on, none_on}
 use Rattle.tcl_entries.proofs.Telling.{passes}
+use Rattle.tcl_text.proofs.Items.{item_on, none_on}
 use Rattle.tcl_interp_commands.proofs.Stepping.{leads_then, leads_end, leads_done}
 use Rattle.tcl_interp_commands.proofs.deleting.delete.Goals as goal
 

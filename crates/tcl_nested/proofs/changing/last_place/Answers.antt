@@ -1,4 +1,4 @@
-use Rattle.tcl_nested.proofs.Named.{last_place_of}
+use Rattle.tcl_text.proofs.Fitting.{last_place_of}
 use Rattle.tcl_nested.proofs.changing.last_place.Goals as goal
 
 pub returns : goal.returns

@@ -1,5 +1,5 @@
 use Rattle.std.proofs.Common.{Err, ap}
-use Rattle.tcl_string_commands.proofs.CommandLemmas.{limited_past}
+use Rattle.tcl_words.proofs.WordLemmas.{limited_past}
 use Rattle.tcl_string_commands.proofs.making.cat.Goals as goal
 
 pub returns-in-Err : goal.returns-in-Err

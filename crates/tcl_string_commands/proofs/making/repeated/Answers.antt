@@ -2,8 +2,10 @@ use Rattle.std.proofs.Common.{ℕ, List, ◌/◌, length, refl, sym, subst, arit
 use Rattle.std.specs.declared.result.Result.{Result}
 use Rattle.tcl_words.specs.Outcomes.{Gives, Refuses, answer_text}
 use Rattle.tcl_words.specs.Limits.{limited}
+use Rattle.tcl_words.proofs.WordLemmas.{limited_past}
 use Rattle.tcl_strings.specs.Texts.{copies}
-use Rattle.tcl_string_commands.proofs.CommandLemmas.{copies_of_empty, length-copies, limited_past, too_many, is_filled}
+use Rattle.tcl_text.proofs.Emptiness.{is_filled}
+use Rattle.tcl_string_commands.proofs.CommandLemmas.{copies_of_empty, length-copies, too_many}
 use Rattle.tcl_string_commands.proofs.making.repeated.Goals as goal
 
 pub returns-then-is_empty : goal.returns-then-is_empty

@@ -1,4 +1,4 @@
-use Rattle.tcl_string_commands.proofs.CommandLemmas.{text_of-chars}
+use Rattle.tcl_strings.proofs.LetterSteps.{text_of-chars}
 use Rattle.tcl_string_commands.proofs.spans.before.Goals as goal
 
 pub returns : goal.returns

@@ -1,6 +1,6 @@
 use Rattle.std.proofs.Common.{ℕ, ◌∙◌, ap}
 use Rattle.tcl_words.specs.Spans.{from}
-use Rattle.tcl_string_commands.proofs.CommandLemmas.{text_of-chars}
+use Rattle.tcl_strings.proofs.LetterSteps.{text_of-chars}
 use Rattle.tcl_string_commands.proofs.spans.span.Goals as goal
 
 pub returns-clause-bytes : goal.returns-clause-bytes

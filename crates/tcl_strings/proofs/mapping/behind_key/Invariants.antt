@@ -1,6 +1,6 @@
 use Rattle.std.proofs.Common.{◌≡◌, length, drop}
 use Rattle.std.specs.Str.{chars}
-use Rattle.tcl_strings.specs.Texts.{letters}
+use Rattle.tcl_glob.specs.Patterns.{letters}
 use Rattle.tcl_strings.specs.Places.{begins}
 use Rattle.tcl_strings.proofs.mapping.behind_key.Given as goal
 use denote.Shadow.{shadow}

@@ -1,8 +1,9 @@
 use Rattle.std.proofs.Common.{◌≡◌, ◌<◌, ◌∙◌, [], length, sym, ap, arith}
 use Rattle.std.proofs.lemmas.Bool.Decides.{nat_tests}
-use Rattle.tcl_strings.specs.Texts.{letters}
+use Rattle.tcl_glob.proofs.Letters.{no_letter}
+use Rattle.tcl_glob.specs.Patterns.{letters}
 use Rattle.tcl_strings.specs.Order.{order}
-use Rattle.tcl_strings.proofs.LetterSteps.{no_letter, some_letter}
+use Rattle.tcl_strings.proofs.LetterSteps.{some_letter}
 use Rattle.tcl_strings.proofs.order.compare.Goals as goal
 
 pub returns-then-is_empty : goal.returns-then-is_empty

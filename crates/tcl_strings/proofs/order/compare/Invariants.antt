@@ -1,5 +1,5 @@
 use Rattle.std.proofs.Common.{◌≡◌, length}
-use Rattle.tcl_strings.specs.Texts.{letters}
+use Rattle.tcl_glob.specs.Patterns.{letters}
 use Rattle.tcl_strings.specs.Order.{order}
 use Rattle.tcl_strings.proofs.order.compare.Given as goal
 use denote.Shadow.{shadow}

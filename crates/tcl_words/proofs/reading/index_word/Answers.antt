@@ -1,8 +1,9 @@
 use Rattle.std.proofs.Common.{◌≡◌, ℤ, pos, ◌-ℤ◌, to_z, of_z, w64, sym, ◌∙◌, ap}
 use Rattle.std.proofs.lemmas.Int.{to_z-of_z}
 use Rattle.tcl_text.specs.Indexes.{index_of}
+use Rattle.tcl_text.proofs.Fitting.{fits_last}
 use Rattle.tcl_words.specs.Words.{index_or}
-use Rattle.tcl_words.proofs.WordLemmas.{refuses_at, index_ok, index_err, counted, fits_last}
+use Rattle.tcl_words.proofs.WordLemmas.{refuses_at, index_ok, index_err, counted}
 use Rattle.tcl_words.proofs.reading.index_word.Goals as goal
 
 pub returns-in-Ok : goal.returns-in-Ok

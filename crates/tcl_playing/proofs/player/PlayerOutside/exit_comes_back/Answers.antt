@@ -5,13 +5,14 @@ use Rattle.tcl_core.specs.Entries.Answer.{Replied}
 use Rattle.tcl_core.specs.Paths.{rise_to}
 use Rattle.tcl_core.specs.Runs.{is_exit}
 use Rattle.tcl_reactions.specs.Playing.{Answers}
+use Rattle.tcl_reactions.proofs.Free.{same_exit}
 use Rattle.tcl_run.specs.Entering.{whole_entry}
 use Rattle.tcl_tree.specs.TreeOf.{tree_of}
 use Rattle.tcl_watching.specs.Crossings.{answer_of}
 use Rattle.tcl_playing.specs.Moves.{move_of}
 use Rattle.tcl_playing.specs.Players.{GoesOn, IsOverBy, player_of}
 use Rattle.std.proofs.Common.{Some}
-use Rattle.tcl_playing.proofs.Played.{answered, outer, over_at, read_at, same_exit}
+use Rattle.tcl_playing.proofs.Played.{answered, outer, over_at, read_at}
 use Rattle.tcl_playing.proofs.player.PlayerOutside.exit_comes_back.Goals as goal
 
 pub returns-in-None-clause-told : goal.returns-in-None-clause-told

@@ -3,8 +3,8 @@ use Rattle.std.specs.Option.{option_map}
 use Rattle.std.proofs.lemmas.Option.{MatchOption-at_none}
 use Rattle.std.proofs.lemmas.Str.Pattern.{strip_prefix_char}
 use Rattle.tcl_text.specs.Numbers.{integer_of}
-use Rattle.tcl_commands.proofs.Levels.{level_within, plain_is, up_is}
-use Rattle.tcl_commands.proofs.links.level_of.Goals as goal
+use Rattle.tcl_run.proofs.Levelling.{level_within, plain_is, up_is}
+use Rattle.tcl_run.proofs.levels.level_of.Goals as goal
 
 pub returns-in_err-up-in-None : goal.returns-in_err-up-in-None
 returns-in_err-up-in-None c =

@@ -3,27 +3,25 @@ use Rattle.std.proofs.Common.{sym, ◌≡◌, ℕ, ℤ, Bool, true, false, List,
 use Rattle.tcl_core.specs.Paths.{Path, Place, Height, strip, rise_to}
 use Rattle.tcl_core.specs.Endings.{Reply}
 use Rattle.tcl_core.specs.Endings.Reply.{Exit}
-use Rattle.tcl_core.specs.Entries.{Entry, Answer, Said}
+use Rattle.tcl_core.specs.Entries.{Entry, Answer}
 use Rattle.tcl_core.specs.Entries.Answer.{Replied}
-use Rattle.tcl_core.specs.Trees.{Grants, Tree, Node, What, Event, Move}
+use Rattle.tcl_core.specs.Trees.{Grants, Tree, What, Event, Move}
 use Rattle.tcl_core.specs.Trees.What.{Made, Dropped, Out, In, Done, Back}
 use Rattle.tcl_core.specs.Trees.Move.{Born, Fall, Enter, Come}
 use Rattle.tcl_core.specs.Programs.{Deed, spot, Act, Wrap, Wait, Prog, Table, decide, opens, closes}
 use Rattle.tcl_core.specs.Programs.Prog.{done, exit, act, go, inside, call, wait}
 use Rattle.tcl_core.specs.Programs.{Calls_only}
-use Rattle.tcl_core.specs.Runs.{World, Step, Ending, Halts, Exits, Exiting, entering, reached, where_stands, ends_call, height_of}
+use Rattle.tcl_core.specs.Runs.{World, Step, Ending, Halts, Exits, Exiting, reached, ends_call, height_of}
 use Rattle.tcl_core.specs.Rules.{Derives}
 use Rattle.tcl_core.specs.Rules.Derives.{completed, exited, acted, refused, unheard, went, passed, halted, wrapped, wrapped_passed, wrapped_halted, too_deep, shut, unheard_inside, called, called_passed, called_halted, unreached, called_out, unanswered, unfit, answered, heard, answered_passed, entered, entered_halted, entered_exiting, born, fallen}
-use Rattle.tcl_core.specs.Lives.{Lives, idle, never}
-use Rattle.tcl_core.specs.Laws.{Turn, comes_in, goes_out, life_at, turn_in, turn_at, turn, NoLeaving}
+use Rattle.tcl_core.specs.Laws.{Turn, comes_in, goes_out, life_at, turn_in, turn_at, turn}
 use Rattle.tcl_core.specs.Laws.Turn.{Enters, Leaves, Inside, Elsewhere, Life}
 use Rattle.tcl_core.proofs.PathLaws.{not_both, Some-inj, strip_own, strip-sound, child_in, rise_to_within, rise_to_out, rise_to_elsewhere, rise_to_past, rise_into, rise_back}
-use Rattle.tcl_core.proofs.TreeLaws.{spot_within, IsLife, elsewhere_life, opens_here}
+use Rattle.tcl_core.proofs.TreeLaws.{IsLife, elsewhere_life, opens_here, reached_at, spot_in}
 use Rattle.tcl_core.proofs.Subtrees.{top_only}
 use Rattle.tcl_core.proofs.Plain.{IsPlain, decide_plain, opens_plain, closes_plain}
-use Rattle.tcl_core.proofs.RuleLaws.{runs_derived}
-use Rattle.tcl_core.proofs.Outside.{halted_tape}
-use Rattle.tcl_isolation.proofs.Untouching.{AreUnheard, Unheard}
+use Rattle.tcl_core.proofs.Callers.{Fits, fit, entering_calls}
+use Rattle.tcl_core.proofs.Halts.{halted_tape}
 
 abbrev pub is_in : Option Place → Bool
 is_in None = false
@@ -37,7 +35,7 @@ Turned f Elsewhere b = (b ≡ false) × f false
 Turned f Life b = f b
 
 -- where control is while a call at p is out
-abbrev gone : Option Place → Height → Bool
+abbrev pub gone : Option Place → Height → Bool
 gone None h = false
 gone (Some q) h = is_in (rise_to h q)
 
@@ -128,7 +126,7 @@ module _ {O : Type 0} (c : Place) where
       by : (o : Option Place) → strip c p ≡ o → Tracked c u.tape (is_in o) → Tracked c w.tape (is_in o)
       by None e j = turned w (spot p s) x u false t (away (strip c (spot p s)) e refl j)
       by (Some q) e j =
-          let d : strip c (spot p s) ≡ Some (spot q s) = ap (λ r. strip c (spot r s)) (strip-sound c p q e) ∙ ap (strip c) (spot_within c q s) ∙ strip_own c (spot q s) in
+          let d : strip c (spot p s) ≡ Some (spot q s) = spot_in c p q s e in
           turned w (spot p s) x u true t (subst (λ o. Turned (Tracked c u.tape) (turn_at o x) true) (sym d) (plain_inside (spot q s) x (Tracked c u.tape) f j))
 
   spot_life : (p : Place) (d : Act O) (T : Tree O) (gs : Grants) (x : Deed O) → decide d T p gs ≡ Some x → (s : Option (List ℕ)) → x.0 ≡ s → (q : Place) → strip c p ≡ None → strip c (spot p s) ≡ Some q → (q ≡ []) × IsLife x.1
@@ -188,10 +186,6 @@ module _ {O : Type 0} (c : Place) where
       by None f = (refl, subst (Tracked c u.tape) f j)
       by (Some q) f = goes (rise_to h q) f
 
-  reached_at : (n : Option (Node O)) (t p : Place) → where_stands n p ≡ Some t → t ≡ p
-  reached_at None t p e = absurd (not_both refl e)
-  reached_at (Some n) t p e = sym (Some-inj p e)
-
   exits_here : (w : World O) (p : Place) (s : Wait) (n : ℤ) (ms : List (Move O)) (v : World O) (e : Ending) → Exits w p s n ms v e → Here v p → Tracked c w.tape (gone (strip c p) (height_of s))
   exits_here w p s n ms v e a h = by ms a
     where
@@ -211,14 +205,9 @@ module _ {O : Type 0} (c : Place) where
 
 module _ {O I : Type 0} (top : Place) (prog : Table O I) where
   -- where a program's control is: at p, or outside while it waits
-  abbrev Control : World O → Place → Prog O I → Type 0
+  abbrev pub Control : World O → Place → Prog O I → Type 0
   Control w p (wait s k) = Tracked top w.tape (gone (strip top p) (height_of s))
   Control w p _ = Here top w p
-
-  -- a program that calls only, or one that waits for such a call
-  abbrev Fit : Prog O I → Type 0
-  Fit (wait s k) = (y : Said) → Calls_only (k y)
-  Fit x = Calls_only x
 
   control_here : (w : World O) (p : Place) (x : Prog O I) → Calls_only x → Control w p x → Here top w p
   control_here w p (wait s k) f t = absurd f
@@ -229,19 +218,6 @@ module _ {O I : Type 0} (top : Place) (prog : Table O I) where
   control_here w p (inside b i k) f t = t
   control_here w p (call h down i lost k) f t = t
 
-  fit_of : (x : Prog O I) → Calls_only x → Fit x
-  fit_of (wait s k) f = absurd f
-  fit_of (done c) f = f
-  fit_of (exit n) f = f
-  fit_of (act d k) f = f
-  fit_of (go i k) f = f
-  fit_of (inside b i k) f = f
-  fit_of (call h down i lost k) f = f
-
-  fit_entry : (n : Option (Node O)) (i : Entry) → Calls_only (entering prog n i)
-  fit_entry None i = tt
-  fit_entry (Some n) i = prog.entries_call i
-
   pub no_tape : (w : World O) (b : Bool) → w.tape ≡ [] → Tracked top w.tape b
   no_tape w b e = subst (λ τ. Tracked top τ b) (sym e) tt
 
@@ -251,7 +227,7 @@ module _ {O I : Type 0} (top : Place) (prog : Table O I) where
 
   called_comes : (u : World O) (p a t : Place) (h : Height) (down : Path) → rise_to h p ≡ Some a → reached u.tree a down ≡ Some t → Comes (gone (strip top p) h) (strip top t) (Some (length down))
   called_comes u p a t h down e f =
-      subst (λ r. Comes (gone (strip top p) h) (strip top r) (Some (length down))) (sym (reached_at top (u.tree (a ++ down)) t (a ++ down) f)) (call_comes top p a h down e)
+      subst (λ r. Comes (gone (strip top p) h) (strip top r) (Some (length down))) (sym (reached_at (u.tree (a ++ down)) t (a ++ down) f)) (call_comes top p a h down e)
 
   waits_out : (w : World O) (p : Place) (s : Wait) → rise_to (height_of s) p ≡ None → Tracked top w.tape false → Tracked top w.tape (gone (strip top p) (height_of s))
   waits_out w p s e t = subst (Tracked top w.tape) (sym (gone_out top p (height_of s) e)) t
@@ -266,54 +242,50 @@ module _ {O I : Type 0} (top : Place) (prog : Table O I) where
       by None e = (refl, t)
       by (Some q) e = life_elsewhere top q x (Tracked top u.tape) (top_only top q e) l t
 
-  pub track : {w : World O} {p : Place} {x : Prog O I} {v : World O} {e : Ending} → Derives prog w p x v e → Fit x → Here top v p → Control w p x
+  pub track : {w : World O} {p : Place} {x : Prog O I} {v : World O} {e : Ending} → Derives prog w p x v e → Fits x → Here top v p → Control w p x
   track (completed w p c) f h = h
   track (exited w p n) f h = h
-  track (acted w p d k x u v e g on s a) f h = act_here top w p d x u g s (control_here u p _ (f _) (track a (fit_of _ (f _)) h))
+  track (acted w p d k x u v e g on s a) f h = act_here top w p d x u g s (control_here u p _ (f _) (track a (fit _ (f _)) h))
   track (refused w p d k x r u g off s) f h = act_here top w p d x u g s h
   track (unheard w p d k g t) f h = h
-  track (went w p i k u c v e a b) f h = control_here w p _ (prog.programs_call i) (track a (fit_of _ (prog.programs_call i)) (control_here u p _ (f c) (track b (fit_of _ (f c)) h)))
-  track (passed w p i k u r q a) f h = control_here w p _ (prog.programs_call i) (track a (fit_of _ (prog.programs_call i)) h)
-  track (halted w p i k u a) f h = control_here w p _ (prog.programs_call i) (track a (fit_of _ (prog.programs_call i)) h)
+  track (went w p i k u c v e a b) f h = control_here w p _ (prog.programs_call i) (track a (fit _ (prog.programs_call i)) (control_here u p _ (f c) (track b (fit _ (f c)) h)))
+  track (passed w p i k u r q a) f h = control_here w p _ (prog.programs_call i) (track a (fit _ (prog.programs_call i)) h)
+  track (halted w p i k u a) f h = control_here w p _ (prog.programs_call i) (track a (fit _ (prog.programs_call i)) h)
   track (wrapped w p b i k x inner left closed v c e g on s a t d) f h =
-      open_here top w p b x inner g s (control_here inner p _ (prog.programs_call i) (track a (fit_of _ (prog.programs_call i)) (close_here top left p b closed t (control_here closed p _ (f c) (track d (fit_of _ (f c)) h)))))
+      open_here top w p b x inner g s (control_here inner p _ (prog.programs_call i) (track a (fit _ (prog.programs_call i)) (close_here top left p b closed t (control_here closed p _ (f c) (track d (fit _ (f c)) h)))))
   track (wrapped_passed w p b i k x inner left closed r q g on s a t) f h =
-      open_here top w p b x inner g s (control_here inner p _ (prog.programs_call i) (track a (fit_of _ (prog.programs_call i)) (close_here top left p b closed t h)))
-  track (wrapped_halted w p b i k x inner left g on s a) f h = open_here top w p b x inner g s (control_here inner p _ (prog.programs_call i) (track a (fit_of _ (prog.programs_call i)) h))
-  track (too_deep w p b i k x u v e g deep s a) f h = open_here top w p b x u g s (control_here u p _ (f _) (track a (fit_of _ (f _)) h))
+      open_here top w p b x inner g s (control_here inner p _ (prog.programs_call i) (track a (fit _ (prog.programs_call i)) (close_here top left p b closed t h)))
+  track (wrapped_halted w p b i k x inner left g on s a) f h = open_here top w p b x inner g s (control_here inner p _ (prog.programs_call i) (track a (fit _ (prog.programs_call i)) h))
+  track (too_deep w p b i k x u v e g deep s a) f h = open_here top w p b x u g s (control_here u p _ (f _) (track a (fit _ (f _)) h))
   track (shut w p b i k x r u g off s) f h = open_here top w p b x u g s h
   track (unheard_inside w p b i k g t) f h = h
   track (called w p h down i lost k a t out inner left told back v r c e g s1 j s2 x s3 so s4 b) f n =
       out_here top w p h down i out s1 (visit_here out inner left told (Some (length down)) t i r (gone (strip top p) h) (called_comes out p a t h down g j) s2
-      (λ l. control_here inner t _ (fit_entry (out.tree t) i) (track x (fit_of _ (fit_entry (out.tree t) i)) l)) s3
-      (back_here top told p h _ back s4 (control_here back p _ (f _) (track b (fit_of _ (f _)) n))))
+      (λ l. control_here inner t _ (entering_calls prog (out.tree t) i) (track x (fit _ (entering_calls prog (out.tree t) i)) l)) s3
+      (back_here top told p h _ back s4 (control_here back p _ (f _) (track b (fit _ (f _)) n))))
   track (called_passed w p h down i lost k a t out inner left told back r g s1 j s2 x s3 q s4) f n =
       out_here top w p h down i out s1 (visit_here out inner left told (Some (length down)) t i r (gone (strip top p) h) (called_comes out p a t h down g j) s2
-      (λ l. control_here inner t _ (fit_entry (out.tree t) i) (track x (fit_of _ (fit_entry (out.tree t) i)) l)) s3 (back_here top told p h _ back s4 n))
+      (λ l. control_here inner t _ (entering_calls prog (out.tree t) i) (track x (fit _ (entering_calls prog (out.tree t) i)) l)) s3 (back_here top told p h _ back s4 n))
   track (called_halted w p h down i lost k a t out inner left g s1 j s2 x) f n =
       out_here top w p h down i out s1 (in_here top out t (Some (length down)) i inner (gone (strip top p) h) (called_comes out p a t h down g j) s2
-      (control_here inner t _ (fit_entry (out.tree t) i) (track x (fit_of _ (fit_entry (out.tree t) i)) (no_tape left _ (halted_tape prog x refl)))))
-  track (unreached w p h down i lost k a out back v e g s1 j s2 x) f n = out_here top w p h down i out s1 (back_here top out p h _ back s2 (control_here back p _ (f _) (track x (fit_of _ (f _)) n)))
+      (control_here inner t _ (entering_calls prog (out.tree t) i) (track x (fit _ (entering_calls prog (out.tree t) i)) (no_tape left _ (halted_tape prog x refl)))))
+  track (unreached w p h down i lost k a out back v e g s1 j s2 x) f n = out_here top w p h down i out s1 (back_here top out p h _ back s2 (control_here back p _ (f _) (track x (fit _ (f _)) n)))
   track (called_out w p h down i lost k u v e g s a) f n = out_here top w p h down i u s (track a f n)
   track (unanswered w p s k g m t) f h = no_tape w _ t
   track (unfit w p s k m ms g j l t) f h = no_tape w _ t
-  track (answered w p s k c u v e g j t a) f h = back_here top w p (height_of s) _ u t (control_here u p _ (f _) (track a (fit_of _ (f _)) h))
-  track (heard w p s k y u v e g j t a) f h = back_here top w p (height_of s) _ u t (control_here u p _ (f _) (track a (fit_of _ (f _)) h))
+  track (answered w p s k c u v e g j t a) f h = back_here top w p (height_of s) _ u t (control_here u p _ (f _) (track a (fit _ (f _)) h))
+  track (heard w p s k y u v e g j t a) f h = back_here top w p (height_of s) _ u t (control_here u p _ (f _) (track a (fit _ (f _)) h))
   track (answered_passed w p s k r u q g j t) f h = back_here top w p (height_of s) _ u t h
   track (entered w p s k t i inner left told v r e g s1 a s2 n b) f h =
-      waits_out w p s g (visit_here w inner left told None t i r false (outer_comes top t) s1 (λ l. control_here inner t _ (fit_entry (w.tree t) i) (track a (fit_of _ (fit_entry (w.tree t) i)) l)) s2 (waits_in told p s g (track b f h)))
+      waits_out w p s g (visit_here w inner left told None t i r false (outer_comes top t) s1 (λ l. control_here inner t _ (entering_calls prog (w.tree t) i) (track a (fit _ (entering_calls prog (w.tree t) i)) l)) s2 (waits_in told p s g (track b f h)))
   track (entered_halted w p s k t i inner left g s1 a) f h =
-      waits_out w p s g (in_here top w t None i inner false (outer_comes top t) s1 (control_here inner t _ (fit_entry (w.tree t) i) (track a (fit_of _ (fit_entry (w.tree t) i)) (no_tape left _ (halted_tape prog a refl)))))
+      waits_out w p s g (in_here top w t None i inner false (outer_comes top t) s1 (control_here inner t _ (entering_calls prog (w.tree t) i) (track a (fit _ (entering_calls prog (w.tree t) i)) (no_tape left _ (halted_tape prog a refl)))))
   track (entered_exiting w p s k t i inner left told v n e g s1 a s2 b) f h =
-      waits_out w p s g (visit_here w inner left told None t i (Exit n) false (outer_comes top t) s1 (λ l. control_here inner t _ (fit_entry (w.tree t) i) (track a (fit_of _ (fit_entry (w.tree t) i)) l)) s2 (waits_in told p s g (exits_here top told p s n told.moves v e b h)))
+      waits_out w p s g (visit_here w inner left told None t i (Exit n) false (outer_comes top t) s1 (λ l. control_here inner t _ (entering_calls prog (w.tree t) i) (track a (fit _ (entering_calls prog (w.tree t) i)) l)) s2 (waits_in told p s g (exits_here top told p s n told.moves v e b h)))
   track (born w p s k o b u v e g t a) f h = waits_out w p s g (life_here w (Made o b) u tt t (waits_in u p s g (track a f h)))
   track (fallen w p s k u v e g t a) f h = waits_out w p s g (life_here w Dropped u tt t (waits_in u p s g (track a f h)))
 
--- ## Along the tape
-came : (f : Bool → Type 0) (c p q : Place) (h : Height) → strip c p ≡ Some q → (o : Option Place) → rise_to h q ≡ o → Turned f (comes_in o) true → rise_to h p ≡ None → Prim.⊥
-came f c p q h e None g t n = let z : true ≡ false = t.0 in cc
-came f c p q h e (Some a) g t n = not_both (rise_to_past c q h (subst (λ r. rise_to h r ≡ None) (strip-sound c p q e) n)) g
-
+-- along the tape
 module _ {O : Type 0} (c : Place) where
   later : (τ : List (Event O)) (x : Turn) (b : Bool) → Turned (Tracked c τ) x b → (d : Bool) × Tracked c τ d
   later τ Enters b y = (true, y.1)
@@ -327,32 +299,3 @@ module _ {O : Type 0} (c : Place) where
   tracked_after (ev ∷ σ) τ b t =
       let n : (d : Bool) × Tracked c (σ ++ τ) d = later (σ ++ τ) (turn c ev) b t in
       tracked_after σ τ n.0 n.1
-
-  unheard_at : (f : Bool → Type 0) (p : Place) (s : Option Place) (x : What O) → strip c p ≡ s → Turned f (turn_at s x) true → Unheard p x
-  unheard_at f p None (In h i) e t = λ n. (let z : true ≡ false = t.0 in cc)
-  unheard_at f p None (Back h a) e t = λ n. (let z : true ≡ false = t.0 in cc)
-  unheard_at f p (Some q) (In h i) e t = came f c p q h e (rise_to h q) refl t
-  unheard_at f p (Some q) (Back h a) e t = came f c p q h e (rise_to h q) refl t
-  unheard_at f p s x e t = tt
-
-  -- while control is in c and doesn't leave it, nothing comes from past the top of the whole tree
-  pub unheard_within : (mid last : List (Event O)) → Tracked c (mid ++ last) true → NoLeaving c mid → AreUnheard mid
-  unheard_within [] last t f = tt
-  unheard_within (ev ∷ mid) last t f = (unheard_at (Tracked c (mid ++ last)) ev.place (strip c ev.place) ev.what refl t, on (λ a. unheard_within mid last a f.1) (turn c ev) refl t)
-    where
-      on : (Tracked c (mid ++ last) true → AreUnheard mid) → (x : Turn) → turn c ev ≡ x → Turned (Tracked c (mid ++ last)) x true → AreUnheard mid
-      on g Enters e y = let z : true ≡ false = y.0 in cc
-      on g Leaves e y = absurd (f.0 e)
-      on g Inside e y = g y.1
-      on g Elsewhere e y = let z : true ≡ false = y.0 in cc
-      on g Life e y = g y
-
-module _ {O I : Type 0} where
-  -- from an entry into c, or an answer to a call of c's, to the next call or end that leaves it
-  pub nothing_between : (prog : Table O I) (c : Place) (w v : World O) (e : Ending) (first mid last : List (Event O)) (ev : Event O) →
-      Lives prog w v e → v.tape ≡ [] → w.tape ≡ first ++ ev ∷ (mid ++ last) → turn c ev ≡ Enters → NoLeaving c mid → AreUnheard mid
-  nothing_between prog c w v e first mid last ev a f g h n =
-      let t : Control c prog w [] (wait idle never) = track c prog (runs_derived prog w [] (wait idle never) v e a) (λ y. tt) (no_tape c prog v _ f) in
-      let s : (d : Bool) × Tracked c (ev ∷ (mid ++ last)) d = tracked_after c first (ev ∷ (mid ++ last)) (gone (strip c []) None) (subst (λ τ. Tracked c τ (gone (strip c []) None)) g t) in
-      let y : Turned (Tracked c (mid ++ last)) Enters s.0 = subst (λ x. Turned (Tracked c (mid ++ last)) x s.0) h s.1 in
-      unheard_within c mid last y.1 n

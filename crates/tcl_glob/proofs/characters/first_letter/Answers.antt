@@ -1,8 +1,8 @@
 use Rattle.std.proofs.Common.{◌≡◌, ◌∙◌, sym, ap, cond}
 use Rattle.std.specs.Char.{to_ascii_lowercase}
-use Rattle.tcl_strings.proofs.LetterSteps.{found_letter, behind_first}
-use Rattle.tcl_strings.proofs.letters.first_letter.Goals as goal
-use Rattle.tcl_strings.proofs.letters.first_letter.Goals.{then-nocase, else-nocase}
+use Rattle.tcl_glob.proofs.Letters.{found_letter, behind_first}
+use Rattle.tcl_glob.proofs.characters.first_letter.Goals as goal
+use Rattle.tcl_glob.proofs.characters.first_letter.Goals.{then-nocase, else-nocase}
 
 pub returns-clause-letters : goal.returns-clause-letters
 returns-clause-letters c =

@@ -1,0 +1,43 @@
+-- Programs that call, and wait for nothing.
+use Rattle.std.proofs.Common.{◌≡◌, Option, Some, None, refl}
+use Rattle.tcl_core.specs.Entries.{Entry, Said}
+use Rattle.tcl_core.specs.Trees.{Node}
+use Rattle.tcl_core.specs.Programs.{Calls_only, Prog, Table, Wait}
+use Rattle.tcl_core.specs.Programs.Prog.{done, exit, act, go, inside, call, wait}
+use Rattle.tcl_core.specs.Runs.{entering}
+
+module _ {O I : Type 0} where
+  -- the call that a program waits for
+  abbrev pub waits_for : Prog O I → Wait
+  waits_for (wait s k) = s
+  waits_for x = None
+
+  -- a program that calls only, or one that waits for such a call
+  abbrev pub Fits : Prog O I → Type 0
+  Fits (wait s k) = (a : Said) → Calls_only (k a)
+  Fits x = Calls_only x
+
+  -- what calls waits for nothing
+  pub no_wait : (x : Prog O I) → Calls_only x → waits_for x ≡ None
+  no_wait (done c) f = refl
+  no_wait (exit n) f = refl
+  no_wait (act d k) f = refl
+  no_wait (go i k) f = refl
+  no_wait (inside b i k) f = refl
+  no_wait (call h down i lost k) f = refl
+  no_wait (wait s k) f = absurd f
+
+  -- and goes on as what calls
+  pub fit : (x : Prog O I) → Calls_only x → Fits x
+  fit (done c) f = f
+  fit (exit n) f = f
+  fit (act d k) f = f
+  fit (go i k) f = f
+  fit (inside b i k) f = f
+  fit (call h down i lost k) f = f
+  fit (wait s k) f = absurd f
+
+  -- what an entry does calls
+  pub entering_calls : (prog : Table O I) (n : Option (Node O)) (i : Entry) → Calls_only (entering prog n i)
+  entering_calls prog None i = tt
+  entering_calls prog (Some n) i = prog.entries_call i
