@@ -13,9 +13,9 @@ ghost use Rattle.tcl_run.specs.Runs.{IsLoss, ways};
 ghost use Rattle.tcl_eval.specs.Running.{AsksFirst, IsBudgeted, IsGivenUp, IsOpenRun, IsRun, IsWhole, Tells, ending_of, unfit, root_count, root_limit};
 ghost use Rattle.tcl_eval.specs.declared.running.Refused.TheVariants.{Memory};
 
-use tcl_evaluation::crossing::serve_eval;
 use std::alloc::{AllocError, Global};
 use tcl_budgets::scripts_keep_budgets;
+use tcl_evaluation::crossing::serve_eval;
 use tcl_flow::completion::{self, Completion};
 use tcl_flow::stop::{Stop, StopKind};
 use tcl_host::host::Host;

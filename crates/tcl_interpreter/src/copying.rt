@@ -41,12 +41,7 @@ impl Node {
     ghost use Rattle.tcl_interpreter.specs.Copying.{IsBare};
 
     /// One that has the same, but no children, and this parent and this name.
-    pub fn bare(
-        &self,
-        alloc: Global,
-        parent: Option<usize>,
-        name: Text,
-    ) -> Result<Node, AllocError>
+    pub fn bare(&self, alloc: Global, parent: Option<usize>, name: Text) -> Result<Node, AllocError>
         ensures { IfOk result (λ made. IsBare self.now made parent name) }
     {
         let state = self.state.copy()?;

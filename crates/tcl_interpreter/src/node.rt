@@ -53,12 +53,7 @@ impl State {
     ghost use Rattle.tcl_interpreter.specs.Nodes.{full_of, state_view, moved, new_view};
 
     /// What a new interpreter has, the root of its tree or not, with this limit of depth.
-    pub fn new(
-        alloc: Global,
-        safe: bool,
-        root: bool,
-        depth_limit: u64,
-    ) -> Result<State, AllocError>
+    pub fn new(alloc: Global, safe: bool, root: bool, depth_limit: u64) -> Result<State, AllocError>
         requires least { 1 ≤ depth_limit }
         requires most { depth_limit ≤ 1000 }
         ensures view { IfOk result (λ state. (names : List (List ℕ)) → state_view state names ≡ new_view safe root depth_limit names) }

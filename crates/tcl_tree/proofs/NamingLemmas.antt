@@ -86,4 +86,3 @@ always_ok (Err e) h = tt
 pub if_none : {T P : Type 0} (o : Option T) → P → IfNone o P
 if_none None h = h
 if_none (Some x) h = tt
-
