@@ -5,7 +5,6 @@ ghost use Rattle.tcl_format.specs.Specifiers.{is_flag, with_flag, no_flags, read
 
 use tcl_text::limit::MOST_BYTES;
 
-
 /// The greatest width.
 pub const MOST_WIDTH: usize = 9999;
 

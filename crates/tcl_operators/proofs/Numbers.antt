@@ -63,8 +63,6 @@ exact a b q r d = subst (IsDivision a b q) (left_over a b q r d) d
 pub floors : (a : ℤ) (d : ℕ) → 0 < d → (r : ℤ) × IsDivision a (pos d) (floor a d) r
 floors a d h = let s = shifted a d h in (s.0, subst (λ (q : ℤ). IsDivision a (pos d) q s.0) (floor_is a d) s.1)
 
-}
-
 pub divides : Divides
 divides a (pos zero) h = absurd (h refl)
 divides a (pos (suc b)) h = let d = floors a (suc b) (omega arith) in exact a (pos (suc b)) (floor a (suc b)) d.0 d.1

@@ -91,7 +91,8 @@ pub fn failure_about(alloc: Global, front: &str, text: &str) -> Interruption
 
 /// There is a command of this name.
 pub fn already_exists(alloc: Global, name: &str) -> Interruption
-    ensures { Interrupts result (λ e. e ≡ Completed (failing (interpreters.already_exists name.now))) }
+    ensures { Interrupts result
+        (λ e. e ≡ Completed (failing (interpreters.already_exists name.now))) }
 {
     failure_quoting(alloc, "", name, ALREADY_EXISTS)
 }

@@ -4,7 +4,9 @@ ghost use Rattle.std.specs.String.{string_bytes};
 ghost use Rattle.tcl_tree.specs.declared.refusal.Refusal.TheVariants.{Memory};
 
 use std::alloc::{AllocError, AllocFailed, Global};
-use tcl_text::messages::{ALREADY_EXISTS, BAD_DEPTH_LIMIT, COUNT_LIMIT, DENIED, DEPTH_LIMIT, TOO_MANY};
+use tcl_text::messages::{
+    ALREADY_EXISTS, BAD_DEPTH_LIMIT, COUNT_LIMIT, DENIED, DEPTH_LIMIT, TOO_MANY,
+};
 
 /// Why a call on the tree did nothing.
 #[derive(Clone, Copy, Debug, Drop)]
@@ -55,7 +57,8 @@ impl<T: Drop> From<AllocFailed<T>> for Refusal {
 
 /// A word in quotation marks, and what stands behind it.
 fn quoted(alloc: Global, word: &str, behind: &str) -> Result<String, AllocError>
-    ensures { IfOk result (λ text. string_bytes text ≡ codes "\"" ++ word.now ++ codes "\"" ++ behind.now) }
+    ensures { IfOk result (λ text.
+        string_bytes text ≡ codes "\"" ++ word.now ++ codes "\"" ++ behind.now) }
 {
     format!(in alloc; "\"{word}\"{behind}")
 }
