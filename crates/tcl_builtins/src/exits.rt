@@ -1,25 +1,27 @@
 //! `exit`.
-ghost use Rattle.std.specs.Prelude.{◌≡◌, codes};
+ghost use Rattle.std.specs.Prelude.{◌≡◌};
 ghost use Rattle.tcl_core.specs.Endings.Reply.{Completed};
 ghost use Rattle.tcl_language.specs.Hosting as hosting;
 ghost use Rattle.tcl_run.specs.Ends.{Interrupts, failing};
 ghost use Rattle.tcl_run.specs.Plain.{Acts};
 ghost use Rattle.tcl_run.specs.Runs.{IsLevel};
 ghost use Rattle.tcl_builtins.specs.Exiting.{IsExit};
+ghost use Rattle.tcl_text.specs.Messages as messages;
 
 use std::alloc::Global;
 use tcl_commands::steps::word_integer;
 use tcl_run::failure::{failure, wrong_args};
 use tcl_run::interruption::Interruption;
+use tcl_text::messages::BAD_STATUS;
 use tcl_text::text::Text;
 use tcl_tree::tree::{Place, Tree};
 use tcl_value::value::Value;
 
 /// The error of a status that no run ends with.
 fn bad_status(alloc: Global) -> Interruption
-    ensures { Interrupts result (λ e. e ≡ Completed (failing (codes "exit status must be between 0 and 255"))) }
+    ensures { Interrupts result (λ e. e ≡ Completed (failing messages.bad_status)) }
 {
-    match Text::new(alloc, "exit status must be between 0 and 255") {
+    match Text::new(alloc, BAD_STATUS) {
         Ok(message) => failure(alloc, message),
         Err(_) => Interruption::Memory,
     }

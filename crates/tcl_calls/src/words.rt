@@ -21,13 +21,11 @@ use tcl_parser::script::Script;
 use tcl_run::failure::{failure, too_long};
 use tcl_run::interruption::Interruption;
 use tcl_run::steps::{read_list, read_variable};
+use tcl_text::limit::MOST_BYTES;
 use tcl_text::text::Text;
 use tcl_tree::tree::{Place, Tree};
 use tcl_value::list::List;
 use tcl_value::value::Value;
-
-/// The most bytes of a value.
-const MAX_TEXT: usize = 16777216;
 
 /// An element whose key is being substituted: its name, and the word's text before it.
 #[derive(Drop)]
@@ -86,7 +84,7 @@ pub fn append(alloc: Global, text: &mut String, more: &str) -> Result<(), Interr
     ensures refused { IfErr result (λ i. Interrupts i (λ e. (fits (string_bytes text.old ++ more.now) ≡ false) × (e ≡ Completed too_long_error))) }
     ensures short { OnOk result (IsShort (string_bytes text.new)) }
 {
-    if more.len() > MAX_TEXT.saturating_sub(text.len()) || text.len() > MAX_TEXT {
+    if more.len() > MOST_BYTES.saturating_sub(text.len()) || text.len() > MOST_BYTES {
         return Err(too_long(alloc));
     }
     text.push_str(more)?;
@@ -100,7 +98,7 @@ pub fn append_value(alloc: Global, text: &mut String, value: &Value) -> Result<(
     ensures refused { IfErr result (λ i. Interrupts i (λ e. (fits (string_bytes text.old ++ value.now) ≡ false) × (e ≡ Completed too_long_error))) }
     ensures short { OnOk result (IsShort (string_bytes text.new)) }
 {
-    if value.text_len() > MAX_TEXT.saturating_sub(text.len()) || text.len() > MAX_TEXT {
+    if value.text_len() > MOST_BYTES.saturating_sub(text.len()) || text.len() > MOST_BYTES {
         return Err(too_long(alloc));
     }
     value.write_to(alloc, text)?;

@@ -22,9 +22,10 @@ use tcl_run::failure::{failure, too_long, wrong_args};
 use tcl_run::interruption::Interruption;
 use tcl_run::steps::{frame_failure, read_variable};
 use tcl_text::integer::Integers;
+use tcl_text::limit::MOST_BYTES;
 use tcl_text::text::Text;
 use tcl_tree::tree::{Place, Tree};
-use tcl_value::value::{MOST_BYTES, Value};
+use tcl_value::value::Value;
 use tcl_variables::fault::FrameError;
 use tcl_words::refusal::Refusal;
 

@@ -1,5 +1,5 @@
 //! The commands that link variables.
-ghost use Rattle.std.specs.Prelude.{◌≡◌, ◌<◌, ◌^◌, IfOk, Some};
+ghost use Rattle.std.specs.Prelude.{◌≡◌, IfOk, Some};
 ghost use Rattle.tcl_core.specs.Paths.{Path};
 ghost use Rattle.tcl_language.specs.Variables as variables;
 ghost use Rattle.tcl_frames.specs.Chain.{after_link};

@@ -1,17 +1,15 @@
 //! How commands are named, and what is told where they can't be.
-ghost use Rattle.std.specs.Prelude.{◌≡◌, ◌++◌, codes, IfOk, IfErr, OnOk, Some, None};
-ghost use Rattle.tcl_core.specs.Endings.Reply.{Completed};
+ghost use Rattle.std.specs.Prelude.{◌≡◌, IfOk, IfErr, OnOk, Some, None};
 ghost use Rattle.tcl_core.specs.Paths.{Path};
 ghost use Rattle.tcl_core.specs.Trees as core;
-ghost use Rattle.tcl_language.specs.Interpreters as interpreters;
 ghost use Rattle.tcl_language.specs.Naming.{command_name, without_colons};
-ghost use Rattle.tcl_run.specs.Ends.{Interrupts, failing};
+ghost use Rattle.tcl_run.specs.Ends.{Interrupts};
 ghost use Rattle.tcl_tree.specs.Own.{Own, command_in};
 ghost use Rattle.tcl_tree.specs.TreeOf.{tree_of, Names};
 ghost use Rattle.tcl_commands.specs.Renaming.{IsBadName, IsNoOwnCommand, IsOwnCommand, TellsRefusal};
 
 use std::alloc::{AllocError, Global};
-use tcl_run::failure::{bad_name, failure, invalid_command, invalid_hidden};
+use tcl_run::failure::{already_exists, bad_name, denied, invalid_command, invalid_hidden};
 use tcl_run::interruption::Interruption;
 use tcl_text::text::Text;
 use tcl_tree::command::Command;
@@ -52,36 +50,6 @@ pub(crate) fn kept_name(alloc: Global, word: &Value) -> Result<Text, Interruptio
     match name_of(alloc, word)? {
         Some(name) => Ok(name),
         None => Err(bad_name(alloc, word.text(alloc)?.as_str())),
-    }
-}
-
-/// A text in quotes, and an end.
-fn quoted(alloc: Global, text: &str, end: &str) -> Result<Text, AllocError>
-    ensures { IfOk result (λ made. made ≡ codes "\"" ++ (text.now ++ end.now)) }
-{
-    let mut made = String::from_str(alloc, "\"")?;
-    made.push_str(text)?;
-    made.push_str(end)?;
-    Text::from_string(alloc, made)
-}
-
-/// There is such a command.
-fn already_exists(alloc: Global, name: &str) -> Interruption
-    ensures { Interrupts result (λ e. e ≡ Completed (failing (interpreters.already_exists name.now))) }
-{
-    match quoted(alloc, name, "\" already exists") {
-        Ok(message) => failure(alloc, message),
-        Err(_) => Interruption::Memory,
-    }
-}
-
-/// The interpreter may not do this.
-fn denied(alloc: Global) -> Interruption
-    ensures { Interrupts result (λ e. e ≡ Completed (failing interpreters.denied)) }
-{
-    match Text::new(alloc, "permission denied") {
-        Ok(message) => failure(alloc, message),
-        Err(_) => Interruption::Memory,
     }
 }
 

@@ -12,6 +12,7 @@ use std::alloc::Global;
 use tcl_run::failure::failure;
 use tcl_run::interruption::Interruption;
 use tcl_text::integer::Integers;
+use tcl_text::messages::OVERFLOW;
 use tcl_text::text::Text;
 use tcl_value::value::Value;
 
@@ -19,7 +20,7 @@ use tcl_value::value::Value;
 fn overflow(alloc: Global) -> Interruption
     ensures { Interrupts result (λ e. e ≡ Completed (failing variables.overflow)) }
 {
-    match Text::new(alloc, "integer overflow") {
+    match Text::new(alloc, OVERFLOW) {
         Ok(message) => failure(alloc, message),
         Err(_) => Interruption::Memory,
     }

@@ -17,7 +17,7 @@ use Rattle.tcl_core.specs.Programs.Next.{On, Off}
 use Rattle.tcl_core.specs.Programs.Act.{Look, Change, Charge, Limit, LimitDepth, Make, Drop}
 use Rattle.tcl_core.specs.Programs.Wrap.{Deeper, Framed}
 use Rattle.tcl_core.specs.Programs.Prog.{done, exit, act, go, inside, call, wait}
-use Rattle.tcl_core.specs.Runs.{World, Step, Ending, Halts, Exits, Exiting, entering, ends_call, height_of}
+use Rattle.tcl_core.specs.Runs.{World, Step, Ending, Exits, entering, height_of}
 use Rattle.tcl_core.specs.Rules.{Derives}
 use Rattle.tcl_core.specs.Rules.Derives.{completed, exited, acted, refused, unheard, went, passed, halted, wrapped, wrapped_passed, wrapped_halted, too_deep, shut, unheard_inside, called, called_passed, called_halted, unreached, called_out, unanswered, unfit, answered, heard, answered_passed, entered, entered_halted, entered_exiting, born, fallen}
 use Rattle.tcl_core.specs.Views.{view, inside_of}
@@ -27,6 +27,7 @@ use Rattle.tcl_core.specs.Laws.{Disciplined}
 use Rattle.tcl_core.proofs.PathLaws.{not_both, Some-inj}
 use Rattle.tcl_core.proofs.RuleLaws.{runs_derived}
 use Rattle.tcl_core.proofs.Conclusions.{lives_within}
+use Rattle.tcl_core.proofs.Halts.{exits_so}
 
 module _ {O I : Type 0} (R : Discipline O I) where
   at_end_good : (f : Option (Node O) → Option (Node O)) (s : Option Place) (o : Option (Node O)) → IsGoodNode R o → IsGoodNode R (f o) → IsGoodNode R (at_end s f o)
@@ -184,21 +185,8 @@ module _ {O I : Type 0} (R : Discipline O I) where
     fit_move n t i (inr f) = (true, (λ e. inr f.1), fit_of true _ (fit_limit n i f.0))
 
     exits_kept : (w : World O) (p : Place) (s : Wait) (n : ℤ) (ms : List (Move O)) (v : World O) (e : Ending) → Exits w p s n ms v e → Good w → Kept w v
-    exits_kept w p s n ms v e a g = by ms a
-      where
-        halt : Halts w v e → Kept w v
-        halt x = subst (Kept w) (sym x.same) (here w g)
-
-        back : (l : Bool) → Exiting w p s n l v e → Kept w v
-        back false x = halt x
-        back true x = step_kept w p (Back (height_of s) (Replied (Exit n))) v v tt x.0 (here v (good_step w p (Back (height_of s) (Replied (Exit n))) v tt x.0 g))
-
-        by : (ms : List (Move O)) → Exits w p s n ms v e → Kept w v
-        by [] x = halt x
-        by (Come y ∷ ms) x = back (ends_call s n y) x
-        by (Born o l ∷ ms) x = halt x
-        by (Fall ∷ ms) x = halt x
-        by (Enter u i ∷ ms) x = halt x
+    exits_kept w p s n ms v e a g =
+        exits_so (Kept w) w p s n ms v e (here w g) (λ x. step_kept w p (Back (height_of s) (Replied (Exit n))) v v tt x (here v (good_step w p (Back (height_of s) (Replied (Exit n))) v tt x g))) a
 
     -- the entry that is read is tame
     entry_tame : (w : World O) (t : Place) (i : Entry) (u : World O) → Step w t (In None i) u → Good w → Tame_move R (Enter t i)

@@ -1,14 +1,34 @@
 -- What halts has no more to happen.
-use Rattle.std.proofs.Common.{sym, ◌≡◌, ℤ, Bool, true, false, List, [], ◌∷◌, Some, None, ◌∙◌, ap}
+use Rattle.std.proofs.Common.{sym, ◌≡◌, ℤ, Bool, true, false, List, [], ◌∷◌, Some, None, ◌∙◌, ap, subst}
 use Rattle.tcl_core.specs.Paths.{Place}
 use Rattle.tcl_core.specs.Endings.{Reply}
 use Rattle.tcl_core.specs.Endings.Reply.{Exit}
+use Rattle.tcl_core.specs.Entries.Answer.{Replied}
 use Rattle.tcl_core.specs.Trees.{Move}
+use Rattle.tcl_core.specs.Trees.What.{Back}
 use Rattle.tcl_core.specs.Trees.Move.{Born, Fall, Enter, Come}
 use Rattle.tcl_core.specs.Programs.{Wait, Prog, Table}
-use Rattle.tcl_core.specs.Runs.{World, Ending, Halts, Exits, Exiting, ends_call}
+use Rattle.tcl_core.specs.Runs.{World, Step, Ending, Halts, Exits, Exiting, ends_call, height_of}
 use Rattle.tcl_core.specs.Rules.{Derives}
 use Rattle.tcl_core.specs.Rules.Derives.{completed, exited, acted, refused, unheard, went, passed, halted, wrapped, wrapped_passed, wrapped_halted, too_deep, shut, unheard_inside, called, called_passed, called_halted, unreached, called_out, unanswered, unfit, answered, heard, answered_passed, entered, entered_halted, entered_exiting, born, fallen}
+
+-- What holds at an exit, and where it comes back to a call, holds wherever it leads.
+pub exits_so : {O : Type 0} (Q : World O → Type 0) (w : World O) (p : Place) (s : Wait) (n : ℤ) (ms : List (Move O)) (v : World O) (e : Ending) → Q w → (Step w p (Back (height_of s) (Replied (Exit n))) v → Q v) → Exits w p s n ms v e → Q v
+exits_so {O} Q w p s n ms v e here comes a = by ms a
+  where
+    halt : Halts w v e → Q v
+    halt x = subst Q (sym x.same) here
+
+    back : (l : Bool) → Exiting w p s n l v e → Q v
+    back false x = halt x
+    back true x = comes x.0
+
+    by : (ms : List (Move O)) → Exits w p s n ms v e → Q v
+    by [] x = halt x
+    by (Come y ∷ ms) x = back (ends_call s n y) x
+    by (Born o l ∷ ms) x = halt x
+    by (Fall ∷ ms) x = halt x
+    by (Enter u i ∷ ms) x = halt x
 
 module _ {O I : Type 0} (prog : Table O I) where
   -- what halts has no more to happen

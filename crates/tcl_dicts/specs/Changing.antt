@@ -7,6 +7,7 @@ use Rattle.std.specs.Fmt.{signed_decimal}
 use Rattle.tcl_text.specs.declared.integer.Integers.{Integers}
 use Rattle.tcl_text.specs.declared.integer.IntegerFault.{IntegerFault}
 use Rattle.tcl_text.specs.Numbers.{in_64_bits}
+use Rattle.tcl_text.specs.Messages as messages
 use Rattle.tcl_words.specs.Outcomes.{Outcome, next}
 use Rattle.tcl_words.specs.Words.{integer_word}
 use Rattle.tcl_words.specs.Faults.{wrong_arguments}
@@ -54,7 +55,7 @@ integer_or other style None = Ok other
 integer_or other style (Some text) = integer_word style text
 
 abbrev pub overflow : List ℕ
-overflow = codes "integer overflow"
+overflow = messages.overflow
 
 abbrev pub number_text : Result ℤ IntegerFault → Outcome
 number_text (Ok n) = Ok (signed_decimal n)

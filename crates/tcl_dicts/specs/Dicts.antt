@@ -1,5 +1,5 @@
 -- The subcommands of dict as functions of texts. A value that is read as a dict is the list of its keys with their values.
-use Rattle.std.specs.Prelude.{ℕ, ◌%◌, ◌==◌, pos, Bool, true, false, if◌then◌else◌, List, [], ◌∷◌, ◌++◌, length, filter, Ok, Err, codes}
+use Rattle.std.specs.Prelude.{ℕ, ◌%◌, ◌==◌, pos, Bool, true, false, if◌then◌else◌, List, [], ◌∷◌, length, filter, Ok, Err, codes}
 use Rattle.std.specs.declared.result.Result.{Result}
 use Rattle.std.specs.declared.option.Option.{Option}
 use Rattle.std.specs.declared.option.Option.TheVariants.{None, Some}
@@ -14,6 +14,7 @@ use Rattle.tcl_value.specs.Dicts.{Pairs, put, without, value_of, dict_of}
 use Rattle.tcl_value.specs.DictMessages.{dict_message}
 use Rattle.tcl_value.specs.declared.dict_fault.DictFault.{DictFault}
 use Rattle.tcl_lists.specs.Lists.{Texts, list_value, first_and_rest, two_and_rest}
+use Rattle.tcl_nested.specs.Errors.{unknown_key}
 
 -- the dict of what was read, or what is told of its fault
 abbrev pub dict_or : Result Pairs DictFault → Result Pairs (List ℕ)
@@ -27,10 +28,6 @@ dict_word text = dict_or (dict_of text)
 -- a dict as a value: the list of its keys and values in turn, or 122
 abbrev pub dict_value : Pairs → Outcome
 dict_value es = list_value (flat es)
-
--- what is told of a key that a dict hasn't
-abbrev pub unknown_key : List ℕ → List ℕ
-unknown_key key = codes "key \"" ++ key ++ codes "\" not known in dictionary"
 
 abbrev pub found_or : List ℕ → Option (List ℕ) → Outcome
 found_or key (Some v) = Ok v

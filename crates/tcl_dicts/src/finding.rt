@@ -7,9 +7,9 @@ ghost use Rattle.tcl_dicts.specs.Dicts.{value_at, at_key, at_keys, get_at, get_o
 use crate::reading::{dict_value, dict_word, unknown_key};
 use std::alloc::Global;
 use tcl_lists::reading::{first_and_rest, one_word, two_and_rest};
+use tcl_text::limit::MOST_BYTES;
 use tcl_value::dict::Dict;
 use tcl_value::value::Value;
-use tcl_words::limits::MOST_BYTES;
 use tcl_words::refusal::{Refusal, too_long};
 
 /// The value of a key.

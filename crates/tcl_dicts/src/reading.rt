@@ -1,13 +1,14 @@
 //! How dicts are read from words, made values, and refused.
-ghost use Rattle.std.specs.Prelude.{◌≡◌, ℕ, List, Err, IfOk};
+ghost use Rattle.std.specs.Prelude.{◌≡◌, ℕ, List, Err};
 ghost use Rattle.tcl_words.specs.Outcomes.{Gives, Refuses};
 ghost use Rattle.tcl_value.specs.DictMessages.{dict_message};
-ghost use Rattle.tcl_dicts.specs.Dicts.{dict_word, dict_value, unknown_key};
+ghost use Rattle.tcl_dicts.specs.Dicts.{dict_word, dict_value};
+ghost use Rattle.tcl_nested.specs.Errors.{unknown_key};
 ghost use Rattle.tcl_dicts.specs.Refusing.{RefusesEntry};
 
-use std::alloc::{AllocError, Global};
+use std::alloc::Global;
 use tcl_lists::refusing::not_made;
-use tcl_text::text::Text;
+use tcl_nested::fault::unknown_key_message;
 use tcl_value::dict::Dict;
 use tcl_value::dict_fault::{DictError, DictFault, EntryError};
 use tcl_value::value::Value;
@@ -62,21 +63,11 @@ pub fn dict_value(alloc: Global, dict: Dict) -> Result<Value, Refusal>
     }
 }
 
-/// The message about a key that a dict hasn't.
-fn unknown_text(alloc: Global, key: &str) -> Result<Text, AllocError>
-    ensures { IfOk result (λ made. made ≡ unknown_key key.now) }
-{
-    let mut made = String::from_str(alloc, "key \"")?;
-    made.push_str(key)?;
-    made.push_str("\" not known in dictionary")?;
-    Text::from_string(alloc, made)
-}
-
 /// What is told of a key that a dict hasn't (242).
 pub fn unknown_key(alloc: Global, key: &str) -> Refusal
     ensures { Refuses {X = List ℕ} result (Err (unknown_key key.now)) }
 {
-    match unknown_text(alloc, key) {
+    match unknown_key_message(alloc, key) {
         Ok(text) => Refusal::Fault(text),
         Err(_) => Refusal::Memory,
     }

@@ -12,6 +12,7 @@ use tcl_lists::lengthening;
 use tcl_lists::reading::own_integer;
 use tcl_lists::refusing::not_made;
 use tcl_text::integer::Integers;
+use tcl_text::messages::OVERFLOW;
 use tcl_text::text::Text;
 use tcl_value::value::Value;
 use tcl_words::refusal::Refusal;
@@ -48,7 +49,7 @@ fn own_word(word: Option<&Value>) -> Result<Option<Value>, Refusal>
 fn overflow(alloc: Global) -> Refusal
     ensures { Refuses {X = List ℕ} result (Err overflow) }
 {
-    match Text::new(alloc, "integer overflow") {
+    match Text::new(alloc, OVERFLOW) {
         Ok(text) => Refusal::Fault(text),
         Err(_) => Refusal::Memory,
     }

@@ -1,5 +1,5 @@
 -- Steps of a program that read and look, and change nothing.
-use Rattle.std.specs.Prelude.{◌≡◌, ℕ, ℤ, pos, negsuc, codes, Result, MatchResult}
+use Rattle.std.specs.Prelude.{◌≡◌, ℕ, ℤ, pos, negsuc, Result, MatchResult}
 use Rattle.tcl_core.specs.Endings.{Completion, Reply}
 use Rattle.tcl_core.specs.Endings.Reply.{Completed}
 use Rattle.tcl_core.specs.Paths.{Text, Place, Path}
@@ -12,6 +12,7 @@ use Rattle.tcl_run.specs.Ends.{Interrupts, failing}
 use Rattle.tcl_run.specs.Runs.{IsThere}
 use Rattle.tcl_run.specs.declared.interruption.Interruption.{Interruption}
 use Rattle.tcl_text.specs.declared.integer.Integers.{Integers}
+use Rattle.tcl_text.specs.Messages as messages
 use Rattle.tcl_tree.specs.Own.{Own}
 use Rattle.tcl_tree.specs.TreeOf.{tree_of}
 use Rattle.tcl_tree.specs.declared.tree.Tree as table
@@ -49,4 +50,4 @@ abbrev pub CountGiven : Text → ℤ → Result ℕ Interruption → Type 0
 CountGiven word n result = MatchResult result (λ m. n ≡ pos m) (λ i. Interrupts i (λ e. (m : ℕ) × (n ≡ negsuc m) × (e ≡ Completed (failing (bad_count word)))))
 
 abbrev pub DepthGiven : ℤ → Result ℕ Interruption → Type 0
-DepthGiven n result = MatchResult result (λ m. n ≡ pos m) (λ i. Interrupts i (λ e. (m : ℕ) × (n ≡ negsuc m) × (e ≡ Completed (failing (codes "recursion limit must be between 1 and 1000")))))
+DepthGiven n result = MatchResult result (λ m. n ≡ pos m) (λ i. Interrupts i (λ e. (m : ℕ) × (n ≡ negsuc m) × (e ≡ Completed (failing messages.bad_depth_limit))))

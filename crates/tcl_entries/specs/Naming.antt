@@ -1,5 +1,5 @@
 -- What refusals of the table come to.
-use Rattle.std.specs.Prelude.{◌≡◌, [], ◌∷◌, codes}
+use Rattle.std.specs.Prelude.{◌≡◌, [], ◌∷◌}
 use Rattle.tcl_core.specs.Endings.Reply.{Completed}
 use Rattle.tcl_core.specs.Paths.{Text}
 use Rattle.tcl_language.specs.Faults.{invalid_command}
@@ -8,6 +8,7 @@ use Rattle.tcl_run.specs.Ends.{Interrupts, failing}
 use Rattle.tcl_run.specs.declared.interruption.Interruption.{Interruption}
 use Rattle.tcl_run.specs.declared.interruption.Interruption.TheVariants as interruption
 use Rattle.tcl_text.specs.Writing.{written_list}
+use Rattle.tcl_text.specs.Messages as messages
 use Rattle.tcl_interpreter.specs.declared.refusal.Refusal.{Refusal}
 use Rattle.tcl_interpreter.specs.declared.refusal.Refusal.TheVariants as refusal
 
@@ -23,7 +24,7 @@ hiding_text e name hidden = refusal_text e hidden
 
 -- of one to make a child
 abbrev pub making_text : Refusal → Text → Text
-making_text refusal.TooMany name = codes "too many interpreters"
+making_text refusal.TooMany name = messages.too_many
 making_text e name = refusal_text e name
 
 -- and of one to delete a child

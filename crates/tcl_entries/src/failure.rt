@@ -1,48 +1,19 @@
 //! The errors of asking interpreters.
-ghost use Rattle.std.specs.Prelude.{◌≡◌, codes, IfOk};
+ghost use Rattle.std.specs.Prelude.{◌≡◌};
 ghost use Rattle.tcl_core.specs.Endings.Reply.{Completed};
 ghost use Rattle.tcl_language.specs.Interpreters as interpreters;
 ghost use Rattle.tcl_run.specs.Ends.{Interrupts, failing};
-ghost use Rattle.tcl_variables.specs.Messages.{quoted};
 ghost use Rattle.tcl_entries.specs.Naming.{Tells, hiding_text};
+ghost use Rattle.tcl_text.specs.Messages as messages;
 
-use std::alloc::{AllocError, Global};
-use tcl_run::failure::{bad_name, failure, invalid_command, invalid_hidden};
+use std::alloc::Global;
+use tcl_run::failure::{
+    already_exists, bad_name, denied, failure_about, failure_quoting, invalid_command,
+    invalid_hidden, plain_failure,
+};
 use tcl_run::interruption::Interruption;
-use tcl_text::text::Text;
+use tcl_text::messages::{BAD_DEPTH_LIMIT, TOO_MANY};
 use tcl_tree::refusal::Refusal;
-
-/// The error of this message.
-fn plain_failure(alloc: Global, message: &str) -> Interruption
-    ensures { Interrupts result (λ e. e ≡ Completed (failing message.now)) }
-{
-    match Text::new(alloc, message) {
-        Ok(message) => failure(alloc, message),
-        Err(_) => Interruption::Memory,
-    }
-}
-
-/// A front, a text in quotes and an end.
-fn quoted(alloc: Global, front: &str, text: &str, end: &str) -> Result<Text, AllocError>
-    ensures { IfOk result (λ made. made ≡ quoted front.now text.now end.now) }
-{
-    let mut made = String::from_str(alloc, front)?;
-    made.push_str("\"")?;
-    made.push_str(text)?;
-    made.push_str("\"")?;
-    made.push_str(end)?;
-    Text::from_string(alloc, made)
-}
-
-/// The error of a message that quotes a text.
-fn quoting(alloc: Global, front: &str, text: &str, end: &str) -> Interruption
-    ensures { Interrupts result (λ e. e ≡ Completed (failing (quoted front.now text.now end.now))) }
-{
-    match quoted(alloc, front, text, end) {
-        Ok(message) => failure(alloc, message),
-        Err(_) => Interruption::Memory,
-    }
-}
 
 /// The error that a refusal to name a command is, with the word that is wrong.
 pub fn refusal_failure(alloc: Global, refusal: Refusal, word: &str) -> Interruption
@@ -79,47 +50,33 @@ pub fn hiding_failure(alloc: Global, refusal: Refusal, name: &str, hidden: &str)
 pub fn in_use(alloc: Global, path: &str) -> Interruption
     ensures { Interrupts result (λ e. e ≡ Completed (failing (interpreters.in_use path.now))) }
 {
-    quoting(alloc, "interpreter ", path, " is in use")
-}
-
-/// There is a command of this name.
-pub fn already_exists(alloc: Global, name: &str) -> Interruption
-    ensures { Interrupts result (λ e. e ≡ Completed (failing (interpreters.already_exists name.now))) }
-{
-    quoting(alloc, "", name, " already exists")
+    failure_quoting(alloc, "interpreter ", path, " is in use")
 }
 
 /// There is no such option.
 pub fn bad_option(alloc: Global, word: &str) -> Interruption
     ensures { Interrupts result (λ e. e ≡ Completed (failing (interpreters.bad_option word.now))) }
 {
-    quoting(alloc, "bad option ", word, "")
+    failure_about(alloc, "bad option ", word)
 }
 
 /// No number of steps may be this.
 pub fn bad_count(alloc: Global, word: &str) -> Interruption
     ensures { Interrupts result (λ e. e ≡ Completed (failing (interpreters.bad_count word.now))) }
 {
-    quoting(alloc, "bad count ", word, "")
-}
-
-/// The interpreter may not do this.
-pub fn denied(alloc: Global) -> Interruption
-    ensures { Interrupts result (λ e. e ≡ Completed (failing interpreters.denied)) }
-{
-    plain_failure(alloc, "permission denied")
+    failure_about(alloc, "bad count ", word)
 }
 
 /// The interpreter has as many children as it may have.
 pub fn too_many(alloc: Global) -> Interruption
-    ensures { Interrupts result (λ e. e ≡ Completed (failing (codes "too many interpreters"))) }
+    ensures { Interrupts result (λ e. e ≡ Completed (failing messages.too_many)) }
 {
-    plain_failure(alloc, "too many interpreters")
+    plain_failure(alloc, TOO_MANY)
 }
 
 /// No limit of depth may be this.
 pub fn bad_depth_limit(alloc: Global) -> Interruption
-    ensures { Interrupts result (λ e. e ≡ Completed (failing (codes "recursion limit must be between 1 and 1000"))) }
+    ensures { Interrupts result (λ e. e ≡ Completed (failing messages.bad_depth_limit)) }
 {
-    plain_failure(alloc, "recursion limit must be between 1 and 1000")
+    plain_failure(alloc, BAD_DEPTH_LIMIT)
 }

@@ -15,14 +15,12 @@ ghost use Rattle.tcl_tree.specs.TreeOf.{tree_of, Names};
 ghost use Rattle.tcl_run.specs.Entering.{entry_of};
 ghost use Rattle.tcl_entries.specs.Naming.{Tells, making_text, deleting_text};
 
-use crate::failure::{
-    already_exists, bad_depth_limit, denied, hiding_failure, in_use, refusal_failure, too_many,
-};
+use crate::failure::{bad_depth_limit, hiding_failure, in_use, refusal_failure, too_many};
 use crate::naming::{kept_name, names_child, names_hidden};
 use crate::questions::{answer, node, number_value};
 use std::alloc::{AllocError, Global};
 use tcl_run::entry::OwnEntry;
-use tcl_run::failure::{invalid_hidden, no_interpreter};
+use tcl_run::failure::{already_exists, denied, invalid_hidden, no_interpreter};
 use tcl_run::interruption::Interruption;
 use tcl_run::outside::Outside;
 use tcl_text::list::write_element;

@@ -21,10 +21,11 @@ use tcl_flow::stop::{Stop, StopKind};
 use tcl_host::host::Host;
 use tcl_run::interruption::Interruption;
 use tcl_run::outside::Outside;
+use tcl_text::limit::MOST_BYTES;
 use tcl_text::text::Text;
 use tcl_tree::node::MOST_STEPS;
 use tcl_tree::tree::{Place, Tree};
-use tcl_value::value::{MOST_BYTES, Value};
+use tcl_value::value::Value;
 
 /// How a run ended.
 #[derive(Drop)]

@@ -16,6 +16,7 @@ use tcl_run::entry::Entry;
 use tcl_run::failure::{failure, too_long, wrong_args};
 use tcl_run::interruption::Interruption;
 use tcl_run::outside::Outside;
+use tcl_text::messages::{DEVICE_FAULT, NO_CHANNEL, quoting};
 use tcl_text::text::Text;
 use tcl_tree::tree::{Place, Tree};
 use tcl_value::value::{Value, ValueError};
@@ -146,11 +147,8 @@ fn channel_message(alloc: Global, why: Refusal, channel: &str) -> Result<Text, A
     ensures { IfOk result (λ text. text ≡ hosting.channel_message (number_of why) channel.now) }
 {
     let front = match why {
-        Refusal::DeviceFault => "device fault on \"",
-        Refusal::NoChannel | Refusal::NotOpened => "can not find channel named \"",
+        Refusal::DeviceFault => DEVICE_FAULT,
+        Refusal::NoChannel | Refusal::NotOpened => NO_CHANNEL,
     };
-    let mut text = String::from_str(alloc, front)?;
-    text.push_str(channel)?;
-    text.push_str("\"")?;
-    Text::from_string(alloc, text)
+    quoting(alloc, front, channel)
 }

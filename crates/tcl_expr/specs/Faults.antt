@@ -4,6 +4,7 @@ use Rattle.tcl_parser.specs.declared.fault.Fault.{Fault}
 use Rattle.tcl_parser.specs.declared.reader.Stop.{Stop}
 use Rattle.tcl_parser.specs.declared.reader.Stop.TheVariants as stop
 use Rattle.tcl_parser.specs.Faults as parser
+use Rattle.tcl_text.specs.Messages as messages
 use Rattle.tcl_expr.specs.declared.fault.ExprFault.{ExprFault}
 use Rattle.tcl_expr.specs.declared.fault.ExprFault.TheVariants.{Syntax, TooDeep, TooLarge, Operand, TooLong}
 use Rattle.tcl_expr.specs.declared.fault.ExprError.{ExprError}
@@ -14,7 +15,7 @@ message_of text Syntax = codes "syntax error in expression \"" ++ text ++ codes 
 message_of text TooDeep = codes "expression nested too deeply"
 message_of text TooLarge = codes "integer value too large to represent"
 message_of text (Operand f) = parser.message_of f
-message_of text TooLong = codes "value longer than 16777216 bytes"
+message_of text TooLong = messages.too_long
 
 abbrev pub error_of_fault : Fault → ExprError
 error_of_fault f = error.Fault (Operand f)

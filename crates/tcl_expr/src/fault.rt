@@ -7,6 +7,7 @@ use std::alloc::{AllocError, AllocFailed, Global};
 use tcl_parser::fault::Fault;
 use tcl_parser::reader::Stop;
 use tcl_text::integer::too_large_message;
+use tcl_text::messages::{TOO_LONG, quoting};
 use tcl_text::text::Text;
 
 /// What is wrong with a text that is no expression.
@@ -37,7 +38,7 @@ impl ExprFault {
             ExprFault::TooDeep => Text::new(alloc, "expression nested too deeply"),
             ExprFault::TooLarge => too_large_message(alloc),
             ExprFault::Operand(fault) => Text::new(alloc, fault.message()),
-            ExprFault::TooLong => Text::new(alloc, "value longer than 16777216 bytes"),
+            ExprFault::TooLong => Text::new(alloc, TOO_LONG),
         }
     }
 }
@@ -46,10 +47,7 @@ impl ExprFault {
 fn syntax_message(alloc: Global, expression: &str) -> Result<Text, AllocError>
     ensures { IfOk result (λ made. made ≡ codes "syntax error in expression \"" ++ expression.now ++ codes "\"") }
 {
-    let mut made = String::from_str(alloc, "syntax error in expression \"")?;
-    made.push_str(expression)?;
-    made.push_str("\"")?;
-    Text::from_string(alloc, made)
+    quoting(alloc, "syntax error in expression \"", expression)
 }
 
 /// Why an expression isn't read.

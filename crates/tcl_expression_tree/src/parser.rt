@@ -17,8 +17,9 @@ use tcl_expr::lexer::{Lexed, next_token};
 use tcl_expr_grammar::operator::{BinaryOperator, Function, UnaryOperator};
 use tcl_expr_grammar::token::{Leaf, Token};
 use tcl_text::integer::Integers;
+use tcl_text::limit::MOST_BYTES;
 use tcl_text::text::Text;
-use tcl_value::value::{MOST_BYTES, Value};
+use tcl_value::value::Value;
 
 /// How deep parentheses, functions, operators before an operand and choices may stand in one another.
 const DEEPEST: usize = 200;

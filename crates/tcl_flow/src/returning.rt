@@ -1,5 +1,5 @@
 //! `return`, and the options dictionary of a completion.
-ghost use Rattle.std.specs.Prelude.{◌≡◌, ◌++◌, ◌∷◌, [], ◌<◌, ◌^◌, ◌-◌, IfOk, OnOk, IsErrOf, codes};
+ghost use Rattle.std.specs.Prelude.{◌≡◌, ◌++◌, ◌∷◌, [], ◌<◌, ◌^◌, ◌-◌, IfOk, OnOk, IsErrOf};
 ghost use Rattle.std.specs.Fmt.{decimal, signed_decimal};
 ghost use Rattle.tcl_flow.specs.Caught.{seen_caught};
 ghost use Rattle.tcl_value.specs.Limits.{IsPast};
@@ -12,6 +12,7 @@ use crate::completion::{Completion, ERROR, OK, Options, RETURN};
 use std::alloc::{AllocError, Global};
 use tcl_text::integer::Integers;
 use tcl_text::list::write_list;
+use tcl_text::messages::{BAD_OPTION, quoting};
 use tcl_text::text::Text;
 use tcl_value::value::{Value, ValueError};
 
@@ -24,16 +25,6 @@ pub enum OptionsFault {
     BadCode(Text),
 }
 
-/// `bad option "x"`
-fn quoted(alloc: Global, before: &str, name: &Text) -> Result<Text, AllocError>
-    ensures { IfOk result (λ text. text ≡ before.now ++ name.now ++ codes "\"") }
-{
-    let mut text = String::from_str(alloc, before)?;
-    text.push_str(name.as_str())?;
-    text.push_str("\"")?;
-    Text::from_string(alloc, text)
-}
-
 impl OptionsFault {
     /// What a script is told of the refusal.
     ///
@@ -43,8 +34,8 @@ impl OptionsFault {
         ensures { IfOk result (λ text. text ≡ options_message self.now) }
     {
         match self {
-            OptionsFault::BadOption(name) => quoted(alloc, "bad option \"", name),
-            OptionsFault::BadCode(name) => quoted(alloc, "bad completion code \"", name),
+            OptionsFault::BadOption(name) => quoting(alloc, BAD_OPTION, name.as_str()),
+            OptionsFault::BadCode(name) => quoting(alloc, "bad completion code \"", name.as_str()),
         }
     }
 }

@@ -7,6 +7,7 @@ ghost use Rattle.tcl_flow.specs.Stopping.{meter_of};
 use crate::completion::{Completion, error};
 use crate::messages::short_value;
 use std::alloc::{AllocError, Global};
+use tcl_text::messages::{COUNT_LIMIT, DEPTH_LIMIT};
 
 /// What a limit is set for.
 #[derive(Clone, Copy, Debug, Drop)]
@@ -36,11 +37,8 @@ impl StopKind {
         ensures { IfOk result (λ c. completion_of c ≡ refusal (meter_of self)) }
     {
         let message = match self {
-            StopKind::Count => String::from_str(alloc, "command count limit exceeded")?,
-            StopKind::Depth => String::from_str(
-                alloc,
-                "too many nested evaluations (infinite loop?)",
-            )?,
+            StopKind::Count => String::from_str(alloc, COUNT_LIMIT)?,
+            StopKind::Depth => String::from_str(alloc, DEPTH_LIMIT)?,
         };
         Ok(error(short_value(alloc, message)?))
     }

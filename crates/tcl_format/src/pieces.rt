@@ -16,7 +16,7 @@ use std::alloc::{AllocError, Global};
 use tcl_strings::copies::repeat;
 use tcl_strings::parts::{before, character_count};
 use tcl_text::integer::Integers;
-use tcl_words::limits::MOST_BYTES;
+use tcl_text::limit::MOST_BYTES;
 use tcl_words::reading::integer_word;
 use tcl_words::refusal::{Refusal, too_long};
 

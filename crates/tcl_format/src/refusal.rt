@@ -9,6 +9,7 @@ ghost use Rattle.tcl_format.specs.Filling.{not_enough};
 
 use std::alloc::{AllocError, Global};
 use tcl_strings::parts::{before, character_count};
+use tcl_text::messages::quoting;
 use tcl_text::text::Text;
 use tcl_words::refusal::Refusal;
 
@@ -36,10 +37,7 @@ fn told(message: Result<Text, AllocError>) -> Refusal
 fn bad_format_text(alloc: Global, text: &str, rest: &str) -> Result<Text, AllocError>
     ensures { IfOk result (λ made. made ≡ bad_format (shown (chars text.now) (chars rest.now))) }
 {
-    let mut made = String::from_str(alloc, "bad format \"%")?;
-    made.push_str(shown(text, rest))?;
-    made.push_str("\"")?;
-    Text::from_string(alloc, made)
+    quoting(alloc, "bad format \"%", shown(text, rest))
 }
 
 /// What is told of a text behind `%` that is no specifier, or whose value has no character (251): its characters before what

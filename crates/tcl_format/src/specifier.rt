@@ -3,7 +3,7 @@ ghost use Rattle.std.specs.Prelude.{◌≡◌, ◌∷◌, [], MatchOption};
 ghost use Rattle.std.specs.Str.{chars};
 ghost use Rattle.tcl_format.specs.Specifiers.{is_flag, with_flag, no_flags, read_flags, read_number, capped, read_precision, behind_l, radix_of, conversion_of, made_of, closed, specified};
 
-use tcl_words::limits::MOST_BYTES;
+use tcl_text::limit::MOST_BYTES;
 
 /// The greatest width.
 pub const MOST_WIDTH: usize = 9999;

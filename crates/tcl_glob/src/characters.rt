@@ -7,7 +7,8 @@ ghost use Rattle.tcl_glob.specs.Patterns.{letters};
 /// and what follows it.
 pub fn first_letter(text: &str, nocase: bool) -> Option<(char, &str)>
     ensures letters { MatchOption result (letters nocase text.now ≡ [])
-        (λ found. (letters nocase text.now ≡ found.0 ∷ letters nocase found.1.now) × (length found.1.now < length text.now)) }
+        (λ found. (letters nocase text.now ≡ found.0 ∷ letters nocase found.1.now)
+        × (length found.1.now < length text.now)) }
     ensures characters { IfSome result (λ found. chars found.1.now ≡ drop 1 (chars text.now)) }
 {
     let mut characters = text.chars();

@@ -6,6 +6,7 @@ ghost use Rattle.tcl_host.specs.declared.reply.HostError.TheVariants.{Memory};
 use crate::bytes::Bytes;
 use crate::request::Request;
 use std::alloc::{AllocError, AllocFailed, Global};
+use tcl_text::messages::{DEVICE_FAULT, NO_CHANNEL, quoting};
 use tcl_text::text::Text;
 
 /// Why a host refuses a call.
@@ -71,14 +72,11 @@ impl Refusal {
     pub fn message(self, alloc: Global, offender: &str) -> Result<Text, AllocError>
         ensures { IfOk result (λ text. text ≡ refusal_text self offender.now) }
     {
-        let text = match self {
-            Refusal::NoChannel => {
-                format!(in alloc; "can not find channel named \"{offender}\"")?
-            }
-            Refusal::DeviceFault => format!(in alloc; "device fault on \"{offender}\"")?,
-            Refusal::NotOpened => format!(in alloc; "couldn't open \"{offender}\"")?,
-        };
-        Text::from_string(alloc, text)
+        match self {
+            Refusal::NoChannel => quoting(alloc, NO_CHANNEL, offender),
+            Refusal::DeviceFault => quoting(alloc, DEVICE_FAULT, offender),
+            Refusal::NotOpened => quoting(alloc, "couldn't open \"", offender),
+        }
     }
 }
 

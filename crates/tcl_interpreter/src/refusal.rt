@@ -1,9 +1,12 @@
 //! Why a call on the tree is refused.
-ghost use Rattle.std.specs.Prelude.{◌≡◌, IfOk};
+ghost use Rattle.std.specs.Prelude.{◌≡◌, ◌++◌, codes, IfOk};
 ghost use Rattle.std.specs.String.{string_bytes};
 ghost use Rattle.tcl_interpreter.specs.declared.refusal.Refusal.TheVariants.{Memory};
 
 use std::alloc::{AllocError, AllocFailed, Global};
+use tcl_text::messages::{
+    ALREADY_EXISTS, BAD_DEPTH_LIMIT, COUNT_LIMIT, DENIED, DEPTH_LIMIT, TOO_MANY,
+};
 
 /// Why a call on the tree did nothing.
 #[derive(Clone, Copy, Debug, Drop)]
@@ -52,6 +55,14 @@ impl<T: Drop> From<AllocFailed<T>> for Refusal {
     }
 }
 
+/// A word in quotation marks, and what stands behind it.
+fn quoted(alloc: Global, word: &str, behind: &str) -> Result<String, AllocError>
+    ensures { IfOk result (λ text.
+        string_bytes text ≡ codes "\"" ++ word.now ++ codes "\"" ++ behind.now) }
+{
+    format!(in alloc; "\"{word}\"{behind}")
+}
+
 impl Refusal {
     ghost use Rattle.tcl_interpreter.specs.Refusals.{text_of};
 
@@ -67,19 +78,15 @@ impl Refusal {
             Refusal::BadName => format!(in alloc; "bad name \"{word}\""),
             Refusal::BadCount => format!(in alloc; "bad count \"{word}\""),
             Refusal::NoInterpreter => format!(in alloc; "could not find interpreter \"{word}\""),
-            Refusal::Exists => format!(in alloc; "\"{word}\" already exists"),
+            Refusal::Exists => quoted(alloc, word, ALREADY_EXISTS),
             Refusal::InUse => format!(in alloc; "interpreter \"{word}\" is in use"),
-            Refusal::Denied => format!(in alloc; "permission denied"),
+            Refusal::Denied => String::from_str(alloc, DENIED),
             Refusal::NoCommand => format!(in alloc; "invalid command name \"{word}\""),
             Refusal::NoHidden => format!(in alloc; "invalid hidden command name \"{word}\""),
-            Refusal::TooMany => format!(in alloc; "too many interpreters"),
-            Refusal::CountLimit(_) => format!(in alloc; "command count limit exceeded"),
-            Refusal::DepthLimit(_) => {
-                format!(in alloc; "too many nested evaluations (infinite loop?)")
-            }
-            Refusal::BadDepthLimit => {
-                format!(in alloc; "recursion limit must be between 1 and 1000")
-            }
+            Refusal::TooMany => String::from_str(alloc, TOO_MANY),
+            Refusal::CountLimit(_) => String::from_str(alloc, COUNT_LIMIT),
+            Refusal::DepthLimit(_) => String::from_str(alloc, DEPTH_LIMIT),
+            Refusal::BadDepthLimit => String::from_str(alloc, BAD_DEPTH_LIMIT),
         }
     }
 }

@@ -17,7 +17,7 @@ use Rattle.tcl_core.specs.Programs.Prog.{done, exit, act, go, inside, call, wait
 use Rattle.tcl_core.specs.Programs.Wrap.{Deeper, Framed}
 use Rattle.tcl_core.specs.Rules.{Derives}
 use Rattle.tcl_core.specs.Rules.Derives.{completed, exited, acted, refused, unheard, went, passed, halted, wrapped, wrapped_passed, wrapped_halted, too_deep, shut, unheard_inside, called, called_passed, called_halted, unreached, called_out, unanswered, unfit, answered, heard, answered_passed, entered, entered_halted, entered_exiting, born, fallen}
-use Rattle.tcl_core.specs.Runs.{Ending, Exiting, Exits, Halts, Step, World, ends_call, entering, height_of}
+use Rattle.tcl_core.specs.Runs.{Ending, Exits, Step, World, entering, height_of}
 use Rattle.tcl_core.specs.Tables.{IsGoodNode, Keeps_to, Modest, Modest_act, Modest_call, sets_limit, unlimiting}
 use Rattle.tcl_core.specs.Trees.{Event, Grants, Move, Node, Tree, What, asked, at, at_end, at_top, counted, deeper, effect, fresh, on_some, shallower, where_none, where_some, with_depth_limit, with_limit, with_own}
 use Rattle.tcl_core.specs.Trees.Grant.{Allow, Deny}
@@ -31,6 +31,7 @@ use Rattle.tcl_core.proofs.PathLaws.{Some-inj, not_both, strip-sound, strip_own}
 use Rattle.tcl_core.proofs.RuleLaws.{runs_derived}
 use Rattle.tcl_core.proofs.Standing.{held_left}
 use Rattle.tcl_core.proofs.Safeguards.{not_true}
+use Rattle.tcl_core.proofs.Halts.{exits_so}
 use Rattle.tcl_isolation.specs.Limits.{AreLowering, AtMost, Lowering}
 
 -- ## Programs
@@ -241,21 +242,8 @@ module _ {O I : Type 0} (prog : Table O I) (fine : I → Bool) (all : Rules fine
   entry_read w t i u s g = let h : Lowering l t i × AreLowering l u.moves = subst (AreLowering l) s.moves g.1 in h.0
 
   exits_kept : (w : World O) (p : Place) (s : Wait) (n : ℤ) (ms : List (Move O)) (v : World O) (e : Ending) → Exits w p s n ms v e → Good w → Kept w v
-  exits_kept w p s n ms v e a g = by ms a
-    where
-      halt : Halts w v e → Kept w v
-      halt x = subst (Kept w) (sym x.same) (here w g)
-
-      back : (l : Bool) → Exiting w p s n l v e → Kept w v
-      back false x = halt x
-      back true x = step_kept w p (Back (height_of s) (Replied (Exit n))) v v tt x.0 (here v (good_step w p (Back (height_of s) (Replied (Exit n))) v tt x.0 g))
-
-      by : (ms : List (Move O)) → Exits w p s n ms v e → Kept w v
-      by [] x = halt x
-      by (Come y ∷ ms) x = back (ends_call s n y) x
-      by (Born o l ∷ ms) x = halt x
-      by (Fall ∷ ms) x = halt x
-      by (Enter u i ∷ ms) x = halt x
+  exits_kept w p s n ms v e a g =
+      exits_so (Kept w) w p s n ms v e (here w g) (λ x. step_kept w p (Back (height_of s) (Replied (Exit n))) v v tt x (here v (good_step w p (Back (height_of s) (Replied (Exit n))) v tt x g))) a
 
   keep : (a0 : Option Entry) {w : World O} {p : Place} {x : Prog O I} {v : World O} {e : Ending} → Derives prog w p x v e → Licence a0 p → Fit a0 x → Good w → Kept w v
   keep a0 (completed w p y) lic f g = here w g

@@ -10,6 +10,7 @@ use Rattle.tcl_core.specs.Entries.HostReply.{Fails}
 use Rattle.tcl_core.specs.Entries.Said.{Finished, Told}
 use Rattle.tcl_core.specs.Programs.Prog.{done, exit, call}
 use Rattle.tcl_text.specs.declared.integer.Integers.{Integers}
+use Rattle.tcl_text.specs.Messages as messages
 use Rattle.tcl_language.specs.Instructions.{Program, either, fails, grown}
 use Rattle.tcl_variables.specs.Messages.{quoted}
 use Rattle.tcl_language.specs.Faults.{wrong_args}
@@ -59,8 +60,8 @@ puts (word ∷ channel ∷ text ∷ []) = either (is_nonewline word) (writes cha
 puts _ = puts_form
 
 abbrev pub exits : ℤ → Program
-exits (pos n) = either (nat_le n 255) (exit (pos n)) (fails (codes "exit status must be between 0 and 255"))
-exits (negsuc n) = fails (codes "exit status must be between 0 and 255")
+exits (pos n) = either (nat_le n 255) (exit (pos n)) (fails messages.bad_status)
+exits (negsuc n) = fails messages.bad_status
 
 -- `exit ?status?`
 abbrev pub exit_with : Integers → List Text → Program

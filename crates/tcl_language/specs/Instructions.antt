@@ -1,5 +1,5 @@
 -- What can be going on inside an interpreter, and how its programs are put together.
-use Rattle.std.specs.Prelude.{ℕ, zero, suc, ℤ, pos, negsuc, Bool, true, false, List, [], Option, Some, None, Result, Ok, Err, length, nat_le, codes}
+use Rattle.std.specs.Prelude.{ℕ, zero, suc, ℤ, pos, negsuc, Bool, true, false, List, [], Option, Some, None, Result, Ok, Err, length, nat_le}
 use Rattle.tcl_core.specs.Paths.{Text}
 use Rattle.tcl_core.specs.Endings.{Completion, ok, error}
 use Rattle.tcl_core.specs.Entries.{Entry}
@@ -12,6 +12,7 @@ use Rattle.tcl_parser.specs.declared.fault.Fault.{Fault}
 use Rattle.tcl_parser.specs.declared.script.Part.{Part}
 use Rattle.tcl_parser.specs.Words.{WordRead}
 use Rattle.tcl_tree.specs.Own.{Own}
+use Rattle.tcl_text.specs.Messages as messages
 
 -- an element whose key is being substituted: its name, and the word's text before it
 pub record Open : Type 0 where
@@ -64,7 +65,7 @@ abbrev pub fits : Text → Bool
 fits text = nat_le (length text) max_text
 
 abbrev pub too_long : Completion
-too_long = error (codes "value longer than 16777216 bytes")
+too_long = error messages.too_long
 
 -- an ordinary result, or that it is too long
 abbrev pub gives : Text → Program

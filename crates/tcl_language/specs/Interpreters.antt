@@ -15,6 +15,7 @@ use Rattle.tcl_core.specs.Programs.Prog.{done, act, go, call}
 use Rattle.tcl_text.specs.declared.integer.Integers.{Integers}
 use Rattle.tcl_text.specs.Lists.{list_of}
 use Rattle.tcl_text.specs.Writing.{written_list, fault_message}
+use Rattle.tcl_text.specs.Messages as messages
 use Rattle.tcl_tree.specs.Own.{Own, CommandMap, new_own, with_new_child, without_old_child}
 use Rattle.tcl_tree.specs.Commands.{AliasView}
 use Rattle.tcl_language.specs.Naming.{Named, named, cleared, hidden_as, exposed_as}
@@ -46,7 +47,7 @@ abbrev pub bad_count : Text → Text
 bad_count x = quoted (codes "bad count ") x []
 
 abbrev pub denied : Text
-denied = codes "permission denied"
+denied = messages.denied
 
 -- ## Asking
 
@@ -90,7 +91,7 @@ abbrev pub creates_new : Text → Bool → Node Own → Program
 creates_new name safe n =
     either (is_name name)
     (either (is_some (lookup (bytes_eq name) n.own.commands)) (fails (already_exists name))
-    (either (nat_le most_children (length n.own.children)) (fails (codes "too many interpreters"))
+    (either (nat_le most_children (length n.own.children)) (fails messages.too_many)
     (makes name (safe || n.safe) n.own)))
     (fails (bad_name name))
 
@@ -132,7 +133,7 @@ is_depth_limit n = nat_le 1 n && nat_le n 1000
 
 abbrev pub limits_depth : ℕ → Program
 limits_depth limit = look (λ n. either n.root (fails denied)
-    (either (is_depth_limit limit) (act (LimitDepth limit) (λ T. done (ok (decimal limit)))) (fails (codes "recursion limit must be between 1 and 1000"))))
+    (either (is_depth_limit limit) (act (LimitDepth limit) (λ T. done (ok (decimal limit)))) (fails messages.bad_depth_limit)))
 
 abbrev pub alias_only : Text → Command → List Text → List Text
 alias_only name (command.Alias a) names = name ∷ names
@@ -376,7 +377,7 @@ limit style _ = fails (wrong_args limit_form)
 
 abbrev pub depth_number : ℤ → (ℕ → Program) → Program
 depth_number (pos n) k = k n
-depth_number (negsuc n) k = fails (codes "recursion limit must be between 1 and 1000")
+depth_number (negsuc n) k = fails messages.bad_depth_limit
 
 abbrev pub unless_root : List Text → Program → Program
 unless_root [] k = look (λ n. either n.root (fails denied) k)

@@ -12,6 +12,7 @@ use Rattle.tcl_variables.specs.declared.fault.FrameFault.{FrameFault}
 use Rattle.tcl_variables.specs.declared.fault.FrameFault.TheVariants as fault
 use Rattle.tcl_text.specs.declared.integer.Integers.{Integers}
 use Rattle.tcl_text.specs.Numbers.{integer_of, in_64_bits, fits_64}
+use Rattle.tcl_text.specs.Messages as messages
 use Rattle.tcl_tree.specs.Own.{Own}
 use Rattle.tcl_language.specs.Instructions.{Program, either, fails, grown, or_fails, look, change, with_chain}
 use Rattle.tcl_language.specs.Faults.{frame_message, integer_message, wrong_args, bad_level}
@@ -66,7 +67,7 @@ abbrev pub integer : Integers → Text → (ℤ → Program) → Program
 integer style text k = or_fails (integer_message text) (in_64_bits (integer_of style text)) k
 
 abbrev pub overflow : Text
-overflow = codes "integer overflow"
+overflow = messages.overflow
 
 -- the variable becomes the sum, where it fits 64 bits
 abbrev pub becomes : Text → ℤ → Program

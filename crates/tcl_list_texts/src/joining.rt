@@ -12,9 +12,9 @@ use std::alloc::{AllocError, Global};
 use tcl_lists::indexes::elements_of;
 use tcl_lists::reading::{list_word, one_or_two_words};
 use tcl_strings::trimming::{trim_left, trim_right};
+use tcl_text::limit::MOST_BYTES;
 use tcl_text::text::Text;
 use tcl_value::value::Value;
-use tcl_words::limits::MOST_BYTES;
 use tcl_words::refusal::{Refusal, too_long};
 
 /// The six characters of white space.

@@ -1,6 +1,7 @@
 -- How changes of lists are refused.
-use Rattle.std.specs.Prelude.{ℕ, List, Err, codes}
+use Rattle.std.specs.Prelude.{ℕ, List, Err}
 use Rattle.tcl_text.specs.Writing.{fault_message}
+use Rattle.tcl_text.specs.Messages as messages
 use Rattle.tcl_words.specs.declared.refusal.Refusal.{Refusal}
 use Rattle.tcl_words.specs.Outcomes.{Outcome, Refuses}
 use Rattle.tcl_words.specs.Faults.{too_long}
@@ -9,7 +10,7 @@ use Rattle.tcl_value.specs.declared.value.ChangeError.TheVariants.{Memory, TooLo
 
 -- what is told of a place that a list hasn't
 abbrev pub out_of_range : List ℕ
-out_of_range = codes "list index out of range"
+out_of_range = messages.out_of_range
 
 -- what is told of a list in a value that isn't changed
 abbrev pub RefusesChange : Refusal → ChangeError → Type 0

@@ -13,9 +13,9 @@ use crate::refusing::not_made;
 use std::alloc::Global;
 use tcl_text::index::Index;
 use tcl_text::integer::Integers;
+use tcl_text::limit::MOST_BYTES;
 use tcl_value::list::List;
 use tcl_value::value::Value;
-use tcl_words::limits::MOST_BYTES;
 use tcl_words::refusal::{Refusal, too_long};
 
 /// `list ?arg ...?`: the list of the words.

@@ -12,6 +12,7 @@ ghost use Rattle.tcl_lists.specs.Refusing.{out_of_range, RefusesChange};
 use std::alloc::{AllocError, Global};
 use tcl_nested::fault::{NestedError, NestedFault};
 use tcl_text::list::ListFault;
+use tcl_text::messages::OUT_OF_RANGE;
 use tcl_text::text::Text;
 use tcl_value::value::{ChangeError, ValueError};
 use tcl_words::refusal::{Refusal, too_long};
@@ -40,7 +41,7 @@ pub fn no_list(alloc: Global, fault: &ListFault) -> Refusal
 pub fn out_of_range(alloc: Global) -> Refusal
     ensures { Refuses {X = List ℕ} result (Err out_of_range) }
 {
-    match Text::new(alloc, "list index out of range") {
+    match Text::new(alloc, OUT_OF_RANGE) {
         Ok(text) => Refusal::Fault(text),
         Err(_) => Refusal::Memory,
     }

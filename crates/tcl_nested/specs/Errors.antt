@@ -3,6 +3,7 @@ use Rattle.std.specs.Prelude.{ℕ, List, ◌++◌, codes}
 use Rattle.tcl_text.specs.Writing.{fault_message}
 use Rattle.tcl_text.specs.declared.list.ListError.{ListError}
 use Rattle.tcl_text.specs.declared.list.ListError.TheVariants.{Memory as ListMemory, Fault as ListFaulty}
+use Rattle.tcl_text.specs.Messages as messages
 use Rattle.tcl_value.specs.DictMessages.{dict_message}
 use Rattle.tcl_value.specs.declared.dict_fault.DictError.{DictError}
 use Rattle.tcl_value.specs.declared.dict_fault.DictError.TheVariants.{Memory as DictMemory, Fault as DictFaulty}
@@ -40,10 +41,14 @@ of_entry EntryMemory = Memory
 of_entry LongEntry = TooLong
 of_entry (EntryFaulty fault) = Fault (NoDict fault)
 
+-- what is told of a key that a dict hasn't
+abbrev pub unknown_key : List ℕ → List ℕ
+unknown_key key = codes "key \"" ++ key ++ codes "\" not known in dictionary"
+
 -- what an error says of a fault
 abbrev pub nested_message : NestedFault → List ℕ
 nested_message (NoList fault) = fault_message fault
 nested_message (NoDict fault) = dict_message fault
 nested_message (BadIndex index) = codes "bad index \"" ++ index ++ codes "\""
-nested_message NoPlace = codes "list index out of range"
-nested_message (UnknownKey key) = codes "key \"" ++ key ++ codes "\" not known in dictionary"
+nested_message NoPlace = messages.out_of_range
+nested_message (UnknownKey key) = unknown_key key

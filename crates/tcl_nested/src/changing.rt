@@ -16,9 +16,10 @@ use crate::step::{Step, with_innermost};
 use std::alloc::{AllocError, Global};
 use tcl_text::index::{Index, read_index};
 use tcl_text::integer::Integers;
+use tcl_text::limit::MOST_BYTES;
 use tcl_value::dict::Dict;
 use tcl_value::list::List;
-use tcl_value::value::{MOST_BYTES, Value};
+use tcl_value::value::Value;
 
 /// How many levels a path may have for a change in place: more lists and dicts never stand in one another without a text.
 const MOST_LEVELS: usize = 100;

@@ -4,6 +4,7 @@ ghost use Rattle.std.specs.Prelude.{◌≡◌, ◌++◌, IfOk, codes};
 use std::alloc::{AllocError, AllocFailed, Global};
 use tcl_text::index::bad_index_message;
 use tcl_text::list::{ListError, ListFault};
+use tcl_text::messages::OUT_OF_RANGE;
 use tcl_text::text::Text;
 use tcl_value::dict_fault::{DictError, DictFault, EntryError};
 use tcl_value::value::{ChangeError, ValueError};
@@ -48,14 +49,17 @@ impl NestedFault {
             NestedFault::List(fault) => fault.message(alloc),
             NestedFault::Dict(fault) => fault.message(alloc),
             NestedFault::BadIndex(index) => bad_index_message(alloc, index.as_str()),
-            NestedFault::NoPlace => Text::new(alloc, "list index out of range"),
+            NestedFault::NoPlace => Text::new(alloc, OUT_OF_RANGE),
             NestedFault::UnknownKey(key) => unknown_key_message(alloc, key.as_str()),
         }
     }
 }
 
 /// What is told of a key that a dict hasn't (242).
-fn unknown_key_message(alloc: Global, key: &str) -> Result<Text, AllocError>
+///
+/// # Errors
+/// Want of memory.
+pub fn unknown_key_message(alloc: Global, key: &str) -> Result<Text, AllocError>
     ensures { IfOk result (λ made. made ≡ codes "key \"" ++ key.now ++ codes "\" not known in dictionary") }
 {
     let mut text = String::from_str(alloc, "key \"")?;

@@ -9,6 +9,7 @@ use Rattle.tcl_expr_grammar.specs.declared.operator.Function.TheVariants as func
 use Rattle.tcl_arithmetic.specs.declared.ArithmeticFault.{ArithmeticFault}
 use Rattle.tcl_arithmetic.specs.declared.ArithmeticFault.TheVariants as fault
 use Rattle.tcl_text.specs.Writing.{fault_message}
+use Rattle.tcl_text.specs.Messages as messages
 use Rattle.tcl_operators.specs.declared.fault.Operator.{Operator}
 use Rattle.tcl_operators.specs.declared.fault.Operator.TheVariants as operators
 use Rattle.tcl_operators.specs.declared.fault.OperatorFault.{OperatorFault}
@@ -56,7 +57,7 @@ symbol_of (operators.Binary o) = binary_symbol o
 symbol_of (operators.Function f) = function_symbol f
 
 abbrev pub arithmetic_message : ArithmeticFault → List ℕ
-arithmetic_message fault.Overflow = codes "integer overflow"
+arithmetic_message fault.Overflow = messages.overflow
 arithmetic_message fault.DivideByZero = codes "divide by zero"
 arithmetic_message fault.NegativeShift = codes "negative shift argument"
 arithmetic_message fault.NegativeExponent = codes "negative exponent"

@@ -9,6 +9,7 @@ use tcl_expr_grammar::operator::{BinaryOperator, Function, UnaryOperator};
 use tcl_text::boolean::not_boolean_message;
 use tcl_text::integer::too_large_message;
 use tcl_text::list::{ListError, ListFault};
+use tcl_text::messages::{OVERFLOW, quoting};
 use tcl_text::text::Text;
 
 /// What is applied to values.
@@ -162,7 +163,7 @@ fn arithmetic_message(fault: ArithmeticFault) -> &'static str
     ensures { result.now ≡ arithmetic_message fault }
 {
     match fault {
-        ArithmeticFault::Overflow => "integer overflow",
+        ArithmeticFault::Overflow => OVERFLOW,
         ArithmeticFault::DivideByZero => "divide by zero",
         ArithmeticFault::NegativeShift => "negative shift argument",
         ArithmeticFault::NegativeExponent => "negative exponent",
@@ -191,8 +192,6 @@ impl OperatorFault {
 fn not_numeric_message(alloc: Global, operator: Operator) -> Result<Text, AllocError>
     ensures { IfOk result (λ made. made ≡ codes "can't use non-numeric string as operand of \"" ++ symbol_of operator ++ codes "\"") }
 {
-    let mut made = String::from_str(alloc, "can't use non-numeric string as operand of \"")?;
-    made.push_str(operator.symbol())?;
-    made.push_str("\"")?;
-    Text::from_string(alloc, made)
+    let front = "can't use non-numeric string as operand of \"";
+    quoting(alloc, front, operator.symbol())
 }

@@ -14,8 +14,9 @@ use tcl_expression_tree::tree::ExprTree;
 use tcl_parser::reader::parse;
 use tcl_parser::script::Script;
 use tcl_text::integer::Integers;
+use tcl_text::limit::MOST_BYTES;
 use tcl_text::text::Text;
-use tcl_value::value::{MOST_BYTES, Value};
+use tcl_value::value::Value;
 
 /// The most bytes that the texts may have together whose readings are kept.
 const MOST_KEPT: usize = 1 << 20;

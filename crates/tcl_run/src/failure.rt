@@ -1,6 +1,7 @@
 //! The errors of scripts.
-ghost use Rattle.std.specs.Prelude.{◌≡◌, ◌++◌, [], codes, IfOk};
+ghost use Rattle.std.specs.Prelude.{◌≡◌, ◌++◌, [], codes};
 ghost use Rattle.tcl_language.specs.Faults as faults;
+ghost use Rattle.tcl_language.specs.Interpreters as interpreters;
 ghost use Rattle.tcl_language.specs.Interpreters.{no_interpreter};
 ghost use Rattle.tcl_variables.specs.Messages.{quoted};
 ghost use Rattle.tcl_core.specs.Endings as core;
@@ -9,11 +10,13 @@ ghost use Rattle.tcl_language.specs.Instructions as language;
 ghost use Rattle.tcl_run.specs.Ends.{Interrupts, WordsTell, failing, too_deep_at};
 
 use crate::interruption::Interruption;
-use std::alloc::{AllocError, Global};
+use std::alloc::Global;
 use tcl_flow::completion;
 use tcl_flow::stop::{Stop, StopKind};
+use tcl_text::messages::{ALREADY_EXISTS, DENIED, TOO_LONG};
 use tcl_text::text::Text;
 use tcl_value::value::Value;
+use tcl_variables::fault::quoted;
 use tcl_words::refusal::Refusal;
 
 /// The error of a message within the limit of a value.
@@ -27,7 +30,7 @@ fn error(alloc: Global, message: Value) -> Interruption
 pub fn too_long(alloc: Global) -> Interruption
     ensures { Interrupts result (λ e. e ≡ Completed language.too_long) }
 {
-    match Text::new(alloc, "value longer than 16777216 bytes") {
+    match Text::new(alloc, TOO_LONG) {
         Ok(message) => error(alloc, Value::from_short_text(message)),
         Err(_) => Interruption::Memory,
     }
@@ -69,26 +72,46 @@ pub fn too_deep(alloc: Global, levels: usize) -> Interruption
     }
 }
 
-/// A front, a text in quotes and an end.
-fn quoted(alloc: Global, front: &str, text: &str, end: &str) -> Result<Text, AllocError>
-    ensures { IfOk result (λ made. made ≡ quoted front.now text.now end.now) }
+/// The error of a message that quotes a text, between two others.
+pub fn failure_quoting(alloc: Global, front: &str, text: &str, end: &str) -> Interruption
+    ensures { Interrupts result (λ e. e ≡ Completed (failing (quoted front.now text.now end.now))) }
 {
-    let mut made = String::from_str(alloc, front)?;
-    made.push_str("\"")?;
-    made.push_str(text)?;
-    made.push_str("\"")?;
-    made.push_str(end)?;
-    Text::from_string(alloc, made)
-}
-
-/// The error of a message that quotes a text.
-fn failure_about(alloc: Global, front: &str, text: &str) -> Interruption
-    ensures { Interrupts result (λ e. e ≡ Completed (failing (quoted front.now text.now []))) }
-{
-    match quoted(alloc, front, text, "") {
+    match quoted(alloc, front, text, end) {
         Ok(message) => failure(alloc, message),
         Err(_) => Interruption::Memory,
     }
+}
+
+/// The error of a message that ends with a text that it quotes.
+pub fn failure_about(alloc: Global, front: &str, text: &str) -> Interruption
+    ensures { Interrupts result (λ e. e ≡ Completed (failing (quoted front.now text.now []))) }
+{
+    failure_quoting(alloc, front, text, "")
+}
+
+/// There is a command of this name.
+pub fn already_exists(alloc: Global, name: &str) -> Interruption
+    ensures { Interrupts result
+        (λ e. e ≡ Completed (failing (interpreters.already_exists name.now))) }
+{
+    failure_quoting(alloc, "", name, ALREADY_EXISTS)
+}
+
+/// The error of this text.
+pub fn plain_failure(alloc: Global, message: &str) -> Interruption
+    ensures { Interrupts result (λ e. e ≡ Completed (failing message.now)) }
+{
+    match Text::new(alloc, message) {
+        Ok(message) => failure(alloc, message),
+        Err(_) => Interruption::Memory,
+    }
+}
+
+/// The interpreter may not do this.
+pub fn denied(alloc: Global) -> Interruption
+    ensures { Interrupts result (λ e. e ≡ Completed (failing interpreters.denied)) }
+{
+    plain_failure(alloc, DENIED)
 }
 
 /// The words of a command don't have its form.

@@ -22,6 +22,7 @@ use std::alloc::Global;
 use tcl_flow::completion::OK;
 use tcl_flow::stop::{Stop, StopKind};
 use tcl_frames::frames::Frames;
+use tcl_text::limit::MOST_BYTES;
 use tcl_text::list::ListError;
 use tcl_text::text::Text;
 use tcl_tree::tree::{Place, Tree};
@@ -71,7 +72,7 @@ pub fn known_short(value: Value) -> Value
     ensures same { result ≡ value }
     ensures short { fits value ≡ true }
 {
-    if value.text_len() > 16777216 {
+    if value.text_len() > MOST_BYTES {
         return Value::empty();
     }
     value

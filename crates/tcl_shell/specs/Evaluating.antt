@@ -1,5 +1,5 @@
 -- What a script comes to: by the evaluator's own account of its run, in the tree and the host that it finds.
-use Rattle.std.specs.Prelude.{◌≡◌, ◌≢◌, ◌<◌, ◌≤◌, ◌+◌, ◌⊎◌, ℕ, ℤ, pos, negsuc, List, length, codes, map, Some, Result, Ok, Err}
+use Rattle.std.specs.Prelude.{◌≡◌, ◌≢◌, ◌<◌, ◌≤◌, ◌+◌, ◌⊎◌, ℕ, ℤ, pos, negsuc, List, length, map, Some, Result, Ok, Err}
 use Rattle.std.specs.Str.{IsUtf8}
 use Rattle.std.specs.declared.alloc.AllocError.{AllocError}
 use Rattle.tcl_core.specs.Paths.{Path, Text}
@@ -12,6 +12,7 @@ use Rattle.tcl_eval.specs.declared.running.Refused.{Refused}
 use Rattle.tcl_eval.specs.declared.running.Refused.TheVariants.{TooLong}
 use Rattle.tcl_run.specs.Outsides.{hosted}
 use Rattle.tcl_tree.specs.declared.tree.Tree.{Tree}
+use Rattle.tcl_text.specs.Messages as messages
 use Rattle.tcl_shell.specs.Beginning.{Begins, path_of, setting_of}
 use Rattle.tcl_shell.specs.Reading.{Serving}
 use Rattle.tcl_shell.specs.declared.ending.Ending.{Ending}
@@ -23,10 +24,10 @@ abbrev pub longest : ℕ
 longest = 16777216
 
 abbrev pub too_long : Text
-too_long = codes "value longer than 16777216 bytes"
+too_long = messages.too_long
 
 abbrev pub bad_status : Text
-bad_status = codes "exit status must be between 0 and 255"
+bad_status = messages.bad_status
 
 -- an error, unless memory ran out for its text
 abbrev pub failed_so : Result Text AllocError → Ending

@@ -7,14 +7,15 @@ use Rattle.tcl_host.specs.declared.reply.HostReply.{HostReply}
 use Rattle.tcl_host.specs.declared.reply.HostReply.TheVariants.{Done, Refused}
 use Rattle.tcl_host.specs.declared.reply.Refusal.{Refusal}
 use Rattle.tcl_host.specs.declared.request.Request.TheVariants.{Write}
+use Rattle.tcl_text.specs.Messages as messages
 use Rattle.tcl_shell.specs.Reading.{Serving}
 use Rattle.tcl_shell.specs.declared.ending.Ending.{Ending}
 use Rattle.tcl_shell.specs.declared.ending.Ending.TheVariants.{Finished, Helped, Failed, Misused, Unreadable, Stopped, Exited, OutOfMemory}
 
 -- the text of a limit
 abbrev pub limit_text : StopKind → List ℕ
-limit_text kind.Count = codes "command count limit exceeded"
-limit_text kind.Depth = codes "too many nested evaluations (infinite loop?)"
+limit_text kind.Count = messages.count_limit
+limit_text kind.Depth = messages.depth_limit
 
 -- a line of the program's own
 abbrev pub complaint : List ℕ → List ℕ

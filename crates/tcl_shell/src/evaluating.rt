@@ -9,8 +9,9 @@ use std::alloc::{AllocError, Global};
 use tcl_eval::running::{End, Refused, eval};
 use tcl_flow::completion::OK;
 use tcl_host::host::Host;
+use tcl_text::limit::MOST_BYTES;
+use tcl_text::messages::{BAD_STATUS, TOO_LONG};
 use tcl_text::text::Text;
-use tcl_value::value::MOST_BYTES;
 
 /// How many commands set the variables of the command line.
 const SETTING_STEPS: u64 = 3;
@@ -25,7 +26,7 @@ pub fn evaluated<H: Host>(
     ensures { EvaluatesTo H.step options.now script.now host.old result host.new }
 {
     if script.len() > MOST_BYTES {
-        return failed(Text::new(alloc, "value longer than 16777216 bytes"));
+        return failed(Text::new(alloc, TOO_LONG));
     }
     match str::from_utf8(script) {
         Ok(script) => run(alloc, host, options, script),
@@ -77,7 +78,7 @@ fn come(alloc: Global, end: End) -> Ending
         End::Stopped(kind) => Ending::Stopped(kind),
         End::Exit(status) => match u8::try_from(status) {
             Ok(status) => Ending::Exited(status),
-            Err(_) => failed(Text::new(alloc, "exit status must be between 0 and 255")),
+            Err(_) => failed(Text::new(alloc, BAD_STATUS)),
         },
     }
 }
@@ -87,7 +88,7 @@ fn refused_by(alloc: Global, refused: Refused) -> Ending
     ensures { IsRefused refused result }
 {
     match refused {
-        Refused::TooLong => failed(Text::new(alloc, "value longer than 16777216 bytes")),
+        Refused::TooLong => failed(Text::new(alloc, TOO_LONG)),
         Refused::Memory | Refused::Broken | Refused::NoInterpreter | Refused::CountTooLarge => {
             Ending::OutOfMemory
         }

@@ -10,3 +10,4 @@ mod script;
 mod telling;
 
 pub use program::run_args;
+pub use telling::MEMORY_LINE;

@@ -8,10 +8,11 @@ use std::alloc::{AllocError, Global};
 use tcl_flow::stop::StopKind;
 use tcl_host::host::Host;
 use tcl_host::reply::HostError;
+use tcl_text::messages::{COUNT_LIMIT, DEPTH_LIMIT};
 use tcl_text::text::Text;
 
 /// The line of a run that memory ran out in, which is written without taking any.
-const MEMORY_LINE: &str = "tclsafe: out of memory\n";
+pub const MEMORY_LINE: &str = "tclsafe: out of memory\n";
 
 /// Shows the result or tells the error, each by one write, and gives the exit status.
 ///
@@ -108,7 +109,7 @@ fn limit_text(kind: StopKind) -> &'static str
     ensures { result.now ≡ limit_text kind }
 {
     match kind {
-        StopKind::Count => "command count limit exceeded",
-        StopKind::Depth => "too many nested evaluations (infinite loop?)",
+        StopKind::Count => COUNT_LIMIT,
+        StopKind::Depth => DEPTH_LIMIT,
     }
 }

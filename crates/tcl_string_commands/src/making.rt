@@ -14,10 +14,11 @@ use tcl_strings::copies::{repeat, to_lower, to_upper};
 use tcl_strings::limit::{LimitError, join};
 use tcl_strings::mapping::map;
 use tcl_text::integer::Integers;
+use tcl_text::limit::MOST_BYTES;
 use tcl_text::text::Text;
 use tcl_words::answer::Answer;
 use tcl_words::arguments::{one_word, two_words};
-use tcl_words::limits::{MOST_BYTES, string_answer, text_answer};
+use tcl_words::limits::{string_answer, text_answer};
 use tcl_words::reading::{integer_word, list_word};
 use tcl_words::refusal::{Refusal, missing_value, too_long};
 

@@ -4,10 +4,8 @@ ghost use Rattle.std.specs.String.{string_bytes};
 ghost use Rattle.tcl_strings.specs.Texts.{joined};
 
 use std::alloc::{AllocError, AllocFailed, Global};
+use tcl_text::limit::MOST_BYTES;
 use tcl_text::text::Text;
-
-/// The most bytes of UTF-8 that a value may have.
-pub const MOST_BYTES: usize = 16_777_216;
 
 /// Why a text isn't made.
 #[derive(Clone, Copy, Debug, Drop)]

@@ -60,7 +60,7 @@ fn behind_some_key<'a>(text: &'a str, key: &str, nocase: bool) -> Option<&'a str
 /// order that fits there. What was put in isn't read again. The mapping has keys and what stands for each in turn.
 ///
 /// # Errors
-/// `TooLong` where the text would be longer than [`crate::limit::MOST_BYTES`]; want of memory.
+/// `TooLong` where the text would be longer than [`tcl_text::limit::MOST_BYTES`]; want of memory.
 pub fn map(alloc: Global, mapping: &[Text], text: &str, nocase: bool) -> Result<String, LimitError>
     ensures mapped { IfOk result (λ made. string_bytes made ≡ mapped nocase mapping.now (chars text.now) 0) }
     ensures within { OnOk result (length (mapped nocase mapping.now (chars text.now) 0) ≤ 16777216) }

@@ -7,3 +7,4 @@ pub mod Reading
 pub mod NumberForms
 pub mod Writing
 pub mod Measuring
+pub mod Messages

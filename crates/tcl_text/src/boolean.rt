@@ -2,7 +2,8 @@
 ghost use Rattle.std.specs.Prelude.{◌≡◌, ◌∷◌, [], ◌++◌, codes, IfOk, ok_or};
 ghost use Rattle.tcl_text.specs.Booleans.{abbreviates, fitting, word_truth, boolean_of};
 
-use crate::integer::{Integers, quoting, read_int};
+use crate::integer::{Integers, read_int};
+use crate::messages::quoting;
 use crate::text::Text;
 use std::alloc::{AllocError, Global};
 use std::cmp::{Eq, PartialEq};

@@ -5,8 +5,9 @@ ghost use Rattle.tcl_text.specs.NumberForms.{IndexesByForm};
 ghost use Rattle.tcl_text.specs.Indexes.{only_inside, base_of, offset_of, is_operator, last_operator, sum_around, index_of, place};
 
 use crate::integer::{
-    Integers, quoting, read_int, read_signed, read_unsigned, trim_white_end, trim_white_start,
+    Integers, read_int, read_signed, read_unsigned, trim_white_end, trim_white_start,
 };
+use crate::messages::quoting;
 use crate::text::Text;
 use std::alloc::{AllocError, Global};
 use std::cmp::{Eq, PartialEq};

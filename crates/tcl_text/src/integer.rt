@@ -8,6 +8,7 @@ ghost use Rattle.tcl_text.specs.Numbers.{trim_start, trim_end, in_base, unsigned
 ghost use Rattle.tcl_text.specs.declared.integer.Integers.{Integers};
 
 use crate::list::is_white;
+use crate::messages::quoting;
 use crate::text::Text;
 use itoa::Buffer;
 use std::alloc::{AllocError, Global};
@@ -196,14 +197,4 @@ pub fn too_large_message(alloc: Global) -> Result<Text, AllocError>
     ensures { IfOk result (λ made. made ≡ codes "integer value too large to represent") }
 {
     Text::new(alloc, "integer value too large to represent")
-}
-
-/// A text, another and a quotation mark.
-pub(crate) fn quoting(alloc: Global, front: &str, text: &str) -> Result<Text, AllocError>
-    ensures { IfOk result (λ made. made ≡ front.now ++ text.now ++ codes "\"") }
-{
-    let mut made = String::from_str(alloc, front)?;
-    made.push_str(text)?;
-    made.push_str("\"")?;
-    Text::from_string(alloc, made)
 }

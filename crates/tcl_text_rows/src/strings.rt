@@ -11,8 +11,9 @@ use tcl_strings::order::{compare, equal};
 use tcl_strings::parts::{before, between, character_count, from};
 use tcl_strings::places::{first_place, last_place};
 use tcl_strings::trimming::{WHITE, trim_left, trim_right};
+use tcl_text::limit::MOST_BYTES;
 use tcl_text::text::Text;
-use tcl_words::limits::{MOST_BYTES, count_answer};
+use tcl_words::limits::count_answer;
 
 /// The class with a name.
 fn class(name: &str) -> Option<Class> {

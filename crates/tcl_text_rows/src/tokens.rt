@@ -8,8 +8,8 @@ use tcl_expr_grammar::token::{Leaf, Token};
 use tcl_parser::fault::Fault;
 use tcl_parser::script::Part;
 use tcl_text::integer::Integers;
+use tcl_text::limit::MOST_BYTES;
 use tcl_text::text::Text;
-use tcl_value::value::MOST_BYTES;
 
 /// A text between two others.
 fn push_between(out: &mut String, open: &str, text: &Text, close: &str) -> Result<(), AllocError> {

@@ -2,12 +2,13 @@
 use crate::answers::{answer as told, elements, no_call, refusal};
 use std::alloc::{AllocError, Global};
 use tcl_text::integer::Integers;
+use tcl_text::limit::MOST_BYTES;
 use tcl_text::text::Text;
 use tcl_words::answer::Answer;
 use tcl_words::arguments::{
     one_or_two_words, one_word, three_or_four_words, three_words, two_or_three_words, two_words,
 };
-use tcl_words::limits::{MOST_BYTES, count_answer, limited, string_answer, text_answer};
+use tcl_words::limits::{count_answer, limited, string_answer, text_answer};
 use tcl_words::reading::{index_word, integer_word, list_word};
 use tcl_words::refusal::{
     Refusal, bad_count, bad_option, missing_value, too_long, unknown_subcommand, wrong_arguments,

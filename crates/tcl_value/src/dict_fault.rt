@@ -4,6 +4,7 @@ ghost use Rattle.std.specs.Prelude.{◌≡◌, IfOk};
 use crate::value::ValueError;
 use std::alloc::{AllocError, AllocFailed, Global};
 use tcl_text::list::{ListError, ListFault};
+use tcl_text::messages::MISSING_VALUE;
 use tcl_text::text::Text;
 
 /// What is at fault in a text that spells no dict.
@@ -27,7 +28,7 @@ impl DictFault {
     {
         match self {
             DictFault::List(fault) => fault.message(alloc),
-            DictFault::MissingValue => Text::new(alloc, "missing value to go with key"),
+            DictFault::MissingValue => Text::new(alloc, MISSING_VALUE),
         }
     }
 }
@@ -82,7 +83,7 @@ impl From<ListError> for DictError {
 pub enum EntryError {
     /// Memory ran out.
     Memory,
-    /// The text would be longer than [`MOST_BYTES`](crate::value::MOST_BYTES) (refusal 122).
+    /// The text would be longer than [`MOST_BYTES`](tcl_text::limit::MOST_BYTES) (refusal 122).
     TooLong,
     /// The text spells no dict.
     Fault(DictFault),

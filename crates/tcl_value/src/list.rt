@@ -12,10 +12,11 @@ ghost use Rattle.tcl_value.specs.Texts.{element_text, texts as texts_of, flat, I
 use crate::element::Element;
 use crate::entries::Entries;
 use crate::items::Items;
-use crate::value::{ChangeError, MOST_BYTES, Value, ValueError, set_shared};
+use crate::value::{ChangeError, Value, ValueError, set_shared};
 use std::alloc::{AllocError, Global};
 use std::marker::Model;
 use std::rc::Rc;
+use tcl_text::limit::MOST_BYTES;
 use tcl_text::list::{ListError, read_list};
 use tcl_text::text::Text;
 

@@ -28,12 +28,10 @@ use std::rc::Rc;
 use tcl_parser::reader::parse;
 use tcl_parser::script::Script;
 use tcl_text::integer::{IntegerFault, Integers, int_len, push_int, read_int, write_int};
+use tcl_text::limit::MOST_BYTES;
 use tcl_text::list::{ListError, ListFault};
 use tcl_text::list_comparing::is_int;
 use tcl_text::text::Text;
-
-/// The most bytes of UTF-8 that a value may have.
-pub const MOST_BYTES: usize = 16_777_216;
 
 /// Why a value isn't made or changed.
 #[derive(Clone, Copy, Debug, Drop)]

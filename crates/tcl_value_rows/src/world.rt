@@ -8,10 +8,11 @@ use crate::value_calls::answered;
 use indexmap::IndexMap;
 use row_runner::World;
 use std::alloc::{AllocError, Global};
+use tcl_text::limit::MOST_BYTES;
 use tcl_text::text::Text;
 use tcl_value::dict::Dict;
 use tcl_value::list::List;
-use tcl_value::value::{MOST_BYTES, Value, ValueError};
+use tcl_value::value::{Value, ValueError};
 
 /// Values, lists and dicts by name.
 pub(crate) struct Values {

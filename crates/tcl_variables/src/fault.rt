@@ -10,6 +10,7 @@ ghost use Rattle.std.specs.Prelude.{IfOk};
 
 use crate::name::element_text;
 use std::alloc::{AllocError, AllocFailed, Global};
+use tcl_text::messages::ALREADY_EXISTS;
 use tcl_text::text::Text;
 use tcl_value::value::Value;
 
@@ -68,8 +69,11 @@ fn cannot(alloc: Global, verb: Verb, name: &Text, why: &str) -> Result<Text, All
     Text::from_string(alloc, text)
 }
 
-/// `bad name "x"`
-fn quoted(alloc: Global, before: &str, name: &str, after: &str) -> Result<Text, AllocError>
+/// A text in quotation marks, between two others: `bad name "x"`.
+///
+/// # Errors
+/// Want of memory.
+pub fn quoted(alloc: Global, before: &str, name: &str, after: &str) -> Result<Text, AllocError>
     ensures { IfOk result (λ text. text ≡ quoted before.now name.now after.now) }
 {
     let mut text = String::from_str(alloc, before)?;
@@ -104,12 +108,9 @@ impl FrameFault {
                 cannot(alloc, *verb, name, "no such element in array")
             }
             FrameFault::BadLevel(level) => bad_level(alloc, *level),
-            FrameFault::Exists(name) => quoted(
-                alloc,
-                "variable ",
-                name.as_str(),
-                " already exists",
-            ),
+            FrameFault::Exists(name) => {
+                quoted(alloc, "variable ", name.as_str(), ALREADY_EXISTS)
+            }
             FrameFault::Itself => Text::new(alloc, "can't upvar from variable to itself"),
             FrameFault::BadName(name) => quoted(alloc, "bad name ", name.as_str(), ""),
         }

@@ -1,5 +1,6 @@
 -- The texts of errors.
 use Rattle.std.specs.Prelude.{ℕ, List, ◌++◌, codes}
+use Rattle.tcl_text.specs.Messages as messages
 
 -- a text between this front and a quotation mark
 abbrev pub quoted : List ℕ → List ℕ → List ℕ
@@ -27,7 +28,7 @@ abbrev pub too_large : List ℕ
 too_large = codes "integer value too large to represent"
 
 abbrev pub missing_value : List ℕ
-missing_value = codes "missing value to go with key"
+missing_value = messages.missing_value
 
 abbrev pub too_long : List ℕ
-too_long = codes "value longer than 16777216 bytes"
+too_long = messages.too_long

@@ -7,10 +7,8 @@ ghost use Rattle.tcl_words.specs.Limits.{limited, counted};
 use crate::answer::Answer;
 use crate::refusal::{Refusal, too_long};
 use std::alloc::Global;
+use tcl_text::limit::MOST_BYTES;
 use tcl_text::text::Text;
-
-/// The most bytes of UTF-8 that a value may have.
-pub const MOST_BYTES: usize = 16_777_216;
 
 /// A text, where it is one that a value may have.
 ///

@@ -3,11 +3,11 @@ ghost use Rattle.std.specs.Prelude.{◌≡◌, ◌≤◌, pos, ◌-ℤ◌};
 ghost use Rattle.tcl_words.specs.Outcomes.{Gives};
 ghost use Rattle.tcl_words.specs.Words.{integer_word, index_word, list_word};
 
-use crate::limits::MOST_BYTES;
 use crate::refusal::{Refusal, told, too_long};
 use std::alloc::Global;
 use tcl_text::index::{Index, bad_index_message, read_index};
 use tcl_text::integer::{IntegerFault, Integers, not_integer_message, read_int, too_large_message};
+use tcl_text::limit::MOST_BYTES;
 use tcl_text::list::{ListError, read_list};
 use tcl_text::text::Text;
 

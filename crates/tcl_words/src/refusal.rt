@@ -2,9 +2,10 @@
 ghost use Rattle.std.specs.Prelude.{◌≡◌, ◌++◌, codes, Err, IfOk};
 ghost use Rattle.std.specs.Prelude.{List, ℕ};
 ghost use Rattle.tcl_words.specs.Outcomes.{Refuses};
-ghost use Rattle.tcl_words.specs.Faults.{quoted, wrong_arguments, bad_option, bad_count, unknown_subcommand, missing_value, too_long};
+ghost use Rattle.tcl_words.specs.Faults.{wrong_arguments, bad_option, bad_count, unknown_subcommand, missing_value, too_long};
 
 use std::alloc::{AllocError, AllocFailed, Global};
+use tcl_text::messages::{BAD_OPTION, MISSING_VALUE, TOO_LONG, quoting};
 use tcl_text::text::Text;
 
 /// Why a command gives nothing.
@@ -46,16 +47,6 @@ pub(crate) fn told(message: Result<Text, AllocError>) -> Refusal
     }
 }
 
-/// A text between a front and a quotation mark.
-fn quoting(alloc: Global, front: &str, text: &str) -> Result<Text, AllocError>
-    ensures { IfOk result (λ made. made ≡ quoted front.now text.now) }
-{
-    let mut made = String::from_str(alloc, front)?;
-    made.push_str(text)?;
-    made.push_str("\"")?;
-    Text::from_string(alloc, made)
-}
-
 /// What is told of words that don't fit the form of their command (241).
 pub fn wrong_arguments(alloc: Global, form: &str) -> Refusal
     ensures { Refuses {X = List ℕ} result (Err (wrong_arguments form.now)) }
@@ -67,7 +58,7 @@ pub fn wrong_arguments(alloc: Global, form: &str) -> Refusal
 pub fn bad_option(alloc: Global, word: &str) -> Refusal
     ensures { Refuses {X = List ℕ} result (Err (bad_option word.now)) }
 {
-    told(quoting(alloc, "bad option \"", word))
+    told(quoting(alloc, BAD_OPTION, word))
 }
 
 /// What is told of a count below 0 (245).
@@ -88,12 +79,12 @@ pub fn unknown_subcommand(alloc: Global, word: &str) -> Refusal
 pub fn missing_value(alloc: Global) -> Refusal
     ensures { Refuses {X = List ℕ} result (Err missing_value) }
 {
-    told(Text::new(alloc, "missing value to go with key"))
+    told(Text::new(alloc, MISSING_VALUE))
 }
 
 /// What is told of a value that would be too long (122).
 pub fn too_long(alloc: Global) -> Refusal
     ensures { Refuses {X = List ℕ} result (Err too_long) }
 {
-    told(Text::new(alloc, "value longer than 16777216 bytes"))
+    told(Text::new(alloc, TOO_LONG))
 }

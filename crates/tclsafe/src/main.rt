@@ -6,7 +6,7 @@ use std::io::Write;
 use std::process::ExitCode;
 use std::{env, io};
 use tcl_console::Console;
-use tcl_shell::run_args;
+use tcl_shell::{MEMORY_LINE, run_args};
 
 fn main(rt: HostRuntime) -> ExitCode {
     let Ok(words) = words_of(&rt) else {
@@ -33,6 +33,6 @@ fn status_of(rt: &HostRuntime, words: &[String]) -> Result<u8, AllocError> {
 
 /// Tells that there was no memory to begin with.
 fn out_of_memory(rt: &HostRuntime) -> ExitCode {
-    let _ = rt.stderr().write_all(b"tclsafe: out of memory\n");
+    let _ = rt.stderr().write_all(MEMORY_LINE.as_bytes());
     ExitCode::from(4)
 }
