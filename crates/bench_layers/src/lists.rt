@@ -8,7 +8,7 @@ use tcl_list_texts::joining::join;
 use tcl_list_texts::splitting::split;
 use tcl_lists::changing::lset;
 use tcl_lists::lengthening::lappend;
-use tcl_sort::command::lsort;
+use tcl_search_and_sort::sorting::lsort;
 use tcl_text::integer::Integers::Tcl8;
 use tcl_text::text::Text;
 use tcl_value::list::List;

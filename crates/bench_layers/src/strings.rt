@@ -3,7 +3,7 @@ use crate::measuring::measured;
 use std::alloc::{AllocError, Global};
 use std::io;
 use tcl_format::command::format;
-use tcl_string_ensemble::ensemble::string;
+use tcl_strings::ensemble::string;
 use tcl_text::integer::Integers::Tcl8;
 use tcl_text::text::Text;
 use tcl_words::answer::Answer;

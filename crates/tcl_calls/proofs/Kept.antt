@@ -6,12 +6,12 @@ use Rattle.tcl_core.specs.Paths.{Text}
 use Rattle.tcl_expr.specs.Expressions.{expression_of}
 use Rattle.tcl_expr.specs.declared.fault.ExprFault.{ExprFault}
 use Rattle.tcl_expr.proofs.Decisions.{gives_tree}
-use Rattle.tcl_expr_grammar.specs.Trees.{Tree}
+use Rattle.tcl_expr.specs.Trees.{Tree}
 use Rattle.tcl_expression_evaluation.specs.Steps.{from}
 use Rattle.tcl_expression_evaluation.proofs.Trees.{steps_compute_trees}
 use Rattle.tcl_readings.specs.Kept.{steps_of}
-use Rattle.tcl_expression_tree.specs.declared.tree.ExprTree.{ExprTree}
-use Rattle.tcl_expression_tree.specs.declared.tree.Node.{Node}
+use Rattle.tcl_expr.specs.declared.tree.ExprTree.{ExprTree}
+use Rattle.tcl_expr.specs.declared.tree.Node.{Node}
 use Rattle.tcl_language.specs.Instructions.{fits}
 use Rattle.tcl_text.specs.declared.integer.Integers.{Integers}
 use Rattle.tcl_calls.specs.Expressions.{IsKept}

@@ -5,12 +5,12 @@ use Rattle.tcl_core.specs.Endings.Reply.{Completed}
 use Rattle.tcl_core.specs.Paths.{Text}
 use Rattle.tcl_core.specs.Programs.Prog.{done}
 use Rattle.tcl_expr.specs.Expressions.{expression_of}
-use Rattle.tcl_expr_grammar.specs.Trees.{Tree}
+use Rattle.tcl_expr.specs.Trees.{Tree}
 use Rattle.tcl_expression_evaluation.specs.Computations.{Computation, value, refused, substitute, computation_of, final}
 use Rattle.tcl_expression_evaluation.specs.Steps.{from}
 use Rattle.tcl_expression_evaluation.specs.declared.evaluation.Progress.{Progress}
 use Rattle.tcl_expression_evaluation.specs.declared.evaluation.Progress.TheVariants as progress
-use Rattle.tcl_expression_tree.specs.declared.tree.ExprTree.{ExprTree}
+use Rattle.tcl_expr.specs.declared.tree.ExprTree.{ExprTree}
 use Rattle.tcl_language.specs.Instructions.{Program, or_fails}
 use Rattle.tcl_operators.specs.Messages.{message_of}
 use Rattle.tcl_operators.specs.declared.fault.OperatorFault.{OperatorFault}

@@ -15,20 +15,20 @@ use Rattle.tcl_format.specs.Pieces.{padded, piece}
 use Rattle.tcl_format.specs.declared.specifier.Conversion.{Conversion}
 use Rattle.tcl_format.specs.declared.specifier.Conversion.TheVariants as conversion
 use Rattle.tcl_format.specs.declared.specifier.Specifier.{Specifier}
-use Rattle.tcl_string_commands.specs.Comparing as comparing
+use Rattle.tcl_strings.specs.Comparing as comparing
 use Rattle.tcl_glob.specs.Patterns.{is_match, letters}
-use Rattle.tcl_string_commands.specs.Making.{mapping_word, times}
-use Rattle.tcl_string_commands.specs.Options.{nocase_words}
-use Rattle.tcl_string_commands.specs.Parts.{replaced, white}
-use Rattle.tcl_string_commands.specs.Searching.{index_or, place_or}
-use Rattle.tcl_string_ensemble.specs.Kinds as kinds
-use Rattle.tcl_string_ensemble.specs.Subcommands.{outcome_of, outcome_or, string_of, subcommand_of}
-use Rattle.tcl_string_ensemble.specs.declared.subcommand.Subcommand.{Subcommand}
-use Rattle.tcl_string_ensemble.specs.declared.subcommand.Subcommand.TheVariants as sub
-use Rattle.tcl_strings.specs.Mapping.{mapped}
-use Rattle.tcl_strings.specs.Order.{order}
-use Rattle.tcl_strings.specs.Places.{first_place, last_place}
-use Rattle.tcl_strings.specs.Texts.{copies, joined, text_of, trim_start, trim_end}
+use Rattle.tcl_strings.specs.Making.{mapping_word, times}
+use Rattle.tcl_strings.specs.Options.{nocase_words}
+use Rattle.tcl_strings.specs.Parts.{replaced, white}
+use Rattle.tcl_strings.specs.Searching.{index_or, place_or}
+use Rattle.tcl_strings.specs.Kinds as kinds
+use Rattle.tcl_strings.specs.Subcommands.{outcome_of, outcome_or, string_of, subcommand_of}
+use Rattle.tcl_strings.specs.declared.subcommand.Subcommand.{Subcommand}
+use Rattle.tcl_strings.specs.declared.subcommand.Subcommand.TheVariants as sub
+use Rattle.tcl_characters.specs.Mapping.{mapped}
+use Rattle.tcl_characters.specs.Order.{order}
+use Rattle.tcl_characters.specs.Places.{first_place, last_place}
+use Rattle.tcl_characters.specs.Texts.{copies, joined, text_of, trim_start, trim_end}
 use Rattle.tcl_text.specs.declared.index.Index.TheVariants.{Before, Beyond}
 use Rattle.tcl_text.specs.declared.integer.Integers.{Integers}
 use Rattle.tcl_value.specs.Limits.{IsWithin}

@@ -4,14 +4,14 @@ ghost use Rattle.tcl_format.specs.Filling.{format_of};
 ghost use Rattle.tcl_language.specs.Data.{answered};
 ghost use Rattle.tcl_run.specs.Plain.{Acts};
 ghost use Rattle.tcl_run.specs.Runs.{IsLevel};
-ghost use Rattle.tcl_string_ensemble.specs.Subcommands.{string_of};
+ghost use Rattle.tcl_strings.specs.Subcommands.{string_of};
 ghost use Rattle.tcl_words.specs.Outcomes.{Gives};
 
 use crate::answers::{answer_value, answered, texts_of};
 use std::alloc::Global;
 use tcl_format::command;
 use tcl_run::interruption::Interruption;
-use tcl_string_ensemble::ensemble;
+use tcl_strings::ensemble;
 use tcl_text::integer::Integers;
 use tcl_tree::tree::{Place, Tree};
 use tcl_value::value::Value;

@@ -1,8 +1,8 @@
 -- What is a run over a host as an outside is a run with the host, and the whole evaluation.
 use Rattle.std.proofs.Common.{◌≡◌, ◌∙◌, ℕ, ◌+◌, Bool, true, false, [], Some, refl, sym, ap, subst}
 use Rattle.std.specs.Prelude.{Result, Ok, Err, IfErr, IfNone, IfOk, IfSome, is_some, nat_le}
-use Rattle.tcl_budgets.specs.Laws.{ScriptsKeepBudgets}
-use Rattle.tcl_budgets.proofs.Tables.{orderly}
+use Rattle.tcl_run_laws.specs.BudgetLaws.{ScriptsKeepBudgets}
+use Rattle.tcl_run_laws.proofs.Tables.{orderly}
 use Rattle.tcl_core.specs.Entries.Entry.{Eval}
 use Rattle.tcl_core.specs.Lives.{End as Ending, Whole, limited, unlimited}
 use Rattle.tcl_core.specs.Paths.{Path, Text}
@@ -12,10 +12,10 @@ use Rattle.tcl_core.specs.Trees.What.{Limited}
 use Rattle.tcl_core.proofs.PathLaws.{Some-inj}
 use Rattle.tcl_host.specs.declared.reply.HostReply.{HostReply}
 use Rattle.tcl_host.specs.declared.request.Request.{Request}
-use Rattle.tcl_hosting.specs.Language.{leaves_steps}
-use Rattle.tcl_hosting.specs.Laws.{WholeRun}
-use Rattle.tcl_hosting.proofs.Limiting.{language_keeps_tops}
-use Rattle.tcl_hosting.proofs.Wholes.{whole_run}
+use Rattle.tcl_run_laws.specs.Language.{leaves_steps}
+use Rattle.tcl_run_laws.specs.HostLaws.{WholeRun}
+use Rattle.tcl_run_laws.proofs.Limiting.{language_keeps_tops}
+use Rattle.tcl_run_laws.proofs.HostedWholes.{whole_run}
 use Rattle.tcl_language.specs.Instructions.{fits}
 use Rattle.tcl_language_laws.specs.Language.{language}
 use Rattle.tcl_language.specs.Table.{serve}
@@ -29,7 +29,7 @@ use Rattle.tcl_tree.specs.Own.{Own}
 use Rattle.tcl_tree.specs.TreeOf.{tree_of, marks_of}
 use Rattle.tcl_tree.specs.declared.tree.Tree.{Tree as Table}
 use Rattle.tcl_tree.proofs.CoreLemmas.{top_there}
-use Rattle.tcl_unfinished.proofs.Beginning.{script_begins}
+use Rattle.tcl_run_laws.proofs.Beginning.{script_begins}
 use Rattle.tcl_eval.specs.Running.{AsksFirst, IsBudgeted, IsGivenUp, IsOpenRun, IsRun, IsWhole, ending_of, first_of, most_steps, root_count, unfit}
 use Rattle.tcl_eval.specs.declared.running.End.{End}
 use Rattle.tcl_eval.specs.declared.running.Refused.{Refused}

@@ -1,7 +1,7 @@
 -- What contracts see of the run of a script.
 use Rattle.std.specs.Prelude.{◌≡◌, ℕ, ◌+◌, Bool, true, false, List, [], nat_le, Option, Some, None, is_some, Result, Ok, Err, IfOk}
 use Rattle.tcl_beginnings.specs.Beginnings.{Begun}
-use Rattle.tcl_budgets.specs.Budgets.{KeepsBudget}
+use Rattle.tcl_run_laws.specs.Budgets.{KeepsBudget}
 use Rattle.tcl_core.specs.Endings.{Reply, ok}
 use Rattle.tcl_core.specs.Endings.Reply.{Completed}
 use Rattle.tcl_core.specs.Entries.{Answer}
@@ -16,7 +16,7 @@ use Rattle.tcl_flow.specs.Stopping.{meter_of}
 use Rattle.tcl_flow.specs.View.{completion_of}
 use Rattle.tcl_host.specs.declared.reply.HostReply.{HostReply}
 use Rattle.tcl_host.specs.declared.request.Request.{Request}
-use Rattle.tcl_hosting.specs.Replies.{Belongs}
+use Rattle.tcl_run_laws.specs.Replies.{Belongs}
 use Rattle.tcl_language.specs.Instructions.{fits}
 use Rattle.tcl_language_laws.specs.Language.{language}
 use Rattle.tcl_language.specs.Table.{serve}
@@ -26,7 +26,7 @@ use Rattle.tcl_run.specs.Ends.{Interrupts}
 use Rattle.tcl_run.specs.Outsides.{Going}
 use Rattle.tcl_run.specs.Runs.{Comes, IsLoss, Ways}
 use Rattle.tcl_tree.specs.Own.{Own}
-use Rattle.tcl_unfinished.specs.Laws.{IsBeginning}
+use Rattle.tcl_run_laws.specs.UnfinishedLaws.{IsBeginning}
 use Rattle.tcl_tree.specs.TreeOf.{tree_of, marks_of}
 use Rattle.tcl_tree.specs.declared.tree.Tree.{Tree as Table}
 use Rattle.tcl_eval.specs.declared.running.End.{End}

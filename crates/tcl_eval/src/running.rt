@@ -14,13 +14,13 @@ ghost use Rattle.tcl_eval.specs.Running.{AsksFirst, IsBudgeted, IsGivenUp, IsOpe
 ghost use Rattle.tcl_eval.specs.declared.running.Refused.TheVariants.{Memory};
 
 use std::alloc::{AllocError, Global};
-use tcl_budgets::scripts_keep_budgets;
 use tcl_evaluation::crossing::serve_eval;
 use tcl_flow::completion::{self, Completion};
 use tcl_flow::stop::{Stop, StopKind};
 use tcl_host::host::Host;
 use tcl_run::interruption::Interruption;
 use tcl_run::outside::Outside;
+use tcl_run_laws::budgets::scripts_keep_budgets;
 use tcl_text::limit::MOST_BYTES;
 use tcl_text::text::Text;
 use tcl_tree::node::MOST_STEPS;

@@ -12,8 +12,8 @@ use Rattle.tcl_expr.specs.Expressions.{expression_of}
 use Rattle.tcl_expr.specs.Faults.{message_of as expression_message}
 use Rattle.tcl_expression_evaluation.specs.Computations.{Computation, value, substitute, computation_of}
 use Rattle.tcl_expression_evaluation.specs.Steps.{from}
-use Rattle.tcl_expression_tree.specs.declared.tree.ExprTree.{ExprTree}
-use Rattle.tcl_expression_tree.specs.declared.tree.Node.{Node}
+use Rattle.tcl_expr.specs.declared.tree.ExprTree.{ExprTree}
+use Rattle.tcl_expr.specs.declared.tree.Node.{Node}
 use Rattle.tcl_language.specs.Control.{after_body}
 use Rattle.tcl_language.specs.Expressions.{computed, expression, condition, turn, expr, Branches, branches_of, if_first, runs_branches, first_true, runs_last}
 use Rattle.tcl_language.specs.Faults.{wrong_args}

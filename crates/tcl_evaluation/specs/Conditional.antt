@@ -5,7 +5,7 @@ use Rattle.tcl_core.specs.Endings.Reply.{Completed}
 use Rattle.tcl_core.specs.Paths.{Path}
 use Rattle.tcl_core.specs.Runs.{Ending}
 use Rattle.tcl_core.specs.Trees.{Tree}
-use Rattle.tcl_expression_tree.specs.declared.tree.ExprTree.{ExprTree}
+use Rattle.tcl_expr.specs.declared.tree.ExprTree.{ExprTree}
 use Rattle.tcl_language.specs.Control.{after_body}
 use Rattle.tcl_language.specs.Expressions.{expression, condition, turn}
 use Rattle.tcl_language.specs.Instructions.{Program}

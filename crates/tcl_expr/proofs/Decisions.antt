@@ -1,16 +1,16 @@
 -- Reading from the left decides which texts are expressions.
 use Rattle.std.proofs.Common.{◌≡◌, ◌∙◌, sym, ap, subst, refl, ℕ, List, [], ◌∷◌, ◌++◌, Option, Some, None, Result, Ok, Err, inl, inr, ◌⊎◌, append_assoc}
 use Rattle.tcl_text.specs.declared.integer.Integers.{Integers}
-use Rattle.tcl_expr_grammar.specs.declared.token.Token.{Token}
-use Rattle.tcl_expr_grammar.specs.declared.grammar.Misfit.{Misfit}
-use Rattle.tcl_expr_grammar.specs.declared.grammar.Misfit.TheVariants as misfits
-use Rattle.tcl_expr_grammar.specs.Trees.{Tree}
-use Rattle.tcl_expr_grammar.specs.Grammar.{IsExpression, Begins}
-use Rattle.tcl_expr_grammar.specs.Misfits.{IsMisfit, Fails, fitting, early}
-use Rattle.tcl_expr_grammar.specs.Reading.{Step, wanting, run, finish, finished}
-use Rattle.tcl_expr_grammar.proofs.Misfits.{begins, reads, fails, faults}
-use Rattle.tcl_expr_grammar.proofs.Soundness.{expression}
-use Rattle.tcl_expr_grammar.proofs.Completeness as complete
+use Rattle.tcl_expr.specs.declared.token.Token.{Token}
+use Rattle.tcl_expr.specs.declared.grammar.Misfit.{Misfit}
+use Rattle.tcl_expr.specs.declared.grammar.Misfit.TheVariants as misfits
+use Rattle.tcl_expr.specs.Trees.{Tree}
+use Rattle.tcl_expr.specs.Grammar.{IsExpression, Begins}
+use Rattle.tcl_expr.specs.Misfits.{IsMisfit, Fails, fitting, early}
+use Rattle.tcl_expr.specs.Reading.{Step, wanting, run, finish, finished}
+use Rattle.tcl_expr.proofs.Misfits.{begins, reads, fails, faults}
+use Rattle.tcl_expr.proofs.Soundness.{expression}
+use Rattle.tcl_expr.proofs.Completeness as complete
 use Rattle.tcl_expr.specs.declared.fault.ExprFault.{ExprFault}
 use Rattle.tcl_expr.specs.Expressions.{tokens_of, deepest, fault_of, HasFault, misfit, unreadable, early as ends_early, told, completed, expression_of, GivesTree, GivesFault, OneTree, OneFault, Decided}
 

@@ -1,3 +1,11 @@
+pub mod Completeness
+pub mod Soundness
+pub mod Misfits
 pub mod Words
 pub mod Substitutions
 pub mod Decisions
+pub mod Parsings
+pub mod Parsteps
+pub mod Readings
+pub mod Rests
+pub mod Spellings

@@ -1,14 +1,14 @@
 -- The expression that a text is, and the fault of a text that is none.
 use Rattle.std.specs.Prelude.{◌≡◌, ℕ, zero, suc, Bool, true, false, List, [], ◌∷◌, ◌++◌, length, Option, Some, None, Result, Ok, Err, ◌↔◌, ◌⊎◌}
 use Rattle.tcl_text.specs.declared.integer.Integers.{Integers}
-use Rattle.tcl_expr_grammar.specs.declared.token.Token.{Token}
-use Rattle.tcl_expr_grammar.specs.declared.token.Token.TheVariants as token
-use Rattle.tcl_expr_grammar.specs.declared.grammar.Misfit.{Misfit}
-use Rattle.tcl_expr_grammar.specs.declared.grammar.Misfit.TheVariants as misfits
-use Rattle.tcl_expr_grammar.specs.Trees.{Tree}
-use Rattle.tcl_expr_grammar.specs.Grammar.{IsExpression, Begins}
-use Rattle.tcl_expr_grammar.specs.Misfits.{IsMisfit}
-use Rattle.tcl_expr_grammar.specs.Reading.{Step, wanting, run, finish}
+use Rattle.tcl_expr.specs.declared.token.Token.{Token}
+use Rattle.tcl_expr.specs.declared.token.Token.TheVariants as token
+use Rattle.tcl_expr.specs.declared.grammar.Misfit.{Misfit}
+use Rattle.tcl_expr.specs.declared.grammar.Misfit.TheVariants as misfits
+use Rattle.tcl_expr.specs.Trees.{Tree}
+use Rattle.tcl_expr.specs.Grammar.{IsExpression, Begins}
+use Rattle.tcl_expr.specs.Misfits.{IsMisfit}
+use Rattle.tcl_expr.specs.Reading.{Step, wanting, run, finish}
 use Rattle.tcl_expr.specs.declared.fault.ExprFault.{ExprFault}
 use Rattle.tcl_expr.specs.declared.fault.ExprFault.TheVariants.{Syntax, TooDeep, TooLarge}
 use Rattle.tcl_expr.specs.Tokens.{Lexed, ended, read, next_token}

@@ -1,4 +1,10 @@
+pub mod Trees
+pub mod Grammar
+pub mod Reading
+pub mod Misfits
 pub mod Faults
 pub mod Tokens
 pub mod Views
 pub mod Expressions
+pub mod Code
+pub mod Parsing

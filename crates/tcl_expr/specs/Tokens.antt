@@ -15,12 +15,12 @@ use Rattle.tcl_parser.specs.Several.{over, next as more}
 use Rattle.tcl_parser.specs.Reading.{Place, PartTurn, level_at, read_part, read_parts, joined_parts, before}
 use Rattle.tcl_parser.specs.Characters.{dollar, quote, open_bracket, open_brace, is_name_character}
 use Rattle.tcl_value.specs.Reading.{int_of}
-use Rattle.tcl_expr_grammar.specs.declared.operator.BinaryOperator.TheVariants as operator
-use Rattle.tcl_expr_grammar.specs.declared.operator.UnaryOperator.TheVariants as unary
-use Rattle.tcl_expr_grammar.specs.declared.operator.Function.TheVariants as function
-use Rattle.tcl_expr_grammar.specs.declared.token.Leaf.TheVariants.{Literal, Substituted}
-use Rattle.tcl_expr_grammar.specs.declared.token.Token.{Token}
-use Rattle.tcl_expr_grammar.specs.declared.token.Token.TheVariants as token
+use Rattle.tcl_expr.specs.declared.operator.BinaryOperator.TheVariants as operator
+use Rattle.tcl_expr.specs.declared.operator.UnaryOperator.TheVariants as unary
+use Rattle.tcl_expr.specs.declared.operator.Function.TheVariants as function
+use Rattle.tcl_expr.specs.declared.token.Leaf.TheVariants.{Literal, Substituted}
+use Rattle.tcl_expr.specs.declared.token.Token.{Token}
+use Rattle.tcl_expr.specs.declared.token.Token.TheVariants as token
 use Rattle.tcl_expr.specs.declared.fault.ExprFault.{ExprFault}
 use Rattle.tcl_expr.specs.declared.fault.ExprFault.TheVariants.{Syntax, TooLarge, Operand}
 

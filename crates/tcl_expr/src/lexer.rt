@@ -10,8 +10,8 @@ ghost use Rattle.tcl_expr.specs.Views.{lexed_of};
 use crate::fault::{ExprError, ExprFault};
 use crate::operand::{braced, number, quoted, skip_white, skip_word, substitution, word};
 use crate::symbol::sign;
+use crate::token::Token;
 use std::alloc::Global;
-use tcl_expr_grammar::token::Token;
 use tcl_parser::scan::{before, is_name_character, split_ascii};
 use tcl_text::integer::Integers;
 

@@ -10,9 +10,9 @@ ghost use Rattle.tcl_expr.specs.Faults.{Yields};
 ghost use Rattle.tcl_expr.specs.Tokens.{after_word, number, boolean_word, word, after_substitution, substitution, quoted, braced};
 
 use crate::fault::{ExprError, ExprFault};
+use crate::operator::{BinaryOperator, Function};
+use crate::token::{Leaf, Token};
 use std::alloc::{AllocError, Global};
-use tcl_expr_grammar::operator::{BinaryOperator, Function};
-use tcl_expr_grammar::token::{Leaf, Token};
 use tcl_parser::fault::Fault;
 use tcl_parser::reader::read_parts;
 use tcl_parser::scan::{before, is_name_character, split_ascii};

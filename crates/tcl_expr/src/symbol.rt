@@ -3,8 +3,8 @@ ghost use Rattle.std.specs.Prelude.{◌≡◌, Ok, Err, IfOk, IfErr};
 ghost use Rattle.tcl_expr.specs.Tokens.{pair, single, sign};
 
 use crate::fault::ExprFault;
-use tcl_expr_grammar::operator::{BinaryOperator, UnaryOperator};
-use tcl_expr_grammar::token::Token;
+use crate::operator::{BinaryOperator, UnaryOperator};
+use crate::token::Token;
 use tcl_parser::scan::split_ascii;
 
 /// The token that two signs are.

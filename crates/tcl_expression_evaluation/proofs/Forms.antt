@@ -1,8 +1,8 @@
 -- The trees of texts are formed as calls are.
 use Rattle.std.proofs.Common.{◌≡◌, ap, refl, ℕ, true, false, not, List}
-use Rattle.tcl_expr_grammar.specs.declared.token.Token.{Token}
-use Rattle.tcl_expr_grammar.specs.Trees.{Tree}
-use Rattle.tcl_expr_grammar.specs.Grammar.{Kind, upto, arguments, Spells, is_complete, operand, lowest, before, parenthesized, called, first_argument, next_argument, left, right, chosen, tighter}
+use Rattle.tcl_expr.specs.declared.token.Token.{Token}
+use Rattle.tcl_expr.specs.Trees.{Tree}
+use Rattle.tcl_expr.specs.Grammar.{Kind, upto, arguments, Spells, is_complete, operand, lowest, before, parenthesized, called, first_argument, next_argument, left, right, chosen, tighter}
 use Rattle.tcl_expression_evaluation.specs.Laws.{takes_more, IsFormed, TreesAreFormed}
 
 abbrev pub Formed : Kind → Tree → Type 0

@@ -8,9 +8,9 @@ use Rattle.tcl_operators.specs.declared.fault.ApplyError.TheVariants as error
 use Rattle.tcl_parser.specs.Words.{WordRead}
 use Rattle.tcl_text.specs.declared.integer.Integers.{Integers}
 use Rattle.tcl_value.specs.Limits.{Bytes}
-use Rattle.tcl_expr_grammar.specs.declared.operator.BinaryOperator.TheVariants as operator
-use Rattle.tcl_expression_tree.specs.declared.tree.Node.{Node}
-use Rattle.tcl_expression_tree.specs.declared.tree.Node.TheVariants as node
+use Rattle.tcl_expr.specs.declared.operator.BinaryOperator.TheVariants as operator
+use Rattle.tcl_expr.specs.declared.tree.Node.{Node}
+use Rattle.tcl_expr.specs.declared.tree.Node.TheVariants as node
 use Rattle.tcl_expression_evaluation.specs.Computations.{Computation, value, substitute}
 use Rattle.tcl_expression_evaluation.specs.Steps.{Mode, doing, leaving, passed, does, goes, top, Acts, Advances}
 

@@ -2,8 +2,8 @@
 use Rattle.std.proofs.Common.{◌≡◌, ◌∙◌, ap, true, false, Err}
 use Rattle.tcl_text.specs.declared.integer.Integers.{Integers}
 use Rattle.tcl_value.specs.Limits.{Bytes}
-use Rattle.tcl_expr_grammar.specs.declared.operator.BinaryOperator.{BinaryOperator}
-use Rattle.tcl_expr_grammar.specs.declared.operator.BinaryOperator.TheVariants as operator
+use Rattle.tcl_expr.specs.declared.operator.BinaryOperator.{BinaryOperator}
+use Rattle.tcl_expr.specs.declared.operator.BinaryOperator.TheVariants as operator
 use Rattle.tcl_operators.specs.declared.fault.ApplyError.{ApplyError}
 use Rattle.tcl_operators.specs.declared.fault.ApplyError.TheVariants as error
 use Rattle.tcl_operators.specs.Apply.{Refuses, truth, answer}

@@ -2,12 +2,12 @@
 use Rattle.std.proofs.Common.{◌≡◌, ◌∙◌, ap, ℕ, suc, true, List, [], ◌∷◌, ◌++◌, append_assoc}
 use Rattle.tcl_text.specs.declared.integer.Integers.{Integers}
 use Rattle.tcl_value.specs.Limits.{Bytes}
-use Rattle.tcl_expr_grammar.specs.declared.operator.BinaryOperator.{BinaryOperator}
-use Rattle.tcl_expr_grammar.specs.declared.operator.BinaryOperator.TheVariants as operator
-use Rattle.tcl_expr_grammar.specs.Trees.{Tree, leaf, unary, binary, choice, first, also}
-use Rattle.tcl_expression_tree.specs.declared.tree.Node.{Node}
-use Rattle.tcl_expression_tree.specs.declared.tree.Node.TheVariants as node
-use Rattle.tcl_expression_tree.specs.Code.{mark, function_of, count_of, before, code_of}
+use Rattle.tcl_expr.specs.declared.operator.BinaryOperator.{BinaryOperator}
+use Rattle.tcl_expr.specs.declared.operator.BinaryOperator.TheVariants as operator
+use Rattle.tcl_expr.specs.Trees.{Tree, leaf, unary, binary, choice, first, also}
+use Rattle.tcl_expr.specs.declared.tree.Node.{Node}
+use Rattle.tcl_expr.specs.declared.tree.Node.TheVariants as node
+use Rattle.tcl_expr.specs.Code.{mark, function_of, count_of, before, code_of}
 use Rattle.tcl_expression_evaluation.specs.Steps.{leaving, goes}
 use Rattle.tcl_expression_evaluation.specs.Laws.{takes_more, IsFormed}
 use Rattle.tcl_expression_evaluation.proofs.Going.{goes_leaving}

@@ -4,15 +4,15 @@ use Rattle.std.proofs.Math.Path.{fun_ext}
 use Rattle.std.proofs.lemmas.List.{append-nil}
 use Rattle.tcl_text.specs.declared.integer.Integers.{Integers}
 use Rattle.tcl_value.specs.Limits.{Bytes}
-use Rattle.tcl_expr_grammar.specs.declared.operator.BinaryOperator.{BinaryOperator}
-use Rattle.tcl_expr_grammar.specs.declared.operator.BinaryOperator.TheVariants as operator
-use Rattle.tcl_expr_grammar.specs.declared.operator.Function.{Function}
-use Rattle.tcl_expr_grammar.specs.declared.operator.UnaryOperator.{UnaryOperator}
-use Rattle.tcl_expr_grammar.specs.Trees.{Tree, leaf, unary, binary, choice, first, also}
+use Rattle.tcl_expr.specs.declared.operator.BinaryOperator.{BinaryOperator}
+use Rattle.tcl_expr.specs.declared.operator.BinaryOperator.TheVariants as operator
+use Rattle.tcl_expr.specs.declared.operator.Function.{Function}
+use Rattle.tcl_expr.specs.declared.operator.UnaryOperator.{UnaryOperator}
+use Rattle.tcl_expr.specs.Trees.{Tree, leaf, unary, binary, choice, first, also}
 use Rattle.tcl_operators.specs.Apply.{truth, answer, apply_unary, apply_binary}
-use Rattle.tcl_expression_tree.specs.declared.tree.Node.{Node}
-use Rattle.tcl_expression_tree.specs.declared.tree.Node.TheVariants as node
-use Rattle.tcl_expression_tree.specs.Code.{mark, function_of, count_of, before, code_of}
+use Rattle.tcl_expr.specs.declared.tree.Node.{Node}
+use Rattle.tcl_expr.specs.declared.tree.Node.TheVariants as node
+use Rattle.tcl_expr.specs.Code.{mark, function_of, count_of, before, code_of}
 use Rattle.tcl_expression_evaluation.specs.Computations.{Computation, value, and_then, decided, needing, call, computes, arguments}
 use Rattle.tcl_expression_evaluation.specs.Steps.{top, below, without, doing, leaving, passed, goes}
 use Rattle.tcl_expression_evaluation.specs.Laws.{takes_more, IsFormed, StepsComputeTrees}

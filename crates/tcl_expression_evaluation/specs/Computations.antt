@@ -8,18 +8,18 @@ use Rattle.tcl_text.specs.declared.integer.IntegerFault.TheVariants as integer_f
 use Rattle.tcl_parser.specs.Words.{WordRead}
 use Rattle.tcl_value.specs.Limits.{Bytes}
 use Rattle.tcl_value.specs.Reading.{int_of}
-use Rattle.tcl_expr_grammar.specs.declared.operator.BinaryOperator.{BinaryOperator}
-use Rattle.tcl_expr_grammar.specs.declared.operator.BinaryOperator.TheVariants as operator
-use Rattle.tcl_expr_grammar.specs.declared.operator.Function.{Function}
-use Rattle.tcl_expr_grammar.specs.declared.token.Leaf.{Leaf}
-use Rattle.tcl_expr_grammar.specs.declared.token.Leaf.TheVariants.{Literal, Substituted}
-use Rattle.tcl_expr_grammar.specs.Trees.{Tree, leaf, unary, binary, choice, first, also}
-use Rattle.tcl_expr_grammar.specs.Grammar.{takes_one}
+use Rattle.tcl_expr.specs.declared.operator.BinaryOperator.{BinaryOperator}
+use Rattle.tcl_expr.specs.declared.operator.BinaryOperator.TheVariants as operator
+use Rattle.tcl_expr.specs.declared.operator.Function.{Function}
+use Rattle.tcl_expr.specs.declared.token.Leaf.{Leaf}
+use Rattle.tcl_expr.specs.declared.token.Leaf.TheVariants.{Literal, Substituted}
+use Rattle.tcl_expr.specs.Trees.{Tree, leaf, unary, binary, choice, first, also}
+use Rattle.tcl_expr.specs.Grammar.{takes_one}
 use Rattle.tcl_operators.specs.declared.fault.OperatorFault.{OperatorFault}
 use Rattle.tcl_operators.specs.declared.fault.OperatorFault.TheVariants as fault
 use Rattle.tcl_operators.specs.declared.fault.Operator.TheVariants.{Function as Called}
 use Rattle.tcl_operators.specs.Apply.{Outcome, truth, answer, apply_unary, apply_binary, apply_func}
-use Rattle.tcl_expression_tree.specs.Code.{function_of}
+use Rattle.tcl_expr.specs.Code.{function_of}
 
 -- A value; a refusal; or a part to be substituted, and what is computed with its value. Who evaluates substitutes: where that ends otherwise than in a value, the evaluation ends so.
 pub data Computation : Type 0 where

@@ -1,10 +1,10 @@
 -- What ties the steps of a kept expression to its tree.
 use Rattle.std.specs.Prelude.{◌≡◌, ℕ, Bool, true, false, not, List, []}
 use Rattle.tcl_text.specs.declared.integer.Integers.{Integers}
-use Rattle.tcl_expr_grammar.specs.Trees.{Tree, leaf, unary, binary, choice, first, also}
-use Rattle.tcl_expr_grammar.specs.Grammar.{takes_one}
+use Rattle.tcl_expr.specs.Trees.{Tree, leaf, unary, binary, choice, first, also}
+use Rattle.tcl_expr.specs.Grammar.{takes_one}
 use Rattle.tcl_expr.specs.Expressions.{IsExpr}
-use Rattle.tcl_expression_tree.specs.Code.{code_of}
+use Rattle.tcl_expr.specs.Code.{code_of}
 use Rattle.tcl_expression_evaluation.specs.Computations.{computation_of}
 use Rattle.tcl_expression_evaluation.specs.Steps.{from}
 

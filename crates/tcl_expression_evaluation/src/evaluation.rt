@@ -7,9 +7,9 @@ ghost use Rattle.tcl_expression_evaluation.specs.Computations.{takes, call};
 ghost use Rattle.tcl_expression_evaluation.specs.Steps.{top, below, last_of, without, passed, mode_of, leaving, does, goes, from, Pushes, Answers, Needs, Acts, Nears, Advances};
 
 use std::alloc::{AllocError, Global};
-use tcl_expr_grammar::operator::{BinaryOperator, Function, UnaryOperator};
-use tcl_expr_grammar::token::Leaf;
-use tcl_expression_tree::tree::{ExprTree, Node};
+use tcl_expr::operator::{BinaryOperator, Function, UnaryOperator};
+use tcl_expr::token::Leaf;
+use tcl_expr::tree::{ExprTree, Node};
 use tcl_operators::apply::{apply_binary, apply_func, apply_unary, truth_of};
 use tcl_operators::fault::{ApplyError, Operator, OperatorFault};
 use tcl_parser::script::Word;

@@ -8,7 +8,7 @@ use Rattle.tcl_text.specs.declared.integer.Integers.{Integers}
 use Rattle.tcl_words.specs.Outcomes.{Outcome, next}
 use Rattle.tcl_words.specs.Faults.{quoted}
 use Rattle.tcl_words.specs.Words.{integer_word}
-use Rattle.tcl_strings.specs.Texts.{text_of, copies}
+use Rattle.tcl_characters.specs.Texts.{text_of, copies}
 use Rattle.tcl_format.specs.declared.specifier.Radix.{Radix}
 use Rattle.tcl_format.specs.declared.specifier.Radix.TheVariants.{Binary, Octal, Hexadecimal, UpperHexadecimal}
 use Rattle.tcl_format.specs.declared.specifier.Kind.{Kind}

@@ -2,13 +2,13 @@
 ghost use Rattle.std.specs.Prelude.{◌≡◌, ℕ, List, Err, IfOk};
 ghost use Rattle.std.specs.Str.{chars};
 ghost use Rattle.tcl_words.specs.Outcomes.{Refuses};
-ghost use Rattle.tcl_strings.specs.Texts.{text_of};
+ghost use Rattle.tcl_characters.specs.Texts.{text_of};
 ghost use Rattle.tcl_format.specs.Specifiers.{shown};
 ghost use Rattle.tcl_format.specs.Pieces.{bad_format};
 ghost use Rattle.tcl_format.specs.Filling.{not_enough};
 
 use std::alloc::{AllocError, Global};
-use tcl_strings::parts::{before, character_count};
+use tcl_characters::parts::{before, character_count};
 use tcl_text::messages::quoting;
 use tcl_text::text::Text;
 use tcl_words::refusal::Refusal;

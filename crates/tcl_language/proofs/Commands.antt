@@ -55,7 +55,7 @@ use Rattle.tcl_parser.specs.Words.{WordRead}
 use Rattle.tcl_parser.specs.declared.fault.Fault.{Fault}
 use Rattle.tcl_parser.specs.declared.script.Part.{Part}
 use Rattle.tcl_parser.specs.declared.script.Part.TheVariants as part
-use Rattle.tcl_string_ensemble.specs.Subcommands.{string_of}
+use Rattle.tcl_strings.specs.Subcommands.{string_of}
 use Rattle.tcl_text.specs.Lists.{list_of}
 use Rattle.tcl_text.specs.Numbers.{fits_64, in_64_bits, integer_of}
 use Rattle.tcl_text.specs.Writing.{fault_message, written_list}

@@ -14,7 +14,7 @@ use Rattle.tcl_text.specs.Writing as writing
 use Rattle.tcl_arithmetic.specs.Powers.{power}
 use Rattle.tcl_expr.specs.Tokens.{after_word, after_parts}
 use Rattle.tcl_expr.specs.Expressions.{tokens_from}
-use Rattle.tcl_expr_grammar.specs.Reading as grammar
+use Rattle.tcl_expr.specs.Reading as grammar
 use Rattle.tcl_expression_evaluation.specs.Computations.{computes, arguments}
 use Rattle.tcl_language.specs.Language.{ProgramsCall, language_with}
 use Rattle.tcl_language.specs.Rows.{AreRows}

@@ -21,7 +21,7 @@ use Rattle.tcl_language.specs.Faults.{invalid_command, invalid_hidden, bad_name}
 use Rattle.tcl_lists.specs.Lists.{lindex_of, linsert_of, llength_of, lrange_of, lrepeat_of, lreplace_of, lreverse_of}
 use Rattle.tcl_list_texts.specs.Joining.{concat_of, join_of}
 use Rattle.tcl_list_texts.specs.Splitting.{split_of}
-use Rattle.tcl_string_ensemble.specs.Subcommands.{string_of}
+use Rattle.tcl_strings.specs.Subcommands.{string_of}
 use Rattle.tcl_format.specs.Filling.{format_of}
 use Rattle.tcl_language.specs.Scripts as scripts
 use Rattle.tcl_language.specs.Data as collections

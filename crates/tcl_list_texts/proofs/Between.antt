@@ -1,6 +1,6 @@
 -- The parts of a text, from the left.
 use Rattle.std.proofs.Common.{◌≡◌, ℕ, ◌<◌, Ok, Bool, true, false, List, [], ◌∷◌, ◌++◌, length, map, refl, sym, ◌∙◌, ap, arith}
-use Rattle.tcl_strings.specs.Texts.{text_of}
+use Rattle.tcl_characters.specs.Texts.{text_of}
 use Rattle.std.specs.Prelude.{◌==◌}
 use Rattle.std.specs.Str.{chars}
 use Rattle.std.proofs.lemmas.Str.{chars-nil}

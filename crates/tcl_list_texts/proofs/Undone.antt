@@ -5,7 +5,7 @@ use Rattle.std.specs.Char.{encode_utf8}
 use Rattle.std.specs.List.{flat_map}
 use Rattle.std.proofs.lemmas.Bool.Decides.{Decides-eqb}
 use Rattle.std.proofs.lemmas.List.{append-nil}
-use Rattle.tcl_strings.specs.Texts.{text_of, is_among}
+use Rattle.tcl_characters.specs.Texts.{text_of, is_among}
 use Rattle.tcl_list_texts.specs.Joining.{joined}
 use Rattle.tcl_list_texts.specs.Splitting.{Parts, before_parts, parts, part_texts, letter_text}
 use Rattle.tcl_list_texts.specs.Laws.{JoinUndoesSplit, JoinUndoesLetters}

@@ -6,7 +6,7 @@ use Rattle.tcl_words.specs.Outcomes.{Outcome, next}
 use Rattle.tcl_words.specs.Arguments.{one_or_two_words}
 use Rattle.tcl_words.specs.Words.{list_word}
 use Rattle.tcl_words.specs.Limits.{limited}
-use Rattle.tcl_strings.specs.Texts.{text_of, trim_start, trim_end}
+use Rattle.tcl_characters.specs.Texts.{text_of, trim_start, trim_end}
 
 -- texts in order, with a separator between any two
 abbrev pub joined : List ℕ → List (List ℕ) → List ℕ

@@ -1,6 +1,6 @@
 -- What splitting and joining do to one another.
 use Rattle.std.specs.Prelude.{◌≡◌, ℕ, List, [], ◌∷◌}
-use Rattle.tcl_strings.specs.Texts.{text_of}
+use Rattle.tcl_characters.specs.Texts.{text_of}
 use Rattle.tcl_list_texts.specs.Joining.{joined}
 use Rattle.tcl_list_texts.specs.Splitting.{split_at, letter_text}
 

@@ -3,7 +3,7 @@ use Rattle.std.specs.Prelude.{ℕ, Bool, true, false, List, [], ◌∷◌, map, 
 use Rattle.std.specs.Str.{chars}
 use Rattle.tcl_words.specs.Outcomes.{Outcome, next}
 use Rattle.tcl_words.specs.Arguments.{one_or_two_words}
-use Rattle.tcl_strings.specs.Texts.{text_of, is_among}
+use Rattle.tcl_characters.specs.Texts.{text_of, is_among}
 use Rattle.tcl_lists.specs.Lists.{Texts, list_value}
 
 -- the first part, and those behind it

@@ -5,13 +5,13 @@ ghost use Rattle.std.specs.Str.{chars};
 ghost use Rattle.std.specs.String.{string_bytes};
 ghost use Rattle.tcl_words.specs.Outcomes.{Gives, Refuses};
 ghost use Rattle.tcl_words.specs.Limits.{limited};
-ghost use Rattle.tcl_strings.specs.Texts.{text_of, trim_start, trim_end};
+ghost use Rattle.tcl_characters.specs.Texts.{text_of, trim_start, trim_end};
 ghost use Rattle.tcl_list_texts.specs.Joining.{joined, join_of, trimmed, with_part, gap, onto, concat_of};
 
 use std::alloc::{AllocError, Global};
+use tcl_characters::trimming::{trim_left, trim_right};
 use tcl_lists::indexes::elements_of;
 use tcl_lists::reading::{list_word, one_or_two_words};
-use tcl_strings::trimming::{trim_left, trim_right};
 use tcl_text::limit::MOST_BYTES;
 use tcl_text::text::Text;
 use tcl_value::value::Value;

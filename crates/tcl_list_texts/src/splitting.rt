@@ -5,7 +5,7 @@ ghost use Rattle.std.specs.Str.{chars};
 ghost use Rattle.std.specs.Char.{encode_utf8};
 ghost use Rattle.std.specs.String.{string_bytes};
 ghost use Rattle.tcl_words.specs.Outcomes.{Gives, Refuses};
-ghost use Rattle.tcl_strings.specs.Texts.{text_of, is_among};
+ghost use Rattle.tcl_characters.specs.Texts.{text_of, is_among};
 ghost use Rattle.tcl_lists.specs.Lists.{Texts, list_value};
 ghost use Rattle.tcl_list_texts.specs.Splitting.{parts, part_texts, letter_text, split_at, separators, split_of};
 

@@ -3,7 +3,7 @@ use Rattle.std.proofs.Common.{◌≡◌, ◌∙◌, sym, ap, refl, ℕ, ◌+◌,
 use Rattle.std.proofs.lemmas.List.{at_drop_more, at_drop_all}
 use Rattle.std.specs.Str.{bytes_eq}
 use Rattle.tcl_text.specs.declared.integer.Integers.{Integers}
-use Rattle.tcl_expr_grammar.specs.declared.operator.Function.{Function}
+use Rattle.tcl_expr.specs.declared.operator.Function.{Function}
 use Rattle.tcl_operators.specs.declared.fault.Operator.TheVariants.{Function as Called}
 use Rattle.tcl_operators.specs.declared.fault.OperatorFault.{OperatorFault}
 use Rattle.tcl_operators.specs.Apply.{is_among, integer, chosen, choose, ◌>>=◌}

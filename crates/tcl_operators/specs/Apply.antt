@@ -17,11 +17,11 @@ use Rattle.tcl_text.specs.Booleans.{boolean_of}
 use Rattle.tcl_arithmetic.specs.declared.ArithmeticFault.{ArithmeticFault}
 use Rattle.tcl_value.specs.Limits.{Bytes}
 use Rattle.tcl_value.specs.Reading.{int_of, list_of}
-use Rattle.tcl_expr_grammar.specs.declared.operator.UnaryOperator.{UnaryOperator}
-use Rattle.tcl_expr_grammar.specs.declared.operator.UnaryOperator.TheVariants as unary
-use Rattle.tcl_expr_grammar.specs.declared.operator.BinaryOperator.{BinaryOperator}
-use Rattle.tcl_expr_grammar.specs.declared.operator.Function.{Function}
-use Rattle.tcl_expr_grammar.specs.declared.operator.Function.TheVariants as function
+use Rattle.tcl_expr.specs.declared.operator.UnaryOperator.{UnaryOperator}
+use Rattle.tcl_expr.specs.declared.operator.UnaryOperator.TheVariants as unary
+use Rattle.tcl_expr.specs.declared.operator.BinaryOperator.{BinaryOperator}
+use Rattle.tcl_expr.specs.declared.operator.Function.{Function}
+use Rattle.tcl_expr.specs.declared.operator.Function.TheVariants as function
 use Rattle.tcl_operators.specs.declared.kind.Kind.{Kind}
 use Rattle.tcl_operators.specs.declared.kind.Kind.TheVariants as kind
 use Rattle.tcl_operators.specs.declared.kind.Arithmetic.{Arithmetic}

@@ -1,6 +1,6 @@
 -- What the operators between two operands do.
-use Rattle.tcl_expr_grammar.specs.declared.operator.BinaryOperator.{BinaryOperator}
-use Rattle.tcl_expr_grammar.specs.declared.operator.BinaryOperator.TheVariants as operator
+use Rattle.tcl_expr.specs.declared.operator.BinaryOperator.{BinaryOperator}
+use Rattle.tcl_expr.specs.declared.operator.BinaryOperator.TheVariants as operator
 use Rattle.tcl_operators.specs.declared.kind.Kind.{Kind}
 use Rattle.tcl_operators.specs.declared.kind.Kind.TheVariants.{Arithmetic, Comparison, SameText, OtherText, Within, Without, And, Or}
 use Rattle.tcl_operators.specs.declared.kind.Arithmetic.TheVariants.{Power, Multiply, Divide, Remainder, Add, Subtract, ShiftLeft, ShiftRight, BitAnd, BitXor, BitOr}

@@ -1,11 +1,11 @@
 -- How operators are written, and what is told of values that have no result.
 use Rattle.std.specs.Prelude.{ℕ, List, ◌++◌, codes}
-use Rattle.tcl_expr_grammar.specs.declared.operator.UnaryOperator.{UnaryOperator}
-use Rattle.tcl_expr_grammar.specs.declared.operator.UnaryOperator.TheVariants as unary
-use Rattle.tcl_expr_grammar.specs.declared.operator.BinaryOperator.{BinaryOperator}
-use Rattle.tcl_expr_grammar.specs.declared.operator.BinaryOperator.TheVariants as operator
-use Rattle.tcl_expr_grammar.specs.declared.operator.Function.{Function}
-use Rattle.tcl_expr_grammar.specs.declared.operator.Function.TheVariants as function
+use Rattle.tcl_expr.specs.declared.operator.UnaryOperator.{UnaryOperator}
+use Rattle.tcl_expr.specs.declared.operator.UnaryOperator.TheVariants as unary
+use Rattle.tcl_expr.specs.declared.operator.BinaryOperator.{BinaryOperator}
+use Rattle.tcl_expr.specs.declared.operator.BinaryOperator.TheVariants as operator
+use Rattle.tcl_expr.specs.declared.operator.Function.{Function}
+use Rattle.tcl_expr.specs.declared.operator.Function.TheVariants as function
 use Rattle.tcl_arithmetic.specs.declared.ArithmeticFault.{ArithmeticFault}
 use Rattle.tcl_arithmetic.specs.declared.ArithmeticFault.TheVariants as fault
 use Rattle.tcl_text.specs.Writing.{fault_message}

@@ -15,7 +15,7 @@ use tcl_arithmetic::{
     ArithmeticFault, absolute, bitwise_and, bitwise_or, bitwise_xor, complement, difference,
     negation, power_of, product, quotient, remainder, shift_left, shift_right, sum,
 };
-use tcl_expr_grammar::operator::{BinaryOperator, Function, UnaryOperator};
+use tcl_expr::operator::{BinaryOperator, Function, UnaryOperator};
 use tcl_text::boolean::read_bool;
 use tcl_text::integer::{IntegerFault, Integers};
 use tcl_value::list::List;

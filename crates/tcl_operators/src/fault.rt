@@ -5,7 +5,7 @@ ghost use Rattle.tcl_operators.specs.declared.fault.ApplyError.TheVariants.{Memo
 
 use std::alloc::{AllocError, Global};
 use tcl_arithmetic::ArithmeticFault;
-use tcl_expr_grammar::operator::{BinaryOperator, Function, UnaryOperator};
+use tcl_expr::operator::{BinaryOperator, Function, UnaryOperator};
 use tcl_text::boolean::not_boolean_message;
 use tcl_text::integer::too_large_message;
 use tcl_text::list::{ListError, ListFault};

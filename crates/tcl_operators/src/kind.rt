@@ -2,7 +2,7 @@
 ghost use Rattle.std.specs.Prelude.{◌≡◌};
 ghost use Rattle.tcl_operators.specs.Kinds.{kind_of};
 
-use tcl_expr_grammar::operator::BinaryOperator;
+use tcl_expr::operator::BinaryOperator;
 
 /// An operator that makes a whole number of two.
 #[derive(Clone, Copy, Debug, PartialEq, Eq)]

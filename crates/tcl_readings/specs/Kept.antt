@@ -5,10 +5,10 @@ use Rattle.tcl_expr.specs.Expressions.{expression_of}
 use Rattle.tcl_expr.specs.declared.fault.ExprError.{ExprError}
 use Rattle.tcl_expr.specs.declared.fault.ExprError.TheVariants as error
 use Rattle.tcl_expr.specs.declared.fault.ExprFault.{ExprFault}
-use Rattle.tcl_expr_grammar.specs.Trees.{Tree}
-use Rattle.tcl_expression_tree.specs.Code.{code_of}
-use Rattle.tcl_expression_tree.specs.declared.tree.ExprTree.{ExprTree}
-use Rattle.tcl_expression_tree.specs.declared.tree.Node.{Node}
+use Rattle.tcl_expr.specs.Trees.{Tree}
+use Rattle.tcl_expr.specs.Code.{code_of}
+use Rattle.tcl_expr.specs.declared.tree.ExprTree.{ExprTree}
+use Rattle.tcl_expr.specs.declared.tree.Node.{Node}
 use Rattle.tcl_text.specs.declared.integer.Integers.{Integers}
 
 -- the steps of a tree that was read

@@ -15,11 +15,11 @@ use Rattle.tcl_core.proofs.PathLaws.{Some-inj}
 use Rattle.tcl_core.proofs.RuleLaws.{derived_runs}
 use Rattle.tcl_host.specs.declared.reply.HostReply.{HostReply}
 use Rattle.tcl_host.specs.declared.request.Request.{Request}
-use Rattle.tcl_hosting.specs.Language.{leaves_steps}
-use Rattle.tcl_hosting.specs.Replies.{Belongs}
-use Rattle.tcl_hosting.proofs.Limiting.{language_keeps_tops}
-use Rattle.tcl_hosting.proofs.Taping.{Taped}
-use Rattle.tcl_hosting.proofs.Wholes.{WholeTape, whole_tape}
+use Rattle.tcl_run_laws.specs.Language.{leaves_steps}
+use Rattle.tcl_run_laws.specs.Replies.{Belongs}
+use Rattle.tcl_run_laws.proofs.Limiting.{language_keeps_tops}
+use Rattle.tcl_run_laws.proofs.Taping.{Taped}
+use Rattle.tcl_run_laws.proofs.HostedWholes.{WholeTape, whole_tape}
 use Rattle.tcl_language.specs.Instructions.{fits}
 use Rattle.tcl_language_laws.specs.Language.{language}
 use Rattle.tcl_language.specs.Table.{serve}

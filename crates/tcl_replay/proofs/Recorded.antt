@@ -1,7 +1,7 @@
 -- What the laws of isolation say of a run that was recorded.
 use Rattle.std.proofs.Common.{◌≡◌, ◌∙◌, ℕ, ◌≤◌, ◌+◌, ◌++◌, Option, Some, sym, ap, subst}
-use Rattle.tcl_budgets.proofs.Orders.{orderly_relimited}
-use Rattle.tcl_budgets.proofs.Tables.{orderly}
+use Rattle.tcl_run_laws.proofs.Orders.{orderly_relimited}
+use Rattle.tcl_run_laws.proofs.Tables.{orderly}
 use Rattle.tcl_core.specs.Entries.Entry.{Eval}
 use Rattle.tcl_core.specs.Laws.{ArePlain, AsLimited, IsSafeAt, IsSafeBelow, rest}
 use Rattle.tcl_core.specs.Lives.{React, count_at, limit_at, limited, outcome_of, outs_of}

@@ -3,8 +3,8 @@ use Rattle.std.proofs.Common.{◌≡◌, ℕ, suc, ◌+◌, ◌<◌, ◌≤◌, 
 use Rattle.std.specs.Prelude.{MatchOption}
 use Rattle.std.proofs.lemmas.Bool.{false≢true}
 use Rattle.std.proofs.lemmas.List.{take-append-drop, length-take-le, drop-append-le, length-drop}
-use Rattle.tcl_strings.specs.Places.{StandsAt, begins, first_from, first_place}
-use Rattle.tcl_strings.proofs.StandLemmas.{begins_split, begins_append, Absent, NoShorter}
+use Rattle.tcl_characters.specs.Places.{StandsAt, begins, first_from, first_place}
+use Rattle.tcl_characters.proofs.StandLemmas.{begins_split, begins_append, Absent, NoShorter}
 use Rattle.tcl_string_laws.specs.Places.{IsFirst}
 
 -- the shortest front behind which the needle stands

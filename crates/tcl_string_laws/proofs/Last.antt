@@ -3,8 +3,8 @@ use Rattle.std.proofs.Common.{◌≡◌, ℕ, suc, ◌+◌, ◌-◌, ◌<◌, �
 use Rattle.std.specs.Prelude.{MatchOption}
 use Rattle.std.proofs.lemmas.List.{take-append-drop, length-take}
 use Rattle.std.proofs.Math.Seq.{take-append-add}
-use Rattle.tcl_strings.specs.Places.{StandsAt, begins, last_from, later, last_place}
-use Rattle.tcl_strings.proofs.StandLemmas.{begins_split, Absent, NoLonger}
+use Rattle.tcl_characters.specs.Places.{StandsAt, begins, last_from, later, last_place}
+use Rattle.tcl_characters.proofs.StandLemmas.{begins_split, Absent, NoLonger}
 use Rattle.tcl_string_laws.specs.Places.{IsLast}
 use Rattle.tcl_string_laws.proofs.First.{nowhere, tail_of, absent_more}
 

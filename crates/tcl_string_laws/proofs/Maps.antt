@@ -6,10 +6,10 @@ use Rattle.std.specs.Str.{chars}
 use Rattle.std.proofs.lemmas.Bool.{false≢true}
 use Rattle.std.proofs.lemmas.List.{length-map, length-drop, length-take-le, take-append-drop}
 use Rattle.std.proofs.Math.Seq.{drop-append_seam}
-use Rattle.tcl_strings.specs.Mapping.{folded, fits, fitting, mapped}
-use Rattle.tcl_strings.proofs.LetterSteps.{length-letters}
-use Rattle.tcl_strings.proofs.StandLemmas.{begins_split, begins_append}
-use Rattle.tcl_strings.proofs.MapLemmas.{mapped_kept, mapped_put}
+use Rattle.tcl_characters.specs.Mapping.{folded, fits, fitting, mapped}
+use Rattle.tcl_characters.proofs.LetterSteps.{length-letters}
+use Rattle.tcl_characters.proofs.StandLemmas.{begins_split, begins_append}
+use Rattle.tcl_characters.proofs.MapLemmas.{mapped_kept, mapped_put}
 use Rattle.tcl_glob.specs.Patterns.{letters}
 use Rattle.tcl_string_laws.specs.Mapping.{Fits, IsFirstFit, Maps, MapsOneWay, end, put, kept}
 

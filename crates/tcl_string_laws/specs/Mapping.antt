@@ -2,7 +2,7 @@
 use Rattle.std.specs.Prelude.{ℕ, ◌≡◌, ◌⊎◌, Bool, List, [], ◌∷◌, ◌++◌, length}
 use Rattle.std.specs.Char.{encode_utf8}
 use Rattle.std.specs.Str.{chars}
-use Rattle.tcl_strings.specs.Mapping.{folded, mapped}
+use Rattle.tcl_characters.specs.Mapping.{folded, mapped}
 use Rattle.tcl_glob.specs.Patterns.{letters}
 
 -- a key that isn't empty, with which these characters begin

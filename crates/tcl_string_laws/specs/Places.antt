@@ -1,6 +1,6 @@
 -- What the first and the last place of a needle are.
 use Rattle.std.specs.Prelude.{ℕ, ◌+◌, ◌≤◌, ◌≡◌, MatchOption, List, [], length}
-use Rattle.tcl_strings.specs.Places.{StandsAt, first_place, last_place}
+use Rattle.tcl_characters.specs.Places.{StandsAt, first_place, last_place}
 
 -- the needle stands at k, which is at or behind `start`, and at no lesser such place
 pub record IsFirst (needle cs : List ℕ) (start k : ℕ) : Type 0 where

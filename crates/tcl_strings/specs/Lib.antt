@@ -1,5 +1,7 @@
-pub mod Texts
-pub mod Order
-pub mod Classes
-pub mod Places
-pub mod Mapping
+pub mod Options
+pub mod Parts
+pub mod Comparing
+pub mod Searching
+pub mod Making
+pub mod Kinds
+pub mod Subcommands

@@ -1,12 +1,12 @@
-//! Texts by their characters: the string commands of the Tcl command language, below their words.
+//! The command `string`: its subcommands as functions of their words, and all of them by name.
 #![tactic(auto)]
 
-pub mod classes;
-pub mod copies;
-pub mod letters;
-pub mod limit;
-pub mod mapping;
-pub mod order;
+pub mod comparing;
+pub mod ensemble;
+pub mod kinds;
+pub mod making;
+pub mod options;
 pub mod parts;
-pub mod places;
-pub mod trimming;
+pub mod searching;
+pub mod spans;
+pub mod subcommand;

@@ -4,13 +4,11 @@ use std::alloc::{AllocError, Global};
 use tcl_format::command::format as format_text;
 use tcl_format::refusal::{bad_format, not_enough};
 use tcl_format::specifier::read_specifier;
-use tcl_string_commands::comparing::{compare, equal, match_pattern};
-use tcl_string_commands::making::{cat, map_keys, repeat_text, tolower, toupper};
-use tcl_string_commands::parts::{
-    index, length, range, replace, reverse, trim, trimleft, trimright,
-};
-use tcl_string_commands::searching::{first, last};
-use tcl_string_ensemble::ensemble::string;
+use tcl_strings::comparing::{compare, equal, match_pattern};
+use tcl_strings::ensemble::string;
+use tcl_strings::making::{cat, map_keys, repeat_text, tolower, toupper};
+use tcl_strings::parts::{index, length, range, replace, reverse, trim, trimleft, trimright};
+use tcl_strings::searching::{first, last};
 use tcl_text::integer::{Integers, write_int};
 use tcl_text::text::Text;
 use tcl_words::answer::Answer;

@@ -3,10 +3,10 @@
 use crate::answers::text as told;
 use std::alloc::{AllocError, Global};
 use tcl_expr::fault::ExprError;
+use tcl_expr::parser::parse_expr;
+use tcl_expr::tree::ExprTree;
 use tcl_expression_evaluation::evaluation::{Evaluation, Progress};
 use tcl_expression_evaluation::result::final_value;
-use tcl_expression_tree::parser::parse_expr;
-use tcl_expression_tree::tree::ExprTree;
 use tcl_operators::fault::ApplyError;
 use tcl_parser::script::{Part, Word};
 use tcl_text::integer::Integers;

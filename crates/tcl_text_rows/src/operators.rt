@@ -2,7 +2,7 @@
 //! as it is written, and `truth` is whether a text is true.
 use crate::answers::{no_call, text as told, whether};
 use std::alloc::{AllocError, Global};
-use tcl_expr_grammar::operator::{BinaryOperator, Function, UnaryOperator};
+use tcl_expr::operator::{BinaryOperator, Function, UnaryOperator};
 use tcl_operators::apply::{apply_binary, apply_func, apply_unary, truth_of};
 use tcl_operators::fault::{ApplyError, OperatorFault};
 use tcl_text::integer::Integers;

@@ -2,10 +2,10 @@
 use crate::answers::text as told;
 use std::alloc::{AllocError, Global};
 use tcl_expr::fault::ExprError;
-use tcl_expr_grammar::operator::BinaryOperator;
-use tcl_expr_grammar::token::Leaf;
-use tcl_expression_tree::parser::parse_expr;
-use tcl_expression_tree::tree::{ExprTree, Node};
+use tcl_expr::operator::BinaryOperator;
+use tcl_expr::parser::parse_expr;
+use tcl_expr::token::Leaf;
+use tcl_expr::tree::{ExprTree, Node};
 use tcl_parser::script::Part;
 use tcl_text::integer::Integers;
 

@@ -1,15 +1,15 @@
 //! Calls below the commands: options, rows in order, and what is left of a list.
 use crate::reading::number_of;
 use std::alloc::Global;
-use tcl_list_search::options::{Search, all_and_two};
 use tcl_lists::commands::lassign_rest;
 use tcl_lists::reading::{all_and_last, first_and_rest, list_word, three_words};
 use tcl_lists::refusing::not_made;
 use tcl_nested::fault::NestedFault;
-use tcl_sort::numbers::sorted_numbers;
-use tcl_sort::options::Sorting;
-use tcl_sort::ordering::{put_in_order, rows_value, sorted_texts};
-use tcl_sort::rows::{NumberRow, TextRow};
+use tcl_search_and_sort::numbers::sorted_numbers;
+use tcl_search_and_sort::ordering::{put_in_order, rows_value, sorted_texts};
+use tcl_search_and_sort::rows::{NumberRow, TextRow};
+use tcl_search_and_sort::search_options::{Search, all_and_two};
+use tcl_search_and_sort::sort_options::Sorting;
 use tcl_text::integer::Integers;
 use tcl_text::text::Text;
 use tcl_value::value::Value;

@@ -9,7 +9,7 @@ use crate::tree::Tree;
 use std::alloc::{AllocError, Global};
 use std::rc::Rc;
 use tcl_expr::fault::{ExprError, ExprFault};
-use tcl_expression_tree::tree::ExprTree;
+use tcl_expr::tree::ExprTree;
 use tcl_parser::script::Script;
 use tcl_readings::readings::Readings;
 use tcl_text::integer::Integers;

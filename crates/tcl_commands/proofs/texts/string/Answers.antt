@@ -1,4 +1,4 @@
-use Rattle.tcl_string_ensemble.specs.Subcommands.{string_of}
+use Rattle.tcl_strings.specs.Subcommands.{string_of}
 use Rattle.tcl_commands.proofs.Answering.{given_acts}
 use Rattle.tcl_commands.proofs.texts.string.Goals as goal
 

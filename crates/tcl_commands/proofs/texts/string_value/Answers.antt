@@ -1,4 +1,4 @@
-use Rattle.tcl_string_ensemble.specs.Subcommands.{string_of}
+use Rattle.tcl_strings.specs.Subcommands.{string_of}
 use Rattle.tcl_words.specs.Outcomes.{answer_text}
 use Rattle.tcl_commands.proofs.Short.{fits_at, string_fits}
 use Rattle.tcl_commands.proofs.texts.string_value.Goals as goal

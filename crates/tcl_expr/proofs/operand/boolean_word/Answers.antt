@@ -1,6 +1,6 @@
 use Rattle.std.proofs.Common.{◌∙◌, sym, ap, ℕ, List, Ok}
-use Rattle.tcl_expr_grammar.specs.declared.token.Leaf.TheVariants.{Literal}
-use Rattle.tcl_expr_grammar.specs.declared.token.Token.TheVariants.{Operand}
+use Rattle.tcl_expr.specs.declared.token.Leaf.TheVariants.{Literal}
+use Rattle.tcl_expr.specs.declared.token.Token.TheVariants.{Operand}
 use Rattle.tcl_text.specs.Booleans.{boolean_of}
 use Rattle.tcl_expr.specs.Tokens.{boolean_word}
 use Rattle.tcl_expr.proofs.Words.{truth_found, truth_missing}

@@ -1,7 +1,7 @@
 use Rattle.std.proofs.Common.{◌∙◌, ap}
 use Rattle.std.specs.Str.{chars}
-use Rattle.tcl_strings.specs.Texts.{text_of, trim_end}
-use Rattle.tcl_strings.proofs.Trims.{chars_of_start}
+use Rattle.tcl_characters.specs.Texts.{text_of, trim_end}
+use Rattle.tcl_characters.proofs.Trims.{chars_of_start}
 use Rattle.tcl_list_texts.specs.Joining.{white}
 use Rattle.tcl_list_texts.proofs.joining.trimmed.Goals as goal
 

@@ -2,7 +2,7 @@ use Rattle.std.proofs.Common.{ℕ, List, Ok, sym, ◌∙◌, ap, subst}
 use Rattle.std.specs.Str.{chars}
 use Rattle.tcl_words.specs.Outcomes.{Gives}
 use Rattle.tcl_lists.specs.Lists.{list_value}
-use Rattle.tcl_strings.proofs.LetterSteps.{some_character}
+use Rattle.tcl_characters.proofs.LetterSteps.{some_character}
 use Rattle.tcl_list_texts.proofs.Between.{split_nothing, split_by_none, split_by_some, some_bytes, no_characters}
 use Rattle.tcl_list_texts.proofs.splitting.split_text.Goals as goal
 

@@ -1,4 +1,4 @@
-use Rattle.tcl_expression_tree.proofs.Parsings.{popped_some}
+use Rattle.tcl_expr.proofs.Parsings.{popped_some}
 use Rattle.tcl_expression_evaluation.proofs.Stacks.{popped_top, popped_below}
 use Rattle.tcl_expression_evaluation.proofs.evaluation.Evaluation.take.Goals as goal
 

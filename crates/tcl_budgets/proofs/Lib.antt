@@ -1,4 +1,0 @@
-pub mod Orders
-pub mod Tables
-mod Spared
-pub mod Wholes

@@ -1,0 +1,5 @@
+pub mod Texts
+pub mod Order
+pub mod Classes
+pub mod Places
+pub mod Mapping

@@ -1,0 +1,81 @@
+//! Texts in which others are put in the place of keys.
+ghost use Rattle.std.specs.Prelude.{◌≡◌, ℕ, suc, ◌<◌, ◌≤◌, [], true, false, length, drop, IfOk, OnOk, IsErrOf, MatchOption, Some, None};
+ghost use Rattle.std.specs.Str.{chars};
+ghost use Rattle.std.specs.String.{string_bytes};
+ghost use Rattle.tcl_characters.specs.Places.{begins};
+ghost use Rattle.tcl_glob.specs.Patterns.{letters};
+ghost use Rattle.tcl_characters.specs.Mapping.{fits, fitting, mapped};
+
+use crate::letters::split_first;
+use crate::limit::{LimitError, append};
+use std::alloc::Global;
+use tcl_glob::characters::first_letter;
+use tcl_text::text::Text;
+
+/// What follows a key with which a text begins.
+fn behind_key<'a>(text: &'a str, key: &str, nocase: bool) -> Option<&'a str>
+    ensures { MatchOption result (begins (letters nocase key.now) (letters nocase text.now) ≡ false)
+        (λ rest. (begins (letters nocase key.now) (letters nocase text.now) ≡ true) × (chars rest.now ≡ drop (length (chars key.now)) (chars text.now))) }
+{
+    let mut rest = text;
+    let mut left = key;
+    'letters: while let Some((wanted, behind)) = first_letter(left, nocase) {
+        let (letter, after) = first_letter(rest, nocase)?;
+        if letter != wanted {
+            return None;
+        }
+        left = behind;
+        rest = after;
+    }
+    Some(rest)
+}
+
+/// What follows the first key of a mapping that fits, and what stands for that key.
+fn fitting<'a, 'b>(mapping: &'b [Text], text: &'a str, nocase: bool) -> Option<(&'a str, &'b Text)>
+    ensures { MatchOption result (fitting nocase mapping.now (chars text.now) ≡ None)
+        (λ found. (n : ℕ) × (fitting nocase mapping.now (chars text.now) ≡ Some (suc n, found.1.now)) × (chars found.0.now ≡ drop (suc n) (chars text.now))) }
+{
+    let mut left = mapping;
+    'keys: while let [key, new, more @ ..] = left {
+        if let Some(behind) = behind_some_key(text, key.as_str(), nocase) {
+            return Some((behind, new));
+        }
+        left = more;
+    }
+    None
+}
+
+/// What follows a key that isn't empty and with which a text begins.
+fn behind_some_key<'a>(text: &'a str, key: &str, nocase: bool) -> Option<&'a str>
+    ensures { MatchOption result (fits (letters nocase key.now) (letters nocase text.now) ≡ false)
+        (λ rest. (n : ℕ) × (length (chars key.now) ≡ suc n) × (fits (letters nocase key.now) (letters nocase text.now) ≡ true) × (chars rest.now ≡ drop (suc n) (chars text.now))) }
+{
+    if key.is_empty() {
+        return None;
+    }
+    behind_key(text, key, nocase)
+}
+
+/// A text in which what stands for the keys of a mapping is put in their place: at each place the first key of the mapping's
+/// order that fits there. What was put in isn't read again. The mapping has keys and what stands for each in turn.
+///
+/// # Errors
+/// `TooLong` where the text would be longer than [`tcl_text::limit::MOST_BYTES`]; want of memory.
+pub fn map(alloc: Global, mapping: &[Text], text: &str, nocase: bool) -> Result<String, LimitError>
+    ensures mapped { IfOk result (λ made. string_bytes made ≡ mapped nocase mapping.now (chars text.now) 0) }
+    ensures within { OnOk result (length (mapped nocase mapping.now (chars text.now) 0) ≤ 16777216) }
+    ensures refused { IsErrOf result LimitError.TooLong → 16777216 < length (mapped nocase mapping.now (chars text.now) 0) }
+{
+    let mut made = String::new(alloc);
+    let mut rest = text;
+    'places: while let Some((first, behind_first)) = split_first(rest) {
+        if let Some((behind, new)) = fitting(mapping, rest, nocase) {
+            append(&mut made, new.as_str())?;
+            rest = behind;
+        } else {
+            append(&mut made, first)?;
+            rest = behind_first;
+        }
+    }
+    Ok(made)
+}

@@ -1,3 +1,0 @@
-pub mod Completeness
-pub mod Soundness
-pub mod Misfits

@@ -1,4 +1,0 @@
-pub mod Trees
-pub mod Grammar
-pub mod Reading
-pub mod Misfits

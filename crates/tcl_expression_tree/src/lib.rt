@@ -1,5 +1,0 @@
-//! Expressions that are read whole and kept.
-#![tactic(auto)]
-
-pub mod parser;
-pub mod tree;

@@ -1,5 +1,0 @@
-use Rattle.tcl_hosting.proofs.Limiting.{language_keeps_tops}
-use Rattle.tcl_hosting.proofs.language_keeps_tops.Goals as goal
-
-pub returns : goal.returns
-returns c style = language_keeps_tops style

@@ -1,5 +1,0 @@
-use Rattle.tcl_hosting.proofs.Wholes.{whole_run}
-use Rattle.tcl_hosting.proofs.runs_are_whole.Goals as goal
-
-pub returns : goal.returns
-returns g c fine prog T V o z p s n r keep top t = whole_run g.H.Host.step fine prog T V o z p s n r keep top t

@@ -1,4 +1,0 @@
-pub mod Limits
-pub mod Language
-pub mod Replies
-pub mod Laws

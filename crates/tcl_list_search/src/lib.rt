@@ -1,5 +1,0 @@
-//! Searching lists.
-#![tactic(auto)]
-
-pub mod options;
-pub mod searching;

@@ -1,0 +1,150 @@
+-- A host as the outside, with the call that is open to it: what it is told in order belongs to it.
+use Rattle.std.proofs.Common.{◌≡◌, refl, sym, ◌∙◌, ap, subst, ℕ, List, [], ◌∷◌, Some, None}
+use Rattle.tcl_core.specs.Endings.{Reply, error}
+use Rattle.tcl_core.specs.Endings.Reply.{Completed, Stop, Exit, Cut}
+use Rattle.tcl_core.specs.Entries.{Answer, Entry}
+use Rattle.tcl_core.specs.Entries.Answer.{Replied, Heard}
+use Rattle.tcl_core.specs.Entries.Entry.{AskHost}
+use Rattle.tcl_core.specs.Laws.{IsSpared, IsLowering}
+use Rattle.tcl_core.specs.Lives.{IsUncut, Uncut, comes, outs_of, put}
+use Rattle.tcl_core.specs.Paths.{Path, Place, Height, rise_to}
+use Rattle.tcl_core.specs.Programs.{Wait}
+use Rattle.tcl_core.specs.Threads.{Chain, event, more, none}
+use Rattle.tcl_core.specs.Trees.{Event, Tree, What, where_none, effect}
+use Rattle.tcl_core.specs.Trees.What.{Out, Done, Back}
+use Rattle.tcl_core.specs.Trees.Move.{Come}
+use Rattle.tcl_core.specs.Views.{moves_of}
+use Rattle.tcl_core.proofs.Unended.{NotCut}
+use Rattle.tcl_run_laws.specs.Replies.{Belongs, over, ended, served, missed}
+use Rattle.tcl_host.specs.declared.reply.HostReply.{HostReply as TheirReply}
+use Rattle.tcl_host.specs.declared.request.Request.{Request as TheirRequest}
+use Rattle.tcl_language.specs.Interpreters.{no_interpreter}
+use Rattle.tcl_run.specs.Entering.{request_of}
+use Rattle.tcl_run.specs.Outsides.{reply_of}
+use Rattle.tcl_tree.specs.Own.{Own}
+use Rattle.tcl_run_laws.proofs.Nearness.{Near, asked_near, told_near, uncut_near, spares_near, lowers_near}
+
+-- the host as it stands, and the call past the top that is open
+pub record Holding (S : Type 0) : Type 0 where
+  pub state : S
+  pub open_call : Wait
+
+abbrev pub holding : {S : Type 0} → S → Wait → Holding S
+holding o c = record { state = o; open_call = c }
+
+module _ {S : Type 0} (step : S → TheirRequest → TheirReply → S → Type 0) where
+  -- how the host goes, and the call that is open
+  pub data Goes (w : Holding S) (p : Place) (x : What Own) (v : Holding S) : Type 0 where
+    within : Near p x → v ≡ w → Goes w p x v
+    asks : (h : Height) (down : Path) (i : Entry) → x ≡ Out h down i → rise_to h p ≡ None → w.open_call ≡ None → v ≡ holding w.state (Some (h, i)) → Goes w p x v
+    hears : (request : TheirRequest) (reply : TheirReply) → x ≡ Back None (Heard (reply_of reply)) → w.open_call ≡ Some (None, AskHost (request_of request)) →
+        step w.state request reply v.state → v.open_call ≡ None → Goes w p x v
+    misses : (n : ℕ) (i : Entry) → x ≡ Back (Some n) (Replied (Completed (error (no_interpreter [])))) → rise_to (Some n) p ≡ None → w.open_call ≡ Some (Some n, i) →
+        v ≡ holding w.state None → Goes w p x v
+    ends : (h : Height) (r : Reply) → x ≡ Done h r → rise_to h p ≡ None → NotCut r → w.open_call ≡ None → v ≡ w → Goes w p x v
+
+  abbrev pub keeps_call : Tree Own → Holding S → Wait → Event Own → Holding S → Type 0
+  keeps_call T w s ev v = Goes w ev.place ev.what v
+
+  -- what belongs to the host where this call is open
+  abbrev pub From : Wait → S → List (Event Own) → List Answer → S → Type 0
+  From None o outs B z = Belongs step o outs B z
+  From (Some c) o outs B z = (p : Place) (down : Path) → Belongs step o (event p (Out c.0 down c.1) ∷ outs) B z
+
+  pub record Hosts (w : Holding S) (τ : List (Event Own)) (z : S) : Type 0 where
+    pub replies : List Answer
+    pub moves : moves_of τ ≡ comes replies
+    pub belongs : From w.open_call w.state (outs_of τ) replies z
+    pub uncut : IsUncut τ
+    pub spared : IsSpared [] τ
+    pub lowering : (l : ℕ) → IsLowering l [] τ
+
+  within_one : (w v : Holding S) (p : Place) (x : What Own) (τ : List (Event Own)) (z : S) → Near p x → v ≡ w → Hosts v τ z → Hosts w (event p x ∷ τ) z
+  within_one w v p x τ z f e h = record {
+    replies = h.replies;
+    moves = asked_near p x f (moves_of τ) ∙ h.moves;
+    belongs = subst (λ outs. From w.open_call w.state outs h.replies z) (sym (told_near p x f (outs_of τ))) (subst (λ (u : Holding S). From u.open_call u.state (outs_of τ) h.replies z) e h.belongs);
+    uncut = (uncut_near p x f, h.uncut);
+    spared = (spares_near p x f, h.spared);
+    lowering = λ l. (lowers_near p x f l, h.lowering l);
+  }
+
+  asks_one : (w v : Holding S) (p : Place) (h : Height) (down : Path) (i : Entry) (τ : List (Event Own)) (z : S) → rise_to h p ≡ None → w.open_call ≡ None → v ≡ holding w.state (Some (h, i)) →
+      Hosts v τ z → Hosts w (event p (Out h down i) ∷ τ) z
+  asks_one w v p h down i τ z past idle e g =
+      let open_now : From (Some (h, i)) w.state (outs_of τ) g.replies z = subst (λ (u : Holding S). From u.open_call u.state (outs_of τ) g.replies z) e g.belongs in
+      let outs : outs_of (event p (Out h down i) ∷ τ) ≡ event p (Out h down i) ∷ outs_of τ = ap (λ o. put o p (Out h down i) (outs_of τ)) past in
+      record {
+        replies = g.replies;
+        moves = g.moves;
+        belongs = subst (λ c. From c w.state (outs_of (event p (Out h down i) ∷ τ)) g.replies z) (sym idle) (subst (λ l. Belongs step w.state l g.replies z) (sym outs) (open_now p down));
+        uncut = (tt, g.uncut);
+        spared = (tt, g.spared);
+        lowering = λ l. (tt, g.lowering l);
+      }
+
+  hears_one : (w v : Holding S) (p : Place) (request : TheirRequest) (reply : TheirReply) (τ : List (Event Own)) (z : S) → w.open_call ≡ Some (None, AskHost (request_of request)) →
+      step w.state request reply v.state → v.open_call ≡ None → Hosts v τ z → Hosts w (event p (Back None (Heard (reply_of reply))) ∷ τ) z
+  hears_one w v p request reply τ z is_open s idle g =
+      let later : Belongs step v.state (outs_of τ) g.replies z = subst (λ c. From c v.state (outs_of τ) g.replies z) idle g.belongs in
+      record {
+        replies = Heard (reply_of reply) ∷ g.replies;
+        moves = ap (λ ms. Come (Heard (reply_of reply)) ∷ ms) g.moves;
+        belongs = subst (λ c. From c w.state (outs_of τ) (Heard (reply_of reply) ∷ g.replies) z) (sym is_open) (λ q down. served request reply refl s later);
+        uncut = (tt, g.uncut);
+        spared = (tt, g.spared);
+        lowering = λ l. (tt, g.lowering l);
+      }
+
+  misses_one : (w v : Holding S) (p : Place) (n : ℕ) (i : Entry) (τ : List (Event Own)) (z : S) → rise_to (Some n) p ≡ None → w.open_call ≡ Some (Some n, i) → v ≡ holding w.state None →
+      Hosts v τ z → Hosts w (event p (Back (Some n) (Replied (Completed (error (no_interpreter []))))) ∷ τ) z
+  misses_one w v p n i τ z past is_open e g =
+      let lost : Answer = Replied (Completed (error (no_interpreter []))) in
+      let later : Belongs step w.state (outs_of τ) g.replies z = subst (λ (u : Holding S). From u.open_call u.state (outs_of τ) g.replies z) e g.belongs in
+      record {
+        replies = lost ∷ g.replies;
+        moves = ap (λ o. where_none o (Come lost) (moves_of τ)) past ∙ ap (λ ms. Come lost ∷ ms) g.moves;
+        belongs = subst (λ c. From c w.state (outs_of τ) (lost ∷ g.replies) z) (sym is_open) (λ q down. missed later);
+        uncut = (tt, g.uncut);
+        spared = (tt, g.spared);
+        lowering = λ l. (tt, g.lowering l);
+      }
+
+  done_uncut : (p : Place) (h : Height) (r : Reply) → NotCut r → Uncut {O = Own} p (Done h r)
+  done_uncut p h (Completed c) f = tt
+  done_uncut p h (Stop n m) f = tt
+  done_uncut p h (Exit n) f = tt
+  done_uncut p h (Cut c) f = absurd f
+
+  ends_one : (w v : Holding S) (p : Place) (h : Height) (r : Reply) (τ : List (Event Own)) (z : S) → rise_to h p ≡ None → NotCut r → w.open_call ≡ None → v ≡ w →
+      Hosts v τ z → Hosts w (event p (Done h r) ∷ τ) z
+  ends_one w v p h r τ z past f idle e g =
+      let later : Belongs step w.state (outs_of τ) g.replies z = subst (λ c. From c w.state (outs_of τ) g.replies z) idle (subst (λ (u : Holding S). From u.open_call u.state (outs_of τ) g.replies z) e g.belongs) in
+      let outs : outs_of (event p (Done h r) ∷ τ) ≡ event p (Done h r) ∷ outs_of τ = ap (λ o. put o p (Done h r) (outs_of τ)) past in
+      record {
+        replies = g.replies;
+        moves = g.moves;
+        belongs = subst (λ c. From c w.state (outs_of (event p (Done h r) ∷ τ)) g.replies z) (sym idle) (subst (λ l. Belongs step w.state l g.replies z) (sym outs) (ended later));
+        uncut = (done_uncut p h r f, g.uncut);
+        spared = (tt, g.spared);
+        lowering = λ l. (tt, g.lowering l);
+      }
+
+  one : (w v : Holding S) (p : Place) (x : What Own) (τ : List (Event Own)) (z : S) → Goes w p x v → Hosts v τ z → Hosts w (event p x ∷ τ) z
+  one w v p x τ z (within f e) g = within_one w v p x τ z f e g
+  one w v p x τ z (asks h down i e past idle is) g = subst (λ y. Hosts w (event p y ∷ τ) z) (sym e) (asks_one w v p h down i τ z past idle is g)
+  one w v p x τ z (hears request reply e is_open s idle) g = subst (λ y. Hosts w (event p y ∷ τ) z) (sym e) (hears_one w v p request reply τ z is_open s idle g)
+  one w v p x τ z (misses n i e past is_open is) g = subst (λ y. Hosts w (event p y ∷ τ) z) (sym e) (misses_one w v p n i τ z past is_open is g)
+  one w v p x τ z (ends h r e past f idle is) g = subst (λ y. Hosts w (event p y ∷ τ) z) (sym e) (ends_one w v p h r τ z past f idle is g)
+
+  -- What such a host goes through reads its replies alone, which belong to it.
+  pub hosts : (T V : Tree Own) (w v : Holding S) (τ : List (Event Own)) → Chain keeps_call T w τ V v → v.open_call ≡ None → Hosts w τ v.state
+  hosts T V w v [] none idle = record {
+    replies = [];
+    moves = refl;
+    belongs = subst (λ c. From c w.state [] [] w.state) (sym idle) over;
+    uncut = tt;
+    spared = tt;
+    lowering = λ l. tt;
+  }
+  hosts T V w v (ev ∷ τ) (more {u = u} a rest) idle = one w u ev.place ev.what τ v.state a (hosts (effect ev.place ev.what T) V u v τ rest idle)

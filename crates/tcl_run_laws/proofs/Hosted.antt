@@ -1,0 +1,264 @@
+-- What comes with an outside that goes as a host does comes with the host and the call that is open to it, and the same happens: one proof over how runs come.
+use Rattle.std.proofs.Common.{◌≡◌, refl, sym, ◌∙◌, ap, subst, ℕ, Bool, true, false, ◌+◌, ◌-◌, nat_lt, List, [], ◌∷◌, ◌++◌, Option, Some, None, length}
+use Rattle.std.proofs.lemmas.Bool.{false≢true}
+use Rattle.tcl_core.specs.Endings.{Completion, Meter, Reply, IsQuit, error}
+use Rattle.tcl_core.specs.Endings.Reply.{Completed, Stop, Exit, Cut}
+use Rattle.tcl_core.specs.Entries.{Answer, Entry}
+use Rattle.tcl_core.specs.Entries.Answer.{Replied, Heard}
+use Rattle.tcl_core.specs.Entries.Entry.{AskHost}
+use Rattle.tcl_core.specs.Entries.Said.{Finished, Told as told_so}
+use Rattle.tcl_core.specs.Paths.{Path, Place, Height, falls, together, rise_to}
+use Rattle.tcl_core.specs.Programs.{Act, Calls_only, Prog, Table, Wait, spot, closes}
+use Rattle.tcl_core.specs.Programs.Act.{Look, Change, Charge, Limit, LimitDepth, Make, Drop}
+use Rattle.tcl_core.specs.Programs.Next.{Off}
+use Rattle.tcl_core.specs.Programs.Prog.{done, exit, act, go, inside, call, wait}
+use Rattle.tcl_core.specs.Runs.{carried, entering, fits, height_of, lessened, reached}
+use Rattle.tcl_core.specs.Threads.{Threads, event, passing}
+use Rattle.tcl_core.specs.Threads.Threads.{completed, exited, acted, refused, went, passed, wrapped, wrapped_passed, too_deep, shut, called, called_passed, unreached, called_out, answered, heard, answered_passed, entered, entered_exiting}
+use Rattle.tcl_core.specs.Trees.{Event, Node, Tree, What, at}
+use Rattle.tcl_core.specs.Trees.What.{Out, In, Done, Back}
+use Rattle.tcl_core.specs.Trees.Move.{Come}
+use Rattle.tcl_core.proofs.PathLaws.{rise_back}
+use Rattle.tcl_core.proofs.Unended.{IsNoCut, NotCut}
+use Rattle.tcl_core.proofs.Callers.{waits_for, Fits, no_wait, fit, entering_calls}
+use Rattle.tcl_core.proofs.TreeLaws.{reached_at}
+use Rattle.tcl_run_laws.specs.Limits.{AsksBelow, HasTop, KeepTops, LimitsBelow, sets_steps}
+use Rattle.tcl_host.specs.declared.reply.HostReply.{HostReply as TheirReply}
+use Rattle.tcl_host.specs.declared.request.Request.{Request as TheirRequest}
+use Rattle.tcl_language.specs.Interpreters.{no_interpreter}
+use Rattle.tcl_run.specs.Outsides.{Going, hosted_at, hosted_by}
+use Rattle.tcl_tree.specs.Own.{Own}
+use Rattle.tcl_run_laws.proofs.Nearness.{Inside, Near, top_near}
+use Rattle.tcl_run_laws.proofs.Holding.{Goes, Holding, holding, keeps_call, within, asks, hears, misses}
+use Rattle.tcl_run_laws.proofs.Deeds.{Goes_so, SetsNone, closes_near, decides_near, opens_near, unheard}
+use Rattle.tcl_run_laws.proofs.Taping.{Taped}
+
+lessened_uncut : (b : Bool) (n : ℕ) (m : Meter) → NotCut (lessened b n m)
+lessened_uncut true n m = tt
+lessened_uncut false n m = tt
+
+-- what is no end from outside isn't one for the caller either
+carried_uncut : (h : Height) (p : Place) (down : Path) (r : Reply) → NotCut r → NotCut (carried h p down r)
+carried_uncut h p down (Completed c) f = tt
+carried_uncut None p down (Stop n m) f = tt
+carried_uncut (Some h) p down (Stop n m) f = lessened_uncut (nat_lt (n + together (falls h p) down) (length down)) (n + h - length down) m
+carried_uncut h p down (Exit n) f = tt
+carried_uncut h p down (Cut c) f = f
+
+not_quit : {A : Type 0} (c : Completion) (r : Reply) → r ≡ Completed c → IsQuit r → A
+not_quit c r e q = absurd (subst IsQuit e q)
+
+off_uncut : (x : _) (r : Reply) → x ≡ Off r → IsNoCut x → NotCut r
+off_uncut x (Completed c) e f = tt
+off_uncut x (Stop n m) e f = tt
+off_uncut x (Exit n) e f = tt
+off_uncut x (Cut c) e f = let g : IsNoCut (Off (Cut c)) = subst IsNoCut e f in g
+
+-- at the top no limit of steps is set
+abbrev pub is_below : Place → Bool
+is_below [] = false
+is_below (x ∷ p) = true
+
+-- a call for that comes in below the top
+asked_below : (a down : Path) (i : Entry) → AsksBelow down i → a ++ down ≡ [] → sets_steps i ≡ false
+asked_below a [] i f e = f
+asked_below [] (x ∷ down) i f e = cc
+asked_below (y ∷ a) (x ∷ down) i f e = cc
+
+module _ {O I : Type 0} where
+
+module _ {O I : Type 0} (fine : I → Bool) where
+  -- what sets no limit may set one
+  weaken : (x : Prog O I) → LimitsBelow fine false x → LimitsBelow fine true x
+  weaken (done c) f = tt
+  weaken (exit n) f = tt
+  weaken (act (Limit l) k) f = absurd (false≢true f.0)
+  weaken (act Look k) f = λ T. weaken (k T) (f T)
+  weaken (act (Change own) k) f = λ T. weaken (k T) (f T)
+  weaken (act Charge k) f = λ T. weaken (k T) (f T)
+  weaken (act (LimitDepth l) k) f = λ T. weaken (k T) (f T)
+  weaken (act (Make name own s) k) f = λ T. weaken (k T) (f T)
+  weaken (act (Drop name) k) f = λ T. weaken (k T) (f T)
+  weaken (go i k) f = (f.0, λ c. weaken (k c) (f.1 c))
+  weaken (inside b i k) f = (f.0, λ c. weaken (k c) (f.1 c))
+  weaken (call h down i lost k) f = (f.0, λ a. weaken (k a) (f.1 a))
+  weaken (wait s k) f = λ a. weaken (k a) (f a)
+
+  pub at_place : (p : Place) (x : Prog O I) → LimitsBelow fine false x → LimitsBelow fine (is_below p) x
+  at_place [] x f = f
+  at_place (y ∷ p) x f = weaken x f
+
+  sets_none : (d : Act O) (k : Tree O → Prog O I) → LimitsBelow fine false (act d k) → SetsNone d
+  sets_none Look k f = tt
+  sets_none (Change own) k f = tt
+  sets_none Charge k f = tt
+  sets_none (Limit l) k f = absurd (false≢true f.0)
+  sets_none (LimitDepth l) k f = tt
+  sets_none (Make name own s) k f = tt
+  sets_none (Drop name) k f = tt
+
+  none_at : (p : Place) (d : Act O) (k : Tree O → Prog O I) → LimitsBelow fine (is_below p) (act d k) → p ≡ [] → SetsNone d
+  none_at p d k f e = sets_none d k (subst (λ q. LimitsBelow fine (is_below q) (act d k)) e f)
+
+  after_act : (may : Bool) (d : Act O) (k : Tree O → Prog O I) (T : Tree O) → LimitsBelow fine may (act d k) → LimitsBelow fine may (k T)
+  after_act may Look k T f = f T
+  after_act may (Change own) k T f = f T
+  after_act may Charge k T f = f T
+  after_act may (Limit l) k T f = f.1 T
+  after_act may (LimitDepth l) k T f = f T
+  after_act may (Make name own s) k T f = f T
+  after_act may (Drop name) k T f = f T
+
+  pub entering_limits : (prog : Table O I) → KeepTops fine prog → (n : Option (Node O)) (i : Entry) (t : Place) → (t ≡ [] → sets_steps i ≡ false) → LimitsBelow fine (is_below t) (entering prog n i)
+  entering_limits prog keep None i t f = tt
+  entering_limits prog keep (Some n) i [] f = keep.entries i (f refl)
+  entering_limits prog keep (Some n) i (y ∷ t) f = keep.limiting i
+
+-- an entry within the tree comes from there
+pub comes_within : {O : Type 0} (T : Tree O) (a t : Place) (down : Path) → reached T a down ≡ Some t → Inside (Some (length down)) t
+comes_within T a t down e = (a, ap (rise_to (Some (length down))) (reached_at (T (a ++ down)) t (a ++ down) e) ∙ rise_back a down)
+
+-- An outside `goes` by steps each of which is one of the host that it holds; what happens is written down.
+module _ {I S R : Type 0} (step : S → TheirRequest → TheirReply → S → Type 0) (goes : Going R) (host_of : R → S)
+    (as_host : (T : Tree Own) (o : R) (s : Wait) (ev : Event Own) (u : R) → goes T o s ev u → Goes_so step T (host_of o) s ev (host_of u)) (fine : I → Bool) (prog : Table Own I) (keep : KeepTops fine prog) where
+  -- the outside, and what is written
+  abbrev State : Type 0
+  State = R × List (Event Own)
+
+  -- the host that it holds with the open call, and what is written
+  abbrev keeping : State → Wait → Holding S × List (Event Own)
+  keeping o c = (holding (host_of o.0) c, o.1)
+
+  so : (T : Tree Own) (o : State) (s : Wait) (ev : Event Own) (u : State) → Taped goes T o s ev u → Goes_so step T (host_of o.0) s ev (host_of u.0)
+  so T o s ev u g = as_host T o.0 s ev u.0 g.goes
+
+  -- within the tree the open call stays as it is
+  stays : (T : Tree Own) (o u : State) (c s : Wait) (p : Place) (x : What Own) → Near p x → Taped goes T o s (event p x) u → Taped (keeps_call step) T (keeping o c) s (event p x) (keeping u c)
+  stays T o u c s p x f g = record {
+    goes = within f (ap (λ z. holding z c) (unheard step T (host_of o.0) s p x (host_of u.0) f (so T o s (event p x) u g)));
+    written = g.written;
+  }
+
+  -- a call past the top
+  leaves : (T : Tree Own) (o u : State) (p : Place) (h : Height) (down : Path) (i : Entry) → rise_to h p ≡ None → Taped goes T o None (event p (Out h down i)) u →
+      Taped (keeps_call step) T (keeping o None) None (event p (Out h down i)) (keeping u (Some (h, i)))
+  leaves T o u p h down i past g =
+      let told = (so T o None (event p (Out h down i)) u g).told in
+      let same : host_of u.0 ≡ host_of o.0 = subst (λ b. passing b (hosted_at step) T (host_of o.0) None (event p (Out h down i)) (host_of u.0)) past told in
+      record { goes = asks h down i refl past refl (ap (λ z. holding z (Some (h, i))) same); written = g.written }
+
+  -- no entry comes in
+  enters_not : {A : Type 0} (T : Tree Own) (o u : State) (t : Place) (i : Entry) → Taped goes T o None (event t (In None i)) u → A
+  enters_not T o u t i g = absurd (so T o None (event t (In None i)) u g).told
+
+  -- how a call past the top is answered
+  by_host : (o u : S) (p : Place) (s : Wait) (a : Answer) → rise_to (height_of s) p ≡ None → fits {O = Own} s (Come a) ≡ true → hosted_by step o s (Back (height_of s) a) u →
+      Goes step (holding o s) p (Back (height_of s) a) (holding u None)
+  by_host o u p None a past f g = absurd (false≢true f)
+  by_host o u p (Some (None, AskHost request)) (Heard a) past f (q, reply, e1, e2, s) = hears q reply (ap (λ z. Back None (Heard z)) (sym e2)) (ap (λ z. Some (None, AskHost z)) (sym e1)) s refl
+  by_host o u p (Some (None, AskHost request)) (Replied r) past f g = absurd g
+  by_host o u p (Some (None, i)) (Heard a) past f g = absurd (false≢true f)
+  by_host o u p (Some (None, i)) (Replied r) past f g = absurd g
+  by_host o u p (Some (Some n, i)) (Heard a) past f g = absurd (false≢true f)
+  by_host o u p (Some (Some n, i)) (Replied r) past f (same, is) = misses n i (ap (λ z. Back (Some n) (Replied z)) is) past refl (ap (λ z. holding z None) same)
+
+  comes_back : (T : Tree Own) (o u : State) (p : Place) (s : Wait) (a : Answer) → rise_to (height_of s) p ≡ None → fits {O = Own} s (Come a) ≡ true → Taped goes T o s (event p (Back (height_of s) a)) u →
+      Taped (keeps_call step) T (keeping o s) s (event p (Back (height_of s) a)) (keeping u None)
+  comes_back T o u p s a past f g =
+      let told = (so T o s (event p (Back (height_of s) a)) u g).told in
+      record {
+        goes = by_host (host_of o.0) (host_of u.0) p s a past f (subst (λ b. passing b (hosted_at step) T (host_of o.0) s (event p (Back (height_of s) a)) (host_of u.0)) past told);
+        written = g.written;
+      }
+
+  -- and by no end
+  quits_not : {A : Type 0} (o u : S) (p : Place) (s : Wait) (r : Reply) → IsQuit r → fits {O = Own} s (Come (Replied r)) ≡ true → hosted_by step o s (Back (height_of s) (Replied r)) u → A
+  quits_not o u p None r q f g = absurd (false≢true f)
+  quits_not o u p (Some (None, AskHost request)) r q f g = absurd g
+  quits_not o u p (Some (None, i)) r q f g = absurd g
+  quits_not o u p (Some (Some n, i)) r q f (same, is) = not_quit (error (no_interpreter [])) r is q
+
+  -- What comes so, with the call that is open; the top still stands; and the end is none from outside.
+  pub record Held (T : Tree Own) (o : State) (c : Wait) (p : Place) (x : Prog Own I) (V : Tree Own) (z : State) (r : Reply) : Type 0 where
+    pub threads : Threads (Taped (keeps_call step)) prog T (keeping o c) p x V (keeping z None) r
+    pub top : HasTop V
+    pub uncut : NotCut r
+
+  pub calm : (T : Tree Own) (o : State) (p : Place) (x : Prog Own I) (V : Tree Own) (z : State) (r : Reply) → Calls_only x → Held T o (waits_for x) p x V z r → Held T o None p x V z r
+  calm T o p x V z r f h = subst (λ c. Held T o c p x V z r) (no_wait x f) h
+
+  pub held : {T V : Tree Own} {o z : State} {p : Place} {x : Prog Own I} {r : Reply} → Threads (Taped goes) prog T o p x V z r → Fits x → LimitsBelow fine (is_below p) x → HasTop T → Held T o (waits_for x) p x V z r
+  held completed f l top = record { threads = completed; top = top; uncut = tt }
+  held exited f l top = record { threads = exited; top = top; uncut = tt }
+  held (acted {T} {V} {o} {u} {z} {p} {d} {k} {r} x is_so on s t) f l top =
+      let g = decides_near step d T (host_of o.0) p (host_of u.0) x (none_at fine p d k l) is_so (so T o None (event (spot p x.0) x.1) u s) in
+      let h = calm _ u p (k (at T p)) V z r (f (at T p)) (held t (fit (k (at T p)) (f (at T p))) (after_act fine (is_below p) d k (at T p) l) (top_near (spot p x.0) x.1 T g.near top)) in
+      record { threads = acted x is_so on (stays T o u None None (spot p x.0) x.1 g.near s) h.threads; top = h.top; uncut = h.uncut }
+  held (refused {T} {o} {u} {p} {d} {k} {r} x is_so off s) f l top =
+      let g = decides_near step d T (host_of o.0) p (host_of u.0) x (none_at fine p d k l) is_so (so T o None (event (spot p x.0) x.1) u s) in
+      record { threads = refused x is_so off (stays T o u None None (spot p x.0) x.1 g.near s); top = top_near (spot p x.0) x.1 T g.near top; uncut = off_uncut x.2 r off g.uncut }
+  held (went {T} {U} {V} {o} {u} {z} {p} {i} {k} {c} {r} a b) f l top =
+      let g = calm T o p (prog.program i) U u (Completed c) (prog.programs_call i) (held a (fit (prog.program i) (prog.programs_call i)) (at_place fine p (prog.program i) (keep.programs i l.0)) top) in
+      let h = calm U u p (k c) V z r (f c) (held b (fit (k c) (f c)) (l.1 c) g.top) in
+      record { threads = went g.threads h.threads; top = h.top; uncut = h.uncut }
+  held (passed {T} {U} {o} {u} {p} {i} {k} {r} q a) f l top =
+      let g = calm T o p (prog.program i) U u r (prog.programs_call i) (held a (fit (prog.program i) (prog.programs_call i)) (at_place fine p (prog.program i) (keep.programs i l.0)) top) in
+      record { threads = passed q g.threads; top = g.top; uncut = g.uncut }
+  held (wrapped {T} {U} {V} {o} {o1} {o2} {o3} {z} {p} {b} {i} {k} {c} {r} x is_so on s1 a s2 t) f l top =
+      let n = opens_near step b T (host_of o.0) p (host_of o1.0) x is_so (so T o None (event (spot p x.0) x.1) o1 s1) in
+      let m = closes_near step p b (U p) in
+      let g = calm _ o1 p (prog.program i) U o2 (Completed c) (prog.programs_call i) (held a (fit (prog.program i) (prog.programs_call i)) (at_place fine p (prog.program i) (keep.programs i l.0)) (top_near (spot p x.0) x.1 T n.near top)) in
+      let h = calm _ o3 p (k c) V z r (f c) (held t (fit (k c) (f c)) (l.1 c) (top_near p (closes b (U p)) U m g.top)) in
+      record { threads = wrapped x is_so on (stays T o o1 None None (spot p x.0) x.1 n.near s1) g.threads (stays U o2 o3 None None p (closes b (U p)) m s2) h.threads; top = h.top; uncut = h.uncut }
+  held (wrapped_passed {T} {U} {o} {o1} {o2} {o3} {p} {b} {i} {k} {r} x q is_so on s1 a s2) f l top =
+      let n = opens_near step b T (host_of o.0) p (host_of o1.0) x is_so (so T o None (event (spot p x.0) x.1) o1 s1) in
+      let m = closes_near step p b (U p) in
+      let g = calm _ o1 p (prog.program i) U o2 r (prog.programs_call i) (held a (fit (prog.program i) (prog.programs_call i)) (at_place fine p (prog.program i) (keep.programs i l.0)) (top_near (spot p x.0) x.1 T n.near top)) in
+      record { threads = wrapped_passed x q is_so on (stays T o o1 None None (spot p x.0) x.1 n.near s1) g.threads (stays U o2 o3 None None p (closes b (U p)) m s2); top = top_near p (closes b (U p)) U m g.top; uncut = g.uncut }
+  held (too_deep {T} {V} {o} {u} {z} {p} {b} {i} {k} {r} x is_so deep s t) f l top =
+      let n = opens_near step b T (host_of o.0) p (host_of u.0) x is_so (so T o None (event (spot p x.0) x.1) u s) in
+      let h = calm _ u p (k _) V z r (f _) (held t (fit (k _) (f _)) (l.1 _) (top_near (spot p x.0) x.1 T n.near top)) in
+      record { threads = too_deep x is_so deep (stays T o u None None (spot p x.0) x.1 n.near s) h.threads; top = h.top; uncut = h.uncut }
+  held (shut {T} {o} {u} {p} {b} {i} {k} {r} x is_so off s) f l top =
+      let n = opens_near step b T (host_of o.0) p (host_of u.0) x is_so (so T o None (event (spot p x.0) x.1) u s) in
+      record { threads = shut x is_so off (stays T o u None None (spot p x.0) x.1 n.near s); top = top_near (spot p x.0) x.1 T n.near top; uncut = off_uncut x.2 r off n.uncut }
+  held (called {T} {U} {V} {o} {o1} {o2} {o3} {o4} {o5} {z} {p} {h} {down} {i} {lost} {k} {s} {r} {c} a t e there s1 s2 m s3 so s4 n) f l top =
+      let y : Inside (Some (length down)) t = comes_within T a t down there in
+      let j = calm T o2 t (entering prog (T t) i) U o3 s (entering_calls prog (T t) i) (held m (fit (entering prog (T t) i) (entering_calls prog (T t) i)) (entering_limits fine prog keep (T t) i t (λ g. asked_below a down i l.0 (sym (reached_at (T (a ++ down)) t (a ++ down) there) ∙ g))) top) in
+      let g = calm U o5 p (k (Finished c)) V z r (f (Finished c)) (held n (fit (k (Finished c)) (f (Finished c))) (l.1 (Finished c)) j.top) in
+      record {
+        threads = called a t e there (stays T o o1 None None p (Out h down i) (a, e) s1) (stays T o1 o2 None None t (In (Some (length down)) i) y s2) j.threads
+            (stays U o3 o4 None None t (Done (Some (length down)) s) y s3) so (stays U o4 o5 None None p (Back h (Replied (carried h p down s))) (a, e) s4) g.threads;
+        top = g.top;
+        uncut = g.uncut;
+      }
+  held (called_passed {T} {U} {o} {o1} {o2} {o3} {o4} {o5} {p} {h} {down} {i} {lost} {k} {s} {r} a t e there s1 s2 m s3 so q s4) f l top =
+      let y : Inside (Some (length down)) t = comes_within T a t down there in
+      let j = calm T o2 t (entering prog (T t) i) U o3 s (entering_calls prog (T t) i) (held m (fit (entering prog (T t) i) (entering_calls prog (T t) i)) (entering_limits fine prog keep (T t) i t (λ g. asked_below a down i l.0 (sym (reached_at (T (a ++ down)) t (a ++ down) there) ∙ g))) top) in
+      record {
+        threads = called_passed a t e there (stays T o o1 None None p (Out h down i) (a, e) s1) (stays T o1 o2 None None t (In (Some (length down)) i) y s2) j.threads
+            (stays U o3 o4 None None t (Done (Some (length down)) s) y s3) so q (stays U o4 o5 None None p (Back h (Replied r)) (a, e) s4);
+        top = j.top;
+        uncut = subst NotCut so (carried_uncut h p down s j.uncut);
+      }
+  held (unreached {T} {V} {o} {o1} {o2} {z} {p} {h} {down} {i} {lost} {k} {r} a e there s1 s2 t) f l top =
+      let g = calm T o2 p (k (Finished lost)) V z r (f (Finished lost)) (held t (fit (k (Finished lost)) (f (Finished lost))) (l.1 (Finished lost)) top) in
+      record {
+        threads = unreached a e there (stays T o o1 None None p (Out h down i) (a, e) s1) (stays T o1 o2 None None p (Back h (Replied (Completed lost))) (a, e) s2) g.threads;
+        top = g.top;
+        uncut = g.uncut;
+      }
+  held (called_out {T} {V} {o} {u} {z} {p} {h} {down} {i} {lost} {k} {r} e s t) f l top =
+      let g = held t f l.1 top in
+      record { threads = called_out e (leaves T o u p h down i e s) g.threads; top = g.top; uncut = g.uncut }
+  held (answered {T} {V} {o} {u} {z} {p} {s} {k} {c} {r} e is_fit j t) f l top =
+      let g = calm T u p (k (Finished c)) V z r (f (Finished c)) (held t (fit (k (Finished c)) (f (Finished c))) (l (Finished c)) top) in
+      record { threads = answered e is_fit (comes_back T o u p s (Replied (Completed c)) e is_fit j) g.threads; top = g.top; uncut = g.uncut }
+  held (heard {T} {V} {o} {u} {z} {p} {s} {k} {a} {r} e is_fit j t) f l top =
+      let g = calm T u p (k (told_so a)) V z r (f (told_so a)) (held t (fit (k (told_so a)) (f (told_so a))) (l (told_so a)) top) in
+      record { threads = heard e is_fit (comes_back T o u p s (Heard a) e is_fit j) g.threads; top = g.top; uncut = g.uncut }
+  held (answered_passed {T} {o} {u} {p} {s} {k} {r} q e is_fit j) f l top =
+      let told = (so T o s (event p (Back (height_of s) (Replied r))) u j).told in
+      quits_not (host_of o.0) (host_of u.0) p s r q is_fit (subst (λ b. passing b (hosted_at step) T (host_of o.0) s (event p (Back (height_of s) (Replied r))) (host_of u.0)) e told)
+  held (entered {T} {U} {V} {o} {o1} {o2} {o3} {z} {p} {s} {k} {y} {r} t i e s1 m s2 no_exit n) f l top = enters_not T o o1 t i s1
+  held (entered_exiting {T} {U} {o} {o1} {o2} {o3} {o4} {p} {c} {k} {n} t i e s1 m s2 s3) f l top = enters_not T o o1 t i s1

@@ -1,0 +1,5 @@
+use Rattle.tcl_run_laws.proofs.BudgetWholes.{depths}
+use Rattle.tcl_run_laws.proofs.budgets.depths_hold.Goals as goal
+
+pub returns : goal.returns
+returns g c prog T V p s n B e outs w fine = depths prog T V p s n B e outs w fine

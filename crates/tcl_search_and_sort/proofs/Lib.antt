@@ -1,0 +1,4 @@
+pub mod LastTwo
+pub mod Reversed
+pub mod Given
+pub mod SortOptions

@@ -1,0 +1,4 @@
+pub mod Searching
+pub mod SearchOptions
+pub mod Sorting
+pub mod SortCommand

@@ -1,3 +1,0 @@
-pub mod Reversed
-pub mod Given
-pub mod Words

@@ -1,6 +1,0 @@
-use Rattle.std.proofs.Common.{◌≡◌, drop}
-use Rattle.tcl_sort.specs.Command.{with_options}
-use Rattle.tcl_sort.proofs.options.Sorting.with_options.Given as goal
-
-abbrev pub invariant-words : goal.invariant-words
-invariant-words l = with_options l.sorting (drop l.word-index l.words) ≡ with_options l.fn.self l.words

@@ -1,8 +1,0 @@
-use Rattle.std.proofs.Common.{ℕ, sym, ◌∙◌, ap}
-use Rattle.std.specs.Str.{chars}
-use Rattle.std.proofs.lemmas.Str.{chars-nil}
-use Rattle.tcl_words.specs.Spans.{behind}
-use Rattle.tcl_string_commands.proofs.spans.behind_place.Goals as goal
-
-pub returns-in-Beyond : goal.returns-in-Beyond
-returns-in-Beyond c = chars-nil ∙ ap (λ p. behind {X = ℕ} p (chars c.args.text.now)) (sym c.in-Beyond.is)

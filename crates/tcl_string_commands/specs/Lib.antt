@@ -1,5 +1,0 @@
-pub mod Options
-pub mod Parts
-pub mod Comparing
-pub mod Searching
-pub mod Making

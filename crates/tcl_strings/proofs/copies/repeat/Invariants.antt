@@ -1,7 +1,0 @@
-use Rattle.std.proofs.Common.{◌≡◌}
-use Rattle.std.specs.String.{string_bytes}
-use Rattle.tcl_strings.specs.Texts.{copies}
-use Rattle.tcl_strings.proofs.copies.repeat.Given as goal
-
-abbrev pub invariant-copies : goal.invariant-copies
-invariant-copies l = string_bytes l.made ≡ copies l.counter l.text

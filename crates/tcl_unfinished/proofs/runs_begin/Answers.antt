@@ -1,5 +1,0 @@
-use Rattle.tcl_unfinished.proofs.Beginning.{is_beginning}
-use Rattle.tcl_unfinished.proofs.runs_begin.Goals as goal
-
-pub returns : goal.returns
-returns g c prog T o z p s n begun = is_beginning g.H.Host.step prog T p s n begun

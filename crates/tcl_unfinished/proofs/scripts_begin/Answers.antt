@@ -1,5 +1,0 @@
-use Rattle.tcl_unfinished.proofs.Beginning.{script_begins}
-use Rattle.tcl_unfinished.proofs.scripts_begin.Goals as goal
-
-pub returns : goal.returns
-returns g c style T o z p s n there e begun = script_begins g.H.Host.step style T p s n there e begun
