@@ -126,7 +126,7 @@ fn whole_array(alloc: Global) -> Result<usize, FrameError> {
     fill_array(&mut frames, alloc)
 }
 
-fn told<T: Drop>(outcome: Result<T, FrameError>) -> &'static str {
+fn show<T: Drop>(outcome: Result<T, FrameError>) -> &'static str {
     match outcome {
         Ok(_) => "done",
         Err(_) => "refused",
@@ -138,12 +138,12 @@ fn measure_unsetting(rt: &HostRuntime, frames: &mut Frames) -> io::Result<()> {
     measured!(
         rt,
         "the first of many unset",
-        told(unset_first(frames, rt.alloc()))
+        show(unset_first(frames, rt.alloc()))
     );
     measured!(
         rt,
         "the last of many unset",
-        told(unset_last(frames, rt.alloc()))
+        show(unset_last(frames, rt.alloc()))
     );
     Ok(())
 }

@@ -6,13 +6,13 @@ use std::io;
 use std::time::Instant;
 use tcl_eval::running::End;
 use tcl_host::memory::MemoryHost;
-use tcl_playing::moves::{Move, moves_of};
+use tcl_player::moves::{Move, moves_of};
+use tcl_recorder::record::Record;
 use tcl_replay::replaying::{Replayed, Unplayed};
 use tcl_replay::saving::{Saved, save};
 use tcl_replay::watching::{Unwatched, eval_watched};
 use tcl_text::text::Text;
 use tcl_tree::tree::Tree;
-use tcl_watching::record::Record;
 
 /// How often the child calls.
 fn calls_of(size: Size) -> u32 {

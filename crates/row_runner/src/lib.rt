@@ -1,7 +1,9 @@
 //! Tests as rows of text. A row is a line: a call, ` => `, and what the call must answer.
 //!
-//! The rows of a file stand in groups. A line `== NAME` begins a group, whose rows are answered by one world, one after the other. An empty line, and one
-//! that begins with `--`, says nothing. In a row `␤` stands for a newline, and an answer is compared as one line, so that its newlines are written so too.
+//! The rows of a file stand in groups. A line `== NAME` begins a group, whose rows are answered by
+//! one world, one after the other. An empty line, and one that begins with `--`, says nothing. In a
+//! row `␤` stands for a newline, and an answer is compared as one line, so that its newlines are
+//! written so too.
 #![tactic(auto)]
 
 use std::alloc::{AllocError, Global};
@@ -78,7 +80,8 @@ fn found<W: World>(world: &mut W, alloc: Global, call: &str) -> Result<String, A
     answer.as_str().replace(alloc, "\n", NEWLINE)
 }
 
-/// Puts a row to a world, and prints what it answers where that isn't what it must be. Returns whether it is.
+/// Puts a row to a world, and prints what it answers where that isn't what it must be. Returns
+/// whether it is.
 fn see<W: World>(rt: &HostRuntime, world: &mut W, call: &str, wanted: &str) -> io::Result<bool> {
     let found = found(world, rt.alloc(), call)?;
     if found.as_str() == wanted {
@@ -115,7 +118,8 @@ fn rows_of(rt: &HostRuntime, name: &str) -> io::Result<String> {
     fs::read_to_string(rt, path.as_str())
 }
 
-/// Puts the rows of the file `NAME.rows` to a world. Each that is answered otherwise is printed, and last how many rows there were.
+/// Puts the rows of the file `NAME.rows` to a world. Each that is answered otherwise is printed,
+/// and last how many rows there were.
 ///
 /// # Errors
 /// The file can't be read, the output can't be written, or out of memory.
@@ -160,8 +164,8 @@ fn see_beginnings_of_line<W: World>(
 }
 
 /// Puts every beginning of each call in the file `NAME.rows` to a world, all of the call too, which
-/// must answer nothing. Each that is answered otherwise is printed, and last how many there were. No
-/// group begins.
+/// must answer nothing. Each that is answered otherwise is printed, and last how many there were.
+/// No group begins.
 ///
 /// # Errors
 /// The file can't be read, the output can't be written, or out of memory.

@@ -1,4 +1,5 @@
--- The digits of a whole number in two's complement, which don't end: those of a number from 0 up end in zeros, and those of one below 0 in ones.
+-- The digits of a whole number in two's complement, which don't end: those of a number from 0 up
+-- end in zeros, and those of one below 0 in ones.
 use Rattle.std.specs.Prelude.{◌≡◌, ℕ, ◌-◌, ℤ, pos, negsuc}
 use Rattle.std.specs.Int.{bit_at}
 

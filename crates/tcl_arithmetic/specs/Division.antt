@@ -1,5 +1,6 @@
 -- The one pair of a quotient and a remainder.
-use Rattle.std.specs.Prelude.{◌≡◌, zero, suc, Bool, true, false, ℤ, pos, negsuc, ◌+ℤ◌, ◌*ℤ◌, ◌≤ℤ◌, ◌<ℤ◌}
+use Rattle.std.specs.Prelude.{◌≡◌, zero, suc, Bool, true, false, ℤ, pos, negsuc, ◌+ℤ◌, ◌*ℤ◌, ◌≤ℤ◌}
+use Rattle.std.specs.Prelude.{◌<ℤ◌}
 
 -- r is zero, or has the sign of the divisor and is smaller in size
 abbrev pub IsRemainder : ℤ → ℤ → Type 0
@@ -14,7 +15,8 @@ pub record IsDivision (a b q r : ℤ) : Type 0 where
 -- a divisor other than zero divides in one way, and zero in none
 abbrev pub OneDivision : Type 0
 OneDivision = (a b : ℤ) → (b ≡ pos 0 → (q r : ℤ) → IsDivision a b q r → Prim.⊥)
-    × ((b ≡ pos 0 → Prim.⊥) → (q : ℤ) × (r : ℤ) × IsDivision a b q r × ((p s : ℤ) → IsDivision a b p s → (p ≡ q) × (s ≡ r)))
+    × ((b ≡ pos 0 → Prim.⊥) → (q : ℤ) × (r : ℤ) × IsDivision a b q r ×
+    ((p s : ℤ) → IsDivision a b p s → (p ≡ q) × (s ≡ r)))
 
 -- whether a rest is neither zero nor of the divisor's sign
 abbrev pub is_across : ℤ → ℤ → Bool

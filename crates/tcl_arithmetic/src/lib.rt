@@ -1,8 +1,10 @@
-//! Whole numbers of 64 bits as mathematics: each operator gives the number that its definition on unbounded numbers gives, or says that this
-//! number doesn't fit.
+//! Whole numbers of 64 bits as mathematics: each operator gives the number that its definition on
+//! unbounded numbers gives, or says that this number doesn't fit.
 #![tactic(auto)]
 
-ghost use Rattle.std.specs.Prelude.{◌≡◌, ◌≢◌, ◌↔◌, ◌+◌, ◌-◌, ◌^◌, ◌%◌, ℕ, ℤ, pos, negsuc, neg_ℤ, ◌+ℤ◌, ◌-ℤ◌, ◌*ℤ◌, ◌<ℤ◌, ◌≤ℤ◌, ◌<◌, min, max, unsigned_abs, int_rem, IfOk, IfErr, FitsSigned};
+ghost use Rattle.std.specs.Prelude.{◌≡◌, ◌≢◌, ◌↔◌, ◌+◌, ◌-◌, ◌^◌, ◌%◌, ℕ, ℤ, pos, negsuc, neg_ℤ};
+ghost use Rattle.std.specs.Prelude.{◌+ℤ◌, ◌-ℤ◌, ◌*ℤ◌, ◌<ℤ◌, ◌≤ℤ◌, ◌<◌, min, max, unsigned_abs};
+ghost use Rattle.std.specs.Prelude.{int_rem, IfOk, IfErr, FitsSigned};
 ghost use Rattle.std.specs.Int.{w64, CanDivide, int_shr};
 ghost use Rattle.tcl_arithmetic.specs.Division.{IsDivision, OneDivision, is_across};
 ghost use Rattle.tcl_arithmetic.specs.Powers.{power, reduced};
@@ -22,7 +24,8 @@ pub enum ArithmeticFault {
     NegativeExponent,
 }
 
-/// A divisor other than zero divides a number in one way (the quotient rounded down, the remainder with the divisor's sign), and zero in none.
+/// A divisor other than zero divides a number in one way (the quotient rounded down, the remainder
+/// with the divisor's sign), and zero in none.
 pub fn one_division()
     ensures { OneDivision }
 {}
@@ -89,7 +92,9 @@ pub fn absolute(a: i64) -> Result<i64, ArithmeticFault>
 pub fn quotient(a: i64, b: i64) -> Result<i64, ArithmeticFault>
     ensures quotient { IfOk result (λ q. (r : ℤ) × IsDivision a b q r) }
     ensures zero { (result ≡ Err ArithmeticFault.DivideByZero) ↔ (b ≡ pos 0) }
-    ensures fault { IfErr result (λ e. b ≢ pos 0 → (e ≡ ArithmeticFault.Overflow) × ((q r : ℤ) → IsDivision a b q r → FitsSigned w64 q → Prim.⊥)) }
+    ensures fault { IfErr result
+        (λ e. b ≢ pos 0 → (e ≡ ArithmeticFault.Overflow) ×
+        ((q r : ℤ) → IsDivision a b q r → FitsSigned w64 q → Prim.⊥)) }
 {
     if b == 0 {
         return Err(ArithmeticFault::DivideByZero);
@@ -161,7 +166,8 @@ fn small_power(base: i64, exponent: u32) -> Result<i64, ArithmeticFault>
     base.checked_pow(exponent).ok_or(ArithmeticFault::Overflow)
 }
 
-/// An exponent below 66 that does as well: from 64 on only 0, 1 and -1 have powers that fit, and only whether the exponent is even tells.
+/// An exponent below 66 that does as well: from 64 on only 0, 1 and -1 have powers that fit, and
+/// only whether the exponent is even tells.
 fn reduced(exponent: i64) -> u32
     requires { pos 0 ≤ℤ exponent }
     ensures { (n : ℕ) → exponent ≡ pos n → result ≡ reduced n }
@@ -212,7 +218,8 @@ fn two_to(exponent: i64) -> i64
 /// # Errors
 /// `NegativeShift`.
 pub fn shift_right(a: i64, places: i64) -> Result<i64, ArithmeticFault>
-    ensures quotient { (n : ℕ) → places ≡ pos n → IfOk result (λ q. (r : ℤ) × IsDivision a (pos (2 ^ n)) q r) }
+    ensures quotient { (n : ℕ) → places ≡ pos n → IfOk result
+        (λ q. (r : ℤ) × IsDivision a (pos (2 ^ n)) q r) }
     ensures negative { places <ℤ pos 0 → result ≡ Err ArithmeticFault.NegativeShift }
     ensures fault { IfErr result (λ e. (e ≡ ArithmeticFault.NegativeShift) × (places <ℤ pos 0)) }
 {

@@ -18,7 +18,8 @@ is_plain name.Interp = false
 is_plain name.Puts = false
 is_plain _ = true
 
--- A plain one that does more than give what is a function of its words: it reads or changes the interpreter, or ends what runs there.
+-- A plain one that does more than give what is a function of its words: it reads or changes the
+-- interpreter, or ends what runs there.
 abbrev pub is_effectful : Builtin → Bool
 is_effectful name.Set = true
 is_effectful name.Unset = true

@@ -3,11 +3,14 @@ use Rattle.std.specs.Prelude.{if◌then◌else◌, List, Err, Some, None, codes}
 use Rattle.std.specs.declared.option.Option.{Option}
 use Rattle.std.specs.Str.{bytes_eq}
 use Rattle.tcl_core.specs.Paths.{Text}
-use Rattle.tcl_dicts.specs.Dicts.{create_of, exists_of, get_of, keys_of, merge_of, remove_of, replace_of, size_of, values_of}
+use Rattle.tcl_dicts.specs.Dicts.{create_of, exists_of, get_of, keys_of, merge_of, remove_of}
+use Rattle.tcl_dicts.specs.Dicts.{replace_of, size_of, values_of}
 use Rattle.tcl_language.specs.Faults.{unknown_subcommand}
 use Rattle.tcl_words.specs.Outcomes.{Outcome}
 use Rattle.tcl_builtins.specs.declared.subcommand.Subcommand.{Subcommand}
-use Rattle.tcl_builtins.specs.declared.subcommand.Subcommand.TheVariants.{Create, Get, Exists, Keys, Values, Size, Merge, Replace, Remove}
+use Rattle.tcl_builtins.specs.declared.subcommand.Subcommand.TheVariants.{Create, Get, Exists, Keys}
+use Rattle.tcl_builtins.specs.declared.subcommand.Subcommand.TheVariants.{Values, Size, Merge}
+use Rattle.tcl_builtins.specs.declared.subcommand.Subcommand.TheVariants.{Replace, Remove}
 
 -- the subcommand that a word names
 abbrev pub subcommand_of : Text → Option Subcommand

@@ -38,7 +38,8 @@ fn value_of(alloc: Global, subcommand: Subcommand, words: &[Value]) -> Result<Va
 /// `dict subcommand ?arg ...?`: what a subcommand makes of dicts, keys and values.
 ///
 /// # Errors
-/// 241; 244 of the subcommand; 101 to 104 and 121 where a word is no dict; 242 of `get`; 122; want of memory.
+/// 241; 244 of the subcommand; 101 to 104 and 121 where a word is no dict; 242 of `get`; 122; want
+/// of memory.
 pub fn dict(
     tree: &mut Tree,
     alloc: Global,

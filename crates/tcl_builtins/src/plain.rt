@@ -28,7 +28,8 @@ use tcl_tree::builtin::Builtin;
 use tcl_tree::tree::{Place, Tree};
 use tcl_value::value::Value;
 
-/// Calls a built-in command that evaluates nothing and asks nobody. One that isn't written yet is no command.
+/// Calls a built-in command that evaluates nothing and asks nobody. One that isn't written yet is
+/// no command.
 ///
 /// # Errors
 /// Those of the command; 305 where it isn't written yet; want of memory.
@@ -42,7 +43,8 @@ pub fn call_plain(
 ) -> Result<Value, Interruption>
     requires names { (p : Path) × Names tree.old place p }
     requires plain { is_plain builtin ≡ true }
-    ensures acts { Acts tree.old place (λ style. program_of style builtin word.now args.now) tree.new result }
+    ensures acts { Acts tree.old place
+        (λ style. program_of style builtin word.now args.now) tree.new result }
     ensures level { IsLevel tree.old tree.new }
 {
     match builtin {
@@ -65,7 +67,8 @@ pub fn call_plain(
     }
 }
 
-/// Calls a built-in command that gives what is a function of its words. One that isn't written yet is no command.
+/// Calls a built-in command that gives what is a function of its words. One that isn't written yet
+/// is no command.
 fn call_pure(
     tree: &mut Tree,
     alloc: Global,
@@ -76,7 +79,8 @@ fn call_pure(
 ) -> Result<Value, Interruption>
     requires plain { is_plain builtin ≡ true }
     requires quiet { is_effectful builtin ≡ false }
-    ensures acts { Acts tree.old place (λ style. program_of style builtin word.now args.now) tree.new result }
+    ensures acts { Acts tree.old place
+        (λ style. program_of style builtin word.now args.now) tree.new result }
     ensures level { IsLevel tree.old tree.new }
 {
     match builtin {

@@ -19,10 +19,12 @@ pub enum Subcommand {
 }
 
 impl Subcommand {
-    /// The subcommand that a word names. What it answers is what the list of subcommands has under that name.
+    /// The subcommand that a word names. What it answers is what the list of subcommands has under
+    /// that name.
     pub fn named(word: &str) -> Option<Subcommand>
         ensures named { result ≡ subcommand_of word.now }
-        ensures listed { (words : List TextBytes) → subcommand_in dict_subcommands word.now words ≡ outcome_or word.now result words }
+        ensures listed { (words : List TextBytes) → subcommand_in
+            dict_subcommands word.now words ≡ outcome_or word.now result words }
     {
         match word {
             "create" => Some(Subcommand::Create),

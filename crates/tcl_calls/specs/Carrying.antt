@@ -23,9 +23,11 @@ abbrev pub IsNoStop : Result Text Interruption → Type 0
 IsNoStop (Err (interruption.Stopped s)) = Prim.⊥
 IsNoStop r = Unit {0}
 
--- The caller at p is told so of the end of its call, which went so many levels up, to a, and then these names down: a stop as it is seen from there, and all else
--- as it is. The outside is told both.
-pub record ComesBack {S : Type 0} (goes : Going S) (T : Tree Own) (o : S) (p : Path) (up : ℕ) (a down : Path) (ended : Result Text Interruption) (told : Reply) (z : S) : Type 0 where
+-- The caller at p is told so of the end of its call, which went so many levels up, to a, and then
+-- these names down: a stop as it is seen from there, and all else as it is. The outside is told
+-- both.
+pub record ComesBack {S : Type 0} (goes : Going S) (T : Tree Own) (o : S) (p : Path) (up : ℕ)
+    (a down : Path) (ended : Result Text Interruption) (told : Reply) (z : S) : Type 0 where
   pub reply : Reply
   pub ended_so : EndedBy ended reply
   pub told_so : told ≡ carried (Some up) p down reply
@@ -34,5 +36,6 @@ pub record ComesBack {S : Type 0} (goes : Going S) (T : Tree Own) (o : S) (p : P
 -- what an end comes to where only ok and error may pass
 abbrev pub Settles : Result Text Interruption → Result Text Interruption → Type 0
 Settles (Ok text) r = r ≡ Ok text
-Settles (Err (interruption.Completed c)) r = IfEnded r (λ e. e ≡ Completed (settle (completion_of c.value)))
+Settles (Err (interruption.Completed c)) r = IfEnded r
+    (λ e. e ≡ Completed (settle (completion_of c.value)))
 Settles (Err i) r = r ≡ Err i

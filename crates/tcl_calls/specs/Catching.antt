@@ -10,4 +10,5 @@ use Rattle.tcl_language.specs.Variables.{sets}
 abbrev pub kept_in : List Text → core.Completion → Program → Program
 kept_in [] c k = k
 kept_in (result ∷ []) c k = sets result c.text k
-kept_in (result ∷ options ∷ rest) c k = sets result c.text (grown (options_text c) (λ text. sets options text k))
+kept_in (result ∷ options ∷ rest) c k = sets result c.text
+    (grown (options_text c) (λ text. sets options text k))

@@ -6,7 +6,8 @@ use Rattle.tcl_core.specs.Paths.{Text}
 use Rattle.tcl_core.specs.Programs.Prog.{done}
 use Rattle.tcl_expr.specs.Expressions.{expression_of}
 use Rattle.tcl_expr.specs.Trees.{Tree}
-use Rattle.tcl_expression_evaluation.specs.Computations.{Computation, value, refused, substitute, computation_of, final}
+use Rattle.tcl_expression_evaluation.specs.Computations.{Computation, value, refused, substitute}
+use Rattle.tcl_expression_evaluation.specs.Computations.{computation_of, final}
 use Rattle.tcl_expression_evaluation.specs.Steps.{from}
 use Rattle.tcl_expression_evaluation.specs.declared.evaluation.Progress.{Progress}
 use Rattle.tcl_expression_evaluation.specs.declared.evaluation.Progress.TheVariants as progress
@@ -23,7 +24,8 @@ use Rattle.tcl_text.specs.declared.integer.Integers.{Integers}
 
 -- the steps are those of the text's expression
 abbrev pub IsKept : Integers → Text → ExprTree → Type 0
-IsKept style text kept = (t : Tree) × (expression_of style text ≡ Ok t) × (from style kept.nodes.items 0 [] ≡ computation_of style t)
+IsKept style text kept = (t : Tree) × (expression_of style text ≡ Ok t) ×
+    (from style kept.nodes.items 0 [] ≡ computation_of style t)
 
 -- how a refusal of an operator ends what wanted its value
 abbrev pub OperatorTells : ApplyError → Interruption → Type 0
@@ -38,7 +40,8 @@ settles style v = or_fails message_of (final style v) (λ result. done (ok resul
 abbrev pub IsRefused : Computation → Reply → Type 0
 IsRefused c e = (f : OperatorFault) × (c ≡ refused f) × (e ≡ Completed (failing (message_of f)))
 
--- How a computation goes on: to a part that is to be substituted, behind which it goes on so; to its value; or to its refusal.
+-- How a computation goes on: to a part that is to be substituted, behind which it goes on so; to
+-- its value; or to its refusal.
 abbrev pub GivesPart : Result Progress Interruption → Computation → (Text → Computation) → Type 0
 GivesPart (Ok (progress.Wants w)) c go = c ≡ substitute w.now go
 GivesPart (Ok (progress.Done v)) c go = c ≡ value v

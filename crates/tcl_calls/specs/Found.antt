@@ -16,7 +16,8 @@ or_missing message (Some command) = Ok command
 
 abbrev pub kept_as : Option Text → Text → CommandMap → Result Command Text
 kept_as None word commands = Err (bad_name word)
-kept_as (Some plain) word commands = or_missing (invalid_command word) (lookup (bytes_eq plain) commands)
+kept_as (Some plain) word commands = or_missing (invalid_command word)
+    (lookup (bytes_eq plain) commands)
 
 -- the command that a word names in an interpreter
 abbrev pub found : Node Own → Text → Result Command Text

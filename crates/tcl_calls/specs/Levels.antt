@@ -1,5 +1,6 @@
 -- What contracts see of scripts at another level.
-use Rattle.std.specs.Prelude.{ℕ, Bool, true, false, List, [], ◌∷◌, Option, Some, None, Result, Ok, Err, codes}
+use Rattle.std.specs.Prelude.{ℕ, Bool, true, false, List, [], ◌∷◌, Option, Some, None, Result, Ok}
+use Rattle.std.specs.Prelude.{Err, codes}
 use Rattle.tcl_core.specs.Paths.{Text}
 use Rattle.tcl_core.specs.Trees.{Node}
 use Rattle.tcl_frames.specs.Places.{current}

@@ -1,5 +1,6 @@
 -- What contracts see of calls of procedures.
-use Rattle.std.specs.Prelude.{◌≡◌, ℕ, Bool, true, false, List, [], ◌∷◌, ◌++◌, map, Option, Some, None}
+use Rattle.std.specs.Prelude.{◌≡◌, ℕ, Bool, true, false, List, [], ◌∷◌, ◌++◌, map, Option, Some}
+use Rattle.std.specs.Prelude.{None}
 use Rattle.tcl_core.specs.Endings.{Reply}
 use Rattle.tcl_core.specs.Endings.Reply.{Completed}
 use Rattle.tcl_language.specs.Control.{fit_all, last_form, parameter_form}
@@ -15,7 +16,8 @@ abbrev pub pairs_of : List Binding → List (List ℕ × List ℕ)
 pairs_of bs = map pair_of bs
 
 -- these bindings, and then others
-abbrev pub joined : List (List ℕ × List ℕ) → Option (List (List ℕ × List ℕ)) → Option (List (List ℕ × List ℕ))
+abbrev pub joined : List (List ℕ × List ℕ) → Option (List (List ℕ × List ℕ)) →
+    Option (List (List ℕ × List ℕ))
 joined before None = None
 joined before (Some rest) = Some (before ++ rest)
 

@@ -10,7 +10,8 @@ use Rattle.tcl_run.specs.Ends.{Interrupts}
 use Rattle.tcl_run.specs.declared.interruption.Interruption.{Interruption}
 use Rattle.tcl_run.specs.declared.interruption.Interruption.TheVariants as interruption
 
--- What a loop does after a script of a turn ended so, with what comes behind: `after_body` or `after_next`.
+-- What a loop does after a script of a turn ended so, with what comes behind: `after_body` or
+-- `after_next`.
 abbrev pub After : Type 0
 After = ℤ → Completion → Program → Program
 

@@ -23,15 +23,18 @@ walks_at turns ws = map (walk_at turns) ws
 
 -- on with the walk that two words are
 abbrev pub reads_walk : Text → Text → (Walk → Program) → Program
-reads_walk names elements k = or_fails fault_message (list_of names) (λ xs. or_fails fault_message (list_of elements) (λ ys. walk_of xs ys k))
+reads_walk names elements k = or_fails fault_message (list_of names)
+    (λ xs. or_fails fault_message (list_of elements) (λ ys. walk_of xs ys k))
 
 -- the words, and a body behind them, are read as these walks
 abbrev pub ReadsWalks : List Text → List read.Walk → Type 0
-ReadsWalks words ws = (body : Text) (k : List Walk → Text → Program) → walks_of (words ++ body ∷ []) [] k ≡ k (map whole ws) body
+ReadsWalks words ws = (body : Text) (k : List Walk → Text → Program) →
+    walks_of (words ++ body ∷ []) [] k ≡ k (map whole ws) body
 
 -- they are refused, whatever the body
 abbrev pub MisreadsWalks : List Text → Reply → Type 0
-MisreadsWalks words e = (body : Text) (k : List Walk → Text → Program) → EndsBy (walks_of (words ++ body ∷ []) [] k) e
+MisreadsWalks words e = (body : Text) (k : List Walk → Text → Program) →
+    EndsBy (walks_of (words ++ body ∷ []) [] k) e
 
 -- two words are read as this walk
 abbrev pub ReadsWalk : Text → Text → read.Walk → Type 0
@@ -42,7 +45,8 @@ MisreadsWalk names elements e = (k : Walk → Program) → EndsBy (reads_walk na
 
 -- the words of a `foreach` that are read as walks, and its body
 abbrev pub IsForeach : List Text → List Text → Text → Type 0
-IsForeach args words body = (args ≡ words ++ body ∷ []) × (is_odd words ≡ false) × (2 ≤ length words)
+IsForeach args words body = (args ≡ words ++ body ∷ []) × (is_odd words ≡ false) ×
+    (2 ≤ length words)
 
 -- no words are those of a `foreach`
 abbrev pub IsNoForeach : List Text → Type 0

@@ -1,5 +1,6 @@
 -- What contracts see of words that are put together.
-use Rattle.std.specs.Prelude.{◌≡◌, ◌⊎◌, ◌≤◌, length, ℕ, Bool, true, false, List, [], ◌∷◌, ◌++◌, reverse, map, Result, Ok, Err}
+use Rattle.std.specs.Prelude.{◌≡◌, ◌⊎◌, ◌≤◌, length, ℕ, Bool, true, false, List, [], ◌∷◌, ◌++◌}
+use Rattle.std.specs.Prelude.{reverse, map, Result, Ok, Err}
 use Rattle.std.specs.String.{string_bytes}
 use Rattle.tcl_core.specs.Trees.{Node}
 use Rattle.tcl_core.specs.Endings.{Reply, ok}
@@ -49,10 +50,14 @@ AtOk (Err f) P = ⊥
 -- The innermost element is closed: the word goes on with the value added to the text before it.
 abbrev pub Closes : Node Own → List Open → List ℕ → List Open → List ℕ → Type 0
 Closes n [] key next all = ⊥
-Closes n (x ∷ xs) key next all = (next ≡ xs) × AtOk (read n.own.chain.frames (element_text x.name key)) (λ v. (fits (x.before ++ v) ≡ true) × (all ≡ x.before ++ v))
+Closes n (x ∷ xs) key next all = (next ≡ xs) ×
+    AtOk (read n.own.chain.frames (element_text x.name key))
+    (λ v. (fits (x.before ++ v) ≡ true) × (all ≡ x.before ++ v))
 
 -- It can't be closed, or what it comes to is too long.
 abbrev pub ClosesBy : Node Own → List Open → List ℕ → Reply → Type 0
 ClosesBy n [] key e = e ≡ Completed (ok key)
-ClosesBy n (x ∷ xs) key e = IsFailure frame_message (read n.own.chain.frames (element_text x.name key)) e
-    ⊎ AtOk (read n.own.chain.frames (element_text x.name key)) (λ v. (fits (x.before ++ v) ≡ false) × (e ≡ Completed too_long))
+ClosesBy n (x ∷ xs) key e = IsFailure frame_message
+    (read n.own.chain.frames (element_text x.name key)) e
+    ⊎ AtOk (read n.own.chain.frames (element_text x.name key))
+    (λ v. (fits (x.before ++ v) ≡ false) × (e ≡ Completed too_long))

@@ -67,13 +67,14 @@ pub fn settled(alloc: Global, ended: Result<Value, Interruption>) -> Result<Valu
     }
 }
 
-/// Tells the outside that a call came to its end, so many levels up and these names down from the caller, and gives how the caller is told it.
+/// Tells the outside that a call came to its end, so many levels up and these names down from the
+/// caller, and gives how the caller is told it.
 ///
 /// # Errors
 /// Every end but an ordinary one; want of memory.
 #[inline(never)]
 #[tactic(auto, using(tcl_run::proofs::Losing::losing))]
-pub fn come_back<O: Outside>(
+pub fn return_to_caller<O: Outside>(
     tree: &Tree,
     alloc: Global,
     outside: &mut O,
@@ -83,12 +84,14 @@ pub fn come_back<O: Outside>(
     ended: Result<Value, Interruption>,
 ) -> Result<Value, Interruption>
     requires { (p : Path) × Names tree.now caller p }
-    ensures comes { IfEnded result (λ r. (p a : Path) → Names tree.now caller p → rise_to (Some up) p ≡ Some a → ComesBack O.goes (tree_of tree.now) outside.old p up a down.now ended r outside.new) }
+    ensures comes { IfEnded result
+        (λ r. (p a : Path) → Names tree.now caller p → rise_to (Some up) p ≡ Some a →
+        ComesBack O.goes (tree_of tree.now) outside.old p up a down.now ended r outside.new) }
     ensures lost { IsLoss O.loses outside.old outside.new }
     ensures left { O.entries_left outside.new ≤ O.entries_left outside.old }
 {
     match stop_of(&ended) {
-        Some(stop) => stop_comes_back(tree, alloc, outside, caller, up, down, stop),
+        Some(stop) => return_stop_to_caller(tree, alloc, outside, caller, up, down, stop),
         None => {
             outside.returns(alloc, tree, caller, up, down, &ended, &ended)?;
             ended
@@ -109,7 +112,7 @@ fn stop_of(ended: &Result<Value, Interruption>) -> Option<Stop>
 
 /// Tells the outside that a call was ended by a stop, and gives the stop as the caller sees it.
 #[tactic(auto, using(tcl_run::proofs::Losing::losing))]
-fn stop_comes_back<O: Outside>(
+fn return_stop_to_caller<O: Outside>(
     tree: &Tree,
     alloc: Global,
     outside: &mut O,
@@ -119,19 +122,23 @@ fn stop_comes_back<O: Outside>(
     stop: Stop,
 ) -> Result<Value, Interruption>
     requires { (p : Path) × Names tree.now caller p }
-    ensures comes { IfEnded result (λ r. (p a : Path) → Names tree.now caller p → rise_to (Some up) p ≡ Some a → ComesBack O.goes (tree_of tree.now) outside.old p up a down.now (Err (Stopped stop)) r outside.new) }
+    ensures comes { IfEnded result
+        (λ r. (p a : Path) → Names tree.now caller p → rise_to (Some up) p ≡ Some a →
+        ComesBack O.goes (tree_of tree.now) outside.old p up a down.now (Err (Stopped stop)) r
+        outside.new) }
     ensures lost { IsLoss O.loses outside.old outside.new }
     ensures left { O.entries_left outside.new ≤ O.entries_left outside.old }
 {
     let ended = Err(Interruption::Stopped(stop));
-    let told = Err(told_stop(tree, alloc, caller, up, down, stop));
+    let told = Err(stop_for_caller(tree, alloc, caller, up, down, stop));
     outside.returns(alloc, tree, caller, up, down, &ended, &told)?;
     told
 }
 
-/// A stop as the caller sees it: where it doesn't stand below the interpreter that is full, an error.
-/// More levels than a number of the machine holds, which no tree has, are answered as want of memory.
-fn told_stop(
+/// A stop as the caller sees it: where it doesn't stand below the interpreter that is full, an
+/// error. More levels than a number of the machine holds, which no tree has, are answered as want
+/// of memory.
+fn stop_for_caller(
     tree: &Tree,
     alloc: Global,
     place: Place,
@@ -140,7 +147,8 @@ fn told_stop(
     stop: Stop,
 ) -> Interruption
     requires { (p : Path) × Names tree.now place p }
-    ensures { Interrupts result (λ e. (p : Path) → Names tree.now place p → e ≡ carried (Some up) p down.now (reply_of stop)) }
+    ensures { Interrupts result (λ e. (p : Path) → Names tree.now place p →
+        e ≡ carried (Some up) p down.now (reply_of stop)) }
 {
     let Ok(names) = tree.last_names(alloc, place, up) else {
         return Interruption::Memory;

@@ -21,7 +21,8 @@ use tcl_run::steps::known_short;
 use tcl_tree::tree::{Place, Tree};
 use tcl_value::value::{Value, ValueError};
 
-/// Sets the variables that `catch` names: the first to the text that was caught, the second to its options. (catch(n))
+/// Sets the variables that `catch` names: the first to the text that was caught, the second to its
+/// options. (catch(n))
 ///
 /// # Errors
 /// The first that can't be set; that the options are too long for a value; want of memory.
@@ -54,8 +55,12 @@ pub fn keep_caught(
 /// That it is too long for a value; want of memory.
 #[inline(never)]
 pub fn options_value(alloc: Global, completion: &Completion) -> Result<Value, Interruption>
-    ensures whole { IfOk result (λ value. (value ≡ options_text (completion_of completion.now)) × (fits (options_text (completion_of completion.now)) ≡ true)) }
-    ensures refused { IfErr result (λ i. Interrupts i (λ e. (fits (options_text (completion_of completion.now)) ≡ false) × (e ≡ Completed too_long_error))) }
+    ensures whole { IfOk result
+        (λ value. (value ≡ options_text (completion_of completion.now)) ×
+        (fits (options_text (completion_of completion.now)) ≡ true)) }
+    ensures refused { IfErr result
+        (λ i. Interrupts i (λ e. (fits (options_text (completion_of completion.now)) ≡ false) ×
+        (e ≡ Completed too_long_error))) }
 {
     match caught_options(alloc, completion) {
         Ok(value) => Ok(known_short(value)),

@@ -24,7 +24,8 @@ use tcl_text::integer::Integers;
 use tcl_tree::tree::Tree;
 use tcl_value::value::Value;
 
-/// Reads a value as an expression, in a style of integers: anew only where its text wasn't read before in the tree. (expr(n))
+/// Reads a value as an expression, in a style of integers: anew only where its text wasn't read
+/// before in the tree. (expr(n))
 ///
 /// # Errors
 /// Why its text is no expression; want of memory.
@@ -36,7 +37,8 @@ pub fn read_expression(
     value: &Value,
 ) -> Result<Rc<ExprTree>, Interruption>
     ensures read { IfOk result (λ kept. IsKept style value.now kept.value) }
-    ensures refused { IfErr result (λ i. Interrupts i (IsFailure (message_of value.now) (expression_of style value.now))) }
+    ensures refused { IfErr result
+        (λ i. Interrupts i (IsFailure (message_of value.now) (expression_of style value.now))) }
 {
     let value = known_short(value.clone()?);
     let text = value.text(alloc)?;
@@ -72,8 +74,11 @@ pub fn next_part<'t>(
     kept: &'t ExprTree,
     style: Integers,
 ) -> Result<Progress<'t>, Interruption>
-    ensures nearer { IsNearer result (length kept.now.nodes.items - evaluation.old.next) (length kept.now.nodes.items - evaluation.new.next) }
-    ensures gives { GivesPart result (from style kept.now.nodes.items evaluation.old.next evaluation.old.values.items) (λ v. from style kept.now.nodes.items evaluation.new.next (evaluation.new.values.items ++ v ∷ [])) }
+    ensures nearer { IsNearer result (length kept.now.nodes.items - evaluation.old.next)
+        (length kept.now.nodes.items - evaluation.new.next) }
+    ensures gives { GivesPart result (from style kept.now.nodes.items evaluation.old.next
+        evaluation.old.values.items) (λ v. from style kept.now.nodes.items evaluation.new.next
+        (evaluation.new.values.items ++ v ∷ [])) }
 {
     match evaluation.advance(alloc, kept, style) {
         Ok(progress) => Ok(progress),

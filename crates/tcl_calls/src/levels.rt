@@ -27,7 +27,9 @@ use tcl_variables::fault::FrameError;
 /// That it names none; want of memory.
 fn named_level(tree: &Tree, alloc: Global, place: Place, word: &str) -> Result<usize, Interruption>
     requires { (p : Path) × Names tree.now place p }
-    ensures { (p : Path) (n : core.Node Own) → Names tree.now place p → tree_of tree.now p ≡ Some n → Gave itself (level_at_node (marks_of tree.now).integers n word.now) result }
+    ensures { (p : Path) (n : core.Node Own) → Names tree.now place p →
+        tree_of tree.now p ≡ Some n → Gave itself
+        (level_at_node (marks_of tree.now).integers n word.now) result }
 {
     let Some(node) = tree.node_at(place) else {
         return Err(Interruption::Memory);
@@ -77,7 +79,8 @@ fn is_level(word: &[u8]) -> bool
     some_digits(word)
 }
 
-/// The level that the words of an `uplevel` name, which is that of the caller where none is named, and the words that are its script. (uplevel(n))
+/// The level that the words of an `uplevel` name, which is that of the caller where none is named,
+/// and the words that are its script. (uplevel(n))
 ///
 /// # Errors
 /// That there are no words; that there is no such level; want of memory.
@@ -89,7 +92,11 @@ pub fn script_level<'w>(
     args: &'w [Value],
 ) -> Result<(usize, &'w [Value]), Interruption>
     requires { (p : Path) × Names tree.now place p }
-    ensures { (p : Path) (n : core.Node Own) → Names tree.now place p → tree_of tree.now p ≡ Some n → MatchResult result (λ x. script_level (marks_of tree.now).integers n args.now ≡ Ok (x.0, x.1.now)) (λ i. Interrupts i (IsFailure itself (script_level (marks_of tree.now).integers n args.now))) }
+    ensures { (p : Path) (n : core.Node Own) → Names tree.now place p →
+        tree_of tree.now p ≡ Some n → MatchResult result
+        (λ x. script_level (marks_of tree.now).integers n args.now ≡ Ok (x.0, x.1.now))
+        (λ i. Interrupts i (IsFailure itself
+        (script_level (marks_of tree.now).integers n args.now))) }
 {
     let [word, rest @ ..] = args else {
         return Err(wrong_args(alloc, "uplevel ?level? arg ?arg ...?"));
@@ -113,7 +120,9 @@ pub fn set_aside(
     level: usize,
 ) -> Result<(), Interruption>
     requires { (p : Path) × Names tree.old place p }
-    ensures aside { OnOk result ((p : Path) (n : core.Node Own) → Names tree.old place p → tree_of tree.old p ≡ Some n → tree_of tree.new ≡ effect p (Changed (at_level level n.own)) (tree_of tree.old)) }
+    ensures aside { OnOk result ((p : Path) (n : core.Node Own) → Names tree.old place p →
+        tree_of tree.old p ≡ Some n → tree_of tree.new
+        ≡ effect p (Changed (at_level level n.own)) (tree_of tree.old)) }
     ensures memory { IfErr result (λ i. i ≡ Memory) }
     ensures level { IsLevel tree.old tree.new }
 {
@@ -131,7 +140,9 @@ pub fn set_aside(
 #[inline(never)]
 pub fn bring_back(tree: &mut Tree, place: Place)
     requires { (p : Path) × Names tree.old place p }
-    ensures back { (p : Path) (n : core.Node Own) → Names tree.old place p → tree_of tree.old p ≡ Some n → tree_of tree.new ≡ effect p (Changed (level_over n.own)) (tree_of tree.old) }
+    ensures back { (p : Path) (n : core.Node Own) → Names tree.old place p →
+        tree_of tree.old p ≡ Some n → tree_of tree.new
+        ≡ effect p (Changed (level_over n.own)) (tree_of tree.old) }
     ensures level { IsLevel tree.old tree.new }
 {
     match tree.frames_of(place) {

@@ -1,5 +1,5 @@
-//! What calls of commands are put together from: the words of a command, the command that its first word names, and the frame of a
-//! procedure.
+//! What calls of commands are put together from: the words of a command, the command that its first
+//! word names, and the frame of a procedure.
 #![tactic(auto)]
 
 pub mod branches;

@@ -27,7 +27,8 @@ fn plain(name: Text) -> Option<Text>
     Some(name)
 }
 
-/// The name by which a command is kept that is called so, if one can be: two leading colons name the global level, which is the only one.
+/// The name by which a command is kept that is called so, if one can be: two leading colons name
+/// the global level, which is the only one.
 ///
 /// # Errors
 /// Want of memory.
@@ -50,7 +51,8 @@ pub fn find_command(
     place: Place,
     word: &Value,
 ) -> Result<Command, Interruption>
-    ensures { (p : Path) (n : core.Node Own) → Names tree.now place p → tree_of tree.now p ≡ Some n → Gave itself (found n word.now) result }
+    ensures { (p : Path) (n : core.Node Own) → Names tree.now place p →
+        tree_of tree.now p ≡ Some n → Gave itself (found n word.now) result }
 {
     let Some(name) = kept_name(alloc, word)? else {
         return Err(bad_name(alloc, word.text(alloc)?.as_str()));
@@ -69,7 +71,8 @@ pub fn find_hidden(
     place: Place,
     word: &Value,
 ) -> Result<Command, Interruption>
-    ensures { (p : Path) (n : core.Node Own) → Names tree.now place p → tree_of tree.now p ≡ Some n → Gave itself (hidden_found n word.now) result }
+    ensures { (p : Path) (n : core.Node Own) → Names tree.now place p →
+        tree_of tree.now p ≡ Some n → Gave itself (hidden_found n word.now) result }
 {
     let name = word.text(alloc)?;
     match tree.hidden_at(place, &name) {

@@ -1,12 +1,15 @@
 //! Calls of procedures.
-ghost use Rattle.std.specs.Prelude.{◌≡◌, ◌++◌, ◌∷◌, [], true, false, IfOk, IfErr, OnOk, Some, None, option_map};
+ghost use Rattle.std.specs.Prelude.{◌≡◌, ◌++◌, ◌∷◌, [], true, false, IfOk, IfErr, OnOk, Some, None};
+ghost use Rattle.std.specs.Prelude.{option_map};
 ghost use Rattle.std.specs.String.{string_bytes};
 ghost use Rattle.tcl_core.specs.Endings.Reply.{Completed};
 ghost use Rattle.tcl_core.specs.Paths.{Path};
 ghost use Rattle.tcl_core.specs.Trees as core;
 ghost use Rattle.tcl_core.specs.Trees.{effect};
 ghost use Rattle.tcl_core.specs.Trees.What.{Changed};
-ghost use Rattle.tcl_language.specs.Control.{last_bound, bindings, bound, in_frame, out_of_frame, fit_all, parameter_form, last_form, parameters_form, proc_form, is_rest};
+ghost use Rattle.tcl_language.specs.Control.{last_bound, bindings, bound, in_frame, out_of_frame};
+ghost use Rattle.tcl_language.specs.Control.{fit_all, parameter_form, last_form, parameters_form};
+ghost use Rattle.tcl_language.specs.Control.{proc_form, is_rest};
 ghost use Rattle.tcl_language.specs.Instructions.{too_long as too_long_error, fits};
 ghost use Rattle.tcl_language.specs.Faults as faults;
 ghost use Rattle.tcl_run.specs.Ends.{Interrupts, failing};
@@ -15,7 +18,8 @@ ghost use Rattle.tcl_tree.specs.Own.{Own};
 ghost use Rattle.tcl_tree.specs.TreeOf.{tree_of, Names};
 ghost use Rattle.tcl_run.specs.declared.interruption.Interruption.TheVariants.{Memory};
 ghost use Rattle.tcl_text.specs.Writing.{written_list};
-ghost use Rattle.tcl_calls.specs.Procedures.{form_of, pairs_of, joined, next_bound, Bound, IsBoundTo, TooLongBound};
+ghost use Rattle.tcl_calls.specs.Procedures.{form_of, pairs_of, joined, next_bound, Bound};
+ghost use Rattle.tcl_calls.specs.Procedures.{IsBoundTo, TooLongBound};
 
 use std::alloc::{AllocError, Global};
 use tcl_frames::frames::Frames;
@@ -62,7 +66,10 @@ pub fn enter_frame(
     bindings: &[Binding],
 ) -> Result<(), Interruption>
     requires { (p : Path) × Names tree.old place p }
-    ensures entered { OnOk result ((p : Path) (n : core.Node Own) → Names tree.old place p → tree_of tree.old p ≡ Some n → tree_of tree.new ≡ effect p (Changed (in_frame words.items (pairs_of bindings.now) n.own)) (tree_of tree.old)) }
+    ensures entered { OnOk result ((p : Path) (n : core.Node Own) → Names tree.old place p →
+        tree_of tree.old p ≡ Some n → tree_of tree.new
+        ≡ effect p (Changed (in_frame words.items (pairs_of bindings.now) n.own))
+        (tree_of tree.old)) }
     ensures memory { IfErr result (λ i. i ≡ Memory) }
     ensures level { IsLevel tree.old tree.new }
 {
@@ -77,7 +84,9 @@ pub fn enter_frame(
 #[inline(never)]
 pub fn leave_frame(tree: &mut Tree, place: Place)
     requires { (p : Path) × Names tree.old place p }
-    ensures left { (p : Path) (n : core.Node Own) → Names tree.old place p → tree_of tree.old p ≡ Some n → tree_of tree.new ≡ effect p (Changed (out_of_frame n.own)) (tree_of tree.old) }
+    ensures left { (p : Path) (n : core.Node Own) → Names tree.old place p →
+        tree_of tree.old p ≡ Some n → tree_of tree.new
+        ≡ effect p (Changed (out_of_frame n.own)) (tree_of tree.old) }
     ensures level { IsLevel tree.old tree.new }
 {
     match tree.frames_of(place) {
@@ -86,16 +95,20 @@ pub fn leave_frame(tree: &mut Tree, place: Place)
     }
 }
 
-/// What the parameters of a call are bound to, from the left: a word, or the default where none is left. A last `args` takes the list of
-/// what is left. None where words are too few or too many. (proc(n))
+/// What the parameters of a call are bound to, from the left: a word, or the default where none is
+/// left. A last `args` takes the list of what is left. None where words are too few or too many.
+/// (proc(n))
 #[inline(never)]
 pub fn bind(
     alloc: Global,
     parameters: &[Parameter],
     args: &[Value],
 ) -> Result<Option<Vec<Binding>>, Interruption>
-    ensures bound { IfOk result (λ found. Bound (option_map (λ v. pairs_of v.items) found) (bindings parameters.now args.now)) }
-    ensures refused { IfErr result (λ i. Interrupts i (λ e. TooLongBound (bindings parameters.now args.now) e)) }
+    ensures bound { IfOk result
+        (λ found. Bound (option_map (λ v. pairs_of v.items) found)
+        (bindings parameters.now args.now)) }
+    ensures refused { IfErr result
+        (λ i. Interrupts i (λ e. TooLongBound (bindings parameters.now args.now) e)) }
 {
     let mut made = Vec::new(alloc);
     let mut rest = parameters;
@@ -124,7 +137,8 @@ fn next_value<'a>(
     parameter: &Parameter,
     left: &'a [Value],
 ) -> Result<Option<(Value, &'a [Value])>, AllocError>
-    ensures { IfOk result (λ found. option_map (λ x. (x.0, x.1.now)) found ≡ next_bound parameter.now.default left.now) }
+    ensures { IfOk result (λ found. option_map
+        (λ x. (x.0, x.1.now)) found ≡ next_bound parameter.now.default left.now) }
 {
     match left {
         [word, others @ ..] => Ok(Some((word.clone()?, others))),
@@ -143,8 +157,14 @@ fn bind_last(
     left: &[Value],
 ) -> Result<Option<Vec<Binding>>, Interruption>
     requires { fit_all (pairs_of made.items) ≡ true }
-    ensures bound { IfOk result (λ found. Bound (option_map (λ v. pairs_of v.items) found) (joined (pairs_of made.items) (last_bound (is_rest parameter.now.name) parameter.now left.now))) }
-    ensures refused { IfErr result (λ i. Interrupts i (λ e. TooLongBound (joined (pairs_of made.items) (last_bound (is_rest parameter.now.name) parameter.now left.now)) e)) }
+    ensures bound { IfOk result
+        (λ found. Bound (option_map (λ v. pairs_of v.items) found)
+        (joined (pairs_of made.items) (last_bound (is_rest parameter.now.name) parameter.now
+        left.now))) }
+    ensures refused { IfErr result
+        (λ i. Interrupts i (λ e. TooLongBound
+        (joined (pairs_of made.items) (last_bound (is_rest parameter.now.name) parameter.now
+        left.now)) e)) }
 {
     let Some(value) = last_value(alloc, parameter, left)? else {
         return Ok(None);
@@ -163,8 +183,12 @@ fn last_value(
     parameter: &Parameter,
     left: &[Value],
 ) -> Result<Option<Value>, Interruption>
-    ensures bound { IfOk result (λ found. IsBoundTo parameter.now found (last_bound (is_rest parameter.now.name) parameter.now left.now)) }
-    ensures refused { IfErr result (λ i. Interrupts i (λ e. TooLongBound (last_bound (is_rest parameter.now.name) parameter.now left.now) e)) }
+    ensures bound { IfOk result
+        (λ found. IsBoundTo parameter.now found
+        (last_bound (is_rest parameter.now.name) parameter.now left.now)) }
+    ensures refused { IfErr result
+        (λ i. Interrupts i (λ e. TooLongBound
+        (last_bound (is_rest parameter.now.name) parameter.now left.now) e)) }
 {
     if parameter.name.as_str() == "args" {
         return Ok(Some(list_value(alloc, left)?));
@@ -182,7 +206,9 @@ fn last_value(
 /// The list of these words.
 fn list_value(alloc: Global, words: &[Value]) -> Result<Value, Interruption>
     ensures made { IfOk result (λ value. value ≡ written_list words.now) }
-    ensures refused { IfErr result (λ i. Interrupts i (λ e. (fits (written_list words.now) ≡ false) × (e ≡ Completed too_long_error))) }
+    ensures refused { IfErr result
+        (λ i. Interrupts i (λ e. (fits (written_list words.now) ≡ false) ×
+        (e ≡ Completed too_long_error))) }
 {
     match list(alloc, words) {
         Ok(value) => Ok(value),
@@ -193,7 +219,8 @@ fn list_value(alloc: Global, words: &[Value]) -> Result<Value, Interruption>
 /// The error of a call with too few or too many words.
 #[inline(never)]
 pub fn wrong_form(alloc: Global, word: &Value, parameters: &[Parameter]) -> Interruption
-    ensures { Interrupts result (λ e. e ≡ Completed (failing (faults.wrong_args (proc_form word.now parameters.now)))) }
+    ensures { Interrupts result (λ e. e
+        ≡ Completed (failing (faults.wrong_args (proc_form word.now parameters.now)))) }
 {
     match form(alloc, word, parameters) {
         Ok(form) => wrong_args(alloc, form.as_str()),
@@ -221,7 +248,8 @@ fn add_form(
     parameter: &Parameter,
     is_last: bool,
 ) -> Result<(), AllocError>
-    ensures { OnOk result (string_bytes form.new ≡ string_bytes form.old ++ 32 ∷ form_of is_last parameter.now) }
+    ensures { OnOk result
+        (string_bytes form.new ≡ string_bytes form.old ++ 32 ∷ form_of is_last parameter.now) }
 {
     form.push_str(" ")?;
     if is_last && parameter.name.as_str() == "args" {

@@ -11,14 +11,18 @@ use tcl_run::failure::refused;
 use tcl_run::interruption::Interruption;
 use tcl_value::value::Value;
 
-/// The script that words are put together to, as `concat` puts them: trimmed of white space, with a space between any two. (concat(n))
+/// The script that words are put together to, as `concat` puts them: trimmed of white space, with a
+/// space between any two. (concat(n))
 ///
 /// # Errors
 /// That it is too long for a value; want of memory.
 #[inline(never)]
 pub fn script_of(alloc: Global, words: &[Value]) -> Result<Value, Interruption>
-    ensures whole { IfOk result (λ text. (text ≡ concatenated words.now) × (fits (concatenated words.now) ≡ true)) }
-    ensures refused { IfErr result (λ i. Interrupts i (λ e. (fits (concatenated words.now) ≡ false) × (e ≡ Completed too_long_error))) }
+    ensures whole { IfOk result
+        (λ text. (text ≡ concatenated words.now) × (fits (concatenated words.now) ≡ true)) }
+    ensures refused { IfErr result
+        (λ i. Interrupts i (λ e. (fits (concatenated words.now) ≡ false) ×
+        (e ≡ Completed too_long_error))) }
 {
     match concat(alloc, words) {
         Ok(script) => Ok(script),

@@ -7,7 +7,8 @@ use tcl_flow::completion::{BREAK, CONTINUE, OK};
 use tcl_run::interruption::Interruption;
 use tcl_value::value::Value;
 
-/// Whether a loop goes on after its body ended so: it does after an ordinary end and a `continue`, and is over after a `break`. (while(n))
+/// Whether a loop goes on after its body ended so: it does after an ordinary end and a `continue`,
+/// and is over after a `break`. (while(n))
 ///
 /// # Errors
 /// Every other end, which is the loop's own.
@@ -30,7 +31,8 @@ pub fn goes_on(ended: Result<Value, Interruption>) -> Result<bool, Interruption>
     }
 }
 
-/// Whether a loop goes on after the script between two turns ended so: it does after an ordinary end alone, and is over after a `break`. (for(n))
+/// Whether a loop goes on after the script between two turns ended so: it does after an ordinary
+/// end alone, and is over after a `break`. (for(n))
 ///
 /// # Errors
 /// Every other end, which is the loop's own, a `continue` too.

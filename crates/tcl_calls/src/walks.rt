@@ -1,5 +1,6 @@
 //! The lists that `foreach` walks through.
-ghost use Rattle.std.specs.Prelude.{◌≡◌, ◌+◌, ◌*◌, [], false, drop, get_or, length, IfOk, IfErr, MatchOption};
+ghost use Rattle.std.specs.Prelude.{◌≡◌, ◌+◌, ◌*◌, [], false, drop, get_or, length, IfOk, IfErr};
+ghost use Rattle.std.specs.Prelude.{MatchOption};
 ghost use Rattle.tcl_core.specs.Paths.{Path};
 ghost use Rattle.tcl_language.specs.Control.{is_over, sets_names, sets_walks};
 ghost use Rattle.tcl_language.specs.Variables.{is_odd};
@@ -7,7 +8,8 @@ ghost use Rattle.tcl_run.specs.Ends.{Interrupts};
 ghost use Rattle.tcl_run.specs.Plain.{Steps};
 ghost use Rattle.tcl_run.specs.Runs.{IsLevel};
 ghost use Rattle.tcl_tree.specs.TreeOf.{Names};
-ghost use Rattle.tcl_calls.specs.Walks.{walks_at, IsForeach, IsNoForeach, MisreadsWalk, MisreadsWalks, ReadsWalk, ReadsWalks};
+ghost use Rattle.tcl_calls.specs.Walks.{walks_at, IsForeach, IsNoForeach, MisreadsWalk};
+ghost use Rattle.tcl_calls.specs.Walks.{MisreadsWalks, ReadsWalk, ReadsWalks};
 
 use crate::setting::set_named;
 use std::alloc::{AllocError, Global};
@@ -28,7 +30,8 @@ pub struct Walk {
     pub elements: List,
 }
 
-/// The words of a `foreach` that are read as walks, and its body, if the number of words is that of a `foreach`. (foreach(n))
+/// The words of a `foreach` that are read as walks, and its body, if the number of words is that of
+/// a `foreach`. (foreach(n))
 #[inline(never)]
 pub fn loop_words(args: &[Value]) -> Option<(&[Value], &Value)>
     ensures { MatchOption result (IsNoForeach args.now) (λ x. IsForeach args.now x.0.now x.1.now) }
@@ -42,7 +45,8 @@ pub fn loop_words(args: &[Value]) -> Option<(&[Value], &Value)>
     Some((words, body))
 }
 
-/// The element behind so many turns of so many elements, and so many more; the empty text where there is none.
+/// The element behind so many turns of so many elements, and so many more; the empty text where
+/// there is none.
 fn element_at(list: &List, turns: usize, count: usize, more: usize) -> Result<Value, AllocError>
     ensures { IfOk result (λ value. value ≡ get_or list.now (turns * count + more) []) }
 {
@@ -100,7 +104,8 @@ pub fn is_over(walks: &[Walk], turns: usize) -> bool
     true
 }
 
-/// Sets the variables of a walk to the elements that come next after so many turns, and to the empty text where none is left.
+/// Sets the variables of a walk to the elements that come next after so many turns, and to the
+/// empty text where none is left.
 ///
 /// # Errors
 /// Why the first that can't be set can't; want of memory.
@@ -112,7 +117,9 @@ fn set_walk(
     turns: usize,
 ) -> Result<(), Interruption>
     requires { (p : Path) × Names tree.old place p }
-    ensures set { Steps tree.old place (λ k. sets_names walk.now.names (drop (turns * length walk.now.names) walk.now.elements) (λ left. k)) tree.new result }
+    ensures set { Steps tree.old place
+        (λ k. sets_names walk.now.names (drop (turns * length walk.now.names) walk.now.elements)
+        (λ left. k)) tree.new result }
     ensures level { IsLevel tree.old tree.new }
 {
     let count = walk.names.len();
@@ -137,7 +144,8 @@ pub fn set_walks(
     turns: usize,
 ) -> Result<(), Interruption>
     requires { (p : Path) × Names tree.old place p }
-    ensures set { Steps tree.old place (λ k. sets_walks (walks_at turns walks.now) (λ rest. k)) tree.new result }
+    ensures set { Steps tree.old place
+        (λ k. sets_walks (walks_at turns walks.now) (λ rest. k)) tree.new result }
     ensures level { IsLevel tree.old tree.new }
 {
     'walks: for walk in walks {

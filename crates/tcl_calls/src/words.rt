@@ -1,5 +1,6 @@
 //! Words, while they are put together.
-ghost use Rattle.std.specs.Prelude.{◌≡◌, ◌++◌, ◌∷◌, [], true, false, Some, MatchResult, IfOk, OnOk, IfErr};
+ghost use Rattle.std.specs.Prelude.{◌≡◌, ◌++◌, ◌∷◌, [], true, false, Some, MatchResult, IfOk, OnOk};
+ghost use Rattle.std.specs.Prelude.{IfErr};
 ghost use Rattle.std.specs.String.{string_bytes};
 ghost use Rattle.tcl_core.specs.Paths.{Path};
 ghost use Rattle.tcl_core.specs.Trees as core;
@@ -80,8 +81,11 @@ fn add_elements(list: &List, words: &mut Vec<Value>) -> Result<(), AllocError>
 /// Adds to a word's text.
 #[inline(never)]
 pub fn append(alloc: Global, text: &mut String, more: &str) -> Result<(), Interruption>
-    ensures added { OnOk result ((fits (string_bytes text.old ++ more.now) ≡ true) × (string_bytes text.new ≡ string_bytes text.old ++ more.now)) }
-    ensures refused { IfErr result (λ i. Interrupts i (λ e. (fits (string_bytes text.old ++ more.now) ≡ false) × (e ≡ Completed too_long_error))) }
+    ensures added { OnOk result ((fits (string_bytes text.old ++ more.now) ≡ true) ×
+        (string_bytes text.new ≡ string_bytes text.old ++ more.now)) }
+    ensures refused { IfErr result
+        (λ i. Interrupts i (λ e. (fits (string_bytes text.old ++ more.now) ≡ false) ×
+        (e ≡ Completed too_long_error))) }
     ensures short { OnOk result (IsShort (string_bytes text.new)) }
 {
     if more.len() > MOST_BYTES.saturating_sub(text.len()) || text.len() > MOST_BYTES {
@@ -94,8 +98,11 @@ pub fn append(alloc: Global, text: &mut String, more: &str) -> Result<(), Interr
 /// Adds a value to a word's text.
 #[inline(never)]
 pub fn append_value(alloc: Global, text: &mut String, value: &Value) -> Result<(), Interruption>
-    ensures added { OnOk result ((fits (string_bytes text.old ++ value.now) ≡ true) × (string_bytes text.new ≡ string_bytes text.old ++ value.now)) }
-    ensures refused { IfErr result (λ i. Interrupts i (λ e. (fits (string_bytes text.old ++ value.now) ≡ false) × (e ≡ Completed too_long_error))) }
+    ensures added { OnOk result ((fits (string_bytes text.old ++ value.now) ≡ true) ×
+        (string_bytes text.new ≡ string_bytes text.old ++ value.now)) }
+    ensures refused { IfErr result
+        (λ i. Interrupts i (λ e. (fits (string_bytes text.old ++ value.now) ≡ false) ×
+        (e ≡ Completed too_long_error))) }
     ensures short { OnOk result (IsShort (string_bytes text.new)) }
 {
     if value.text_len() > MOST_BYTES.saturating_sub(text.len()) || text.len() > MOST_BYTES {
@@ -109,7 +116,8 @@ pub fn append_value(alloc: Global, text: &mut String, value: &Value) -> Result<(
 #[inline(never)]
 pub fn within(alloc: Global, text: Text) -> Result<Value, Interruption>
     ensures whole { IfOk result (λ value. (value ≡ text) × (fits text ≡ true)) }
-    ensures refused { IfErr result (λ i. Interrupts i (λ e. (fits text ≡ false) × (e ≡ Completed too_long_error))) }
+    ensures refused { IfErr result
+        (λ i. Interrupts i (λ e. (fits text ≡ false) × (e ≡ Completed too_long_error))) }
 {
     match Value::from_text(text) {
         Ok(value) => Ok(value),
@@ -125,7 +133,8 @@ pub fn open_element(
     elements: &mut Vec<OpenElement>,
     text: &mut String,
 ) -> Result<(), Interruption>
-    ensures opened { OnOk result (opens elements.new.items ≡ record { name = name.now; before = string_bytes text.old } ∷ opens elements.old.items) }
+    ensures opened { OnOk result (opens elements.new.items
+        ≡ record { name = name.now; before = string_bytes text.old } ∷ opens elements.old.items) }
     ensures empty { OnOk result (string_bytes text.new ≡ []) }
     ensures memory { IfErr result (λ i. i ≡ Memory) }
 {
@@ -170,8 +179,13 @@ pub fn close_element(
     text: &mut String,
 ) -> Result<(), Interruption>
     requires { IsShort (string_bytes text.old) }
-    ensures closes { OnOk result ((p : Path) (n : core.Node Own) → Names tree.now place p → tree_of tree.now p ≡ Some n → Closes n (opens elements.old.items) (string_bytes text.old) (opens elements.new.items) (string_bytes text.new)) }
-    ensures refused { IfErr result (λ i. Interrupts i (λ e. (p : Path) (n : core.Node Own) → Names tree.now place p → tree_of tree.now p ≡ Some n → ClosesBy n (opens elements.old.items) (string_bytes text.old) e)) }
+    ensures closes { OnOk result ((p : Path) (n : core.Node Own) → Names tree.now place p →
+        tree_of tree.now p ≡ Some n → Closes n (opens elements.old.items) (string_bytes text.old)
+        (opens elements.new.items) (string_bytes text.new)) }
+    ensures refused { IfErr result
+        (λ i. Interrupts i (λ e. (p : Path) (n : core.Node Own) → Names tree.now place p →
+        tree_of tree.now p ≡ Some n → ClosesBy n (opens elements.old.items) (string_bytes text.old)
+        e)) }
     ensures short { OnOk result (IsShort (string_bytes text.new)) }
 {
     let Some(element) = elements.pop() else {

@@ -1,9 +1,11 @@
 -- Classes of characters.
 use Rattle.std.specs.Prelude.{ℕ, Bool}
-use Rattle.std.specs.Char.{is_ascii_alphabetic, is_ascii_digit, is_ascii_alphanumeric, is_ascii_uppercase, is_ascii_lowercase, is_ascii_hexdigit}
+use Rattle.std.specs.Char.{is_ascii_alphabetic, is_ascii_digit, is_ascii_alphanumeric}
+use Rattle.std.specs.Char.{is_ascii_uppercase, is_ascii_lowercase, is_ascii_hexdigit}
 use Rattle.tcl_text.specs.Lists.{is_white}
 use Rattle.tcl_characters.specs.declared.classes.Class.{Class}
-use Rattle.tcl_characters.specs.declared.classes.Class.TheVariants.{Alpha, Digit, Alnum, Upper, Lower, Space, Xdigit}
+use Rattle.tcl_characters.specs.declared.classes.Class.TheVariants.{Alpha, Digit, Alnum, Upper}
+use Rattle.tcl_characters.specs.declared.classes.Class.TheVariants.{Lower, Space, Xdigit}
 
 -- whether a character is of a class; white space is that of lists
 abbrev pub is_member : Class → ℕ → Bool

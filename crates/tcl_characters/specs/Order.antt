@@ -3,7 +3,8 @@ use Rattle.std.specs.Prelude.{ℕ, ◌==◌, nat_lt, if◌then◌else◌, List, 
 use Rattle.std.specs.declared.cmp.Ordering.{Ordering}
 use Rattle.std.specs.declared.cmp.Ordering.TheVariants.{Less, Equal, Greater}
 
--- By the numbers of the first characters in which they differ; a text comes before one that goes on behind it.
+-- By the numbers of the first characters in which they differ; a text comes before one that goes on
+-- behind it.
 abbrev pub order : List ℕ → List ℕ → Ordering
 order [] [] = Equal
 order [] (b ∷ bs) = Less

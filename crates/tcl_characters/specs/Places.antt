@@ -1,5 +1,6 @@
 -- Where characters stand in others.
-use Rattle.std.specs.Prelude.{ℕ, suc, ◌+◌, ◌≡◌, ◌==◌, ◌&&◌, Bool, true, false, if◌then◌else◌, List, [], ◌∷◌, ◌++◌, length, take, drop, Some, None}
+use Rattle.std.specs.Prelude.{ℕ, suc, ◌+◌, ◌≡◌, ◌==◌, ◌&&◌, Bool, true, false, if◌then◌else◌, List}
+use Rattle.std.specs.Prelude.{[], ◌∷◌, ◌++◌, length, take, drop, Some, None}
 use Rattle.std.specs.declared.option.Option.{Option}
 
 -- whether characters begin with others, those of a needle
@@ -11,7 +12,8 @@ begins (n ∷ ns) (c ∷ cs) = n == c && begins ns cs
 -- the first place, counted from k, at which a needle stands
 abbrev pub first_from : List ℕ → List ℕ → ℕ → Option ℕ
 first_from needle [] k = None
-first_from needle (c ∷ cs) k = if begins needle (c ∷ cs) then Some k else first_from needle cs (suc k)
+first_from needle (c ∷ cs) k = if begins needle (c ∷ cs) then Some k else first_from needle cs
+    (suc k)
 
 abbrev pub later : Option ℕ → Option ℕ → Option ℕ
 later (Some j) here = Some j
@@ -20,7 +22,8 @@ later None here = here
 -- the last place, counted from k, at which a needle stands
 abbrev pub last_from : List ℕ → List ℕ → ℕ → Option ℕ
 last_from needle [] k = None
-last_from needle (c ∷ cs) k = later (last_from needle cs (suc k)) (if begins needle (c ∷ cs) then Some k else None)
+last_from needle (c ∷ cs) k = later (last_from needle cs (suc k))
+    (if begins needle (c ∷ cs) then Some k else None)
 
 -- The least place from `start` on at which the needle stands. An empty needle stands nowhere.
 abbrev pub first_place : List ℕ → List ℕ → ℕ → Option ℕ

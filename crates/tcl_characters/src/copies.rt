@@ -38,7 +38,8 @@ pub fn reverse(alloc: Global, text: &str) -> Result<String, AllocError>
 /// # Errors
 /// Want of memory.
 pub fn to_lower(alloc: Global, text: &str) -> Result<String, AllocError>
-    ensures { IfOk result (λ made. string_bytes made ≡ text_of (map to_ascii_lowercase (chars text.now))) }
+    ensures { IfOk result (λ made. string_bytes made
+        ≡ text_of (map to_ascii_lowercase (chars text.now))) }
 {
     text.chars().map(|c| c.to_ascii_lowercase()).collect(alloc)
 }
@@ -48,7 +49,8 @@ pub fn to_lower(alloc: Global, text: &str) -> Result<String, AllocError>
 /// # Errors
 /// Want of memory.
 pub fn to_upper(alloc: Global, text: &str) -> Result<String, AllocError>
-    ensures { IfOk result (λ made. string_bytes made ≡ text_of (map to_ascii_uppercase (chars text.now))) }
+    ensures { IfOk result (λ made. string_bytes made
+        ≡ text_of (map to_ascii_uppercase (chars text.now))) }
 {
     text.chars().map(|c| c.to_ascii_uppercase()).collect(alloc)
 }

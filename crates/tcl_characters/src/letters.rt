@@ -6,7 +6,8 @@ ghost use Rattle.std.specs.Char.{encode_utf8};
 /// The first character of a text, as a text, and what follows it.
 pub(crate) fn split_first(text: &str) -> Option<(&str, &str)>
     ensures { MatchOption result (chars text.now ≡ [])
-        (λ found. (c : ℕ) × (chars text.now ≡ c ∷ chars found.1.now) × (found.0.now ≡ encode_utf8 c)) }
+        (λ found. (c : ℕ) × (chars text.now ≡ c ∷ chars found.1.now) ×
+        (found.0.now ≡ encode_utf8 c)) }
 {
     let mut characters = text.chars();
     characters.next()?;

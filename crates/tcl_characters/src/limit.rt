@@ -41,12 +41,14 @@ impl<T: Drop> From<AllocFailed<T>> for LimitError {
 /// Adds to the end of a text.
 ///
 /// # Errors
-/// `TooLong` where it would be longer than [`MOST_BYTES`]; want of memory. Either leaves it as it was.
+/// `TooLong` where it would be longer than [`MOST_BYTES`]; want of memory. Either leaves it as it
+/// was.
 pub fn append(made: &mut String, more: &str) -> Result<(), LimitError>
     requires { length (string_bytes made.old) ≤ 16777216 }
     ensures appended { OnOk result (string_bytes made.new ≡ string_bytes made.old ++ more.now) }
     ensures within { OnOk result (length (string_bytes made.new) ≤ 16777216) }
-    ensures refused { IsErrOf result LimitError.TooLong → 16777216 < length (string_bytes made.old) + length more.now }
+    ensures refused { IsErrOf result LimitError.TooLong →
+        16777216 < length (string_bytes made.old) + length more.now }
     ensures unchanged { OnErr result (string_bytes made.new ≡ string_bytes made.old) }
 {
     if more.len() > MOST_BYTES - made.len() {

@@ -1,5 +1,6 @@
 //! Texts in which others are put in the place of keys.
-ghost use Rattle.std.specs.Prelude.{◌≡◌, ℕ, suc, ◌<◌, ◌≤◌, [], true, false, length, drop, IfOk, OnOk, IsErrOf, MatchOption, Some, None};
+ghost use Rattle.std.specs.Prelude.{◌≡◌, ℕ, suc, ◌<◌, ◌≤◌, [], true, false, length, drop, IfOk};
+ghost use Rattle.std.specs.Prelude.{OnOk, IsErrOf, MatchOption, Some, None};
 ghost use Rattle.std.specs.Str.{chars};
 ghost use Rattle.std.specs.String.{string_bytes};
 ghost use Rattle.tcl_characters.specs.Places.{begins};
@@ -15,7 +16,8 @@ use tcl_text::text::Text;
 /// What follows a key with which a text begins.
 fn behind_key<'a>(text: &'a str, key: &str, nocase: bool) -> Option<&'a str>
     ensures { MatchOption result (begins (letters nocase key.now) (letters nocase text.now) ≡ false)
-        (λ rest. (begins (letters nocase key.now) (letters nocase text.now) ≡ true) × (chars rest.now ≡ drop (length (chars key.now)) (chars text.now))) }
+        (λ rest. (begins (letters nocase key.now) (letters nocase text.now) ≡ true) ×
+        (chars rest.now ≡ drop (length (chars key.now)) (chars text.now))) }
 {
     let mut rest = text;
     let mut left = key;
@@ -33,7 +35,8 @@ fn behind_key<'a>(text: &'a str, key: &str, nocase: bool) -> Option<&'a str>
 /// What follows the first key of a mapping that fits, and what stands for that key.
 fn fitting<'a, 'b>(mapping: &'b [Text], text: &'a str, nocase: bool) -> Option<(&'a str, &'b Text)>
     ensures { MatchOption result (fitting nocase mapping.now (chars text.now) ≡ None)
-        (λ found. (n : ℕ) × (fitting nocase mapping.now (chars text.now) ≡ Some (suc n, found.1.now)) × (chars found.0.now ≡ drop (suc n) (chars text.now))) }
+        (λ found. (n : ℕ) × (fitting nocase mapping.now (chars text.now)
+        ≡ Some (suc n, found.1.now)) × (chars found.0.now ≡ drop (suc n) (chars text.now))) }
 {
     let mut left = mapping;
     'keys: while let [key, new, more @ ..] = left {
@@ -48,7 +51,9 @@ fn fitting<'a, 'b>(mapping: &'b [Text], text: &'a str, nocase: bool) -> Option<(
 /// What follows a key that isn't empty and with which a text begins.
 fn behind_some_key<'a>(text: &'a str, key: &str, nocase: bool) -> Option<&'a str>
     ensures { MatchOption result (fits (letters nocase key.now) (letters nocase text.now) ≡ false)
-        (λ rest. (n : ℕ) × (length (chars key.now) ≡ suc n) × (fits (letters nocase key.now) (letters nocase text.now) ≡ true) × (chars rest.now ≡ drop (suc n) (chars text.now))) }
+        (λ rest. (n : ℕ) × (length (chars key.now) ≡ suc n) ×
+        (fits (letters nocase key.now) (letters nocase text.now) ≡ true) ×
+        (chars rest.now ≡ drop (suc n) (chars text.now))) }
 {
     if key.is_empty() {
         return None;
@@ -56,15 +61,18 @@ fn behind_some_key<'a>(text: &'a str, key: &str, nocase: bool) -> Option<&'a str
     behind_key(text, key, nocase)
 }
 
-/// A text in which what stands for the keys of a mapping is put in their place: at each place the first key of the mapping's
-/// order that fits there. What was put in isn't read again. The mapping has keys and what stands for each in turn.
+/// A text in which what stands for the keys of a mapping is put in their place: at each place the
+/// first key of the mapping's order that fits there. What was put in isn't read again. The mapping
+/// has keys and what stands for each in turn.
 ///
 /// # Errors
 /// `TooLong` where the text would be longer than [`tcl_text::limit::MOST_BYTES`]; want of memory.
 pub fn map(alloc: Global, mapping: &[Text], text: &str, nocase: bool) -> Result<String, LimitError>
-    ensures mapped { IfOk result (λ made. string_bytes made ≡ mapped nocase mapping.now (chars text.now) 0) }
+    ensures mapped { IfOk result
+        (λ made. string_bytes made ≡ mapped nocase mapping.now (chars text.now) 0) }
     ensures within { OnOk result (length (mapped nocase mapping.now (chars text.now) 0) ≤ 16777216) }
-    ensures refused { IsErrOf result LimitError.TooLong → 16777216 < length (mapped nocase mapping.now (chars text.now) 0) }
+    ensures refused { IsErrOf result LimitError.TooLong →
+        16777216 < length (mapped nocase mapping.now (chars text.now) 0) }
 {
     let mut made = String::new(alloc);
     let mut rest = text;

@@ -6,7 +6,8 @@ ghost use Rattle.tcl_characters.specs.Order.{order};
 use std::cmp::Ordering;
 use tcl_glob::characters::first_letter;
 
-/// Whether two texts have the same characters; with `nocase` the ASCII letters of both are taken in lower case.
+/// Whether two texts have the same characters; with `nocase` the ASCII letters of both are taken in
+/// lower case.
 pub fn equal(a: &str, b: &str, nocase: bool) -> bool
     ensures { IsTrue result ↔ (letters nocase a.now ≡ letters nocase b.now) }
 {
@@ -17,8 +18,8 @@ pub fn equal(a: &str, b: &str, nocase: bool) -> bool
     }
 }
 
-/// How one text stands to another by the numbers of their characters; with `nocase` the ASCII letters of both are taken in
-/// lower case.
+/// How one text stands to another by the numbers of their characters; with `nocase` the ASCII
+/// letters of both are taken in lower case.
 pub fn compare(a: &str, b: &str, nocase: bool) -> Ordering
     ensures { result ≡ order (letters nocase a.now) (letters nocase b.now) }
 {

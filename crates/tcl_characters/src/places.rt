@@ -1,7 +1,8 @@
 //! Where a text stands in another.
 ghost use Rattle.std.specs.Prelude.{◌≡◌, ◌≢◌, ◌<◌, ℕ, [], length, IfSome};
 ghost use Rattle.std.specs.Str.{chars};
-ghost use Rattle.tcl_characters.specs.Places.{first_from, last_from, first_place, last_place, counted_from};
+ghost use Rattle.tcl_characters.specs.Places.{first_from, last_from, first_place, last_place};
+ghost use Rattle.tcl_characters.specs.Places.{counted_from};
 
 use crate::parts::character_count;
 use memchr::memmem;
@@ -10,7 +11,8 @@ use tcl_text::characters::{first_characters, skip_characters};
 /// The first place of a needle in a text.
 fn first_within(needle: &str, text: &str) -> Option<usize>
     requires { needle.now ≢ [] }
-    ensures place { (s : ℕ) → counted_from s result ≡ first_from (chars needle.now) (chars text.now) s }
+    ensures place { (s : ℕ) →
+        counted_from s result ≡ first_from (chars needle.now) (chars text.now) s }
     ensures within { IfSome result (λ place. place < length (chars text.now)) }
 {
     let at = memmem::find(text.as_bytes(), needle.as_bytes())?;
@@ -28,8 +30,8 @@ fn last_within(needle: &str, text: &str) -> Option<usize>
     Some(character_count(front))
 }
 
-/// The first place, at or behind `start`, at which the characters of a needle stand in a text. An empty needle stands
-/// nowhere.
+/// The first place, at or behind `start`, at which the characters of a needle stand in a text. An
+/// empty needle stands nowhere.
 pub fn first_place(needle: &str, text: &str, start: usize) -> Option<usize>
     ensures { result ≡ first_place (chars needle.now) (chars text.now) start }
 {
@@ -40,8 +42,8 @@ pub fn first_place(needle: &str, text: &str, start: usize) -> Option<usize>
     Some(start + place)
 }
 
-/// The last place at which the characters of a needle stand in a text, all of them before the place `end`. An empty needle
-/// stands nowhere.
+/// The last place at which the characters of a needle stand in a text, all of them before the place
+/// `end`. An empty needle stands nowhere.
 pub fn last_place(needle: &str, text: &str, end: usize) -> Option<usize>
     ensures { result ≡ last_place (chars needle.now) (chars text.now) end }
 {

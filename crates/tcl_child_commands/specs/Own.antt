@@ -23,4 +23,5 @@ evaluates_nothing child.InvokeHidden = false
 -- A child's command goes by the name that its first word is, and by nothing else.
 abbrev pub GoesByNames : Type 0
 GoesByNames = (style : Integers) (name word : Text) (args : List Text) →
-    interpreters.child_subcommand style name word args ≡ child_program_named style name (child_subcommand_of word) word args
+    interpreters.child_subcommand style name word args
+    ≡ child_program_named style name (child_subcommand_of word) word args

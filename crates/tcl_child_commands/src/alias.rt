@@ -27,7 +27,8 @@ fn alias_of<O: Outside>(
     source: &Value,
 ) -> Result<Value, Interruption>
     requires { IsRunning tree.old place }
-    ensures evaluates { Evaluates O.goes tree.old outside.old place (λ style. interpreters.child_alias name.now (source.now ∷ [])) tree.new outside.new result }
+    ensures evaluates { Evaluates O.goes tree.old outside.old place
+        (λ style. interpreters.child_alias name.now (source.now ∷ [])) tree.new outside.new result }
     ensures lost { IsLoss O.loses outside.old outside.new }
     ensures steady { IsSteady tree.old tree.new }
     ensures left { O.entries_left outside.new ≤ O.entries_left outside.old }
@@ -53,7 +54,9 @@ fn clear_alias<O: Outside>(
     source: &Value,
 ) -> Result<Value, Interruption>
     requires { IsRunning tree.old place }
-    ensures evaluates { Evaluates O.goes tree.old outside.old place (λ style. interpreters.child_alias name.now (source.now ∷ [] ∷ [])) tree.new outside.new result }
+    ensures evaluates { Evaluates O.goes tree.old outside.old place
+        (λ style. interpreters.child_alias name.now (source.now ∷ [] ∷ [])) tree.new outside.new
+        result }
     ensures lost { IsLoss O.loses outside.old outside.new }
     ensures steady { IsSteady tree.old tree.new }
     ensures left { O.entries_left outside.new ≤ O.entries_left outside.old }
@@ -69,7 +72,8 @@ fn clear_alias<O: Outside>(
     )
 }
 
-/// Makes a name of the child an alias of a command of the interpreter that asks, which is one level above the child.
+/// Makes a name of the child an alias of a command of the interpreter that asks, which is one level
+/// above the child.
 fn set_alias<O: Outside>(
     tree: &mut Tree,
     alloc: Global,
@@ -81,7 +85,10 @@ fn set_alias<O: Outside>(
     words: &[Value],
 ) -> Result<Value, Interruption>
     requires { IsRunning tree.old place }
-    ensures evaluates { Evaluates O.goes tree.old outside.old place (λ style. interpreters.asks_at (name.now ∷ []) (SetAlias source.now 1 [] (target.now ∷ words.now)) (interpreters.with_text source.now)) tree.new outside.new result }
+    ensures evaluates { Evaluates O.goes tree.old outside.old place
+        (λ style. interpreters.asks_at (name.now ∷ [])
+        (SetAlias source.now 1 [] (target.now ∷ words.now)) (interpreters.with_text source.now))
+        tree.new outside.new result }
     ensures lost { IsLoss O.loses outside.old outside.new }
     ensures steady { IsSteady tree.old tree.new }
     ensures left { O.entries_left outside.new ≤ O.entries_left outside.old }
@@ -117,7 +124,9 @@ fn change_alias<O: Outside>(
     words: &[Value],
 ) -> Result<Value, Interruption>
     requires { IsRunning tree.old place }
-    ensures evaluates { Evaluates O.goes tree.old outside.old place (λ style. interpreters.child_alias name.now (source.now ∷ target.now ∷ words.now)) tree.new outside.new result }
+    ensures evaluates { Evaluates O.goes tree.old outside.old place
+        (λ style. interpreters.child_alias name.now (source.now ∷ target.now ∷ words.now)) tree.new
+        outside.new result }
     ensures lost { IsLoss O.loses outside.old outside.new }
     ensures steady { IsSteady tree.old tree.new }
     ensures left { O.entries_left outside.new ≤ O.entries_left outside.old }
@@ -141,7 +150,8 @@ pub fn alias<O: Outside>(
     args: &[Value],
 ) -> Result<Value, Interruption>
     requires { IsRunning tree.old place }
-    ensures evaluates { Evaluates O.goes tree.old outside.old place (λ style. interpreters.child_alias name.now args.now) tree.new outside.new result }
+    ensures evaluates { Evaluates O.goes tree.old outside.old place
+        (λ style. interpreters.child_alias name.now args.now) tree.new outside.new result }
     ensures lost { IsLoss O.loses outside.old outside.new }
     ensures steady { IsSteady tree.old tree.new }
     ensures left { O.entries_left outside.new ≤ O.entries_left outside.old }

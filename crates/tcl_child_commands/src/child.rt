@@ -32,7 +32,8 @@ pub fn child_own<O: Outside>(
 ) -> Result<Value, Interruption>
     requires running { IsRunning tree.old place }
     requires own { evaluates_nothing subcommand ≡ true }
-    ensures evaluates { Evaluates O.goes tree.old outside.old place (λ style. child_program_of style name.now subcommand args.now) tree.new outside.new result }
+    ensures evaluates { Evaluates O.goes tree.old outside.old place
+        (λ style. child_program_of style name.now subcommand args.now) tree.new outside.new result }
     ensures lost { IsLoss O.loses outside.old outside.new }
     ensures steady { IsSteady tree.old tree.new }
     ensures left { O.entries_left outside.new ≤ O.entries_left outside.old }

@@ -26,7 +26,8 @@ pub fn child_form(alloc: Global, name: &Text, form: &str) -> Result<String, Allo
 
 /// The words of a subcommand don't have its form.
 pub fn wrong_child_args(alloc: Global, name: &Text, form: &str) -> Interruption
-    ensures { Interrupts result (λ e. e ≡ Completed (failing (faults.wrong_args (interpreters.child_form name.now form.now)))) }
+    ensures { Interrupts result (λ e. e
+        ≡ Completed (failing (faults.wrong_args (interpreters.child_form name.now form.now)))) }
 {
     match child_form(alloc, name, form) {
         Ok(form) => wrong_args(alloc, form.as_str()),

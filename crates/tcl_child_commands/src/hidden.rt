@@ -11,7 +11,8 @@ use tcl_run::interruption::Interruption;
 use tcl_text::text::Text;
 use tcl_value::value::Value;
 
-/// A call of a hidden command: whether it is made at the global level, and the hidden name with the words behind it.
+/// A call of a hidden command: whether it is made at the global level, and the hidden name with the
+/// words behind it.
 #[derive(Drop)]
 pub struct HiddenCall {
     pub is_global: bool,
@@ -52,8 +53,10 @@ fn call_with(
     is_global: bool,
     words: &[Value],
 ) -> Result<HiddenCall, Interruption>
-    ensures called { IfOk result (λ call. Invokes (called_as form.now is_global words.now) call.is_global call.words.items) }
-    ensures refused { IfErr result (λ i. Interrupts i (FailsSo (called_as form.now is_global words.now))) }
+    ensures called { IfOk result
+        (λ call. Invokes (called_as form.now is_global words.now) call.is_global call.words.items) }
+    ensures refused { IfErr result
+        (λ i. Interrupts i (FailsSo (called_as form.now is_global words.now))) }
 {
     if words.is_empty() {
         return Err(wrong_args(alloc, form));
@@ -62,14 +65,18 @@ fn call_with(
     Ok(HiddenCall { is_global, words })
 }
 
-/// The call that the words `?-global? hiddenName ?arg ...?` of `invokehidden` are. The form is that of the command that has them.
-/// An option is only looked for in front of the hidden name.
+/// The call that the words `?-global? hiddenName ?arg ...?` of `invokehidden` are. The form is that
+/// of the command that has them. An option is only looked for in front of the hidden name.
 ///
 /// # Errors
 /// 241 where there is no hidden name, with the form; 221; want of memory.
 pub fn hidden_call(alloc: Global, form: &str, args: &[Value]) -> Result<HiddenCall, Interruption>
-    ensures called { IfOk result (λ call. Invokes (λ path. interpreters.invoked_as path form.now false args.now) call.is_global call.words.items) }
-    ensures refused { IfErr result (λ i. Interrupts i (FailsSo (λ path. interpreters.invoked_as path form.now false args.now))) }
+    ensures called { IfOk result
+        (λ call. Invokes (λ path. interpreters.invoked_as path form.now false args.now)
+        call.is_global call.words.items) }
+    ensures refused { IfErr result
+        (λ i. Interrupts i (FailsSo
+        (λ path. interpreters.invoked_as path form.now false args.now))) }
 {
     match args {
         [] => Err(wrong_args(alloc, form)),

@@ -27,7 +27,8 @@ use tcl_value::value::Value;
 
 /// The error that there is no such child.
 fn no_child(alloc: Global, name: &Text) -> Interruption
-    ensures { Interrupts result (λ e. e ≡ Completed (failing (interpreters.no_interpreter (interpreters.child_path name.now)))) }
+    ensures { Interrupts result (λ e. e
+        ≡ Completed (failing (interpreters.no_interpreter (interpreters.child_path name.now)))) }
 {
     match write_list(alloc, slice::from_ref(name)) {
         Ok(path) => no_interpreter(alloc, path.as_str()),
@@ -46,7 +47,9 @@ pub fn child_stands(
     name: &Text,
 ) -> Result<(), Interruption>
     requires { (p : Path) × Names tree.now place p }
-    ensures { Finds tree.now place (λ found. name.now ∷ []) (λ rest style. interpreters.at_path (interpreters.child_path name.now) (λ path n. rest path style)) result }
+    ensures { Finds tree.now place (λ found. name.now ∷ [])
+        (λ rest style. interpreters.at_path (interpreters.child_path name.now)
+        (λ path n. rest path style)) result }
 {
     match tree.reach(place, 0, slice::from_ref(name)) {
         Reach::There(_) => Ok(()),
@@ -65,7 +68,9 @@ fn ask_child_trusted<O: Outside>(
     entry: OwnEntry,
 ) -> Result<Value, Interruption>
     requires { IsRunning tree.old place }
-    ensures evaluates { Evaluates O.goes tree.old outside.old place (λ style. interpreters.asks_trusted (interpreters.child_path name.now) (entry_of entry)) tree.new outside.new result }
+    ensures evaluates { Evaluates O.goes tree.old outside.old place
+        (λ style. interpreters.asks_trusted (interpreters.child_path name.now) (entry_of entry))
+        tree.new outside.new result }
     ensures lost { IsLoss O.loses outside.old outside.new }
     ensures steady { IsSteady tree.old tree.new }
     ensures left { O.entries_left outside.new ≤ O.entries_left outside.old }
@@ -86,7 +91,9 @@ fn hide_as<O: Outside>(
     hidden: &Value,
 ) -> Result<Value, Interruption>
     requires { IsRunning tree.old place }
-    ensures evaluates { Evaluates O.goes tree.old outside.old place (λ style. interpreters.asks_trusted (interpreters.child_path name.now) (Hide command.now hidden.now)) tree.new outside.new result }
+    ensures evaluates { Evaluates O.goes tree.old outside.old place
+        (λ style. interpreters.asks_trusted (interpreters.child_path name.now)
+        (Hide command.now hidden.now)) tree.new outside.new result }
     ensures lost { IsLoss O.loses outside.old outside.new }
     ensures steady { IsSteady tree.old tree.new }
     ensures left { O.entries_left outside.new ≤ O.entries_left outside.old }
@@ -119,7 +126,8 @@ pub fn hide<O: Outside>(
     args: &[Value],
 ) -> Result<Value, Interruption>
     requires { IsRunning tree.old place }
-    ensures evaluates { Evaluates O.goes tree.old outside.old place (λ style. interpreters.child_hide name.now args.now) tree.new outside.new result }
+    ensures evaluates { Evaluates O.goes tree.old outside.old place
+        (λ style. interpreters.child_hide name.now args.now) tree.new outside.new result }
     ensures lost { IsLoss O.loses outside.old outside.new }
     ensures steady { IsSteady tree.old tree.new }
     ensures left { O.entries_left outside.new ≤ O.entries_left outside.old }
@@ -142,7 +150,9 @@ fn expose_as<O: Outside>(
     command: &Value,
 ) -> Result<Value, Interruption>
     requires { IsRunning tree.old place }
-    ensures evaluates { Evaluates O.goes tree.old outside.old place (λ style. interpreters.asks_trusted (interpreters.child_path name.now) (Expose hidden.now command.now)) tree.new outside.new result }
+    ensures evaluates { Evaluates O.goes tree.old outside.old place
+        (λ style. interpreters.asks_trusted (interpreters.child_path name.now)
+        (Expose hidden.now command.now)) tree.new outside.new result }
     ensures lost { IsLoss O.loses outside.old outside.new }
     ensures steady { IsSteady tree.old tree.new }
     ensures left { O.entries_left outside.new ≤ O.entries_left outside.old }
@@ -175,7 +185,8 @@ pub fn expose<O: Outside>(
     args: &[Value],
 ) -> Result<Value, Interruption>
     requires { IsRunning tree.old place }
-    ensures evaluates { Evaluates O.goes tree.old outside.old place (λ style. interpreters.child_expose name.now args.now) tree.new outside.new result }
+    ensures evaluates { Evaluates O.goes tree.old outside.old place
+        (λ style. interpreters.child_expose name.now args.now) tree.new outside.new result }
     ensures lost { IsLoss O.loses outside.old outside.new }
     ensures steady { IsSteady tree.old tree.new }
     ensures left { O.entries_left outside.new ≤ O.entries_left outside.old }

@@ -1,4 +1,5 @@
-//! The subcommands of a child's own command that evaluate no script, and the words of `invokehidden`. (interp(n))
+//! The subcommands of a child's own command that evaluate no script, and the words of
+//! `invokehidden`. (interp(n))
 #![tactic(auto, using(tcl_run::proofs::Losing::losing))]
 
 pub mod alias;

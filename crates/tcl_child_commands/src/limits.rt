@@ -7,7 +7,7 @@ ghost use Rattle.tcl_entries.specs.Telling.{limits_to, deepens_to};
 use crate::failure::wrong_child_args;
 use std::alloc::Global;
 use std::slice;
-use tcl_entries::interp::{deepen_to, limit_to};
+use tcl_entries::interp::{set_count_limit_at, set_depth_limit_at};
 use tcl_entries::looking::{commands_only, permit, value_only};
 use tcl_entries::requests::ask_at;
 use tcl_run::entry::{OwnEntry, Question};
@@ -27,7 +27,9 @@ fn limit_of<O: Outside>(
     word: &Value,
 ) -> Result<Value, Interruption>
     requires { IsRunning tree.old place }
-    ensures evaluates { Evaluates O.goes tree.old outside.old place (λ style. interpreters.child_limit style name.now (word.now ∷ [])) tree.new outside.new result }
+    ensures evaluates { Evaluates O.goes tree.old outside.old place
+        (λ style. interpreters.child_limit style name.now (word.now ∷ [])) tree.new outside.new
+        result }
     ensures lost { IsLoss O.loses outside.old outside.new }
     ensures steady { IsSteady tree.old tree.new }
     ensures left { O.entries_left outside.new ≤ O.entries_left outside.old }
@@ -53,13 +55,15 @@ fn set_limit<O: Outside>(
     value: &Value,
 ) -> Result<Value, Interruption>
     requires { IsRunning tree.old place }
-    ensures evaluates { Evaluates O.goes tree.old outside.old place (λ style. interpreters.permitted (limits_to style (name.now ∷ []) value.now)) tree.new outside.new result }
+    ensures evaluates { Evaluates O.goes tree.old outside.old place
+        (λ style. interpreters.permitted (limits_to style (name.now ∷ []) value.now)) tree.new
+        outside.new result }
     ensures lost { IsLoss O.loses outside.old outside.new }
     ensures steady { IsSteady tree.old tree.new }
     ensures left { O.entries_left outside.new ≤ O.entries_left outside.old }
 {
     permit(tree, alloc, place)?;
-    limit_to(tree, alloc, outside, place, slice::from_ref(name), value)
+    set_count_limit_at(tree, alloc, outside, place, slice::from_ref(name), value)
 }
 
 /// Sets the limit of steps of the child, after the words are looked at.
@@ -74,7 +78,9 @@ fn limit_with<O: Outside>(
     value: &Value,
 ) -> Result<Value, Interruption>
     requires { IsRunning tree.old place }
-    ensures evaluates { Evaluates O.goes tree.old outside.old place (λ style. interpreters.child_limit style name.now (word.now ∷ option.now ∷ value.now ∷ [])) tree.new outside.new result }
+    ensures evaluates { Evaluates O.goes tree.old outside.old place
+        (λ style. interpreters.child_limit style name.now (word.now ∷ option.now ∷ value.now ∷ []))
+        tree.new outside.new result }
     ensures lost { IsLoss O.loses outside.old outside.new }
     ensures steady { IsSteady tree.old tree.new }
     ensures left { O.entries_left outside.new ≤ O.entries_left outside.old }
@@ -97,7 +103,8 @@ pub fn limit<O: Outside>(
     args: &[Value],
 ) -> Result<Value, Interruption>
     requires { IsRunning tree.old place }
-    ensures evaluates { Evaluates O.goes tree.old outside.old place (λ style. interpreters.child_limit style name.now args.now) tree.new outside.new result }
+    ensures evaluates { Evaluates O.goes tree.old outside.old place
+        (λ style. interpreters.child_limit style name.now args.now) tree.new outside.new result }
     ensures lost { IsLoss O.loses outside.old outside.new }
     ensures steady { IsSteady tree.old tree.new }
     ensures left { O.entries_left outside.new ≤ O.entries_left outside.old }
@@ -119,13 +126,15 @@ fn set_depth_limit<O: Outside>(
     value: &Value,
 ) -> Result<Value, Interruption>
     requires { IsRunning tree.old place }
-    ensures evaluates { Evaluates O.goes tree.old outside.old place (λ style. interpreters.permitted (deepens_to style (name.now ∷ []) value.now)) tree.new outside.new result }
+    ensures evaluates { Evaluates O.goes tree.old outside.old place
+        (λ style. interpreters.permitted (deepens_to style (name.now ∷ []) value.now)) tree.new
+        outside.new result }
     ensures lost { IsLoss O.loses outside.old outside.new }
     ensures steady { IsSteady tree.old tree.new }
     ensures left { O.entries_left outside.new ≤ O.entries_left outside.old }
 {
     permit(tree, alloc, place)?;
-    deepen_to(tree, alloc, outside, place, slice::from_ref(name), value)
+    set_depth_limit_at(tree, alloc, outside, place, slice::from_ref(name), value)
 }
 
 /// `NAME recursionlimit ?n?`
@@ -141,7 +150,9 @@ pub fn recursion_limit<O: Outside>(
     args: &[Value],
 ) -> Result<Value, Interruption>
     requires { IsRunning tree.old place }
-    ensures evaluates { Evaluates O.goes tree.old outside.old place (λ style. interpreters.child_recursion_limit style name.now args.now) tree.new outside.new result }
+    ensures evaluates { Evaluates O.goes tree.old outside.old place
+        (λ style. interpreters.child_recursion_limit style name.now args.now) tree.new outside.new
+        result }
     ensures lost { IsLoss O.loses outside.old outside.new }
     ensures steady { IsSteady tree.old tree.new }
     ensures left { O.entries_left outside.new ≤ O.entries_left outside.old }

@@ -15,7 +15,8 @@ use tcl_text::text::Text;
 use tcl_tree::tree::{Place, Tree};
 use tcl_value::value::Value;
 
-/// `NAME aliases`, `NAME hidden` and `NAME issafe`: asks the child a question, after the subcommand's word alone.
+/// `NAME aliases`, `NAME hidden` and `NAME issafe`: asks the child a question, after the
+/// subcommand's word alone.
 ///
 /// # Errors
 /// 241, whose message has this form; 122; want of memory.
@@ -30,7 +31,9 @@ pub fn ask_child<O: Outside>(
     args: &[Value],
 ) -> Result<Value, Interruption>
     requires { IsRunning tree.old place }
-    ensures evaluates { Evaluates O.goes tree.old outside.old place (λ style. interpreters.child_question name.now form.now (question_of question) args.now) tree.new outside.new result }
+    ensures evaluates { Evaluates O.goes tree.old outside.old place
+        (λ style. interpreters.child_question name.now form.now (question_of question) args.now)
+        tree.new outside.new result }
     ensures lost { IsLoss O.loses outside.old outside.new }
     ensures steady { IsSteady tree.old tree.new }
     ensures left { O.entries_left outside.new ≤ O.entries_left outside.old }

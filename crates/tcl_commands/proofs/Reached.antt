@@ -6,7 +6,7 @@ use Rattle.tcl_core.specs.Paths.{Path, Text}
 use Rattle.tcl_core.specs.Programs.{Table, changing}
 use Rattle.tcl_core.specs.Programs.Next.{On}
 use Rattle.tcl_core.specs.Programs.Prog.{done}
-use Rattle.tcl_core.specs.Threads.{acted}
+use Rattle.tcl_core.specs.Execution.{acted}
 use Rattle.tcl_core.specs.Trees.{Tree, Node}
 use Rattle.tcl_core.specs.Trees.What.{Changed}
 use Rattle.tcl_frames.specs.Chain.{Chain, after_set}

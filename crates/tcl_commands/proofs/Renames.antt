@@ -25,8 +25,8 @@ use Rattle.tcl_tree.specs.Own.{Own, command_in}
 use Rattle.tcl_tree.specs.TreeOf.{tree_of, key_of, marks_of, Names}
 use Rattle.tcl_interpreter.specs.declared.command.Command.{Command}
 use Rattle.tcl_interpreter.specs.declared.command.Command.TheVariants as command
-use Rattle.tcl_interpreter.specs.declared.refusal.Refusal.{Refusal}
-use Rattle.tcl_interpreter.specs.declared.refusal.Refusal.TheVariants as refusal
+use Rattle.tcl_interpreter.specs.declared.refusal.TreeError.{TreeError}
+use Rattle.tcl_interpreter.specs.declared.refusal.TreeError.TheVariants as refusal
 use Rattle.tcl_tree.specs.declared.tree.Tree.{Tree as Table}
 use Rattle.tcl_tree.specs.declared.tree.Place.{Place as TablePlace}
 use Rattle.tcl_tree.proofs.CoreLemmas.{tree_there}
@@ -74,7 +74,7 @@ module _ (own : Own) (x plain : Text) (kept : command_name x ≡ Some plain) whe
   by_kept : (f : Text → language.Named) → language.by_name (command_name x) x f ≡ f plain
   by_kept f = ap (λ (o : Option Text). language.by_name o x f) kept
 
-  cond_word : (b : Bool) (e : Refusal) (k : tree.Named) (r : language.Named) → r ≡ with_word x k → cond b (Err (e, x)) r ≡ with_word x (cond b (Err e) k)
+  cond_word : (b : Bool) (e : TreeError) (k : tree.Named) (r : language.Named) → r ≡ with_word x k → cond b (Err (e, x)) r ≡ with_word x (cond b (Err e) k)
   cond_word true e k r h = refl
   cond_word false e k r h = h
 
@@ -135,7 +135,7 @@ module _ (t u : Table) (place : TablePlace) (f : Own → language.Named) where
 
   -- it is refused, whatever the table says
   pub renaming_fails : (i : Interruption) → tree_of u ≡ tree_of t →
-      Interrupts i (λ r. (p : Path) (n : Node Own) → Names t place p → tree_of t p ≡ Some n → (e : Refusal × Text) × (f n.own ≡ Err e) × (r ≡ Completed (failing (refused_text e)))) →
+      Interrupts i (λ r. (p : Path) (n : Node Own) → Names t place p → tree_of t p ≡ Some n → (e : TreeError × Text) × (f n.own ≡ Err e) × (r ≡ Completed (failing (refused_text e)))) →
       Interrupts i (EndsAt t place (λ style. renaming done_so f) (tree_of u))
   renaming_fails i same h = Interrupts-more i _ _ (λ r k p style at.
       let n = stands (tree_of t p) (tree_there t p _ at.names) in
@@ -143,12 +143,12 @@ module _ (t u : Table) (place : TablePlace) (f : Own → language.Named) where
       does_look (tree_of t) (tree_of u) p r n.0 (λ m. or_fails refused_text (f m.own) (λ own. change own done_so)) n.1
       (subst (λ (x : language.Named). Rattle.tcl_run.specs.Plain.Does (or_fails refused_text x (λ own. change own done_so)) (tree_of t) p (tree_of u) r) (sym e.1) (same, e.2))) h
 
-  told_by : (b : Bool) (e : Refusal) (word : Text) (i : Interruption) → is_memory e ≡ b → Told b e word i → (g : Own → tree.Named) →
+  told_by : (b : Bool) (e : TreeError) (word : Text) (i : Interruption) → is_memory e ≡ b → Told b e word i → (g : Own → tree.Named) →
       ((p : Path) → Names t place p → RefusesNaming e (tree_of t) p g) →
       ((p : Path) (n : Node Own) → Names t place p → tree_of t p ≡ Some n → f n.own ≡ with_word word (g n.own)) →
-      Interrupts i (λ r. (p : Path) (n : Node Own) → Names t place p → tree_of t p ≡ Some n → (e : Refusal × Text) × (f n.own ≡ Err e) × (r ≡ Completed (failing (refused_text e))))
+      Interrupts i (λ r. (p : Path) (n : Node Own) → Names t place p → tree_of t p ≡ Some n → (e : TreeError × Text) × (f n.own ≡ Err e) × (r ≡ Completed (failing (refused_text e))))
   told_by true e word i m told g refuses same =
-      subst (λ (j : Interruption). Interrupts j (λ r. (p : Path) (n : Node Own) → Names t place p → tree_of t p ≡ Some n → (x : Refusal × Text) × (f n.own ≡ Err x) × (r ≡ Completed (failing (refused_text x))))) (sym told) tt
+      subst (λ (j : Interruption). Interrupts j (λ r. (p : Path) (n : Node Own) → Names t place p → tree_of t p ≡ Some n → (x : TreeError × Text) × (f n.own ≡ Err x) × (r ≡ Completed (failing (refused_text x))))) (sym told) tt
   told_by false e word i m told g refuses same = Interrupts-more i _ _ (λ r k p n at there.
       elim (refuses p at n there) [
         | inl memory ↦ (let clash : true ≡ false = ap is_memory (sym memory) ∙ m in cc)
@@ -156,13 +156,13 @@ module _ (t u : Table) (place : TablePlace) (f : Own → language.Named) where
       ]) told
 
   -- it was refused
-  pub renaming_refused : (g : Own → tree.Named) (e : Refusal) (word : Text) (i : Interruption) → tree_of u ≡ tree_of t → TellsRefusal e word i → ((p : Path) → Names t place p → RefusesNaming e (tree_of t) p g) →
+  pub renaming_refused : (g : Own → tree.Named) (e : TreeError) (word : Text) (i : Interruption) → tree_of u ≡ tree_of t → TellsRefusal e word i → ((p : Path) → Names t place p → RefusesNaming e (tree_of t) p g) →
       ((p : Path) (n : Node Own) → Names t place p → tree_of t p ≡ Some n → f n.own ≡ with_word word (g n.own)) → Interrupts i (EndsAt t place (λ style. renaming done_so f) (tree_of u))
   renaming_refused g e word i same told refuses so = renaming_fails i same (told_by (is_memory e) e word i refl told g refuses so)
 
 -- ## What stands before it
 
-name_bad : (x : Text) (o : Option Text) (r : Reply) (f : Text → language.Named) → IsBadName x o r → (e : Refusal × Text) × (language.by_name o x f ≡ Err e) × (r ≡ Completed (failing (refused_text e)))
+name_bad : (x : Text) (o : Option Text) (r : Reply) (f : Text → language.Named) → IsBadName x o r → (e : TreeError × Text) × (language.by_name o x f ≡ Err e) × (r ≡ Completed (failing (refused_text e)))
 name_bad x None r f h = ((refusal.BadName, x), refl, h)
 name_bad x (Some plain) r f h = elim h [ ]
 
@@ -174,7 +174,7 @@ bad_name_ends t place f x g i is h = renaming_fails t t place f i refl (Interrup
     (e.0, is n.own ∙ e.1, e.2)) h)
 
 -- no command of its own has the name
-no_own : (own : Own) (x plain y : Text) (o : Option Command) (r : Reply) → IsNoOwnCommand x o r → (e : Refusal × Text) × (language.renames own plain x y o ≡ Err e) × (r ≡ Completed (failing (refused_text e)))
+no_own : (own : Own) (x plain y : Text) (o : Option Command) (r : Reply) → IsNoOwnCommand x o r → (e : TreeError × Text) × (language.renames own plain x y o ≡ Err e) × (r ≡ Completed (failing (refused_text e)))
 no_own own x plain y None r h = ((refusal.NoCommand, x), refl, h)
 no_own own x plain y (Some command.Child) r h = ((refusal.Exists, x), refl, h)
 no_own own x plain y (Some (command.Builtin b)) r h = elim h [ ]
@@ -189,7 +189,7 @@ no_own_ends t place x plain y i kept h = renaming_fails t t place (λ own. langu
     (e.0, by_kept n.own x plain kept (λ m. language.renames n.own m x y (command_in n.own m)) ∙ e.1, e.2)) h)
 
 -- no command has the other name
-bad_other : (own : Own) (x plain y : Text) (o : Option Command) (r : Reply) → IsOwnCommand o → IsBadName y (command_name y) r → (e : Refusal × Text) × (language.renames own plain x y o ≡ Err e) × (r ≡ Completed (failing (refused_text e)))
+bad_other : (own : Own) (x plain y : Text) (o : Option Command) (r : Reply) → IsOwnCommand o → IsBadName y (command_name y) r → (e : TreeError × Text) × (language.renames own plain x y o ≡ Err e) × (r ≡ Completed (failing (refused_text e)))
 bad_other own x plain y None r h k = elim h [ ]
 bad_other own x plain y (Some command.Child) r h k = elim h [ ]
 bad_other own x plain y (Some (command.Builtin b)) r h k = name_bad y (command_name y) r _ k

@@ -12,7 +12,11 @@ use Rattle.tcl_run.specs.declared.interruption.Interruption.TheVariants as inter
 
 -- the error of a message, of this kind
 abbrev pub error_of : Text → Text → Completion
-error_of message errorcode = record { code = pos 1; text = message; options = record { code = pos 1; level = 0; errorcode = errorcode } }
+error_of message errorcode = record {
+  code = pos 1;
+  text = message;
+  options = record { code = pos 1; level = 0; errorcode = errorcode };
+}
 
 -- how a refusal of options ends a return
 abbrev pub TellsOptions : OptionsError → Interruption → Type 0

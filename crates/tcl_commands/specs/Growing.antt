@@ -54,11 +54,15 @@ grown first chain name grow = grown_from chain name grow (or_missing first (read
 -- what a call returned and left of the chain is that, unless memory ran out
 abbrev pub Grows : Text → Chain → Text → (Text → Growth) → Chain → Result Text Interruption → Type 0
 Grows first old name grow new result =
-    MatchResult result (λ text. grown first old name grow ≡ Ok (text, new)) (λ i. Interrupts i (λ e. (c : Completion) × (new ≡ old) × (grown first old name grow ≡ Err c) × (e ≡ Completed c)))
+    MatchResult result (λ text. grown first old name grow ≡ Ok (text, new))
+    (λ i. Interrupts i (λ e. (c : Completion) × (new ≡ old) ×
+    (grown first old name grow ≡ Err c) × (e ≡ Completed c)))
 
 -- the same of a value
 abbrev pub GrowsTo : Text → (Text → Growth) → Text → Result Text Interruption → Type 0
-GrowsTo old grow new result = MatchResult result (λ text. (grow old ≡ Ok text) × (new ≡ text)) (λ i. Interrupts i (λ e. (c : Completion) × (new ≡ old) × (grow old ≡ Err c) × (e ≡ Completed c)))
+GrowsTo old grow new result = MatchResult result (λ text. (grow old ≡ Ok text) × (new ≡ text))
+    (λ i. Interrupts i (λ e. (c : Completion) × (new ≡ old) × (grow old ≡ Err c) ×
+    (e ≡ Completed c)))
 
 -- the program that has grown a variable so
 abbrev pub finishes : Own → Grown → Program

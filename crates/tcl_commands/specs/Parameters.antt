@@ -9,7 +9,8 @@ use Rattle.tcl_interpreter.specs.declared.parameter.Parameter.{Parameter}
 
 -- on with those before it and the parameter that a text is
 abbrev pub reads_parameter : Text → List Parameter → (List Parameter → Program) → Program
-reads_parameter text before k = or_fails fault_message (list_of text) (λ words. parameter text words before k)
+reads_parameter text before k = or_fails fault_message (list_of text)
+    (λ words. parameter text words before k)
 
 -- on with those that the elements of a list are
 abbrev pub parameters_from : Text → (List Parameter → Program) → Program

@@ -12,19 +12,19 @@ use Rattle.tcl_run.specs.declared.interruption.Interruption.TheVariants as inter
 use Rattle.tcl_tree.specs.Naming as tree
 use Rattle.tcl_interpreter.specs.declared.command.Command.{Command}
 use Rattle.tcl_interpreter.specs.declared.command.Command.TheVariants as command
-use Rattle.tcl_interpreter.specs.declared.refusal.Refusal.{Refusal}
-use Rattle.tcl_interpreter.specs.declared.refusal.Refusal.TheVariants as refusal
+use Rattle.tcl_interpreter.specs.declared.refusal.TreeError.{TreeError}
+use Rattle.tcl_interpreter.specs.declared.refusal.TreeError.TheVariants as refusal
 
-abbrev pub is_memory : Refusal → Bool
+abbrev pub is_memory : TreeError → Bool
 is_memory refusal.Memory = true
 is_memory e = false
 
-abbrev pub Told : Bool → Refusal → Text → Interruption → Type 0
+abbrev pub Told : Bool → TreeError → Text → Interruption → Type 0
 Told true e word i = i ≡ interruption.Memory
 Told false e word i = Interrupts i (λ r. r ≡ Completed (failing (refusal_text e word)))
 
 -- a refusal is told, with the word that is wrong
-abbrev pub TellsRefusal : Refusal → Text → Interruption → Type 0
+abbrev pub TellsRefusal : TreeError → Text → Interruption → Type 0
 TellsRefusal e word i = Told (is_memory e) e word i
 
 -- the end where no command has the name

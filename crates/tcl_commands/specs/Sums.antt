@@ -46,4 +46,5 @@ raised style more old = added (number_of style old) (increment style more)
 
 -- what a call read of an integer, unless memory ran out
 abbrev pub Reads : Number → Result ℤ Interruption → Type 0
-Reads number result = MatchResult result (λ n. number ≡ Ok n) (λ i. Interrupts i (λ e. (c : Completion) × (number ≡ Err c) × (e ≡ Completed c)))
+Reads number result = MatchResult result (λ n. number ≡ Ok n)
+    (λ i. Interrupts i (λ e. (c : Completion) × (number ≡ Err c) × (e ≡ Completed c)))

@@ -18,7 +18,7 @@ ghost use Rattle.tcl_interpreter.specs.declared.parameter.Parameter.{Parameter};
 ghost use Rattle.tcl_commands.specs.Parameters.{reads_parameter, parameters_from};
 ghost use Rattle.tcl_commands.specs.Ending.{EndsSo};
 
-use crate::naming::{kept_name, name_of, own_command, told};
+use crate::naming::{kept_name, name_of, naming_failure, own_command};
 use std::alloc::{AllocError, Global};
 use tcl_run::failure::{bad_name, wrong_args};
 use tcl_run::interruption::Interruption;
@@ -50,8 +50,12 @@ fn named_parameter(
     default: Option<Value>,
     before: &[Parameter],
 ) -> Result<Parameter, Interruption>
-    ensures made { IfOk result (λ made. (k : List Parameter → Program) → definitions.with_parameter name default before.now k ≡ k (before.now ++ made ∷ [])) }
-    ensures refused { IfErr result (λ i. Interrupts i (λ e. (k : List Parameter → Program) → EndsSo (definitions.with_parameter name default before.now k) e)) }
+    ensures made { IfOk result
+        (λ made. (k : List Parameter → Program) →
+        definitions.with_parameter name default before.now k ≡ k (before.now ++ made ∷ [])) }
+    ensures refused { IfErr result
+        (λ i. Interrupts i (λ e. (k : List Parameter → Program) →
+        EndsSo (definitions.with_parameter name default before.now k) e)) }
 {
     if !is_plain_name(name.as_str()) || has_name(&name, before) {
         return Err(bad_name(alloc, name.as_str()));
@@ -65,8 +69,12 @@ fn read_parameter(
     text: &Value,
     before: &[Parameter],
 ) -> Result<Parameter, Interruption>
-    ensures made { IfOk result (λ made. (k : List Parameter → Program) → reads_parameter text.now before.now k ≡ k (before.now ++ made ∷ [])) }
-    ensures refused { IfErr result (λ i. Interrupts i (λ e. (k : List Parameter → Program) → EndsSo (reads_parameter text.now before.now k) e)) }
+    ensures made { IfOk result
+        (λ made. (k : List Parameter → Program) →
+        reads_parameter text.now before.now k ≡ k (before.now ++ made ∷ [])) }
+    ensures refused { IfErr result
+        (λ i. Interrupts i (λ e. (k : List Parameter → Program) →
+        EndsSo (reads_parameter text.now before.now k) e)) }
 {
     let mut own = text.clone()?;
     let words = read_list(alloc, &mut own)?;
@@ -84,8 +92,11 @@ fn read_parameter(
 
 /// The parameters of a procedure, from the left.
 fn read_parameters(alloc: Global, text: &Value) -> Result<Vec<Parameter>, Interruption>
-    ensures made { IfOk result (λ made. (k : List Parameter → Program) → parameters_from text.now k ≡ k made.items) }
-    ensures refused { IfErr result (λ i. Interrupts i (λ e. (k : List Parameter → Program) → EndsSo (parameters_from text.now k) e)) }
+    ensures made { IfOk result
+        (λ made. (k : List Parameter → Program) → parameters_from text.now k ≡ k made.items) }
+    ensures refused { IfErr result
+        (λ i. Interrupts i (λ e. (k : List Parameter → Program) →
+        EndsSo (parameters_from text.now k) e)) }
 {
     let mut own = text.clone()?;
     let texts = read_list(alloc, &mut own)?;
@@ -106,13 +117,15 @@ fn define(
     procedure: Procedure,
 ) -> Result<Value, Interruption>
     requires { (p : Path) × Names tree.old place p }
-    ensures acts { Acts tree.old place (λ style. renaming done_so (λ own. named own name.now (command.Procedure procedure))) tree.new result }
+    ensures acts { Acts tree.old place
+        (λ style. renaming done_so (λ own. named own name.now (command.Procedure procedure)))
+        tree.new result }
     ensures level { IsLevel tree.old tree.new }
 {
     let kept = kept_name(alloc, name)?;
     match tree.set_proc_at(place, kept, procedure) {
         Ok(()) => Ok(Value::empty()),
-        Err(refusal) => Err(told(alloc, refusal, name)),
+        Err(refusal) => Err(naming_failure(alloc, refusal, name)),
     }
 }
 
@@ -161,7 +174,8 @@ pub fn rename_to(
     new: &Value,
 ) -> Result<Value, Interruption>
     requires { (p : Path) × Names tree.old place p }
-    ensures acts { Acts tree.old place (λ style. renaming done_so (λ own. renamed own old.now new.now)) tree.new result }
+    ensures acts { Acts tree.old place
+        (λ style. renaming done_so (λ own. renamed own old.now new.now)) tree.new result }
     ensures level { IsLevel tree.old tree.new }
 {
     let name = kept_name(alloc, old)?;
@@ -169,7 +183,7 @@ pub fn rename_to(
     let new_name = kept_name(alloc, new)?;
     match tree.rename_at(place, &name, new_name) {
         Ok(()) => Ok(Value::empty()),
-        Err(refusal) => Err(told(alloc, refusal, new)),
+        Err(refusal) => Err(naming_failure(alloc, refusal, new)),
     }
 }
 
@@ -184,13 +198,14 @@ pub fn remove(
     name: &Value,
 ) -> Result<Value, Interruption>
     requires { (p : Path) × Names tree.old place p }
-    ensures acts { Acts tree.old place (λ style. renaming done_so (λ own. removed own name.now)) tree.new result }
+    ensures acts { Acts tree.old place
+        (λ style. renaming done_so (λ own. removed own name.now)) tree.new result }
     ensures level { IsLevel tree.old tree.new }
 {
     let kept = kept_name(alloc, name)?;
     match tree.remove_at(place, &kept) {
         Ok(()) => Ok(Value::empty()),
-        Err(refusal) => Err(told(alloc, refusal, name)),
+        Err(refusal) => Err(naming_failure(alloc, refusal, name)),
     }
 }
 
@@ -217,7 +232,8 @@ pub fn names_child(
     place: Place,
     name: &Value,
 ) -> Result<bool, AllocError>
-    ensures { IfOk result (λ is. (p : Path) (n : core.Node Own) → Names tree.now place p → tree_of tree.now p ≡ Some n → is ≡ definitions.child_named n.own (command_name name.now)) }
+    ensures { IfOk result (λ is. (p : Path) (n : core.Node Own) → Names tree.now place p →
+        tree_of tree.now p ≡ Some n → is ≡ definitions.child_named n.own (command_name name.now)) }
 {
     match name_of(alloc, name)? {
         Some(kept) => Ok(is_child(tree.command_at(place, &kept))),

@@ -38,7 +38,8 @@ fn error_of(message: &Value, errorcode: &Value) -> Result<Completion, AllocError
     })
 }
 
-/// `error message ?errorInfo? ?errorCode?`: an error of this message; what it would add to a trace is dropped.
+/// `error message ?errorInfo? ?errorCode?`: an error of this message; what it would add to a trace
+/// is dropped.
 ///
 /// # Errors
 /// The error; 241; want of memory.

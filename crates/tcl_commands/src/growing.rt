@@ -1,4 +1,5 @@
-//! Adding to variables, and the commands that do it to texts and lists: in place, where what a variable holds isn't shared.
+//! Adding to variables, and the commands that do it to texts and lists: in place, where what a
+//! variable holds isn't shared.
 ghost use Rattle.std.specs.Prelude.{◌≡◌, ◌++◌, Ok, IfErr, OnOk, true};
 ghost use Rattle.tcl_core.specs.Paths.{Path};
 ghost use Rattle.tcl_language.specs.Data as collections;
@@ -66,7 +67,8 @@ pub(crate) enum Growth {
     Texts,
     /// Elements behind those of its list.
     Elements,
-    /// What is added to its integer, in this style of integer texts: that of the first word, or 1 where there is none.
+    /// What is added to its integer, in this style of integer texts: that of the first word, or 1
+    /// where there is none.
     Sum(Integers),
 }
 
@@ -137,8 +139,10 @@ fn make_variable(
     growth: Growth,
     more: &[Value],
 ) -> Result<Value, Interruption>
-    requires { variables.or_missing (first_of growth) (read frames.old.frames name.now) ≡ Ok (first_of growth) }
-    ensures { Grows (first_of growth) frames.old name.now (grown_by growth more.now) frames.new result }
+    requires { variables.or_missing (first_of growth) (read frames.old.frames name.now)
+        ≡ Ok (first_of growth) }
+    ensures { Grows (first_of growth) frames.old name.now (grown_by growth more.now) frames.new
+        result }
 {
     let mut value = first_value(growth);
     let grown = grow_value(alloc, &mut value, growth, more)?;
@@ -156,7 +160,8 @@ fn grow(
     growth: Growth,
     more: &[Value],
 ) -> Result<Value, Interruption>
-    ensures { Grows (first_of growth) frames.old name.now (grown_by growth more.now) frames.new result }
+    ensures { Grows (first_of growth) frames.old name.now (grown_by growth more.now) frames.new
+        result }
 {
     match frames.get_mut(alloc, name) {
         Ok(value) => grow_value(alloc, value, growth, more),
@@ -179,7 +184,10 @@ pub(crate) fn grow_variable(
     more: &[Value],
 ) -> Result<Value, Interruption>
     requires { (p : Path) × Names tree.old place p }
-    ensures acts { Acts tree.old place (λ style. look (λ n. finishes n.own (grown (first_of growth) n.own.chain name.now (grown_by growth more.now)))) tree.new result }
+    ensures acts { Acts tree.old place
+        (λ style. look (λ n. finishes n.own
+        (grown (first_of growth) n.own.chain name.now (grown_by growth more.now)))) tree.new
+        result }
     ensures level { IsLevel tree.old tree.new }
 {
     match tree.frames_of(place) {
@@ -188,8 +196,8 @@ pub(crate) fn grow_variable(
     }
 }
 
-/// `append varName ?value ...?`: adds values to the text of a variable, which is empty where there is none. With no value the variable is
-/// read.
+/// `append varName ?value ...?`: adds values to the text of a variable, which is empty where there
+/// is none. With no value the variable is read.
 ///
 /// # Errors
 /// 241; 231 to 234 and 238; 122; want of memory.
@@ -216,7 +224,8 @@ pub fn append(
     }
 }
 
-/// `lappend varName ?value ...?`: adds elements to the list of a variable, which is empty where there is none.
+/// `lappend varName ?value ...?`: adds elements to the list of a variable, which is empty where
+/// there is none.
 ///
 /// # Errors
 /// 241; 232, 233 and 238; 101 to 104; 122; want of memory.

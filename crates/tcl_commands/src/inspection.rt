@@ -44,7 +44,8 @@ fn number_value(alloc: Global, n: u64) -> Result<Value, AllocError>
 /// How many steps were counted in the interpreter that the place names.
 fn steps_counted(tree: &Tree, place: Place) -> u64
     requires { (p : Path) × Names tree.now place p }
-    ensures { (p : Path) (n : trees.Node Own) → Names tree.now place p → tree_of tree.now p ≡ Some n → result ≡ n.count }
+    ensures { (p : Path) (n : trees.Node Own) → Names tree.now place p →
+        tree_of tree.now p ≡ Some n → result ≡ n.count }
 {
     match tree.node_at(place) {
         Some(node) => node.state.count,
@@ -105,7 +106,9 @@ fn matching(alloc: Global, pattern: &str, names: &[Text]) -> Result<Vec<Text>, A
 
 /// The list of texts as a value.
 fn list_value(alloc: Global, texts: &[Text]) -> Result<Value, Interruption>
-    ensures { IfEnded result (λ r. r ≡ Completed (either (fits (written_list texts.now)) (core.ok (written_list texts.now)) language.too_long)) }
+    ensures { IfEnded result (λ r. r
+        ≡ Completed (either (fits (written_list texts.now)) (core.ok (written_list texts.now))
+        language.too_long)) }
 {
     let text = Text::from_string(alloc, write_list(alloc, texts)?)?;
     match Value::from_text(text) {
@@ -114,7 +117,8 @@ fn list_value(alloc: Global, texts: &[Text]) -> Result<Value, Interruption>
     }
 }
 
-/// `info vars ?pattern?`, `info globals ?pattern?` and `info locals ?pattern?`: the names of which the scope speaks.
+/// `info vars ?pattern?`, `info globals ?pattern?` and `info locals ?pattern?`: the names of which
+/// the scope speaks.
 fn names(
     tree: &Tree,
     alloc: Global,
@@ -124,7 +128,8 @@ fn names(
     args: &[Value],
 ) -> Result<Value, Interruption>
     requires { (p : Path) × Names tree.now place p }
-    ensures { Acts tree.now place (λ style. inspection.names scope form.now args.now) tree.now result }
+    ensures { Acts tree.now place (λ style. inspection.names scope form.now args.now) tree.now
+        result }
 {
     match args {
         [] => {
@@ -153,7 +158,9 @@ fn numbered(top: usize, number: i64) -> Option<usize>
 
 /// The words of the call at the level of a number, if there is one. Level 0 has none.
 fn words_numbered(frames: &Frames, number: i64) -> Option<&[Value]>
-    ensures { option_copied result ≡ words_numbered (inspection.numbered (current frames.now.frames) number) frames.now.frames }
+    ensures { option_copied result
+        ≡ words_numbered (inspection.numbered (current frames.now.frames) number)
+        frames.now.frames }
 {
     match numbered(frames.level(), number) {
         None => None,
@@ -171,7 +178,9 @@ fn call_words(
     number: i64,
 ) -> Result<Value, Interruption>
     requires { (p : Path) × Names tree.now place p }
-    ensures { Acts tree.now place (λ style. look (λ n. inspection.words_of word.now (inspection.numbered (current n.own.chain.frames) number) n)) tree.now result }
+    ensures { Acts tree.now place (λ style. look
+        (λ n. inspection.words_of word.now (inspection.numbered (current n.own.chain.frames) number)
+        n)) tree.now result }
 {
     match words_numbered(frames_seen(tree, place), number) {
         Some(words) => answered(alloc, commands::list(alloc, words)),
@@ -203,7 +212,8 @@ fn subcommand(
     args: &[Value],
 ) -> Result<Value, Interruption>
     requires { (p : Path) × Names tree.now place p }
-    ensures { Acts tree.now place (λ style. inspection.chosen style word.now args.now) tree.now result }
+    ensures { Acts tree.now place (λ style. inspection.chosen style word.now args.now) tree.now
+        result }
 {
     if word.is_text(b"cmdcount") {
         return cmdcount(tree, alloc, place, args);

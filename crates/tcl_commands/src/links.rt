@@ -24,7 +24,8 @@ use tcl_variables::name::read_name;
 /// The level that a word names.
 fn level(tree: &Tree, alloc: Global, place: Place, word: &str) -> Result<usize, Interruption>
     requires { (p : Path) × Names tree.now place p }
-    ensures { Finds tree.now place (λ rest style. variables.level style word.now (λ n. rest n style)) tree.now result }
+    ensures { Finds tree.now place
+        (λ rest style. variables.level style word.now (λ n. rest n style)) tree.now result }
 {
     let current = frames_seen(tree, place).level();
     if current > MOST_LEVELS {
@@ -45,7 +46,8 @@ fn link_all(
     names: &[Value],
 ) -> Result<Value, Interruption>
     requires { (p : Path) × Names tree.old place p }
-    ensures acts { Acts tree.old place (λ style. variables.link_all level names.now) tree.new result }
+    ensures acts { Acts tree.old place
+        (λ style. variables.link_all level names.now) tree.new result }
     ensures level { IsLevel tree.old tree.new }
 {
     let mut left = names;
@@ -58,8 +60,8 @@ fn link_all(
     Ok(Value::empty())
 }
 
-/// `upvar ?level? otherVar localVar ?otherVar localVar ...?`: makes local names links to what other names are at a level, which is that of
-/// the caller where none is named.
+/// `upvar ?level? otherVar localVar ?otherVar localVar ...?`: makes local names links to what other
+/// names are at a level, which is that of the caller where none is named.
 ///
 /// # Errors
 /// 241; 235 of the level; of each pair in turn, 238, 237, 233 and 236; want of memory.

@@ -4,7 +4,8 @@ ghost use Rattle.tcl_language.specs.Data.{answered};
 ghost use Rattle.tcl_language.specs.Instructions.{gives};
 ghost use Rattle.tcl_list_texts.specs.Joining.{concat_of, join_of};
 ghost use Rattle.tcl_list_texts.specs.Splitting.{split_of};
-ghost use Rattle.tcl_lists.specs.Lists.{lindex_of, linsert_of, llength_of, lrange_of, lrepeat_of, lreplace_of, lreverse_of};
+ghost use Rattle.tcl_lists.specs.Lists.{lindex_of, linsert_of, llength_of, lrange_of, lrepeat_of};
+ghost use Rattle.tcl_lists.specs.Lists.{lreplace_of, lreverse_of};
 ghost use Rattle.tcl_run.specs.Plain.{Acts};
 ghost use Rattle.tcl_run.specs.Runs.{IsLevel};
 ghost use Rattle.tcl_text.specs.Writing.{written_list};
@@ -50,7 +51,8 @@ pub fn lindex(
     place: Place,
     args: &[Value],
 ) -> Result<Value, Interruption>
-    ensures acts { Acts tree.old place (λ style. answered (lindex_of style args.now)) tree.new result }
+    ensures acts { Acts tree.old place
+        (λ style. answered (lindex_of style args.now)) tree.new result }
     ensures level { IsLevel tree.old tree.new }
 {
     answered(alloc, indexes::lindex(alloc, tree.integers(), args))
@@ -63,7 +65,8 @@ pub fn lrange(
     place: Place,
     args: &[Value],
 ) -> Result<Value, Interruption>
-    ensures acts { Acts tree.old place (λ style. answered (lrange_of style args.now)) tree.new result }
+    ensures acts { Acts tree.old place
+        (λ style. answered (lrange_of style args.now)) tree.new result }
     ensures level { IsLevel tree.old tree.new }
 {
     answered(alloc, commands::lrange(alloc, tree.integers(), args))
@@ -76,20 +79,23 @@ pub fn linsert(
     place: Place,
     args: &[Value],
 ) -> Result<Value, Interruption>
-    ensures acts { Acts tree.old place (λ style. answered (linsert_of style args.now)) tree.new result }
+    ensures acts { Acts tree.old place
+        (λ style. answered (linsert_of style args.now)) tree.new result }
     ensures level { IsLevel tree.old tree.new }
 {
     answered(alloc, commands::linsert(alloc, tree.integers(), args))
 }
 
-/// `lreplace list first last ?element ...?`: the list with elements in the place of those between two indexes.
+/// `lreplace list first last ?element ...?`: the list with elements in the place of those between
+/// two indexes.
 pub fn lreplace(
     tree: &mut Tree,
     alloc: Global,
     place: Place,
     args: &[Value],
 ) -> Result<Value, Interruption>
-    ensures acts { Acts tree.old place (λ style. answered (lreplace_of style args.now)) tree.new result }
+    ensures acts { Acts tree.old place
+        (λ style. answered (lreplace_of style args.now)) tree.new result }
     ensures level { IsLevel tree.old tree.new }
 {
     answered(alloc, commands::lreplace(alloc, tree.integers(), args))
@@ -102,7 +108,8 @@ pub fn lrepeat(
     place: Place,
     args: &[Value],
 ) -> Result<Value, Interruption>
-    ensures acts { Acts tree.old place (λ style. answered (lrepeat_of style args.now)) tree.new result }
+    ensures acts { Acts tree.old place
+        (λ style. answered (lrepeat_of style args.now)) tree.new result }
     ensures level { IsLevel tree.old tree.new }
 {
     answered(alloc, lengthening::lrepeat(alloc, tree.integers(), args))

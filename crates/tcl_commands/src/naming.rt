@@ -6,7 +6,8 @@ ghost use Rattle.tcl_language.specs.Naming.{command_name, without_colons};
 ghost use Rattle.tcl_run.specs.Ends.{Interrupts};
 ghost use Rattle.tcl_tree.specs.Own.{Own, command_in};
 ghost use Rattle.tcl_tree.specs.TreeOf.{tree_of, Names};
-ghost use Rattle.tcl_commands.specs.Renaming.{IsBadName, IsNoOwnCommand, IsOwnCommand, TellsRefusal};
+ghost use Rattle.tcl_commands.specs.Renaming.{IsBadName, IsNoOwnCommand, IsOwnCommand};
+ghost use Rattle.tcl_commands.specs.Renaming.{TellsRefusal};
 
 use std::alloc::{AllocError, Global};
 use tcl_run::failure::{already_exists, bad_name, denied, invalid_command, invalid_hidden};
@@ -28,7 +29,8 @@ fn plain(name: Text) -> Option<Text>
     Some(name)
 }
 
-/// The name by which a command is kept that is named so, where one can be: two leading colons name the global level, which is the only one.
+/// The name by which a command is kept that is named so, where one can be: two leading colons name
+/// the global level, which is the only one.
 pub(crate) fn name_of(alloc: Global, word: &Value) -> Result<Option<Text>, AllocError>
     ensures { IfOk result (λ name. name ≡ command_name word.now) }
 {
@@ -45,7 +47,8 @@ pub(crate) fn name_of(alloc: Global, word: &Value) -> Result<Option<Text>, Alloc
 /// 238; want of memory.
 pub(crate) fn kept_name(alloc: Global, word: &Value) -> Result<Text, Interruption>
     ensures kept { IfOk result (λ name. command_name word.now ≡ Some name) }
-    ensures refused { IfErr result (λ i. Interrupts i (IsBadName word.now (command_name word.now))) }
+    ensures refused { IfErr result
+        (λ i. Interrupts i (IsBadName word.now (command_name word.now))) }
 {
     match name_of(alloc, word)? {
         Some(name) => Ok(name),
@@ -54,7 +57,7 @@ pub(crate) fn kept_name(alloc: Global, word: &Value) -> Result<Text, Interruptio
 }
 
 /// What is told of a refusal to name a command, with the word that is wrong.
-pub(crate) fn told(alloc: Global, refusal: Refusal, word: &Value) -> Interruption
+pub(crate) fn naming_failure(alloc: Global, refusal: Refusal, word: &Value) -> Interruption
     ensures { TellsRefusal refusal word.now result }
 {
     let Ok(text) = word.text(alloc) else {
@@ -88,11 +91,14 @@ pub(crate) fn own_command(
     name: &Text,
     word: &Value,
 ) -> Result<(), Interruption>
-    ensures there { OnOk result ((p : Path) (n : core.Node Own) → Names tree.now place p → tree_of tree.now p ≡ Some n → IsOwnCommand (command_in n.own name.now)) }
-    ensures refused { IfErr result (λ i. Interrupts i (λ e. (p : Path) (n : core.Node Own) → Names tree.now place p → tree_of tree.now p ≡ Some n → IsNoOwnCommand word.now (command_in n.own name.now) e)) }
+    ensures there { OnOk result ((p : Path) (n : core.Node Own) → Names tree.now place p →
+        tree_of tree.now p ≡ Some n → IsOwnCommand (command_in n.own name.now)) }
+    ensures refused { IfErr result
+        (λ i. Interrupts i (λ e. (p : Path) (n : core.Node Own) → Names tree.now place p →
+        tree_of tree.now p ≡ Some n → IsNoOwnCommand word.now (command_in n.own name.now) e)) }
 {
     match tree.command_at(place, name) {
-        None => Err(told(alloc, Refusal::NoCommand, word)),
+        None => Err(naming_failure(alloc, Refusal::NoCommand, word)),
         Some(command) => not_child(alloc, command, word),
     }
 }
@@ -100,10 +106,11 @@ pub(crate) fn own_command(
 /// Sees to it that a command isn't a child.
 fn not_child(alloc: Global, command: &Command, word: &Value) -> Result<(), Interruption>
     ensures own { OnOk result (IsOwnCommand (Some command.now)) }
-    ensures refused { IfErr result (λ i. Interrupts i (IsNoOwnCommand word.now (Some command.now))) }
+    ensures refused { IfErr result
+        (λ i. Interrupts i (IsNoOwnCommand word.now (Some command.now))) }
 {
     match command {
-        Command::Child => Err(told(alloc, Refusal::Exists, word)),
+        Command::Child => Err(naming_failure(alloc, Refusal::Exists, word)),
         Command::Builtin(_) => Ok(()),
         Command::Procedure(_) => Ok(()),
         Command::Alias(_) => Ok(()),

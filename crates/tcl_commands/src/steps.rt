@@ -29,7 +29,8 @@ use tcl_variables::fault::{FrameError, FrameFault};
 /// The frames of the interpreter that the place names.
 pub(crate) fn frames_seen(tree: &Tree, place: Place) -> &Frames
     requires { (p : Path) × Names tree.now place p }
-    ensures { (p : Path) (n : core.Node Own) → Names tree.now place p → tree_of tree.now p ≡ Some n → result.now ≡ n.own.chain }
+    ensures { (p : Path) (n : core.Node Own) → Names tree.now place p →
+        tree_of tree.now p ≡ Some n → result.now ≡ n.own.chain }
 {
     match tree.node_at(place) {
         Some(node) => &node.state.frames,
@@ -46,7 +47,8 @@ pub(crate) fn set_variable(
     value: Value,
 ) -> Result<(), Interruption>
     requires { (p : Path) × Names tree.old place p }
-    ensures set { Steps tree.old place (λ rest style. sets name.now value (rest style)) tree.new result }
+    ensures set { Steps tree.old place
+        (λ rest style. sets name.now value (rest style)) tree.new result }
     ensures level { IsLevel tree.old tree.new }
 {
     write_variable(tree, alloc, place, name, value)
@@ -62,7 +64,9 @@ pub(crate) fn link_variable(
     local: &Text,
 ) -> Result<(), Interruption>
     requires { (p : Path) × Names tree.old place p }
-    ensures linked { Steps tree.old place (λ rest style. look (λ n. chain_becomes n.own (after_link n.own.chain level other.now local.now) (rest style))) tree.new result }
+    ensures linked { Steps tree.old place
+        (λ rest style. look (λ n. chain_becomes n.own
+        (after_link n.own.chain level other.now local.now) (rest style))) tree.new result }
     ensures level { IsLevel tree.old tree.new }
 {
     match tree.frames_of(place) {
@@ -90,7 +94,8 @@ fn is_bad_name(fault: &FrameFault) -> bool
     }
 }
 
-/// What comes of an error of unsetting a variable, where all refusals but one are hidden or where none is.
+/// What comes of an error of unsetting a variable, where all refusals but one are hidden or where
+/// none is.
 fn left_set(alloc: Global, hides: bool, error: FrameError) -> Result<(), Interruption>
     ensures { LeavesSet hides error result }
 {
@@ -114,7 +119,9 @@ pub(crate) fn unset_variable(
     name: &Text,
 ) -> Result<(), Interruption>
     requires { (p : Path) × Names tree.old place p }
-    ensures unset { Steps tree.old place (λ rest style. look (λ n. unset_left hides n.own (rest style) (after_unset n.own.chain name.now))) tree.new result }
+    ensures unset { Steps tree.old place
+        (λ rest style. look (λ n. unset_left hides n.own (rest style)
+        (after_unset n.own.chain name.now))) tree.new result }
     ensures level { IsLevel tree.old tree.new }
 {
     match tree.frames_of(place) {
@@ -189,7 +196,8 @@ pub(crate) fn integer(
 
 /// The integer of a word.
 pub fn word_integer(tree: &Tree, alloc: Global, word: &Value) -> Result<i64, Interruption>
-    ensures { Gave (integer_message word.now) (in_64_bits (integer_of (marks_of tree.now).integers word.now)) result }
+    ensures { Gave (integer_message word.now)
+        (in_64_bits (integer_of (marks_of tree.now).integers word.now)) result }
 {
     let mut own = word.clone()?;
     integer(tree.integers(), alloc, &mut own)

@@ -42,7 +42,8 @@ pub fn string(
     place: Place,
     args: &[Value],
 ) -> Result<Value, Interruption>
-    ensures acts { Acts tree.old place (λ style. answered (string_of style args.now)) tree.new result }
+    ensures acts { Acts tree.old place
+        (λ style. answered (string_of style args.now)) tree.new result }
     ensures level { IsLevel tree.old tree.new }
 {
     answered(alloc, string_value(alloc, tree.integers(), args))
@@ -55,7 +56,8 @@ pub fn format(
     place: Place,
     args: &[Value],
 ) -> Result<Value, Interruption>
-    ensures acts { Acts tree.old place (λ style. answered (format_of style args.now)) tree.new result }
+    ensures acts { Acts tree.old place
+        (λ style. answered (format_of style args.now)) tree.new result }
     ensures level { IsLevel tree.old tree.new }
 {
     answered(alloc, format_value(alloc, tree.integers(), args))

@@ -14,7 +14,8 @@ use tcl_value::value::Value;
 
 /// What stands behind the end of the options, if that is marked.
 fn behind_options(words: &[Value]) -> &[Value]
-    ensures { (hides : Bool) → variables.after_dashes hides words.now ≡ variables.unset_all hides result.now }
+    ensures { (hides : Bool) → variables.after_dashes hides words.now
+        ≡ variables.unset_all hides result.now }
 {
     match words {
         [word, names @ ..] => { if word.is_text(b"--") { names } else { words } }
@@ -31,7 +32,8 @@ fn unset_all(
     names: &[Value],
 ) -> Result<Value, Interruption>
     requires { (p : Path) × Names tree.old place p }
-    ensures acts { Acts tree.old place (λ style. variables.unset_all hides names.now) tree.new result }
+    ensures acts { Acts tree.old place
+        (λ style. variables.unset_all hides names.now) tree.new result }
     ensures level { IsLevel tree.old tree.new }
 {
     'names: for name in names {
@@ -41,8 +43,8 @@ fn unset_all(
     Ok(Value::empty())
 }
 
-/// `unset ?-nocomplain? ?--? ?name ...?`: unsets variables from the left, up to the first that is refused. With `-nocomplain` only names
-/// that no variable may have are refused.
+/// `unset ?-nocomplain? ?--? ?name ...?`: unsets variables from the left, up to the first that is
+/// refused. With `-nocomplain` only names that no variable may have are refused.
 ///
 /// # Errors
 /// 231, 233, 234 and 238; want of memory.

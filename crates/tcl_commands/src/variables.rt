@@ -45,7 +45,8 @@ pub fn set(
 /// `incr varName ?increment?`: adds to the integer of a variable, which is 0 where there is none.
 ///
 /// # Errors
-/// 241; 232, 233 and 238; 111 and 112 of the variable and then of the increment; 113 of the sum; want of memory.
+/// 241; 232, 233 and 238; 111 and 112 of the variable and then of the increment; 113 of the sum;
+/// want of memory.
 pub fn incr(
     tree: &mut Tree,
     alloc: Global,

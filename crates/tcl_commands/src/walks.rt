@@ -1,5 +1,6 @@
 //! Variables that are set to the elements of a list.
-ghost use Rattle.std.specs.Prelude.{◌≡◌, ◌-◌, ℕ, [], List, drop, length, slice_index_or, IfOk, IfErr};
+ghost use Rattle.std.specs.Prelude.{◌≡◌, ◌-◌, ℕ, [], List, drop, length, slice_index_or, IfOk};
+ghost use Rattle.std.specs.Prelude.{IfErr};
 ghost use Rattle.tcl_core.specs.Paths.{Path};
 ghost use Rattle.tcl_language.specs.Control as control;
 ghost use Rattle.tcl_language.specs.Instructions.{Program};
@@ -33,7 +34,8 @@ fn place_after(elements: &Elements, at: usize) -> usize
     if at < elements.len() { at + 1 } else { at }
 }
 
-/// Sets variables to the elements of a list from a place on, and to empty values where none is left. Gives the place of what is left.
+/// Sets variables to the elements of a list from a place on, and to empty values where none is
+/// left. Gives the place of what is left.
 ///
 /// # Errors
 /// 232, 233 and 238 of the first that is refused; want of memory.
@@ -46,9 +48,16 @@ pub(crate) fn set_names(
     from: usize,
 ) -> Result<usize, Interruption>
     requires { (p : Path) × Names tree.old place p }
-    ensures set { IfOk result (λ at. (k : List (List ℕ) → Program) → GetsTo tree.old place (control.sets_names names.now (drop from elements.now) k) tree.new (k (drop at elements.now))) }
-    ensures fewer { IfOk result (λ at. length (drop at elements.now) ≡ length (drop from elements.now) - length names.now) }
-    ensures refused { IfErr result (λ i. Interrupts i (λ e. (k : List (List ℕ) → Program) → GetsToEnd tree.old place (control.sets_names names.now (drop from elements.now) k) tree.new e)) }
+    ensures set { IfOk result
+        (λ at. (k : List (List ℕ) → Program) →
+        GetsTo tree.old place (control.sets_names names.now (drop from elements.now) k) tree.new
+        (k (drop at elements.now))) }
+    ensures fewer { IfOk result
+        (λ at. length (drop at elements.now) ≡ length (drop from elements.now) - length names.now) }
+    ensures refused { IfErr result
+        (λ i. Interrupts i (λ e. (k : List (List ℕ) → Program) →
+        GetsToEnd tree.old place (control.sets_names names.now (drop from elements.now) k) tree.new
+        e)) }
     ensures level { IsLevel tree.old tree.new }
 {
     let mut at = from;

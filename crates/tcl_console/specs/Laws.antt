@@ -4,5 +4,6 @@ use Rattle.tcl_host.specs.Hosts.{IsLawful}
 use Rattle.tcl_host.specs.declared.request.Request.{Request}
 use Rattle.tcl_host.specs.declared.reply.HostReply.{HostReply}
 
-pub steps-lawful : (old new : Seen) (request : Request) (reply : HostReply) → Steps old request reply new → IsLawful old.failures new.failures request reply
+pub steps-lawful : (old new : Seen) (request : Request) (reply : HostReply) →
+    Steps old request reply new → IsLawful old.failures new.failures request reply
 steps-lawful old new request reply steps = steps.0

@@ -4,7 +4,7 @@ use Rattle.std.specs.Io.KnownBytes.{Appends, Keeps}
 use Rattle.tcl_host.specs.MemoryHost.{counted}
 use Rattle.tcl_host.specs.declared.reply.HostError.{HostError}
 use Rattle.tcl_host.specs.declared.reply.HostError.TheVariants.{Memory, Refused}
-use Rattle.tcl_host.specs.declared.reply.Refusal.TheVariants.{NoChannel, DeviceFault, NotOpened}
+use Rattle.tcl_host.specs.declared.reply.HostRefusal.TheVariants.{NoChannel, DeviceFault, NotOpened}
 use Rattle.tcl_console.specs.Steps.{Seen}
 
 -- why a call on a channel may give nothing
@@ -22,7 +22,8 @@ IsOpenRefusal (Refused DeviceFault) = Unit {0}
 IsOpenRefusal (Refused NotOpened) = Unit {0}
 
 -- a write to a stream that is open takes no memory
-abbrev pub PutsSo : Bool → List ℕ → Option (List ℕ) → Result (Unit {0}) HostError → Option (List ℕ) → Type 0
+abbrev pub PutsSo : Bool → List ℕ → Option (List ℕ) → Result (Unit {0}) HostError →
+    Option (List ℕ) → Type 0
 PutsSo true text old (Ok _) new = Appends old new text
 PutsSo true text old (Err (Refused DeviceFault)) new = Unit {0}
 PutsSo true text old (Err (Refused NoChannel)) new = Prim.⊥

@@ -1,4 +1,5 @@
--- What is seen of the standard streams of a process, and what each request does to them. Of what a device gives to be read, and of files, nothing is said.
+-- What is seen of the standard streams of a process, and what each request does to them. Of what a
+-- device gives to be read, and of files, nothing is said.
 use Rattle.std.specs.Prelude.{◌≡◌, ℕ, Bool, true, false, List, Option}
 use Rattle.std.specs.Io.KnownBytes.{Appends, Keeps}
 use Rattle.tcl_console.specs.Streams.{stream_of}
@@ -7,11 +8,12 @@ use Rattle.tcl_console.specs.declared.stream.Stream.TheVariants.{Input, Output, 
 use Rattle.tcl_host.specs.Hosts.{IsLawful}
 use Rattle.tcl_host.specs.declared.reply.HostReply.{HostReply}
 use Rattle.tcl_host.specs.declared.reply.HostReply.TheVariants.{Done, Refused}
-use Rattle.tcl_host.specs.declared.reply.Refusal.TheVariants.{NoChannel, DeviceFault}
+use Rattle.tcl_host.specs.declared.reply.HostRefusal.TheVariants.{NoChannel, DeviceFault}
 use Rattle.tcl_host.specs.declared.request.Request.{Request}
 use Rattle.tcl_host.specs.declared.request.Request.TheVariants as Asked
 
--- the bytes that the output and the errors hold, where they are known; which of the standard channels are open; and how many device faults were counted
+-- the bytes that the output and the errors hold, where they are known; which of the standard
+-- channels are open; and how many device faults were counted
 pub record Seen : Type 0 where
   pub output : Option (List ℕ)
   pub errors : Option (List ℕ)
@@ -33,8 +35,10 @@ Puts false text old reply new = (reply ≡ Refused NoChannel) × (new ≡ old)
 
 abbrev pub WritesTo : Stream → List ℕ → Seen → HostReply → Seen → Type 0
 WritesTo Input text old reply new = (reply ≡ Refused NoChannel) × (new ≡ old)
-WritesTo Output text old reply new = Puts old.has_output text old.output reply new.output × (new ≡ record old { output = new.output; failures = new.failures })
-WritesTo Errors text old reply new = Puts old.has_errors text old.errors reply new.errors × (new ≡ record old { errors = new.errors; failures = new.failures })
+WritesTo Output text old reply new = Puts old.has_output text old.output reply new.output ×
+    (new ≡ record old { output = new.output; failures = new.failures })
+WritesTo Errors text old reply new = Puts old.has_errors text old.errors reply new.errors ×
+    (new ≡ record old { errors = new.errors; failures = new.failures })
 WritesTo File text old reply new = Stands old new
 
 -- what was written stays as it was
@@ -44,8 +48,10 @@ Hands false old reply new = (reply ≡ Refused NoChannel) × (new ≡ old)
 
 abbrev pub FlushesOf : Stream → Seen → HostReply → Seen → Type 0
 FlushesOf Input old reply new = (reply ≡ Refused NoChannel) × (new ≡ old)
-FlushesOf Output old reply new = Hands old.has_output old.output reply new.output × (new ≡ record old { output = new.output; failures = new.failures })
-FlushesOf Errors old reply new = Hands old.has_errors old.errors reply new.errors × (new ≡ record old { errors = new.errors; failures = new.failures })
+FlushesOf Output old reply new = Hands old.has_output old.output reply new.output ×
+    (new ≡ record old { output = new.output; failures = new.failures })
+FlushesOf Errors old reply new = Hands old.has_errors old.errors reply new.errors ×
+    (new ≡ record old { errors = new.errors; failures = new.failures })
 FlushesOf File old reply new = Stands old new
 
 -- only an open channel is read
@@ -66,8 +72,10 @@ Shuts false reply = reply ≡ Refused NoChannel
 
 abbrev pub ClosesOf : Stream → Seen → HostReply → Seen → Type 0
 ClosesOf Input old reply new = Shuts old.has_input reply × (new ≡ record old { has_input = false })
-ClosesOf Output old reply new = Shuts old.has_output reply × (new ≡ record old { has_output = false })
-ClosesOf Errors old reply new = Shuts old.has_errors reply × (new ≡ record old { has_errors = false })
+ClosesOf Output old reply new = Shuts old.has_output reply ×
+    (new ≡ record old { has_output = false })
+ClosesOf Errors old reply new = Shuts old.has_errors reply ×
+    (new ≡ record old { has_errors = false })
 ClosesOf File old reply new = Stands old new
 
 -- what a request does to what is seen
@@ -82,4 +90,5 @@ Does (Asked.Eof name) old reply new = ReadsFrom (stream_of name) old reply new
 
 -- a step of the process's host
 abbrev pub Steps : Seen → Request → HostReply → Seen → Type 0
-Steps old request reply new = IsLawful old.failures new.failures request reply × Does request old reply new
+Steps old request reply new = IsLawful old.failures new.failures request reply ×
+    Does request old reply new

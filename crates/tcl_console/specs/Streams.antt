@@ -5,7 +5,7 @@ use Rattle.tcl_console.specs.declared.stream.Stream.{Stream}
 use Rattle.tcl_console.specs.declared.stream.Stream.TheVariants.{Input, Output, Errors, File}
 use Rattle.tcl_host.specs.declared.reply.HostError.{HostError}
 use Rattle.tcl_host.specs.declared.reply.HostError.TheVariants.{Memory, Refused}
-use Rattle.tcl_host.specs.declared.reply.Refusal.TheVariants.{NoChannel, DeviceFault, NotOpened}
+use Rattle.tcl_host.specs.declared.reply.HostRefusal.TheVariants.{NoChannel, DeviceFault, NotOpened}
 
 abbrev pub stream_of : List ℕ → Stream
 stream_of name =

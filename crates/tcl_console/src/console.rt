@@ -1,10 +1,11 @@
 //! The host of a process.
 ghost use Rattle.std.specs.Prelude.{◌≡◌, IfErr};
 ghost use Rattle.std.specs.Io.KnownBytes.{Appends};
-ghost use Rattle.tcl_console.specs.Replying.{PutsSo, HandsSo, IsReadRefusal, IsOpenRefusal, counted_by, shut_so};
+ghost use Rattle.tcl_console.specs.Replying.{PutsSo, HandsSo, IsReadRefusal, IsOpenRefusal};
+ghost use Rattle.tcl_console.specs.Replying.{counted_by, shut_so};
 ghost use Rattle.tcl_console.specs.Steps.{Seen};
 ghost use Rattle.tcl_host.specs.declared.reply.HostError.{HostError};
-ghost use Rattle.tcl_host.specs.declared.reply.Refusal.{Refusal};
+ghost use Rattle.tcl_host.specs.declared.reply.HostRefusal.{HostRefusal};
 
 use crate::input::Input;
 use crate::stream::Stream;
@@ -17,7 +18,7 @@ use std::marker::Model;
 use tcl_host::bytes::Bytes;
 use tcl_host::host::Host;
 use tcl_host::open_mode::OpenMode;
-use tcl_host::reply::{HostError, Refusal};
+use tcl_host::reply::{HostError, HostRefusal};
 use tcl_text::text::Text;
 
 /// An open file.
@@ -29,9 +30,11 @@ enum OpenFile<T: Read + Drop> {
     Writing(T),
 }
 
-/// A process's standard streams, as the channels `stdin`, `stdout` and `stderr`, and files. What is written isn't held back.
+/// A process's standard streams, as the channels `stdin`, `stdout` and `stderr`, and files. What is
+/// written isn't held back.
 ///
-/// A channel to a file is named `file` and a number; the first is `file3`. One read gives at most 16,777,217 bytes.
+/// A channel to a file is named `file` and a number; the first is `file3`. One read gives at most
+/// 16,777,217 bytes.
 #[derive(Drop)]
 pub struct Console<'a, F: Files, R: Read + Drop, W: Write + Drop, E: Write + Drop> {
     files: &'a F,
@@ -68,11 +71,11 @@ fn put<W: Write>(is_open: bool, writer: &mut W, text: &str) -> Result<(), HostEr
     ensures { PutsSo is_open text.now (W.contents writer.old) result (W.contents writer.new) }
 {
     if !is_open {
-        return Err(HostError::Refused(Refusal::NoChannel));
+        return Err(HostError::Refused(HostRefusal::NoChannel));
     }
     match writer.write_all(text.as_bytes()) {
         Ok(()) => Ok(()),
-        Err(_) => Err(HostError::Refused(Refusal::DeviceFault)),
+        Err(_) => Err(HostError::Refused(HostRefusal::DeviceFault)),
     }
 }
 
@@ -81,11 +84,11 @@ fn hand_on<W: Write>(is_open: bool, writer: &mut W) -> Result<(), HostError>
     ensures { HandsSo is_open (W.contents writer.old) result (W.contents writer.new) }
 {
     if !is_open {
-        return Err(HostError::Refused(Refusal::NoChannel));
+        return Err(HostError::Refused(HostRefusal::NoChannel));
     }
     match writer.flush() {
         Ok(()) => Ok(()),
-        Err(_) => Err(HostError::Refused(Refusal::DeviceFault)),
+        Err(_) => Err(HostError::Refused(HostRefusal::DeviceFault)),
     }
 }
 
@@ -96,7 +99,7 @@ fn shut(is_open: bool) -> Result<(), HostError>
     if is_open {
         Ok(())
     } else {
-        Err(HostError::Refused(Refusal::NoChannel))
+        Err(HostError::Refused(HostRefusal::NoChannel))
     }
 }
 
@@ -118,7 +121,7 @@ fn open_file<F: Files>(
             .open(files, name),
     };
     let Ok(file) = opened else {
-        return Err(HostError::Refused(Refusal::NotOpened));
+        return Err(HostError::Refused(HostRefusal::NotOpened));
     };
     match mode {
         OpenMode::Read => Ok(OpenFile::Reading(Input::new(alloc, file)?)),
@@ -140,7 +143,15 @@ impl<'a, F: Files, R: Read + Drop, W: Write + Drop, E: Write + Drop> Console<'a,
         output: W,
         errors: E,
     ) -> Result<Console<'a, F, R, W, E>, AllocError>
-        ensures { IfOk result (λ made. made ≡ record { output = W.contents output; errors = E.contents errors; has_input = true; has_output = true; has_errors = true; failures = 0 }) }
+        ensures { IfOk result (λ made. made
+            ≡ record {
+              output = W.contents output;
+              errors = E.contents errors;
+              has_input = true;
+              has_output = true;
+              has_errors = true;
+              failures = 0;
+            }) }
     {
         Ok(Console {
             files,
@@ -161,7 +172,7 @@ impl<'a, F: Files, R: Read + Drop, W: Write + Drop, E: Write + Drop> Console<'a,
         ensures same { result ≡ answer }
         ensures counted { self.new ≡ counted_by answer self.old }
     {
-        if let Err(HostError::Refused(Refusal::DeviceFault)) = &answer {
+        if let Err(HostError::Refused(HostRefusal::DeviceFault)) = &answer {
             if self.failures < u64::MAX {
                 self.failures += 1;
             }
@@ -176,7 +187,7 @@ impl<'a, F: Files, R: Read + Drop, W: Write + Drop, E: Write + Drop> Console<'a,
     {
         let next = self.next;
         if next == u64::MAX {
-            return Err(HostError::Refused(Refusal::NotOpened));
+            return Err(HostError::Refused(HostRefusal::NotOpened));
         }
         let key = format!(in alloc; "file{next}")?;
         let channel = Text::new(alloc, key.as_str())?;
@@ -194,7 +205,7 @@ impl<'a, F: Files, R: Read + Drop, W: Write + Drop, E: Write + Drop> Console<'a,
     {
         match self.channels.get_mut(channel) {
             Some(OpenFile::Reading(input)) => input.read_line(alloc),
-            Some(OpenFile::Writing(_)) | None => Err(HostError::Refused(Refusal::NoChannel)),
+            Some(OpenFile::Writing(_)) | None => Err(HostError::Refused(HostRefusal::NoChannel)),
         }
     }
 
@@ -205,17 +216,17 @@ impl<'a, F: Files, R: Read + Drop, W: Write + Drop, E: Write + Drop> Console<'a,
     {
         match self.channels.get_mut(channel) {
             Some(OpenFile::Reading(input)) => input.read_all(alloc),
-            Some(OpenFile::Writing(_)) | None => Err(HostError::Refused(Refusal::NoChannel)),
+            Some(OpenFile::Writing(_)) | None => Err(HostError::Refused(HostRefusal::NoChannel)),
         }
     }
 
     /// Whether the last read of a file met its end.
     fn is_file_at_end(&self, channel: &str) -> Result<bool, HostError>
-        ensures { IfErr result (λ e. e ≡ HostError.Refused Refusal.NoChannel) }
+        ensures { IfErr result (λ e. e ≡ HostError.Refused HostRefusal.NoChannel) }
     {
         match self.channels.get(channel) {
             Some(OpenFile::Reading(input)) => Ok(input.is_at_end()),
-            Some(OpenFile::Writing(_)) | None => Err(HostError::Refused(Refusal::NoChannel)),
+            Some(OpenFile::Writing(_)) | None => Err(HostError::Refused(HostRefusal::NoChannel)),
         }
     }
 
@@ -226,7 +237,7 @@ impl<'a, F: Files, R: Read + Drop, W: Write + Drop, E: Write + Drop> Console<'a,
     {
         match self.channels.get_mut(channel) {
             Some(OpenFile::Writing(file)) => put(true, file, text),
-            Some(OpenFile::Reading(_)) | None => Err(HostError::Refused(Refusal::NoChannel)),
+            Some(OpenFile::Reading(_)) | None => Err(HostError::Refused(HostRefusal::NoChannel)),
         }
     }
 
@@ -237,14 +248,14 @@ impl<'a, F: Files, R: Read + Drop, W: Write + Drop, E: Write + Drop> Console<'a,
     {
         match self.channels.get_mut(channel) {
             Some(OpenFile::Writing(file)) => hand_on(true, file),
-            Some(OpenFile::Reading(_)) | None => Err(HostError::Refused(Refusal::NoChannel)),
+            Some(OpenFile::Reading(_)) | None => Err(HostError::Refused(HostRefusal::NoChannel)),
         }
     }
 
     /// Closes a channel to a file.
     fn close_file(&mut self, channel: &str) -> Result<(), HostError>
         ensures seen { self.new ≡ self.old }
-        ensures fault { IfErr result (λ e. e ≡ HostError.Refused Refusal.NoChannel) }
+        ensures fault { IfErr result (λ e. e ≡ HostError.Refused HostRefusal.NoChannel) }
     {
         shut(self.channels.swap_remove(channel).is_some())
     }
@@ -271,7 +282,7 @@ impl<'a, F: Files, R: Read + Drop, W: Write + Drop, E: Write + Drop> Host
             Stream::Input if self.has_input => self.input.read_line(alloc),
             Stream::File => self.read_file_line(alloc, channel),
             Stream::Input | Stream::Output | Stream::Errors => {
-                Err(HostError::Refused(Refusal::NoChannel))
+                Err(HostError::Refused(HostRefusal::NoChannel))
             }
         };
         self.counted(line)
@@ -282,7 +293,7 @@ impl<'a, F: Files, R: Read + Drop, W: Write + Drop, E: Write + Drop> Host
             Stream::Input if self.has_input => self.input.read_all(alloc),
             Stream::File => self.read_file(alloc, channel),
             Stream::Input | Stream::Output | Stream::Errors => {
-                Err(HostError::Refused(Refusal::NoChannel))
+                Err(HostError::Refused(HostRefusal::NoChannel))
             }
         };
         self.counted(rest)
@@ -290,7 +301,7 @@ impl<'a, F: Files, R: Read + Drop, W: Write + Drop, E: Write + Drop> Host
 
     fn write(&mut self, channel: &str, text: &str) -> Result<(), HostError> {
         match Stream::named(channel) {
-            Stream::Input => Err(HostError::Refused(Refusal::NoChannel)),
+            Stream::Input => Err(HostError::Refused(HostRefusal::NoChannel)),
             Stream::Output => {
                 let written = put(self.has_output, &mut self.output, text);
                 self.counted(written)
@@ -308,7 +319,7 @@ impl<'a, F: Files, R: Read + Drop, W: Write + Drop, E: Write + Drop> Host
 
     fn flush(&mut self, channel: &str) -> Result<(), HostError> {
         match Stream::named(channel) {
-            Stream::Input => Err(HostError::Refused(Refusal::NoChannel)),
+            Stream::Input => Err(HostError::Refused(HostRefusal::NoChannel)),
             Stream::Output => {
                 let flushed = hand_on(self.has_output, &mut self.output);
                 self.counted(flushed)
@@ -350,7 +361,7 @@ impl<'a, F: Files, R: Read + Drop, W: Write + Drop, E: Write + Drop> Host
             Stream::Input if self.has_input => Ok(self.input.is_at_end()),
             Stream::File => self.is_file_at_end(channel),
             Stream::Input | Stream::Output | Stream::Errors => {
-                Err(HostError::Refused(Refusal::NoChannel))
+                Err(HostError::Refused(HostRefusal::NoChannel))
             }
         }
     }

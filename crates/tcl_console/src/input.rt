@@ -7,12 +7,14 @@ use std::alloc::{AllocError, Global};
 use std::io::{BufRead, BufReader, ErrorKind, Read, Take};
 use std::{io, mem};
 use tcl_host::bytes::Bytes;
-use tcl_host::reply::{HostError, Refusal};
+use tcl_host::reply::{HostError, HostRefusal};
 
-/// The most bytes that one read gives: with one more than a value may have, it is known to be too long.
+/// The most bytes that one read gives: with one more than a value may have, it is known to be too
+/// long.
 pub const MOST_READ: usize = 16_777_217;
 
-/// A reader that is read as a whole or line by line. What was read when a read failed is given by the next one.
+/// A reader that is read as a whole or line by line. What was read when a read failed is given by
+/// the next one.
 #[derive(Drop)]
 pub struct Input<R: Read + Drop> {
     reader: Take<BufReader<R>>,
@@ -28,7 +30,7 @@ fn fault_of(fault: &io::Error) -> HostError
 {
     match fault.kind() {
         ErrorKind::OutOfMemory => HostError::Memory,
-        _ => HostError::Refused(Refusal::DeviceFault),
+        _ => HostError::Refused(HostRefusal::DeviceFault),
     }
 }
 
@@ -87,7 +89,8 @@ impl<R: Read + Drop> Input<R> {
         self.reader.set_limit(room);
     }
 
-    /// What was read, which has the bytes up to the end where it is less than what one read may give.
+    /// What was read, which has the bytes up to the end where it is less than what one read may
+    /// give.
     fn given(&mut self, alloc: Global) -> Bytes {
         self.ended = self.pending.len() < MOST_READ;
         Bytes::from(mem::replace(&mut self.pending, Vec::new(alloc)))

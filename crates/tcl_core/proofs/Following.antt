@@ -1,4 +1,4 @@
--- What code threads is a run over the tape of what happened.
+-- What code executes is a run over the tape of what happened.
 use Rattle.std.proofs.Common.{◌≡◌, List, [], ◌∷◌, ◌++◌, Some, None, length, refl, sym, ◌∙◌, ap, subst, append_assoc, append-nil}
 use Rattle.tcl_core.specs.Paths.{Place}
 use Rattle.tcl_core.specs.Endings.{Reply, IsQuit}
@@ -11,8 +11,8 @@ use Rattle.tcl_core.specs.Programs.{Deed, Wait, spot, Act, Wrap, Prog, Table, de
 use Rattle.tcl_core.specs.Programs.Prog.{call}
 use Rattle.tcl_core.specs.Runs.{World, Step, Runs, carried, entering, height_of}
 use Rattle.tcl_core.specs.Rules.{Derives}
-use Rattle.tcl_core.specs.Threads.{Threads, Chain, none, more, before, event, Makes, Decides, Opens_so}
-use Rattle.tcl_core.specs.Threads.Threads.{completed, exited, acted, refused, went, passed, wrapped, wrapped_passed, too_deep, shut, called, called_passed, unreached, called_out, answered, heard, answered_passed, entered, entered_exiting}
+use Rattle.tcl_core.specs.Execution.{Executes, Chain, none, more, before, event, Makes, Decides, Opens_so}
+use Rattle.tcl_core.specs.Execution.Executes.{completed, exited, acted, refused, went, passed, wrapped, wrapped_passed, too_deep, shut, called, called_passed, unreached, called_out, answered, heard, answered_passed, entered, entered_exiting}
 use Rattle.tcl_core.specs.Views.{moves_of, grants_of}
 use Rattle.tcl_core.proofs.TreeLaws.{listed_one}
 use Rattle.tcl_core.proofs.Seeing.{is_exit_self}
@@ -103,7 +103,7 @@ module _ {O I S : Type 0} (step : Tree O → S → Wait → Event O → S → Ty
   first T U p x r a b z d =
       subst (λ y. Derives prog y p x (ahead U b z) (Some r)) (sym (ahead-append T a b z)) (subst (λ y. Derives prog (ahead T a (later b z)) p x y (Some r)) (ahead_later U b z) d)
 
-  pub follows : {T V : Tree O} {o z : S} {p : Place} {x : Prog O I} {r : Reply} → Threads step prog T o p x V z r → Says T o p x V z r
+  pub follows : {T V : Tree O} {o z : S} {p : Place} {x : Prog O I} {r : Reply} → Executes step prog T o p x V z r → Says T o p x V z r
   follows (completed {T} {o} {p} {c}) = record { events = []; chain = none; runs = λ y. Derives.completed (ahead T [] y) p c }
   follows (exited {T} {o} {p} {n}) = record { events = []; chain = none; runs = λ y. Derives.exited (ahead T [] y) p n }
   follows (acted {T} {V} {o} {u} {z} {p} {d} {k} {r} x is_so on s t) =
@@ -249,7 +249,7 @@ module _ {O I S : Type 0} (step : Tree O → S → Wait → Event O → S → Ty
             (exit_answer (ahead U last y) p (Some c) n (ahead U [] y) e (is_exit_self n) (next U p (Back c.0 (Replied (Exit n))) [] y));
       }
 
-  pub makes : {T V : Tree O} {o z : S} {p : Place} {x : Prog O I} {r : Reply} → Threads step prog T o p x V z r → Makes step prog T o p x V z r
+  pub makes : {T V : Tree O} {o z : S} {p : Place} {x : Prog O I} {r : Reply} → Executes step prog T o p x V z r → Makes step prog T o p x V z r
   makes {T} {V} {o} {z} {p} {x} {r} t =
       let h = follows t in
       record {

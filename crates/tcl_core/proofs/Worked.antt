@@ -13,7 +13,7 @@ use Rattle.tcl_core.specs.Programs.Next.{On, Off}
 use Rattle.tcl_core.specs.Programs.Prog.{wait}
 use Rattle.tcl_core.specs.Runs.{World, Step}
 use Rattle.tcl_core.specs.Views.{view}
-use Rattle.tcl_core.specs.Threads.{event}
+use Rattle.tcl_core.specs.Execution.{event}
 use Rattle.tcl_core.specs.Rules.{Derives}
 use Rattle.tcl_core.specs.Rules.Derives.{completed, acted, refused, wrapped, wrapped_passed, called, unanswered, unfit, entered}
 use Rattle.tcl_core.specs.Lives.{Outcome, alone, idle, never, spent_at, unwound}

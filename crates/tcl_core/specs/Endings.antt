@@ -3,7 +3,8 @@ use Rattle.std.specs.Prelude.{ℕ, zero, suc, ℤ, pos, ◌++◌, codes}
 use Rattle.std.specs.Fmt.{signed_decimal}
 use Rattle.tcl_core.specs.Paths.{Text}
 
--- The options of a completion. The code and the level matter where it is a return: what it comes to, and after how many levels.
+-- The options of a completion. The code and the level matter where it is a return: what it comes
+-- to, and after how many levels.
 pub record Options : Type 0 where
   pub code : ℤ
   pub level : ℕ
@@ -20,14 +21,14 @@ pub data Meter : Type 0 where
   Count : Meter
   Depth : Meter
 
--- What cuts an evaluation off from outside the tree: a stop that names an interpreter above it; or that its run is over, since the
--- budget is spent or a move didn't fit.
+-- What cuts an evaluation off from outside the tree: a stop that names an interpreter above it; or
+-- that its run is over, since the budget is spent or a move didn't fit.
 pub data Cause : Type 0 where
   Above : Cause
   Over : Cause
 
--- How an evaluation ends: by a completion; by a stop, which names the interpreter so many levels up from the one whose evaluation
--- ends; by the exit of the whole run; or cut off from outside.
+-- How an evaluation ends: by a completion; by a stop, which names the interpreter so many levels up
+-- from the one whose evaluation ends; by the exit of the whole run; or cut off from outside.
 pub data Reply : Type 0 where
   Completed : (completion : Completion) → Reply
   Stop : (levels : ℕ) (meter : Meter) → Reply
@@ -44,7 +45,11 @@ NONE = codes "NONE"
 
 -- the completion of that code and text, with nothing pending
 abbrev pub completion : ℤ → Text → Completion
-completion c t = record { code = c; text = t; options = record { code = c; level = 0; errorcode = NONE } }
+completion c t = record {
+  code = c;
+  text = t;
+  options = record { code = c; level = 0; errorcode = NONE };
+}
 
 abbrev pub ok : Text → Completion
 ok t = completion (pos 0) t
@@ -62,8 +67,12 @@ outside_of_loop word = error (codes "invoked \"" ++ word ++ codes "\" outside of
 
 -- a return comes one level nearer; at the last it gives its code
 abbrev pub returned_at : ℕ → Completion → Completion
-returned_at zero c = record c { code = c.options.code; options = record { code = c.options.code; level = 0; errorcode = c.options.errorcode } }
-returned_at (suc n) c = record c { options = record { code = c.options.code; level = suc n; errorcode = c.options.errorcode } }
+returned_at zero c = record c {
+  code = c.options.code;
+  options = record { code = c.options.code; level = 0; errorcode = c.options.errorcode };
+}
+returned_at (suc n) c = record c
+    { options = record { code = c.options.code; level = suc n; errorcode = c.options.errorcode } }
 
 abbrev pub lowered_to : ℕ → Completion → Completion
 lowered_to zero c = returned_at zero c

@@ -46,8 +46,9 @@ answers (AtEnd c) (Is b) = true
 answers q (Fails n) = true
 answers q a = false
 
--- What an interpreter can be asked for by another one, or from outside. An alias of the asked one leads so many levels up from it
--- and these names down. A command called by an alias is entered as its words.
+-- What an interpreter can be asked for by another one, or from outside. An alias of the asked one
+-- leads so many levels up from it and these names down. A command called by an alias is entered as
+-- its words.
 pub data Entry : Type 0 where
   Eval : (text : Text) → Entry
   CallWords : (words : List Text) → Entry

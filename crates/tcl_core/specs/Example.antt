@@ -1,5 +1,6 @@
--- A small life, step by step: the outside has the root evaluate a script, which has its child set its one variable to 7.
--- An interpreter's own part is a number here, its variable; what can go on in one is one of two scripts.
+-- A small life, step by step: the outside has the root evaluate a script, which has its child set
+-- its one variable to 7. An interpreter's own part is a number here, its variable; what can go on
+-- in one is one of two scripts.
 use Rattle.std.specs.Prelude.{◌≡◌, ℕ, true, false, List, [], ◌∷◌, Some, None}
 use Rattle.tcl_core.specs.Paths.{Text, Place}
 use Rattle.tcl_core.specs.Endings.{Completion, ok, error}
@@ -19,7 +20,7 @@ use Rattle.tcl_core.specs.Programs.Prog.{done, act, inside, call, wait}
 use Rattle.tcl_core.specs.Runs.{World, Runs}
 use Rattle.tcl_core.specs.Views.{moves_of, view}
 use Rattle.tcl_core.specs.Lives.{Outcome, React, idle, never, outs_of}
-use Rattle.tcl_core.specs.Threads.{event}
+use Rattle.tcl_core.specs.Execution.{event}
 
 pub data Script : Type 0 where
   SetSeven : Script
@@ -61,13 +62,35 @@ entry_calls (Eval t) = λ c. tt
 entry_calls i = tt
 
 abbrev pub commands : Table ℕ Script
-commands = record { program = program; entry = entry; lost = lost; programs_call = program_calls; entries_call = entry_calls }
+commands = record {
+  program = program;
+  entry = entry;
+  lost = lost;
+  programs_call = program_calls;
+  entries_call = entry_calls;
+}
 
 abbrev pub root : Node ℕ
-root = record { own = 0; safe = false; root = true; count = 0; limit = None; depth = 0; depth_limit = 1000 }
+root = record {
+  own = 0;
+  safe = false;
+  root = true;
+  count = 0;
+  limit = None;
+  depth = 0;
+  depth_limit = 1000;
+}
 
 abbrev pub safe_child : Node ℕ
-safe_child = record { own = 0; safe = true; root = false; count = 0; limit = Some 3; depth = 0; depth_limit = 200 }
+safe_child = record {
+  own = 0;
+  safe = true;
+  root = false;
+  count = 0;
+  limit = Some 3;
+  depth = 0;
+  depth_limit = 200;
+}
 
 abbrev pub first_tree : Tree ℕ
 first_tree [] = Some root
@@ -80,10 +103,13 @@ tell = Eval (1 ∷ [])
 -- all that happens
 abbrev pub log : List (Event ℕ)
 log =
-    event [] (In None tell) ∷ event [] Nested ∷ event [] Charged ∷ event [] (Out (Some 0) (child ∷ []) (Eval []))
-    ∷ event (child ∷ []) (In (Some 1) (Eval [])) ∷ event (child ∷ []) Nested ∷ event (child ∷ []) Charged ∷ event (child ∷ []) (Changed 7)
+    event [] (In None tell) ∷ event [] Nested ∷ event [] Charged ∷ event []
+    (Out (Some 0) (child ∷ []) (Eval []))
+    ∷ event (child ∷ []) (In (Some 1) (Eval [])) ∷ event (child ∷ []) Nested ∷ event (child ∷ [])
+    Charged ∷ event (child ∷ []) (Changed 7)
     ∷ event (child ∷ []) Unnested ∷ event (child ∷ []) (Done (Some 1) (Completed (ok [])))
-    ∷ event [] (Back (Some 0) (Replied (Completed (ok [])))) ∷ event [] Unnested ∷ event [] (Done None (Completed (ok []))) ∷ []
+    ∷ event [] (Back (Some 0) (Replied (Completed (ok [])))) ∷ event [] Unnested ∷ event []
+    (Done None (Completed (ok []))) ∷ []
 
 abbrev pub start : World ℕ
 start = record { tree = first_tree; moves = Enter [] tell ∷ []; grants = Budget 2; tape = log }
@@ -94,7 +120,12 @@ tail (x ∷ xs) = xs
 
 -- the world after the next happening
 abbrev pub next : Place → What ℕ → List (Move ℕ) → ℕ → World ℕ → World ℕ
-next p x ms b w = record { tree = effect p x w.tree; moves = ms; grants = Budget b; tape = tail w.tape }
+next p x ms b w = record {
+  tree = effect p x w.tree;
+  moves = ms;
+  grants = Budget b;
+  tape = tail w.tape;
+}
 
 abbrev pub w1 : World ℕ
 w1 = next [] (In None tell) [] 2 start
@@ -135,8 +166,8 @@ w12 = next [] Unnested [] 0 w11
 abbrev pub w13 : World ℕ
 w13 = next [] (Done None (Completed (ok []))) [] 0 w12
 
--- What is so of it: it is a life; the child has its variable, and was charged for one command of the two; its own life is handed one
--- entry and tells of one end.
+-- What is so of it: it is a life; the child has its variable, and was charged for one command of
+-- the two; its own life is handed one entry and tells of one end.
 pub record WorkedLife : Type 0 where
   pub life : Runs commands start [] (wait idle never) w13 None
   pub child_ends : w13.tree (child ∷ []) ≡ Some (record safe_child { own = 7; count = 1 })
@@ -144,8 +175,8 @@ pub record WorkedLife : Type 0 where
   pub child_is_handed : moves_of (view (child ∷ []) log) ≡ Enter [] (Eval []) ∷ []
   pub child_tells : outs_of (view (child ∷ []) log) ≡ event [] (Done None (Completed (ok []))) ∷ []
 
--- THE CHILD ALONE, handed that entry. With a budget of one step it does what it did in the life above; with none it is spent at its first
--- step, tells nothing, and is left as it was.
+-- THE CHILD ALONE, handed that entry. With a budget of one step it does what it did in the life
+-- above; with none it is spent at its first step, tells nothing, and is left as it was.
 abbrev pub child_alone : Tree ℕ
 child_alone = at first_tree (child ∷ [])
 
@@ -156,7 +187,10 @@ abbrev pub an_answer : List (Move ℕ)
 an_answer = Come (Replied (Completed (ok []))) ∷ []
 
 pub record WorkedReactions : Type 0 where
-  pub served : (V : Tree ℕ) × React commands child_alone one_entry 1 Outcome.Finished (event [] (Done None (Completed (ok []))) ∷ []) V × (V [] ≡ Some (record safe_child { own = 7; count = 1 }))
-  pub spent : (V : Tree ℕ) × React commands child_alone one_entry 0 Outcome.Spent [] V × (V [] ≡ Some safe_child)
+  pub served : (V : Tree ℕ) × React commands child_alone one_entry 1 Outcome.Finished
+      (event [] (Done None (Completed (ok []))) ∷ []) V ×
+      (V [] ≡ Some (record safe_child { own = 7; count = 1 }))
+  pub spent : (V : Tree ℕ) × React commands child_alone one_entry 0 Outcome.Spent [] V ×
+      (V [] ≡ Some safe_child)
   -- an answer to a call that it didn't make
   pub uncalled : React commands child_alone an_answer 1 Outcome.Misfit [] child_alone

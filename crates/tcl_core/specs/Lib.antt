@@ -6,7 +6,7 @@ pub mod Programs
 pub mod Runs
 pub mod Views
 pub mod Rules
-pub mod Threads
+pub mod Execution
 pub mod Lives
 pub mod Meaning
 pub mod Laws

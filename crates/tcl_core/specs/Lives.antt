@@ -1,5 +1,7 @@
--- The life of a tree: what is handed in is done, in order. A subtree by itself, under a budget; a whole tree; two worlds.
-use Rattle.std.specs.Prelude.{◌≡◌, ℕ, zero, suc, ℤ, Bool, true, false, nat_lt, ◌+◌, List, [], ◌∷◌, ◌++◌, Option, Some, None, length}
+-- The life of a tree: what is handed in is done, in order. A subtree by itself, under a budget; a
+-- whole tree; two worlds.
+use Rattle.std.specs.Prelude.{◌≡◌, ℕ, zero, suc, ℤ, Bool, true, false, nat_lt, ◌+◌, List, [], ◌∷◌}
+use Rattle.std.specs.Prelude.{◌++◌, Option, Some, None, length}
 use Rattle.tcl_core.specs.Paths.{Text, Path, Place, rise_to}
 use Rattle.tcl_core.specs.Endings.{Meter, Completion, Reply, Cause, ok, refusal}
 use Rattle.tcl_core.specs.Endings.Meter.{Count}
@@ -68,7 +70,8 @@ abbrev pub outcome_of : {O : Type 0} → List (Event O) → Outcome → Outcome
 outcome_of [] x = x
 outcome_of (ev ∷ τ) x = outcome_of τ (outcome_at ev.place ev.what x)
 
--- nothing is cut off from outside: no step is refused there, and no entry is ended nor a call answered so
+-- nothing is cut off from outside: no step is refused there, and no entry is ended nor a call
+-- answered so
 abbrev pub Uncut : {O : Type 0} → Place → What O → Type 0
 Uncut p (Refused m h) = rise_to h p ≡ None → Prim.⊥
 Uncut p (Done h (Cut x)) = rise_to h p ≡ None → Prim.⊥
@@ -100,7 +103,8 @@ abbrev pub ended : {O : Type 0} → List (Event O) → ℕ
 ended [] = 0
 ended (ev ∷ τ) = ended_at ev.place ev.what (ended τ)
 
--- after these happenings k entries are in progress; where nothing more happens in them, each has a call open
+-- after these happenings k entries are in progress; where nothing more happens in them, each has a
+-- call open
 abbrev pub InProgress : {O : Type 0} → ℕ → List (Event O) → Type 0
 InProgress k τ = begun τ ≡ ended τ + k
 
@@ -113,9 +117,15 @@ abbrev pub handed : {O : Type 0} → World O → List (Move O) → World O
 handed w ms = record { tree = w.tree; moves = ms; grants = w.grants; tape = w.tape }
 
 abbrev pub unwound : {O : Type 0} → World O → List (Move O) → ℕ → Reply → List (Event O) → World O
-unwound w ms k r τ = record { tree = w.tree; moves = ms ++ copies k (Come (Replied r)); grants = w.grants; tape = τ }
+unwound w ms k r τ = record {
+  tree = w.tree;
+  moves = ms ++ copies k (Come (Replied r));
+  grants = w.grants;
+  tape = τ;
+}
 
--- what ends the open calls where a move doesn't fit: the exit by which the last entry ended, or else that the run is over
+-- what ends the open calls where a move doesn't fit: the exit by which the last entry ended, or
+-- else that the run is over
 abbrev pub end_of : Outcome → Reply
 end_of (Exited n) = Exit n
 end_of x = Cut Over
@@ -129,28 +139,45 @@ AllRead x ms = ms ≡ []
 abbrev pub spent_at : {O : Type 0} → Place → Event O
 spent_at p = record { place = p; what = Refused Count None }
 
--- A tree by itself does what is handed in, entry by entry, up to what first ends it: from w, whose tape is all that is told until then, to v.
+-- A tree by itself does what is handed in, entry by entry, up to what first ends it: from w, whose
+-- tape is all that is told until then, to v.
 pub data Reacts {O I : Type 0} (prog : Table O I) : World O → World O → Outcome → Type 0 where
   -- no entry is in progress, and all moves are read, or the last entry ended by an exit
-  over : (w v : World O) (x : Outcome) → Lives prog w v None → IsUncut w.tape → InProgress 0 w.tape → x ≡ outcome_of w.tape Finished → AllRead x v.moves → Reacts prog w v x
+  over : (w v : World O) (x : Outcome) → Lives prog w v None → IsUncut w.tape →
+      InProgress 0 w.tape → x ≡ outcome_of w.tape Finished → AllRead x v.moves → Reacts prog w v x
   -- all are read, and a call is open
-  waiting : (w v : World O) (k : ℕ) → Lives prog w v None → IsUncut w.tape → InProgress (suc k) w.tape → v.moves ≡ [] → Reacts prog w v Waiting
-  -- an answer where no call is open; and a move that doesn't fit where one is: the tree is left as if an end from outside had come in its place
-  uncalled : (w v : World O) (m : Move O) (rest : List (Move O)) → Lives prog w v None → IsUncut w.tape → InProgress 0 w.tape → outcome_of w.tape Finished ≡ Finished → v.moves ≡ m ∷ rest → Reacts prog w v Misfit
-  unfit : (w u v : World O) (k : ℕ) (ms : List (Move O)) (m : Move O) (rest : List (Move O)) (τ : List (Event O)) → Lives prog w u None → IsUncut w.tape → InProgress (suc k) w.tape →
-      u.moves ≡ m ∷ rest → w.moves ≡ ms ++ m ∷ rest → Lives prog (unwound w ms (suc k) (end_of (outcome_of w.tape Finished)) τ) v None → v.moves ≡ [] → Reacts prog w v Misfit
+  waiting : (w v : World O) (k : ℕ) → Lives prog w v None → IsUncut w.tape →
+      InProgress (suc k) w.tape → v.moves ≡ [] → Reacts prog w v Waiting
+  -- an answer where no call is open; and a move that doesn't fit where one is: the tree is left as
+  -- if an end from outside had come in its place
+  uncalled : (w v : World O) (m : Move O) (rest : List (Move O)) → Lives prog w v None →
+      IsUncut w.tape → InProgress 0 w.tape → outcome_of w.tape Finished ≡ Finished →
+      v.moves ≡ m ∷ rest → Reacts prog w v Misfit
+  unfit : (w u v : World O) (k : ℕ) (ms : List (Move O)) (m : Move O) (rest : List (Move O))
+      (τ : List (Event O)) → Lives prog w u None → IsUncut w.tape → InProgress (suc k) w.tape →
+      u.moves ≡ m ∷ rest → w.moves ≡ ms ++ m ∷ rest →
+      Lives prog (unwound w ms (suc k) (end_of (outcome_of w.tape Finished)) τ) v None →
+      v.moves ≡ [] → Reacts prog w v Misfit
   -- an answer from outside ends the open call, and so all that are open
-  ended_so : (w u v : World O) (k : ℕ) (ms : List (Move O)) (c : Cause) (rest : List (Move O)) (τ : List (Event O)) → w.moves ≡ ms ++ Come (Replied (Cut c)) ∷ rest → Lives prog (handed w ms) u None → u.moves ≡ [] →
-      IsUncut w.tape → InProgress (suc k) w.tape → Lives prog (unwound w ms (suc k) (Cut Above) τ) v None → v.moves ≡ [] → Reacts prog w v Ended
+  ended_so : (w u v : World O) (k : ℕ) (ms : List (Move O)) (c : Cause) (rest : List (Move O))
+      (τ : List (Event O)) → w.moves ≡ ms ++ Come (Replied (Cut c)) ∷ rest →
+      Lives prog (handed w ms) u None → u.moves ≡ [] →
+      IsUncut w.tape → InProgress (suc k) w.tape →
+      Lives prog (unwound w ms (suc k) (Cut Above) τ) v None → v.moves ≡ [] →
+      Reacts prog w v Ended
   -- the budget refuses the next step, and so ends the entry in progress and all calls that are open
-  spent : (w v : World O) (k : ℕ) (ms rest : List (Move O)) (p : Place) (τ : List (Event O)) → w.moves ≡ ms ++ rest → moves_of w.tape ≡ ms → IsUncut w.tape → InProgress (suc k) w.tape →
-      Lives prog (unwound w ms k (Cut Over) (w.tape ++ spent_at p ∷ τ)) v None → v.moves ≡ [] → Reacts prog w v Spent
+  spent : (w v : World O) (k : ℕ) (ms rest : List (Move O)) (p : Place) (τ : List (Event O)) →
+      w.moves ≡ ms ++ rest → moves_of w.tape ≡ ms → IsUncut w.tape → InProgress (suc k) w.tape →
+      Lives prog (unwound w ms k (Cut Over) (w.tape ++ spent_at p ∷ τ)) v None → v.moves ≡ [] →
+      Reacts prog w v Spent
 
 abbrev pub alone : {O : Type 0} → Tree O → List (Move O) → ℕ → List (Event O) → World O
 alone S ms n τ = record { tree = S; moves = ms; grants = Budget n; tape = τ }
 
--- What the tree S does by itself with these moves and a budget of n counted steps: what it tells the outside, and the tree it leaves.
-pub record React {O I : Type 0} (prog : Table O I) (S : Tree O) (ms : List (Move O)) (n : ℕ) (outcome : Outcome) (outs : List (Event O)) (V : Tree O) : Type 0 where
+-- What the tree S does by itself with these moves and a budget of n counted steps: what it tells
+-- the outside, and the tree it leaves.
+pub record React {O I : Type 0} (prog : Table O I) (S : Tree O) (ms : List (Move O)) (n : ℕ)
+    (outcome : Outcome) (outs : List (Event O)) (V : Tree O) : Type 0 where
   pub tape : List (Event O)
   pub last : World O
   pub run : Reacts prog (alone S ms n tape) last outcome
@@ -194,12 +221,15 @@ abbrev pub comes : {O : Type 0} → List Answer → List (Move O)
 comes [] = []
 comes (a ∷ as2) = Come a ∷ comes as2
 
--- The evaluation of the script s at p in the whole tree T, with n counted steps, the host's replies being B.
-pub record Whole {O I : Type 0} (prog : Table O I) (T : Tree O) (p : Path) (s : Text) (n : ℕ) (B : List Answer) (ending : End) (outs : List (Event O)) (V : Tree O) : Type 0 where
+-- The evaluation of the script s at p in the whole tree T, with n counted steps, the host's replies
+-- being B.
+pub record Whole {O I : Type 0} (prog : Table O I) (T : Tree O) (p : Path) (s : Text) (n : ℕ)
+    (B : List Answer) (ending : End) (outs : List (Event O)) (V : Tree O) : Type 0 where
   pub tape : List (Event O)
   pub last : World O
   pub reply : Reply
-  pub run : Visits prog (Runs prog) (alone (limited n T) (Enter p (Eval s) ∷ comes B) n tape) None p (Eval s) last (Some reply)
+  pub run : Visits prog (Runs prog) (alone (limited n T) (Enter p (Eval s) ∷ comes B) n tape) None p
+      (Eval s) last (Some reply)
   pub all_read : last.moves ≡ []
   pub all_done : last.tape ≡ []
   pub ends : end_at p reply ≡ Some ending
@@ -212,6 +242,8 @@ first zero xs = []
 first (suc k) [] = []
 first (suc k) (x ∷ xs) = x ∷ first k xs
 
--- Two worlds agree at c up to k: the subtrees there are equal, and so are the first k moves into them.
+-- Two worlds agree at c up to k: the subtrees there are equal, and so are the first k moves into
+-- them.
 abbrev pub Agree : {O : Type 0} → Place → ℕ → World O → World O → Type 0
-Agree c k w z = (at w.tree c ≡ at z.tree c) × (first k (moves_of (view c w.tape)) ≡ first k (moves_of (view c z.tape)))
+Agree c k w z = (at w.tree c ≡ at z.tree c) ×
+    (first k (moves_of (view c w.tape)) ≡ first k (moves_of (view c z.tape)))

@@ -1,5 +1,6 @@
 -- Places in a tree of interpreters, and how far a call goes up.
-use Rattle.std.specs.Prelude.{ℕ, zero, suc, Bool, true, false, List, [], ◌∷◌, Option, Some, None, nat_eq, nat_le, nat_lt, ◌&&◌, length}
+use Rattle.std.specs.Prelude.{ℕ, zero, suc, Bool, true, false, List, [], ◌∷◌, Option, Some, None}
+use Rattle.std.specs.Prelude.{nat_eq, nat_le, nat_lt, ◌&&◌, length}
 
 -- a text, as its bytes of UTF-8
 abbrev pub Text : Type 0
@@ -52,7 +53,8 @@ abbrev pub rise_to : Option ℕ → List (List ℕ) → Option (List (List ℕ))
 rise_to None p = None
 rise_to (Some n) p = rise n p
 
--- a height as it is seen in a tree where it is counted from q: what passes the top is out of the tree
+-- a height as it is seen in a tree where it is counted from q: what passes the top is out of the
+-- tree
 abbrev pub capped : Bool → ℕ → Option ℕ
 capped true n = None
 capped false n = Some n

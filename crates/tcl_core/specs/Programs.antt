@@ -1,6 +1,7 @@
--- What a command is: a program over a few acts. I is what can be going on inside an interpreter: a script, the commands that are left, a
--- turn of a loop and so on.
-use Rattle.std.specs.Prelude.{ℕ, zero, suc, ℤ, Bool, true, false, [], ◌∷◌, ◌++◌, Option, Some, None, nat_le, length}
+-- What a command is: a program over a few acts. I is what can be going on inside an interpreter: a
+-- script, the commands that are left, a turn of a loop and so on.
+use Rattle.std.specs.Prelude.{ℕ, zero, suc, ℤ, Bool, true, false, [], ◌∷◌, ◌++◌, Option, Some, None}
+use Rattle.std.specs.Prelude.{nat_le, length}
 use Rattle.tcl_core.specs.Paths.{Text, Path, Place, Height}
 use Rattle.tcl_core.specs.Endings.{Meter, Completion, Reply}
 use Rattle.tcl_core.specs.Endings.Meter.{Count, Depth}
@@ -10,7 +11,8 @@ use Rattle.tcl_core.specs.Entries.{Entry, Said}
 use Rattle.tcl_core.specs.Trees.{Grants, Node, Tree, What}
 use Rattle.tcl_core.specs.Trees.Grant.{Allow, Deny}
 use Rattle.tcl_core.specs.Trees.Grants.{Listed, Budget}
-use Rattle.tcl_core.specs.Trees.What.{Seen, Changed, Charged, Refused, Nested, Unnested, Limited, DepthLimited, Made, Dropped}
+use Rattle.tcl_core.specs.Trees.What.{Seen, Changed, Charged, Refused, Nested, Unnested, Limited}
+use Rattle.tcl_core.specs.Trees.What.{DepthLimited, Made, Dropped}
 
 -- An act at the current interpreter.
 pub data Act (O : Type 0) : Type 0 where
@@ -23,7 +25,8 @@ pub data Act (O : Type 0) : Type 0 where
   Make : (name : Text) (own : O) (safe : Bool) → Act O
   Drop : (name : Text) → Act O
 
--- What is done before an inner evaluation and undone after it, however it ends: one level of depth; or frames, which `back` undoes.
+-- What is done before an inner evaluation and undone after it, however it ends: one level of depth;
+-- or frames, which `back` undoes.
 pub data Wrap (O : Type 0) : Type 0 where
   Deeper : Wrap O
   Framed : (own : O) (back : O → O) → Wrap O
@@ -32,19 +35,22 @@ pub data Wrap (O : Type 0) : Type 0 where
 abbrev pub Wait : Type 0
 Wait = Option (Height × Entry)
 
--- A program ends by a completion or an exit. It goes on after an act, told the subtree as it stood; after an inner evaluation that
--- completed; or after a call that was answered. Stops, exits and cuts it never sees.
+-- A program ends by a completion or an exit. It goes on after an act, told the subtree as it stood;
+-- after an inner evaluation that completed; or after a call that was answered. Stops, exits and
+-- cuts it never sees.
 pub data Prog (O I : Type 0) : Type 0 where
   done : (completion : Completion) → Prog O I
   exit : (status : ℤ) → Prog O I
   act : Act O → (Tree O → Prog O I) → Prog O I
   go : I → (Completion → Prog O I) → Prog O I
   inside : Wrap O → I → (Completion → Prog O I) → Prog O I
-  -- to the interpreter so many levels up and these names down, or to the host; `lost` is the completion where it doesn't stand
+  -- to the interpreter so many levels up and these names down, or to the host; `lost` is the
+  -- completion where it doesn't stand
   call : Height → (down : Path) → Entry → (lost : Completion) → (Said → Prog O I) → Prog O I
   wait : Wait → (Said → Prog O I) → Prog O I
 
--- A program calls, and doesn't wait without a call. (A program that waits for an answer is what a run makes of a call.)
+-- A program calls, and doesn't wait without a call. (A program that waits for an answer is what a
+-- run makes of a call.)
 abbrev pub Calls_only : {O I : Type 0} → Prog O I → Type 0
 Calls_only (done c) = Unit {0}
 Calls_only (exit n) = Unit {0}
@@ -54,8 +60,9 @@ Calls_only (inside b i k) = (c : Completion) → Calls_only (k c)
 Calls_only (call h down i lost k) = (s : Said) → Calls_only (k s)
 Calls_only (wait s k) = Prim.⊥
 
--- What the interpreters' commands are: the program of each instruction and of each entry, and what an entry into no interpreter is
--- told (its path is put in where that is shown). All of them call, and none waits.
+-- What the interpreters' commands are: the program of each instruction and of each entry, and what
+-- an entry into no interpreter is told (its path is put in where that is shown). All of them call,
+-- and none waits.
 pub record Table (O I : Type 0) : Type 0 where
   pub program : I → Prog O I
   pub entry : Entry → Prog O I
@@ -63,7 +70,8 @@ pub record Table (O I : Type 0) : Type 0 where
   pub programs_call : (i : I) → Calls_only (program i)
   pub entries_call : (i : Entry) → Calls_only (entry i)
 
--- How it goes on after an act: the program goes on; the evaluation is too deep, which is an error; or it ends so.
+-- How it goes on after an act: the program goes on; the evaluation is too deep, which is an error;
+-- or it ends so.
 pub data Next : Type 0 where
   On : Next
   TooDeep : Next
@@ -97,13 +105,15 @@ module _ {O : Type 0} where
   -- how many steps up the nearest full interpreter is, the one at p first
   abbrev pub blocked : (Node O → Bool) → Tree O → Place → Option ℕ
   blocked full T [] = nearer None (full_at full (T [])) 0
-  blocked full T (x ∷ xs) = nearer (blocked full (λ p. T (x ∷ p)) xs) (full_at full (T [])) (suc (length xs))
+  blocked full T (x ∷ xs) = nearer (blocked full (λ p. T (x ∷ p)) xs) (full_at full (T []))
+      (suc (length xs))
 
 abbrev pub either : Bool → Bool → Bool
 either true b = true
 either false b = b
 
--- What an act comes to: where (here, or at the child of that name), what happens there, and how it goes on.
+-- What an act comes to: where (here, or at the child of that name), what happens there, and how it
+-- goes on.
 abbrev pub Deed : Type 0 → Type 0
 Deed O = Option Text × What O × Next
 
@@ -149,7 +159,8 @@ module _ {O : Type 0} where
   dropping name None = (None, Seen, On)
   dropping name (Some n) = dropping_at name n.depth
 
-  -- what happens when the act is done at p; none where a word of the outside is wanted and there is none
+  -- what happens when the act is done at p; none where a word of the outside is wanted and there is
+  -- none
   abbrev pub decide : Act O → Tree O → Place → Grants → Option (Deed O)
   decide Look T p gs = Some (None, Seen, On)
   decide (Change o) T p gs = Some (changing o (T p))

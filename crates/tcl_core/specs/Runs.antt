@@ -1,6 +1,7 @@
 -- What a program's run is.
 use Rattle.std.specs.Ordering.{int_eq}
-use Rattle.std.specs.Prelude.{◌≡◌, ℕ, zero, suc, ℤ, Bool, true, false, nat_lt, ◌+◌, ◌-◌, List, [], ◌∷◌, ◌++◌, Option, Some, None, length}
+use Rattle.std.specs.Prelude.{◌≡◌, ℕ, zero, suc, ℤ, Bool, true, false, nat_lt, ◌+◌, ◌-◌, List, []}
+use Rattle.std.specs.Prelude.{◌∷◌, ◌++◌, Option, Some, None, length}
 use Rattle.tcl_core.specs.Paths.{falls, together, Path, Place, Height, rise_to}
 use Rattle.tcl_core.specs.Endings.{Meter, Completion, Reply, refusal}
 use Rattle.tcl_core.specs.Endings.Meter.{Depth}
@@ -12,19 +13,21 @@ use Rattle.tcl_core.specs.Entries.Said.{Finished, Told}
 use Rattle.tcl_core.specs.Trees.{Grants, granted, Node, Tree, at, What, Event, Move, effect, asked}
 use Rattle.tcl_core.specs.Trees.What.{Made, Dropped, Out, In, Done, Back}
 use Rattle.tcl_core.specs.Trees.Move.{Born, Fall, Enter, Come}
-use Rattle.tcl_core.specs.Programs.{Wait, Wrap, Next, Deed, spot, Prog, Table, decide, opens, closes}
+use Rattle.tcl_core.specs.Programs.{Wait, Wrap, Next, Deed, spot, Prog, Table, decide, opens}
+use Rattle.tcl_core.specs.Programs.{closes}
 use Rattle.tcl_core.specs.Programs.Next.{On, TooDeep, Off}
 use Rattle.tcl_core.specs.Programs.Prog.{done, exit, act, go, inside, call, wait}
 
--- The tree; what the outside will hand in; what it will say to steps and evaluations; and the tape, all that is yet to happen.
--- A run reads its own happenings off the tape.
+-- The tree; what the outside will hand in; what it will say to steps and evaluations; and the tape,
+-- all that is yet to happen. A run reads its own happenings off the tape.
 pub record World (O : Type 0) : Type 0 where
   pub tree : Tree O
   pub moves : List (Move O)
   pub grants : Grants
   pub tape : List (Event O)
 
--- a reply, or none where the run halts: no move and no word of the outside is left, or a move does not fit
+-- a reply, or none where the run halts: no move and no word of the outside is left, or a move does
+-- not fit
 abbrev pub Ending : Type 0
 Ending = Option Reply
 
@@ -44,15 +47,17 @@ pub record Halts {O : Type 0} (w v : World O) (e : Ending) : Type 0 where
 abbrev pub Run : Type 0 → Type 0 → Type 1
 Run O I = World O → Place → Prog O I → World O → Ending → Type 0
 
--- The reply of a call, as the caller at p is told it, who went h up and then down: a stop that names an interpreter in whose subtree
--- the caller does not stand is an error there; another one is as many levels up as it is from the caller.
+-- The reply of a call, as the caller at p is told it, who went h up and then down: a stop that
+-- names an interpreter in whose subtree the caller does not stand is an error there; another one is
+-- as many levels up as it is from the caller.
 abbrev pub lessened : Bool → ℕ → Meter → Reply
 lessened true n m = Completed (refusal m)
 lessened false n m = Stop n m
 
 abbrev pub carried_by : Reply → Height → Place → Path → Reply
 carried_by (Stop n m) None p down = Completed (refusal m)
-carried_by (Stop n m) (Some h) p down = lessened (nat_lt (n + together (falls h p) down) (length down)) (n + h - length down) m
+carried_by (Stop n m) (Some h) p down = lessened
+    (nat_lt (n + together (falls h p) down) (length down)) (n + h - length down) m
 carried_by r h p down = r
 
 abbrev pub carried : Height → Place → Path → Reply → Reply
@@ -71,7 +76,8 @@ abbrev pub entering : {O I : Type 0} → Table O I → Option (Node O) → Entry
 entering prog None i = done prog.lost
 entering prog (Some n) i = prog.entry i
 
--- An alias is answered by how its evaluation ended; a request by one of its own answers, or by an end from outside.
+-- An alias is answered by how its evaluation ended; a request by one of its own answers, or by an
+-- end from outside.
 abbrev pub is_own : Height → Entry → Answer → Bool
 is_own (Some h) i (Replied r) = true
 is_own (Some h) i (Heard a) = false
@@ -114,92 +120,117 @@ abbrev pub Exiting : {O : Type 0} → World O → Place → Wait → ℤ → Boo
 Exiting w p s n false v e = Halts w v e
 Exiting w p s n true v e = Step w p (Back (height_of s) (Replied (Exit n))) v × (e ≡ Some (Exit n))
 
-abbrev pub Exits : {O : Type 0} → World O → Place → Wait → ℤ → List (Move O) → World O → Ending → Type 0
+abbrev pub Exits : {O : Type 0} → World O → Place → Wait → ℤ → List (Move O) → World O → Ending →
+    Type 0
 Exits w p s n [] v e = Halts w v e
 Exits w p s n (Come a ∷ ms) v e = Exiting w p s n (ends_call s n a) v e
 Exits w p s n (m ∷ ms) v e = Halts w v e
 
 module _ {O I : Type 0} where
   -- how it goes on where an inner evaluation ended so: after a completion alone the program goes on
-  abbrev pub Follows : Run O I → World O → Place → (Completion → Prog O I) → Reply → World O → Ending → Type 0
+  abbrev pub Follows : Run O I → World O → Place → (Completion → Prog O I) → Reply → World O →
+      Ending → Type 0
   Follows R w p k (Completed c) v e = R w p (k c) v e
   Follows R w p k r v e = (v ≡ w) × (e ≡ Some r)
 
-  abbrev pub Then : Run O I → World O → Place → (Completion → Prog O I) → Ending → World O → Ending → Type 0
+  abbrev pub Then : Run O I → World O → Place → (Completion → Prog O I) → Ending → World O →
+      Ending → Type 0
   Then R w p k None v e = (v ≡ w) × (e ≡ None)
   Then R w p k (Some r) v e = Follows R w p k r v e
 
   -- the same, after what a wrap undoes
-  abbrev pub Closes : Run O I → World O → Place → Wrap O → (Completion → Prog O I) → Ending → World O → Ending → Type 0
+  abbrev pub Closes : Run O I → World O → Place → Wrap O → (Completion → Prog O I) → Ending →
+      World O → Ending → Type 0
   Closes R w p b k None v e = (v ≡ w) × (e ≡ None)
-  Closes R w p b k (Some r) v e = (u : World O) × Step w p (closes b (w.tree p)) u × Follows R u p k r v e
+  Closes R w p b k (Some r) v e = (u : World O) × Step w p (closes b (w.tree p)) u ×
+      Follows R u p k r v e
 
   -- how it goes on after an act
-  abbrev pub Acted : Run O I → World O → World O → Place → (Tree O → Prog O I) → Next → World O → Ending → Type 0
+  abbrev pub Acted : Run O I → World O → World O → Place → (Tree O → Prog O I) → Next → World O →
+      Ending → Type 0
   Acted R w u p k (Off r) v e = (v ≡ u) × (e ≡ Some r)
   Acted R w u p k _ v e = R u p (k (at w.tree p)) v e
 
-  abbrev pub Acts : Run O I → World O → Place → Option (Deed O) → (Tree O → Prog O I) → World O → Ending → Type 0
+  abbrev pub Acts : Run O I → World O → Place → Option (Deed O) → (Tree O → Prog O I) → World O →
+      Ending → Type 0
   Acts R w p None k v e = Halts w v e
   Acts R w p (Some x) k v e = (u : World O) × Step w (spot p x.0) x.1 u × Acted R w u p k x.2 v e
 
   -- an inner evaluation, between what its wrap does and undoes
-  abbrev pub Opened : Table O I → Run O I → World O → Place → Wrap O → I → (Completion → Prog O I) → Next → World O → Ending → Type 0
+  abbrev pub Opened : Table O I → Run O I → World O → Place → Wrap O → I → (Completion → Prog O I) →
+      Next → World O → Ending → Type 0
   Opened prog R w p b i k (Off r) v e = (v ≡ w) × (e ≡ Some r)
   Opened prog R w p b i k TooDeep v e = R w p (k (refusal Depth)) v e
-  Opened prog R w p b i k On v e = (u : World O) × (o : Ending) × R w p (prog.program i) u o × Closes R u p b k o v e
+  Opened prog R w p b i k On v e = (u : World O) × (o : Ending) × R w p (prog.program i) u o ×
+      Closes R u p b k o v e
 
-  abbrev pub Opens : Table O I → Run O I → World O → Place → Option (Deed O) → Wrap O → I → (Completion → Prog O I) → World O → Ending → Type 0
+  abbrev pub Opens : Table O I → Run O I → World O → Place → Option (Deed O) → Wrap O → I →
+      (Completion → Prog O I) → World O → Ending → Type 0
   Opens prog R w p None b i k v e = Halts w v e
-  Opens prog R w p (Some x) b i k v e = (u : World O) × Step w (spot p x.0) x.1 u × Opened prog R u p b i k x.2 v e
+  Opens prog R w p (Some x) b i k v e = (u : World O) × Step w (spot p x.0) x.1 u ×
+      Opened prog R u p b i k x.2 v e
 
   -- how it goes on where a call is answered
-  abbrev pub Hears : Run O I → World O → Place → (Said → Prog O I) → Answer → World O → Ending → Type 0
+  abbrev pub Hears : Run O I → World O → Place → (Said → Prog O I) → Answer → World O → Ending →
+      Type 0
   Hears R w p k (Heard a) v e = R w p (k (Told a)) v e
   Hears R w p k (Replied (Completed c)) v e = R w p (k (Finished c)) v e
   Hears R w p k (Replied r) v e = (v ≡ w) × (e ≡ Some r)
 
-  abbrev pub Answered : Run O I → World O → Place → Height → (Said → Prog O I) → Answer → World O → Ending → Type 0
+  abbrev pub Answered : Run O I → World O → Place → Height → (Said → Prog O I) → Answer → World O →
+      Ending → Type 0
   Answered R w p h k a v e = (u : World O) × Step w p (Back h a) u × Hears R u p k a v e
 
   -- control enters t, what is asked for is done there, and control leaves
-  pub record Visits (prog : Table O I) (R : Run O I) (w : World O) (h : Height) (t : Place) (i : Entry) (v : World O) (e : Ending) : Type 0 where
+  pub record Visits (prog : Table O I) (R : Run O I) (w : World O) (h : Height) (t : Place)
+      (i : Entry) (v : World O) (e : Ending) : Type 0 where
     pub entered : World O
     pub left : World O
     pub entry : Step w t (In h i) entered
     pub run : R entered t (entering prog (w.tree t) i) left e
     pub leaving : Leaves left h t e v
 
-  abbrev pub Returns : Run O I → World O → Place → Height → Path → (Said → Prog O I) → Ending → World O → Ending → Type 0
+  abbrev pub Returns : Run O I → World O → Place → Height → Path → (Said → Prog O I) → Ending →
+      World O → Ending → Type 0
   Returns R w p h down k None v e = (v ≡ w) × (e ≡ None)
   Returns R w p h down k (Some r) v e = Answered R w p h k (Replied (carried h p down r)) v e
 
-  abbrev pub Reaches : Table O I → Run O I → World O → Place → Height → Path → Entry → Completion → (Said → Prog O I) → Option Place → World O → Ending → Type 0
+  abbrev pub Reaches : Table O I → Run O I → World O → Place → Height → Path → Entry → Completion →
+      (Said → Prog O I) → Option Place → World O → Ending → Type 0
   Reaches prog R w p h down i lost k None v e = Answered R w p h k (Replied (Completed lost)) v e
   Reaches prog R w p h down i lost k (Some t) v e =
-      (u : World O) × (o : Ending) × Visits prog R w (Some (length down)) t i u o × Returns R u p h down k o v e
+      (u : World O) × (o : Ending) × Visits prog R w (Some (length down)) t i u o ×
+      Returns R u p h down k o v e
 
-  abbrev pub Calls : Table O I → Run O I → World O → Place → Height → Path → Entry → Completion → (Said → Prog O I) → Option Place → World O → Ending → Type 0
+  abbrev pub Calls : Table O I → Run O I → World O → Place → Height → Path → Entry → Completion →
+      (Said → Prog O I) → Option Place → World O → Ending → Type 0
   Calls prog R w p h down i lost k None v e = R w p (wait (Some (h, i)) k) v e
-  Calls prog R w p h down i lost k (Some a) v e = Reaches prog R w p h down i lost k (reached w.tree a down) v e
+  Calls prog R w p h down i lost k (Some a) v e = Reaches prog R w p h down i lost k
+      (reached w.tree a down) v e
 
   -- control stays outside after an entry
-  abbrev pub Stays : Run O I → World O → Place → Wait → (Said → Prog O I) → Ending → World O → Ending → Type 0
+  abbrev pub Stays : Run O I → World O → Place → Wait → (Said → Prog O I) → Ending → World O →
+      Ending → Type 0
   Stays R w p s k None v e = (v ≡ w) × (e ≡ None)
   Stays R w p s k (Some (Exit n)) v e = Exits w p s n w.moves v e
   Stays R w p s k (Some r) v e = R w p (wait s k) v e
 
-  abbrev pub Moves : Table O I → Run O I → World O → Place → Wait → (Said → Prog O I) → Move O → World O → Ending → Type 0
+  abbrev pub Moves : Table O I → Run O I → World O → Place → Wait → (Said → Prog O I) → Move O →
+      World O → Ending → Type 0
   Moves prog R w p s k (Come a) v e = Answered R w p (height_of s) k a v e
-  Moves prog R w p s k (Born o b) v e = (u : World O) × Step w [] (Made o b) u × R u p (wait s k) v e
+  Moves prog R w p s k (Born o b) v e = (u : World O) × Step w [] (Made o b) u ×
+      R u p (wait s k) v e
   Moves prog R w p s k Fall v e = (u : World O) × Step w [] Dropped u × R u p (wait s k) v e
-  Moves prog R w p s k (Enter t i) v e = (u : World O) × (o : Ending) × Visits prog R w None t i u o × Stays R u p s k o v e
+  Moves prog R w p s k (Enter t i) v e = (u : World O) × (o : Ending) ×
+      Visits prog R w None t i u o × Stays R u p s k o v e
 
-  abbrev pub Fitting : Table O I → Run O I → World O → Place → Wait → (Said → Prog O I) → Bool → Move O → World O → Ending → Type 0
+  abbrev pub Fitting : Table O I → Run O I → World O → Place → Wait → (Said → Prog O I) → Bool →
+      Move O → World O → Ending → Type 0
   Fitting prog R w p s k false m v e = Halts w v e
   Fitting prog R w p s k true m v e = Moves prog R w p s k m v e
 
-  abbrev pub Waits : Table O I → Run O I → World O → Place → Wait → (Said → Prog O I) → List (Move O) → World O → Ending → Type 0
+  abbrev pub Waits : Table O I → Run O I → World O → Place → Wait → (Said → Prog O I) →
+      List (Move O) → World O → Ending → Type 0
   Waits prog R w p s k [] v e = Halts w v e
   Waits prog R w p s k (m ∷ ms) v e = Fitting prog R w p s k (fits s m) m v e
 
@@ -208,10 +239,13 @@ module _ {O I : Type 0} where
   Unrolled prog R w p (done c) v e = (v ≡ w) × (e ≡ Some (Completed c))
   Unrolled prog R w p (exit n) v e = (v ≡ w) × (e ≡ Some (Exit n))
   Unrolled prog R w p (act d k) v e = Acts R w p (decide d w.tree p w.grants) k v e
-  Unrolled prog R w p (go i k) v e = (u : World O) × (o : Ending) × R w p (prog.program i) u o × Then R u p k o v e
+  Unrolled prog R w p (go i k) v e = (u : World O) × (o : Ending) × R w p (prog.program i) u o ×
+      Then R u p k o v e
   Unrolled prog R w p (inside b i k) v e = Opens prog R w p (opens b w.tree p w.grants) b i k v e
-  Unrolled prog R w p (call h down i lost k) v e = (u : World O) × Step w p (Out h down i) u × Calls prog R u p h down i lost k (rise_to h p) v e
-  Unrolled prog R w p (wait s k) v e = (rise_to (height_of s) p ≡ None) × Waits prog R w p s k w.moves v e
+  Unrolled prog R w p (call h down i lost k) v e = (u : World O) × Step w p (Out h down i) u ×
+      Calls prog R u p h down i lost k (rise_to h p) v e
+  Unrolled prog R w p (wait s k) v e = (rise_to (height_of s) p ≡ None) ×
+      Waits prog R w p s k w.moves v e
 
   -- a run at most n acts deep
   abbrev pub RunsIn : Table O I → ℕ → World O → Place → Prog O I → World O → Ending → Type 0

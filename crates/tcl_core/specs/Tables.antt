@@ -12,8 +12,9 @@ use Rattle.tcl_core.specs.Programs.Act.{Change, Make, Limit, LimitDepth}
 use Rattle.tcl_core.specs.Programs.Wrap.{Deeper, Framed}
 use Rattle.tcl_core.specs.Programs.Prog.{done, exit, act, go, inside, call, wait}
 
--- A discipline: what an interpreter's own part must be; what it may be asked for by another of the subtree, or from outside; what can go
--- on in it; whether that may set limits; which entries from outside may, and where; and whether the host may be asked.
+-- A discipline: what an interpreter's own part must be; what it may be asked for by another of the
+-- subtree, or from outside; what can go on in it; whether that may set limits; which entries from
+-- outside may, and where; and whether the host may be asked.
 pub record Discipline (O I : Type 0) : Type 0 where
   pub plain : O → Bool
   pub tame : Entry → Bool
@@ -42,7 +43,8 @@ module _ {O I : Type 0} (R : Discipline O I) where
 
   abbrev pub Modest_wrap : Wrap O → Type 0
   Modest_wrap Deeper = Unit {0}
-  Modest_wrap (Framed o back) = (R.plain o ≡ true) × ((n : O) → R.plain n ≡ true → R.plain (back n) ≡ true)
+  Modest_wrap (Framed o back) = (R.plain o ≡ true) ×
+      ((n : O) → R.plain n ≡ true → R.plain (back n) ≡ true)
 
   abbrev pub Modest_call : Height → Entry → Type 0
   Modest_call None i = R.may_ask ≡ true
@@ -95,22 +97,39 @@ module _ {O I : Type 0} (R : Discipline O I) where
   AreAllowed [] = Unit {0}
   AreAllowed (ev ∷ τ) = Allowed ev.place ev.what × AreAllowed τ
 
--- The discipline of no requests: own parts with no host command, `plain`; nobody is asked to expose a command or to invoke a hidden one;
--- the host isn't asked.
+-- The discipline of no requests: own parts with no host command, `plain`; nobody is asked to expose
+-- a command or to invoke a hidden one; the host isn't asked.
 abbrev pub exposes : Entry → Bool
 exposes (Expose h n) = true
 exposes (InvokeHidden g ws) = true
 exposes i = false
 
 abbrev pub hostless : {O I : Type 0} → (O → Bool) → (I → Bool) → Discipline O I
-hostless plain fine = record { plain = plain; tame = λ i. not (exposes i); fine = fine; may_limit = true; limits = λ i. false; limited = λ p. false; may_ask = false }
+hostless plain fine =
+    record {
+      plain = plain;
+      tame = λ i. not (exposes i);
+      fine = fine;
+      may_limit = true;
+      limits = λ i. false;
+      limited = λ p. false;
+      may_ask = false;
+    }
 
--- The discipline of limits: nobody within is asked to set one, and nothing that goes on sets one but an entry for it, from outside, at one of
--- these places.
+-- The discipline of limits: nobody within is asked to set one, and nothing that goes on sets one
+-- but an entry for it, from outside, at one of these places.
 abbrev pub sets_limit : Entry → Bool
 sets_limit (SetCountLimit l) = true
 sets_limit (SetDepthLimit l) = true
 sets_limit i = false
 
 abbrev pub unlimiting : {O I : Type 0} → (I → Bool) → (Place → Bool) → Discipline O I
-unlimiting fine limited = record { plain = λ o. true; tame = λ i. not (sets_limit i); fine = fine; may_limit = false; limits = sets_limit; limited = limited; may_ask = true }
+unlimiting fine limited = record {
+  plain = λ o. true;
+  tame = λ i. not (sets_limit i);
+  fine = fine;
+  may_limit = false;
+  limits = sets_limit;
+  limited = limited;
+  may_ask = true;
+}

@@ -1,6 +1,8 @@
 -- A tree of interpreters, what can happen to it, and how each happening changes it.
--- O is an interpreter's own part: its frames, commands and hidden commands, and the names of its children in order.
-use Rattle.std.specs.Prelude.{ℕ, suc, pred, Bool, true, false, List, [], ◌∷◌, ◌++◌, Option, Some, None, nat_lt, length}
+-- O is an interpreter's own part: its frames, commands and hidden commands, and the names of its
+-- children in order.
+use Rattle.std.specs.Prelude.{ℕ, suc, pred, Bool, true, false, List, [], ◌∷◌, ◌++◌, Option, Some}
+use Rattle.std.specs.Prelude.{None, nat_lt, length}
 use Rattle.tcl_core.specs.Paths.{Path, Place, Height, strip, rise_to, seen_height}
 use Rattle.tcl_core.specs.Endings.{Meter, Reply}
 use Rattle.tcl_core.specs.Endings.Reply.{Stop, Cut}
@@ -8,8 +10,8 @@ use Rattle.tcl_core.specs.Endings.Cause.{Above}
 use Rattle.tcl_core.specs.Entries.{Entry, Answer}
 use Rattle.tcl_core.specs.Entries.Answer.{Replied, Heard}
 
--- An interpreter: its own part, which its own commands may change; whether it is safe, and whether it is the root of its tree, which
--- stay; and its meters, which only their own happenings move.
+-- An interpreter: its own part, which its own commands may change; whether it is safe, and whether
+-- it is the root of its tree, which stay; and its meters, which only their own happenings move.
 pub record Node (O : Type 0) : Type 0 where
   pub own : O
   pub safe : Bool
@@ -27,7 +29,8 @@ Tree O = List (List ℕ) → Option (Node O)
 abbrev pub at : {O : Type 0} → Tree O → List (List ℕ) → Tree O
 at T c = λ p. T (c ++ p)
 
--- What can happen at an interpreter. All that is said of others is relative: so many levels up, and these names down.
+-- What can happen at an interpreter. All that is said of others is relative: so many levels up, and
+-- these names down.
 pub data What (O : Type 0) : Type 0 where
   -- its subtree is looked at
   Seen : What O
@@ -38,7 +41,8 @@ pub data What (O : Type 0) : Type 0 where
   -- an evaluation begins, or ends
   Nested : What O
   Unnested : What O
-  -- a step, or an evaluation, is refused by the limit of the interpreter so many levels up, or from outside the tree
+  -- a step, or an evaluation, is refused by the limit of the interpreter so many levels up, or from
+  -- outside the tree
   Refused : (meter : Meter) (levels : Height) → What O
   -- its limits are set
   Limited : (limit : Option ℕ) → What O
@@ -46,7 +50,8 @@ pub data What (O : Type 0) : Type 0 where
   -- it is made, or dropped with all below it
   Made : (own : O) (safe : Bool) → What O
   Dropped : What O
-  -- a call goes out to the one so many levels up and these names down, or to the host; and its answer comes back
+  -- a call goes out to the one so many levels up and these names down, or to the host; and its
+  -- answer comes back
   Out : (height : Height) (down : Path) (entry : Entry) → What O
   Back : (height : Height) (answer : Answer) → What O
   -- an entry comes in, from so many levels up or from outside the tree; and its reply goes there
@@ -59,19 +64,30 @@ pub record Event (O : Type 0) : Type 0 where
 
 -- a new interpreter
 abbrev pub fresh : {O : Type 0} → O → Bool → Node O
-fresh o s = record { own = o; safe = s; root = false; count = 0; limit = None; depth = 0; depth_limit = 200 }
+fresh o s = record {
+  own = o;
+  safe = s;
+  root = false;
+  count = 0;
+  limit = None;
+  depth = 0;
+  depth_limit = 200;
+}
 
 module _ {O : Type 0} where
-  abbrev pub at_end : Option Path → (Option (Node O) → Option (Node O)) → Option (Node O) → Option (Node O)
+  abbrev pub at_end : Option Path → (Option (Node O) → Option (Node O)) → Option (Node O) →
+      Option (Node O)
   at_end None f o = o
   at_end (Some []) f o = f o
   at_end (Some (x ∷ xs)) f o = o
 
-  abbrev pub where_some : Option Path → (Option (Node O) → Option (Node O)) → Option (Node O) → Option (Node O)
+  abbrev pub where_some : Option Path → (Option (Node O) → Option (Node O)) → Option (Node O) →
+      Option (Node O)
   where_some None f o = o
   where_some (Some q) f o = f o
 
-  -- a change of the one interpreter at p; of all that are at p or above; of all that are at p or below
+  -- a change of the one interpreter at p; of all that are at p or above; of all that are at p or
+  -- below
   abbrev pub on_node : Place → (Option (Node O) → Option (Node O)) → Tree O → Tree O
   on_node p f T = λ r. at_end (strip p r) f (T r)
 
@@ -116,7 +132,8 @@ module _ {O : Type 0} where
   effect p (Done h r) T = T
   effect p _ T = T
 
--- what the outside hands in: an entry; the answer to a call that left the tree; that the tree is made, or dropped
+-- what the outside hands in: an entry; the answer to a call that left the tree; that the tree is
+-- made, or dropped
 pub data Move (O : Type 0) : Type 0 where
   Enter : (target : Path) (entry : Entry) → Move O
   Come : (answer : Answer) → Move O
@@ -176,7 +193,8 @@ abbrev pub paid : {O : Type 0} → What O → ℕ → ℕ
 paid Charged b = suc b
 paid _ b = b
 
--- a reply as it is seen in a tree where it is told at q: a stop that names one above the top cuts off from outside
+-- a reply as it is seen in a tree where it is told at q: a stop that names one above the top cuts
+-- off from outside
 abbrev pub stopped : Bool → ℕ → Meter → Reply
 stopped true n m = Cut Above
 stopped false n m = Stop n m

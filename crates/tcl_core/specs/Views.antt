@@ -1,7 +1,8 @@
 -- What a world is to one of its subtrees.
 use Rattle.std.specs.Prelude.{◌≡◌, ℕ, List, [], ◌∷◌, Option, Some, None}
 use Rattle.tcl_core.specs.Paths.{Place, strip}
-use Rattle.tcl_core.specs.Trees.{Grants, granted, Tree, What, Event, Move, at, asked, paid, seen_what}
+use Rattle.tcl_core.specs.Trees.{Grants, granted, Tree, What, Event, Move, at, asked, paid}
+use Rattle.tcl_core.specs.Trees.{seen_what}
 use Rattle.tcl_core.specs.Trees.Grants.{Listed}
 use Rattle.tcl_core.specs.Trees.What.{Charged, Nested, Made, Dropped}
 use Rattle.tcl_core.specs.Programs.{blocked, is_spent, is_deep}
@@ -35,15 +36,22 @@ module _ {O : Type 0} where
   view c [] = []
   view c (ev ∷ τ) = kept (strip c ev.place) (strip ev.place c) ev.what (view c τ)
 
-  -- The subtree at c as a world of its own. What the rest of the whole hands it are the crossings into it.
+  -- The subtree at c as a world of its own. What the rest of the whole hands it are the crossings
+  -- into it.
   abbrev pub inside_of : Place → World O → World O
-  inside_of c w = record { tree = at w.tree c; moves = moves_of (view c w.tape); grants = grants_of (view c w.tape); tape = view c w.tape }
+  inside_of c w = record {
+    tree = at w.tree c;
+    moves = moves_of (view c w.tape);
+    grants = grants_of (view c w.tape);
+    tape = view c w.tape;
+  }
 
   abbrev pub IsFree : Tree O → Place → Type 0
   IsFree T [] = Unit {0}
   IsFree T (x ∷ p) = T (x ∷ p) ≡ None
 
-  -- a step is counted, or an evaluation begins, only where no interpreter at p or above is full; and a child is made where none stands
+  -- a step is counted, or an evaluation begins, only where no interpreter at p or above is full;
+  -- and a child is made where none stands
   abbrev pub IsDue : Tree O → Place → What O → Type 0
   IsDue T p Charged = blocked is_spent T p ≡ None
   IsDue T p Nested = blocked is_deep T p ≡ None

@@ -1,10 +1,15 @@
-//! The core of a tree of interpreters: its definitions stand in `specs/`, and each function here is a law.
-//! `O` is the own part of an interpreter, `I` what can be going on in one; each law holds for every table of commands.
+//! The core of a tree of interpreters: its definitions stand in `specs/`, and each function here is
+//! a law. `O` is the own part of an interpreter, `I` what can be going on in one; each law holds
+//! for every table of commands.
 #![tactic(auto)]
 
 ghost use Rattle.tcl_core.specs.Example.{WorkedLife, WorkedReactions};
-ghost use Rattle.tcl_core.specs.Laws.{AllAgree, Bounded, Counting, Determinism, Disciplined, Happenings, Inner, Isolation, IsolationUntil, Limiting, LimitsKept, LivesWithin, Moments, MoreMoves, NonInterference, NoRequests, OneReaction, Passing, QuietOutside, Steady, Stopping, TwoWorlds, Untouched};
-ghost use Rattle.tcl_core.specs.Meaning.{RulesAreRuns, ThreadsAreRuns, Unrolling};
+ghost use Rattle.tcl_core.specs.Laws.{AllAgree, Bounded, Counting, Determinism, Disciplined};
+ghost use Rattle.tcl_core.specs.Laws.{Happenings, Inner, Isolation, IsolationUntil, Limiting};
+ghost use Rattle.tcl_core.specs.Laws.{LimitsKept, LivesWithin, Moments, MoreMoves, NonInterference};
+ghost use Rattle.tcl_core.specs.Laws.{NoRequests, OneReaction, Passing, QuietOutside, Steady};
+ghost use Rattle.tcl_core.specs.Laws.{Stopping, TwoWorlds, Untouched};
+ghost use Rattle.tcl_core.specs.Meaning.{RulesAreRuns, ExecutionsAreRuns, Unrolling};
 
 /// A run is what `Unrolled` says of runs.
 pub fn unrolling<O, I>()
@@ -16,9 +21,9 @@ pub fn rules_are_runs<O, I>()
     ensures { RulesAreRuns O I }
 {}
 
-/// What code threads is a run over the tape of what happened.
-pub fn threads_are_runs<O, I, S>()
-    ensures { ThreadsAreRuns O I S }
+/// What code executes is a run over the tape of what happened.
+pub fn executions_are_runs<O, I, S>()
+    ensures { ExecutionsAreRuns O I S }
 {}
 
 /// From the same tree, with the same handed in, the same happens.
@@ -61,22 +66,26 @@ pub fn counting<O, I>()
     ensures { Counting O I }
 {}
 
-/// With a limit that nobody raises or takes away, a count ends at most at the greater of the limit and the count before.
+/// With a limit that nobody raises or takes away, a count ends at most at the greater of the limit
+/// and the count before.
 pub fn limiting<O, I>()
     ensures { Limiting O I }
 {}
 
-/// What an evaluation anywhere in the tree does in a subtree is what that subtree alone does with the crossings into it.
+/// What an evaluation anywhere in the tree does in a subtree is what that subtree alone does with
+/// the crossings into it.
 pub fn isolation<O, I>()
     ensures { Isolation O I }
 {}
 
-/// Where a tree by itself stops by itself, that is all that it does with these moves and this budget.
+/// Where a tree by itself stops by itself, that is all that it does with these moves and this
+/// budget.
 pub fn one_reaction<O, I>()
     ensures { OneReaction O I }
 {}
 
-/// Where an entry is ended from outside, what is told before that is a beginning of what the subtree alone tells.
+/// Where an entry is ended from outside, what is told before that is a beginning of what the
+/// subtree alone tells.
 pub fn isolation_until<O, I>()
     ensures { IsolationUntil O I }
 {}
@@ -86,17 +95,20 @@ pub fn quiet_outside<O, I>()
     ensures { QuietOutside O I }
 {}
 
-/// Where an evaluation is in a subtree and nobody there calls outside it, all outside it is afterwards what it was.
+/// Where an evaluation is in a subtree and nobody there calls outside it, all outside it is
+/// afterwards what it was.
 pub fn untouched<O, I>()
     ensures { Untouched O I }
 {}
 
-/// Once a stop that names an interpreter or one above it is raised in its subtree or comes into it, no step is made there before it has left.
+/// Once a stop that names an interpreter or one above it is raised in its subtree or comes into it,
+/// no step is made there before it has left.
 pub fn stopping<O, I>()
     ensures { Stopping O I }
 {}
 
-/// What a safe subtree whose commands keep a discipline does keeps it, where what is handed in does.
+/// What a safe subtree whose commands keep a discipline does keeps it, where what is handed in
+/// does.
 pub fn disciplined<O, I>()
     ensures { Disciplined O I }
 {}
@@ -106,7 +118,8 @@ pub fn steady<O, I>()
     ensures { Steady O I }
 {}
 
-/// A safe interpreter in whose subtree nobody has a host command asks the host for nothing, where nobody exposes one from outside.
+/// A safe interpreter in whose subtree nobody has a host command asks the host for nothing, where
+/// nobody exposes one from outside.
 pub fn no_requests<O, I>()
     ensures { NoRequests O I }
 {}
@@ -116,12 +129,14 @@ pub fn limits_kept<O, I>()
     ensures { LimitsKept O I }
 {}
 
-/// Two worlds in which a subtree is the same, and is first handed the same: the same happens there up to the first move that differs.
+/// Two worlds in which a subtree is the same, and is first handed the same: the same happens there
+/// up to the first move that differs.
 pub fn two_worlds<O, I>()
     ensures { TwoWorlds O I }
 {}
 
-/// Two worlds in which a subtree is the same, and is handed the same: all that happens there is the same, and what is left.
+/// Two worlds in which a subtree is the same, and is handed the same: all that happens there is the
+/// same, and what is left.
 pub fn all_agree<O, I>()
     ensures { AllAgree O I }
 {}
@@ -131,7 +146,8 @@ pub fn bounded<O, I>()
     ensures { Bounded O I }
 {}
 
-/// Where an act, an inner evaluation or a call ends by a stop, an exit or from outside, the whole ends by it: no program goes on after one.
+/// Where an act, an inner evaluation or a call ends by a stop, an exit or from outside, the whole
+/// ends by it: no program goes on after one.
 pub fn passing<O, I>()
     ensures { Passing O I }
 {}
@@ -141,7 +157,8 @@ pub fn worked_life()
     ensures { WorkedLife }
 {}
 
-/// What the child of that life does by itself, with a budget that is enough, with none, and handed what it did not ask for.
+/// What the child of that life does by itself, with a budget that is enough, with none, and handed
+/// what it did not ask for.
 pub fn worked_reactions()
     ensures { WorkedReactions }
 {}

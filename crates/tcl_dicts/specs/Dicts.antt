@@ -1,5 +1,7 @@
--- The subcommands of dict as functions of texts. A value that is read as a dict is the list of its keys with their values.
-use Rattle.std.specs.Prelude.{ℕ, ◌%◌, ◌==◌, pos, Bool, true, false, if◌then◌else◌, List, [], ◌∷◌, length, filter, Ok, Err, codes}
+-- The subcommands of dict as functions of texts. A value that is read as a dict is the list of its
+-- keys with their values.
+use Rattle.std.specs.Prelude.{ℕ, ◌%◌, ◌==◌, pos, Bool, true, false, if◌then◌else◌, List, [], ◌∷◌}
+use Rattle.std.specs.Prelude.{length, filter, Ok, Err, codes}
 use Rattle.std.specs.declared.result.Result.{Result}
 use Rattle.std.specs.declared.option.Option.{Option}
 use Rattle.std.specs.declared.option.Option.TheVariants.{None, Some}
@@ -130,7 +132,8 @@ get_at text [] = next (dict_word text) dict_value
 get_at text (k ∷ ks) = at_keys text (k ∷ ks)
 
 abbrev pub get_of : Texts → Outcome
-get_of words = next (first_and_rest (codes "dict get dictionary ?key ...?") words) (λ p. get_at p.0 p.1)
+get_of words = next (first_and_rest (codes "dict get dictionary ?key ...?") words)
+    (λ p. get_at p.0 p.1)
 
 abbrev pub truth : Bool → Outcome
 truth true = Ok (signed_decimal (pos 1))

@@ -2,7 +2,8 @@
 ghost use Rattle.std.specs.Prelude.{◌≡◌};
 ghost use Rattle.tcl_words.specs.Outcomes.{Gives};
 ghost use Rattle.tcl_value.specs.Texts.{flat};
-ghost use Rattle.tcl_dicts.specs.Dicts.{put_within, put_words, in_pairs, create_of, replace_of, merged, merge_of, without_within, without_words, remove_of};
+ghost use Rattle.tcl_dicts.specs.Dicts.{put_within, put_words, in_pairs, create_of, replace_of};
+ghost use Rattle.tcl_dicts.specs.Dicts.{merged, merge_of, without_within, without_words, remove_of};
 
 use crate::reading::{dict_value, dict_word};
 use std::alloc::Global;
@@ -48,7 +49,8 @@ fn in_pairs<'a>(alloc: Global, words: &'a [Value], form: &str) -> Result<&'a [Va
     Ok(words)
 }
 
-/// `dict create ?key value ...?`: the dict of these keys and values; a repeated key keeps its first place and its last value.
+/// `dict create ?key value ...?`: the dict of these keys and values; a repeated key keeps its first
+/// place and its last value.
 ///
 /// # Errors
 /// 241, 122; want of memory.
@@ -96,8 +98,8 @@ fn merged(alloc: Global, dict: Dict, words: &[Value]) -> Result<Dict, Refusal>
     Ok(made)
 }
 
-/// `dict merge ?dictionary ...?`: the dict of all keys of these dicts, where the value of a key that several have is that of
-/// the last of them, and its place that in the first.
+/// `dict merge ?dictionary ...?`: the dict of all keys of these dicts, where the value of a key
+/// that several have is that of the last of them, and its place that in the first.
 ///
 /// # Errors
 /// 101 to 104, 121, 122; want of memory.

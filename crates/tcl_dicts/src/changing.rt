@@ -6,7 +6,8 @@ ghost use Rattle.tcl_words.specs.Outcomes.{Gives};
 ghost use Rattle.tcl_words.specs.Arguments.{two_or_three_words};
 ghost use Rattle.tcl_value.specs.Limits.{IsWithin};
 ghost use Rattle.tcl_lists.specs.Lists.{Changes, two_and_rest, first_middle_last};
-ghost use Rattle.tcl_dicts.specs.Changing.{with_keys, set_words_of, set_of, unset_of, found_of, put_of, incr_of, append_of, lappend_of};
+ghost use Rattle.tcl_dicts.specs.Changing.{with_keys, set_words_of, set_of, unset_of, found_of};
+ghost use Rattle.tcl_dicts.specs.Changing.{put_of, incr_of, append_of, lappend_of};
 
 use crate::reading::{not_changed, own_dict};
 use crate::values::{appended, incremented, joined, lengthened};
@@ -26,7 +27,8 @@ fn with_keys<'a>(
     value: &'a Value,
     form: &str,
 ) -> Result<(&'a Value, &'a [Value], &'a Value), Refusal>
-    ensures { Gives (λ p. (p.0.now, p.1.now, p.2.now)) result (with_keys form.now (name.now, keys.now, value.now)) }
+    ensures { Gives (λ p. (p.0.now, p.1.now, p.2.now)) result
+        (with_keys form.now (name.now, keys.now, value.now)) }
 {
     match keys {
         [] => Err(wrong_arguments(alloc, form)),
@@ -46,9 +48,10 @@ pub fn set_words(alloc: Global, words: &[Value]) -> Result<(&Value, &[Value], &V
     with_keys(alloc, name, keys, value, form)
 }
 
-/// What `dict set varName key ?key ...? value` makes of the variable's value: the first key is one of its dict, the next one
-/// of the dict that is its value, and so on; a key that is missing is new. A dict on the way that is kept as one and that nobody
-/// shares is changed in place. A refusal leaves the value as it was.
+/// What `dict set varName key ?key ...? value` makes of the variable's value: the first key is one
+/// of its dict, the next one of the dict that is its value, and so on; a key that is missing is
+/// new. A dict on the way that is kept as one and that nobody shares is changed in place. A refusal
+/// leaves the value as it was.
 ///
 /// # Errors
 /// 101 to 104 and 121 where a value on the way is no dict; 122; want of memory.
@@ -65,22 +68,25 @@ pub fn set(alloc: Global, old: &mut Value, keys: &[Value], value: &Value) -> Res
     }
 }
 
-/// The words of `dict unset varName key ?key ...?`: the name, the keys that lead to a dict, the key that goes from it.
+/// The words of `dict unset varName key ?key ...?`: the name, the keys that lead to a dict, the key
+/// that goes from it.
 ///
 /// # Errors
 /// 241 where there are fewer than two; want of memory.
 pub fn unset_words(alloc: Global, words: &[Value]) -> Result<(&Value, &[Value], &Value), Refusal>
-    ensures { Gives (λ p. (p.0.now, p.1.now, p.2.now)) result (first_middle_last (codes "dict unset varName key ?key ...?") words.now) }
+    ensures { Gives (λ p. (p.0.now, p.1.now, p.2.now)) result
+        (first_middle_last (codes "dict unset varName key ?key ...?") words.now) }
 {
     first_middle_last(alloc, words, "dict unset varName key ?key ...?")
 }
 
-/// What `dict unset varName key ?key ...?` makes of the variable's value: the dict to which the keys before the last one lead is
-/// without the last. A dict on the way that is kept as one and that nobody shares is changed in place. A refusal leaves the value
-/// as it was.
+/// What `dict unset varName key ?key ...?` makes of the variable's value: the dict to which the
+/// keys before the last one lead is without the last. A dict on the way that is kept as one and
+/// that nobody shares is changed in place. A refusal leaves the value as it was.
 ///
 /// # Errors
-/// 101 to 104 and 121 where a value on the way is no dict, 242 where a key on the way is missing; 122; want of memory.
+/// 101 to 104 and 121 where a value on the way is no dict, 242 where a key on the way is missing;
+/// 122; want of memory.
 pub fn unset(alloc: Global, old: &mut Value, path: &[Value], key: &Value) -> Result<(), Refusal>
     ensures { Changes result old.old old.new (unset_of old.old path.now key.now) }
 {
@@ -121,17 +127,19 @@ pub fn incr_words(
     alloc: Global,
     words: &[Value],
 ) -> Result<(&Value, &Value, Option<&Value>), Refusal>
-    ensures { Gives (λ p. (p.0.now, p.1.now, option_copied p.2)) result (two_or_three_words (codes "dict incr varName key ?increment?") words.now) }
+    ensures { Gives (λ p. (p.0.now, p.1.now, option_copied p.2)) result
+        (two_or_three_words (codes "dict incr varName key ?increment?") words.now) }
 {
     two_or_three_words(alloc, words, "dict incr varName key ?increment?")
 }
 
-/// What `dict incr varName key ?increment?` makes of the variable's value: the value of the key, which counts as 0 where it is
-/// missing, has the increment added, which is 1 where none is given. Where nobody shares the dict it is changed in place. A
-/// refusal leaves the value as it was.
+/// What `dict incr varName key ?increment?` makes of the variable's value: the value of the key,
+/// which counts as 0 where it is missing, has the increment added, which is 1 where none is given.
+/// Where nobody shares the dict it is changed in place. A refusal leaves the value as it was.
 ///
 /// # Errors
-/// 101 to 104, 121, 111 or 112 of the key's value and then of the increment, 212, 122; want of memory.
+/// 101 to 104, 121, 111 or 112 of the key's value and then of the increment, 212, 122; want of
+/// memory.
 pub fn incr(
     alloc: Global,
     style: Integers,
@@ -139,7 +147,8 @@ pub fn incr(
     key: &Value,
     by: Option<&Value>,
 ) -> Result<(), Refusal>
-    ensures { Changes result old.old old.new (incr_of style old.old key.now (option_copied by.entry)) }
+    ensures { Changes result old.old old.new
+        (incr_of style old.old key.now (option_copied by.entry)) }
 {
     let found = found_in(alloc, old, key)?;
     let made = incremented(alloc, style, by, found)?;
@@ -151,14 +160,16 @@ pub fn incr(
 /// # Errors
 /// 241 where there are fewer than two; want of memory.
 pub fn append_words(alloc: Global, words: &[Value]) -> Result<(&Value, &Value, &[Value]), Refusal>
-    ensures { Gives (λ p. (p.0.now, p.1.now, p.2.now)) result (two_and_rest (codes "dict append varName key ?string ...?") words.now) }
+    ensures { Gives (λ p. (p.0.now, p.1.now, p.2.now)) result
+        (two_and_rest (codes "dict append varName key ?string ...?") words.now) }
 {
     two_and_rest(alloc, words, "dict append varName key ?string ...?")
 }
 
-/// What `dict append varName key ?string ...?` makes of the variable's value: the value of the key, which is empty where it is
-/// missing, has the strings behind it. Where nobody shares the dict it is changed in place, and so is the key's value where it is
-/// kept as a text. A refusal leaves the value as it was.
+/// What `dict append varName key ?string ...?` makes of the variable's value: the value of the key,
+/// which is empty where it is missing, has the strings behind it. Where nobody shares the dict it
+/// is changed in place, and so is the key's value where it is kept as a text. A refusal leaves the
+/// value as it was.
 ///
 /// # Errors
 /// 101 to 104, 121, 122; want of memory.
@@ -171,14 +182,16 @@ pub fn append(alloc: Global, old: &mut Value, key: &Value, words: &[Value]) -> R
     append_anew(alloc, old, key, words)
 }
 
-/// Puts words behind a key's value, where it is kept as a text. Says whether it did; where it didn't, nothing is changed.
+/// Puts words behind a key's value, where it is kept as a text. Says whether it did; where it
+/// didn't, nothing is changed.
 fn appended_in_place(
     alloc: Global,
     old: &mut Value,
     key: &Value,
     words: &[Value],
 ) -> Result<bool, AllocError>
-    ensures changed { IfOk result (λ done. OnTrue done (append_of old.old key.now words.now ≡ Ok old.new)) }
+    ensures changed { IfOk result
+        (λ done. OnTrue done (append_of old.old key.now words.now ≡ Ok old.new)) }
     ensures within { IfOk result (λ done. OnTrue done (IsWithin old.new)) }
     ensures unchanged { IfOk result (λ done. OnFalse done (old.new ≡ old.old)) }
     ensures memory { OnErr result (old.new ≡ old.old) }
@@ -206,14 +219,16 @@ fn append_anew(alloc: Global, old: &mut Value, key: &Value, words: &[Value]) -> 
 /// # Errors
 /// 241 where there are fewer than two; want of memory.
 pub fn lappend_words(alloc: Global, words: &[Value]) -> Result<(&Value, &Value, &[Value]), Refusal>
-    ensures { Gives (λ p. (p.0.now, p.1.now, p.2.now)) result (two_and_rest (codes "dict lappend varName key ?value ...?") words.now) }
+    ensures { Gives (λ p. (p.0.now, p.1.now, p.2.now)) result
+        (two_and_rest (codes "dict lappend varName key ?value ...?") words.now) }
 {
     two_and_rest(alloc, words, "dict lappend varName key ?value ...?")
 }
 
-/// What `dict lappend varName key ?value ...?` makes of the variable's value: the list of the key's value, which is empty where it
-/// is missing, has the values behind its elements. Where nobody shares the dict it is changed in place, and so is the key's list
-/// where it is kept as one. A refusal leaves the value as it was.
+/// What `dict lappend varName key ?value ...?` makes of the variable's value: the list of the key's
+/// value, which is empty where it is missing, has the values behind its elements. Where nobody
+/// shares the dict it is changed in place, and so is the key's list where it is kept as one. A
+/// refusal leaves the value as it was.
 ///
 /// # Errors
 /// 101 to 104 and 121 of the dict, 101 to 104 of the key's value, 122; want of memory.
@@ -226,15 +241,16 @@ pub fn lappend(alloc: Global, old: &mut Value, key: &Value, words: &[Value]) -> 
     lappend_anew(alloc, old, key, words)
 }
 
-/// Puts words behind the elements of a key's list, where it is kept as one. Says whether it did; where it didn't, nothing is
-/// changed.
+/// Puts words behind the elements of a key's list, where it is kept as one. Says whether it did;
+/// where it didn't, nothing is changed.
 fn lengthened_in_place(
     alloc: Global,
     old: &mut Value,
     key: &Value,
     words: &[Value],
 ) -> Result<bool, AllocError>
-    ensures changed { IfOk result (λ done. OnTrue done (lappend_of old.old key.now words.now ≡ Ok old.new)) }
+    ensures changed { IfOk result
+        (λ done. OnTrue done (lappend_of old.old key.now words.now ≡ Ok old.new)) }
     ensures within { IfOk result (λ done. OnTrue done (IsWithin old.new)) }
     ensures unchanged { IfOk result (λ done. OnFalse done (old.new ≡ old.old)) }
     ensures memory { OnErr result (old.new ≡ old.old) }

@@ -2,7 +2,8 @@
 ghost use Rattle.std.specs.Prelude.{◌≡◌, ◌∷◌, Ok, Bool};
 ghost use Rattle.tcl_words.specs.Outcomes.{Outcome, Gives};
 ghost use Rattle.tcl_words.specs.Limits.{counted};
-ghost use Rattle.tcl_dicts.specs.Dicts.{value_at, at_key, at_keys, get_at, get_of, is_given, truth, exists_of, size_of};
+ghost use Rattle.tcl_dicts.specs.Dicts.{value_at, at_key, at_keys, get_at, get_of, is_given, truth};
+ghost use Rattle.tcl_dicts.specs.Dicts.{exists_of, size_of};
 
 use crate::reading::{dict_value, dict_word, unknown_key};
 use std::alloc::Global;
@@ -55,7 +56,8 @@ fn get_at(alloc: Global, value: &Value, keys: &[Value]) -> Result<Value, Refusal
     }
 }
 
-/// `dict get dictionary ?key ...?`: the value of the first key, of the second key in that, and so on; without a key the dict.
+/// `dict get dictionary ?key ...?`: the value of the first key, of the second key in that, and so
+/// on; without a key the dict.
 ///
 /// # Errors
 /// 241, 101 to 104, 121, 242, 122; want of memory.
@@ -76,7 +78,8 @@ fn at_some_keys(alloc: Global, value: &Value, key: &Value, keys: &[Value]) -> Re
 
 /// Whether there is a value, unless memory ran out.
 fn is_given(found: Result<Value, Refusal>) -> Result<bool, Refusal>
-    ensures { (outcome : Outcome) → Gives (λ value. value) found outcome → Gives {Y = Bool} (λ given. given) result (Ok (is_given outcome)) }
+    ensures { (outcome : Outcome) → Gives (λ value. value) found outcome → Gives {Y = Bool}
+        (λ given. given) result (Ok (is_given outcome)) }
 {
     match found {
         Ok(_) => Ok(true),
@@ -92,8 +95,8 @@ fn truth(holds: bool) -> Value
     Value::from_int(i64::from(holds))
 }
 
-/// `dict exists dictionary key ?key ...?`: 1 where there is a value for the keys, 0 where one is missing or a value on the way
-/// is no dict.
+/// `dict exists dictionary key ?key ...?`: 1 where there is a value for the keys, 0 where one is
+/// missing or a value on the way is no dict.
 ///
 /// # Errors
 /// 241; want of memory.

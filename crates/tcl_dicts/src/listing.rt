@@ -53,7 +53,8 @@ fn value_fits(alloc: Global, pattern: &Option<Text>, value: &Value) -> Result<bo
 /// Adds a value to a list.
 fn push(alloc: Global, made: &mut List, value: Value) -> Result<(), Refusal>
     ensures pushed { OnOk result (made.new ≡ made.old ++ value ∷ []) }
-    ensures refused { (rest : Texts) → IfErr result (λ e. Refuses e (list_value (made.old ++ (value ∷ rest)))) }
+    ensures refused { (rest : Texts) → IfErr result
+        (λ e. Refuses e (list_value (made.old ++ (value ∷ rest)))) }
 {
     if let Err(why) = made.push(alloc, value) {
         return Err(not_made(alloc, why));
@@ -64,7 +65,8 @@ fn push(alloc: Global, made: &mut List, value: Value) -> Result<(), Refusal>
 /// Adds a text to a list.
 fn push_text(alloc: Global, made: &mut List, text: Text) -> Result<(), Refusal>
     ensures pushed { OnOk result (made.new ≡ made.old ++ text ∷ []) }
-    ensures refused { (rest : Texts) → IfErr result (λ e. Refuses e (list_value (made.old ++ (text ∷ rest)))) }
+    ensures refused { (rest : Texts) → IfErr result
+        (λ e. Refuses e (list_value (made.old ++ (text ∷ rest)))) }
 {
     match Value::from_text(text) {
         Ok(value) => push(alloc, made, value),
@@ -74,7 +76,8 @@ fn push_text(alloc: Global, made: &mut List, text: Text) -> Result<(), Refusal>
 
 /// The list of the keys that fit a pattern.
 fn keys_value(alloc: Global, pattern: &Option<Text>, dict: &Dict) -> Result<Value, Refusal>
-    ensures { Gives (λ value. value) result (list_value (filter (fits pattern.now) (keys_in dict.now))) }
+    ensures { Gives (λ value. value) result
+        (list_value (filter (fits pattern.now) (keys_in dict.now))) }
 {
     let mut made = List::new(alloc)?;
     'entries: for index in 0..dict.len() {
@@ -86,8 +89,8 @@ fn keys_value(alloc: Global, pattern: &Option<Text>, dict: &Dict) -> Result<Valu
     list_value(alloc, made)
 }
 
-/// `dict keys dictionary ?pattern?`: the keys in the order in which they came first, those that match the pattern where there is
-/// one.
+/// `dict keys dictionary ?pattern?`: the keys in the order in which they came first, those that
+/// match the pattern where there is one.
 ///
 /// # Errors
 /// 241, 101 to 104, 121, 122; want of memory.
@@ -102,7 +105,8 @@ pub fn keys(alloc: Global, words: &[Value]) -> Result<Value, Refusal>
 
 /// The list of the values that fit a pattern.
 fn values_value(alloc: Global, pattern: &Option<Text>, dict: &Dict) -> Result<Value, Refusal>
-    ensures { Gives (λ value. value) result (list_value (filter (fits pattern.now) (values_in dict.now))) }
+    ensures { Gives (λ value. value) result
+        (list_value (filter (fits pattern.now) (values_in dict.now))) }
 {
     let mut made = List::new(alloc)?;
     'entries: for index in 0..dict.len() {
@@ -114,7 +118,8 @@ fn values_value(alloc: Global, pattern: &Option<Text>, dict: &Dict) -> Result<Va
     list_value(alloc, made)
 }
 
-/// `dict values dictionary ?pattern?`: the values in the order of their keys, those that match the pattern where there is one.
+/// `dict values dictionary ?pattern?`: the values in the order of their keys, those that match the
+/// pattern where there is one.
 ///
 /// # Errors
 /// 241, 101 to 104, 121, 122; want of memory.

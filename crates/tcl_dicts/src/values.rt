@@ -4,7 +4,8 @@ ghost use Rattle.std.specs.Option.{option_copied};
 ghost use Rattle.tcl_words.specs.Outcomes.{Gives, Refuses};
 ghost use Rattle.tcl_words.specs.Limits.{limited};
 ghost use Rattle.tcl_nested.specs.Nested.{value_or_empty};
-ghost use Rattle.tcl_dicts.specs.Changing.{integer_or, overflow, number_value, incremented, joined, appended, lengthened};
+ghost use Rattle.tcl_dicts.specs.Changing.{integer_or, overflow, number_value, incremented, joined};
+ghost use Rattle.tcl_dicts.specs.Changing.{appended, lengthened};
 
 use std::alloc::Global;
 use tcl_arithmetic::sum;
@@ -65,7 +66,8 @@ fn sum_value(alloc: Global, a: i64, b: i64) -> Result<Value, Refusal>
     }
 }
 
-/// A number, which is 0 where there is none, with another one added, which is 1 where none is given.
+/// A number, which is 0 where there is none, with another one added, which is 1 where none is
+/// given.
 pub(crate) fn incremented(
     alloc: Global,
     style: Integers,

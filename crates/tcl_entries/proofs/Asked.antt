@@ -8,7 +8,7 @@ use Rattle.tcl_core.specs.Entries.{Entry}
 use Rattle.tcl_core.specs.Paths.{Path, Place, rise, rise_to, rejoined, falls, together}
 use Rattle.tcl_core.specs.Programs.Prog.{go, call}
 use Rattle.tcl_core.specs.Runs.{carried, lessened}
-use Rattle.tcl_core.specs.Threads.{passed}
+use Rattle.tcl_core.specs.Execution.{passed}
 use Rattle.tcl_core.specs.Trees.{Tree, Node}
 use Rattle.tcl_language.specs.Instructions.{Instr}
 use Rattle.tcl_language.specs.Instructions.Instr.{Serve}

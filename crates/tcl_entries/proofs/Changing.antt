@@ -14,8 +14,8 @@ use Rattle.tcl_tree.specs.Naming as tree
 use Rattle.tcl_tree.specs.Own.{Own, command_in, hidden_in}
 use Rattle.tcl_interpreter.specs.declared.command.Command.{Command}
 use Rattle.tcl_interpreter.specs.declared.command.Command.TheVariants as command
-use Rattle.tcl_interpreter.specs.declared.refusal.Refusal.{Refusal}
-use Rattle.tcl_interpreter.specs.declared.refusal.Refusal.TheVariants as refusal
+use Rattle.tcl_interpreter.specs.declared.refusal.TreeError.{TreeError}
+use Rattle.tcl_interpreter.specs.declared.refusal.TreeError.TheVariants as refusal
 use Rattle.tcl_variables.specs.Names.{colons_after, has_colons, after_colons}
 use Rattle.tcl_entries.specs.Naming.{hiding_text}
 
@@ -81,15 +81,15 @@ with_words x h (Ok own) = Ok own
 with_words x h (Err refusal.NoCommand) = Err (refusal.NoCommand, x)
 with_words x h (Err e) = Err (e, h)
 
-abbrev pub hiding_word : Text → Text → Refusal → Text
+abbrev pub hiding_word : Text → Text → TreeError → Text
 hiding_word x h refusal.NoCommand = x
 hiding_word x h e = h
 
-pub words_err : (x h : Text) (e : Refusal) → with_words x h (Err e) ≡ Err (e, hiding_word x h e)
+pub words_err : (x h : Text) (e : TreeError) → with_words x h (Err e) ≡ Err (e, hiding_word x h e)
 words_err x h refusal.NoCommand = refl
 words_err x h e = refl
 
-pub hiding_same : (x h : Text) (e : Refusal) → hiding_text e x h ≡ refusal_text e (hiding_word x h e)
+pub hiding_same : (x h : Text) (e : TreeError) → hiding_text e x h ≡ refusal_text e (hiding_word x h e)
 hiding_same x h refusal.NoCommand = refl
 hiding_same x h e = refl
 

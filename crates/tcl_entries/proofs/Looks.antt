@@ -10,7 +10,7 @@ use Rattle.tcl_core.specs.Paths.{Text, Path, Place}
 use Rattle.tcl_core.specs.Programs.{Table}
 use Rattle.tcl_core.specs.Programs.Act.{Look}
 use Rattle.tcl_core.specs.Programs.Prog.{act}
-use Rattle.tcl_core.specs.Threads.{completed}
+use Rattle.tcl_core.specs.Execution.{completed}
 use Rattle.tcl_core.specs.Trees.{Tree, Node, at}
 use Rattle.tcl_language.specs.Instructions.{Instr, Program, either, fails, look, at_node, or_fails}
 use Rattle.tcl_language.specs.Faults.{integer_message}

@@ -14,7 +14,7 @@ use Rattle.tcl_core.specs.Programs.{Deed, spot, making}
 use Rattle.tcl_core.specs.Programs.Act.{Look, Make, Limit, LimitDepth}
 use Rattle.tcl_core.specs.Programs.Next.{On}
 use Rattle.tcl_core.specs.Programs.Prog.{done, act}
-use Rattle.tcl_core.specs.Threads.{completed, event}
+use Rattle.tcl_core.specs.Execution.{completed, event}
 use Rattle.tcl_core.specs.Trees.{Tree, Node, effect, at, at_end, with_own}
 use Rattle.tcl_core.specs.Trees.What.{Changed, Made, Dropped, Limited, DepthLimited}
 use Rattle.tcl_core.proofs.PathLaws.{strip_own}
@@ -43,8 +43,8 @@ use Rattle.tcl_tree.specs.Naming as tree
 use Rattle.tcl_tree.specs.Naming.{Becomes, Refuses, RefusesNaming}
 use Rattle.tcl_tree.specs.Own.{Own, new_own, with_new_child, without_old_child, command_in}
 use Rattle.tcl_tree.specs.TreeOf.{tree_of, Names}
-use Rattle.tcl_interpreter.specs.declared.refusal.Refusal.{Refusal}
-use Rattle.tcl_interpreter.specs.declared.refusal.Refusal.TheVariants as refusal
+use Rattle.tcl_interpreter.specs.declared.refusal.TreeError.{TreeError}
+use Rattle.tcl_interpreter.specs.declared.refusal.TreeError.TheVariants as refusal
 use Rattle.tcl_tree.specs.declared.tree.Tree.{Tree as Table}
 use Rattle.tcl_tree.specs.declared.tree.Place.{Place as TablePlace}
 use Rattle.tcl_tree.proofs.CoreLemmas.{tree_there}
@@ -78,7 +78,7 @@ renaming_done t u place f g text none same becomes = λ p style at.
     (does_change (tree_of t) (tree_of u) (tree_of u) p (Completed (ok text)) n.0 b.0 done_so n.1 b.2 (refl, ap (λ (x : Text). Completed (ok x)) none)))
 
 -- a refusal with a word
-pub renaming_fails : (t u : Table) (place : TablePlace) (f : Own → language.Named) (e : Refusal) (x : Text) (i : Interruption) →
+pub renaming_fails : (t u : Table) (place : TablePlace) (f : Own → language.Named) (e : TreeError) (x : Text) (i : Interruption) →
     ((p : Path) (n : Node Own) → Names t place p → tree_of t p ≡ Some n → f n.own ≡ Err (e, x)) → tree_of u ≡ tree_of t → Interrupts i (λ r. r ≡ Completed (failing (refusal_text e x))) →
     Interrupts i (EndsAt t place (renaming done_so f) (tree_of u))
 renaming_fails t u place f e x i refuses same told = Interrupts-more i (λ r. r ≡ Completed (failing (refusal_text e x))) (EndsAt t place (renaming done_so f) (tree_of u)) (λ r is p style at.
@@ -89,7 +89,7 @@ renaming_fails t u place f e x i refuses same told = Interrupts-more i (λ r. r 
     (subst (λ (y : language.Named). IsFailure refused_text y r) (sym (refuses p n.0 at.names n.1)) is)))) told
 
 -- a refusal is told, unless it is want of memory
-pub tells_cases : (e : Refusal) (message : Text) (i : Interruption) → Tells e message i → (i ≡ interruption.Memory) ⊎ ((e ≡ refusal.Memory → Prim.⊥) × Interrupts i (λ r. r ≡ Completed (failing message)))
+pub tells_cases : (e : TreeError) (message : Text) (i : Interruption) → Tells e message i → (i ≡ interruption.Memory) ⊎ ((e ≡ refusal.Memory → Prim.⊥) × Interrupts i (λ r. r ≡ Completed (failing message)))
 tells_cases refusal.Memory message i t = inl t
 tells_cases refusal.BadName message i t = inr (λ e. cc, t)
 tells_cases refusal.BadCount message i t = inr (λ e. cc, t)
@@ -105,7 +105,7 @@ tells_cases (refusal.DepthLimit n) message i t = inr (λ e. cc, t)
 tells_cases refusal.BadDepthLimit message i t = inr (λ e. cc, t)
 
 -- what the table refuses is refused, with the word that is wrong
-pub renaming_refused : (t u : Table) (place : TablePlace) (f : Own → language.Named) (g : Own → tree.Named) (e : Refusal) (x : Text) (i : Interruption) → (p : Path) × Names t place p →
+pub renaming_refused : (t u : Table) (place : TablePlace) (f : Own → language.Named) (g : Own → tree.Named) (e : TreeError) (x : Text) (i : Interruption) → (p : Path) × Names t place p →
     ((p : Path) (n : Node Own) → Names t place p → tree_of t p ≡ Some n → g n.own ≡ Err e → f n.own ≡ Err (e, x)) →
     ((p : Path) → Names t place p → RefusesNaming e (tree_of t) p g) → tree_of u ≡ tree_of t → Tells e (refusal_text e x) i →
     Interrupts i (EndsAt t place (renaming done_so f) (tree_of u))
@@ -173,7 +173,7 @@ depth_set t u place limit text written may set = λ p style at.
     (does_true (interpreters.is_depth_limit limit) (act (LimitDepth limit) (λ T. done (ok (decimal limit)))) (fails (codes "recursion limit must be between 1 and 1000")) (tree_of t) (tree_of u) p (Completed (ok text))
     (limited_cases limit m.least m.most) (set p at.names, ap (λ (x : Text). Completed (ok x)) written)))
 
-pub depth_refused : (t u : Table) (place : TablePlace) (limit : ℕ) (e : Refusal) (i : Interruption) → (p : Path) × Names t place p → ((p : Path) (n : Node Own) → Names t place p → tree_of t p ≡ Some n → n.root ≡ false) →
+pub depth_refused : (t u : Table) (place : TablePlace) (limit : ℕ) (e : TreeError) (i : Interruption) → (p : Path) × Names t place p → ((p : Path) (n : Node Own) → Names t place p → tree_of t p ≡ Some n → n.root ≡ false) →
     ((p : Path) → Names t place p → RefusesToDeepen e (tree_of t) p limit) → tree_of u ≡ tree_of t → Interrupts i (λ r. r ≡ Completed (failing (codes "recursion limit must be between 1 and 1000"))) →
     Interrupts i (EndsAt t place (interpreters.limits_depth limit) (tree_of u))
 depth_refused t u place limit e i here below refuses same told = fails_told t u place (interpreters.limits_depth limit) (codes "recursion limit must be between 1 and 1000") i same told (λ p n r at is d.
@@ -182,7 +182,7 @@ depth_refused t u place limit e i here below refuses same told = fails_told t u 
     (does_false (interpreters.is_depth_limit limit) (act (LimitDepth limit) (λ T. done (ok (decimal limit)))) (fails (codes "recursion limit must be between 1 and 1000")) (tree_of t) (tree_of t) p r
     (unlimited_cases limit (why p n at is e (refuses p at))) d)))
   where
-    why : (p : Path) (n : Node Own) → Names t place p → tree_of t p ≡ Some n → (e : Refusal) → RefusesToDeepen e (tree_of t) p limit → (limit ≡ 0) ⊎ (1000 < limit)
+    why : (p : Path) (n : Node Own) → Names t place p → tree_of t p ≡ Some n → (e : TreeError) → RefusesToDeepen e (tree_of t) p limit → (limit ≡ 0) ⊎ (1000 < limit)
     why p n at is refusal.Denied h = let clash : false ≡ true = sym (below p h.0 at h.1) ∙ h.2 in absurd cc
     why p n at is refusal.BadDepthLimit h = h.1
     why p n at is refusal.Memory h = elim h [ ]
@@ -268,7 +268,7 @@ module _ (t u : Table) (place : TablePlace) (name : Text) (safe : Bool) (absent 
   node_same : (p : Path) (n v : Node Own) → tree_of t p ≡ Some n → tree_of t p ≡ Some v → v ≡ n
   node_same p n v is h = same_Some _ _ (sym h ∙ is)
 
-  pub create_refused : (e : Refusal) (i : Interruption) → (p : Path) × Names t place p → ((p : Path) → Names t place p → RefusesMake e (tree_of t) p name) → Tells e (making_text e name) i →
+  pub create_refused : (e : TreeError) (i : Interruption) → (p : Path) × Names t place p → ((p : Path) → Names t place p → RefusesMake e (tree_of t) p name) → Tells e (making_text e name) i →
       Interrupts i (EndsAt t place (interpreters.creates name safe) (tree_of u))
   create_refused refusal.Memory i here refuses told = subst (λ (j : Interruption). Interrupts j (EndsAt t place (interpreters.creates name safe) (tree_of u))) (sym told) tt
   create_refused refusal.BadName i here refuses told = fails_beside (bad_name name) i told (λ p n r at is d.
@@ -322,7 +322,7 @@ deleted goes t u o z place name text none stays idle drops kept told = λ p styl
     let c = stands (tree_of t (p ++ name ∷ [])) (some_there (tree_of t (p ++ name ∷ [])) (stays p at.names)) in
     drops_child n.1 c.1 (idle p at.names c.0 c.1) (drops p at.names n.0 n.1) (λ X. told X p (kept p at.names)) (ap (λ (x : Text). Completed (ok x)) none)
 
-pub delete_refused : (t u : Table) (place : TablePlace) (name : Text) (e : Refusal) (i : Interruption) → (p : Path) × Names t place p → ((p : Path) → Names t place p → RefusesDrop e (tree_of t) p name) → tree_of u ≡ tree_of t →
+pub delete_refused : (t u : Table) (place : TablePlace) (name : Text) (e : TreeError) (i : Interruption) → (p : Path) × Names t place p → ((p : Path) → Names t place p → RefusesDrop e (tree_of t) p name) → tree_of u ≡ tree_of t →
     Interrupts i (λ r. r ≡ Completed (failing (deleting_text e name))) → Interrupts i (EndsAt t place (interpreters.deletes name) (tree_of u))
 delete_refused t u place name e i here refuses same told = by e refuses told
   where
@@ -336,7 +336,7 @@ delete_refused t u place name e i here refuses same told = by e refuses told
     busy p n r zero h d = absurd (omega arith)
     busy p n r (suc k) h d = d
 
-    by : (e : Refusal) → ((p : Path) → Names t place p → RefusesDrop e (tree_of t) p name) → Interrupts i (λ r. r ≡ Completed (failing (deleting_text e name))) → Interrupts i (EndsAt t place (interpreters.deletes name) (tree_of u))
+    by : (e : TreeError) → ((p : Path) → Names t place p → RefusesDrop e (tree_of t) p name) → Interrupts i (λ r. r ≡ Completed (failing (deleting_text e name))) → Interrupts i (EndsAt t place (interpreters.deletes name) (tree_of u))
     by refusal.NoInterpreter h said = leads (interpreters.no_interpreter (written_list (name ∷ []))) said (λ p n r at d.
         subst (λ (o : Option (Node Own)). Does (interpreters.drops name n.own o) (tree_of t) p (tree_of t) r) (sym (h p at)) d)
     by refusal.InUse h said = leads (interpreters.in_use []) said (λ p n r at d.

@@ -8,7 +8,7 @@ use Rattle.tcl_core.specs.Entries.{Entry, Question}
 use Rattle.tcl_core.specs.Entries.Entry.{Ask, SetAlias}
 use Rattle.tcl_core.specs.Paths.{Text, Path, Place, together}
 use Rattle.tcl_core.specs.Programs.Prog.{done}
-use Rattle.tcl_core.specs.Threads.{completed}
+use Rattle.tcl_core.specs.Execution.{completed}
 use Rattle.tcl_core.specs.Trees.{Tree}
 use Rattle.tcl_flow.specs.View.{completion_of}
 use Rattle.tcl_language.specs.Faults.{wrong_args}

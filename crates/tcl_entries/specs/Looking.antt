@@ -22,7 +22,8 @@ use Rattle.tcl_entries.specs.Asking.{Styled}
 -- by looks alone the one program at p gets to be the other
 pub data LooksTo (T : Tree Own) (p : Place) : Program → Program → Type 0 where
   here : {x : Program} → LooksTo T p x x
-  looked : {k : Tree Own → Program} {y : Program} → LooksTo T p (k (at T p)) y → LooksTo T p (act Look k) y
+  looked : {k : Tree Own → Program} {y : Program} → LooksTo T p (k (at T p)) y →
+      LooksTo T p (act Look k) y
 
 -- it ends so, with nothing changed
 pub record LooksToEnd (T : Tree Own) (p : Place) (x : Program) (e : Reply) : Type 0 where
@@ -32,22 +33,34 @@ pub record LooksToEnd (T : Tree Own) (p : Place) (x : Program) (e : Reply) : Typ
 
 -- the same wherever the interpreter is
 abbrev pub GetsTo : table.Tree → table_place.Place → Styled → Styled → Type 0
-GetsTo t place x y = (p : Path) (style : Integers) → IsThere t place p style → LooksTo (tree_of t) p (x style) (y style)
+GetsTo t place x y = (p : Path) (style : Integers) → IsThere t place p style →
+    LooksTo (tree_of t) p (x style) (y style)
 
 abbrev pub GetsToEnd : table.Tree → table_place.Place → Styled → Reply → Type 0
-GetsToEnd t place x e = (p : Path) (style : Integers) → IsThere t place p style → LooksToEnd (tree_of t) p (x style) e
+GetsToEnd t place x e = (p : Path) (style : Integers) → IsThere t place p style →
+    LooksToEnd (tree_of t) p (x style) e
 
--- What came of a step that finds something, of which the rest is told as the view says; or all is over.
-abbrev pub Finds : {A B : Type 0} → table.Tree → table_place.Place → (A → B) → ((B → Styled) → Styled) → Result A Interruption → Type 0
-Finds {A} {B} t place view step result = MatchResult result (λ a. (rest : B → Styled) → GetsTo t place (step rest) (rest (view a))) (λ i. Interrupts i (λ e. (rest : B → Styled) → GetsToEnd t place (step rest) e))
+-- What came of a step that finds something, of which the rest is told as the view says; or all is
+-- over.
+abbrev pub Finds : {A B : Type 0} → table.Tree → table_place.Place → (A → B) →
+    ((B → Styled) → Styled) → Result A Interruption → Type 0
+Finds {A} {B} t place view step result = MatchResult result
+    (λ a. (rest : B → Styled) → GetsTo t place (step rest) (rest (view a)))
+    (λ i. Interrupts i (λ e. (rest : B → Styled) → GetsToEnd t place (step rest) e))
 
 -- What came of a step that only tests.
-abbrev pub Passes : table.Tree → table_place.Place → (Styled → Styled) → Result (Unit {0}) Interruption → Type 0
-Passes t place step result = MatchResult result (λ a. (rest : Styled) → GetsTo t place (step rest) rest) (λ i. Interrupts i (λ e. (rest : Styled) → GetsToEnd t place (step rest) e))
+abbrev pub Passes : table.Tree → table_place.Place → (Styled → Styled) →
+    Result (Unit {0}) Interruption → Type 0
+Passes t place step result = MatchResult result
+    (λ a. (rest : Styled) → GetsTo t place (step rest) rest)
+    (λ i. Interrupts i (λ e. (rest : Styled) → GetsToEnd t place (step rest) e))
 
 -- how many steps an integer is, or that no number of steps may be this
 abbrev pub CountGiven : Text → ℤ → Result ℕ Interruption → Type 0
-CountGiven word n result = MatchResult result (λ m. n ≡ pos m) (λ i. Interrupts i (λ e. (m : ℕ) × (n ≡ negsuc m) × (e ≡ Completed (failing (bad_count word)))))
+CountGiven word n result = MatchResult result (λ m. n ≡ pos m)
+    (λ i. Interrupts i (λ e. (m : ℕ) × (n ≡ negsuc m) × (e ≡ Completed (failing (bad_count word)))))
 
 abbrev pub DepthGiven : ℤ → Result ℕ Interruption → Type 0
-DepthGiven n result = MatchResult result (λ m. n ≡ pos m) (λ i. Interrupts i (λ e. (m : ℕ) × (n ≡ negsuc m) × (e ≡ Completed (failing messages.bad_depth_limit))))
+DepthGiven n result = MatchResult result (λ m. n ≡ pos m)
+    (λ i. Interrupts i (λ e. (m : ℕ) × (n ≡ negsuc m) ×
+    (e ≡ Completed (failing messages.bad_depth_limit))))

@@ -54,12 +54,14 @@ program_of style sub.Create args = interpreters.create_options false args
 program_of style sub.Delete args = interpreters.delete args
 program_of style sub.Eval args = interpreters.eval args
 program_of style sub.Alias args = interpreters.alias args
-program_of style sub.Aliases args = interpreters.question (codes "interp aliases ?path?") Aliases args
+program_of style sub.Aliases args = interpreters.question (codes "interp aliases ?path?") Aliases
+    args
 program_of style sub.Exists args = interpreters.exists args
 program_of style sub.Hidden args = interpreters.question (codes "interp hidden ?path?") Hidden args
 program_of style sub.IsSafe args = interpreters.question (codes "interp issafe ?path?") IsSafe args
 program_of style sub.Slaves args = interpreters.question (codes "interp slaves ?path?") Slaves args
-program_of style sub.Children args = interpreters.question (codes "interp children ?path?") Slaves args
+program_of style sub.Children args = interpreters.question (codes "interp children ?path?") Slaves
+    args
 program_of style sub.Limit args = interpreters.limit style args
 program_of style sub.RecursionLimit args = interpreters.recursion_limit style args
 program_of style sub.Hide args = interpreters.hide args
@@ -95,15 +97,20 @@ child_subcommand_of word = or_else (talk_of word) (rule_of word)
 abbrev pub child_program_of : Integers → Text → ChildSubcommand → List Text → Program
 child_program_of style name child.Eval args = interpreters.child_eval name args
 child_program_of style name child.Alias args = interpreters.child_alias name args
-child_program_of style name child.Aliases args = interpreters.child_question name (codes "aliases") Aliases args
-child_program_of style name child.Hidden args = interpreters.child_question name (codes "hidden") Hidden args
-child_program_of style name child.IsSafe args = interpreters.child_question name (codes "issafe") IsSafe args
+child_program_of style name child.Aliases args = interpreters.child_question name (codes "aliases")
+    Aliases args
+child_program_of style name child.Hidden args = interpreters.child_question name (codes "hidden")
+    Hidden args
+child_program_of style name child.IsSafe args = interpreters.child_question name (codes "issafe")
+    IsSafe args
 child_program_of style name child.Limit args = interpreters.child_limit style name args
-child_program_of style name child.RecursionLimit args = interpreters.child_recursion_limit style name args
+child_program_of style name child.RecursionLimit args = interpreters.child_recursion_limit style
+    name args
 child_program_of style name child.Hide args = interpreters.child_hide name args
 child_program_of style name child.Expose args = interpreters.child_expose name args
 child_program_of style name child.InvokeHidden args = interpreters.child_invoke_hidden name args
 
-abbrev pub child_program_named : Integers → Text → Option ChildSubcommand → Text → List Text → Program
+abbrev pub child_program_named : Integers → Text → Option ChildSubcommand → Text → List Text →
+    Program
 child_program_named style name None word args = fails (unknown_subcommand word)
 child_program_named style name (Some s) word args = child_program_of style name s args

@@ -14,7 +14,7 @@ ghost use Rattle.tcl_language.specs.Table as table;
 
 use crate::serving::serve;
 use std::alloc::Global;
-use tcl_calls::carrying::come_back;
+use tcl_calls::carrying::return_to_caller;
 use tcl_run::entry::{Entry, OwnEntry};
 use tcl_run::failure::no_interpreter;
 use tcl_run::interruption::Interruption;
@@ -26,10 +26,12 @@ use tcl_tree::tree::places::Reach;
 use tcl_tree::tree::{Place, Tree};
 use tcl_value::value::Value;
 
-/// Asks the interpreter at a path, which begins at the one that the place names, for something that evaluates nothing.
+/// Asks the interpreter at a path, which begins at the one that the place names, for something that
+/// evaluates nothing.
 ///
 /// # Errors
-/// 301 where none is there; those of the entry, as they are told to one that stands above; want of memory.
+/// 301 where none is there; those of the entry, as they are told to one that stands above; want of
+/// memory.
 pub fn ask<O: Outside>(
     tree: &mut Tree,
     alloc: Global,
@@ -39,7 +41,8 @@ pub fn ask<O: Outside>(
     entry: OwnEntry,
 ) -> Result<Value, Interruption>
     requires { IsRunning tree.old place }
-    ensures asks { Asks O.goes tree.old outside.old place path.now (entry_of entry) tree.new outside.new result }
+    ensures asks { Asks O.goes tree.old outside.old place path.now (entry_of entry) tree.new outside.new
+        result }
     ensures lost { IsLoss O.loses outside.old outside.new }
     ensures steady { IsSteady tree.old tree.new }
     ensures left { O.entries_left outside.new ≤ O.entries_left outside.old }
@@ -50,7 +53,8 @@ pub fn ask<O: Outside>(
     ask_below(tree, alloc, outside, place, path, Entry::Own(entry))
 }
 
-/// Asks an interpreter below the one that the place names for something that evaluates nothing. The outside is told of it.
+/// Asks an interpreter below the one that the place names for something that evaluates nothing. The
+/// outside is told of it.
 fn ask_below<O: Outside>(
     tree: &mut Tree,
     alloc: Global,
@@ -61,7 +65,8 @@ fn ask_below<O: Outside>(
 ) -> Result<Value, Interruption>
     requires running { IsRunning tree.old place }
     requires own { IsOwn entry }
-    ensures calls { AsksBelow O.goes tree.old outside.old place path.now (whole_entry entry) tree.new outside.new result }
+    ensures calls { AsksBelow O.goes tree.old outside.old place path.now (whole_entry entry) tree.new
+        outside.new result }
     ensures lost { IsLoss O.loses outside.old outside.new }
     ensures steady { IsSteady tree.old tree.new }
     ensures left { O.entries_left outside.new ≤ O.entries_left outside.old }
@@ -70,7 +75,7 @@ fn ask_below<O: Outside>(
         Reach::There(there) => {
             outside.enters(alloc, tree, place, 0, path, &entry)?;
             let ended = serve_own(tree, alloc, outside, there, &entry);
-            come_back(tree, alloc, outside, place, 0, path, ended)
+            return_to_caller(tree, alloc, outside, place, 0, path, ended)
         }
         Reach::Missing => {
             let told = Err(no_interpreter(alloc, ""));
@@ -91,7 +96,8 @@ fn serve_own<O: Outside>(
 ) -> Result<Value, Interruption>
     requires own { IsOwn entry.now }
     requires there { (p : Path) × Names tree.old place p }
-    ensures runs { EvaluatesAt O.goes tree.old outside.old place (λ style. table.serve style (whole_entry entry.now)) tree.new outside.new result }
+    ensures runs { EvaluatesAt O.goes tree.old outside.old place
+        (λ style. table.serve style (whole_entry entry.now)) tree.new outside.new result }
     ensures lost { IsLoss O.loses outside.old outside.new }
     ensures steady { IsSteady tree.old tree.new }
     ensures left { O.entries_left outside.new ≤ O.entries_left outside.old }
@@ -102,14 +108,16 @@ fn serve_own<O: Outside>(
     serve(tree, alloc, outside, place, own)
 }
 
-/// A path that was read: the names from one interpreter downward, and the interpreter to which they lead.
+/// A path that was read: the names from one interpreter downward, and the interpreter to which they
+/// lead.
 #[derive(Drop)]
 pub struct FoundPath {
     pub path: Vec<Text>,
     pub place: Place,
 }
 
-/// The names that a word is, and the interpreter to which they lead from the one that the place names.
+/// The names that a word is, and the interpreter to which they lead from the one that the place
+/// names.
 ///
 /// # Errors
 /// 101 to 104 where the word is no list; 301 where no interpreter is there; want of memory.
@@ -120,8 +128,11 @@ pub fn path_of(
     word: &Value,
 ) -> Result<FoundPath, Interruption>
     requires { IsRunning tree.now place }
-    ensures found { IfOk result (λ found. (p : Path) → Names tree.now place p → Names tree.now found.place (p ++ found.path.items)) }
-    ensures read { Finds tree.now place (λ found. found.path.items) (λ rest style. interpreters.at_path word.now (λ path n. rest path style)) result }
+    ensures found { IfOk result
+        (λ found. (p : Path) → Names tree.now place p →
+        Names tree.now found.place (p ++ found.path.items)) }
+    ensures read { Finds tree.now place (λ found. found.path.items)
+        (λ rest style. interpreters.at_path word.now (λ path n. rest path style)) result }
 {
     let text = word.text(alloc)?;
     path_at(tree, alloc, place, &text)
@@ -138,8 +149,11 @@ pub fn path_at(
     text: &Text,
 ) -> Result<FoundPath, Interruption>
     requires { IsRunning tree.now place }
-    ensures found { IfOk result (λ found. (p : Path) → Names tree.now place p → Names tree.now found.place (p ++ found.path.items)) }
-    ensures read { Finds tree.now place (λ found. found.path.items) (λ rest style. interpreters.at_path text.now (λ path n. rest path style)) result }
+    ensures found { IfOk result
+        (λ found. (p : Path) → Names tree.now place p →
+        Names tree.now found.place (p ++ found.path.items)) }
+    ensures read { Finds tree.now place (λ found. found.path.items)
+        (λ rest style. interpreters.at_path text.now (λ path n. rest path style)) result }
 {
     let path = read_path(alloc, text)?;
     match tree.reach(place, 0, path.as_slice()) {
@@ -155,7 +169,8 @@ pub fn path_at(
 /// 101 to 104; want of memory.
 pub fn read_path(alloc: Global, text: &Text) -> Result<Vec<Text>, Interruption>
     ensures read { IfOk result (λ path. list_of text.now ≡ Ok path.items) }
-    ensures refused { IfErr result (λ i. Interrupts i (IsFailure fault_message (list_of text.now))) }
+    ensures refused { IfErr result
+        (λ i. Interrupts i (IsFailure fault_message (list_of text.now))) }
 {
     match read_list(alloc, text.as_str()) {
         Ok(path) => Ok(path),

@@ -34,7 +34,9 @@ fn hide_as<O: Outside>(
     hidden: &Value,
 ) -> Result<Value, Interruption>
     requires { IsRunning tree.old place }
-    ensures evaluates { Evaluates O.goes tree.old outside.old place (λ style. interpreters.asks_trusted path.now (Hide name.now hidden.now)) tree.new outside.new result }
+    ensures evaluates { Evaluates O.goes tree.old outside.old place
+        (λ style. interpreters.asks_trusted path.now (Hide name.now hidden.now)) tree.new
+        outside.new result }
     ensures lost { IsLoss O.loses outside.old outside.new }
     ensures steady { IsSteady tree.old tree.new }
     ensures left { O.entries_left outside.new ≤ O.entries_left outside.old }
@@ -63,7 +65,8 @@ pub fn hide<O: Outside>(
     args: &[Value],
 ) -> Result<Value, Interruption>
     requires { IsRunning tree.old place }
-    ensures evaluates { Evaluates O.goes tree.old outside.old place (λ style. interpreters.hide args.now) tree.new outside.new result }
+    ensures evaluates { Evaluates O.goes tree.old outside.old place
+        (λ style. interpreters.hide args.now) tree.new outside.new result }
     ensures lost { IsLoss O.loses outside.old outside.new }
     ensures steady { IsSteady tree.old tree.new }
     ensures left { O.entries_left outside.new ≤ O.entries_left outside.old }
@@ -86,7 +89,9 @@ fn expose_as<O: Outside>(
     name: &Value,
 ) -> Result<Value, Interruption>
     requires { IsRunning tree.old place }
-    ensures evaluates { Evaluates O.goes tree.old outside.old place (λ style. interpreters.asks_trusted path.now (Expose hidden.now name.now)) tree.new outside.new result }
+    ensures evaluates { Evaluates O.goes tree.old outside.old place
+        (λ style. interpreters.asks_trusted path.now (Expose hidden.now name.now)) tree.new
+        outside.new result }
     ensures lost { IsLoss O.loses outside.old outside.new }
     ensures steady { IsSteady tree.old tree.new }
     ensures left { O.entries_left outside.new ≤ O.entries_left outside.old }
@@ -115,7 +120,8 @@ pub fn expose<O: Outside>(
     args: &[Value],
 ) -> Result<Value, Interruption>
     requires { IsRunning tree.old place }
-    ensures evaluates { Evaluates O.goes tree.old outside.old place (λ style. interpreters.expose args.now) tree.new outside.new result }
+    ensures evaluates { Evaluates O.goes tree.old outside.old place
+        (λ style. interpreters.expose args.now) tree.new outside.new result }
     ensures lost { IsLoss O.loses outside.old outside.new }
     ensures steady { IsSteady tree.old tree.new }
     ensures left { O.entries_left outside.new ≤ O.entries_left outside.old }
@@ -128,7 +134,7 @@ pub fn expose<O: Outside>(
 }
 
 /// Sets the limit of steps of the interpreter at a path to what a word is.
-pub fn limit_to<O: Outside>(
+pub fn set_count_limit_at<O: Outside>(
     tree: &mut Tree,
     alloc: Global,
     outside: &mut O,
@@ -137,7 +143,8 @@ pub fn limit_to<O: Outside>(
     value: &Value,
 ) -> Result<Value, Interruption>
     requires { IsRunning tree.old place }
-    ensures evaluates { Evaluates O.goes tree.old outside.old place (λ style. limits_to style path.now value.now) tree.new outside.new result }
+    ensures evaluates { Evaluates O.goes tree.old outside.old place
+        (λ style. limits_to style path.now value.now) tree.new outside.new result }
     ensures lost { IsLoss O.loses outside.old outside.new }
     ensures steady { IsSteady tree.old tree.new }
     ensures left { O.entries_left outside.new ≤ O.entries_left outside.old }
@@ -154,7 +161,7 @@ pub fn limit_to<O: Outside>(
 }
 
 /// The same of a limit of depth.
-pub fn deepen_to<O: Outside>(
+pub fn set_depth_limit_at<O: Outside>(
     tree: &mut Tree,
     alloc: Global,
     outside: &mut O,
@@ -163,7 +170,8 @@ pub fn deepen_to<O: Outside>(
     value: &Value,
 ) -> Result<Value, Interruption>
     requires { IsRunning tree.old place }
-    ensures evaluates { Evaluates O.goes tree.old outside.old place (λ style. deepens_to style path.now value.now) tree.new outside.new result }
+    ensures evaluates { Evaluates O.goes tree.old outside.old place
+        (λ style. deepens_to style path.now value.now) tree.new outside.new result }
     ensures lost { IsLoss O.loses outside.old outside.new }
     ensures steady { IsSteady tree.old tree.new }
     ensures left { O.entries_left outside.new ≤ O.entries_left outside.old }
@@ -179,7 +187,8 @@ pub fn deepen_to<O: Outside>(
     )
 }
 
-/// Sets the limit of steps of the interpreter at the path that a word is, which isn't the one that asks.
+/// Sets the limit of steps of the interpreter at the path that a word is, which isn't the one that
+/// asks.
 fn set_limit<O: Outside>(
     tree: &mut Tree,
     alloc: Global,
@@ -189,7 +198,8 @@ fn set_limit<O: Outside>(
     value: &Value,
 ) -> Result<Value, Interruption>
     requires { IsRunning tree.old place }
-    ensures evaluates { Evaluates O.goes tree.old outside.old place (λ style. interpreters.sets_limit style word.now value.now) tree.new outside.new result }
+    ensures evaluates { Evaluates O.goes tree.old outside.old place
+        (λ style. interpreters.sets_limit style word.now value.now) tree.new outside.new result }
     ensures lost { IsLoss O.loses outside.old outside.new }
     ensures steady { IsSteady tree.old tree.new }
     ensures left { O.entries_left outside.new ≤ O.entries_left outside.old }
@@ -210,14 +220,15 @@ fn limit_below<O: Outside>(
     value: &Value,
 ) -> Result<Value, Interruption>
     requires { IsRunning tree.old place }
-    ensures evaluates { Evaluates O.goes tree.old outside.old place (λ style. limits_below style word.now names.now value.now) tree.new outside.new result }
+    ensures evaluates { Evaluates O.goes tree.old outside.old place
+        (λ style. limits_below style word.now names.now value.now) tree.new outside.new result }
     ensures lost { IsLoss O.loses outside.old outside.new }
     ensures steady { IsSteady tree.old tree.new }
     ensures left { O.entries_left outside.new ≤ O.entries_left outside.old }
 {
     below_itself(tree, alloc, place, names)?;
     stands(tree, alloc, place, word, names)?;
-    limit_to(tree, alloc, outside, place, names, value)
+    set_count_limit_at(tree, alloc, outside, place, names, value)
 }
 
 /// What the interpreter at a path answers where it is asked for its limit of steps.
@@ -230,7 +241,8 @@ fn limit_of<O: Outside>(
     word: &Value,
 ) -> Result<Value, Interruption>
     requires { IsRunning tree.old place }
-    ensures evaluates { Evaluates O.goes tree.old outside.old place (λ style. interpreters.limit style (path.now ∷ word.now ∷ [])) tree.new outside.new result }
+    ensures evaluates { Evaluates O.goes tree.old outside.old place
+        (λ style. interpreters.limit style (path.now ∷ word.now ∷ [])) tree.new outside.new result }
     ensures lost { IsLoss O.loses outside.old outside.new }
     ensures steady { IsSteady tree.old tree.new }
     ensures left { O.entries_left outside.new ≤ O.entries_left outside.old }
@@ -258,7 +270,9 @@ fn limit_with<O: Outside>(
     value: &Value,
 ) -> Result<Value, Interruption>
     requires { IsRunning tree.old place }
-    ensures evaluates { Evaluates O.goes tree.old outside.old place (λ style. interpreters.limit style (path.now ∷ word.now ∷ option.now ∷ value.now ∷ [])) tree.new outside.new result }
+    ensures evaluates { Evaluates O.goes tree.old outside.old place
+        (λ style. interpreters.limit style (path.now ∷ word.now ∷ option.now ∷ value.now ∷ []))
+        tree.new outside.new result }
     ensures lost { IsLoss O.loses outside.old outside.new }
     ensures steady { IsSteady tree.old tree.new }
     ensures left { O.entries_left outside.new ≤ O.entries_left outside.old }
@@ -280,7 +294,8 @@ pub fn limit<O: Outside>(
     args: &[Value],
 ) -> Result<Value, Interruption>
     requires { IsRunning tree.old place }
-    ensures evaluates { Evaluates O.goes tree.old outside.old place (λ style. interpreters.limit style args.now) tree.new outside.new result }
+    ensures evaluates { Evaluates O.goes tree.old outside.old place
+        (λ style. interpreters.limit style args.now) tree.new outside.new result }
     ensures lost { IsLoss O.loses outside.old outside.new }
     ensures steady { IsSteady tree.old tree.new }
     ensures left { O.entries_left outside.new ≤ O.entries_left outside.old }
@@ -304,18 +319,20 @@ fn set_depth_limit<O: Outside>(
     value: &Value,
 ) -> Result<Value, Interruption>
     requires { IsRunning tree.old place }
-    ensures evaluates { Evaluates O.goes tree.old outside.old place (λ style. interpreters.sets_depth_limit style word.now value.now) tree.new outside.new result }
+    ensures evaluates { Evaluates O.goes tree.old outside.old place
+        (λ style. interpreters.sets_depth_limit style word.now value.now) tree.new outside.new
+        result }
     ensures lost { IsLoss O.loses outside.old outside.new }
     ensures steady { IsSteady tree.old tree.new }
     ensures left { O.entries_left outside.new ≤ O.entries_left outside.old }
 {
     permit(tree, alloc, place)?;
     let names = names_of(tree, alloc, place, word)?;
-    deepen_there(tree, alloc, outside, place, word, names.as_slice(), value)
+    set_depth_limit_where_it_stands(tree, alloc, outside, place, word, names.as_slice(), value)
 }
 
 /// The same where the path is read.
-fn deepen_there<O: Outside>(
+fn set_depth_limit_where_it_stands<O: Outside>(
     tree: &mut Tree,
     alloc: Global,
     outside: &mut O,
@@ -325,14 +342,15 @@ fn deepen_there<O: Outside>(
     value: &Value,
 ) -> Result<Value, Interruption>
     requires { IsRunning tree.old place }
-    ensures evaluates { Evaluates O.goes tree.old outside.old place (λ style. deepens_there style word.now names.now value.now) tree.new outside.new result }
+    ensures evaluates { Evaluates O.goes tree.old outside.old place
+        (λ style. deepens_there style word.now names.now value.now) tree.new outside.new result }
     ensures lost { IsLoss O.loses outside.old outside.new }
     ensures steady { IsSteady tree.old tree.new }
     ensures left { O.entries_left outside.new ≤ O.entries_left outside.old }
 {
     unless_root(tree, alloc, place, names)?;
     stands(tree, alloc, place, word, names)?;
-    deepen_to(tree, alloc, outside, place, names, value)
+    set_depth_limit_at(tree, alloc, outside, place, names, value)
 }
 
 /// `interp recursionlimit path ?n?`
@@ -347,7 +365,8 @@ pub fn recursion_limit<O: Outside>(
     args: &[Value],
 ) -> Result<Value, Interruption>
     requires { IsRunning tree.old place }
-    ensures evaluates { Evaluates O.goes tree.old outside.old place (λ style. interpreters.recursion_limit style args.now) tree.new outside.new result }
+    ensures evaluates { Evaluates O.goes tree.old outside.old place
+        (λ style. interpreters.recursion_limit style args.now) tree.new outside.new result }
     ensures lost { IsLoss O.loses outside.old outside.new }
     ensures steady { IsSteady tree.old tree.new }
     ensures left { O.entries_left outside.new ≤ O.entries_left outside.old }
@@ -381,7 +400,9 @@ fn set_alias<O: Outside>(
     words: &[Value],
 ) -> Result<Value, Interruption>
     requires { IsRunning tree.old place }
-    ensures evaluates { Evaluates O.goes tree.old outside.old place (λ style. interpreters.alias_path source.now name.now target.now word.now words.now) tree.new outside.new result }
+    ensures evaluates { Evaluates O.goes tree.old outside.old place
+        (λ style. interpreters.alias_path source.now name.now target.now word.now words.now)
+        tree.new outside.new result }
     ensures lost { IsLoss O.loses outside.old outside.new }
     ensures steady { IsSteady tree.old tree.new }
     ensures left { O.entries_left outside.new ≤ O.entries_left outside.old }
@@ -415,7 +436,9 @@ fn clear_alias<O: Outside>(
     target: &Value,
 ) -> Result<Value, Interruption>
     requires { IsRunning tree.old place }
-    ensures evaluates { Evaluates O.goes tree.old outside.old place (λ style. interpreters.alias (source.now ∷ name.now ∷ target.now ∷ [])) tree.new outside.new result }
+    ensures evaluates { Evaluates O.goes tree.old outside.old place
+        (λ style. interpreters.alias (source.now ∷ name.now ∷ target.now ∷ [])) tree.new outside.new
+        result }
     ensures lost { IsLoss O.loses outside.old outside.new }
     ensures steady { IsSteady tree.old tree.new }
     ensures left { O.entries_left outside.new ≤ O.entries_left outside.old }
@@ -444,7 +467,8 @@ fn alias_of<O: Outside>(
     name: &Value,
 ) -> Result<Value, Interruption>
     requires { IsRunning tree.old place }
-    ensures evaluates { Evaluates O.goes tree.old outside.old place (λ style. interpreters.alias (source.now ∷ name.now ∷ [])) tree.new outside.new result }
+    ensures evaluates { Evaluates O.goes tree.old outside.old place
+        (λ style. interpreters.alias (source.now ∷ name.now ∷ [])) tree.new outside.new result }
     ensures lost { IsLoss O.loses outside.old outside.new }
     ensures steady { IsSteady tree.old tree.new }
     ensures left { O.entries_left outside.new ≤ O.entries_left outside.old }
@@ -475,7 +499,8 @@ pub fn alias<O: Outside>(
     args: &[Value],
 ) -> Result<Value, Interruption>
     requires { IsRunning tree.old place }
-    ensures evaluates { Evaluates O.goes tree.old outside.old place (λ style. interpreters.alias args.now) tree.new outside.new result }
+    ensures evaluates { Evaluates O.goes tree.old outside.old place
+        (λ style. interpreters.alias args.now) tree.new outside.new result }
     ensures lost { IsLoss O.loses outside.old outside.new }
     ensures steady { IsSteady tree.old tree.new }
     ensures left { O.entries_left outside.new ≤ O.entries_left outside.old }

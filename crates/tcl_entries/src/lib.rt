@@ -1,4 +1,5 @@
-//! What interpreters ask of one another that evaluates nothing, and the subcommands of `interp` and of a child's own command that do only that.
+//! What interpreters ask of one another that evaluates nothing, and the subcommands of `interp` and
+//! of a child's own command that do only that.
 #![tactic(auto, using(tcl_run::proofs::Losing::losing))]
 
 pub mod asking;

@@ -51,7 +51,8 @@ pub fn commands_only(
     place: Place,
     word: &Value,
 ) -> Result<(), Interruption>
-    ensures { Passes tree.now place (λ rest style. interpreters.commands_only word.now (rest style)) result }
+    ensures { Passes tree.now place
+        (λ rest style. interpreters.commands_only word.now (rest style)) result }
 {
     let (_tree, _place) = (tree, place);
     if word.is_text(b"commands") {
@@ -70,7 +71,8 @@ pub fn value_only(
     place: Place,
     word: &Value,
 ) -> Result<(), Interruption>
-    ensures { Passes tree.now place (λ rest style. interpreters.value_only word.now (rest style)) result }
+    ensures { Passes tree.now place
+        (λ rest style. interpreters.value_only word.now (rest style)) result }
 {
     let (_tree, _place) = (tree, place);
     if word.is_text(b"-value") {
@@ -89,7 +91,9 @@ pub fn names_of(
     place: Place,
     word: &Value,
 ) -> Result<Vec<Text>, Interruption>
-    ensures { Finds tree.now place (λ names. names.items) (λ rest style. or_fails fault_message (list_of word.now) (λ names. rest names style)) result }
+    ensures { Finds tree.now place (λ names. names.items)
+        (λ rest style. or_fails fault_message (list_of word.now) (λ names. rest names style))
+        result }
 {
     let (_tree, _place) = (tree, place);
     read_path(alloc, &word.text(alloc)?)
@@ -107,7 +111,9 @@ pub fn stands(
     path: &[Text],
 ) -> Result<(), Interruption>
     requires { (p : Path) × Names tree.now place p }
-    ensures { Passes tree.now place (λ rest style. act Look (λ T. interpreters.where_it_stands word.now (λ n. rest style) (T path.now))) result }
+    ensures { Passes tree.now place
+        (λ rest style. act Look (λ T. interpreters.where_it_stands word.now
+        (λ n. rest style) (T path.now))) result }
 {
     match tree.reach(place, 0, path) {
         Reach::There(_) => Ok(()),
@@ -126,7 +132,8 @@ pub fn below_itself(
     place: Place,
     path: &[Text],
 ) -> Result<(), Interruption>
-    ensures { Passes tree.now place (λ rest style. interpreters.below_itself path.now (rest style)) result }
+    ensures { Passes tree.now place
+        (λ rest style. interpreters.below_itself path.now (rest style)) result }
 {
     let (_tree, _place) = (tree, place);
     match path {
@@ -146,7 +153,8 @@ pub fn unless_root(
     path: &[Text],
 ) -> Result<(), Interruption>
     requires { (p : Path) × Names tree.now place p }
-    ensures { Passes tree.now place (λ rest style. interpreters.unless_root path.now (rest style)) result }
+    ensures { Passes tree.now place
+        (λ rest style. interpreters.unless_root path.now (rest style)) result }
 {
     match path {
         [] => not_root(tree, alloc, place),
@@ -157,7 +165,8 @@ pub fn unless_root(
 /// Sees to it that the interpreter that asks isn't the root.
 fn not_root(tree: &Tree, alloc: Global, place: Place) -> Result<(), Interruption>
     requires { (p : Path) × Names tree.now place p }
-    ensures { Passes tree.now place (λ rest style. interpreters.unless_root [] (rest style)) result }
+    ensures { Passes tree.now place
+        (λ rest style. interpreters.unless_root [] (rest style)) result }
 {
     if node(tree, place).state.root {
         return Err(denied(alloc));
@@ -187,7 +196,8 @@ fn integer_failure(alloc: Global, value: &Value, fault: IntegerFault) -> Interru
 
 /// The integer of a word.
 fn integer(tree: &Tree, alloc: Global, word: &Value) -> Result<i64, Interruption>
-    ensures { Gave (integer_message word.now) (in_64_bits (integer_of (marks_of tree.now).integers word.now)) result }
+    ensures { Gave (integer_message word.now)
+        (in_64_bits (integer_of (marks_of tree.now).integers word.now)) result }
 {
     let mut own = word.clone()?;
     match own.as_int(tree.integers()) {
@@ -216,7 +226,8 @@ pub fn limit_value(
     place: Place,
     word: &Value,
 ) -> Result<Option<u64>, Interruption>
-    ensures { Finds tree.now place (λ limit. limit) (λ rest style. interpreters.limit_value style word.now (λ limit. rest limit style)) result }
+    ensures { Finds tree.now place (λ limit. limit)
+        (λ rest style. interpreters.limit_value style word.now (λ limit. rest limit style)) result }
 {
     let _place = place;
     if word.is_text(b"") {
@@ -246,7 +257,9 @@ pub fn depth_value(
     place: Place,
     word: &Value,
 ) -> Result<u64, Interruption>
-    ensures { Finds tree.now place (λ limit. limit) (λ rest style. variables.integer style word.now (λ z. interpreters.depth_number z (λ limit. rest limit style))) result }
+    ensures { Finds tree.now place (λ limit. limit)
+        (λ rest style. variables.integer style word.now
+        (λ z. interpreters.depth_number z (λ limit. rest limit style))) result }
 {
     let _place = place;
     let n = integer(tree, alloc, word)?;

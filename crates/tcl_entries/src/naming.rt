@@ -29,7 +29,8 @@ fn plain(name: Text) -> Option<Text>
     Some(name)
 }
 
-/// The name by which a command is kept that is called so, if one can be: two leading colons name the global level, which is the only one.
+/// The name by which a command is kept that is called so, if one can be: two leading colons name
+/// the global level, which is the only one.
 fn plain_name(alloc: Global, name: &Text) -> Result<Option<Text>, AllocError>
     ensures { IfOk result (λ kept. kept ≡ command_name name.now) }
 {
@@ -45,7 +46,9 @@ fn plain_name(alloc: Global, name: &Text) -> Result<Option<Text>, AllocError>
 /// 238; want of memory.
 pub fn kept_name(alloc: Global, name: &Text) -> Result<Text, Interruption>
     ensures kept { IfOk result (λ kept. command_name name.now ≡ Some kept) }
-    ensures refused { IfErr result (λ i. Interrupts i (λ e. (command_name name.now ≡ None) × (e ≡ Completed (failing (faults.bad_name name.now))))) }
+    ensures refused { IfErr result
+        (λ i. Interrupts i (λ e. (command_name name.now ≡ None) ×
+        (e ≡ Completed (failing (faults.bad_name name.now))))) }
 {
     match plain_name(alloc, name)? {
         Some(kept) => Ok(kept),
@@ -68,14 +71,16 @@ fn stands_for_child(command: Option<&Command>) -> bool
 
 /// Whether the name is that of a child of the interpreter that the place names.
 pub fn names_child(tree: &Tree, place: Place, name: &Text) -> bool
-    ensures { (p : Path) (n : core.Node Own) → Names tree.now place p → tree_of tree.now p ≡ Some n → result ≡ is_child (command_in n.own name.now) }
+    ensures { (p : Path) (n : core.Node Own) → Names tree.now place p →
+        tree_of tree.now p ≡ Some n → result ≡ is_child (command_in n.own name.now) }
 {
     stands_for_child(tree.command_at(place, name))
 }
 
 /// Whether a command of the interpreter that the place names is hidden under the name.
 pub fn names_hidden(tree: &Tree, place: Place, name: &Text) -> bool
-    ensures { (p : Path) (n : core.Node Own) → Names tree.now place p → tree_of tree.now p ≡ Some n → result ≡ is_some (hidden_in n.own name.now) }
+    ensures { (p : Path) (n : core.Node Own) → Names tree.now place p →
+        tree_of tree.now p ≡ Some n → result ≡ is_some (hidden_in n.own name.now) }
 {
     tree.hidden_at(place, name).is_some()
 }

@@ -1,5 +1,6 @@
 //! The answers to questions about an interpreter.
-ghost use Rattle.std.specs.Prelude.{◌≡◌, ◌<◌, ◌+◌, ◌++◌, ◌∷◌, [], codes, drop, length, IfOk, OnOk, Some};
+ghost use Rattle.std.specs.Prelude.{◌≡◌, ◌<◌, ◌+◌, ◌++◌, ◌∷◌, [], codes, drop, length, IfOk, OnOk};
+ghost use Rattle.std.specs.Prelude.{Some};
 ghost use Rattle.std.specs.Fmt.{decimal};
 ghost use Rattle.std.specs.Option.{option_copied};
 ghost use Rattle.tcl_core.specs.Paths.{Path};
@@ -28,7 +29,8 @@ use tcl_value::value::Value;
 /// The interpreter that the place names.
 pub fn node(tree: &Tree, place: Place) -> &Node
     requires { (p : Path) × Names tree.now place p }
-    ensures { (p : Path) (n : core.Node Own) → Names tree.now place p → tree_of tree.now p ≡ Some n → view_of result.now ≡ n }
+    ensures { (p : Path) (n : core.Node Own) → Names tree.now place p →
+        tree_of tree.now p ≡ Some n → view_of result.now ≡ n }
 {
     match tree.node_at(place) {
         Some(node) => node,
@@ -70,7 +72,9 @@ fn truth_text(alloc: Global, truth: bool) -> Result<Text, AllocError>
 
 /// Adds the name of a command, if that is an alias.
 fn push_alias(names: &mut Vec<Text>, name: &Text, command: &Command) -> Result<(), AllocError>
-    ensures { (rest : Path) → OnOk result (names.new.items ++ rest ≡ names.old.items ++ interpreters.alias_only name.now command.now rest) }
+    ensures { (rest : Path) → OnOk result
+        (names.new.items ++ rest ≡ names.old.items ++ interpreters.alias_only name.now command.now
+        rest) }
 {
     match command {
         Command::Alias(_) => {
@@ -86,7 +90,10 @@ fn push_alias(names: &mut Vec<Text>, name: &Text, command: &Command) -> Result<(
 /// Adds the name of the command at a place in their order, if that is an alias.
 fn push_alias_at(names: &mut Vec<Text>, commands: &Commands, index: usize) -> Result<(), AllocError>
     requires { index < length commands.now.entries }
-    ensures { OnOk result (names.new.items ++ interpreters.aliases_in (drop (index + 1) commands.now.entries) ≡ names.old.items ++ interpreters.aliases_in (drop index commands.now.entries)) }
+    ensures { OnOk result
+        (names.new.items ++ interpreters.aliases_in
+        (drop (index + 1) commands.now.entries) ≡ names.old.items ++ interpreters.aliases_in
+        (drop index commands.now.entries)) }
 {
     match commands.get_index(index) {
         Some((name, command)) => push_alias(names, name, command),
@@ -112,7 +119,9 @@ fn push_key_at<V>(
     index: usize,
 ) -> Result<(), AllocError>
     requires { index < length map.now.entries }
-    ensures { OnOk result (names.new.items ++ first_of (drop (index + 1) map.now.entries) ≡ names.old.items ++ first_of (drop index map.now.entries)) }
+    ensures { OnOk result
+        (names.new.items ++ first_of (drop (index + 1) map.now.entries)
+        ≡ names.old.items ++ first_of (drop index map.now.entries)) }
 {
     match map.get_index(index) {
         Some((name, _)) => {
@@ -134,9 +143,11 @@ fn keys_of<V>(alloc: Global, map: &IndexMap<Text, V>) -> Result<Vec<Text>, Alloc
     Ok(names)
 }
 
-/// The texts of the words of an alias, that of its target command first; none where the command is no alias.
+/// The texts of the words of an alias, that of its target command first; none where the command is
+/// no alias.
 fn words_of(alloc: Global, command: Option<&Command>) -> Result<Vec<Text>, AllocError>
-    ensures { IfOk result (λ words. words.items ≡ interpreters.alias_words (option_copied command.entry)) }
+    ensures { IfOk result (λ words. words.items
+        ≡ interpreters.alias_words (option_copied command.entry)) }
 {
     match command {
         Some(Command::Alias(alias)) => texts_of(alloc, alias.words()),
@@ -170,7 +181,8 @@ fn limit_text(alloc: Global, limit: Option<u64>) -> Result<Text, AllocError>
 
 /// The list of the option and the value of a limit of steps.
 fn limit_list(alloc: Global, limit: Option<u64>) -> Result<Text, AllocError>
-    ensures { IfOk result (λ text. text ≡ written_list (codes "-value" ∷ interpreters.limit_text limit ∷ [])) }
+    ensures { IfOk result (λ text. text
+        ≡ written_list (codes "-value" ∷ interpreters.limit_text limit ∷ [])) }
 {
     let mut list = Vec::new(alloc);
     list.push(Text::new(alloc, "-value")?)?;
@@ -180,7 +192,8 @@ fn limit_list(alloc: Global, limit: Option<u64>) -> Result<Text, AllocError>
 
 /// What an interpreter answers to a question.
 fn answer_text(alloc: Global, node: &Node, question: &Question) -> Result<Text, AllocError>
-    ensures { IfOk result (λ text. text ≡ interpreters.answer (question_of question.now) (view_of node.now)) }
+    ensures { IfOk result (λ text. text
+        ≡ interpreters.answer (question_of question.now) (view_of node.now)) }
 {
     match question {
         Question::Exists => truth_text(alloc, true),
@@ -210,7 +223,8 @@ pub fn answer(
     question: &Question,
 ) -> Result<Value, Interruption>
     requires { (p : Path) × Names tree.now place p }
-    ensures { Acts tree.now place (λ style. interpreters.answers (question_of question.now)) tree.now result }
+    ensures { Acts tree.now place (λ style. interpreters.answers (question_of question.now))
+        tree.now result }
 {
     within(alloc, answer_text(alloc, node(tree, place), question)?)
 }

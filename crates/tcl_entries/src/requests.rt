@@ -28,7 +28,8 @@ pub fn ask_at<O: Outside>(
     entry: OwnEntry,
 ) -> Result<Value, Interruption>
     requires { IsRunning tree.old place }
-    ensures evaluates { Evaluates O.goes tree.old outside.old place (λ style. interpreters.asks_at path.now (entry_of entry) done) tree.new outside.new result }
+    ensures evaluates { Evaluates O.goes tree.old outside.old place
+        (λ style. interpreters.asks_at path.now (entry_of entry) done) tree.new outside.new result }
     ensures lost { IsLoss O.loses outside.old outside.new }
     ensures steady { IsSteady tree.old tree.new }
     ensures left { O.entries_left outside.new ≤ O.entries_left outside.old }
@@ -37,7 +38,7 @@ pub fn ask_at<O: Outside>(
 }
 
 /// What an end comes to where an ordinary result is told as this value.
-fn told_as(ended: Result<Value, Interruption>, value: Value) -> Result<Value, Interruption>
+fn answered_with(ended: Result<Value, Interruption>, value: Value) -> Result<Value, Interruption>
     ensures { TellsAs ended value result }
 {
     match ended {
@@ -64,12 +65,14 @@ pub fn ask_telling<O: Outside>(
     value: Value,
 ) -> Result<Value, Interruption>
     requires { IsRunning tree.old place }
-    ensures evaluates { Evaluates O.goes tree.old outside.old place (λ style. interpreters.asks_at path.now (entry_of entry) (interpreters.with_text value)) tree.new outside.new result }
+    ensures evaluates { Evaluates O.goes tree.old outside.old place
+        (λ style. interpreters.asks_at path.now (entry_of entry) (interpreters.with_text value))
+        tree.new outside.new result }
     ensures lost { IsLoss O.loses outside.old outside.new }
     ensures steady { IsSteady tree.old tree.new }
     ensures left { O.entries_left outside.new ≤ O.entries_left outside.old }
 {
-    told_as(ask(tree, alloc, outside, place, path, entry), value)
+    answered_with(ask(tree, alloc, outside, place, path, entry), value)
 }
 
 /// Asks the interpreter at the path that a word is.
@@ -82,7 +85,8 @@ pub fn ask_there<O: Outside>(
     entry: OwnEntry,
 ) -> Result<Value, Interruption>
     requires { IsRunning tree.old place }
-    ensures evaluates { Evaluates O.goes tree.old outside.old place (λ style. interpreters.asks word.now (entry_of entry)) tree.new outside.new result }
+    ensures evaluates { Evaluates O.goes tree.old outside.old place
+        (λ style. interpreters.asks word.now (entry_of entry)) tree.new outside.new result }
     ensures lost { IsLoss O.loses outside.old outside.new }
     ensures steady { IsSteady tree.old tree.new }
     ensures left { O.entries_left outside.new ≤ O.entries_left outside.old }
@@ -101,7 +105,8 @@ pub fn ask_trusted<O: Outside>(
     entry: OwnEntry,
 ) -> Result<Value, Interruption>
     requires { IsRunning tree.old place }
-    ensures evaluates { Evaluates O.goes tree.old outside.old place (λ style. interpreters.asks_trusted word.now (entry_of entry)) tree.new outside.new result }
+    ensures evaluates { Evaluates O.goes tree.old outside.old place
+        (λ style. interpreters.asks_trusted word.now (entry_of entry)) tree.new outside.new result }
     ensures lost { IsLoss O.loses outside.old outside.new }
     ensures steady { IsSteady tree.old tree.new }
     ensures left { O.entries_left outside.new ≤ O.entries_left outside.old }
@@ -121,7 +126,8 @@ fn ask_one<O: Outside>(
     args: &[Value],
 ) -> Result<Value, Interruption>
     requires { IsRunning tree.old place }
-    ensures evaluates { Evaluates O.goes tree.old outside.old place (λ style. asked_of form.now (entry_of entry) args.now) tree.new outside.new result }
+    ensures evaluates { Evaluates O.goes tree.old outside.old place
+        (λ style. asked_of form.now (entry_of entry) args.now) tree.new outside.new result }
     ensures lost { IsLoss O.loses outside.old outside.new }
     ensures steady { IsSteady tree.old tree.new }
     ensures left { O.entries_left outside.new ≤ O.entries_left outside.old }
@@ -133,7 +139,8 @@ fn ask_one<O: Outside>(
     }
 }
 
-/// Asks a question of the interpreter at the path that the word is, or of the one that asks where there is no word.
+/// Asks a question of the interpreter at the path that the word is, or of the one that asks where
+/// there is no word.
 pub fn ask_about<O: Outside>(
     tree: &mut Tree,
     alloc: Global,
@@ -144,7 +151,9 @@ pub fn ask_about<O: Outside>(
     args: &[Value],
 ) -> Result<Value, Interruption>
     requires { IsRunning tree.old place }
-    ensures evaluates { Evaluates O.goes tree.old outside.old place (λ style. interpreters.question form.now (question_of question) args.now) tree.new outside.new result }
+    ensures evaluates { Evaluates O.goes tree.old outside.old place
+        (λ style. interpreters.question form.now (question_of question) args.now) tree.new
+        outside.new result }
     ensures lost { IsLoss O.loses outside.old outside.new }
     ensures steady { IsSteady tree.old tree.new }
     ensures left { O.entries_left outside.new ≤ O.entries_left outside.old }

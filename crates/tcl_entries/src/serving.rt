@@ -42,7 +42,9 @@ pub fn set_alias(
     alias: &Alias,
 ) -> Result<Value, Interruption>
     requires { (p : Path) × Names tree.old place p }
-    ensures acts { Acts tree.old place (λ style. interpreters.sets_alias name.now alias.now.up alias.now.down alias.now.words) tree.new result }
+    ensures acts { Acts tree.old place
+        (λ style. interpreters.sets_alias name.now alias.now.up alias.now.down alias.now.words)
+        tree.new result }
     ensures level { IsLevel tree.old tree.new }
 {
     let kept = kept_name(alloc, name)?;
@@ -63,7 +65,8 @@ pub fn clear_alias(
     name: &Text,
 ) -> Result<Value, Interruption>
     requires { (p : Path) × Names tree.old place p }
-    ensures acts { Acts tree.old place (λ style. interpreters.clears_alias name.now) tree.new result }
+    ensures acts { Acts tree.old place
+        (λ style. interpreters.clears_alias name.now) tree.new result }
     ensures level { IsLevel tree.old tree.new }
 {
     let kept = kept_name(alloc, name)?;
@@ -76,7 +79,8 @@ pub fn clear_alias(
 /// Hides a command of the interpreter that the place names.
 ///
 /// # Errors
-/// 238; 305; 302 of a child; then 238 and 302 of the name under which it is to be hidden; want of memory.
+/// 238; 305; 302 of a child; then 238 and 302 of the name under which it is to be hidden; want of
+/// memory.
 pub fn hide(
     tree: &mut Tree,
     alloc: Global,
@@ -85,7 +89,8 @@ pub fn hide(
     hidden: &Text,
 ) -> Result<Value, Interruption>
     requires { (p : Path) × Names tree.old place p }
-    ensures acts { Acts tree.old place (λ style. interpreters.hides name.now hidden.now) tree.new result }
+    ensures acts { Acts tree.old place
+        (λ style. interpreters.hides name.now hidden.now) tree.new result }
     ensures level { IsLevel tree.old tree.new }
 {
     let kept = kept_name(alloc, name)?;
@@ -110,7 +115,8 @@ pub fn expose(
     name: &Text,
 ) -> Result<Value, Interruption>
     requires { (p : Path) × Names tree.old place p }
-    ensures acts { Acts tree.old place (λ style. interpreters.exposes hidden.now name.now) tree.new result }
+    ensures acts { Acts tree.old place
+        (λ style. interpreters.exposes hidden.now name.now) tree.new result }
     ensures level { IsLevel tree.old tree.new }
 {
     if !names_hidden(tree, place, hidden) {
@@ -177,7 +183,8 @@ fn making_failure(alloc: Global, refusal: Refusal, name: &str) -> Interruption
     }
 }
 
-/// Makes a child of the interpreter that the place names, safe where that is asked for or its parent is safe.
+/// Makes a child of the interpreter that the place names, safe where that is asked for or its
+/// parent is safe.
 ///
 /// # Errors
 /// 238, 302 and 307; want of memory.
@@ -189,7 +196,8 @@ pub fn create(
     safe: bool,
 ) -> Result<Value, Interruption>
     requires { (p : Path) × Names tree.old place p }
-    ensures acts { Acts tree.old place (λ style. interpreters.creates name.now safe) tree.new result }
+    ensures acts { Acts tree.old place
+        (λ style. interpreters.creates name.now safe) tree.new result }
     ensures steady { IsSteady tree.old tree.new }
 {
     if let Some(_child) = tree.child_at(place, name) {
@@ -207,7 +215,8 @@ pub fn create(
 /// Want of memory.
 pub fn child_name(tree: &Tree, alloc: Global, place: Place) -> Result<Text, AllocError>
     requires { (p : Path) × Names tree.now place p }
-    ensures { IfOk result (λ name. (p : Path) (n : core.Node Own) → Names tree.now place p → tree_of tree.now p ≡ Some n → name ≡ interpreters.free_name n.own) }
+    ensures { IfOk result (λ name. (p : Path) (n : core.Node Own) → Names tree.now place p →
+        tree_of tree.now p ≡ Some n → name ≡ interpreters.free_name n.own) }
 {
     let _few = node(tree, place).state.commands.len();
     tree.free_name_at(alloc, place)
@@ -215,7 +224,8 @@ pub fn child_name(tree: &Tree, alloc: Global, place: Place) -> Result<Text, Allo
 
 /// The error of a child that isn't there.
 fn no_child(alloc: Global, name: &Text) -> Interruption
-    ensures { Interrupts result (λ e. e ≡ Completed (failing (interpreters.no_interpreter (written_list (name.now ∷ []))))) }
+    ensures { Interrupts result (λ e. e
+        ≡ Completed (failing (interpreters.no_interpreter (written_list (name.now ∷ []))))) }
 {
     match path_text(alloc, name) {
         Ok(path) => no_interpreter(alloc, path.as_str()),
@@ -242,7 +252,8 @@ fn deleting_failure(alloc: Global, refusal: Refusal, name: &Text) -> Interruptio
     }
 }
 
-/// Deletes a child of the interpreter that the place names, with all below it. The outside is told of it.
+/// Deletes a child of the interpreter that the place names, with all below it. The outside is told
+/// of it.
 ///
 /// # Errors
 /// 301; 303 where an evaluation is in progress in it; want of memory.
@@ -254,7 +265,8 @@ pub fn delete<O: Outside>(
     name: &Text,
 ) -> Result<Value, Interruption>
     requires { (p : Path) × Names tree.old place p }
-    ensures runs { EvaluatesAt O.goes tree.old outside.old place (λ style. interpreters.deletes name.now) tree.new outside.new result }
+    ensures runs { EvaluatesAt O.goes tree.old outside.old place
+        (λ style. interpreters.deletes name.now) tree.new outside.new result }
     ensures lost { IsLoss O.loses outside.old outside.new }
     ensures steady { IsSteady tree.old tree.new }
     ensures left { O.entries_left outside.new ≤ O.entries_left outside.old }
@@ -277,7 +289,8 @@ fn create_named(
     safe: bool,
 ) -> Result<Value, Interruption>
     requires { (p : Path) × Names tree.old place p }
-    ensures acts { Acts tree.old place (λ style. table.serve style (Create name.now safe)) tree.new result }
+    ensures acts { Acts tree.old place
+        (λ style. table.serve style (Create name.now safe)) tree.new result }
     ensures steady { IsSteady tree.old tree.new }
 {
     match name {
@@ -301,7 +314,8 @@ pub fn serve<O: Outside>(
     entry: &OwnEntry,
 ) -> Result<Value, Interruption>
     requires { (p : Path) × Names tree.old place p }
-    ensures runs { EvaluatesAt O.goes tree.old outside.old place (λ style. table.serve style (entry_of entry.now)) tree.new outside.new result }
+    ensures runs { EvaluatesAt O.goes tree.old outside.old place
+        (λ style. table.serve style (entry_of entry.now)) tree.new outside.new result }
     ensures lost { IsLoss O.loses outside.old outside.new }
     ensures steady { IsSteady tree.old tree.new }
     ensures left { O.entries_left outside.new ≤ O.entries_left outside.old }

@@ -1,6 +1,7 @@
 //! The names of the subcommands of `interp` and of a child's own command.
 ghost use Rattle.std.specs.Prelude.{◌≡◌};
-ghost use Rattle.tcl_entries.specs.Subcommands.{making_of, asking_of, changing_of, subcommand_of, talk_of, rule_of, child_subcommand_of};
+ghost use Rattle.tcl_entries.specs.Subcommands.{making_of, asking_of, changing_of, subcommand_of};
+ghost use Rattle.tcl_entries.specs.Subcommands.{talk_of, rule_of, child_subcommand_of};
 
 /// A subcommand of `interp`.
 #[derive(Clone, Copy, Debug, Drop)]

@@ -7,12 +7,12 @@ use Rattle.tcl_language.specs.Instructions.{fits}
 use Rattle.tcl_tree.specs.TreeOf.{tree_of, marks_of}
 use Rattle.tcl_tree.specs.declared.tree.Tree.{Tree as Table}
 use Rattle.std.specs.Prelude.{Result, Ok, Err, IfOk, IfErr, IfNone, []}
-use Rattle.tcl_beginnings.specs.Beginnings.{Begun}
+use Rattle.tcl_partial_runs.specs.Beginnings.{Begun}
 use Rattle.tcl_core.specs.Endings.{Reply}
 use Rattle.tcl_core.specs.Entries.Entry.{Eval}
 use Rattle.tcl_core.specs.Lives.{end_at}
 use Rattle.tcl_core.specs.Runs.{Ending}
-use Rattle.tcl_core.specs.Threads.{Crossings}
+use Rattle.tcl_core.specs.Execution.{Crossings}
 use Rattle.tcl_core.specs.Trees.{Tree, effect}
 use Rattle.tcl_core.specs.Trees.What.{Limited}
 use Rattle.tcl_language_laws.specs.Language.{language}

@@ -1,6 +1,7 @@
 -- What contracts see of the run of a script.
-use Rattle.std.specs.Prelude.{◌≡◌, ℕ, ◌+◌, Bool, true, false, List, [], nat_le, Option, Some, None, is_some, Result, Ok, Err, IfOk}
-use Rattle.tcl_beginnings.specs.Beginnings.{Begun}
+use Rattle.std.specs.Prelude.{◌≡◌, ℕ, ◌+◌, Bool, true, false, List, [], nat_le, Option, Some, None}
+use Rattle.std.specs.Prelude.{is_some, Result, Ok, Err, IfOk}
+use Rattle.tcl_partial_runs.specs.Beginnings.{Begun}
 use Rattle.tcl_run_laws.specs.Budgets.{KeepsBudget}
 use Rattle.tcl_core.specs.Endings.{Reply, ok}
 use Rattle.tcl_core.specs.Endings.Reply.{Completed}
@@ -10,7 +11,7 @@ use Rattle.tcl_core.specs.Lives.{End as Ending, Whole, count_at, end_at, limit_a
 use Rattle.tcl_core.specs.Lives.End.{Completed_as, Stopped, Exits}
 use Rattle.tcl_core.specs.Paths.{Path, Text}
 use Rattle.tcl_core.specs.Trees.{Tree, Event, effect}
-use Rattle.tcl_core.specs.Threads.{Crossings, event}
+use Rattle.tcl_core.specs.Execution.{Crossings, event}
 use Rattle.tcl_core.specs.Trees.What.{Done, Limited}
 use Rattle.tcl_flow.specs.Stopping.{meter_of}
 use Rattle.tcl_flow.specs.View.{completion_of}
@@ -46,7 +47,8 @@ root_count t = count_at (tree_of t [])
 abbrev pub root_limit : Table → Option ℕ
 root_limit t = limit_at (tree_of t [])
 
--- the first of these that doesn't hold is why there is no run: the tree isn't broken, there is an interpreter, its steps can be counted, and the script is short enough
+-- the first of these that doesn't hold is why there is no run: the tree isn't broken, there is an
+-- interpreter, its steps can be counted, and the script is short enough
 abbrev pub first_of : Bool → Bool → Bool → Bool → Option Refused
 first_of true there counts short = Some refused.Broken
 first_of false false counts short = Some refused.NoInterpreter
@@ -55,7 +57,8 @@ first_of false true true false = Some refused.TooLong
 first_of false true true true = None
 
 abbrev pub unfit : Table → Path → Text → ℕ → Option Refused
-unfit t path script limit = first_of (marks_of t).broken (is_some (tree_of t path)) (nat_le (root_count t + limit) most_steps) (fits script)
+unfit t path script limit = first_of (marks_of t).broken (is_some (tree_of t path))
+    (nat_le (root_count t + limit) most_steps) (fits script)
 
 -- ## A run
 
@@ -65,46 +68,65 @@ ending_of (end.Done c) = Completed_as (completion_of c)
 ending_of (end.Stopped kind) = Stopped (meter_of kind)
 ending_of (end.Exit n) = Exits n
 
--- The script is one entry into the interpreter at the path, in the tree whose root may be counted so far; then the root has its own limit again.
-pub record IsRun {S : Type 0} (goes : Going S) (old : Table) (o : S) (path : Path) (script : Text) (most : ℕ) (new : Table) (z : S) (e : End) : Type 0 where
+-- The script is one entry into the interpreter at the path, in the tree whose root may be counted
+-- so far; then the root has its own limit again.
+pub record IsRun {S : Type 0} (goes : Going S) (old : Table) (o : S) (path : Path) (script : Text)
+    (most : ℕ) (new : Table) (z : S) (e : End) : Type 0 where
   pub during : Tree Own
   pub reply : Reply
-  pub runs : Comes goes (language (marks_of old).integers) (effect [] (Limited (Some most)) (tree_of old)) o path (serve (marks_of old).integers (Eval script)) during z reply
+  pub runs : Comes goes (language (marks_of old).integers)
+      (effect [] (Limited (Some most)) (tree_of old)) o path
+      (serve (marks_of old).integers (Eval script)) during z reply
   pub after : tree_of new ≡ effect [] (Limited (root_limit old)) during
   pub ends : end_at path reply ≡ Some (ending_of e)
 
 -- The same over any outside: it is told how the entry ends.
-pub record IsOpenRun {S : Type 0} (goes : Going S) (old : Table) (o : S) (path : Path) (script : Text) (most : ℕ) (new : Table) (z : S) (e : End) : Type 0 where
+pub record IsOpenRun {S : Type 0} (goes : Going S) (old : Table) (o : S) (path : Path)
+    (script : Text) (most : ℕ) (new : Table) (z : S) (e : End) : Type 0 where
   pub during : Tree Own
   pub between : S
   pub reply : Reply
-  pub runs : Comes goes (language (marks_of old).integers) (effect [] (Limited (Some most)) (tree_of old)) o path (serve (marks_of old).integers (Eval script)) during between reply
+  pub runs : Comes goes (language (marks_of old).integers)
+      (effect [] (Limited (Some most)) (tree_of old)) o path
+      (serve (marks_of old).integers (Eval script)) during between reply
   pub told : goes during between None (event path (Done None reply)) z
   pub after : tree_of new ≡ effect [] (Limited (root_limit old)) during
   pub ends : end_at path reply ≡ Some (ending_of e)
 
--- The run is the whole evaluation of the script at the path, with so many counted steps, for replies that belong to the host.
-pub record IsWhole {S : Type 0} (step : S → Request → HostReply → S → Type 0) (old : Table) (o : S) (path : Path) (script : Text) (limit : ℕ) (new : Table) (z : S) (e : End) : Type 0 where
+-- The run is the whole evaluation of the script at the path, with so many counted steps, for
+-- replies that belong to the host.
+pub record IsWhole {S : Type 0} (step : S → Request → HostReply → S → Type 0) (old : Table) (o : S)
+    (path : Path) (script : Text) (limit : ℕ) (new : Table) (z : S) (e : End) : Type 0 where
   pub replies : List Answer
   pub outs : List (Event Own)
-  pub whole : Whole (language (marks_of old).integers) (tree_of old) path script limit replies (ending_of e) outs (tree_of new)
+  pub whole : Whole (language (marks_of old).integers) (tree_of old) path script limit replies
+      (ending_of e) outs (tree_of new)
   pub belongs : Belongs step o outs replies z
 
--- It keeps the budget of each interpreter: of all that happens in that whole evaluation, and of the trees before and after it, all is so that `KeepsBudget` says of
--- steps, counts, limits, stops and depths.
-pub record IsBudgeted {S : Type 0} (step : S → Request → HostReply → S → Type 0) (old : Table) (o : S) (path : Path) (script : Text) (limit : ℕ) (new : Table) (z : S) (e : End) : Type 0 where
+-- It keeps the budget of each interpreter: of all that happens in that whole evaluation, and of the
+-- trees before and after it, all is so that `KeepsBudget` says of steps, counts, limits, stops and
+-- depths.
+pub record IsBudgeted {S : Type 0} (step : S → Request → HostReply → S → Type 0) (old : Table)
+    (o : S) (path : Path) (script : Text) (limit : ℕ) (new : Table) (z : S) (e : End) : Type 0 where
   pub whole : IsWhole step old o path script limit new z e
   pub budget : KeepsBudget (tree_of old) limit whole.whole.tape (tree_of new)
 
--- The script was given up on its way, as for want of memory, with the outside in the last state there; since then it is what may have become of that.
-pub record IsGivenUp {S : Type 0} (ways : Ways S) (old : Table) (o : S) (path : Path) (script : Text) (most : ℕ) (z : S) : Type 0 where
+-- The script was given up on its way, as for want of memory, with the outside in the last state
+-- there; since then it is what may have become of that.
+pub record IsGivenUp {S : Type 0} (ways : Ways S) (old : Table) (o : S) (path : Path)
+    (script : Text) (most : ℕ) (z : S) : Type 0 where
   pub last : S
-  pub begun : Begun (Crossings ways.goes) (language (marks_of old).integers) (effect [] (Limited (Some most)) (tree_of old)) o path (serve (marks_of old).integers (Eval script)) last
+  pub begun : Begun (Crossings ways.goes) (language (marks_of old).integers)
+      (effect [] (Limited (Some most)) (tree_of old)) o path
+      (serve (marks_of old).integers (Eval script)) last
   pub lost : IsLoss ways.loses last z
 
--- What the host was asked until a script was given up, with its replies, is what the whole evaluation of the script at the path asks it first, whatever replies follow.
-abbrev pub AsksFirst : {S : Type 0} → (S → Request → HostReply → S → Type 0) → Table → S → Path → Text → ℕ → S → Type 0
-AsksFirst step old o path script limit z = IsBeginning step (language (marks_of old).integers) (tree_of old) path script limit o z
+-- What the host was asked until a script was given up, with its replies, is what the whole
+-- evaluation of the script at the path asks it first, whatever replies follow.
+abbrev pub AsksFirst : {S : Type 0} → (S → Request → HostReply → S → Type 0) → Table → S → Path →
+    Text → ℕ → S → Type 0
+AsksFirst step old o path script limit z = IsBeginning step (language (marks_of old).integers)
+    (tree_of old) path script limit o z
 
 -- what is said of an end that there is
 abbrev pub IfSaid : Result Text Interruption → (Reply → Type 0) → Type 0

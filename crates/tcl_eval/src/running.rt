@@ -1,16 +1,18 @@
 //! Runs of scripts in a tree of interpreters, with a host.
-ghost use Rattle.std.specs.Prelude.{◌≡◌, ◌+◌, ◌<◌, ◌≤◌, true, Some, None, IfOk, IfErr, IfSome, IfNone, IsErrOf, length};
+ghost use Rattle.std.specs.Prelude.{◌≡◌, ◌+◌, ◌<◌, ◌≤◌, true, Some, None, IfOk, IfErr, IfSome};
+ghost use Rattle.std.specs.Prelude.{IfNone, IsErrOf, length};
 ghost use Rattle.tcl_core.specs.Paths.{Path};
 ghost use Rattle.tcl_language.specs.Instructions.{fits};
 ghost use Rattle.tcl_flow.specs.Stopping.{reply_of};
 ghost use Rattle.tcl_run.specs.Outsides.{hosted};
-ghost use Rattle.tcl_core.specs.Threads.{event};
+ghost use Rattle.tcl_core.specs.Execution.{event};
 ghost use Rattle.tcl_core.specs.Trees as core;
 ghost use Rattle.tcl_run.specs.Ends.{IfEnded};
 ghost use Rattle.tcl_tree.specs.TreeOf.{marks_of, tree_of, Names};
 ghost use Rattle.tcl_core.specs.Lives.{end_at};
 ghost use Rattle.tcl_run.specs.Runs.{IsLoss, ways};
-ghost use Rattle.tcl_eval.specs.Running.{AsksFirst, IsBudgeted, IsGivenUp, IsOpenRun, IsRun, IsWhole, Tells, ending_of, unfit, root_count, root_limit};
+ghost use Rattle.tcl_eval.specs.Running.{AsksFirst, IsBudgeted, IsGivenUp, IsOpenRun, IsRun};
+ghost use Rattle.tcl_eval.specs.Running.{IsWhole, Tells, ending_of, unfit, root_count, root_limit};
 ghost use Rattle.tcl_eval.specs.declared.running.Refused.TheVariants.{Memory};
 
 use std::alloc::{AllocError, Global};
@@ -32,7 +34,8 @@ use tcl_value::value::Value;
 pub enum End {
     /// The script completed, by an ordinary result or by an error.
     Done(Completion),
-    /// A limit of the root would have been passed: that of steps, which is the run's own, or that of depth.
+    /// A limit of the root would have been passed: that of steps, which is the run's own, or that
+    /// of depth.
     Stopped(StopKind),
     /// The script ended the run with this status.
     Exit(i64),
@@ -47,7 +50,8 @@ pub enum Refused {
     Broken,
     /// 403: no interpreter stands at the path.
     NoInterpreter,
-    /// 404: the steps that were counted in the root and those of the run pass 9223372036854775807 together.
+    /// 404: the steps that were counted in the root and those of the run pass 9223372036854775807
+    /// together.
     CountTooLarge,
     /// 122: the script is longer than 16777216 bytes.
     TooLong,
@@ -64,7 +68,8 @@ struct Start {
     own: Option<u64>,
 }
 
-/// Evaluates a script in the interpreter at the path, as one entry into it, with at most so many counted steps in the whole tree.
+/// Evaluates a script in the interpreter at the path, as one entry into it, with at most so many
+/// counted steps in the whole tree.
 ///
 /// # Errors
 /// 402, 403, 404 and 122, which are looked for in this order and change nothing; and 401, until
@@ -78,7 +83,8 @@ pub fn eval<H: Host>(
     limit: u64,
 ) -> Result<End, Refused>
     ensures refused { IfSome (unfit tree.old path.now script.now limit) (λ e. result ≡ Err e) }
-    ensures unchanged { IfSome (unfit tree.old path.now script.now limit) (λ _. (tree.new ≡ tree.old) × (host.new ≡ host.old)) }
+    ensures unchanged { IfSome (unfit tree.old path.now script.now limit)
+        (λ _. (tree.new ≡ tree.old) × (host.new ≡ host.old)) }
     ensures begun { IfNone (unfit tree.old path.now script.now limit) (IfErr result (λ e. e ≡ Memory)) }
     ensures broken { IsErrOf result Memory → (marks_of tree.new).broken ≡ true }
     ensures marks { IfOk result (λ _. marks_of tree.new ≡ marks_of tree.old) }
@@ -86,16 +92,24 @@ pub fn eval<H: Host>(
     ensures given_up { IfNone (unfit tree.old path.now script.now limit)
         (IfErr result (λ _. IsGivenUp (ways (hosted H.step) (λ o z. z ≡ o)) tree.old host.old
         path.now script.now (root_count tree.old + limit) host.new)) }
-    ensures asked { IfNone (unfit tree.old path.now script.now limit) (IfErr result (λ _. AsksFirst H.step tree.old host.old path.now script.now limit host.new)) }
-    ensures runs { IfOk result (λ end. IsRun (hosted H.step) tree.old host.old path.now script.now (root_count tree.old + limit) tree.new host.new end) }
-    ensures whole { IfOk result (λ end. IsWhole H.step tree.old host.old path.now script.now limit tree.new host.new end) }
-    ensures budget { IfOk result (λ end. IsBudgeted H.step tree.old host.old path.now script.now limit tree.new host.new end) }
+    ensures asked { IfNone (unfit tree.old path.now script.now limit)
+        (IfErr result (λ _. AsksFirst H.step tree.old host.old path.now script.now limit
+        host.new)) }
+    ensures runs { IfOk result
+        (λ end. IsRun (hosted H.step) tree.old host.old path.now script.now
+        (root_count tree.old + limit) tree.new host.new end) }
+    ensures whole { IfOk result
+        (λ end. IsWhole H.step tree.old host.old path.now script.now limit tree.new host.new end) }
+    ensures budget { IfOk result
+        (λ end. IsBudgeted H.step tree.old host.old path.now script.now limit tree.new host.new
+        end) }
 {
     scripts_keep_budgets();
     open_run(tree, alloc, host, path, script, limit)
 }
 
-/// The same over any outside, which was told that the script comes in, and is told how the entry ends.
+/// The same over any outside, which was told that the script comes in, and is told how the entry
+/// ends.
 ///
 /// # Errors
 /// Those of `eval`.
@@ -108,13 +122,18 @@ pub fn open_run<O: Outside>(
     limit: u64,
 ) -> Result<End, Refused>
     ensures refused { IfSome (unfit tree.old path.now script.now limit) (λ e. result ≡ Err e) }
-    ensures unchanged { IfSome (unfit tree.old path.now script.now limit) (λ _. (tree.new ≡ tree.old) × (outside.new ≡ outside.old)) }
+    ensures unchanged { IfSome (unfit tree.old path.now script.now limit)
+        (λ _. (tree.new ≡ tree.old) × (outside.new ≡ outside.old)) }
     ensures begun { IfNone (unfit tree.old path.now script.now limit) (IfErr result (λ e. e ≡ Memory)) }
     ensures broken { IsErrOf result Memory → (marks_of tree.new).broken ≡ true }
     ensures marks { IfOk result (λ _. marks_of tree.new ≡ marks_of tree.old) }
     ensures style { (marks_of tree.new).integers ≡ (marks_of tree.old).integers }
-    ensures given_up { IfNone (unfit tree.old path.now script.now limit) (IfErr result (λ _. IsGivenUp (ways O.goes O.loses) tree.old outside.old path.now script.now (root_count tree.old + limit) outside.new)) }
-    ensures runs { IfOk result (λ end. IsOpenRun O.goes tree.old outside.old path.now script.now (root_count tree.old + limit) tree.new outside.new end) }
+    ensures given_up { IfNone (unfit tree.old path.now script.now limit)
+        (IfErr result (λ _. IsGivenUp (ways O.goes O.loses) tree.old outside.old path.now script.now
+        (root_count tree.old + limit) outside.new)) }
+    ensures runs { IfOk result
+        (λ end. IsOpenRun O.goes tree.old outside.old path.now script.now
+        (root_count tree.old + limit) tree.new outside.new end) }
 {
     let start = start_of(tree, path, script, limit)?;
     match run(tree, alloc, outside, start, path, script) {
@@ -174,7 +193,8 @@ fn root_meters(tree: &Tree) -> (u64, Option<u64>)
 
 /// The limit of a root that may be counted so many steps more, where steps can be counted so far.
 fn most_of(count: u64, limit: u64) -> Option<u64>
-    ensures most { IfSome result (λ most. (most ≡ count + limit) × (count + limit ≤ 9223372036854775807)) }
+    ensures most { IfSome result
+        (λ most. (most ≡ count + limit) × (count + limit ≤ 9223372036854775807)) }
     ensures none { IfNone result (9223372036854775807 < count + limit) }
 {
     let most = count.checked_add(limit)?;
@@ -184,7 +204,8 @@ fn most_of(count: u64, limit: u64) -> Option<u64>
     Some(most)
 }
 
-/// Evaluates the script, while the root has the limit of the run, and tells the outside how that ended.
+/// Evaluates the script, while the root has the limit of the run, and tells the outside how that
+/// ended.
 fn run<O: Outside>(
     tree: &mut Tree,
     alloc: Global,
@@ -197,8 +218,12 @@ fn run<O: Outside>(
     requires place { Names tree.old start.place path.now }
     requires own { start.own ≡ root_limit tree.old }
     ensures marks { marks_of tree.new ≡ marks_of tree.old }
-    ensures given_up { IfErr result (λ _. IsGivenUp (ways O.goes O.loses) tree.old outside.old path.now script.now start.most outside.new) }
-    ensures runs { IfOk result (λ end. IsOpenRun O.goes tree.old outside.old path.now script.now start.most tree.new outside.new end) }
+    ensures given_up { IfErr result
+        (λ _. IsGivenUp (ways O.goes O.loses) tree.old outside.old path.now script.now start.most
+        outside.new) }
+    ensures runs { IfOk result
+        (λ end. IsOpenRun O.goes tree.old outside.old path.now script.now start.most tree.new
+        outside.new end) }
 {
     let mut script = Value::from_short_text(Text::new(alloc, script)?);
     tree.set_run_limit(Some(start.most));
@@ -208,7 +233,8 @@ fn run<O: Outside>(
     told
 }
 
-/// Tells the outside how the entry into the interpreter at the path ended, and whoever began the run.
+/// Tells the outside how the entry into the interpreter at the path ended, and whoever began the
+/// run.
 #[tactic(auto, using(tcl_run::proofs::Losing::losing))]
 fn leave<O: Outside>(
     tree: &Tree,
@@ -219,14 +245,20 @@ fn leave<O: Outside>(
 ) -> Result<End, AllocError>
     ensures tells { Tells path.now ended result }
     ensures lost { IsLoss O.loses outside.old outside.new }
-    ensures told { IfOk result (λ _. IfEnded ended (λ r. O.goes (tree_of tree.now) outside.old None (event path.now (core.What.Done None r)) outside.new)) }
+    ensures told { IfOk result
+        (λ _. IfEnded ended (λ r. O.goes (tree_of tree.now) outside.old None
+        (event path.now (core.What.Done None r)) outside.new)) }
 {
     outside.entry_leaves(alloc, tree, path, &ended)?;
-    told(alloc, path, ended)
+    end_of(alloc, path, ended)
 }
 
 /// How a run ended whose entry into the interpreter at the path ended so.
-fn told(alloc: Global, path: &[Text], ended: Result<Value, Interruption>) -> Result<End, AllocError>
+fn end_of(
+    alloc: Global,
+    path: &[Text],
+    ended: Result<Value, Interruption>,
+) -> Result<End, AllocError>
     ensures { Tells path.now ended result }
 {
     match ended {
@@ -239,7 +271,8 @@ fn told(alloc: Global, path: &[Text], ended: Result<Value, Interruption>) -> Res
     }
 }
 
-/// What a stop is to whoever began the run: an error where it names an interpreter below the root, and else the run's end.
+/// What a stop is to whoever began the run: an error where it names an interpreter below the root,
+/// and else the run's end.
 fn stopped(alloc: Global, path: &[Text], stop: Stop) -> Result<End, AllocError>
     ensures { IfOk result (λ end. end_at path.now (reply_of stop) ≡ Some (ending_of end)) }
 {

@@ -12,7 +12,7 @@ use Rattle.tcl_core.specs.Paths.{Height, Path, Text, rise_to}
 use Rattle.tcl_core.specs.Programs.Prog.{call, done}
 use Rattle.tcl_core.specs.Rules.{IsNoExit}
 use Rattle.tcl_core.specs.Runs.{Ending, entering}
-use Rattle.tcl_core.specs.Threads.{event}
+use Rattle.tcl_core.specs.Execution.{event}
 use Rattle.tcl_core.specs.Trees.{Tree}
 use Rattle.tcl_core.specs.Trees.What.{Out, In, Done, Back}
 use Rattle.tcl_flow.specs.Stopping.{reply_of as stop_reply}

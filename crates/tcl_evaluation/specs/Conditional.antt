@@ -21,21 +21,31 @@ use Rattle.tcl_tree.specs.declared.tree.Tree.{Tree as Table}
 use Rattle.tcl_calls.specs.Expressions.{IsKept}
 
 -- How an expression that was read ends: as each text does that it is.
-abbrev pub ComputesTo : {S : Type 0} → Ways S → Table → S → Place → ExprTree → Table → S → Ending → Type 0
-ComputesTo ways old o place kept new z e = (p : Path) (style : Integers) → IsAt old place p style → (text : List ℕ) → IsKept style text kept → Proceeds ways (language style) (tree_of old) o p (expression style text) (tree_of new) z e
+abbrev pub ComputesTo : {S : Type 0} → Ways S → Table → S → Place → ExprTree → Table → S → Ending →
+    Type 0
+ComputesTo ways old o place kept new z e = (p : Path) (style : Integers) → IsAt old place p style →
+    (text : List ℕ) → IsKept style text kept →
+    Proceeds ways (language style) (tree_of old) o p (expression style text) (tree_of new) z e
 
 -- what came of it
-abbrev pub Computes : {S : Type 0} → Ways S → Table → S → Place → ExprTree → Table → S → Result (List ℕ) Interruption → Type 0
+abbrev pub Computes : {S : Type 0} → Ways S → Table → S → Place → ExprTree → Table → S →
+    Result (List ℕ) Interruption → Type 0
 Computes ways old o place kept new z result = IfRan result (ComputesTo ways old o place kept new z)
 
 -- A condition that was read holds, or doesn't: what comes behind goes on from there.
-abbrev pub TestGoes : {S : Type 0} → Ways S → Table → S → Place → ExprTree → Table → S → Bool → Type 0
-TestGoes {S} ways old o place kept new z holds = (p : Path) (style : Integers) → IsAt old place p style → (text : List ℕ) → IsKept style text kept → (k : Bool → Program) (V : Tree Own) (y : S) (e : Ending) →
-    Proceeds ways (language style) (tree_of new) z p (k holds) V y e → Proceeds ways (language style) (tree_of old) o p (condition style text k) V y e
+abbrev pub TestGoes : {S : Type 0} → Ways S → Table → S → Place → ExprTree → Table → S → Bool →
+    Type 0
+TestGoes {S} ways old o place kept new z holds = (p : Path) (style : Integers) →
+    IsAt old place p style → (text : List ℕ) → IsKept style text kept →
+    (k : Bool → Program) (V : Tree Own) (y : S) (e : Ending) →
+    Proceeds ways (language style) (tree_of new) z p (k holds) V y e →
+    Proceeds ways (language style) (tree_of old) o p (condition style text k) V y e
 
 -- It ended what was to come behind.
-abbrev pub TestBreaks : {S : Type 0} → Ways S → Table → S → Place → ExprTree → Table → S → Ending → Type 0
-TestBreaks ways old o place kept new z e = (p : Path) (style : Integers) → IsAt old place p style → (text : List ℕ) → IsKept style text kept → (k : Bool → Program) →
+abbrev pub TestBreaks : {S : Type 0} → Ways S → Table → S → Place → ExprTree → Table → S → Ending →
+    Type 0
+TestBreaks ways old o place kept new z e = (p : Path) (style : Integers) → IsAt old place p style →
+    (text : List ℕ) → IsKept style text kept → (k : Bool → Program) →
     Proceeds ways (language style) (tree_of old) o p (condition style text k) (tree_of new) z e
 
 -- a turn, behind which that comes
@@ -43,13 +53,22 @@ abbrev pub turn_then : Integers → List ℕ → List ℕ → Program → Progra
 turn_then style test body more = turn style test body (λ c. after_body c.code c more)
 
 -- A turn of a loop went by, and what comes behind goes on from there; or the loop is over.
-abbrev pub TurnGoes : {S : Type 0} → Ways S → Table → S → Place → ExprTree → List ℕ → Table → S → Bool → Type 0
-TurnGoes {S} ways old o place kept body new z true = (p : Path) (style : Integers) → IsAt old place p style → (test : List ℕ) → IsKept style test kept → (more : Program) (V : Tree Own) (y : S) (e : Ending) →
-    Proceeds ways (language style) (tree_of new) z p more V y e → Proceeds ways (language style) (tree_of old) o p (turn_then style test body more) V y e
-TurnGoes ways old o place kept body new z false = (p : Path) (style : Integers) → IsAt old place p style → (test : List ℕ) → IsKept style test kept → (more : Program) →
-    Proceeds ways (language style) (tree_of old) o p (turn_then style test body more) (tree_of new) z (Some (Completed (ok [])))
+abbrev pub TurnGoes : {S : Type 0} → Ways S → Table → S → Place → ExprTree → List ℕ → Table → S →
+    Bool → Type 0
+TurnGoes {S} ways old o place kept body new z true = (p : Path) (style : Integers) →
+    IsAt old place p style → (test : List ℕ) → IsKept style test kept →
+    (more : Program) (V : Tree Own) (y : S) (e : Ending) →
+    Proceeds ways (language style) (tree_of new) z p more V y e →
+    Proceeds ways (language style) (tree_of old) o p (turn_then style test body more) V y e
+TurnGoes ways old o place kept body new z false = (p : Path) (style : Integers) →
+    IsAt old place p style → (test : List ℕ) → IsKept style test kept → (more : Program) →
+    Proceeds ways (language style) (tree_of old) o p (turn_then style test body more) (tree_of new)
+    z (Some (Completed (ok [])))
 
 -- It ended the loop.
-abbrev pub TurnBreaks : {S : Type 0} → Ways S → Table → S → Place → ExprTree → List ℕ → Table → S → Ending → Type 0
-TurnBreaks ways old o place kept body new z e = (p : Path) (style : Integers) → IsAt old place p style → (test : List ℕ) → IsKept style test kept → (more : Program) →
-    Proceeds ways (language style) (tree_of old) o p (turn_then style test body more) (tree_of new) z e
+abbrev pub TurnBreaks : {S : Type 0} → Ways S → Table → S → Place → ExprTree → List ℕ → Table → S →
+    Ending → Type 0
+TurnBreaks ways old o place kept body new z e = (p : Path) (style : Integers) →
+    IsAt old place p style → (test : List ℕ) → IsKept style test kept → (more : Program) →
+    Proceeds ways (language style) (tree_of old) o p (turn_then style test body more) (tree_of new)
+    z e

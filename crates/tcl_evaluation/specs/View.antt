@@ -46,39 +46,62 @@ abbrev pub invokes_at : Bool → List (List ℕ) → (Completion → Program) �
 invokes_at true words k = look (λ n. inside (Framed (at_level 0 n.own) level_over) (Invoke words) k)
 invokes_at false words k = go (Invoke words) k
 
--- How far something came, of which a program is told that it completed: the program goes on, or it ends so too, or is given up.
-abbrev pub GoesOn : {S : Type 0} → Ways S → Integers → Tree Own → S → Path → ((Completion → Program) → Program) → Tree Own → S → Ending → Type 0
-GoesOn {S} ways style T o p x U u (Some (Completed c)) = (k : Completion → Program) (V : Tree Own) (z : S) (e : Ending) → Proceeds ways (language style) U u p (k c) V z e → Proceeds ways (language style) T o p (x k) V z e
-GoesOn {S} ways style T o p x U u e = (k : Completion → Program) → Proceeds ways (language style) T o p (x k) U u e
+-- How far something came, of which a program is told that it completed: the program goes on, or it
+-- ends so too, or is given up.
+abbrev pub GoesOn : {S : Type 0} → Ways S → Integers → Tree Own → S → Path →
+    ((Completion → Program) → Program) → Tree Own → S → Ending → Type 0
+GoesOn {S} ways style T o p x U u (Some (Completed c)) = (k : Completion → Program) (V : Tree Own)
+    (z : S) (e : Ending) → Proceeds ways (language style) U u p (k c) V z e →
+    Proceeds ways (language style) T o p (x k) V z e
+GoesOn {S} ways style T o p x U u e = (k : Completion → Program) →
+    Proceeds ways (language style) T o p (x k) U u e
 
--- What came of asking the interpreter at a path for something, in one where an evaluation is in progress.
-abbrev pub Asks : {S : Type 0} → Ways S → Table → S → Place → Path → Entry → Table → S → Result (List ℕ) Interruption → Type 0
-Asks ways old o place path entry new z result = IfRan result (λ e. (p : Path) (style : Integers) → IsAt old place p style → GoesOn ways style (tree_of old) o p (asks_at path entry) (tree_of new) z e)
+-- What came of asking the interpreter at a path for something, in one where an evaluation is in
+-- progress.
+abbrev pub Asks : {S : Type 0} → Ways S → Table → S → Place → Path → Entry → Table → S →
+    Result (List ℕ) Interruption → Type 0
+Asks ways old o place path entry new z result = IfRan result
+    (λ e. (p : Path) (style : Integers) → IsAt old place p style →
+    GoesOn ways style (tree_of old) o p (asks_at path entry) (tree_of new) z e)
 
 -- the same, where the outside is told of it, as of a call to another interpreter
-abbrev pub AsksBelow : {S : Type 0} → Ways S → Table → S → Place → Path → Entry → Table → S → Result (List ℕ) Interruption → Type 0
-AsksBelow ways old o place path entry new z result = IfRan result (λ e. (p : Path) (style : Integers) → IsAt old place p style → GoesOn ways style (tree_of old) o p (asks_below path entry) (tree_of new) z e)
+abbrev pub AsksBelow : {S : Type 0} → Ways S → Table → S → Place → Path → Entry → Table → S →
+    Result (List ℕ) Interruption → Type 0
+AsksBelow ways old o place path entry new z result = IfRan result
+    (λ e. (p : Path) (style : Integers) → IsAt old place p style →
+    GoesOn ways style (tree_of old) o p (asks_below path entry) (tree_of new) z e)
 
-abbrev pub Invokes : {S : Type 0} → Ways S → Table → S → Place → Bool → List (List ℕ) → Table → S → Result (List ℕ) Interruption → Type 0
+abbrev pub Invokes : {S : Type 0} → Ways S → Table → S → Place → Bool → List (List ℕ) → Table → S →
+    Result (List ℕ) Interruption → Type 0
 Invokes ways old o place is_global words new z result =
-    IfRan result (λ e. (p : Path) (style : Integers) → IsThere old place p style → GoesOn ways style (tree_of old) o p (invokes_at is_global words) (tree_of new) z e)
+    IfRan result (λ e. (p : Path) (style : Integers) → IsThere old place p style →
+    GoesOn ways style (tree_of old) o p (invokes_at is_global words) (tree_of new) z e)
 
 -- One part of a word was substituted: the rest of its parts go on from there.
-abbrev pub PartGoes : {S : Type 0} → Ways S → Table → S → Place → Part → List Open → List ℕ → Table → S → List Open → List ℕ → Type 0
-PartGoes {S} ways old o place part elements text new z next all = (p : Path) (style : Integers) → IsAt old place p style → (rest : List Part) (V : Tree Own) (y : S) (e : Ending) →
-    Proceeds ways (language style) (tree_of new) z p (parts rest next all) V y e → Proceeds ways (language style) (tree_of old) o p (parts (part ∷ rest) elements text) V y e
+abbrev pub PartGoes : {S : Type 0} → Ways S → Table → S → Place → Part → List Open → List ℕ →
+    Table → S → List Open → List ℕ → Type 0
+PartGoes {S} ways old o place part elements text new z next all = (p : Path) (style : Integers) →
+    IsAt old place p style → (rest : List Part) (V : Tree Own) (y : S) (e : Ending) →
+    Proceeds ways (language style) (tree_of new) z p (parts rest next all) V y e →
+    Proceeds ways (language style) (tree_of old) o p (parts (part ∷ rest) elements text) V y e
 
 -- It ended the word, and what was to go on with it.
-abbrev pub PartBreaks : {S : Type 0} → Ways S → Table → S → Place → Part → List Open → List ℕ → Table → S → Ending → Type 0
-PartBreaks ways old o place part elements text new z e = (p : Path) (style : Integers) → IsAt old place p style → (rest : List Part) →
-    Proceeds ways (language style) (tree_of old) o p (parts (part ∷ rest) elements text) (tree_of new) z e
+abbrev pub PartBreaks : {S : Type 0} → Ways S → Table → S → Place → Part → List Open → List ℕ →
+    Table → S → Ending → Type 0
+PartBreaks ways old o place part elements text new z e = (p : Path) (style : Integers) →
+    IsAt old place p style → (rest : List Part) →
+    Proceeds ways (language style) (tree_of old) o p (parts (part ∷ rest) elements text)
+    (tree_of new) z e
 
 -- What may come from there may come from here.
-abbrev pub Leads : {S : Type 0} → Ways S → Integers → Tree Own → S → Path → Program → Tree Own → S → Program → Type 0
-Leads {S} ways style T o p x U u y = (V : Tree Own) (z : S) (e : Ending) → Proceeds ways (language style) U u p y V z e → Proceeds ways (language style) T o p x V z e
+abbrev pub Leads : {S : Type 0} → Ways S → Integers → Tree Own → S → Path → Program → Tree Own → S →
+    Program → Type 0
+Leads {S} ways style T o p x U u y = (V : Tree Own) (z : S) (e : Ending) →
+    Proceeds ways (language style) U u p y V z e → Proceeds ways (language style) T o p x V z e
 
 -- the end of a procedure's call whose body ended so
 abbrev pub LeavesProc : Result (List ℕ) Interruption → Result (List ℕ) Interruption → Type 0
 LeavesProc (Ok text) r = r ≡ Ok text
-LeavesProc (Err (interruption.Completed c)) r = IfEnded r (λ e. e ≡ Completed (leave_proc (completion_of c.value)))
+LeavesProc (Err (interruption.Completed c)) r = IfEnded r
+    (λ e. e ≡ Completed (leave_proc (completion_of c.value)))
 LeavesProc (Err i) r = r ≡ Err i

@@ -1,4 +1,5 @@
--- What contracts see of calls that pass the top of the tree, and of what is handed in while they are open.
+-- What contracts see of calls that pass the top of the tree, and of what is handed in while they
+-- are open.
 use Rattle.std.specs.Prelude.{◌≡◌, true, ℕ, ℤ, [], Option, Some, None, Result, Err, MatchResult}
 use Rattle.tcl_core.specs.Endings.{Completion, ok}
 use Rattle.tcl_core.specs.Endings.Reply.{Completed}
@@ -9,7 +10,7 @@ use Rattle.tcl_core.specs.Entries.Said.{Finished, Told}
 use Rattle.tcl_core.specs.Paths.{Height, Path, Place, Text, rise_to}
 use Rattle.tcl_core.specs.Programs.Prog.{call, done, wait}
 use Rattle.tcl_core.specs.Runs.{Ending, entering, is_own}
-use Rattle.tcl_core.specs.Threads.{event}
+use Rattle.tcl_core.specs.Execution.{event}
 use Rattle.tcl_core.specs.Trees.{Tree}
 use Rattle.tcl_core.specs.Trees.What.{In}
 use Rattle.tcl_host.specs.declared.reply.HostReply.{HostReply as TheirReply}
@@ -36,31 +37,45 @@ use Rattle.tcl_evaluation.specs.declared.waiting.Said.TheVariants as said
 abbrev pub waiting : Height → Entry → (core.Said → Program) → Program
 waiting up i k = wait (Some (up, i)) k
 
--- The call that a program waits for ended so: the program is told of a completion and goes on, or it ends so too, or is given up with it.
-abbrev pub AnswersBy : {S : Type 0} → Ways S → Integers → Tree Own → S → Place → Height → Entry → Tree Own → S → Ending → Type 0
-AnswersBy ways style T o p up i U u (Some (Completed c)) = (k : core.Said → Program) → Leads ways style T o p (waiting up i k) U u (k (Finished c))
-AnswersBy ways style T o p up i U u e = (k : core.Said → Program) → Proceeds ways (language style) T o p (waiting up i k) U u e
+-- The call that a program waits for ended so: the program is told of a completion and goes on, or
+-- it ends so too, or is given up with it.
+abbrev pub AnswersBy : {S : Type 0} → Ways S → Integers → Tree Own → S → Place → Height → Entry →
+    Tree Own → S → Ending → Type 0
+AnswersBy ways style T o p up i U u (Some (Completed c)) = (k : core.Said → Program) →
+    Leads ways style T o p (waiting up i k) U u (k (Finished c))
+AnswersBy ways style T o p up i U u e = (k : core.Said → Program) →
+    Proceeds ways (language style) T o p (waiting up i k) U u e
 
 -- The program is told this reply of a host, and goes on.
-abbrev pub HearsSo : {S : Type 0} → Ways S → Integers → Tree Own → S → Place → Height → Entry → Tree Own → S → HostReply → Type 0
-HearsSo ways style T o p up i U u a = (k : core.Said → Program) → Leads ways style T o p (waiting up i k) U u (k (Told a))
+abbrev pub HearsSo : {S : Type 0} → Ways S → Integers → Tree Own → S → Place → Height → Entry →
+    Tree Own → S → HostReply → Type 0
+HearsSo ways style T o p up i U u a = (k : core.Said → Program) →
+    Leads ways style T o p (waiting up i k) U u (k (Told a))
 
 -- what is said wherever the interpreter is that the place names, where an evaluation is in progress
 abbrev pub Wherever : table.Tree → table_place.Place → (Path → Integers → Type 0) → Type 0
 Wherever old place P = (p : Path) (style : Integers) → IsAt old place p style → P p style
 
 -- what was said to the program, which goes on
-abbrev pub SaysOn : {S : Type 0} → Ways S → table.Tree → S → table_place.Place → Height → Entry → table.Tree → S → Said → Type 0
-SaysOn ways old o place up i new z (said.Completed text) = Wherever old place (λ p style. AnswersBy ways style (tree_of old) o p up i (tree_of new) z (Some (Completed (ok text))))
-SaysOn ways old o place up i new z (said.Heard reply) = Wherever old place (λ p style. HearsSo ways style (tree_of old) o p up i (tree_of new) z (reply_of reply))
+abbrev pub SaysOn : {S : Type 0} → Ways S → table.Tree → S → table_place.Place → Height → Entry →
+    table.Tree → S → Said → Type 0
+SaysOn ways old o place up i new z (said.Completed text) = Wherever old place
+    (λ p style. AnswersBy ways style (tree_of old) o p up i (tree_of new) z
+    (Some (Completed (ok text))))
+SaysOn ways old o place up i new z (said.Heard reply) = Wherever old place
+    (λ p style. HearsSo ways style (tree_of old) o p up i (tree_of new) z (reply_of reply))
 
 -- how the call ended otherwise
-abbrev pub EndsWait : {S : Type 0} → Ways S → table.Tree → S → table_place.Place → Height → Entry → table.Tree → S → Ending → Type 0
-EndsWait ways old o place up i new z e = Wherever old place (λ p style. AnswersBy ways style (tree_of old) o p up i (tree_of new) z e)
+abbrev pub EndsWait : {S : Type 0} → Ways S → table.Tree → S → table_place.Place → Height → Entry →
+    table.Tree → S → Ending → Type 0
+EndsWait ways old o place up i new z e = Wherever old place
+    (λ p style. AnswersBy ways style (tree_of old) o p up i (tree_of new) z e)
 
 -- What came of waiting for the answer to a call, so high up and for this.
-abbrev pub Waits : {S : Type 0} → Ways S → table.Tree → S → table_place.Place → Height → Entry → table.Tree → S → Result Said Interruption → Type 0
-Waits ways old o place up i new z result = MatchResult result (SaysOn ways old o place up i new z) (λ e. Breaks e (EndsWait ways old o place up i new z))
+abbrev pub Waits : {S : Type 0} → Ways S → table.Tree → S → table_place.Place → Height → Entry →
+    table.Tree → S → Result Said Interruption → Type 0
+Waits ways old o place up i new z result = MatchResult result (SaysOn ways old o place up i new z)
+    (λ e. Breaks e (EndsWait ways old o place up i new z))
 
 -- what is said is an answer of the call's own kind
 abbrev pub IsAnswer : Height → Entry → Said → Type 0
@@ -74,39 +89,62 @@ abbrev pub calls : ℕ → Path → Entry → Completion → (Completion → Pro
 calls up down i lost k = call (Some up) down i lost (finished k)
 
 -- What came of a call of an interpreter of the tree, whatever program goes on behind it.
-abbrev pub CallsThere : {S : Type 0} → Ways S → table.Tree → S → table_place.Place → ℕ → Path → Entry → table.Tree → S → Result Text Interruption → Type 0
+abbrev pub CallsThere : {S : Type 0} → Ways S → table.Tree → S → table_place.Place → ℕ → Path →
+    Entry → table.Tree → S → Result Text Interruption → Type 0
 CallsThere ways old o place up down i new z result =
-    IfRan result (λ e. Wherever old place (λ p style. (lost : Completion) → GoesOn ways style (tree_of old) o p (calls up down i lost) (tree_of new) z e))
+    IfRan result (λ e. Wherever old place
+    (λ p style. (lost : Completion) →
+    GoesOn ways style (tree_of old) o p (calls up down i lost) (tree_of new) z e))
 
 -- The outside is told that a call found nobody, and was answered so.
-abbrev pub FindsNobody : {S : Type 0} → Going S → table.Tree → S → table_place.Place → ℕ → Path → Entry → S → Result Text Interruption → Type 0
-FindsNobody goes old o place up down i z result = IfEnded result (λ r. (p a : Path) → Names old place p → rise_to (Some up) p ≡ Some a → Misses goes (tree_of old) o p up down i r z)
+abbrev pub FindsNobody : {S : Type 0} → Going S → table.Tree → S → table_place.Place → ℕ → Path →
+    Entry → S → Result Text Interruption → Type 0
+FindsNobody goes old o place up down i z result = IfEnded result
+    (λ r. (p a : Path) → Names old place p → rise_to (Some up) p ≡ Some a →
+    Misses goes (tree_of old) o p up down i r z)
 
--- What came of a call of an interpreter above the tree, or below one that is, by which the caller ends.
-abbrev pub CallsOut : {S : Type 0} → Ways S → table.Tree → S → table_place.Place → Height → Path → Entry → table.Tree → S → Result Text Interruption → Type 0
+-- What came of a call of an interpreter above the tree, or below one that is, by which the caller
+-- ends.
+abbrev pub CallsOut : {S : Type 0} → Ways S → table.Tree → S → table_place.Place → Height → Path →
+    Entry → table.Tree → S → Result Text Interruption → Type 0
 CallsOut ways old o place up down i new z result =
-    IfRan result (λ e. Wherever old place (λ p style. (lost : Completion) → Proceeds ways (language style) (tree_of old) o p (call up down i lost (finished done)) (tree_of new) z e))
+    IfRan result (λ e. Wherever old place
+    (λ p style. (lost : Completion) →
+    Proceeds ways (language style) (tree_of old) o p (call up down i lost (finished done))
+    (tree_of new) z e))
 
 -- ## What is handed in
 
 -- What came of an entry into the interpreter at the path, or of none being there.
-abbrev pub EndsEntry : {S : Type 0} → Ways S → table.Tree → S → Path → Entry → table.Tree → S → Result Text Interruption → Type 0
+abbrev pub EndsEntry : {S : Type 0} → Ways S → table.Tree → S → Path → Entry → table.Tree → S →
+    Result Text Interruption → Type 0
 EndsEntry ways old o target i new z result =
-    IfRan result (λ e. (style : Integers) → (marks_of old).integers ≡ style → Proceeds ways (language style) (tree_of old) o target (entering (language style) (tree_of old target) i) (tree_of new) z e)
+    IfRan result (λ e. (style : Integers) → (marks_of old).integers ≡ style →
+    Proceeds ways (language style) (tree_of old) o target
+    (entering (language style) (tree_of old target) i) (tree_of new) z e)
 
--- What came of an entry that the outside, in a state before, handed in while a call was open: the program waits on,
-abbrev pub WaitsOn : {S : Type 0} → Ways S → table.Tree → S → table_place.Place → Height → Entry → Path → Entry → table.Tree → S → Type 0
-WaitsOn {S} ways old o place up i target inner new z = (before : S) → ways.goes (tree_of old) before None (event target (In None inner)) o →
-    Wherever old place (λ p style. rise_to up p ≡ None → (k : core.Said → Program) → Leads ways style (tree_of old) before p (waiting up i k) (tree_of new) z (waiting up i k))
+-- What came of an entry that the outside, in a state before, handed in while a call was open: the
+-- program waits on,
+abbrev pub WaitsOn : {S : Type 0} → Ways S → table.Tree → S → table_place.Place → Height → Entry →
+    Path → Entry → table.Tree → S → Type 0
+WaitsOn {S} ways old o place up i target inner new z = (before : S) →
+    ways.goes (tree_of old) before None (event target (In None inner)) o →
+    Wherever old place (λ p style. rise_to up p ≡ None → (k : core.Said → Program) →
+    Leads ways style (tree_of old) before p (waiting up i k) (tree_of new) z (waiting up i k))
 
 -- or it ends by the entry's exit, or is given up.
-abbrev pub EndsBefore : {S : Type 0} → Ways S → table.Tree → S → table_place.Place → Height → Entry → Path → Entry → table.Tree → S → Ending → Type 0
-EndsBefore {S} ways old o place up i target inner new z e = (before : S) → ways.goes (tree_of old) before None (event target (In None inner)) o →
-    Wherever old place (λ p style. rise_to up p ≡ None → AnswersBy ways style (tree_of old) before p up i (tree_of new) z e)
+abbrev pub EndsBefore : {S : Type 0} → Ways S → table.Tree → S → table_place.Place → Height →
+    Entry → Path → Entry → table.Tree → S → Ending → Type 0
+EndsBefore {S} ways old o place up i target inner new z e = (before : S) →
+    ways.goes (tree_of old) before None (event target (In None inner)) o →
+    Wherever old place (λ p style. rise_to up p ≡ None →
+    AnswersBy ways style (tree_of old) before p up i (tree_of new) z e)
 
-abbrev pub HandsIn : {S : Type 0} → Ways S → table.Tree → S → table_place.Place → Height → Entry → Path → Entry → table.Tree → S → Result (Unit {0}) Interruption → Type 0
+abbrev pub HandsIn : {S : Type 0} → Ways S → table.Tree → S → table_place.Place → Height → Entry →
+    Path → Entry → table.Tree → S → Result (Unit {0}) Interruption → Type 0
 HandsIn ways old o place up i target inner new z result =
-    MatchResult result (λ x. WaitsOn ways old o place up i target inner new z) (λ e. Breaks e (EndsBefore ways old o place up i target inner new z))
+    MatchResult result (λ x. WaitsOn ways old o place up i target inner new z)
+    (λ e. Breaks e (EndsBefore ways old o place up i target inner new z))
 
 -- the status of an exit, where it was one
 abbrev pub ExitOf : Result Text Interruption → Option ℤ → Type 0
@@ -118,5 +156,6 @@ ExitOf ended status = status ≡ None
 
 -- what its reply is to the script
 abbrev pub IsWritten : Text → TheirReply → Result Text Interruption → Type 0
-IsWritten channel (theirs.Refused why) result = IfEnded result (λ e. e ≡ Completed (failing (channel_message (number_of why) channel)))
+IsWritten channel (theirs.Refused why) result = IfEnded result
+    (λ e. e ≡ Completed (failing (channel_message (number_of why) channel)))
 IsWritten channel reply result = IfEnded result (λ e. e ≡ Completed (ok []))

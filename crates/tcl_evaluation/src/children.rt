@@ -40,7 +40,9 @@ pub fn child<O: Outside>(
     args: &[Value],
 ) -> Result<Value, Interruption>
     requires { IsRunning tree.old place }
-    ensures runs { ProceedsIn (ways O.goes O.loses) tree.old outside.old place (λ style. interpreters.child style (table.child_name (command_name word.now)) args.now) tree.new outside.new result }
+    ensures runs { ProceedsIn (ways O.goes O.loses) tree.old outside.old place
+        (λ style. interpreters.child style (table.child_name (command_name word.now)) args.now)
+        tree.new outside.new result }
     ensures steady { IsSteady tree.old tree.new }
     ensures left { O.entries_left outside.new ≤ O.entries_left outside.old }
 {
@@ -78,7 +80,8 @@ fn call_subcommand<O: Outside>(
     args: &[Value],
 ) -> Result<Value, Interruption>
     requires { IsRunning tree.old place }
-    ensures runs { ProceedsIn (ways O.goes O.loses) tree.old outside.old place (λ style. child_program_of style name.now subcommand args.now) tree.new outside.new result }
+    ensures runs { ProceedsIn (ways O.goes O.loses) tree.old outside.old place
+        (λ style. child_program_of style name.now subcommand args.now) tree.new outside.new result }
     ensures steady { IsSteady tree.old tree.new }
     ensures left { O.entries_left outside.new ≤ O.entries_left outside.old }
 {
@@ -106,7 +109,8 @@ fn child_eval<O: Outside>(
     args: &[Value],
 ) -> Result<Value, Interruption>
     requires { IsRunning tree.old place }
-    ensures runs { ProceedsIn (ways O.goes O.loses) tree.old outside.old place (λ style. interpreters.child_eval name.now args.now) tree.new outside.new result }
+    ensures runs { ProceedsIn (ways O.goes O.loses) tree.old outside.old place
+        (λ style. interpreters.child_eval name.now args.now) tree.new outside.new result }
     ensures steady { IsSteady tree.old tree.new }
     ensures left { O.entries_left outside.new ≤ O.entries_left outside.old }
 {
@@ -124,7 +128,8 @@ fn child_eval<O: Outside>(
     )
 }
 
-/// `NAME invokehidden ?-global? hiddenName ?arg ...?`: calls a hidden command of the child of this name. (interp(n))
+/// `NAME invokehidden ?-global? hiddenName ?arg ...?`: calls a hidden command of the child of this
+/// name. (interp(n))
 ///
 /// # Errors
 /// 241; 221; 304; those of the call; want of memory.
@@ -139,7 +144,8 @@ fn child_invoke_hidden<O: Outside>(
     args: &[Value],
 ) -> Result<Value, Interruption>
     requires { IsRunning tree.old place }
-    ensures runs { ProceedsIn (ways O.goes O.loses) tree.old outside.old place (λ style. interpreters.child_invoke_hidden name.now args.now) tree.new outside.new result }
+    ensures runs { ProceedsIn (ways O.goes O.loses) tree.old outside.old place
+        (λ style. interpreters.child_invoke_hidden name.now args.now) tree.new outside.new result }
     ensures steady { IsSteady tree.old tree.new }
     ensures left { O.entries_left outside.new ≤ O.entries_left outside.old }
 {

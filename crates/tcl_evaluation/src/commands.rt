@@ -41,7 +41,8 @@ pub fn call<O: Outside>(
     words: &[Value],
 ) -> Result<Value, Interruption>
     requires { IsRunning tree.old place }
-    ensures runs { ProceedsIn (ways O.goes O.loses) tree.old outside.old place (λ style. called style words.now) tree.new outside.new result }
+    ensures runs { ProceedsIn (ways O.goes O.loses) tree.old outside.old place
+        (λ style. called style words.now) tree.new outside.new result }
     ensures steady { IsSteady tree.old tree.new }
     ensures left { O.entries_left outside.new ≤ O.entries_left outside.old }
 {
@@ -65,7 +66,8 @@ pub fn call_hidden<O: Outside>(
     words: &[Value],
 ) -> Result<Value, Interruption>
     requires { IsRunning tree.old place }
-    ensures runs { ProceedsIn (ways O.goes O.loses) tree.old outside.old place (λ style. invoked style words.now) tree.new outside.new result }
+    ensures runs { ProceedsIn (ways O.goes O.loses) tree.old outside.old place
+        (λ style. invoked style words.now) tree.new outside.new result }
     ensures steady { IsSteady tree.old tree.new }
     ensures left { O.entries_left outside.new ≤ O.entries_left outside.old }
 {
@@ -89,7 +91,9 @@ fn call_command<O: Outside>(
     args: &[Value],
 ) -> Result<Value, Interruption>
     requires { IsRunning tree.old place }
-    ensures runs { ProceedsIn (ways O.goes O.loses) tree.old outside.old place (λ style. dispatch style word.now args.now faults.invalid_command (Some command.now)) tree.new outside.new result }
+    ensures runs { ProceedsIn (ways O.goes O.loses) tree.old outside.old place
+        (λ style. dispatch style word.now args.now faults.invalid_command (Some command.now))
+        tree.new outside.new result }
     ensures steady { IsSteady tree.old tree.new }
     ensures left { O.entries_left outside.new ≤ O.entries_left outside.old }
 {
@@ -118,7 +122,8 @@ fn call_builtin<O: Outside>(
     args: &[Value],
 ) -> Result<Value, Interruption>
     requires { IsRunning tree.old place }
-    ensures runs { ProceedsIn (ways O.goes O.loses) tree.old outside.old place (λ style. builtin_program style builtin word.now args.now) tree.new outside.new result }
+    ensures runs { ProceedsIn (ways O.goes O.loses) tree.old outside.old place
+        (λ style. builtin_program style builtin word.now args.now) tree.new outside.new result }
     ensures steady { IsSteady tree.old tree.new }
     ensures left { O.entries_left outside.new ≤ O.entries_left outside.old }
 {
@@ -138,10 +143,12 @@ fn call_builtin<O: Outside>(
     }
 }
 
-/// Calls a procedure: its parameters are bound in a frame of their own, and its body, as it was when it was called, runs there.
+/// Calls a procedure: its parameters are bound in a frame of their own, and its body, as it was
+/// when it was called, runs there.
 ///
 /// # Errors
-/// 241 of its own form; 122 of a list of arguments; those of the body, as they leave a procedure; want of memory.
+/// 241 of its own form; 122 of a list of arguments; those of the body, as they leave a procedure;
+/// want of memory.
 #[cycle(eval)]
 #[inline(never)]
 fn call_procedure<O: Outside>(
@@ -154,7 +161,8 @@ fn call_procedure<O: Outside>(
     args: &[Value],
 ) -> Result<Value, Interruption>
     requires { IsRunning tree.old place }
-    ensures runs { ProceedsIn (ways O.goes O.loses) tree.old outside.old place (λ style. procedure_program procedure.now word.now args.now) tree.new outside.new result }
+    ensures runs { ProceedsIn (ways O.goes O.loses) tree.old outside.old place
+        (λ style. procedure_program procedure.now word.now args.now) tree.new outside.new result }
     ensures steady { IsSteady tree.old tree.new }
     ensures left { O.entries_left outside.new ≤ O.entries_left outside.old }
 {

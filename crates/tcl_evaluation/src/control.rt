@@ -27,7 +27,8 @@ pub fn eval<O: Outside>(
     args: &[Value],
 ) -> Result<Value, Interruption>
     requires { IsRunning tree.old place }
-    ensures runs { ProceedsIn (ways O.goes O.loses) tree.old outside.old place (λ style. control.eval args.now) tree.new outside.new result }
+    ensures runs { ProceedsIn (ways O.goes O.loses) tree.old outside.old place
+        (λ style. control.eval args.now) tree.new outside.new result }
     ensures steady { IsSteady tree.old tree.new }
     ensures left { O.entries_left outside.new ≤ O.entries_left outside.old }
 {
@@ -38,10 +39,12 @@ pub fn eval<O: Outside>(
     eval_value(tree, alloc, outside, place, &mut script)
 }
 
-/// `catch script ?resultVarName? ?optionVarName?`: evaluates a script and gives the code of its completion, whatever that is. (catch(n))
+/// `catch script ?resultVarName? ?optionVarName?`: evaluates a script and gives the code of its
+/// completion, whatever that is. (catch(n))
 ///
 /// # Errors
-/// 241; 232, 233 and 238 of the variables; 122 of the options; what no script catches: a stop, an exit, an end from outside; want of memory.
+/// 241; 232, 233 and 238 of the variables; 122 of the options; what no script catches: a stop, an
+/// exit, an end from outside; want of memory.
 #[cycle(eval)]
 #[inline(never)]
 pub fn catch<O: Outside>(
@@ -52,7 +55,8 @@ pub fn catch<O: Outside>(
     args: &[Value],
 ) -> Result<Value, Interruption>
     requires { IsRunning tree.old place }
-    ensures runs { ProceedsIn (ways O.goes O.loses) tree.old outside.old place (λ style. control.catch args.now) tree.new outside.new result }
+    ensures runs { ProceedsIn (ways O.goes O.loses) tree.old outside.old place
+        (λ style. control.catch args.now) tree.new outside.new result }
     ensures steady { IsSteady tree.old tree.new }
     ensures left { O.entries_left outside.new ≤ O.entries_left outside.old }
 {

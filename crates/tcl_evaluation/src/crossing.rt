@@ -20,7 +20,7 @@ use crate::commands::{call, call_hidden};
 use crate::evaluation::eval_value;
 use crate::waiting::{Said, wait};
 use std::alloc::Global;
-use tcl_calls::carrying::{come_back, settled, some_words, target_words};
+use tcl_calls::carrying::{return_to_caller, settled, some_words, target_words};
 use tcl_calls::levels::{bring_back, set_aside};
 use tcl_entries::serving::serve;
 use tcl_run::entry::Entry;
@@ -34,7 +34,8 @@ use tcl_tree::tree::places::Reach;
 use tcl_tree::tree::{Place, Tree};
 use tcl_value::value::Value;
 
-/// Calls the command that an alias leads to, with the alias' own words first. Its code passes unchanged.
+/// Calls the command that an alias leads to, with the alias' own words first. Its code passes
+/// unchanged.
 #[cycle(eval)]
 #[inline(never)]
 pub fn call_alias<O: Outside>(
@@ -47,7 +48,8 @@ pub fn call_alias<O: Outside>(
     args: &[Value],
 ) -> Result<Value, Interruption>
     requires { IsRunning tree.old place }
-    ensures runs { ProceedsIn (ways O.goes O.loses) tree.old outside.old place (λ style. alias_program alias.now word.now args.now) tree.new outside.new result }
+    ensures runs { ProceedsIn (ways O.goes O.loses) tree.old outside.old place
+        (λ style. alias_program alias.now word.now args.now) tree.new outside.new result }
     ensures steady { IsSteady tree.old tree.new }
     ensures left { O.entries_left outside.new ≤ O.entries_left outside.old }
 {
@@ -75,7 +77,8 @@ fn miss_alias<O: Outside>(
     word: &Value,
 ) -> Result<Value, Interruption>
     ensures told { IfEnded result (λ r. r ≡ Completed (failing (faults.lost_alias word.now))) }
-    ensures misses { FindsNobody O.goes tree.now outside.old place up down.now (whole_entry entry) outside.new result }
+    ensures misses { FindsNobody O.goes tree.now outside.old place up down.now (whole_entry entry) outside.new
+        result }
     ensures lost { IsLoss O.loses outside.old outside.new }
     ensures left { O.entries_left outside.new ≤ O.entries_left outside.old }
 {
@@ -83,7 +86,8 @@ fn miss_alias<O: Outside>(
     find_nobody(tree, alloc, outside, place, up, down, entry, lost)
 }
 
-/// Tells the outside of a call that finds nobody, so many levels up and these names down from the caller, and ends it so.
+/// Tells the outside of a call that finds nobody, so many levels up and these names down from the
+/// caller, and ends it so.
 #[inline(never)]
 #[tactic(auto, using(tcl_run::proofs::Losing::losing))]
 fn find_nobody<O: Outside>(
@@ -97,7 +101,8 @@ fn find_nobody<O: Outside>(
     lost: Interruption,
 ) -> Result<Value, Interruption>
     ensures told { IfEnded result (EndedBy (Err lost)) }
-    ensures misses { FindsNobody O.goes tree.now outside.old caller up down.now (whole_entry entry) outside.new result }
+    ensures misses { FindsNobody O.goes tree.now outside.old caller up down.now (whole_entry entry) outside.new
+        result }
     ensures lost { IsLoss O.loses outside.old outside.new }
     ensures left { O.entries_left outside.new ≤ O.entries_left outside.old }
 {
@@ -106,7 +111,8 @@ fn find_nobody<O: Outside>(
     told
 }
 
-/// Calls the interpreter so many levels up and these names down from the caller, which is the target. The outside is told of it.
+/// Calls the interpreter so many levels up and these names down from the caller, which is the
+/// target. The outside is told of it.
 #[cycle(eval)]
 #[inline(never)]
 fn call_there<O: Outside>(
@@ -120,14 +126,16 @@ fn call_there<O: Outside>(
     entry: Entry,
 ) -> Result<Value, Interruption>
     requires running { IsRunning tree.old caller }
-    requires leads { (p : Path) → Names tree.old caller p → Leads tree.old p up down.now (There target) }
-    ensures runs { CallsThere (ways O.goes O.loses) tree.old outside.old caller up down.now (whole_entry entry) tree.new outside.new result }
+    requires leads { (p : Path) → Names tree.old caller p →
+        Leads tree.old p up down.now (There target) }
+    ensures runs { CallsThere (ways O.goes O.loses) tree.old outside.old caller up down.now (whole_entry entry)
+        tree.new outside.new result }
     ensures steady { IsSteady tree.old tree.new }
     ensures left { O.entries_left outside.new ≤ O.entries_left outside.old }
 {
     outside.enters(alloc, tree, caller, up, down, &entry)?;
     let ended = serve_entry(tree, alloc, outside, target, entry);
-    come_back(tree, alloc, outside, caller, up, down, ended)
+    return_to_caller(tree, alloc, outside, caller, up, down, ended)
 }
 
 /// Calls an interpreter above the tree, or below one that is, and waits for its answer.
@@ -144,7 +152,8 @@ fn call_past_top<O: Outside>(
 ) -> Result<Value, Interruption>
     requires running { IsRunning tree.old caller }
     requires above { (p : Path) → Names tree.old caller p → rise_to (Some up) p ≡ None }
-    ensures runs { CallsOut (ways O.goes O.loses) tree.old outside.old caller (Some up) down.now (whole_entry entry) tree.new outside.new result }
+    ensures runs { CallsOut (ways O.goes O.loses) tree.old outside.old caller (Some up) down.now
+        (whole_entry entry) tree.new outside.new result }
     ensures steady { IsSteady tree.old tree.new }
     ensures left { O.entries_left outside.new ≤ O.entries_left outside.old }
 {
@@ -155,7 +164,8 @@ fn call_past_top<O: Outside>(
     }
 }
 
-/// Does what the interpreter that the place names is asked for, by another one or from outside of the tree.
+/// Does what the interpreter that the place names is asked for, by another one or from outside of
+/// the tree.
 ///
 /// # Errors
 /// Those of each entry; want of memory.
@@ -169,7 +179,8 @@ pub fn serve_entry<O: Outside>(
     entry: Entry,
 ) -> Result<Value, Interruption>
     requires { (p : Path) × Names tree.old place p }
-    ensures runs { ProceedsAt (ways O.goes O.loses) tree.old outside.old place (λ style. table.serve style (whole_entry entry)) tree.new outside.new result }
+    ensures runs { ProceedsAt (ways O.goes O.loses) tree.old outside.old place
+        (λ style. table.serve style (whole_entry entry)) tree.new outside.new result }
     ensures steady { IsSteady tree.old tree.new }
     ensures left { O.entries_left outside.new ≤ O.entries_left outside.old }
 {
@@ -195,7 +206,8 @@ pub fn serve_call<O: Outside>(
     words: Vec<Value>,
 ) -> Result<Value, Interruption>
     requires { (p : Path) × Names tree.old place p }
-    ensures runs { ProceedsAt (ways O.goes O.loses) tree.old outside.old place (λ style. table.serve style (CallWords words.items)) tree.new outside.new result }
+    ensures runs { ProceedsAt (ways O.goes O.loses) tree.old outside.old place
+        (λ style. table.serve style (CallWords words.items)) tree.new outside.new result }
     ensures steady { IsSteady tree.old tree.new }
     ensures left { O.entries_left outside.new ≤ O.entries_left outside.old }
 {
@@ -215,7 +227,8 @@ fn call_target<O: Outside>(
     words: &[Value],
 ) -> Result<Value, Interruption>
     requires { (p : Path) × Names tree.old place p }
-    ensures runs { ProceedsAt (ways O.goes O.loses) tree.old outside.old place (λ style. targeted words.now) tree.new outside.new result }
+    ensures runs { ProceedsAt (ways O.goes O.loses) tree.old outside.old place
+        (λ style. targeted words.now) tree.new outside.new result }
     ensures steady { IsSteady tree.old tree.new }
     ensures left { O.entries_left outside.new ≤ O.entries_left outside.old }
 {
@@ -239,7 +252,8 @@ pub fn serve_eval<O: Outside>(
     script: &mut Value,
 ) -> Result<Value, Interruption>
     requires { (p : Path) × Names tree.old place p }
-    ensures runs { ProceedsAt (ways O.goes O.loses) tree.old outside.old place (λ style. table.serve style (Eval script.old)) tree.new outside.new result }
+    ensures runs { ProceedsAt (ways O.goes O.loses) tree.old outside.old place
+        (λ style. table.serve style (Eval script.old)) tree.new outside.new result }
     ensures steady { IsSteady tree.old tree.new }
     ensures left { O.entries_left outside.new ≤ O.entries_left outside.old }
 {
@@ -247,8 +261,8 @@ pub fn serve_eval<O: Outside>(
     settled(alloc, ended)
 }
 
-/// Calls a hidden command for a caller elsewhere: it is counted here, and runs one level deeper, at level 0 where that is asked for. Only an ordinary
-/// result and an error pass.
+/// Calls a hidden command for a caller elsewhere: it is counted here, and runs one level deeper, at
+/// level 0 where that is asked for. Only an ordinary result and an error pass.
 #[cycle(eval)]
 #[inline(never)]
 pub fn serve_hidden<O: Outside>(
@@ -260,7 +274,9 @@ pub fn serve_hidden<O: Outside>(
     words: Vec<Value>,
 ) -> Result<Value, Interruption>
     requires { (p : Path) × Names tree.old place p }
-    ensures runs { ProceedsAt (ways O.goes O.loses) tree.old outside.old place (λ style. table.serve style (InvokeHidden is_global words.items)) tree.new outside.new result }
+    ensures runs { ProceedsAt (ways O.goes O.loses) tree.old outside.old place
+        (λ style. table.serve style (InvokeHidden is_global words.items)) tree.new outside.new
+        result }
     ensures steady { IsSteady tree.old tree.new }
     ensures left { O.entries_left outside.new ≤ O.entries_left outside.old }
 {
@@ -282,7 +298,8 @@ fn invoke_at<O: Outside>(
     words: &[Value],
 ) -> Result<Value, Interruption>
     requires { (p : Path) × Names tree.old place p }
-    ensures runs { Invokes (ways O.goes O.loses) tree.old outside.old place is_global words.now tree.new outside.new result }
+    ensures runs { Invokes (ways O.goes O.loses) tree.old outside.old place is_global words.now tree.new
+        outside.new result }
     ensures steady { IsSteady tree.old tree.new }
     ensures left { O.entries_left outside.new ≤ O.entries_left outside.old }
 {
@@ -306,7 +323,8 @@ fn invoke<O: Outside>(
     words: &[Value],
 ) -> Result<Value, Interruption>
     requires { (p : Path) × Names tree.old place p }
-    ensures runs { ProceedsAt (ways O.goes O.loses) tree.old outside.old place (λ style. unhidden words.now) tree.new outside.new result }
+    ensures runs { ProceedsAt (ways O.goes O.loses) tree.old outside.old place
+        (λ style. unhidden words.now) tree.new outside.new result }
     ensures there { (p : Path) → Names tree.old place p → Names tree.new place p }
     ensures steady { IsSteady tree.old tree.new }
     ensures left { O.entries_left outside.new ≤ O.entries_left outside.old }
@@ -332,7 +350,8 @@ pub fn ask_entry<O: Outside>(
     entry: Entry,
 ) -> Result<Value, Interruption>
     requires { IsRunning tree.old place }
-    ensures asks { Asks (ways O.goes O.loses) tree.old outside.old place path.now (whole_entry entry) tree.new outside.new result }
+    ensures asks { Asks (ways O.goes O.loses) tree.old outside.old place path.now (whole_entry entry) tree.new
+        outside.new result }
     ensures steady { IsSteady tree.old tree.new }
     ensures left { O.entries_left outside.new ≤ O.entries_left outside.old }
 {
@@ -354,7 +373,8 @@ fn ask_below<O: Outside>(
     entry: Entry,
 ) -> Result<Value, Interruption>
     requires { IsRunning tree.old place }
-    ensures asks { AsksBelow (ways O.goes O.loses) tree.old outside.old place path.now (whole_entry entry) tree.new outside.new result }
+    ensures asks { AsksBelow (ways O.goes O.loses) tree.old outside.old place path.now (whole_entry entry)
+        tree.new outside.new result }
     ensures steady { IsSteady tree.old tree.new }
     ensures left { O.entries_left outside.new ≤ O.entries_left outside.old }
 {

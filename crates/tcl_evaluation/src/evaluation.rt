@@ -1,5 +1,6 @@
 //! The evaluation of scripts, command by command and word by word.
-ghost use Rattle.std.specs.Prelude.{◌≡◌, ◌≤◌, ◌++◌, ◌∷◌, [], length, Some, OnOk, IfErr, MatchResult};
+ghost use Rattle.std.specs.Prelude.{◌≡◌, ◌≤◌, ◌++◌, ◌∷◌, [], length, Some, OnOk, IfErr};
+ghost use Rattle.std.specs.Prelude.{MatchResult};
 ghost use Rattle.std.specs.String.{string_bytes};
 ghost use Rattle.tcl_core.specs.Paths.{Path};
 ghost use Rattle.tcl_language.specs.Scripts as scripts;
@@ -28,8 +29,9 @@ use tcl_value::value::Value;
 /// Evaluates a script that was read, one level deeper.
 ///
 /// # Errors
-/// 308, as an error of the interpreter whose depth limit refuses, and as a stop of one above it; the first end of a command that is no ordinary result; 201 to 206 behind the commands; want
-/// of memory.
+/// 308, as an error of the interpreter whose depth limit refuses, and as a stop of one above it;
+/// the first end of a command that is no ordinary result; 201 to 206 behind the commands; want of
+/// memory.
 #[cycle(eval)]
 pub fn eval_script<O: Outside>(
     tree: &mut Tree,
@@ -39,7 +41,8 @@ pub fn eval_script<O: Outside>(
     script: &Script,
 ) -> Result<Value, Interruption>
     requires { (p : Path) × Names tree.old place p }
-    ensures runs { ProceedsAt (ways O.goes O.loses) tree.old outside.old place (λ style. read_so script.now) tree.new outside.new result }
+    ensures runs { ProceedsAt (ways O.goes O.loses) tree.old outside.old place
+        (λ style. read_so script.now) tree.new outside.new result }
     ensures steady { IsSteady tree.old tree.new }
     ensures left { O.entries_left outside.new ≤ O.entries_left outside.old }
 {
@@ -52,7 +55,8 @@ pub fn eval_script<O: Outside>(
     ended
 }
 
-/// Evaluates the script of this text, one level deeper. A text that was read before isn't read again.
+/// Evaluates the script of this text, one level deeper. A text that was read before isn't read
+/// again.
 ///
 /// # Errors
 /// Those of a script.
@@ -65,7 +69,8 @@ pub fn eval_text<O: Outside>(
     text: &Text,
 ) -> Result<Value, Interruption>
     requires { (p : Path) × Names tree.old place p }
-    ensures runs { ProceedsAt (ways O.goes O.loses) tree.old outside.old place (λ style. scripts.script text.now) tree.new outside.new result }
+    ensures runs { ProceedsAt (ways O.goes O.loses) tree.old outside.old place
+        (λ style. scripts.script text.now) tree.new outside.new result }
     ensures steady { IsSteady tree.old tree.new }
     ensures left { O.entries_left outside.new ≤ O.entries_left outside.old }
 {
@@ -73,7 +78,8 @@ pub fn eval_text<O: Outside>(
     eval_script(tree, alloc, outside, place, &script)
 }
 
-/// Evaluates the script that a value is, one level deeper. A script that was read before isn't read again.
+/// Evaluates the script that a value is, one level deeper. A script that was read before isn't read
+/// again.
 ///
 /// # Errors
 /// Those of a script.
@@ -86,7 +92,8 @@ pub fn eval_value<O: Outside>(
     value: &mut Value,
 ) -> Result<Value, Interruption>
     requires { (p : Path) × Names tree.old place p }
-    ensures runs { ProceedsAt (ways O.goes O.loses) tree.old outside.old place (λ style. scripts.script value.old) tree.new outside.new result }
+    ensures runs { ProceedsAt (ways O.goes O.loses) tree.old outside.old place
+        (λ style. scripts.script value.old) tree.new outside.new result }
     ensures same { value.new ≡ value.old }
     ensures steady { IsSteady tree.old tree.new }
     ensures left { O.entries_left outside.new ≤ O.entries_left outside.old }
@@ -95,7 +102,8 @@ pub fn eval_value<O: Outside>(
     eval_script(tree, alloc, outside, place, &script)
 }
 
-/// Evaluates a script's commands one after another, up to the first without an ordinary result, and then its fault.
+/// Evaluates a script's commands one after another, up to the first without an ordinary result, and
+/// then its fault.
 #[cycle(eval)]
 #[inline(never)]
 fn eval_commands<O: Outside>(
@@ -106,7 +114,9 @@ fn eval_commands<O: Outside>(
     script: &Script,
 ) -> Result<Value, Interruption>
     requires running { IsRunning tree.old place }
-    ensures runs { ProceedsIn (ways O.goes O.loses) tree.old outside.old place (λ style. scripts.commands script.now.commands script.now.fault []) tree.new outside.new result }
+    ensures runs { ProceedsIn (ways O.goes O.loses) tree.old outside.old place
+        (λ style. scripts.commands script.now.commands script.now.fault []) tree.new outside.new
+        result }
     ensures steady { IsSteady tree.old tree.new }
     ensures left { O.entries_left outside.new ≤ O.entries_left outside.old }
 {
@@ -120,7 +130,8 @@ fn eval_commands<O: Outside>(
 /// Substitutes a command's words from left to right, makes a step and calls it.
 ///
 /// # Errors
-/// Those of the words; 101 to 104 of a word that is spread; the stop 308; those of the call; want of memory.
+/// Those of the words; 101 to 104 of a word that is spread; the stop 308; those of the call; want
+/// of memory.
 #[cycle(eval)]
 #[inline(never)]
 fn eval_command<O: Outside>(
@@ -131,7 +142,8 @@ fn eval_command<O: Outside>(
     command: &Command,
 ) -> Result<Value, Interruption>
     requires running { IsRunning tree.old place }
-    ensures runs { ProceedsIn (ways O.goes O.loses) tree.old outside.old place (λ style. scripts.words command.now []) tree.new outside.new result }
+    ensures runs { ProceedsIn (ways O.goes O.loses) tree.old outside.old place
+        (λ style. scripts.words command.now []) tree.new outside.new result }
     ensures steady { IsSteady tree.old tree.new }
     ensures left { O.entries_left outside.new ≤ O.entries_left outside.old }
 {
@@ -161,7 +173,8 @@ pub(crate) fn eval_word<O: Outside>(
     word: &Word,
 ) -> Result<Value, Interruption>
     requires running { IsRunning tree.old place }
-    ensures runs { ProceedsIn (ways O.goes O.loses) tree.old outside.old place (λ style. scripts.parts word.now.parts [] []) tree.new outside.new result }
+    ensures runs { ProceedsIn (ways O.goes O.loses) tree.old outside.old place
+        (λ style. scripts.parts word.now.parts [] []) tree.new outside.new result }
     ensures steady { IsSteady tree.old tree.new }
     ensures left { O.entries_left outside.new ≤ O.entries_left outside.old }
 {
@@ -182,7 +195,8 @@ fn eval_lone_part<O: Outside>(
     part: &Part,
 ) -> Result<Value, Interruption>
     requires running { IsRunning tree.old place }
-    ensures runs { ProceedsIn (ways O.goes O.loses) tree.old outside.old place (λ style. scripts.parts (part.now ∷ []) [] []) tree.new outside.new result }
+    ensures runs { ProceedsIn (ways O.goes O.loses) tree.old outside.old place
+        (λ style. scripts.parts (part.now ∷ []) [] []) tree.new outside.new result }
     ensures steady { IsSteady tree.old tree.new }
     ensures left { O.entries_left outside.new ≤ O.entries_left outside.old }
 {
@@ -209,7 +223,8 @@ fn substitute<O: Outside>(
     parts: &[Part],
 ) -> Result<Value, Interruption>
     requires running { IsRunning tree.old place }
-    ensures runs { ProceedsIn (ways O.goes O.loses) tree.old outside.old place (λ style. scripts.parts parts.now [] []) tree.new outside.new result }
+    ensures runs { ProceedsIn (ways O.goes O.loses) tree.old outside.old place
+        (λ style. scripts.parts parts.now [] []) tree.new outside.new result }
     ensures steady { IsSteady tree.old tree.new }
     ensures left { O.entries_left outside.new ≤ O.entries_left outside.old }
 {
@@ -236,8 +251,11 @@ fn eval_part<O: Outside>(
     requires running { IsRunning tree.old place }
     requires short { IsShort (string_bytes text.old) }
     ensures runs { MatchResult result
-        (λ _. PartGoes (ways O.goes O.loses) tree.old outside.old place part.now (opens elements.old.items) (string_bytes text.old) tree.new outside.new (opens elements.new.items) (string_bytes text.new))
-        (λ i. Breaks i (PartBreaks (ways O.goes O.loses) tree.old outside.old place part.now (opens elements.old.items) (string_bytes text.old) tree.new outside.new)) }
+        (λ _. PartGoes (ways O.goes O.loses) tree.old outside.old place part.now
+        (opens elements.old.items) (string_bytes text.old) tree.new outside.new
+        (opens elements.new.items) (string_bytes text.new))
+        (λ i. Breaks i (PartBreaks (ways O.goes O.loses) tree.old outside.old place part.now
+        (opens elements.old.items) (string_bytes text.old) tree.new outside.new)) }
     ensures short { OnOk result (IsShort (string_bytes text.new)) }
     ensures steady { IsSteady tree.old tree.new }
     ensures left { O.entries_left outside.new ≤ O.entries_left outside.old }

@@ -3,7 +3,8 @@ ghost use Rattle.std.specs.Prelude.{◌≡◌, ◌≤◌, MatchResult};
 ghost use Rattle.tcl_language.specs.Expressions as expressions;
 ghost use Rattle.tcl_run.specs.Ends.{Breaks};
 ghost use Rattle.tcl_run.specs.Runs.{IsRunning, IsSteady, ProceedsIn, ways};
-ghost use Rattle.tcl_evaluation.specs.Conditional.{Computes, TestGoes, TestBreaks, TurnGoes, TurnBreaks};
+ghost use Rattle.tcl_evaluation.specs.Conditional.{Computes, TestGoes, TestBreaks, TurnGoes};
+ghost use Rattle.tcl_evaluation.specs.Conditional.{TurnBreaks};
 
 use crate::evaluation::{eval_value, eval_word};
 use std::alloc::Global;
@@ -20,7 +21,8 @@ use tcl_run::steps::{charge, on_ok};
 use tcl_tree::tree::{Place, Tree};
 use tcl_value::value::Value;
 
-/// The value of an expression that was read. Its parts are substituted as they are needed, from left to right.
+/// The value of an expression that was read. Its parts are substituted as they are needed, from
+/// left to right.
 ///
 /// # Errors
 /// 111 to 113 and 212 to 216 of the operands; those of what is substituted; want of memory.
@@ -35,7 +37,8 @@ fn expression<O: Outside>(
     kept: &ExprTree,
 ) -> Result<Value, Interruption>
     requires { IsRunning tree.old place }
-    ensures runs { Computes (ways O.goes O.loses) tree.old outside.old place kept.now tree.new outside.new result }
+    ensures runs { Computes (ways O.goes O.loses) tree.old outside.old place kept.now tree.new outside.new
+        result }
     ensures steady { IsSteady tree.old tree.new }
     ensures left { O.entries_left outside.new ≤ O.entries_left outside.old }
 {
@@ -65,8 +68,10 @@ fn condition<O: Outside>(
 ) -> Result<bool, Interruption>
     requires { IsRunning tree.old place }
     ensures runs { MatchResult result
-        (λ holds. TestGoes (ways O.goes O.loses) tree.old outside.old place test.now tree.new outside.new holds)
-        (λ i. Breaks i (TestBreaks (ways O.goes O.loses) tree.old outside.old place test.now tree.new outside.new)) }
+        (λ holds. TestGoes (ways O.goes O.loses) tree.old outside.old place test.now tree.new
+        outside.new holds)
+        (λ i. Breaks i (TestBreaks (ways O.goes O.loses) tree.old outside.old place test.now
+        tree.new outside.new)) }
     ensures steady { IsSteady tree.old tree.new }
     ensures left { O.entries_left outside.new ≤ O.entries_left outside.old }
 {
@@ -78,7 +83,8 @@ fn condition<O: Outside>(
 /// `expr arg ?arg ...?`: the value of the expression that the words are put together to. (expr(n))
 ///
 /// # Errors
-/// 241; 122; 211 and 217 of the text; 111 to 113 and 212 to 216 of the operands; those of what is substituted; want of memory.
+/// 241; 122; 211 and 217 of the text; 111 to 113 and 212 to 216 of the operands; those of what is
+/// substituted; want of memory.
 #[cycle(eval)]
 #[inline(never)]
 pub fn expr<O: Outside>(
@@ -89,7 +95,8 @@ pub fn expr<O: Outside>(
     args: &[Value],
 ) -> Result<Value, Interruption>
     requires { IsRunning tree.old place }
-    ensures runs { ProceedsIn (ways O.goes O.loses) tree.old outside.old place (λ style. expressions.expr args.now) tree.new outside.new result }
+    ensures runs { ProceedsIn (ways O.goes O.loses) tree.old outside.old place
+        (λ style. expressions.expr args.now) tree.new outside.new result }
     ensures steady { IsSteady tree.old tree.new }
     ensures left { O.entries_left outside.new ≤ O.entries_left outside.old }
 {
@@ -102,7 +109,8 @@ pub fn expr<O: Outside>(
     expression(tree, alloc, outside, place, &mut evaluation, &kept)
 }
 
-/// `if expr1 ?then? body1 ?elseif expr2 ?then? body2 ...? ?else? ?bodyN?`: evaluates the first body whose condition holds. (if(n))
+/// `if expr1 ?then? body1 ?elseif expr2 ?then? body2 ...? ?else? ?bodyN?`: evaluates the first body
+/// whose condition holds. (if(n))
 ///
 /// # Errors
 /// 241; those of the conditions, as of `expr`; those of the body; want of memory.
@@ -116,7 +124,8 @@ pub fn if_first<O: Outside>(
     args: &[Value],
 ) -> Result<Value, Interruption>
     requires { IsRunning tree.old place }
-    ensures runs { ProceedsIn (ways O.goes O.loses) tree.old outside.old place (λ style. expressions.if_first style args.now) tree.new outside.new result }
+    ensures runs { ProceedsIn (ways O.goes O.loses) tree.old outside.old place
+        (λ style. expressions.if_first style args.now) tree.new outside.new result }
     ensures steady { IsSteady tree.old tree.new }
     ensures left { O.entries_left outside.new ≤ O.entries_left outside.old }
 {
@@ -139,7 +148,8 @@ pub fn if_first<O: Outside>(
     eval_value(tree, alloc, outside, place, &mut body)
 }
 
-/// A turn of a loop with a condition: whether the loop goes on. Where the condition holds, the turn is counted and the body runs.
+/// A turn of a loop with a condition: whether the loop goes on. Where the condition holds, the turn
+/// is counted and the body runs.
 #[cycle(eval)]
 #[inline(never)]
 fn turn<O: Outside>(
@@ -153,8 +163,10 @@ fn turn<O: Outside>(
 ) -> Result<bool, Interruption>
     requires { IsRunning tree.old place }
     ensures runs { MatchResult result
-        (λ on. TurnGoes (ways O.goes O.loses) tree.old outside.old place test.now body.old tree.new outside.new on)
-        (λ i. Breaks i (TurnBreaks (ways O.goes O.loses) tree.old outside.old place test.now body.old tree.new outside.new)) }
+        (λ on. TurnGoes (ways O.goes O.loses) tree.old outside.old place test.now body.old tree.new
+        outside.new on)
+        (λ i. Breaks i (TurnBreaks (ways O.goes O.loses) tree.old outside.old place test.now
+        body.old tree.new outside.new)) }
     ensures same { body.new ≡ body.old }
     ensures steady { IsSteady tree.old tree.new }
     ensures left { O.entries_left outside.new ≤ O.entries_left outside.old }
@@ -166,10 +178,13 @@ fn turn<O: Outside>(
     goes_on(eval_value(tree, alloc, outside, place, body))
 }
 
-/// `while test command`: a counted turn as long as the condition holds, which is read once. (while(n)) A loop has fewer turns than its count of steps can be, and so never comes to the end of the numbers.
+/// `while test command`: a counted turn as long as the condition holds, which is read once.
+/// (while(n)) A loop has fewer turns than its count of steps can be, and so never comes to the end
+/// of the numbers.
 ///
 /// # Errors
-/// 241; those of the condition, as of `expr`; the stop 308; those of the body but for `break` and `continue`; want of memory.
+/// 241; those of the condition, as of `expr`; the stop 308; those of the body but for `break` and
+/// `continue`; want of memory.
 #[cycle(eval)]
 #[inline(never)]
 pub fn while_loop<O: Outside>(
@@ -180,7 +195,8 @@ pub fn while_loop<O: Outside>(
     args: &[Value],
 ) -> Result<Value, Interruption>
     requires { IsRunning tree.old place }
-    ensures runs { ProceedsIn (ways O.goes O.loses) tree.old outside.old place (λ style. expressions.while_loop args.now) tree.new outside.new result }
+    ensures runs { ProceedsIn (ways O.goes O.loses) tree.old outside.old place
+        (λ style. expressions.while_loop args.now) tree.new outside.new result }
     ensures steady { IsSteady tree.old tree.new }
     ensures left { O.entries_left outside.new ≤ O.entries_left outside.old }
 {
@@ -206,11 +222,13 @@ pub fn while_loop<O: Outside>(
     Err(Interruption::Memory)
 }
 
-/// `for start test next command`: a counted turn as long as the condition holds, which is read once, behind the first script. (for(n))
+/// `for start test next command`: a counted turn as long as the condition holds, which is read
+/// once, behind the first script. (for(n))
 ///
 /// # Errors
-/// 241; those of the first script; those of the condition, as of `expr`; the stop 308; those of the body but for `break` and `continue`, and of the script between two turns but for
-/// `break`; want of memory.
+/// 241; those of the first script; those of the condition, as of `expr`; the stop 308; those of the
+/// body but for `break` and `continue`, and of the script between two turns but for `break`; want
+/// of memory.
 #[cycle(eval)]
 #[inline(never)]
 pub fn for_loop<O: Outside>(
@@ -221,7 +239,8 @@ pub fn for_loop<O: Outside>(
     args: &[Value],
 ) -> Result<Value, Interruption>
     requires { IsRunning tree.old place }
-    ensures runs { ProceedsIn (ways O.goes O.loses) tree.old outside.old place (λ style. expressions.for_loop args.now) tree.new outside.new result }
+    ensures runs { ProceedsIn (ways O.goes O.loses) tree.old outside.old place
+        (λ style. expressions.for_loop args.now) tree.new outside.new result }
     ensures steady { IsSteady tree.old tree.new }
     ensures left { O.entries_left outside.new ≤ O.entries_left outside.old }
 {

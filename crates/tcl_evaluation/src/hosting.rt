@@ -10,7 +10,7 @@ ghost use Rattle.tcl_evaluation.specs.Waiting.{IsWritten};
 
 use crate::waiting::{Said, wait};
 use std::alloc::{AllocError, Global};
-use tcl_host::reply::{HostReply, Refusal};
+use tcl_host::reply::{HostRefusal, HostReply};
 use tcl_host::request::Request;
 use tcl_run::entry::Entry;
 use tcl_run::failure::{failure, too_long, wrong_args};
@@ -21,7 +21,8 @@ use tcl_text::text::Text;
 use tcl_tree::tree::{Place, Tree};
 use tcl_value::value::{Value, ValueError};
 
-/// `puts ?-nonewline? ?channel? string`: writes a text to a channel, which is `stdout` where none is named, and a newline behind it. (puts(n))
+/// `puts ?-nonewline? ?channel? string`: writes a text to a channel, which is `stdout` where none
+/// is named, and a newline behind it. (puts(n))
 ///
 /// # Errors
 /// 241; 122 of the line; 261 and 262 of the host; want of memory.
@@ -35,7 +36,8 @@ pub fn puts<O: Outside>(
     args: &[Value],
 ) -> Result<Value, Interruption>
     requires { IsRunning tree.old place }
-    ensures runs { ProceedsIn (ways O.goes O.loses) tree.old outside.old place (λ style. hosting.puts args.now) tree.new outside.new result }
+    ensures runs { ProceedsIn (ways O.goes O.loses) tree.old outside.old place
+        (λ style. hosting.puts args.now) tree.new outside.new result }
     ensures steady { IsSteady tree.old tree.new }
     ensures left { O.entries_left outside.new ≤ O.entries_left outside.old }
 {
@@ -83,7 +85,8 @@ fn put_line<O: Outside>(
     text: &Value,
 ) -> Result<Value, Interruption>
     requires { IsRunning tree.old place }
-    ensures runs { ProceedsIn (ways O.goes O.loses) tree.old outside.old place (λ style. hosting.puts_line channel.now text.now) tree.new outside.new result }
+    ensures runs { ProceedsIn (ways O.goes O.loses) tree.old outside.old place
+        (λ style. hosting.puts_line channel.now text.now) tree.new outside.new result }
     ensures steady { IsSteady tree.old tree.new }
     ensures left { O.entries_left outside.new ≤ O.entries_left outside.old }
 {
@@ -107,7 +110,8 @@ fn write<O: Outside>(
     text: &Value,
 ) -> Result<Value, Interruption>
     requires { IsRunning tree.old place }
-    ensures runs { ProceedsIn (ways O.goes O.loses) tree.old outside.old place (λ style. hosting.writes channel.now text.now) tree.new outside.new result }
+    ensures runs { ProceedsIn (ways O.goes O.loses) tree.old outside.old place
+        (λ style. hosting.writes channel.now text.now) tree.new outside.new result }
     ensures steady { IsSteady tree.old tree.new }
     ensures left { O.entries_left outside.new ≤ O.entries_left outside.old }
 {
@@ -133,8 +137,9 @@ fn written(alloc: Global, channel: &str, reply: &HostReply) -> Result<Value, Int
 }
 
 /// The error that a refusal of the host is.
-fn channel_failure(alloc: Global, why: Refusal, channel: &str) -> Interruption
-    ensures { Interrupts result (λ e. e ≡ Completed (failing (hosting.channel_message (number_of why) channel.now))) }
+fn channel_failure(alloc: Global, why: HostRefusal, channel: &str) -> Interruption
+    ensures { Interrupts result (λ e. e
+        ≡ Completed (failing (hosting.channel_message (number_of why) channel.now))) }
 {
     match channel_message(alloc, why, channel) {
         Ok(message) => failure(alloc, message),
@@ -143,12 +148,12 @@ fn channel_failure(alloc: Global, why: Refusal, channel: &str) -> Interruption
 }
 
 /// What a refusal of the host says of a channel.
-fn channel_message(alloc: Global, why: Refusal, channel: &str) -> Result<Text, AllocError>
+fn channel_message(alloc: Global, why: HostRefusal, channel: &str) -> Result<Text, AllocError>
     ensures { IfOk result (λ text. text ≡ hosting.channel_message (number_of why) channel.now) }
 {
     let front = match why {
-        Refusal::DeviceFault => DEVICE_FAULT,
-        Refusal::NoChannel | Refusal::NotOpened => NO_CHANNEL,
+        HostRefusal::DeviceFault => DEVICE_FAULT,
+        HostRefusal::NoChannel | HostRefusal::NotOpened => NO_CHANNEL,
     };
     quoting(alloc, front, channel)
 }

@@ -19,7 +19,8 @@ use tcl_run::outside::Outside;
 use tcl_tree::tree::{Place, Tree};
 use tcl_value::value::Value;
 
-/// `interp subcommand ?arg ...?`: asks an interpreter at a path, which is a list of names downward from the one that asks. (interp(n))
+/// `interp subcommand ?arg ...?`: asks an interpreter at a path, which is a list of names downward
+/// from the one that asks. (interp(n))
 ///
 /// # Errors
 /// 241; 244; those of the subcommand; want of memory.
@@ -33,7 +34,8 @@ pub fn interp<O: Outside>(
     args: &[Value],
 ) -> Result<Value, Interruption>
     requires { IsRunning tree.old place }
-    ensures runs { ProceedsIn (ways O.goes O.loses) tree.old outside.old place (λ style. interpreters.interp style args.now) tree.new outside.new result }
+    ensures runs { ProceedsIn (ways O.goes O.loses) tree.old outside.old place
+        (λ style. interpreters.interp style args.now) tree.new outside.new result }
     ensures steady { IsSteady tree.old tree.new }
     ensures left { O.entries_left outside.new ≤ O.entries_left outside.old }
 {
@@ -59,7 +61,8 @@ fn call_subcommand<O: Outside>(
     args: &[Value],
 ) -> Result<Value, Interruption>
     requires { IsRunning tree.old place }
-    ensures runs { ProceedsIn (ways O.goes O.loses) tree.old outside.old place (λ style. program_of style subcommand args.now) tree.new outside.new result }
+    ensures runs { ProceedsIn (ways O.goes O.loses) tree.old outside.old place
+        (λ style. program_of style subcommand args.now) tree.new outside.new result }
     ensures steady { IsSteady tree.old tree.new }
     ensures left { O.entries_left outside.new ≤ O.entries_left outside.old }
 {
@@ -87,7 +90,8 @@ fn interp_eval<O: Outside>(
     args: &[Value],
 ) -> Result<Value, Interruption>
     requires { IsRunning tree.old place }
-    ensures runs { ProceedsIn (ways O.goes O.loses) tree.old outside.old place (λ style. interpreters.eval args.now) tree.new outside.new result }
+    ensures runs { ProceedsIn (ways O.goes O.loses) tree.old outside.old place
+        (λ style. interpreters.eval args.now) tree.new outside.new result }
     ensures steady { IsSteady tree.old tree.new }
     ensures left { O.entries_left outside.new ≤ O.entries_left outside.old }
 {
@@ -112,7 +116,8 @@ fn interp_eval<O: Outside>(
 /// The form of `interp invokehidden`.
 const INVOKE_HIDDEN: &str = "interp invokehidden path ?-global? hiddenName ?arg ...?";
 
-/// `interp invokehidden path ?-global? hiddenName ?arg ...?`: calls a hidden command of the interpreter at a path. (interp(n))
+/// `interp invokehidden path ?-global? hiddenName ?arg ...?`: calls a hidden command of the
+/// interpreter at a path. (interp(n))
 ///
 /// # Errors
 /// 241; 221; 304; 101 to 104 and 301 of the path; those of the call; want of memory.
@@ -126,7 +131,8 @@ fn interp_invoke_hidden<O: Outside>(
     args: &[Value],
 ) -> Result<Value, Interruption>
     requires { IsRunning tree.old place }
-    ensures runs { ProceedsIn (ways O.goes O.loses) tree.old outside.old place (λ style. interpreters.invoke_hidden args.now) tree.new outside.new result }
+    ensures runs { ProceedsIn (ways O.goes O.loses) tree.old outside.old place
+        (λ style. interpreters.invoke_hidden args.now) tree.new outside.new result }
     ensures steady { IsSteady tree.old tree.new }
     ensures left { O.entries_left outside.new ≤ O.entries_left outside.old }
 {

@@ -16,10 +16,12 @@ use tcl_run::steps::charge;
 use tcl_tree::tree::{Place, Tree};
 use tcl_value::value::Value;
 
-/// `foreach varList list ?varList list ...? command`: a counted turn for each of the lists' elements, or as many of them as there are variables. (foreach(n))
+/// `foreach varList list ?varList list ...? command`: a counted turn for each of the lists'
+/// elements, or as many of them as there are variables. (foreach(n))
 ///
 /// # Errors
-/// 241; 101 to 104 of the lists; 232, 233 and 238 of the variables; the stop 308; those of the body but for `break` and `continue`; want of memory.
+/// 241; 101 to 104 of the lists; 232, 233 and 238 of the variables; the stop 308; those of the body
+/// but for `break` and `continue`; want of memory.
 #[cycle(eval)]
 #[inline(never)]
 pub fn foreach<O: Outside>(
@@ -30,7 +32,8 @@ pub fn foreach<O: Outside>(
     args: &[Value],
 ) -> Result<Value, Interruption>
     requires { IsRunning tree.old place }
-    ensures runs { ProceedsIn (ways O.goes O.loses) tree.old outside.old place (λ style. control.foreach args.now) tree.new outside.new result }
+    ensures runs { ProceedsIn (ways O.goes O.loses) tree.old outside.old place
+        (λ style. control.foreach args.now) tree.new outside.new result }
     ensures steady { IsSteady tree.old tree.new }
     ensures left { O.entries_left outside.new ≤ O.entries_left outside.old }
 {
@@ -66,7 +69,8 @@ pub fn uplevel<O: Outside>(
     args: &[Value],
 ) -> Result<Value, Interruption>
     requires { IsRunning tree.old place }
-    ensures runs { ProceedsIn (ways O.goes O.loses) tree.old outside.old place (λ style. control.uplevel style args.now) tree.new outside.new result }
+    ensures runs { ProceedsIn (ways O.goes O.loses) tree.old outside.old place
+        (λ style. control.uplevel style args.now) tree.new outside.new result }
     ensures steady { IsSteady tree.old tree.new }
     ensures left { O.entries_left outside.new ≤ O.entries_left outside.old }
 {

@@ -27,10 +27,12 @@ pub enum Said {
     Heard(HostReply),
 }
 
-/// Waits for the answer to the caller's call, which passed the top of the tree, and lets the interpreters do what they are asked for meanwhile.
+/// Waits for the answer to the caller's call, which passed the top of the tree, and lets the
+/// interpreters do what they are asked for meanwhile.
 ///
 /// # Errors
-/// How the call ended otherwise than by an ordinary result; an exit of what was handed in; want of memory.
+/// How the call ended otherwise than by an ordinary result; an exit of what was handed in; want of
+/// memory.
 #[cycle(eval)]
 #[inline(never)]
 pub fn wait<O: Outside>(
@@ -44,7 +46,8 @@ pub fn wait<O: Outside>(
     requires running { IsRunning tree.old place }
     requires above { (p : Path) → Names tree.old place p → rise_to up p ≡ None }
     requires asked { IsAsked up (whole_entry entry.now) }
-    ensures runs { Waits (ways O.goes O.loses) tree.old outside.old place up (whole_entry entry.now) tree.new outside.new result }
+    ensures runs { Waits (ways O.goes O.loses) tree.old outside.old place up (whole_entry entry.now) tree.new
+        outside.new result }
     ensures own { IfOk result (λ said. IsAnswer up (whole_entry entry.now) said) }
     ensures steady { IsSteady tree.old tree.new }
     ensures left { O.entries_left outside.new ≤ O.entries_left outside.old }
@@ -60,7 +63,8 @@ pub fn wait<O: Outside>(
     }
 }
 
-/// Lets the interpreter at the path do what it is asked for from outside of the tree, while a call is open.
+/// Lets the interpreter at the path do what it is asked for from outside of the tree, while a call
+/// is open.
 ///
 /// # Errors
 /// An exit, by which the call ends too; want of memory.
@@ -78,7 +82,8 @@ fn hand_in<O: Outside>(
 ) -> Result<(), Interruption>
     requires running { IsRunning tree.old place }
     requires handed { O.hands_in }
-    ensures runs { HandsIn (ways O.goes O.loses) tree.old outside.old place up (whole_entry entry.now) target.items (whole_entry inner) tree.new outside.new result }
+    ensures runs { HandsIn (ways O.goes O.loses) tree.old outside.old place up (whole_entry entry.now)
+        target.items (whole_entry inner) tree.new outside.new result }
     ensures steady { IsSteady tree.old tree.new }
     ensures left { O.entries_left outside.new ≤ O.entries_left outside.old }
 {
@@ -116,7 +121,8 @@ pub fn enter<O: Outside>(
     target: &[Text],
     entry: Entry,
 ) -> Result<Value, Interruption>
-    ensures runs { EndsEntry (ways O.goes O.loses) tree.old outside.old target.now (whole_entry entry) tree.new outside.new result }
+    ensures runs { EndsEntry (ways O.goes O.loses) tree.old outside.old target.now (whole_entry entry) tree.new
+        outside.new result }
     ensures steady { IsSteady tree.old tree.new }
     ensures left { O.entries_left outside.new ≤ O.entries_left outside.old }
 {

@@ -1,5 +1,6 @@
--- The tree of an expression in the order in which it is computed: operands before their operator. What stands before the second operand of `&&` or `||`, and
--- before the second and the third of a choice, marks where a part may be left out.
+-- The tree of an expression in the order in which it is computed: operands before their operator.
+-- What stands before the second operand of `&&` or `||`, and before the second and the third of a
+-- choice, marks where a part may be left out.
 use Rattle.std.specs.Prelude.{ℕ, suc, List, [], ◌∷◌, ◌++◌}
 use Rattle.tcl_expr.specs.declared.operator.BinaryOperator.{BinaryOperator}
 use Rattle.tcl_expr.specs.declared.operator.BinaryOperator.TheVariants as operator
@@ -15,7 +16,8 @@ mark operator.And = node.Needed operator.And ∷ []
 mark operator.Or = node.Needed operator.Or ∷ []
 mark o = []
 
--- the function of a call, and how many arguments it has; what is no call is as the one argument of one
+-- the function of a call, and how many arguments it has; what is no call is as the one argument of
+-- one
 abbrev pub function_of : Tree → Function
 function_of (first f a) = f
 function_of (also call a) = function_of call
@@ -39,7 +41,8 @@ unfoldable pub before : Tree → List Node
 before (leaf x) = []
 before (unary o a) = before a ++ last_of a ∷ []
 before (binary o a b) = ((before a ++ last_of a ∷ []) ++ mark o) ++ (before b ++ last_of b ∷ [])
-before (choice c a b) = ((((before c ++ last_of c ∷ []) ++ node.Question ∷ []) ++ (before a ++ last_of a ∷ [])) ++ node.Colon ∷ []) ++ (before b ++ last_of b ∷ [])
+before (choice c a b) = ((((before c ++ last_of c ∷ []) ++ node.Question ∷ []) ++ (before
+    a ++ last_of a ∷ [])) ++ node.Colon ∷ []) ++ (before b ++ last_of b ∷ [])
 before (first f a) = before a ++ last_of a ∷ []
 before (also call a) = before call ++ (before a ++ last_of a ∷ [])
 

@@ -1,5 +1,6 @@
 -- The expression that a text is, and the fault of a text that is none.
-use Rattle.std.specs.Prelude.{◌≡◌, ℕ, zero, suc, Bool, true, false, List, [], ◌∷◌, ◌++◌, length, Option, Some, None, Result, Ok, Err, ◌↔◌, ◌⊎◌}
+use Rattle.std.specs.Prelude.{◌≡◌, ℕ, zero, suc, Bool, true, false, List, [], ◌∷◌, ◌++◌, length}
+use Rattle.std.specs.Prelude.{Option, Some, None, Result, Ok, Err, ◌↔◌, ◌⊎◌}
 use Rattle.tcl_text.specs.declared.integer.Integers.{Integers}
 use Rattle.tcl_expr.specs.declared.token.Token.{Token}
 use Rattle.tcl_expr.specs.declared.token.Token.TheVariants as token
@@ -56,12 +57,18 @@ fault_of misfits.Syntax = Syntax
 fault_of misfits.TooDeep = TooDeep
 fault_of misfits.TooLarge = TooLarge
 
--- The first token with which the text begins no expression is at fault: one that can be read, and doesn't fit; or one that can't be read, for its own fault. A text whose tokens all
--- fit and that ends before an expression does is a fault of syntax.
+-- The first token with which the text begins no expression is at fault: one that can be read, and
+-- doesn't fit; or one that can't be read, for its own fault. A text whose tokens all fit and that
+-- ends before an expression does is a fault of syntax.
 pub data HasFault (style : Integers) (s : List ℕ) (f : ExprFault) : Type 0 where
-  misfit : (e : Misfit) (front behind : List Token) (t : Token) → (tokens_of style s).tokens ≡ front ++ t ∷ behind → IsMisfit deepest front t e → f ≡ fault_of e → HasFault style s f
-  unreadable : Begins deepest (tokens_of style s).tokens → (tokens_of style s).stop ≡ Some f → HasFault style s f
-  early : Begins deepest (tokens_of style s).tokens → (tokens_of style s).stop ≡ None → ((t : Tree) → IsExpression deepest t (tokens_of style s).tokens → Prim.⊥) → f ≡ Syntax → HasFault style s f
+  misfit : (e : Misfit) (front behind : List Token) (t : Token) →
+      (tokens_of style s).tokens ≡ front ++ t ∷ behind → IsMisfit deepest front t e →
+      f ≡ fault_of e → HasFault style s f
+  unreadable : Begins deepest (tokens_of style s).tokens → (tokens_of style s).stop ≡ Some f →
+      HasFault style s f
+  early : Begins deepest (tokens_of style s).tokens → (tokens_of style s).stop ≡ None →
+      ((t : Tree) → IsExpression deepest t (tokens_of style s).tokens → Prim.⊥) → f ≡ Syntax →
+      HasFault style s f
 
 -- ## Reading from the left
 
@@ -76,14 +83,18 @@ completed (Ok q) (Some f) = Err f
 
 -- the tree of a text, or its fault
 abbrev pub expression_of : Integers → List ℕ → Result Tree ExprFault
-expression_of style s = completed (run deepest (wanting []) (tokens_of style s).tokens) (tokens_of style s).stop
+expression_of style s = completed (run deepest (wanting []) (tokens_of style s).tokens)
+    (tokens_of style s).stop
 
--- The function says what the relations say; so each text has either a tree or a fault, and one only.
+-- The function says what the relations say; so each text has either a tree or a fault, and one
+-- only.
 abbrev pub GivesTree : Type 0
-GivesTree = (style : Integers) (s : List ℕ) (t : Tree) → (expression_of style s ≡ Ok t) ↔ IsExpr style s t
+GivesTree = (style : Integers) (s : List ℕ) (t : Tree) →
+    (expression_of style s ≡ Ok t) ↔ IsExpr style s t
 
 abbrev pub GivesFault : Type 0
-GivesFault = (style : Integers) (s : List ℕ) (f : ExprFault) → (expression_of style s ≡ Err f) ↔ HasFault style s f
+GivesFault = (style : Integers) (s : List ℕ) (f : ExprFault) →
+    (expression_of style s ≡ Err f) ↔ HasFault style s f
 
 -- a text that is an expression has one tree and no fault
 pub record OneTree (style : Integers) (s : List ℕ) (t : Tree) : Type 0 where
@@ -98,4 +109,5 @@ pub record OneFault (style : Integers) (s : List ℕ) (f : ExprFault) : Type 0 w
   pub no_tree : (t : Tree) → IsExpr style s t → Prim.⊥
 
 abbrev pub Decided : Type 0
-Decided = (style : Integers) (s : List ℕ) → ((t : Tree) × OneTree style s t) ⊎ ((f : ExprFault) × OneFault style s f)
+Decided = (style : Integers) (s : List ℕ) →
+    ((t : Tree) × OneTree style s t) ⊎ ((f : ExprFault) × OneFault style s f)

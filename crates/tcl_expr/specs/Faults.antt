@@ -1,12 +1,13 @@
 -- What is told of a text that is no expression, and what the functions that read one return.
 use Rattle.std.specs.Prelude.{◌≡◌, ℕ, List, ◌++◌, codes, Result, Ok, Err}
 use Rattle.tcl_parser.specs.declared.fault.Fault.{Fault}
-use Rattle.tcl_parser.specs.declared.reader.Stop.{Stop}
-use Rattle.tcl_parser.specs.declared.reader.Stop.TheVariants as stop
+use Rattle.tcl_parser.specs.declared.reader.ReadError.{ReadError}
+use Rattle.tcl_parser.specs.declared.reader.ReadError.TheVariants as stop
 use Rattle.tcl_parser.specs.Faults as parser
 use Rattle.tcl_text.specs.Messages as messages
 use Rattle.tcl_expr.specs.declared.fault.ExprFault.{ExprFault}
-use Rattle.tcl_expr.specs.declared.fault.ExprFault.TheVariants.{Syntax, TooDeep, TooLarge, Operand, TooLong}
+use Rattle.tcl_expr.specs.declared.fault.ExprFault.TheVariants.{Syntax, TooDeep, TooLarge, Operand}
+use Rattle.tcl_expr.specs.declared.fault.ExprFault.TheVariants.{TooLong}
 use Rattle.tcl_expr.specs.declared.fault.ExprError.{ExprError}
 use Rattle.tcl_expr.specs.declared.fault.ExprError.TheVariants as error
 
@@ -20,7 +21,7 @@ message_of text TooLong = messages.too_long
 abbrev pub error_of_fault : Fault → ExprError
 error_of_fault f = error.Fault (Operand f)
 
-abbrev pub error_of_stop : Stop → ExprError
+abbrev pub error_of_stop : ReadError → ExprError
 error_of_stop stop.Memory = error.Memory
 error_of_stop (stop.Fault f) = error_of_fault f
 

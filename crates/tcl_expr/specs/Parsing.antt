@@ -1,11 +1,14 @@
 -- What the parser keeps of what stands open.
-use Rattle.std.specs.Prelude.{◌≡◌, ℕ, suc, Bool, true, false, not, cond, nat_lt, List, [], ◌∷◌, ◌++◌, Option, Some, None, Result, Ok, Err}
+use Rattle.std.specs.Prelude.{◌≡◌, ℕ, suc, Bool, true, false, not, cond, nat_lt, List, [], ◌∷◌}
+use Rattle.std.specs.Prelude.{◌++◌, Option, Some, None, Result, Ok, Err}
 use Rattle.tcl_expr.specs.declared.operator.UnaryOperator.TheVariants as unary
 use Rattle.tcl_expr.specs.declared.operator.Function.{Function}
 use Rattle.tcl_expr.specs.declared.token.Leaf.{Leaf}
 use Rattle.tcl_expr.specs.Trees.{Tree, leaf}
 use Rattle.tcl_expr.specs.Grammar.{takes_one}
-use Rattle.tcl_expr.specs.Reading.{Open, prefixed, infixed, parenthesis, calling, calling_on, deciding, otherwise, depth, weight, takes, settle, State, wanting, naming, having, Step}
+use Rattle.tcl_expr.specs.Reading.{Open, prefixed, infixed, parenthesis, calling, calling_on}
+use Rattle.tcl_expr.specs.Reading.{deciding, otherwise, depth, weight, takes, settle, State}
+use Rattle.tcl_expr.specs.Reading.{wanting, naming, having, Step}
 use Rattle.tcl_expr.specs.declared.fault.ExprFault.{ExprFault}
 use Rattle.tcl_expr.specs.declared.fault.ExprError.{ExprError}
 use Rattle.tcl_expr.specs.declared.fault.ExprError.TheVariants as error
@@ -50,8 +53,10 @@ unfoldable pub steps_before : List Open → List Node
 steps_before [] = []
 steps_before (o ∷ os) = steps_before os ++ steps_of o
 
--- the parser's steps, what it keeps of what stands open and how deep that nests, behind which there are more steps
-pub record Holds (nodes : List Node) (open_now : List Pending) (deep : ℕ) (os : List Open) (more : List Node) : Type 0 where
+-- the parser's steps, what it keeps of what stands open and how deep that nests, behind which there
+-- are more steps
+pub record Holds (nodes : List Node) (open_now : List Pending) (deep : ℕ) (os : List Open)
+    (more : List Node) : Type 0 where
   pub nodes_are : nodes ≡ steps_before os ++ more
   pub open_is : open_now ≡ stack_of os
   pub deep_is : deep ≡ depth os
@@ -84,9 +89,12 @@ weight_of _ = 1
 -- what stands open is settled one by one
 abbrev pub Settles : Bool → ℕ → List Node → List Pending → ℕ → List Node → List Pending → ℕ → Type 0
 Settles false n nodes p d nodes' p' d' =
-    (nodes' ≡ nodes) × (p' ≡ p) × (d' ≡ d) × ((os : List Open) (a : Tree) → Holds nodes p d os (code_of a) → settle n os a ≡ record { os = os; tree = a })
+    (nodes' ≡ nodes) × (p' ≡ p) × (d' ≡ d) ×
+    ((os : List Open) (a : Tree) → Holds nodes p d os (code_of a) →
+    settle n os a ≡ record { os = os; tree = a })
 Settles true n nodes p d nodes' p' d' =
-    (os : List Open) (a : Tree) → Holds nodes p d os (code_of a) → (os' : List Open) × (a' : Tree) × Holds nodes' p' d' os' (code_of a') × (settle n os' a' ≡ settle n os a)
+    (os : List Open) (a : Tree) → Holds nodes p d os (code_of a) → (os' : List Open) × (a' : Tree) ×
+    Holds nodes' p' d' os' (code_of a') × (settle n os' a' ≡ settle n os a)
 
 abbrev pub leaf_tree : Leaf → Tree
 leaf_tree x = leaf x
@@ -108,7 +116,8 @@ end_of _ = end.Missing
 
 -- the function, and the number of its arguments, where another argument may come
 abbrev pub argument_end : Pending → Option (Function × ℕ)
-argument_end (pending.Calling f) = cond {A = Option (Function × ℕ)} (not (takes_one f)) (Some (f, 1)) None
+argument_end (pending.Calling f) = cond {A = Option (Function × ℕ)} (not (takes_one f))
+    (Some (f, 1)) None
 argument_end (pending.CallingOn f n) = Some (f, n)
 argument_end _ = None
 
@@ -118,14 +127,16 @@ pub record Opens (p : Pending) (o : Open) : Type 0 where
   pub no_steps : steps_of o ≡ []
   pub nests : (n : ℕ) → weight o n ≡ suc n
 
--- What is kept of a text is its tree in the order of computing it, and what is refused is its fault.
+-- What is kept of a text is its tree in the order of computing it, and what is refused is its
+-- fault.
 abbrev pub Keeps : Result ExprTree ExprError → Result Tree ExprFault → Type 0
 Keeps (Ok kept) (Ok t) = kept.nodes.items ≡ code_of t
 Keeps (Ok kept) (Err f) = Prim.⊥
 Keeps (Err error.Memory) read = Unit {0}
 Keeps (Err (error.Fault f)) read = read ≡ Err f
 
--- What is kept of a text is the tree that the text is, and what is refused is the fault that the text has.
+-- What is kept of a text is the tree that the text is, and what is refused is the fault that the
+-- text has.
 abbrev pub IsRead : Integers → List ℕ → Result ExprTree ExprError → Type 0
 IsRead style s (Ok kept) = (t : Tree) × IsExpr style s t × (kept.nodes.items ≡ code_of t)
 IsRead style s (Err error.Memory) = Unit {0}

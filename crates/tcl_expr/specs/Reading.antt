@@ -1,5 +1,7 @@
--- Reading the tokens of an expression from the left: what stands open at a place, and what each token makes of that.
-use Rattle.std.specs.Prelude.{ℕ, suc, nat_lt, nat_le, Bool, true, false, cond, List, [], ◌∷◌, Option, Some, None, Result, Ok, Err}
+-- Reading the tokens of an expression from the left: what stands open at a place, and what each
+-- token makes of that.
+use Rattle.std.specs.Prelude.{ℕ, suc, nat_lt, nat_le, Bool, true, false, cond, List, [], ◌∷◌}
+use Rattle.std.specs.Prelude.{Option, Some, None, Result, Ok, Err}
 use Rattle.tcl_expr.specs.declared.operator.UnaryOperator.{UnaryOperator}
 use Rattle.tcl_expr.specs.declared.operator.UnaryOperator.TheVariants as unary_operator
 use Rattle.tcl_expr.specs.declared.operator.BinaryOperator.{BinaryOperator}
@@ -13,8 +15,9 @@ use Rattle.tcl_expr.specs.declared.grammar.Misfit.TheVariants.{Syntax, TooDeep, 
 use Rattle.tcl_expr.specs.Trees.{Tree, leaf, unary, binary, choice, first, also}
 use Rattle.tcl_expr.specs.Grammar.{level, prefix_of, infix_of, takes_one}
 
--- What stands open: an operator before its operand; an operator behind its first operand; a parenthesis; a function behind its name, and behind an argument; a
--- choice behind its condition, and behind its second operand.
+-- What stands open: an operator before its operand; an operator behind its first operand; a
+-- parenthesis; a function behind its name, and behind an argument; a choice behind its condition,
+-- and behind its second operand.
 pub data Open : Type 0 where
   prefixed : (o : UnaryOperator) → Open
   infixed : (o : BinaryOperator) (a : Tree) → Open
@@ -24,8 +27,8 @@ pub data Open : Type 0 where
   deciding : (c : Tree) → Open
   otherwise : (c a : Tree) → Open
 
--- An operand is to come; the parenthesis behind a function's name is to come; an operand has come, and what follows tells whose it is. What stands open is in order, the
--- innermost first.
+-- An operand is to come; the parenthesis behind a function's name is to come; an operand has come,
+-- and what follows tells whose it is. What stands open is in order, the innermost first.
 pub data State : Type 0 where
   wanting : (os : List Open) → State
   naming : (f : Function) (os : List Open) → State
@@ -49,12 +52,15 @@ pub record Held : Type 0 where
   pub os : List Open
   pub tree : Tree
 
--- What is left open where an operator of level n follows the operand, and the operand that it then has. A choice takes its third operand at the end alone, which is as a level of 16.
+-- What is left open where an operator of level n follows the operand, and the operand that it then
+-- has. A choice takes its third operand at the end alone, which is as a level of 16.
 unfoldable pub settle : ℕ → List Open → Tree → Held
 settle n [] a = record { os = []; tree = a }
 settle n (prefixed o ∷ os) a = settle n os (unary o a)
-settle n (infixed o l ∷ os) a = cond (takes o n) (settle n os (binary o l a)) (record { os = infixed o l ∷ os; tree = a })
-settle n (otherwise c l ∷ os) a = cond (nat_lt 15 n) (settle n os (choice c l a)) (record { os = otherwise c l ∷ os; tree = a })
+settle n (infixed o l ∷ os) a = cond (takes o n) (settle n os (binary o l a))
+    (record { os = infixed o l ∷ os; tree = a })
+settle n (otherwise c l ∷ os) a = cond (nat_lt 15 n) (settle n os (choice c l a))
+    (record { os = otherwise c l ∷ os; tree = a })
 settle n (o ∷ os) a = record { os = o ∷ os; tree = a }
 
 abbrev pub Step : Type 0

@@ -1,5 +1,6 @@
 -- The tokens of an expression: which one a text begins with, and what follows it.
-use Rattle.std.specs.Prelude.{ℕ, zero, suc, ◌==◌, Bool, true, false, ◌&&◌, ◌||◌, cond, List, [], ◌∷◌, length, codes, Option, Some, None, Result, Ok, Err, ℤ}
+use Rattle.std.specs.Prelude.{ℕ, zero, suc, ◌==◌, Bool, true, false, ◌&&◌, ◌||◌, cond, List, []}
+use Rattle.std.specs.Prelude.{◌∷◌, length, codes, Option, Some, None, Result, Ok, Err, ℤ}
 use Rattle.std.specs.Int.{is_in_range}
 use Rattle.std.specs.Str.{bytes_eq}
 use Rattle.tcl_text.specs.declared.integer.Integers.{Integers}
@@ -12,7 +13,8 @@ use Rattle.tcl_parser.specs.declared.fault.Fault.{Fault}
 use Rattle.tcl_parser.specs.declared.fault.Fault.TheVariants.{CloseBrace}
 use Rattle.tcl_parser.specs.declared.script.Part.{Part}
 use Rattle.tcl_parser.specs.Several.{over, next as more}
-use Rattle.tcl_parser.specs.Reading.{Place, PartTurn, level_at, read_part, read_parts, joined_parts, before}
+use Rattle.tcl_parser.specs.Reading.{Place, PartTurn, level_at, read_part, read_parts, joined_parts}
+use Rattle.tcl_parser.specs.Reading.{before}
 use Rattle.tcl_parser.specs.Characters.{dollar, quote, open_bracket, open_brace, is_name_character}
 use Rattle.tcl_value.specs.Reading.{int_of}
 use Rattle.tcl_expr.specs.declared.operator.BinaryOperator.TheVariants as operator
@@ -35,8 +37,10 @@ unfoldable pub after_word : List ℕ → List ℕ
 after_word [] = []
 after_word (b ∷ s) = cond (is_name_character b) (after_word s) (b ∷ s)
 
--- A number is an integer text. One that is out of range fits behind a minus that nothing separates from it, if both together are in range.
-abbrev pub number_read : Bool → List ℕ → Result ℤ IntegerFault → Result ℤ IntegerFault → Result Token ExprFault
+-- A number is an integer text. One that is out of range fits behind a minus that nothing separates
+-- from it, if both together are in range.
+abbrev pub number_read : Bool → List ℕ → Result ℤ IntegerFault → Result ℤ IntegerFault →
+    Result Token ExprFault
 number_read close w (Ok n) m = Ok (token.Operand (Literal w))
 number_read close w (Err integer_fault.NotInteger) m = Err Syntax
 number_read true w (Err integer_fault.TooLarge) (Ok m) = Ok (token.Lowest w)
@@ -93,7 +97,9 @@ parts_token (Err f) = Err (Operand f)
 
 -- the text reads as a word of its own; a `$` that begins no variable is no operand
 abbrev pub substitution_of : List ℕ → List ℕ → TokenRead
-substitution_of s rest = cond (length s == suc (length rest)) (Err Syntax) (followed (parts_token (joined_parts (read_parts (level_at 0) false (zero, before s rest)))) rest)
+substitution_of s rest = cond (length s == suc (length rest)) (Err Syntax)
+    (followed (parts_token (joined_parts (read_parts (level_at 0) false (zero, before s rest))))
+    rest)
 
 abbrev pub substitution_read : List ℕ → Result (List ℕ) Fault → TokenRead
 substitution_read s (Ok rest) = substitution_of s rest
@@ -103,7 +109,10 @@ abbrev pub substitution : List ℕ → TokenRead
 substitution s = substitution_read s (after_substitution s)
 
 abbrev pub quoted_read : Result (List Part × List ℕ) Fault → TokenRead
-quoted_read (Ok read) = Ok (token.Operand (Substituted (record { parts = read.0; expand = false })), read.1)
+quoted_read (Ok read) = Ok (
+  token.Operand (Substituted (record { parts = read.0; expand = false })),
+  read.1,
+)
 quoted_read (Err f) = Err (Operand f)
 
 -- behind a quotation mark
@@ -171,10 +180,12 @@ sign a (b ∷ s) = together (pair a b) a b s
 
 -- ## Tokens
 
--- the token that the text b s begins with; the flag says that a minus stands before it that nothing separates from it
+-- the token that the text b s begins with; the flag says that a minus stands before it that nothing
+-- separates from it
 abbrev pub token_at : Integers → Bool → ℕ → List ℕ → TokenRead
 token_at style close b s =
-    cond (is_name_character b) (word_or_number style close (is_in_range 48 57 b) (before (b ∷ s) (after_word (b ∷ s))) (after_word (b ∷ s)))
+    cond (is_name_character b) (word_or_number style close (is_in_range 48 57 b)
+    (before (b ∷ s) (after_word (b ∷ s))) (after_word (b ∷ s)))
     (cond ((b == dollar) || (b == open_bracket)) (substitution (b ∷ s))
     (cond (b == quote) (quoted s)
     (cond (b == open_brace) (braced s)
@@ -193,6 +204,8 @@ abbrev pub first_token : Integers → Bool → List ℕ → Result Lexed ExprFau
 first_token style close [] = Ok ended
 first_token style close (b ∷ s) = lexed (token_at style close b s)
 
--- The token that a text begins with, behind white space. The flag says that a minus stands directly before the text.
+-- The token that a text begins with, behind white space. The flag says that a minus stands directly
+-- before the text.
 abbrev pub next_token : Integers → Bool → List ℕ → Result Lexed ExprFault
-next_token style minus s = first_token style (minus && (length (trim_start s) == length s)) (trim_start s)
+next_token style minus s = first_token style (minus && (length (trim_start s) == length s))
+    (trim_start s)

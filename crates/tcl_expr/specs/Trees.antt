@@ -4,8 +4,8 @@ use Rattle.tcl_expr.specs.declared.operator.BinaryOperator.{BinaryOperator}
 use Rattle.tcl_expr.specs.declared.operator.Function.{Function}
 use Rattle.tcl_expr.specs.declared.token.Leaf.{Leaf}
 
--- An expression: an operand, an operator with its operands, a choice between two, or a function with its arguments, of which `first` is the first
--- and `also` adds one more.
+-- An expression: an operand, an operator with its operands, a choice between two, or a function
+-- with its arguments, of which `first` is the first and `also` adds one more.
 pub data Tree : Type 0 where
   leaf : (x : Leaf) → Tree
   unary : (o : UnaryOperator) (a : Tree) → Tree

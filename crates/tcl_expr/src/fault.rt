@@ -5,7 +5,7 @@ ghost use Rattle.tcl_expr.specs.declared.fault.ExprError.TheVariants.{Memory};
 
 use std::alloc::{AllocError, AllocFailed, Global};
 use tcl_parser::fault::Fault;
-use tcl_parser::reader::Stop;
+use tcl_parser::reader::ReadError;
 use tcl_text::integer::too_large_message;
 use tcl_text::messages::{TOO_LONG, quoting};
 use tcl_text::text::Text;
@@ -45,7 +45,8 @@ impl ExprFault {
 
 /// What is told of a text that isn't an expression (211).
 fn syntax_message(alloc: Global, expression: &str) -> Result<Text, AllocError>
-    ensures { IfOk result (λ made. made ≡ codes "syntax error in expression \"" ++ expression.now ++ codes "\"") }
+    ensures { IfOk result (λ made. made
+        ≡ codes "syntax error in expression \"" ++ expression.now ++ codes "\"") }
 {
     quoting(alloc, "syntax error in expression \"", expression)
 }
@@ -97,16 +98,16 @@ impl From<Fault> for ExprError {
     }
 }
 
-impl From<Stop> for ExprError {
+impl From<ReadError> for ExprError {
     ghost use Rattle.std.specs.Prelude.{◌≡◌};
     ghost use Rattle.tcl_expr.specs.Faults.{error_of_stop};
 
     ghost from_gives = { λ stop e. e ≡ error_of_stop stop };
 
-    fn from(stop: Stop) -> ExprError {
+    fn from(stop: ReadError) -> ExprError {
         match stop {
-            Stop::Memory => ExprError::Memory,
-            Stop::Fault(fault) => ExprError::Fault(ExprFault::Operand(fault)),
+            ReadError::Memory => ExprError::Memory,
+            ReadError::Fault(fault) => ExprError::Fault(ExprFault::Operand(fault)),
         }
     }
 }

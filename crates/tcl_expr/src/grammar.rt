@@ -1,4 +1,5 @@
-//! The grammar of expressions: one tree at most for the tokens, and which token is the first that doesn't fit.
+//! The grammar of expressions: one tree at most for the tokens, and which token is the first that
+//! doesn't fit.
 ghost use Rattle.std.specs.Prelude.{◌≡◌, ◌↔◌, ℕ, List, Ok, Err};
 ghost use Rattle.tcl_expr.specs.declared.token.Token.{Token};
 ghost use Rattle.tcl_expr.specs.Trees.{Tree};
@@ -20,11 +21,15 @@ pub enum Misfit {
 
 /// Tokens are those of one tree at most, and reading finds it.
 pub fn reading_finds_the_tree()
-    ensures tree { (room : ℕ) (a : Tree) (s : List Token) → (read_tokens room s ≡ Ok a) ↔ IsExpression room a s }
-    ensures one { (room : ℕ) (a b : Tree) (s : List Token) → IsExpression room a s → IsExpression room b s → a ≡ b }
+    ensures tree { (room : ℕ) (a : Tree) (s : List Token) →
+        (read_tokens room s ≡ Ok a) ↔ IsExpression room a s }
+    ensures one { (room : ℕ) (a b : Tree) (s : List Token) → IsExpression room a s →
+        IsExpression room b s → a ≡ b }
 {}
 
-/// Tokens that are no expression's fail in one way: by the first of them that doesn't fit, or by ending too early.
+/// Tokens that are no expression's fail in one way: by the first of them that doesn't fit, or by
+/// ending too early.
 pub fn reading_finds_the_fault()
-    ensures { (room : ℕ) (s : List Token) (e : Misfit) → (read_tokens room s ≡ Err e) ↔ Fails room s e }
+    ensures { (room : ℕ) (s : List Token) (e : Misfit) →
+        (read_tokens room s ≡ Err e) ↔ Fails room s e }
 {}

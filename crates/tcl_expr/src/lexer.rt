@@ -33,7 +33,9 @@ fn word_or_number<'a>(
     style: Integers,
 ) -> Result<(Token, &'a str), ExprError>
     requires { IsWithin text.now }
-    ensures { Yields (λ x. (x.0, x.1.now)) result (word_or_number style close (is_in_range 48 57 first) (before text.now (after_word text.now)) (after_word text.now)) }
+    ensures { Yields (λ x. (x.0, x.1.now)) result
+        (word_or_number style close (is_in_range 48 57 first)
+        (before text.now (after_word text.now)) (after_word text.now)) }
 {
     let rest = skip_word(text);
     let front = before(text, rest);
@@ -69,11 +71,12 @@ fn token_at<'a>(
     }
 }
 
-/// The token that the rest of an expression begins with, behind white space. The flag says that the token before it is a minus, so
-/// that the two may be one number.
+/// The token that the rest of an expression begins with, behind white space. The flag says that the
+/// token before it is a minus, so that the two may be one number.
 ///
 /// # Errors
-/// 211 where no token begins so, 112 of a number out of range, 201 to 206 of an operand that can't be read; want of memory.
+/// 211 where no token begins so, 112 of a number out of range, 201 to 206 of an operand that can't
+/// be read; want of memory.
 pub fn next_token(
     alloc: Global,
     text: &str,

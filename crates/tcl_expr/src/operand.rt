@@ -1,5 +1,6 @@
 //! Operands that are read from the text of an expression.
-ghost use Rattle.std.specs.Prelude.{◌≡◌, ◌∷◌, ◌≤◌, ◌+◌, ◌<◌, ◌^◌, length, Ok, false, is_ok, IfOk, IfSome, IfNone};
+ghost use Rattle.std.specs.Prelude.{◌≡◌, ◌∷◌, ◌≤◌, ◌+◌, ◌<◌, ◌^◌, length, Ok, false, is_ok, IfOk};
+ghost use Rattle.std.specs.Prelude.{IfSome, IfNone};
 ghost use Rattle.tcl_text.specs.Numbers.{trim_start};
 ghost use Rattle.tcl_parser.specs.Pieces.{Gives};
 ghost use Rattle.tcl_parser.specs.Texts.{EndsWith};
@@ -7,7 +8,8 @@ ghost use Rattle.tcl_text.specs.Booleans.{boolean_of};
 ghost use Rattle.tcl_value.specs.Reading.{int_of};
 ghost use Rattle.tcl_value.specs.Limits.{IsWithin};
 ghost use Rattle.tcl_expr.specs.Faults.{Yields};
-ghost use Rattle.tcl_expr.specs.Tokens.{after_word, number, boolean_word, word, after_substitution, substitution, quoted, braced};
+ghost use Rattle.tcl_expr.specs.Tokens.{after_word, number, boolean_word, word, after_substitution};
+ghost use Rattle.tcl_expr.specs.Tokens.{substitution, quoted, braced};
 
 use crate::fault::{ExprError, ExprFault};
 use crate::operator::{BinaryOperator, Function};
@@ -85,7 +87,8 @@ fn fits_behind_minus(alloc: Global, number: &str, style: Integers) -> Result<boo
     Ok(read_int(negative.as_str(), style).is_ok())
 }
 
-/// The value of an integer literal: the number alone, where the text is as that is written, and otherwise the text with what it reads as.
+/// The value of an integer literal: the number alone, where the text is as that is written, and
+/// otherwise the text with what it reads as.
 fn literal(alloc: Global, text: &str, number: i64, style: Integers) -> Result<Value, AllocError>
     requires { IsWithin text.now }
     ensures { IfOk result (λ value. value ≡ text.now) }
@@ -98,7 +101,8 @@ fn literal(alloc: Global, text: &str, number: i64, style: Integers) -> Result<Va
     Ok(value)
 }
 
-/// The token of a number. The flag says that a minus stands before it that nothing separates from it.
+/// The token of a number. The flag says that a minus stands before it that nothing separates from
+/// it.
 pub(crate) fn number(
     alloc: Global,
     text: &str,
@@ -176,7 +180,8 @@ fn skip_substitution(text: &str) -> Result<&str, Fault>
 
 /// The token of parts.
 fn parts_token(parts: Vec<Part>) -> Token
-    ensures { result ≡ Token.Operand (Leaf.Substituted (record { parts = parts.items; expand = false })) }
+    ensures { result
+        ≡ Token.Operand (Leaf.Substituted (record { parts = parts.items; expand = false })) }
 {
     Token::Operand(Leaf::Substituted(Word {
         parts,

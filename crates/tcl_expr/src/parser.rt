@@ -1,14 +1,19 @@
 //! Reading an expression.
-ghost use Rattle.std.specs.Prelude.{◌≡◌, ◌≤◌, ◌<◌, ◌-◌, ◌∷◌, ◌++◌, List, [], length, Ok, Err, IfOk, OnOk};
+ghost use Rattle.std.specs.Prelude.{◌≡◌, ◌≤◌, ◌<◌, ◌-◌, ◌∷◌, ◌++◌, List, [], length, Ok, Err, IfOk};
+ghost use Rattle.std.specs.Prelude.{OnOk};
 ghost use Rattle.std.specs.Bool.{OnTrue};
 ghost use Rattle.tcl_expr.specs.declared.operator.Function.{Function};
 ghost use Rattle.tcl_expr.specs.Trees.{Tree};
 ghost use Rattle.tcl_expr.specs.Grammar.{level, takes_one, prefix_of, infix_of};
 ghost use Rattle.tcl_value.specs.Limits.{IsWithin, IsPast};
 ghost use Rattle.tcl_expr.specs.Expressions.{is_minus, told, expression_of};
-ghost use Rattle.tcl_expr.specs.Reading.{finish, Open, calling, State, takes, settle, having, deeper, between, question, colon_at, close_at, comma_at, name, named, lowest, want, have, step};
+ghost use Rattle.tcl_expr.specs.Reading.{finish, Open, calling, State, takes, settle, having};
+ghost use Rattle.tcl_expr.specs.Reading.{deeper, between, question, colon_at, close_at, comma_at};
+ghost use Rattle.tcl_expr.specs.Reading.{name, named, lowest, want, have, step};
 ghost use Rattle.tcl_expr.specs.Code.{mark, code_of};
-ghost use Rattle.tcl_expr.specs.Parsing.{closing, weight_of, leaf_tree, is_deciding, is_negation, end_of, argument_end, Keeps, IsRead, Holds, Stands, Comes, Opens, Settles};
+ghost use Rattle.tcl_expr.specs.Parsing.{closing, weight_of, leaf_tree, is_deciding, is_negation};
+ghost use Rattle.tcl_expr.specs.Parsing.{end_of, argument_end, Keeps, IsRead, Holds, Stands, Comes};
+ghost use Rattle.tcl_expr.specs.Parsing.{Opens, Settles};
 
 use crate::fault::{ExprError, ExprFault};
 use crate::lexer::{Lexed, next_token};
@@ -21,7 +26,8 @@ use tcl_text::limit::MOST_BYTES;
 use tcl_text::text::Text;
 use tcl_value::value::Value;
 
-/// How deep parentheses, functions, operators before an operand and choices may stand in one another.
+/// How deep parentheses, functions, operators before an operand and choices may stand in one
+/// another.
 const DEEPEST: usize = 200;
 
 /// What stands open.
@@ -125,8 +131,11 @@ struct Parser {
 impl Parser {
     /// Ends what stands open last, if it ends where an operator of a level follows.
     fn settle_one(&mut self, next: u8) -> Result<bool, AllocError>
-        ensures settled { IfOk result (λ some. Settles some next self.old.nodes.items self.old.pending.items self.old.depth self.new.nodes.items self.new.pending.items self.new.depth) }
-        ensures shorter { IfOk result (λ some. OnTrue some (length self.new.pending.items < length self.old.pending.items)) }
+        ensures settled { IfOk result
+            (λ some. Settles some next self.old.nodes.items self.old.pending.items self.old.depth
+            self.new.nodes.items self.new.pending.items self.new.depth) }
+        ensures shorter { IfOk result
+            (λ some. OnTrue some (length self.new.pending.items < length self.old.pending.items)) }
     {
         let Some(pending) = self.pending.pop() else {
             return Ok(false);
@@ -142,7 +151,11 @@ impl Parser {
 
     /// Ends all that stands open and ends where an operator of a level follows.
     fn settle(&mut self, next: u8) -> Result<(), AllocError>
-        ensures { OnOk result ((os : List Open) (a : Tree) → Holds self.old.nodes.items self.old.pending.items self.old.depth os (code_of a) → Holds self.new.nodes.items self.new.pending.items self.new.depth (settle next os a).os (code_of (settle next os a).tree)) }
+        ensures { OnOk result
+            ((os : List Open) (a : Tree) →
+            Holds self.old.nodes.items self.old.pending.items self.old.depth os (code_of a) →
+            Holds self.new.nodes.items self.new.pending.items self.new.depth (settle next os a).os
+            (code_of (settle next os a).tree)) }
     {
         'open: loop {
             if !self.settle_one(next)? {
@@ -153,7 +166,9 @@ impl Parser {
 
     /// An operand has come.
     fn operand(&mut self, leaf: Leaf) -> Result<Mode, ExprError>
-        ensures { (os : List Open) → Holds self.old.nodes.items self.old.pending.items self.old.depth os [] → Comes self.new.nodes.items self.new.pending.items self.new.depth result (Ok (having os (leaf_tree leaf))) }
+        ensures { (os : List Open) → Holds self.old.nodes.items self.old.pending.items
+            self.old.depth os [] → Comes self.new.nodes.items self.new.pending.items self.new.depth
+            result (Ok (having os (leaf_tree leaf))) }
     {
         self.nodes.push(Node::Operand(leaf))?;
         Ok(Mode::Having)
@@ -161,7 +176,10 @@ impl Parser {
 
     /// What stands before an operand opens.
     fn deeper(&mut self, pending: Pending) -> Result<Mode, ExprError>
-        ensures { (os : List Open) (o : Open) → Holds self.old.nodes.items self.old.pending.items self.old.depth os [] → Opens pending o → Comes self.new.nodes.items self.new.pending.items self.new.depth result (deeper 200 o os) }
+        ensures { (os : List Open) (o : Open) →
+            Holds self.old.nodes.items self.old.pending.items self.old.depth os [] →
+            Opens pending o → Comes self.new.nodes.items self.new.pending.items self.new.depth
+            result (deeper 200 o os) }
     {
         if self.depth >= DEEPEST {
             return Err(ExprError::Fault(ExprFault::TooDeep));
@@ -173,7 +191,9 @@ impl Parser {
 
     /// A function's name comes.
     fn name(&mut self, function: Function) -> Result<Mode, ExprError>
-        ensures { (os : List Open) → Holds self.old.nodes.items self.old.pending.items self.old.depth os [] → Comes self.new.nodes.items self.new.pending.items self.new.depth result (name 200 function os) }
+        ensures { (os : List Open) → Holds self.old.nodes.items self.old.pending.items
+            self.old.depth os [] → Comes self.new.nodes.items self.new.pending.items self.new.depth
+            result (name 200 function os) }
     {
         match self.deeper(Pending::Calling(function)) {
             Ok(_) => Ok(Mode::Naming),
@@ -183,7 +203,10 @@ impl Parser {
 
     /// What follows a function's name.
     fn named(&mut self, token: &Token) -> Result<Mode, ExprError>
-        ensures { (f : Function) (os : List Open) → Holds self.old.nodes.items self.old.pending.items self.old.depth (calling f ∷ os) [] → Comes self.new.nodes.items self.new.pending.items self.new.depth result (named f os token.now) }
+        ensures { (f : Function) (os : List Open) →
+            Holds self.old.nodes.items self.old.pending.items self.old.depth (calling f ∷ os) [] →
+            Comes self.new.nodes.items self.new.pending.items self.new.depth result
+            (named f os token.now) }
     {
         match token {
             Token::Open => Ok(Mode::Wanting),
@@ -194,7 +217,9 @@ impl Parser {
 
     /// The least number comes, of which the minus stands open.
     fn lowest(&mut self, alloc: Global, digits: &Value) -> Result<Mode, ExprError>
-        ensures { (os : List Open) → Holds self.old.nodes.items self.old.pending.items self.old.depth os [] → Comes self.new.nodes.items self.new.pending.items self.new.depth result (lowest digits.now os) }
+        ensures { (os : List Open) → Holds self.old.nodes.items self.old.pending.items
+            self.old.depth os [] → Comes self.new.nodes.items self.new.pending.items self.new.depth
+            result (lowest digits.now os) }
     {
         let Some(pending) = self.pending.pop() else {
             return Err(ExprError::Fault(ExprFault::TooLarge));
@@ -209,7 +234,9 @@ impl Parser {
 
     /// What comes where an operand is to come.
     fn want(&mut self, alloc: Global, token: Token) -> Result<Mode, ExprError>
-        ensures { (os : List Open) → Holds self.old.nodes.items self.old.pending.items self.old.depth os [] → Comes self.new.nodes.items self.new.pending.items self.new.depth result (want 200 os token (prefix_of token)) }
+        ensures { (os : List Open) → Holds self.old.nodes.items self.old.pending.items
+            self.old.depth os [] → Comes self.new.nodes.items self.new.pending.items self.new.depth
+            result (want 200 os token (prefix_of token)) }
     {
         match token {
             Token::Operand(leaf) => self.operand(leaf),
@@ -227,7 +254,10 @@ impl Parser {
 
     /// What comes behind an operand.
     fn have(&mut self, token: &Token) -> Result<Mode, ExprError>
-        ensures { (os : List Open) (a : Tree) → Holds self.old.nodes.items self.old.pending.items self.old.depth os (code_of a) → Comes self.new.nodes.items self.new.pending.items self.new.depth result (have 200 os a token.now (infix_of token.now)) }
+        ensures { (os : List Open) (a : Tree) →
+            Holds self.old.nodes.items self.old.pending.items self.old.depth os (code_of a) →
+            Comes self.new.nodes.items self.new.pending.items self.new.depth result
+            (have 200 os a token.now (infix_of token.now)) }
     {
         match token {
             Token::Plus => self.infix(BinaryOperator::Add),
@@ -246,7 +276,9 @@ impl Parser {
 
     /// What a token makes of what stands open.
     fn step(&mut self, alloc: Global, mode: Mode, token: Token) -> Result<Mode, ExprError>
-        ensures { (q : State) → Stands self.old.nodes.items self.old.pending.items self.old.depth mode q → Comes self.new.nodes.items self.new.pending.items self.new.depth result (step 200 q token) }
+        ensures { (q : State) → Stands self.old.nodes.items self.old.pending.items self.old.depth
+            mode q → Comes self.new.nodes.items self.new.pending.items self.new.depth result
+            (step 200 q token) }
     {
         match mode {
             Mode::Wanting => self.want(alloc, token),
@@ -257,7 +289,10 @@ impl Parser {
 
     /// An operator comes behind an operand.
     fn infix(&mut self, operator: BinaryOperator) -> Result<Mode, ExprError>
-        ensures { (os : List Open) (a : Tree) → Holds self.old.nodes.items self.old.pending.items self.old.depth os (code_of a) → Comes self.new.nodes.items self.new.pending.items self.new.depth result (between operator (settle (level operator) os a)) }
+        ensures { (os : List Open) (a : Tree) →
+            Holds self.old.nodes.items self.old.pending.items self.old.depth os (code_of a) →
+            Comes self.new.nodes.items self.new.pending.items self.new.depth result
+            (between operator (settle (level operator) os a)) }
     {
         self.settle(level(operator))?;
         push_mark(&mut self.nodes, operator)?;
@@ -267,7 +302,10 @@ impl Parser {
 
     /// The condition of a choice ends.
     fn question(&mut self) -> Result<Mode, ExprError>
-        ensures { (os : List Open) (a : Tree) → Holds self.old.nodes.items self.old.pending.items self.old.depth os (code_of a) → Comes self.new.nodes.items self.new.pending.items self.new.depth result (question 200 (settle 15 os a)) }
+        ensures { (os : List Open) (a : Tree) →
+            Holds self.old.nodes.items self.old.pending.items self.old.depth os (code_of a) →
+            Comes self.new.nodes.items self.new.pending.items self.new.depth result
+            (question 200 (settle 15 os a)) }
     {
         self.settle(15)?;
         if self.depth >= DEEPEST {
@@ -281,7 +319,10 @@ impl Parser {
 
     /// The second operand of a choice ends.
     fn colon(&mut self) -> Result<Mode, ExprError>
-        ensures { (os : List Open) (a : Tree) → Holds self.old.nodes.items self.old.pending.items self.old.depth os (code_of a) → Comes self.new.nodes.items self.new.pending.items self.new.depth result (colon_at (settle 16 os a).os (settle 16 os a).tree) }
+        ensures { (os : List Open) (a : Tree) →
+            Holds self.old.nodes.items self.old.pending.items self.old.depth os (code_of a) →
+            Comes self.new.nodes.items self.new.pending.items self.new.depth result
+            (colon_at (settle 16 os a).os (settle 16 os a).tree) }
     {
         self.settle(16)?;
         let Some(pending) = self.pending.pop() else {
@@ -308,7 +349,10 @@ impl Parser {
 
     /// A parenthesis or the arguments of a function end.
     fn close(&mut self) -> Result<Mode, ExprError>
-        ensures { (os : List Open) (a : Tree) → Holds self.old.nodes.items self.old.pending.items self.old.depth os (code_of a) → Comes self.new.nodes.items self.new.pending.items self.new.depth result (close_at (settle 16 os a).os (settle 16 os a).tree) }
+        ensures { (os : List Open) (a : Tree) →
+            Holds self.old.nodes.items self.old.pending.items self.old.depth os (code_of a) →
+            Comes self.new.nodes.items self.new.pending.items self.new.depth result
+            (close_at (settle 16 os a).os (settle 16 os a).tree) }
     {
         self.settle(16)?;
         let Some(pending) = self.pending.pop() else {
@@ -326,7 +370,10 @@ impl Parser {
 
     /// An argument of a function ends, and another is to come.
     fn comma(&mut self) -> Result<Mode, ExprError>
-        ensures { (os : List Open) (a : Tree) → Holds self.old.nodes.items self.old.pending.items self.old.depth os (code_of a) → Comes self.new.nodes.items self.new.pending.items self.new.depth result (comma_at (settle 16 os a).os (settle 16 os a).tree) }
+        ensures { (os : List Open) (a : Tree) →
+            Holds self.old.nodes.items self.old.pending.items self.old.depth os (code_of a) →
+            Comes self.new.nodes.items self.new.pending.items self.new.depth result
+            (comma_at (settle 16 os a).os (settle 16 os a).tree) }
     {
         self.settle(16)?;
         let Some(pending) = self.pending.pop() else {
@@ -355,7 +402,8 @@ impl Parser {
 
     /// The expression, where nothing stands open any more.
     fn finish(self, mode: Mode) -> Result<ExprTree, ExprError>
-        ensures { (q : State) → Stands self.nodes.items self.pending.items self.depth mode q → Keeps result (told (finish q)) }
+        ensures { (q : State) → Stands self.nodes.items self.pending.items self.depth mode q →
+            Keeps result (told (finish q)) }
     {
         let Mode::Having = mode else {
             return Err(ExprError::Fault(ExprFault::Syntax));
@@ -374,9 +422,10 @@ impl Parser {
 /// Reads an expression whole, as `expr(n)` has it.
 ///
 /// # Errors
-/// 122 exactly where the text has more than [`MOST_BYTES`], and is read no further. Otherwise [`ExprFault`], of the first token with which the text begins no
-/// expression: its own fault where it can't be read (112, 201 to 206), 217 where only a deeper nesting than 200 begins so, and 211 otherwise, also where the
-/// text ends too early; want of memory.
+/// 122 exactly where the text has more than [`MOST_BYTES`], and is read no further. Otherwise
+/// [`ExprFault`], of the first token with which the text begins no expression: its own fault where
+/// it can't be read (112, 201 to 206), 217 where only a deeper nesting than 200 begins so, and 211
+/// otherwise, also where the text ends too early; want of memory.
 pub fn parse_expr(alloc: Global, text: &str, style: Integers) -> Result<ExprTree, ExprError>
     ensures read { IsWithin text.now → Keeps result (expression_of style text.now) }
     ensures spelled { IsWithin text.now → IsRead style text.now result }

@@ -17,7 +17,8 @@ pub enum Leaf {
 pub enum Token {
     /// An operand.
     Operand(Leaf),
-    /// The digits of 9223372036854775808 behind a minus that nothing separates from them: both together are a literal.
+    /// The digits of 9223372036854775808 behind a minus that nothing separates from them: both
+    /// together are a literal.
     Lowest(Value),
     /// `+`, before an operand or between two.
     Plus,

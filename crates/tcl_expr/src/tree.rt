@@ -23,7 +23,8 @@ pub enum Node {
     Call(Function, usize),
 }
 
-/// An expression, kept flat: the steps of computing it, in order. However long the expression is, no value here holds another of its type.
+/// An expression, kept flat: the steps of computing it, in order. However long the expression is,
+/// no value here holds another of its type.
 #[derive(Drop)]
 pub struct ExprTree {
     /// The steps: those of an operand before those of its operator.

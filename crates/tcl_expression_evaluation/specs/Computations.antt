@@ -1,5 +1,5 @@
--- What an expression computes: a program that asks for the values of its parts, each when it is needed. Operands come from the left; `&&`, logical or and a choice
--- compute only what they need.
+-- What an expression computes: a program that asks for the values of its parts, each when it is
+-- needed. Operands come from the left; `&&`, logical or and a choice compute only what they need.
 use Rattle.std.specs.Prelude.{Bool, true, false, not, cond, List, [], ◌∷◌, ◌++◌, ℤ, Result, Ok, Err}
 use Rattle.std.specs.Fmt.{signed_decimal}
 use Rattle.tcl_text.specs.declared.integer.Integers.{Integers}
@@ -21,7 +21,8 @@ use Rattle.tcl_operators.specs.declared.fault.Operator.TheVariants.{Function as 
 use Rattle.tcl_operators.specs.Apply.{Outcome, truth, answer, apply_unary, apply_binary, apply_func}
 use Rattle.tcl_expr.specs.Code.{function_of}
 
--- A value; a refusal; or a part to be substituted, and what is computed with its value. Who evaluates substitutes: where that ends otherwise than in a value, the evaluation ends so.
+-- A value; a refusal; or a part to be substituted, and what is computed with its value. Who
+-- evaluates substitutes: where that ends otherwise than in a value, the evaluation ends so.
 pub data Computation : Type 0 where
   value : Bytes → Computation
   refused : OperatorFault → Computation
@@ -43,30 +44,37 @@ abbrev pub operand : Leaf → (Bytes → Computation) → Computation
 operand (Literal v) k = k v
 operand (Substituted w) k = substitute w k
 
--- Behind the first operand: `&&` needs the second where the first is true, logical or where it is false, and every other operator always.
-abbrev pub needing : Integers → BinaryOperator → Bytes → Computation → (Bytes → Computation) → Computation
+-- Behind the first operand: `&&` needs the second where the first is true, logical or where it is
+-- false, and every other operator always.
+abbrev pub needing : Integers → BinaryOperator → Bytes → Computation → (Bytes → Computation) →
+    Computation
 needing style operator.And x second k = decided (truth style x) second (k (answer false))
 needing style operator.Or x second k = decided (truth style x) (k (answer true)) second
 needing style o x second k = second
 
--- A function of its arguments. No text spells a call of other than one argument where the function takes one alone, or of none.
+-- A function of its arguments. No text spells a call of other than one argument where the function
+-- takes one alone, or of none.
 abbrev pub takes : Function → List Bytes → Bool
 takes f [] = false
 takes f (a ∷ []) = true
 takes f (a ∷ b ∷ more) = not (takes_one f)
 
 abbrev pub call : Integers → Function → List Bytes → Outcome
-call style f arguments = cond (takes f arguments) (apply_func style f arguments) (Err (fault.NotNumeric (Called f)))
+call style f arguments = cond (takes f arguments) (apply_func style f arguments)
+    (Err (fault.NotNumeric (Called f)))
 
 -- what a tree computes, and then what comes of its value
 unfoldable mutual
   pub computes : Integers → Tree → (Bytes → Computation) → Computation
   computes style (leaf x) k = operand x k
   computes style (unary o a) k = computes style a (λ x. and_then (apply_unary style o x) k)
-  computes style (binary o a b) k = computes style a (λ x. needing style o x (computes style b (λ y. and_then (apply_binary style o x y) k)) k)
-  computes style (choice c a b) k = computes style c (λ x. decided (truth style x) (computes style a k) (computes style b k))
+  computes style (binary o a b) k = computes style a
+      (λ x. needing style o x (computes style b (λ y. and_then (apply_binary style o x y) k)) k)
+  computes style (choice c a b) k = computes style c
+      (λ x. decided (truth style x) (computes style a k) (computes style b k))
   computes style (first f a) k = computes style a (λ x. and_then (call style f (x ∷ [])) k)
-  computes style (also c a) k = arguments style c (λ xs. computes style a (λ x. and_then (call style (function_of c) (xs ++ x ∷ [])) k))
+  computes style (also c a) k = arguments style c
+      (λ xs. computes style a (λ x. and_then (call style (function_of c) (xs ++ x ∷ [])) k))
 
   -- the arguments of a call, and then what comes of them
   pub arguments : Integers → Tree → (List Bytes → Computation) → Computation

@@ -25,7 +25,8 @@ IsFormed (also call a) = (takes_more call ≡ true) × IsFormed call × IsFormed
 
 -- The steps of a text's tree, from the first on, compute what the tree computes.
 abbrev pub StepsComputeTrees : Type 0
-StepsComputeTrees = (style : Integers) (s : List ℕ) (t : Tree) → IsExpr style s t → from style (code_of t) 0 [] ≡ computation_of style t
+StepsComputeTrees = (style : Integers) (s : List ℕ) (t : Tree) → IsExpr style s t →
+    from style (code_of t) 0 [] ≡ computation_of style t
 
 -- Every tree of a text is so formed.
 abbrev pub TreesAreFormed : Type 0

@@ -1,10 +1,13 @@
 //! Evaluating a kept expression.
-ghost use Rattle.std.specs.Prelude.{◌≡◌, ◌∷◌, ◌++◌, ◌<◌, ◌≤◌, ◌^◌, ◌-◌, List, [], drop, length, Ok, Err, OnOk};
+ghost use Rattle.std.specs.Prelude.{◌≡◌, ◌∷◌, ◌++◌, ◌<◌, ◌≤◌, ◌^◌, ◌-◌, List, [], drop, length, Ok};
+ghost use Rattle.std.specs.Prelude.{Err, OnOk};
 ghost use Rattle.tcl_text.specs.declared.integer.Integers.{Integers as Style};
 ghost use Rattle.tcl_operators.specs.Apply.{Gives, truth, answer, apply_unary, apply_binary};
 ghost use Rattle.tcl_value.specs.Limits.{Bytes};
 ghost use Rattle.tcl_expression_evaluation.specs.Computations.{takes, call};
-ghost use Rattle.tcl_expression_evaluation.specs.Steps.{top, below, last_of, without, passed, mode_of, leaving, does, goes, from, Pushes, Answers, Needs, Acts, Nears, Advances};
+ghost use Rattle.tcl_expression_evaluation.specs.Steps.{top, below, last_of, without, passed};
+ghost use Rattle.tcl_expression_evaluation.specs.Steps.{mode_of, leaving, does, goes, from, Pushes};
+ghost use Rattle.tcl_expression_evaluation.specs.Steps.{Answers, Needs, Acts, Nears, Advances};
 
 use std::alloc::{AllocError, Global};
 use tcl_expr::operator::{BinaryOperator, Function, UnaryOperator};
@@ -25,9 +28,11 @@ pub enum Progress<'t> {
     Done(Value),
 }
 
-/// An evaluation of a kept expression. It hands out each part that is to be substituted when it is needed, and takes the part's value.
+/// An evaluation of a kept expression. It hands out each part that is to be substituted when it is
+/// needed, and takes the part's value.
 ///
-/// It takes memory for the values that wait for their operator, which `restart` keeps for the next evaluation.
+/// It takes memory for the values that wait for their operator, which `restart` keeps for the next
+/// evaluation.
 pub struct Evaluation {
     /// The values that wait for their operator, the last one last.
     values: Vec<Value>,
@@ -96,7 +101,8 @@ impl Evaluation {
         operator: UnaryOperator,
         style: Integers,
     ) -> Result<(), ApplyError>
-        ensures pushes { Pushes result (apply_unary style operator (top self.old.values.items)) (below self.old.values.items) self.new.values.items }
+        ensures pushes { Pushes result (apply_unary style operator (top self.old.values.items))
+            (below self.old.values.items) self.new.values.items }
         ensures next { self.new.next ≡ self.old.next }
     {
         let mut operand = self.take();
@@ -112,7 +118,9 @@ impl Evaluation {
         operator: BinaryOperator,
         style: Integers,
     ) -> Result<(), ApplyError>
-        ensures pushes { Pushes result (apply_binary style operator (top (below self.old.values.items)) (top self.old.values.items)) (below (below self.old.values.items)) self.new.values.items }
+        ensures pushes { Pushes result (apply_binary style operator (top (below self.old.values.items))
+            (top self.old.values.items)) (below (below self.old.values.items))
+            self.new.values.items }
         ensures next { self.new.next ≡ self.old.next }
     {
         let mut right = self.take();
@@ -124,7 +132,8 @@ impl Evaluation {
 
     /// Applies a function to so many values that came last.
     fn call(&mut self, function: Function, count: usize, style: Integers) -> Result<(), ApplyError>
-        ensures pushes { Pushes result (call style function (last_of count self.old.values.items)) (without count self.old.values.items) self.new.values.items }
+        ensures pushes { Pushes result (call style function (last_of count self.old.values.items))
+            (without count self.old.values.items) self.new.values.items }
         ensures next { self.new.next ≡ self.old.next }
     {
         let start = self.values.len().saturating_sub(count);
@@ -134,14 +143,16 @@ impl Evaluation {
         Ok(())
     }
 
-    /// Whether the second operand is needed, behind the first. Where it isn't, the answer stands for both.
+    /// Whether the second operand is needed, behind the first. Where it isn't, the answer stands
+    /// for both.
     fn needs(
         &mut self,
         alloc: Global,
         operator: BinaryOperator,
         style: Integers,
     ) -> Result<bool, ApplyError>
-        ensures needs { Needs result style operator (top self.old.values.items) (below self.old.values.items) self.new.values.items }
+        ensures needs { Needs result style operator (top self.old.values.items) (below self.old.values.items)
+            self.new.values.items }
         ensures next { self.new.next ≡ self.old.next }
     {
         let mut first = self.take();
@@ -170,7 +181,9 @@ impl Evaluation {
     /// Leaves out the steps up to the mark that ends what isn't needed.
     fn skip(&mut self, nodes: &[Node])
         ensures later { self.old.next ≤ self.new.next }
-        ensures goes { (style : Style) (s : List Bytes) → goes style (drop self.old.next nodes.now) (leaving 0) s ≡ from style nodes.now self.new.next s }
+        ensures goes { (style : Style) (s : List Bytes) →
+            goes style (drop self.old.next nodes.now) (leaving 0) s
+            ≡ from style nodes.now self.new.next s }
         ensures values { self.new.values.items ≡ self.old.values.items }
     {
         let mut depth = 0;
@@ -192,7 +205,11 @@ impl Evaluation {
         style: Integers,
     ) -> Result<Option<&'t Word>, ApplyError>
         ensures later { self.old.next ≤ self.new.next }
-        ensures acts { Acts (λ w. w.now) result (does style node.now self.old.values.items (goes style (drop self.old.next nodes.now))) (from style nodes.now self.new.next self.new.values.items) (λ v. from style nodes.now self.new.next (self.new.values.items ++ v ∷ [])) }
+        ensures acts { Acts
+            (λ w. w.now) result (does style node.now self.old.values.items
+            (goes style (drop self.old.next nodes.now)))
+            (from style nodes.now self.new.next self.new.values.items)
+            (λ v. from style nodes.now self.new.next (self.new.values.items ++ v ∷ [])) }
     {
         match node {
             Node::Operand(Leaf::Literal(value)) => {
@@ -234,19 +251,22 @@ impl Evaluation {
         }
     }
 
-    /// Goes on to the next part that is to be substituted, or to the end. Fewer steps are left behind each part, so this can be asked for no longer than the
-    /// expression is long.
+    /// Goes on to the next part that is to be substituted, or to the end. Fewer steps are left
+    /// behind each part, so this can be asked for no longer than the expression is long.
     ///
     /// # Errors
-    /// The refusal of an operator, a function or a truth value, of which [`OperatorFault`] tells; want of memory. The evaluation is then over, and can only be restarted.
+    /// The refusal of an operator, a function or a truth value, of which [`OperatorFault`] tells;
+    /// want of memory. The evaluation is then over, and can only be restarted.
     pub fn advance<'t>(
         &mut self,
         alloc: Global,
         tree: &'t ExprTree,
         style: Integers,
     ) -> Result<Progress<'t>, ApplyError>
-        ensures nearer { Nears result (length tree.now.nodes.items - self.old.next) (length tree.now.nodes.items - self.new.next) }
-        ensures computes { Advances result (from style tree.now.nodes.items self.old.next self.old.values.items) (λ v. from style tree.now.nodes.items self.new.next (self.new.values.items ++ v ∷ [])) }
+        ensures nearer { Nears result (length tree.now.nodes.items - self.old.next)
+            (length tree.now.nodes.items - self.new.next) }
+        ensures computes { Advances result (from style tree.now.nodes.items self.old.next self.old.values.items)
+            (λ v. from style tree.now.nodes.items self.new.next (self.new.values.items ++ v ∷ [])) }
     {
         self.run(alloc, tree.nodes.as_slice(), style)
     }
@@ -259,7 +279,8 @@ impl Evaluation {
         style: Integers,
     ) -> Result<Progress<'t>, ApplyError>
         ensures nearer { Nears result (length nodes.now - self.old.next) (length nodes.now - self.new.next) }
-        ensures computes { Advances result (from style nodes.now self.old.next self.old.values.items) (λ v. from style nodes.now self.new.next (self.new.values.items ++ v ∷ [])) }
+        ensures computes { Advances result (from style nodes.now self.old.next self.old.values.items)
+            (λ v. from style nodes.now self.new.next (self.new.values.items ++ v ∷ [])) }
     {
         'steps: while let Some(node) = nodes.get(self.next) {
             self.next += 1;
@@ -278,7 +299,8 @@ fn answer(truth: bool) -> Value
     Value::from_int(if truth { 1 } else { 0 })
 }
 
-/// The answer of an operator, where its first operand tells it: of `&&` where that is false, and of `||` where it is true.
+/// The answer of an operator, where its first operand tells it: of `&&` where that is false, and of
+/// `||` where it is true.
 fn answer_at(
     alloc: Global,
     operator: BinaryOperator,
@@ -333,8 +355,8 @@ fn apply_call(
     }
 }
 
-/// How many marks stand between a step that is left out, where so many stood before it, and the one that ends what isn't needed. None where that
-/// is this step.
+/// How many marks stand between a step that is left out, where so many stood before it, and the one
+/// that ends what isn't needed. None where that is this step.
 fn passed(node: &Node, depth: usize) -> Option<usize>
     requires { depth < 2 ^ 63 }
     ensures { passed node.now depth ≡ mode_of result }

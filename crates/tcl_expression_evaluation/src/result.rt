@@ -6,7 +6,8 @@ use tcl_operators::fault::OperatorFault;
 use tcl_text::integer::{IntegerFault, Integers};
 use tcl_value::value::Value;
 
-/// The result of an expression of which this is the value: an integer text is written in decimal, and any other text is itself, as `expr(n)` has it.
+/// The result of an expression of which this is the value: an integer text is written in decimal,
+/// and any other text is itself, as `expr(n)` has it.
 ///
 /// # Errors
 /// 112 where the value is an integer text out of range.

@@ -5,4 +5,8 @@ use Rattle.tcl_flow.specs.View.{errorcode_of}
 use Rattle.tcl_flow.specs.declared.returning.CaughtOptions.{CaughtOptions}
 
 abbrev pub seen_caught : CaughtOptions → Options
-seen_caught c = record { code = c.code; level = c.level; errorcode = errorcode_of (option_copied c.errorcode) }
+seen_caught c = record {
+  code = c.code;
+  level = c.level;
+  errorcode = errorcode_of (option_copied c.errorcode);
+}

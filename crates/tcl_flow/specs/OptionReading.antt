@@ -1,5 +1,6 @@
 -- The options that the words of a return give.
-use Rattle.std.specs.Prelude.{◌≡◌, ◌↔◌, ℕ, zero, suc, ◌+◌, length, ℤ, cond, List, [], ◌∷◌, ◌++◌, Option, Some, None, Result, Ok, Err, codes}
+use Rattle.std.specs.Prelude.{◌≡◌, ◌↔◌, ℕ, zero, suc, ◌+◌, length, ℤ, cond, List, [], ◌∷◌, ◌++◌}
+use Rattle.std.specs.Prelude.{Option, Some, None, Result, Ok, Err, codes}
 use Rattle.std.specs.Str.{bytes_eq}
 use Rattle.tcl_text.specs.declared.integer.Integers.{Integers}
 use Rattle.tcl_value.specs.Dicts.{Pairs, dict_of}
@@ -11,7 +12,8 @@ use Rattle.tcl_flow.specs.declared.returning.OptionsFault.TheVariants.{BadOption
 use Rattle.tcl_flow.specs.declared.reading.OptionsError.{OptionsError}
 use Rattle.tcl_flow.specs.declared.reading.OptionsError.TheVariants.{Memory, Fault}
 use Rattle.tcl_flow.specs.declared.reading.OptionName.{OptionName}
-use Rattle.tcl_flow.specs.declared.reading.OptionName.TheVariants.{Code, Level, Errorcode, Nested, Other}
+use Rattle.tcl_flow.specs.declared.reading.OptionName.TheVariants.{Code, Level, Errorcode, Nested}
+use Rattle.tcl_flow.specs.declared.reading.OptionName.TheVariants.{Other}
 
 -- ## Words
 
@@ -31,7 +33,10 @@ result_in (k ∷ v ∷ l) = result_in l
 
 -- which option a name means; those that mean none are dropped with their values
 abbrev pub option_name : Text → OptionName
-option_name x = cond (bytes_eq x (codes "-code")) Code (cond (bytes_eq x (codes "-level")) Level (cond (bytes_eq x (codes "-errorcode")) Errorcode (cond (bytes_eq x (codes "-options")) Nested Other)))
+option_name x = cond (bytes_eq x (codes "-code")) Code
+    (cond (bytes_eq x (codes "-level")) Level
+    (cond (bytes_eq x (codes "-errorcode")) Errorcode
+    (cond (bytes_eq x (codes "-options")) Nested Other)))
 
 -- What an option comes to: the options are then these, or these entries stand in its place.
 pub data Meaning : Type 0 where
@@ -60,17 +65,23 @@ meaning Other style v o = Ok (sets o)
 
 -- ## All of them
 
--- Options are read from the left, so that later ones win, and a dict of options as if its entries stood there; the first that is
--- refused is told.
+-- Options are read from the left, so that later ones win, and a dict of options as if its entries
+-- stood there; the first that is refused is told.
 pub data Reads (style : Integers) : Pairs → Options → Result Options OptionsFault → Type 0 where
   ended : (o : Options) → Reads style [] o (Ok o)
-  set : (k v : Text) (rest : Pairs) (o p : Options) (r : Result Options OptionsFault) → meaning (option_name k) style v o ≡ Ok (sets p) → Reads style rest p r → Reads style ((k, v) ∷ rest) o r
-  opened : (k v : Text) (rest es : Pairs) (o : Options) (r : Result Options OptionsFault) → meaning (option_name k) style v o ≡ Ok (stands_for es) → Reads style (es ++ rest) o r → Reads style ((k, v) ∷ rest) o r
-  refused : (k v : Text) (rest : Pairs) (o : Options) (f : OptionsFault) → meaning (option_name k) style v o ≡ Err f → Reads style ((k, v) ∷ rest) o (Err f)
+  set : (k v : Text) (rest : Pairs) (o p : Options) (r : Result Options OptionsFault) →
+      meaning (option_name k) style v o ≡ Ok (sets p) → Reads style rest p r →
+      Reads style ((k, v) ∷ rest) o r
+  opened : (k v : Text) (rest es : Pairs) (o : Options) (r : Result Options OptionsFault) →
+      meaning (option_name k) style v o ≡ Ok (stands_for es) → Reads style (es ++ rest) o r →
+      Reads style ((k, v) ∷ rest) o r
+  refused : (k v : Text) (rest : Pairs) (o : Options) (f : OptionsFault) →
+      meaning (option_name k) style v o ≡ Err f → Reads style ((k, v) ∷ rest) o (Err f)
 
 -- the words of a return make this completion
 abbrev pub Makes : Integers → List Text → Completion → Type 0
-Makes style l c = (o : Options) × Reads style (options_in l) plain (Ok o) × (c ≡ returned (raised o) (result_in l))
+Makes style l c = (o : Options) × Reads style (options_in l) plain (Ok o) ×
+    (c ≡ returned (raised o) (result_in l))
 
 -- ## Reading from the left
 
@@ -80,7 +91,8 @@ weight [] = 0
 weight (p ∷ ps) = suc (length p.1) + weight ps
 
 -- on behind an option of this meaning
-abbrev pub and_on : Result Meaning OptionsFault → Pairs → Options → (Pairs → Options → Result Options OptionsFault) → Result Options OptionsFault
+abbrev pub and_on : Result Meaning OptionsFault → Pairs → Options →
+    (Pairs → Options → Result Options OptionsFault) → Result Options OptionsFault
 and_on (Ok (sets p)) rest o go = go rest p
 and_on (Ok (stands_for es)) rest o go = go (es ++ rest) o
 and_on (Err f) rest o go = Err f
@@ -89,7 +101,8 @@ and_on (Err f) rest o go = Err f
 abbrev pub read_within : ℕ → Integers → Pairs → Options → Result Options OptionsFault
 read_within zero style ps o = Ok o
 read_within (suc n) style [] o = Ok o
-read_within (suc n) style (p ∷ rest) o = and_on (meaning (option_name p.0) style p.1 o) rest o (read_within n style)
+read_within (suc n) style (p ∷ rest) o = and_on (meaning (option_name p.0) style p.1 o) rest o
+    (read_within n style)
 
 -- what the options come to, over those that were read before them
 abbrev pub read_over : Integers → Pairs → Options → Result Options OptionsFault
@@ -119,15 +132,19 @@ Gave (Some es) p o m = (m ≡ Ok (stands_for es)) × (p ≡ o)
 
 -- there is one way to read them
 abbrev pub OneReading : Type 0
-OneReading = (style : Integers) (ps : Pairs) (o : Options) (r q : Result Options OptionsFault) → Reads style ps o r → Reads style ps o q → r ≡ q
+OneReading = (style : Integers) (ps : Pairs) (o : Options) (r q : Result Options OptionsFault) →
+    Reads style ps o r → Reads style ps o q → r ≡ q
 
 -- and there is a way to read them
 abbrev pub SomeReading : Type 0
-SomeReading = (style : Integers) (ps : Pairs) (o : Options) → (r : Result Options OptionsFault) × Reads style ps o r
+SomeReading = (style : Integers) (ps : Pairs) (o : Options) → (r : Result Options OptionsFault) ×
+    Reads style ps o r
 
 -- The functions say what the relations say.
 abbrev pub ReadsSo : Type 0
-ReadsSo = (style : Integers) (ps : Pairs) (o : Options) (r : Result Options OptionsFault) → (read_over style ps o ≡ r) ↔ Reads style ps o r
+ReadsSo = (style : Integers) (ps : Pairs) (o : Options) (r : Result Options OptionsFault) →
+    (read_over style ps o ≡ r) ↔ Reads style ps o r
 
 abbrev pub MakesSo : Type 0
-MakesSo = (style : Integers) (l : List Text) (c : Completion) → (return_of style l ≡ Ok c) ↔ Makes style l c
+MakesSo = (style : Integers) (l : List Text) (c : Completion) →
+    (return_of style l ≡ Ok c) ↔ Makes style l c

@@ -1,5 +1,6 @@
 -- What the options of a return mean, and what a caught completion shows of its own.
-use Rattle.std.specs.Prelude.{ℕ, zero, suc, ℤ, pos, negsuc, cond, List, [], ◌∷◌, ◌++◌, Option, Some, None, Result, Ok, Err, codes}
+use Rattle.std.specs.Prelude.{ℕ, zero, suc, ℤ, pos, negsuc, cond, List, [], ◌∷◌, ◌++◌, Option, Some}
+use Rattle.std.specs.Prelude.{None, Result, Ok, Err, codes}
 use Rattle.std.specs.Str.{bytes_eq}
 use Rattle.std.specs.Fmt.{decimal, signed_decimal}
 use Rattle.tcl_text.specs.declared.integer.Integers.{Integers}
@@ -16,7 +17,11 @@ Text = List ℕ
 
 -- the code of a word
 abbrev pub code_word : Text → Option ℤ
-code_word x = cond (bytes_eq x (codes "ok")) (Some (pos 0)) (cond (bytes_eq x (codes "error")) (Some (pos 1)) (cond (bytes_eq x (codes "return")) (Some (pos 2)) (cond (bytes_eq x (codes "break")) (Some (pos 3)) (cond (bytes_eq x (codes "continue")) (Some (pos 4)) None))))
+code_word x = cond (bytes_eq x (codes "ok")) (Some (pos 0))
+    (cond (bytes_eq x (codes "error")) (Some (pos 1))
+    (cond (bytes_eq x (codes "return")) (Some (pos 2))
+    (cond (bytes_eq x (codes "break")) (Some (pos 3))
+    (cond (bytes_eq x (codes "continue")) (Some (pos 4)) None))))
 
 abbrev pub word_or_integer : Option ℤ → Result ℤ IntegerFault → Option ℤ
 word_or_integer (Some n) i = Some n
@@ -43,7 +48,8 @@ abbrev pub plain : Options
 plain = record { code = pos 0; level = 1; errorcode = NONE }
 
 abbrev pub raised_by : ℤ → Options → Options
-raised_by (pos (suc (suc zero))) o = record { code = pos 0; level = suc o.level; errorcode = o.errorcode }
+raised_by (pos (suc (suc zero))) o =
+    record { code = pos 0; level = suc o.level; errorcode = o.errorcode }
 raised_by n o = o
 
 -- `-code return` is `-code ok` one level higher
@@ -66,7 +72,8 @@ errorcode_shown n e = []
 
 -- the options dictionary, as the list of its keys and values
 abbrev pub shown : Options → List Text
-shown o = codes "-code" ∷ signed_decimal o.code ∷ codes "-level" ∷ decimal o.level ∷ errorcode_shown o.code o.errorcode
+shown o = codes "-code" ∷ signed_decimal o.code ∷ codes "-level" ∷ decimal o.level ∷ errorcode_shown
+    o.code o.errorcode
 
 abbrev pub caught_as : ℤ → Completion → Options
 caught_as (pos (suc (suc zero))) c = c.options

@@ -1,6 +1,7 @@
 //! Completions: a code, a text and options.
 ghost use Rattle.std.specs.Prelude.{◌≡◌, ◌≢◌, IfOk, OnOk, OnErr, pos};
-ghost use Rattle.tcl_core.specs.Endings.{settle, leave_proc, lowered, unreturned, ok, error, settled};
+ghost use Rattle.tcl_core.specs.Endings.{settle, leave_proc, lowered, unreturned, ok, error};
+ghost use Rattle.tcl_core.specs.Endings.{settled};
 ghost use Rattle.tcl_core.specs.Endings as core;
 ghost use Rattle.tcl_flow.specs.View.{completion_of};
 
@@ -85,8 +86,8 @@ fn lower(completion: &mut Completion)
     }
 }
 
-/// Makes a completion that of a procedure whose body ended so: a return comes one level nearer, a break or a continue is an error,
-/// and everything else passes.
+/// Makes a completion that of a procedure whose body ended so: a return comes one level nearer, a
+/// break or a continue is an error, and everything else passes.
 ///
 /// # Errors
 /// Want of memory.
@@ -103,24 +104,26 @@ pub fn leave_proc(alloc: Global, completion: &mut Completion) -> Result<(), Allo
     Ok(())
 }
 
-/// Makes a completion that of a script that was read from a file, whose own ended so: a return comes one level nearer, and everything
-/// else passes.
+/// Makes a completion that of a script that was read from a file, whose own ended so: a return
+/// comes one level nearer, and everything else passes.
 pub fn leave_file(completion: &mut Completion)
-    ensures { completion_of completion.new ≡ unreturned completion.old.code (completion_of completion.old) }
+    ensures { completion_of completion.new
+        ≡ unreturned completion.old.code (completion_of completion.old) }
 {
     if completion.code == RETURN {
         lower(completion);
     }
 }
 
-/// Makes a completion what is left of it where only ok and error may pass: a return is lowered by one level first; then a break, a
-/// continue and every other code are errors.
+/// Makes a completion what is left of it where only ok and error may pass: a return is lowered by
+/// one level first; then a break, a continue and every other code are errors.
 ///
 /// # Errors
 /// Want of memory; a return is lowered then all the same.
 pub fn settle(alloc: Global, completion: &mut Completion) -> Result<(), AllocError>
     ensures settled { OnOk result (completion_of completion.new ≡ settle (completion_of completion.old)) }
-    ensures lowered { OnErr result (completion_of completion.new ≡ unreturned completion.old.code (completion_of completion.old)) }
+    ensures lowered { OnErr result (completion_of completion.new
+        ≡ unreturned completion.old.code (completion_of completion.old)) }
 {
     leave_file(completion);
     settle_code(alloc, completion)
@@ -128,7 +131,8 @@ pub fn settle(alloc: Global, completion: &mut Completion) -> Result<(), AllocErr
 
 /// The same, of one that is no return with its last level.
 fn settle_code(alloc: Global, completion: &mut Completion) -> Result<(), AllocError>
-    ensures settled { OnOk result (completion_of completion.new ≡ settled completion.old.code (completion_of completion.old)) }
+    ensures settled { OnOk result (completion_of completion.new
+        ≡ settled completion.old.code (completion_of completion.old)) }
     ensures unchanged { OnErr result (completion.new ≡ completion.old) }
 {
     match completion.code {

@@ -1,4 +1,5 @@
-//! How a script ends: completions with their options, and the rules by which they pass from one evaluation to the next.
+//! How a script ends: completions with their options, and the rules by which they pass from one
+//! evaluation to the next.
 #![tactic(auto)]
 
 pub mod completion;

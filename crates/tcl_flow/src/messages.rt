@@ -46,7 +46,8 @@ pub fn continue_outside(alloc: Global) -> Result<Value, AllocError>
 /// # Errors
 /// Want of memory.
 pub fn bad_code(alloc: Global, code: i64) -> Result<Value, AllocError>
-    ensures { IfOk result (λ value. value ≡ codes "command returned bad code: " ++ signed_decimal code) }
+    ensures { IfOk result (λ value. value
+        ≡ codes "command returned bad code: " ++ signed_decimal code) }
 {
     let mut text = String::from_str(alloc, "command returned bad code: ")?;
     write!(text, "{code}")?;

@@ -1,8 +1,11 @@
 //! The options that the words of `return` give.
-ghost use Rattle.std.specs.Prelude.{◌≡◌, ◌++◌, ◌<◌, ◌≤◌, ◌^◌, ◌*◌, Ok, Err, Some, None, IfOk, OnOk, IfErr, reverse, length, drop};
+ghost use Rattle.std.specs.Prelude.{◌≡◌, ◌++◌, ◌<◌, ◌≤◌, ◌^◌, ◌*◌, Ok, Err, Some, None, IfOk, OnOk};
+ghost use Rattle.std.specs.Prelude.{IfErr, reverse, length, drop};
 ghost use Rattle.tcl_flow.specs.View.{options_of, completion_of};
 ghost use Rattle.tcl_flow.specs.Returning.{code_of, level_of, plain};
-ghost use Rattle.tcl_flow.specs.OptionReading.{in_place, options_in, result_in, option_name, meaning, Reads, Makes, IsRefused, Gave, OneReading, SomeReading, ReadsSo, MakesSo};
+ghost use Rattle.tcl_flow.specs.OptionReading.{in_place, options_in, result_in, option_name};
+ghost use Rattle.tcl_flow.specs.OptionReading.{meaning, Reads, Makes, IsRefused, Gave, OneReading};
+ghost use Rattle.tcl_flow.specs.OptionReading.{SomeReading, ReadsSo, MakesSo};
 ghost use Rattle.tcl_flow.specs.declared.returning.OptionsFault.TheVariants.{BadOption, BadCode};
 ghost use Rattle.tcl_flow.specs.declared.reading.OptionsError.TheVariants.{Memory};
 ghost use Rattle.tcl_value.specs.Dicts.{dict_of};
@@ -71,7 +74,8 @@ fn option_name(name: &str) -> OptionName
 /// The code that an option gives.
 fn code_given(alloc: Global, style: Integers, value: Value) -> Result<i64, OptionsError>
     ensures given { IfOk result (λ code. code_of style value ≡ Some code) }
-    ensures refused { IfErr result (λ e. IsRefused e (λ f. (code_of style value ≡ None) × (f ≡ BadCode value))) }
+    ensures refused { IfErr result
+        (λ e. IsRefused e (λ f. (code_of style value ≡ None) × (f ≡ BadCode value))) }
 {
     let mut value = value;
     match code_of(alloc, style, &mut value)? {
@@ -84,7 +88,8 @@ fn code_given(alloc: Global, style: Integers, value: Value) -> Result<i64, Optio
 fn level_given(alloc: Global, style: Integers, value: Value) -> Result<u64, OptionsError>
     ensures given { IfOk result (λ level. level_of style value ≡ Some level) }
     ensures small { IfOk result (λ level. level < 2 ^ 63) }
-    ensures refused { IfErr result (λ e. IsRefused e (λ f. (level_of style value ≡ None) × (f ≡ BadOption value))) }
+    ensures refused { IfErr result
+        (λ e. IsRefused e (λ f. (level_of style value ≡ None) × (f ≡ BadOption value))) }
 {
     let mut value = value;
     match level_of(style, &mut value) {
@@ -96,7 +101,8 @@ fn level_given(alloc: Global, style: Integers, value: Value) -> Result<u64, Opti
 /// The dict of options that an option gives.
 fn options_given(alloc: Global, value: Value) -> Result<Dict, OptionsError>
     ensures given { IfOk result (λ dict. dict_of value ≡ Ok dict) }
-    ensures refused { IfErr result (λ e. IsRefused e (λ f. (in_place (dict_of value) value ≡ Err f))) }
+    ensures refused { IfErr result
+        (λ e. IsRefused e (λ f. (in_place (dict_of value) value ≡ Err f))) }
 {
     let mut value = value;
     match value.as_dict(alloc) {
@@ -117,8 +123,12 @@ impl Options {
         name: &Text,
         value: Value,
     ) -> Result<Option<Dict>, OptionsError>
-        ensures given { IfOk result (λ found. Gave found (options_of self.new) (options_of self.old) (meaning (option_name name.now) style value (options_of self.old))) }
-        ensures refused { IfErr result (λ e. IsRefused e (λ f. meaning (option_name name.now) style value (options_of self.old) ≡ Err f)) }
+        ensures given { IfOk result
+            (λ found. Gave found (options_of self.new) (options_of self.old)
+            (meaning (option_name name.now) style value (options_of self.old))) }
+        ensures refused { IfErr result
+            (λ e. IsRefused e (λ f. meaning (option_name name.now) style value (options_of self.old)
+            ≡ Err f)) }
         ensures small { self.old.level < 2 ^ 63 → OnOk result (self.new.level < 2 ^ 63) }
     {
         match option_name(name.as_str()) {
@@ -174,8 +184,10 @@ fn read_pending(
     pending: Vec<(Text, Value)>,
 ) -> Result<Options, OptionsError>
     requires { options.level < 2 ^ 63 }
-    ensures given { IfOk result (λ o. Reads style (reverse pending.items) (options_of options) (Ok (options_of o))) }
-    ensures refused { IfErr result (λ e. IsRefused e (λ f. Reads style (reverse pending.items) (options_of options) (Err f))) }
+    ensures given { IfOk result
+        (λ o. Reads style (reverse pending.items) (options_of options) (Ok (options_of o))) }
+    ensures refused { IfErr result
+        (λ e. IsRefused e (λ f. Reads style (reverse pending.items) (options_of options) (Err f))) }
     ensures small { IfOk result (λ o. o.level < 2 ^ 63) }
 {
     let mut options = options;
@@ -199,23 +211,28 @@ fn result_word(words: &[Value]) -> Result<Value, AllocError>
 }
 
 impl Options {
-    /// The options that the words of a return give, which are names and values in turn: `-code c`, `-level n`, `-errorcode e`, and
-    /// `-options d`, a dict that is read as if its entries stood there. They are read from the left, so that later ones win; other
-    /// names are dropped with their values, and so is a word that is left over. (return(n))
+    /// The options that the words of a return give, which are names and values in turn: `-code c`,
+    /// `-level n`, `-errorcode e`, and `-options d`, a dict that is read as if its entries stood
+    /// there. They are read from the left, so that later ones win; other names are dropped with
+    /// their values, and so is a word that is left over. (return(n))
     ///
     /// # Errors
-    /// Refusal 221: `bad completion code "x"`, of a code that is neither a word nor an integer; `bad option "x"`, of a level that is no
-    /// integer from 0 up and of options that are no dict. The first that is refused is told. Want of memory.
+    /// Refusal 221: `bad completion code "x"`, of a code that is neither a word nor an integer;
+    /// `bad option "x"`, of a level that is no integer from 0 up and of options that are no dict.
+    /// The first that is refused is told. Want of memory.
     pub fn read(alloc: Global, style: Integers, words: &[Value]) -> Result<Options, OptionsError>
-        ensures given { IfOk result (λ o. Reads style (options_in words.now) plain (Ok (options_of o))) }
-        ensures refused { IfErr result (λ e. IsRefused e (λ f. Reads style (options_in words.now) plain (Err f))) }
+        ensures given { IfOk result
+            (λ o. Reads style (options_in words.now) plain (Ok (options_of o))) }
+        ensures refused { IfErr result
+            (λ e. IsRefused e (λ f. Reads style (options_in words.now) plain (Err f))) }
         ensures small { IfOk result (λ o. o.level < 2 ^ 63) }
     {
         read_pending(alloc, style, Options::new(), pending_words(alloc, words)?)
     }
 }
 
-/// The completion that `return` makes with these words: names of options and values in turn, and perhaps a result behind them.
+/// The completion that `return` makes with these words: names of options and values in turn, and
+/// perhaps a result behind them.
 ///
 /// # Errors
 /// As of [`Options::read`].
@@ -225,7 +242,8 @@ pub fn return_words(
     words: &[Value],
 ) -> Result<Completion, OptionsError>
     ensures made { IfOk result (λ c. Makes style words.now (completion_of c)) }
-    ensures refused { IfErr result (λ e. IsRefused e (λ f. Reads style (options_in words.now) plain (Err f))) }
+    ensures refused { IfErr result
+        (λ e. IsRefused e (λ f. Reads style (options_in words.now) plain (Err f))) }
 {
     let options = Options::read(alloc, style, words)?;
     Ok(make_return(options, result_word(words)?))

@@ -6,7 +6,8 @@ ghost use Rattle.tcl_value.specs.Limits.{IsPast};
 ghost use Rattle.tcl_value.specs.Writing.{write};
 ghost use Rattle.std.specs.Option.{option_copied};
 ghost use Rattle.tcl_flow.specs.View.{options_of, completion_of, errorcode_of};
-ghost use Rattle.tcl_flow.specs.Returning.{code_word, code_of, level_of, plain, raised, returned, errorcode_shown, shown, caught, options_message};
+ghost use Rattle.tcl_flow.specs.Returning.{code_word, code_of, level_of, plain, raised, returned};
+ghost use Rattle.tcl_flow.specs.Returning.{errorcode_shown, shown, caught, options_message};
 
 use crate::completion::{Completion, ERROR, OK, Options, RETURN};
 use std::alloc::{AllocError, Global};
@@ -89,7 +90,8 @@ pub fn level_of(style: Integers, value: &mut Value) -> Option<u64>
 }
 
 impl Options {
-    /// The options of a return that is given none: its text is that of the procedure that it leaves.
+    /// The options of a return that is given none: its text is that of the procedure that it
+    /// leaves.
     pub fn new() -> Options
         ensures { options_of result ≡ plain }
     {
@@ -123,8 +125,8 @@ impl Options {
     }
 }
 
-/// The completion of `return` with these options and this result: at level 0 the code applies at once, and `-code return` is
-/// `-code ok` one level higher.
+/// The completion of `return` with these options and this result: at level 0 the code applies at
+/// once, and `-code return` is `-code ok` one level higher.
 pub fn make_return(options: Options, text: Value) -> Completion
     requires { options.level < 2 ^ 64 - 1 }
     ensures { completion_of result ≡ returned (raised (options_of options)) text }
@@ -195,7 +197,9 @@ fn push_errorcode(
     code: i64,
     errorcode: Option<&Value>,
 ) -> Result<(), AllocError>
-    ensures { OnOk result (words.new.items ≡ words.old.items ++ errorcode_shown code (errorcode_of (option_copied errorcode.entry))) }
+    ensures { OnOk result
+        (words.new.items ≡ words.old.items ++ errorcode_shown code
+        (errorcode_of (option_copied errorcode.entry))) }
 {
     match code {
         ERROR => push_pair(
@@ -246,14 +250,16 @@ fn options_text(alloc: Global, completion: &Completion) -> Result<Text, AllocErr
     Text::from_string(alloc, write_list(alloc, words.as_slice())?)
 }
 
-/// The options dictionary of a completion that was caught: `-code c -level n` and, where c is 1, `-errorcode e`. Where it is no return,
-/// c is its code and n is 0.
+/// The options dictionary of a completion that was caught: `-code c -level n` and, where c is 1,
+/// `-errorcode e`. Where it is no return, c is its code and n is 0.
 ///
 /// # Errors
 /// [`ValueError::TooLong`] only where the dictionary would be too long for a value; want of memory.
 pub fn caught_options(alloc: Global, completion: &Completion) -> Result<Value, ValueError>
-    ensures made { IfOk result (λ value. value ≡ write (shown (caught (completion_of completion.now)))) }
-    ensures refused { IsErrOf result ValueError.TooLong → IsPast (write (shown (caught (completion_of completion.now)))) }
+    ensures made { IfOk result
+        (λ value. value ≡ write (shown (caught (completion_of completion.now)))) }
+    ensures refused { IsErrOf result ValueError.TooLong →
+        IsPast (write (shown (caught (completion_of completion.now)))) }
 {
     let text = options_text(alloc, completion)?;
     Value::from_text(text)

@@ -21,15 +21,16 @@ pub enum StopKind {
 /// A stop: no construct of the interpreters that it ends catches it.
 #[derive(Clone, Copy, Debug, Drop)]
 pub struct Stop {
-    /// How many levels the interpreter whose limit would be passed stands above the one whose evaluation ends.
+    /// How many levels the interpreter whose limit would be passed stands above the one whose
+    /// evaluation ends.
     pub levels_up: usize,
     /// Which of its limits that is.
     pub kind: StopKind,
 }
 
 impl StopKind {
-    /// The error that a stop becomes outside the interpreter that it names: `command count limit exceeded`, or
-    /// `too many nested evaluations (infinite loop?)`.
+    /// The error that a stop becomes outside the interpreter that it names: `command count limit
+    /// exceeded`, or `too many nested evaluations (infinite loop?)`.
     ///
     /// # Errors
     /// Want of memory.

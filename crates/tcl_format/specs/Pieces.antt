@@ -1,5 +1,7 @@
 -- What a specifier makes of a value.
-use Rattle.std.specs.Prelude.{ℕ, suc, ◌-◌, ◌^◌, ℤ, pos, negsuc, ◌&&◌, ◌||◌, nat_lt, nat_le, Bool, true, false, if◌then◌else◌, List, [], ◌∷◌, ◌++◌, length, take, unsigned_abs, Ok, Err, Some, None, codes}
+use Rattle.std.specs.Prelude.{ℕ, suc, ◌-◌, ◌^◌, ℤ, pos, negsuc, ◌&&◌, ◌||◌, nat_lt, nat_le, Bool}
+use Rattle.std.specs.Prelude.{true, false, if◌then◌else◌, List, [], ◌∷◌, ◌++◌, length, take}
+use Rattle.std.specs.Prelude.{unsigned_abs, Ok, Err, Some, None, codes}
 use Rattle.std.specs.declared.option.Option.{Option}
 use Rattle.std.specs.Char.{encode_utf8}
 use Rattle.std.specs.Fmt.{decimal, digits}
@@ -10,7 +12,8 @@ use Rattle.tcl_words.specs.Faults.{quoted}
 use Rattle.tcl_words.specs.Words.{integer_word}
 use Rattle.tcl_characters.specs.Texts.{text_of, copies}
 use Rattle.tcl_format.specs.declared.specifier.Radix.{Radix}
-use Rattle.tcl_format.specs.declared.specifier.Radix.TheVariants.{Binary, Octal, Hexadecimal, UpperHexadecimal}
+use Rattle.tcl_format.specs.declared.specifier.Radix.TheVariants.{Binary, Octal, Hexadecimal}
+use Rattle.tcl_format.specs.declared.specifier.Radix.TheVariants.{UpperHexadecimal}
 use Rattle.tcl_format.specs.declared.specifier.Kind.{Kind}
 use Rattle.tcl_format.specs.declared.specifier.Kind.TheVariants.{Decimal, Pattern, Character, Text}
 use Rattle.tcl_format.specs.declared.specifier.Specifier.{Specifier}
@@ -21,12 +24,14 @@ use Rattle.tcl_format.specs.declared.specifier.Specifier.{Specifier}
 abbrev pub room : ℕ → List ℕ → List ℕ → ℕ
 room width sign body = width - length sign - length (chars body)
 
--- A sign and a body, with blanks or zeros where the width asks for more characters: blanks behind them by the flag -, zeros
--- between them by the flag 0 if they are a number, else blanks before them.
+-- A sign and a body, with blanks or zeros where the width asks for more characters: blanks behind
+-- them by the flag -, zeros between them by the flag 0 if they are a number, else blanks before
+-- them.
 abbrev pub padded : Specifier → Bool → List ℕ → List ℕ → List ℕ
 padded s numeric sign body =
     if s.flags.left then sign ++ (body ++ copies (room s.width sign body) (32 ∷ []))
-    else (if s.flags.zeros && numeric then sign ++ (copies (room s.width sign body) (48 ∷ []) ++ body)
+    else (if s.flags.zeros && numeric
+    then sign ++ (copies (room s.width sign body) (48 ∷ []) ++ body)
     else copies (room s.width sign body) (32 ∷ []) ++ (sign ++ body))
 
 -- ---- numbers
@@ -74,7 +79,10 @@ cut (Some n) text = text_of (take n (chars text))
 -- ---- each kind; `cs` are the characters of the specifier
 
 abbrev pub piece : Integers → Specifier → List ℕ → Kind → List ℕ → Outcome
-piece style s cs Decimal value = next (integer_word style value) (λ n. Ok (padded s true (sign_of s.flags.plus n) (decimal (unsigned_abs n))))
-piece style s cs (Pattern radix) value = next (integer_word style value) (λ n. Ok (padded s true [] (digits_in radix (pattern n))))
-piece style s cs Character value = next (integer_word style value) (λ n. character_or s cs (scalar_of n))
+piece style s cs Decimal value = next (integer_word style value)
+    (λ n. Ok (padded s true (sign_of s.flags.plus n) (decimal (unsigned_abs n))))
+piece style s cs (Pattern radix) value = next (integer_word style value)
+    (λ n. Ok (padded s true [] (digits_in radix (pattern n))))
+piece style s cs Character value = next (integer_word style value)
+    (λ n. character_or s cs (scalar_of n))
 piece style s cs Text value = Ok (padded s false [] (cut s.precision value))

@@ -1,10 +1,12 @@
 -- What stands behind a `%`.
-use Rattle.std.specs.Prelude.{ℕ, ◌+◌, ◌-◌, ◌*◌, min, ◌==◌, ◌||◌, nat_le, Bool, false, if◌then◌else◌, List, [], ◌∷◌, length, take, Some, None}
+use Rattle.std.specs.Prelude.{ℕ, ◌+◌, ◌-◌, ◌*◌, min, ◌==◌, ◌||◌, nat_le, Bool, false, if◌then◌else◌}
+use Rattle.std.specs.Prelude.{List, [], ◌∷◌, length, take, Some, None}
 use Rattle.std.specs.declared.option.Option.{Option}
 use Rattle.std.specs.Char.{is_ascii_digit}
 use Rattle.tcl_format.specs.declared.specifier.Flags.{Flags}
 use Rattle.tcl_format.specs.declared.specifier.Radix.{Radix}
-use Rattle.tcl_format.specs.declared.specifier.Radix.TheVariants.{Binary, Octal, Hexadecimal, UpperHexadecimal}
+use Rattle.tcl_format.specs.declared.specifier.Radix.TheVariants.{Binary, Octal, Hexadecimal}
+use Rattle.tcl_format.specs.declared.specifier.Radix.TheVariants.{UpperHexadecimal}
 use Rattle.tcl_format.specs.declared.specifier.Kind.TheVariants.{Decimal, Pattern, Character, Text}
 use Rattle.tcl_format.specs.declared.specifier.Conversion.{Conversion}
 use Rattle.tcl_format.specs.declared.specifier.Conversion.TheVariants.{Percent, Value}
@@ -20,7 +22,11 @@ no_flags = record { left = false; zeros = false; plus = false }
 
 -- these flags, and that of a character
 abbrev pub with_flag : Flags → ℕ → Flags
-with_flag f c = record { left = f.left || c == 45; zeros = f.zeros || c == 48; plus = f.plus || c == 43 }
+with_flag f c = record {
+  left = f.left || c == 45;
+  zeros = f.zeros || c == 48;
+  plus = f.plus || c == 43;
+}
 
 -- the flags that stand first, beside those before them, and what follows
 abbrev pub read_flags : Flags → List ℕ → Flags × List ℕ
@@ -32,7 +38,8 @@ read_flags f (c ∷ cs) = if is_flag c then read_flags (with_flag f c) cs else (
 -- the number of the decimal digits that stand first, behind those of n, and what follows
 abbrev pub read_number : ℕ → List ℕ → ℕ × List ℕ
 read_number n [] = (n, [])
-read_number n (c ∷ cs) = if is_ascii_digit c then read_number (n * 10 + (c - 48)) cs else (n, c ∷ cs)
+read_number n (c ∷ cs) = if is_ascii_digit c then read_number (n * 10 + (c - 48)) cs
+    else (n, c ∷ cs)
 
 -- numbers past the most characters of a value are as good as that
 abbrev pub capped : ℕ × List ℕ → ℕ × List ℕ
@@ -80,7 +87,12 @@ conversion_of c =
 abbrev pub made_of : Flags → ℕ → Option ℕ → Option Conversion → Option Specifier
 made_of flags width precision None = None
 made_of flags width precision (Some conversion) =
-    if nat_le width 9999 then Some (record { flags = flags; width = width; precision = precision; conversion = conversion }) else None
+    if nat_le width 9999 then Some (record {
+      flags = flags;
+      width = width;
+      precision = precision;
+      conversion = conversion;
+    }) else None
 
 -- the specifier that is closed by the next character, if it is one
 abbrev pub closed : Flags → ℕ → Option ℕ → List ℕ → Option Specifier × List ℕ
@@ -96,7 +108,8 @@ behind_width flags p = behind_precision flags p.0 (read_precision p.1)
 abbrev pub behind_flags : Flags × List ℕ → Option Specifier × List ℕ
 behind_flags p = behind_width p.0 (capped (read_number 0 p.1))
 
--- the specifier with which these characters begin, if they begin with one, and what follows the character that closes it
+-- the specifier with which these characters begin, if they begin with one, and what follows the
+-- character that closes it
 abbrev pub specified : List ℕ → Option Specifier × List ℕ
 specified cs = behind_flags (read_flags no_flags cs)
 

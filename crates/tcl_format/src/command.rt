@@ -4,7 +4,8 @@ ghost use Rattle.std.specs.Str.{chars};
 ghost use Rattle.std.specs.String.{string_bytes};
 ghost use Rattle.tcl_words.specs.Outcomes.{Gives, answer_text};
 ghost use Rattle.tcl_format.specs.Specifiers.{shown};
-ghost use Rattle.tcl_format.specs.Filling.{item_of, items, next_value, put_value, put_item, filled, format_of};
+ghost use Rattle.tcl_format.specs.Filling.{item_of, items, next_value, put_value, put_item, filled};
+ghost use Rattle.tcl_format.specs.Filling.{format_of};
 
 use crate::pieces::{add_letter, add_padded, add_piece};
 use crate::refusal::{bad_format, not_enough};
@@ -37,7 +38,10 @@ fn add_value<'a>(
     values: &'a [Text],
 ) -> Result<&'a [Text], Refusal>
     requires { length (string_bytes made.old) ≤ 16777216 }
-    ensures added { Gives (λ left. (string_bytes made.new, left.now)) result (put_value style (string_bytes made.old) specifier (shown (chars text.now) (chars rest.now)) (Conversion.Value kind) values.now) }
+    ensures added { Gives
+        (λ left. (string_bytes made.new, left.now)) result
+        (put_value style (string_bytes made.old) specifier (shown (chars text.now) (chars rest.now))
+        (Conversion.Value kind) values.now) }
     ensures within { OnOk result (length (string_bytes made.new) ≤ 16777216) }
 {
     let (value, left) = next_value(alloc, values)?;
@@ -65,7 +69,10 @@ fn add_specified<'a>(
     values: &'a [Text],
 ) -> Result<&'a [Text], Refusal>
     requires { length (string_bytes made.old) ≤ 16777216 }
-    ensures added { Gives (λ left. (string_bytes made.new, left.now)) result (put_item style (string_bytes made.old) (item_of read (shown (chars text.now) (chars rest.now))) values.now) }
+    ensures added { Gives
+        (λ left. (string_bytes made.new, left.now)) result
+        (put_item style (string_bytes made.old)
+        (item_of read (shown (chars text.now) (chars rest.now))) values.now) }
     ensures within { OnOk result (length (string_bytes made.new) ≤ 16777216) }
 {
     let Some(specifier) = read else {
@@ -102,8 +109,8 @@ fn filled(alloc: Global, style: Integers, text: &str, values: &[Text]) -> Result
     Ok(made)
 }
 
-/// `format formatString ?arg ...?`: the text with values in the place of its specifiers, from the left. Values that are left
-/// over count for nothing.
+/// `format formatString ?arg ...?`: the text with values in the place of its specifiers, from the
+/// left. Values that are left over count for nothing.
 ///
 /// # Errors
 /// 241; the first from the left of 251, 111, 112 and 122; want of memory.

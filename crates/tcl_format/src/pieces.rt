@@ -7,7 +7,8 @@ ghost use Rattle.std.specs.String.{string_bytes};
 ghost use Rattle.tcl_words.specs.Outcomes.{Gives, next};
 ghost use Rattle.tcl_words.specs.Limits.{limited};
 ghost use Rattle.tcl_format.specs.Specifiers.{shown};
-ghost use Rattle.tcl_format.specs.Pieces.{padded, sign_of, pattern, digits_in, scalar_of, cut, piece};
+ghost use Rattle.tcl_format.specs.Pieces.{padded, sign_of, pattern, digits_in, scalar_of, cut};
+ghost use Rattle.tcl_format.specs.Pieces.{piece};
 
 use crate::refusal::bad_format;
 use crate::specifier::{Kind, Radix, Specifier};
@@ -26,7 +27,8 @@ use tcl_words::refusal::{Refusal, too_long};
 /// 122 where it would be longer than [`MOST_BYTES`]; want of memory.
 pub(crate) fn add(alloc: Global, made: &mut String, more: &str) -> Result<(), Refusal>
     requires { length (string_bytes made.old) ≤ 16777216 }
-    ensures added { Gives (λ _. string_bytes made.new) result (limited (string_bytes made.old ++ more.now)) }
+    ensures added { Gives
+        (λ _. string_bytes made.new) result (limited (string_bytes made.old ++ more.now)) }
     ensures within { OnOk result (length (string_bytes made.new) ≤ 16777216) }
 {
     if more.len() > MOST_BYTES - made.len() {
@@ -42,7 +44,9 @@ pub(crate) fn add(alloc: Global, made: &mut String, more: &str) -> Result<(), Re
 /// 122 where it would be longer than [`MOST_BYTES`]; want of memory.
 pub(crate) fn add_letter(alloc: Global, made: &mut String, letter: char) -> Result<(), Refusal>
     requires { length (string_bytes made.old) ≤ 16777216 }
-    ensures added { Gives (λ _. string_bytes made.new) result (limited (string_bytes made.old ++ encode_utf8 letter)) }
+    ensures added { Gives
+        (λ _. string_bytes made.new) result
+        (limited (string_bytes made.old ++ encode_utf8 letter)) }
     ensures within { OnOk result (length (string_bytes made.new) ≤ 16777216) }
 {
     add(alloc, made, letter.encode_utf8(&mut [0; 4]))
@@ -57,7 +61,9 @@ fn add_three(
     three: &str,
 ) -> Result<(), Refusal>
     requires { length (string_bytes made.old) ≤ 16777216 }
-    ensures added { Gives (λ _. string_bytes made.new) result (limited (string_bytes made.old ++ (one.now ++ (two.now ++ three.now)))) }
+    ensures added { Gives
+        (λ _. string_bytes made.new) result
+        (limited (string_bytes made.old ++ (one.now ++ (two.now ++ three.now)))) }
     ensures within { OnOk result (length (string_bytes made.new) ≤ 16777216) }
 {
     add(alloc, made, one)?;
@@ -65,7 +71,8 @@ fn add_three(
     add(alloc, made, three)
 }
 
-/// Adds a sign and what follows it, with blanks or zeros where the width of a specifier asks for more characters.
+/// Adds a sign and what follows it, with blanks or zeros where the width of a specifier asks for
+/// more characters.
 pub(crate) fn add_padded(
     alloc: Global,
     made: &mut String,
@@ -75,7 +82,9 @@ pub(crate) fn add_padded(
     body: &str,
 ) -> Result<(), Refusal>
     requires { length (string_bytes made.old) ≤ 16777216 }
-    ensures added { Gives (λ _. string_bytes made.new) result (limited (string_bytes made.old ++ padded specifier numeric sign.now body.now)) }
+    ensures added { Gives
+        (λ _. string_bytes made.new) result
+        (limited (string_bytes made.old ++ padded specifier numeric sign.now body.now)) }
     ensures within { OnOk result (length (string_bytes made.new) ≤ 16777216) }
 {
     let room = specifier
@@ -150,7 +159,8 @@ fn cut(precision: Option<usize>, text: &str) -> &str
     }
 }
 
-/// Adds what a specifier makes of a value. The specifier's characters stand first in `text`, before `rest`.
+/// Adds what a specifier makes of a value. The specifier's characters stand first in `text`, before
+/// `rest`.
 ///
 /// # Errors
 /// 111, 112, 251, 122; want of memory.
@@ -165,7 +175,10 @@ pub(crate) fn add_piece(
     value: &str,
 ) -> Result<(), Refusal>
     requires { length (string_bytes made.old) ≤ 16777216 }
-    ensures added { Gives (λ _. string_bytes made.new) result (next (piece style specifier (shown (chars text.now) (chars rest.now)) kind value.now) (λ t. limited (string_bytes made.old ++ t))) }
+    ensures added { Gives
+        (λ _. string_bytes made.new) result
+        (next (piece style specifier (shown (chars text.now) (chars rest.now)) kind value.now)
+        (λ t. limited (string_bytes made.old ++ t))) }
     ensures within { OnOk result (length (string_bytes made.new) ≤ 16777216) }
 {
     match kind {

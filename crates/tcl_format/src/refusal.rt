@@ -24,8 +24,9 @@ fn shown<'a>(text: &'a str, rest: &str) -> &'a str
 }
 
 /// The refusal of a text that was made, or want of memory.
-fn told(message: Result<Text, AllocError>) -> Refusal
-    ensures { (text : List ℕ) → IfOk message (λ made. made ≡ text) → Refuses {X = List ℕ} result (Err text) }
+fn fault_with(message: Result<Text, AllocError>) -> Refusal
+    ensures { (text : List ℕ) → IfOk message (λ made. made ≡ text) →
+        Refuses {X = List ℕ} result (Err text) }
 {
     match message {
         Ok(text) => Refusal::Fault(text),
@@ -40,17 +41,18 @@ fn bad_format_text(alloc: Global, text: &str, rest: &str) -> Result<Text, AllocE
     quoting(alloc, "bad format \"%", shown(text, rest))
 }
 
-/// What is told of a text behind `%` that is no specifier, or whose value has no character (251): its characters before what
-/// follows.
+/// What is told of a text behind `%` that is no specifier, or whose value has no character (251):
+/// its characters before what follows.
 pub fn bad_format(alloc: Global, text: &str, rest: &str) -> Refusal
-    ensures { Refuses {X = List ℕ} result (Err (bad_format (shown (chars text.now) (chars rest.now)))) }
+    ensures { Refuses {X = List ℕ} result
+        (Err (bad_format (shown (chars text.now) (chars rest.now)))) }
 {
-    told(bad_format_text(alloc, text, rest))
+    fault_with(bad_format_text(alloc, text, rest))
 }
 
 /// What is told where no value is left for a specifier (251).
 pub fn not_enough(alloc: Global) -> Refusal
     ensures { Refuses {X = List ℕ} result (Err not_enough) }
 {
-    told(Text::new(alloc, "not enough arguments for all format specifiers"))
+    fault_with(Text::new(alloc, "not enough arguments for all format specifiers"))
 }

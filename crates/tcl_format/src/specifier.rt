@@ -1,7 +1,9 @@
 //! What stands behind a `%`: how a value is to be written.
 ghost use Rattle.std.specs.Prelude.{◌≡◌, ◌∷◌, [], MatchOption};
 ghost use Rattle.std.specs.Str.{chars};
-ghost use Rattle.tcl_format.specs.Specifiers.{is_flag, with_flag, no_flags, read_flags, read_number, capped, read_precision, behind_l, radix_of, conversion_of, made_of, closed, specified};
+ghost use Rattle.tcl_format.specs.Specifiers.{is_flag, with_flag, no_flags, read_flags};
+ghost use Rattle.tcl_format.specs.Specifiers.{read_number, capped, read_precision, behind_l};
+ghost use Rattle.tcl_format.specs.Specifiers.{radix_of, conversion_of, made_of, closed, specified};
 
 use tcl_text::limit::MOST_BYTES;
 
@@ -67,7 +69,8 @@ pub struct Specifier {
 
 /// The first character of a text, and what follows it.
 pub(crate) fn first(text: &str) -> Option<(char, &str)>
-    ensures { MatchOption result (chars text.now ≡ []) (λ found. chars text.now ≡ found.0 ∷ chars found.1.now) }
+    ensures { MatchOption result (chars text.now ≡ [])
+        (λ found. chars text.now ≡ found.0 ∷ chars found.1.now) }
 {
     let mut characters = text.chars();
     let letter = characters.next()?;
@@ -121,7 +124,8 @@ fn read_flags(text: &str) -> (Flags, &str)
     (flags, rest)
 }
 
-/// The number of the digits with which a text begins, at most [`MOST_BYTES`], and what follows them.
+/// The number of the digits with which a text begins, at most [`MOST_BYTES`], and what follows
+/// them.
 fn read_number(text: &str) -> (usize, &str)
     ensures { (result.0, chars result.1.now) ≡ capped (read_number 0 (chars text.now)) }
 {
@@ -229,8 +233,8 @@ fn closed(
     )
 }
 
-/// The specifier with which a text begins, which stands behind a `%`, or none; and what follows the character that closes it
-/// or that can't stand in it.
+/// The specifier with which a text begins, which stands behind a `%`, or none; and what follows the
+/// character that closes it or that can't stand in it.
 pub fn read_specifier(text: &str) -> (Option<Specifier>, &str)
     ensures { (result.0, chars result.1.now) ≡ specified (chars text.now) }
 {

@@ -15,7 +15,7 @@ use Rattle.tcl_variables.specs.Rebinding.{with_variable}
 use Rattle.tcl_variables.specs.Faults.{Refuses}
 use Rattle.tcl_variables.specs.declared.fault.FrameError.TheVariants.{Fault}
 use Rattle.tcl_frames.specs.Sound.{AreFit}
-use Rattle.tcl_variables.specs.declared.variable.Place.{Place}
+use Rattle.tcl_variables.specs.declared.variable.LinkTarget.{LinkTarget}
 use Rattle.tcl_variables.specs.declared.variable.Variable.{Variable}
 use Rattle.tcl_variables.specs.declared.variable.Variable.TheVariants.{Scalar, Array, Link}
 use Rattle.tcl_variables.specs.declared.fault.Verb.TheVariants.{Read}
@@ -34,7 +34,7 @@ spot n x r = record { level = n; name = x; part = r }
 next_spot : (fs : Levels) (n : ℕ) (x : Text) (r : Part) → next fs (spot n x r) ≡ option_map (λ q. under q r) (link_of (bound fs n x))
 next_spot fs n x r = next_link fs (spot n x r)
 
-or_same : (b : Bool) (o : Option Place) (g : Spot → Bool) (r s : Part) → ((q : Place) → g (under q r) ≡ g (under q s)) → or_onward b (option_map (λ q. under q r) o) g ≡ or_onward b (option_map (λ q. under q s) o) g
+or_same : (b : Bool) (o : Option LinkTarget) (g : Spot → Bool) (r s : Part) → ((q : LinkTarget) → g (under q r) ≡ g (under q s)) → or_onward b (option_map (λ q. under q r) o) g ≡ or_onward b (option_map (λ q. under q s) o) g
 or_same true o g r s h = refl
 or_same false None g r s h = refl
 or_same false (Some q) g r s h = h q
@@ -56,7 +56,7 @@ passes_part (suc k) fs m y n x r s =
     ∙ ap (λ o. or_onward (is_at m y (spot n x s)) o (passes k (next fs) (is_at m y))) (sym (next_spot fs n x s))
     ∙ sym (passes_suc_is k fs m y (spot n x s))
 
-more_same : (o : Option Place) (g : Spot → ℕ) (r s : Part) → ((q : Place) → g (under q r) ≡ g (under q s)) → one_more (option_map (λ q. under q r) o) g ≡ one_more (option_map (λ q. under q s) o) g
+more_same : (o : Option LinkTarget) (g : Spot → ℕ) (r s : Part) → ((q : LinkTarget) → g (under q r) ≡ g (under q s)) → one_more (option_map (λ q. under q r) o) g ≡ one_more (option_map (λ q. under q s) o) g
 more_same None g r s h = refl
 more_same (Some q) g r s h = ap suc (h q)
 
@@ -78,7 +78,7 @@ hops_part (suc k) fs n x r s =
     ∙ sym (hops_suc_is k fs (spot n x s))
 
 -- one link onward
-pub passes_next : (fs : Levels) → AreFit 0 fs → (m : ℕ) (y : Text) (n : ℕ) (x : Text) (r : Part) (q : Place) → link_of (bound fs n x) ≡ Some q → is_at m y (spot n x r) ≡ false
+pub passes_next : (fs : Levels) → AreFit 0 fs → (m : ℕ) (y : Text) (n : ℕ) (x : Text) (r : Part) (q : LinkTarget) → link_of (bound fs n x) ≡ Some q → is_at m y (spot n x r) ≡ false
     → passes (links fs) (next fs) (is_at m y) (spot n x r) ≡ passes (links fs) (next fs) (is_at m y) (under q whole)
 passes_next fs fit m y n x r q e apart =
     passes_on (links fs) (next fs) (is_at m y) (spot n x r) (under q r) (follow_some fs (spot n x r) q e) apart (links_end fs fit (spot n x r))
@@ -87,7 +87,7 @@ passes_next fs fit m y n x r q e apart =
 pub passes_last : (fs : Levels) (m : ℕ) (y : Text) (n : ℕ) (x : Text) (r : Part) → link_of (bound fs n x) ≡ None → is_at m y (spot n x r) ≡ false → passes (links fs) (next fs) (is_at m y) (spot n x r) ≡ false
 passes_last fs m y n x r e apart = passes_stop (links fs) (next fs) (is_at m y) (spot n x r) (follow_none fs (spot n x r) e) ∙ apart
 
-pub hops_next : (fs : Levels) → AreFit 0 fs → (n : ℕ) (x : Text) (r : Part) (q : Place) → link_of (bound fs n x) ≡ Some q → hops (links fs) (next fs) (under q whole) < hops (links fs) (next fs) (spot n x r)
+pub hops_next : (fs : Levels) → AreFit 0 fs → (n : ℕ) (x : Text) (r : Part) (q : LinkTarget) → link_of (bound fs n x) ≡ Some q → hops (links fs) (next fs) (under q whole) < hops (links fs) (next fs) (spot n x r)
 hops_next fs fit n x r q e =
     let falls = follow_falls fs fit (spot n x r) q e in
     let same = hops_part (links fs) fs q.level q.name (merge (part_of q.key) r) (merge (part_of q.key) whole) in
@@ -95,13 +95,13 @@ hops_next fs fit n x r q e =
 
 -- ## The definition, case by case
 
-pub over_free : (fs : Levels) (o : Option Variable) (local : Text) (q : Place) → may_link o ≡ true → link_over fs o local q ≡ Ok (bind fs (current fs) local (Link q))
+pub over_free : (fs : Levels) (o : Option Variable) (local : Text) (q : LinkTarget) → may_link o ≡ true → link_over fs o local q ≡ Ok (bind fs (current fs) local (Link q))
 over_free fs None local q h = refl
 over_free fs (Some (Scalar t)) local q h = absurd (true≢false (sym h))
 over_free fs (Some (Array es)) local q h = absurd (true≢false (sym h))
 over_free fs (Some (Link p)) local q h = refl
 
-pub over_held : (fs : Levels) (o : Option Variable) (local : Text) (q : Place) → may_link o ≡ false → link_over fs o local q ≡ Err (Exists local)
+pub over_held : (fs : Levels) (o : Option Variable) (local : Text) (q : LinkTarget) → may_link o ≡ false → link_over fs o local q ≡ Err (Exists local)
 over_held fs None local q h = absurd (true≢false h)
 over_held fs (Some (Scalar t)) local q h = refl
 over_held fs (Some (Array es)) local q h = refl
@@ -143,7 +143,7 @@ to_place : (fs : Levels) (other local : Text) (n : ℕ) (x : Text) (k : Option T
 to_place fs other local n x None = refl
 to_place fs other local n x (Some k) = refl
 
-pub from_place : (fs : Levels) (b : Bool) (other local : Text) (p : Spot) (q : Place) → b ≡ false → p ≡ under q whole → link_from fs b other local p ≡ link_over fs (bound fs (current fs) local) local q
+pub from_place : (fs : Levels) (b : Bool) (other local : Text) (p : Spot) (q : LinkTarget) → b ≡ false → p ≡ under q whole → link_from fs b other local p ≡ link_over fs (bound fs (current fs) local) local q
 from_place fs b other local p q e is = ap (λ c. link_from fs c other local p) e ∙ ap (λ (s : Spot). link_to_end fs other local s.level s.name s.part) is ∙ to_place fs other local q.level q.name q.key
 
 -- ## A link keeps the chain sound
@@ -158,7 +158,7 @@ not_there : (m n : ℕ) (b : Bool) → (m == n) && b ≡ false → m ≡ n → b
 not_there m n true h e = let t : (m == n) ≡ true = grind (arith, nat_tests) in absurd (true≢false (sym (ap (λ c. c && true) t) ∙ h))
 not_there m n false h e = refl
 
-pub bind_link_fit : (fs : Levels) → AreFit 0 fs → (local : Text) (q : Place) → IsFree (bound fs (current fs) local) → q.level ≤ current fs → is_at (current fs) local (under q whole) ≡ false → IsNoLink (bound fs q.level q.name)
+pub bind_link_fit : (fs : Levels) → AreFit 0 fs → (local : Text) (q : LinkTarget) → IsFree (bound fs (current fs) local) → q.level ≤ current fs → is_at (current fs) local (under q whole) ≡ false → IsNoLink (bound fs q.level q.name)
     → AreFit 0 (bind fs (current fs) local (Link q))
 unfolding bind
 bind_link_fit fs fit local q free low apart end =
@@ -175,7 +175,7 @@ bind_link_fit fs fit local q free low apart end =
 ok_levels : (a gs : Levels) → AreFit 0 a → ◌≡◌ {A = Result Levels FrameFault} (Ok a) (Ok gs) → AreFit 0 gs
 ok_levels a gs h e = let same : a ≡ gs = cc in subst (AreFit 0) same h
 
-over_fit : (fs gs : Levels) → AreFit 0 fs → (o : Option Variable) (local : Text) (q : Place) → bound fs (current fs) local ≡ o → q.level ≤ current fs → is_at (current fs) local (under q whole) ≡ false → IsNoLink (bound fs q.level q.name)
+over_fit : (fs gs : Levels) → AreFit 0 fs → (o : Option Variable) (local : Text) (q : LinkTarget) → bound fs (current fs) local ≡ o → q.level ≤ current fs → is_at (current fs) local (under q whole) ≡ false → IsNoLink (bound fs q.level q.name)
     → link_over fs o local q ≡ Ok gs → AreFit 0 gs
 over_fit fs gs fit None local q is low apart end e = ok_levels _ gs (bind_link_fit fs fit local q (subst IsFree (sym is) tt) low apart end) e
 over_fit fs gs fit (Some (Scalar t)) local q is low apart end e = absurd (cc)
@@ -224,14 +224,14 @@ linked_fit fs gs n other local fit e =
     err_ok f gs e = cc
 
 -- a link is made in the frame of the current level
-pub over_bound : (fs : Levels) (here : ℕ) (f k : Frame) (local : Text) (q : Place) (o : Option Variable) (b : Bool) → here ≡ current fs → slice_get fs here ≡ Some f → k ≡ with_variable f local (Link q) → o ≡ bound fs here local → b ≡ may_link o → b ≡ true
+pub over_bound : (fs : Levels) (here : ℕ) (f k : Frame) (local : Text) (q : LinkTarget) (o : Option Variable) (b : Bool) → here ≡ current fs → slice_get fs here ≡ Some f → k ≡ with_variable f local (Link q) → o ≡ bound fs here local → b ≡ may_link o → b ≡ true
     → link_over fs (bound fs (current fs) local) local q ≡ Ok (slice_set fs here k)
 over_bound fs here f k local q o b is at made found test free =
     over_free fs (bound fs (current fs) local) local q (ap may_link (ap (λ n. bound fs n local) (sym is) ∙ sym found) ∙ sym test ∙ free)
     ∙ ap (λ n. Ok (bind fs n local (Link q))) (sym is)
     ∙ ap (λ (gs : Levels). Ok gs) (link_level fs here f k local q at made)
 
-pub over_refused : (fs : Levels) (here : ℕ) (local : Text) (q : Place) (o : Option Variable) (b : Bool) → here ≡ current fs → o ≡ bound fs here local → b ≡ may_link o → b ≡ false → link_over fs (bound fs (current fs) local) local q ≡ Err (Exists local)
+pub over_refused : (fs : Levels) (here : ℕ) (local : Text) (q : LinkTarget) (o : Option Variable) (b : Bool) → here ≡ current fs → o ≡ bound fs here local → b ≡ may_link o → b ≡ false → link_over fs (bound fs (current fs) local) local q ≡ Err (Exists local)
 over_refused fs here local q o b is found test held =
     over_held fs (bound fs (current fs) local) local q (ap may_link (ap (λ n. bound fs n local) (sym is) ∙ sym found) ∙ sym test ∙ held)
 

@@ -10,7 +10,7 @@ use Rattle.tcl_variables.specs.Variables.{Frame, Part}
 use Rattle.tcl_frames.specs.Places.{Levels, Spot, bound, bound_in, through, under, next, links, end_of}
 use Rattle.tcl_frames.specs.Reached.{link_of}
 use Rattle.tcl_frames.specs.Sound.{AreFit}
-use Rattle.tcl_variables.specs.declared.variable.Place.{Place}
+use Rattle.tcl_variables.specs.declared.variable.LinkTarget.{LinkTarget}
 use Rattle.tcl_variables.specs.declared.variable.Variable.{Variable}
 use Rattle.tcl_variables.specs.declared.variable.Variable.TheVariants.{Scalar, Array, Link}
 use Rattle.tcl_frames.proofs.SoundLemmas.{links_end, end_onward, end_here}
@@ -42,16 +42,16 @@ unfolding next
 next_link fs p = through_link (bound fs p.level p.name) p.part
 
 -- one link onward: the same end, and fewer steps
-pub follow_some : (fs : Levels) (p : Spot) (q : Place) → link_of (bound fs p.level p.name) ≡ Some q → next fs p ≡ Some (under q p.part)
+pub follow_some : (fs : Levels) (p : Spot) (q : LinkTarget) → link_of (bound fs p.level p.name) ≡ Some q → next fs p ≡ Some (under q p.part)
 follow_some fs p q e = next_link fs p ∙ ap (option_map (λ r. under r p.part)) e
 
 pub follow_none : (fs : Levels) (p : Spot) → link_of (bound fs p.level p.name) ≡ None → next fs p ≡ None
 follow_none fs p e = next_link fs p ∙ ap (option_map (λ r. under r p.part)) e
 
-pub follow_falls : (fs : Levels) → AreFit 0 fs → (p : Spot) (q : Place) → link_of (bound fs p.level p.name) ≡ Some q → hops (links fs) (next fs) (under q p.part) < hops (links fs) (next fs) p
+pub follow_falls : (fs : Levels) → AreFit 0 fs → (p : Spot) (q : LinkTarget) → link_of (bound fs p.level p.name) ≡ Some q → hops (links fs) (next fs) (under q p.part) < hops (links fs) (next fs) p
 follow_falls fs fit p q e = hops_fall (links fs) (next fs) p (under q p.part) (follow_some fs p q e) (links_end fs fit p)
 
-pub follow_end : (fs : Levels) → AreFit 0 fs → (p : Spot) (q : Place) → link_of (bound fs p.level p.name) ≡ Some q → end_of fs p ≡ end_of fs (under q p.part)
+pub follow_end : (fs : Levels) → AreFit 0 fs → (p : Spot) (q : LinkTarget) → link_of (bound fs p.level p.name) ≡ Some q → end_of fs p ≡ end_of fs (under q p.part)
 follow_end fs fit p q e = end_onward fs fit p (under q p.part) (follow_some fs p q e)
 
 pub follow_here : (fs : Levels) (p : Spot) → link_of (bound fs p.level p.name) ≡ None → end_of fs p ≡ p

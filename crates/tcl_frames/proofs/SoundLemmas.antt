@@ -9,7 +9,7 @@ use Rattle.tcl_variables.specs.Names.{Text}
 use Rattle.tcl_variables.specs.Variables.{Frame, Variables, Part, merge, part_of}
 use Rattle.tcl_frames.specs.Places.{Levels, Spot, bound, bound_in, through, under, next, walk, links_in, links, end_of}
 use Rattle.tcl_frames.specs.Sound.{IsWithin, AreWithin, hop_to, hop_by, hop, Ends, IsFit, AreFit}
-use Rattle.tcl_variables.specs.declared.variable.Place.{Place}
+use Rattle.tcl_variables.specs.declared.variable.LinkTarget.{LinkTarget}
 use Rattle.tcl_variables.specs.declared.variable.Variable.{Variable}
 use Rattle.tcl_variables.specs.declared.variable.Variable.TheVariants.{Scalar, Array, Link}
 use Rattle.tcl_variables.proofs.EntryLemmas.{same_bytes}
@@ -97,7 +97,7 @@ abbrev is_name : Text → Option Text → Bool
 is_name x None = false
 is_name x (Some y) = bytes_eq x y
 
-module _ (n : ℕ) (es : Variables) (x : Text) (q : Place) where
+module _ (n : ℕ) (es : Variables) (x : Text) (q : LinkTarget) where
   abbrev linked_es : Variables
   linked_es = insert_entry bytes_eq es x (Link q)
 
@@ -115,11 +115,11 @@ module _ (n : ℕ) (es : Variables) (x : Text) (q : Place) where
       let there = far (grind (arith, nat_tests)) in
       hop_same (Some q.name) there.0 ∙ no_hop n (lookup (bytes_eq q.name) es) there.1
 
-  hop_was : (p : Place) → lookup (bytes_eq x) es ≡ Some (Link p) → (s : Option Text) → is_name x s ≡ true → (b : Option Text) × (hop n es s ≡ Some b)
+  hop_was : (p : LinkTarget) → lookup (bytes_eq x) es ≡ Some (Link p) → (s : Option Text) → is_name x s ≡ true → (b : Option Text) × (hop n es s ≡ Some b)
   hop_was p old None t = absurd (true≢false (sym t))
   hop_was p old (Some y) t = (hop_to (p.level == n) p.name, ap (λ z. hop_by n (lookup (bytes_eq z) es)) (sym (same_bytes x y t)) ∙ ap (hop_by n) old)
 
-linked_end : (n : ℕ) (es : Variables) (x : Text) (q : Place) → ((y : Text) → Ends (links_in es) (hop n es) (Some y)) → (q.level ≡ n → (bytes_eq x q.name ≡ false) × IsNoLink (lookup (bytes_eq q.name) es))
+linked_end : (n : ℕ) (es : Variables) (x : Text) (q : LinkTarget) → ((y : Text) → Ends (links_in es) (hop n es) (Some y)) → (q.level ≡ n → (bytes_eq x q.name ≡ false) × IsNoLink (lookup (bytes_eq q.name) es))
     → (o : Option Variable) → lookup (bytes_eq x) es ≡ o → IsFree o → (y : Text) → Ends (links_in (insert_entry bytes_eq es x (Link q))) (hop n (insert_entry bytes_eq es x (Link q))) (Some y)
 linked_end n es x q end far None old free y =
     let count : links_in (insert_entry bytes_eq es x (Link q)) ≡ suc (links_in es) = let a = links_inserted es x (Link q) in let b = ap link_at old in omega arith in
@@ -132,7 +132,7 @@ linked_end n es x q end far (Some (Link p)) old free y =
     subst (λ k. Ends k (hop n (insert_entry bytes_eq es x (Link q))) (Some y)) (sym count)
     (ends_again (hop n es) (hop n (insert_entry bytes_eq es x (Link q))) (is_name x) (hop_to (q.level == n) q.name) (hop_same n es x q) (hop_anew n es x q) (hop_stop n es x q far (q.level == n) refl) (hop_was n es x q p old) (links_in es) (Some y) (end y))
 
-pub fit_linked : (n : ℕ) (f : Frame) (x : Text) (q : Place) → IsFree (lookup (bytes_eq x) f.variables) → q.level ≤ n → (q.level ≡ n → (bytes_eq x q.name ≡ false) × IsNoLink (lookup (bytes_eq q.name) f.variables)) → IsFit n f → IsFit n (record { words = f.words; variables = insert_entry bytes_eq f.variables x (Link q) })
+pub fit_linked : (n : ℕ) (f : Frame) (x : Text) (q : LinkTarget) → IsFree (lookup (bytes_eq x) f.variables) → q.level ≤ n → (q.level ≡ n → (bytes_eq x q.name ≡ false) × IsNoLink (lookup (bytes_eq q.name) f.variables)) → IsFit n f → IsFit n (record { words = f.words; variables = insert_entry bytes_eq f.variables x (Link q) })
 fit_linked n f x q free low far fit = record {
   unique = unique_inserted f.variables x (Link q) fit.unique;
   within = within_inserted n f.variables x (Link q) low fit.within;
@@ -195,7 +195,7 @@ take_none [] (suc n) at = refl
 take_none (g ∷ fs) zero at = absurd (cc)
 take_none (g ∷ fs) (suc n) at = ap (λ r. g ∷ r) (take_none fs n at)
 
-link_cases : (o : Option Variable) → IsNoLink o ⊎ ((q : Place) × (o ≡ Some (Link q)))
+link_cases : (o : Option Variable) → IsNoLink o ⊎ ((q : LinkTarget) × (o ≡ Some (Link q)))
 link_cases None = inl tt
 link_cases (Some (Scalar t)) = inl tt
 link_cases (Some (Array es)) = inl tt

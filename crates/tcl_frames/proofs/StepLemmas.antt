@@ -25,7 +25,7 @@ use Rattle.tcl_variables.specs.declared.frame.Change.TheVariants.{Assign, SetEle
 use Rattle.tcl_variables.specs.Rebinding.{rebound, unbound, with_variable, without_variable, emptied, change_frame}
 use Rattle.tcl_frames.specs.Changes.{change_levels, change_named, IsChangedThere}
 use Rattle.tcl_frames.specs.Sound.{IsFit, AreFit}
-use Rattle.tcl_variables.specs.declared.variable.Place.{Place}
+use Rattle.tcl_variables.specs.declared.variable.LinkTarget.{LinkTarget}
 use Rattle.tcl_variables.specs.declared.variable.Variable.{Variable}
 use Rattle.tcl_variables.specs.declared.variable.Variable.TheVariants.{Scalar, Array, Link}
 use Rattle.tcl_variables.specs.declared.fault.FrameFault.{FrameFault}
@@ -104,17 +104,17 @@ place_bad fs x e = ap (end_named fs (current fs)) e
 
 -- ## Levels of ends
 
-through_some : (o : Option Variable) (a : Part) (q : Spot) → through o a ≡ Some q → (r : Place) × (o ≡ Some (Link r)) × (q ≡ under r a)
+through_some : (o : Option Variable) (a : Part) (q : Spot) → through o a ≡ Some q → (r : LinkTarget) × (o ≡ Some (Link r)) × (q ≡ under r a)
 through_some None a q e = absurd (cc)
 through_some (Some (Scalar t)) a q e = absurd (cc)
 through_some (Some (Array es)) a q e = absurd (cc)
 through_some (Some (Link r)) a q e = (r, refl, (cc))
 
-next_some : (fs : Levels) (p q : Spot) → next fs p ≡ Some q → (r : Place) × (bound fs p.level p.name ≡ Some (Link r)) × (q ≡ under r p.part)
+next_some : (fs : Levels) (p q : Spot) → next fs p ≡ Some q → (r : LinkTarget) × (bound fs p.level p.name ≡ Some (Link r)) × (q ≡ under r p.part)
 unfolding next
 next_some fs p q e = through_some (bound fs p.level p.name) p.part q e
 
-link_low : (fs : Levels) → AreFit 0 fs → (n : ℕ) (x : Text) (r : Place) → bound fs n x ≡ Some (Link r) → r.level ≤ n
+link_low : (fs : Levels) → AreFit 0 fs → (n : ℕ) (x : Text) (r : LinkTarget) → bound fs n x ≡ Some (Link r) → r.level ≤ n
 link_low fs fit n x r e =
     elim (get_cases fs n) [
       | inl none ↦ absurd (none_some (Link r) (sym (bound_past fs n x none) ∙ e))
@@ -206,7 +206,7 @@ remove_level fs p f k (Ok None) at e = let same : without_variable f p.name ≡ 
 remove_level fs p f k (Ok (Some v)) at e = let same : with_variable f p.name v ≡ k = cc in ap (λ (gs : Levels). Ok gs) (bind_is fs p.level f p.name v at) ∙ ap (λ (r : Frame). Ok (slice_set fs p.level r)) same
 remove_level fs p f k (Err g) at e = absurd (cc)
 
-pub link_level : (fs : Levels) (i : ℕ) (f k : Frame) (x : Text) (q : Place) → slice_get fs i ≡ Some f → k ≡ with_variable f x (Link q) → bind fs i x (Link q) ≡ slice_set fs i k
+pub link_level : (fs : Levels) (i : ℕ) (f k : Frame) (x : Text) (q : LinkTarget) → slice_get fs i ≡ Some f → k ≡ with_variable f x (Link q) → bind fs i x (Link q) ≡ slice_set fs i k
 link_level fs i f k x q at e = bind_is fs i f x (Link q) at ∙ ap (λ (r : Frame). slice_set fs i r) (sym e)
 
 pub refuses_bound : (e : FrameError) (fs : Levels) (p : Spot) (o : Result Variable FrameFault) → Refuses e o → Refuses e (bound_to fs p o)
@@ -324,7 +324,7 @@ removed_fit fs gs x fit e =
 start_end_none : (fs : Levels) (n : ℕ) (x : Text) → link_of (bound fs n x) ≡ None → end_of fs (start n x) ≡ start n x
 start_end_none fs n x e = follow_here fs (start n x) e
 
-under_whole : (q : Place) → under q whole ≡ under q whole
+under_whole : (q : LinkTarget) → under q whole ≡ under q whole
 under_whole q = refl
 
 pub find_none : (fs : Levels) (n : ℕ) (x : Text) (o : Option Variable) → o ≡ bound fs n x → link_of o ≡ None → (o ≡ bound_where fs (end_of fs (start n x))) × (whole ≡ (end_of fs (start n x)).part)
@@ -332,7 +332,7 @@ find_none fs n x o e none =
     let here = start_end_none fs n x (ap link_of (sym e) ∙ none) in
     (e ∙ ap (λ (p : Spot). bound_where fs p) (sym here), ap (λ (p : Spot). p.part) (sym here))
 
-pub find_some : (fs : Levels) → AreFit 0 fs → (n : ℕ) (x : Text) (q : Place) (p : Spot) (o : Option Variable) → link_of (bound fs n x) ≡ Some q → p ≡ end_of fs (under q whole) → o ≡ bound_where fs p → (o ≡ bound_where fs (end_of fs (start n x))) × (p.part ≡ (end_of fs (start n x)).part)
+pub find_some : (fs : Levels) → AreFit 0 fs → (n : ℕ) (x : Text) (q : LinkTarget) (p : Spot) (o : Option Variable) → link_of (bound fs n x) ≡ Some q → p ≡ end_of fs (under q whole) → o ≡ bound_where fs p → (o ≡ bound_where fs (end_of fs (start n x))) × (p.part ≡ (end_of fs (start n x)).part)
 find_some fs fit n x q p o link e is =
     let on = e ∙ sym (follow_end fs fit (start n x) q link) in
     (is ∙ ap (λ (r : Spot). bound_where fs r) on, ap (λ (r : Spot). r.part) on)
@@ -340,7 +340,7 @@ find_some fs fit n x q p o link e is =
 pub target_none : (fs : Levels) (n : ℕ) (x : Text) (r : Part) → link_of (bound fs n x) ≡ None → end_of fs (over (start n x) r) ≡ over (start n x) r
 target_none fs n x r e = end_over fs (start n x) r ∙ ap (λ (p : Spot). over p r) (start_end_none fs n x e)
 
-pub target_some : (fs : Levels) → AreFit 0 fs → (n : ℕ) (x : Text) (r : Part) (q : Place) (p : Spot) (y : Text) (part : Part) → link_of (bound fs n x) ≡ Some q → p ≡ end_of fs (under q whole) → y ≡ p.name → part ≡ merge p.part r
+pub target_some : (fs : Levels) → AreFit 0 fs → (n : ℕ) (x : Text) (r : Part) (q : LinkTarget) (p : Spot) (y : Text) (part : Part) → link_of (bound fs n x) ≡ Some q → p ≡ end_of fs (under q whole) → y ≡ p.name → part ≡ merge p.part r
     → end_of fs (over (start n x) r) ≡ record { level = p.level; name = y; part = part }
 target_some fs fit n x r q p y part link e name is =
     end_over fs (start n x) r

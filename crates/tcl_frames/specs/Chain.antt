@@ -1,5 +1,7 @@
 -- The chain of frames of an interpreter, and what each call on its variables does.
-use Rattle.std.specs.Prelude.{ℕ, zero, suc, pred, ◌==◌, nat_le, nat_lt, Bool, true, false, List, [], ◌∷◌, ◌++◌, length, take, drop, slice_get, Option, Some, None, if◌then◌else◌, Result, Ok, Err}
+use Rattle.std.specs.Prelude.{ℕ, zero, suc, pred, ◌==◌, nat_le, nat_lt, Bool, true, false, List, []}
+use Rattle.std.specs.Prelude.{◌∷◌, ◌++◌, length, take, drop, slice_get, Option, Some, None}
+use Rattle.std.specs.Prelude.{if◌then◌else◌, Result, Ok, Err}
 use Rattle.std.specs.Str.{bytes_eq}
 use Rattle.std.specs.Map.{remove_entry}
 use Rattle.indexmap.specs.IndexMap.{insert_entry}
@@ -7,16 +9,18 @@ use Rattle.tcl_variables.specs.Names.{Text, Name, name_of, is_plain}
 use Rattle.tcl_variables.specs.Variables.{Frame, Part, Variables}
 use Rattle.tcl_variables.specs.Access.{value_of, is_held, elements_of, assigned, left_of}
 use Rattle.tcl_variables.specs.Arrays.{extended}
-use Rattle.tcl_frames.specs.Places.{Spot, Levels, current, bound, spot_of, next, passes, links, end_of, is_at}
+use Rattle.tcl_frames.specs.Places.{Spot, Levels, current, bound, spot_of, next, passes, links}
+use Rattle.tcl_frames.specs.Places.{end_of, is_at}
 use Rattle.tcl_variables.specs.Variables.Part.{whole, element, nested}
-use Rattle.tcl_variables.specs.declared.variable.Place.{Place}
+use Rattle.tcl_variables.specs.declared.variable.LinkTarget.{LinkTarget}
 use Rattle.tcl_variables.specs.declared.variable.Variable.{Variable}
 use Rattle.tcl_variables.specs.declared.variable.Variable.TheVariants.{Scalar, Array, Link}
 use Rattle.tcl_frames.specs.declared.scope.Scope.{Scope}
 use Rattle.tcl_frames.specs.declared.scope.Scope.TheVariants.{Visible, Global, Local}
 use Rattle.tcl_variables.specs.declared.fault.Verb.TheVariants.{Read}
 use Rattle.tcl_variables.specs.declared.fault.FrameFault.{FrameFault}
-use Rattle.tcl_variables.specs.declared.fault.FrameFault.TheVariants.{NotArray, BadLevel, Exists, Itself, BadName}
+use Rattle.tcl_variables.specs.declared.fault.FrameFault.TheVariants.{NotArray, BadLevel, Exists}
+use Rattle.tcl_variables.specs.declared.fault.FrameFault.TheVariants.{Itself, BadName}
 
 -- Frames that were set aside: those that stood above a level.
 pub record Aside : Type 0 where
@@ -42,12 +46,14 @@ end_named fs n (Some x) = Some (end_of fs (spot_of n x))
 unfoldable pub place_named : Levels → Text → Option Spot
 place_named fs x = end_named fs (current fs) (name_of x)
 
-abbrev pub by_place : {A : Type 0} → Option Spot → Text → (Spot → Result A FrameFault) → Result A FrameFault
+abbrev pub by_place : {A : Type 0} → Option Spot → Text → (Spot → Result A FrameFault) →
+    Result A FrameFault
 by_place None x f = Err (BadName x)
 by_place (Some p) x f = f p
 
 -- what is done there
-abbrev pub at_name : {A : Type 0} → Levels → Text → (Spot → Result A FrameFault) → Result A FrameFault
+abbrev pub at_name : {A : Type 0} → Levels → Text → (Spot → Result A FrameFault) →
+    Result A FrameFault
 at_name fs x f = by_place (place_named fs x) x f
 
 -- ## Reading
@@ -102,7 +108,7 @@ removed fs x = at_name fs x (λ p. left_at fs p (left_of p.part (bound fs p.leve
 
 -- ## Linking
 
-abbrev pub link_over : Levels → Option Variable → Text → Place → Result Levels FrameFault
+abbrev pub link_over : Levels → Option Variable → Text → LinkTarget → Result Levels FrameFault
 link_over fs None local p = Ok (bind fs (current fs) local (Link p))
 link_over fs (Some (Scalar t)) local p = Err (Exists local)
 link_over fs (Some (Array es)) local p = Err (Exists local)
@@ -110,8 +116,10 @@ link_over fs (Some (Link q)) local p = Ok (bind fs (current fs) local (Link p))
 
 -- what a link can lead to: an element has no elements
 abbrev pub link_to_end : Levels → Text → Text → ℕ → Text → Part → Result Levels FrameFault
-link_to_end fs other local n x whole = link_over fs (bound fs (current fs) local) local (record { level = n; name = x; key = None })
-link_to_end fs other local n x (element k) = link_over fs (bound fs (current fs) local) local (record { level = n; name = x; key = Some k })
+link_to_end fs other local n x whole = link_over fs (bound fs (current fs) local) local
+    (record { level = n; name = x; key = None })
+link_to_end fs other local n x (element k) = link_over fs (bound fs (current fs) local) local
+    (record { level = n; name = x; key = Some k })
 link_to_end fs other local n x nested = Err (NotArray Read other)
 
 abbrev pub link_from : Levels → Bool → Text → Text → Spot → Result Levels FrameFault
@@ -122,11 +130,14 @@ abbrev pub link_by_name : Levels → ℕ → Option Name → Bool → Text → T
 link_by_name fs n None plain other local = Err (BadName other)
 link_by_name fs n (Some name) false other local = Err (BadName local)
 link_by_name fs n (Some name) true other local =
-    link_from fs (passes (links fs) (next fs) (is_at (current fs) local) (spot_of n name)) other local (end_of fs (spot_of n name))
+    link_from fs (passes (links fs) (next fs) (is_at (current fs) local) (spot_of n name)) other
+    local (end_of fs (spot_of n name))
 
--- the frames after the local name of the current level is made a link to what the other name is at a level
+-- the frames after the local name of the current level is made a link to what the other name is at
+-- a level
 unfoldable pub linked : Levels → ℕ → Text → Text → Result Levels FrameFault
-linked fs n other local = if nat_le (length fs) n then Err (BadLevel n) else link_by_name fs n (name_of other) (is_plain local) other local
+linked fs n other local = if nat_le (length fs) n then Err (BadLevel n) else link_by_name fs n
+    (name_of other) (is_plain local) other local
 
 -- ## The same for a chain
 
@@ -155,7 +166,8 @@ kept_if false x xs = xs
 -- the names whose places hold a value, of those of a level
 unfoldable pub names_held : Levels → ℕ → Variables → List Text
 names_held fs n [] = []
-names_held fs n (e ∷ es) = kept_if (holds fs (end_of fs (record { level = n; name = e.0; part = whole }))) e.0 (names_held fs n es)
+names_held fs n (e ∷ es) = kept_if
+    (holds fs (end_of fs (record { level = n; name = e.0; part = whole }))) e.0 (names_held fs n es)
 
 abbrev pub is_own : Variable → Bool
 is_own (Scalar t) = true
@@ -173,7 +185,8 @@ variables_at [] n = []
 variables_at (f ∷ fs) zero = f.variables
 variables_at (f ∷ fs) (suc n) = variables_at fs n
 
--- the names of the current level; those of level 0; or those of the current level that are no links, of which level 0 has none
+-- the names of the current level; those of level 0; or those of the current level that are no
+-- links, of which level 0 has none
 unfoldable pub names_of : Scope → Levels → List Text
 names_of Visible fs = names_held fs (current fs) (variables_at fs (current fs))
 names_of Global fs = names_held fs 0 (variables_at fs 0)
@@ -197,7 +210,10 @@ words_at fs n = words_in (slice_get fs n)
 
 -- the chain after a frame with these words is put on top
 abbrev pub pushed : Chain → List Text → Chain
-pushed c words = record { frames = c.frames ++ record { words = words; variables = [] } ∷ []; aside = c.aside }
+pushed c words = record {
+  frames = c.frames ++ record { words = words; variables = [] } ∷ [];
+  aside = c.aside;
+}
 
 -- how many frames a pop leaves: level 0, and those below the part that was set aside last
 abbrev pub least : List Aside → ℕ
@@ -206,12 +222,16 @@ least (a ∷ rest) = suc a.above
 
 -- the chain without the frame on top
 unfoldable pub popped : Chain → Chain
-popped c = if nat_lt (least c.aside) (length c.frames) then record { frames = take (pred (length c.frames)) c.frames; aside = c.aside } else c
+popped c = if nat_lt (least c.aside) (length c.frames)
+    then record { frames = take (pred (length c.frames)) c.frames; aside = c.aside } else c
 
 -- the chain up to a level, with what stood above it set aside
 unfoldable pub set_aside : Chain → ℕ → Result Chain FrameFault
 set_aside c n = if nat_le (length c.frames) n then Err (BadLevel n) else
-    Ok (record { frames = take (suc n) c.frames; aside = record { above = n; frames = drop (suc n) c.frames } ∷ c.aside })
+    Ok (record {
+      frames = take (suc n) c.frames;
+      aside = record { above = n; frames = drop (suc n) c.frames } ∷ c.aside;
+    })
 
 abbrev pub put_back : Levels → List Aside → Chain
 put_back fs [] = record { frames = fs; aside = [] }

@@ -1,10 +1,11 @@
 -- The frames of a chain, and where the links in them lead.
-use Rattle.std.specs.Prelude.{ℕ, zero, suc, pred, ◌+◌, Bool, true, false, ◌&&◌, ◌==◌, List, [], ◌∷◌, length, slice_get, Option, Some, None}
+use Rattle.std.specs.Prelude.{ℕ, zero, suc, pred, ◌+◌, Bool, true, false, ◌&&◌, ◌==◌, List, [], ◌∷◌}
+use Rattle.std.specs.Prelude.{length, slice_get, Option, Some, None}
 use Rattle.std.specs.Str.{bytes_eq}
 use Rattle.std.specs.Map.{lookup}
 use Rattle.tcl_variables.specs.Names.{Text, Name}
 use Rattle.tcl_variables.specs.Variables.{Variables, Frame, Part, merge, part_of}
-use Rattle.tcl_variables.specs.declared.variable.Place.{Place}
+use Rattle.tcl_variables.specs.declared.variable.LinkTarget.{LinkTarget}
 use Rattle.tcl_variables.specs.declared.variable.Variable.{Variable}
 use Rattle.tcl_variables.specs.declared.variable.Variable.TheVariants.{Scalar, Array, Link}
 
@@ -39,7 +40,7 @@ abbrev pub spot_of : ℕ → Name → Spot
 spot_of n x = record { level = level_of x.is_global n; name = x.base; part = part_of x.key }
 
 -- a part of what is at a place
-abbrev pub under : Place → Part → Spot
+abbrev pub under : LinkTarget → Part → Spot
 under q p = record { level = q.level; name = q.name; part = merge (part_of q.key) p }
 
 abbrev pub through : Option Variable → Part → Option Spot

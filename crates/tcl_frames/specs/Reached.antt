@@ -1,6 +1,6 @@
 -- Where the code came to.
 use Rattle.std.specs.Prelude.{◌≡◌, ℕ, Bool, true, false, Option, Some, None}
-use Rattle.tcl_variables.specs.declared.variable.Place.{Place}
+use Rattle.tcl_variables.specs.declared.variable.LinkTarget.{LinkTarget}
 use Rattle.tcl_variables.specs.declared.variable.Variable.{Variable}
 use Rattle.tcl_variables.specs.declared.variable.Variable.TheVariants.{Scalar, Array, Link}
 use Rattle.tcl_variables.specs.Names.{Text}
@@ -15,7 +15,7 @@ abbrev pub reached : Reached → Spot
 reached r = record { level = r.level; name = r.name.now; part = seen_part r.part }
 
 -- the place that a variable links to
-abbrev pub link_of : Option Variable → Option Place
+abbrev pub link_of : Option Variable → Option LinkTarget
 link_of None = None
 link_of (Some (Scalar t)) = None
 link_of (Some (Array es)) = None

@@ -1,5 +1,6 @@
 -- What holds of every chain.
-use Rattle.std.specs.Prelude.{ℕ, suc, ◌+◌, ◌≡◌, ◌≤◌, ◌==◌, Bool, true, false, List, [], ◌∷◌, length, Option, Some, None}
+use Rattle.std.specs.Prelude.{ℕ, suc, ◌+◌, ◌≡◌, ◌≤◌, ◌==◌, Bool, true, false, List, [], ◌∷◌, length}
+use Rattle.std.specs.Prelude.{Option, Some, None}
 use Rattle.std.specs.Str.{bytes_eq}
 use Rattle.std.specs.Map.{lookup, keys_of}
 use Rattle.std.specs.List.{IsDistinct}
@@ -39,7 +40,8 @@ hop n es (Some x) = hop_by n (lookup (bytes_eq x) es)
 abbrev pub Ends : {A : Type 0} → ℕ → (A → Option A) → A → Type 0
 Ends k f a = f (walk k f a) ≡ None
 
--- What fits a level: names are unique, links lead no higher, and as long as they stay there they end, with no link passed twice.
+-- What fits a level: names are unique, links lead no higher, and as long as they stay there they
+-- end, with no link passed twice.
 pub record IsFit (n : ℕ) (f : Frame) : Type 0 where
   pub unique : IsDistinct bytes_eq (keys_of f.variables)
   pub within : AreWithin n f.variables
@@ -53,7 +55,8 @@ AreFit n (f ∷ fs) = IsFit n f × AreFit (suc n) fs
 -- what is set aside fits in where it stood, below it there are as many frames as then
 unfoldable pub AreAside : ℕ → List Aside → Type 0
 AreAside count [] = 1 ≤ count
-AreAside count (a ∷ rest) = (suc a.above ≤ count) × AreFit (suc a.above) a.frames × AreAside (suc a.above + length a.frames) rest
+AreAside count (a ∷ rest) = (suc a.above ≤ count) × AreFit (suc a.above) a.frames ×
+    AreAside (suc a.above + length a.frames) rest
 
 -- a chain's links end, and lead no higher than the frame that they stand in
 pub record IsSound (c : Chain) : Type 0 where

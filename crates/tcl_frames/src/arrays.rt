@@ -31,7 +31,11 @@ fn push_key(
     index: usize,
 ) -> Result<(), AllocError>
     requires { index < length elements.now }
-    ensures { OnOk result (keys.new.items ++ keys_of (taken (option_copied pattern.entry) (drop (index + 1) elements.now)) ≡ keys.old.items ++ keys_of (taken (option_copied pattern.entry) (drop index elements.now))) }
+    ensures { OnOk result
+        (keys.new.items ++ keys_of (taken (option_copied pattern.entry)
+        (drop (index + 1) elements.now))
+        ≡ keys.old.items ++ keys_of (taken (option_copied pattern.entry)
+        (drop index elements.now))) }
 {
     match elements.entry(index) {
         Some((key, _)) => push_if(keys, alloc, is_taken(pattern, key), key),
@@ -45,7 +49,8 @@ pub(crate) fn keys_taken(
     elements: &NameMap<Value>,
     pattern: Option<&Text>,
 ) -> Result<Vec<Text>, AllocError>
-    ensures { IfOk result (λ keys. keys.items ≡ keys_of (taken (option_copied pattern.entry) elements.now)) }
+    ensures { IfOk result (λ keys. keys.items
+        ≡ keys_of (taken (option_copied pattern.entry) elements.now)) }
 {
     let mut keys = Vec::new(alloc);
     'keys: for index in 0..elements.len() {
@@ -62,7 +67,8 @@ fn push_element_if(
     key: &str,
     value: &Value,
 ) -> Result<(), AllocError>
-    ensures { OnOk result (elements.new.items ≡ elements.old.items ++ element_if is_wanted (key.now, value.now)) }
+    ensures { OnOk result
+        (elements.new.items ≡ elements.old.items ++ element_if is_wanted (key.now, value.now)) }
 {
     if is_wanted {
         elements.push((Text::new(alloc, key)?, value.clone()?))?;
@@ -79,7 +85,9 @@ fn push_element(
     index: usize,
 ) -> Result<(), AllocError>
     requires { index < length elements.now }
-    ensures { OnOk result (pairs.new.items ++ taken (option_copied pattern.entry) (drop (index + 1) elements.now) ≡ pairs.old.items ++ taken (option_copied pattern.entry) (drop index elements.now)) }
+    ensures { OnOk result
+        (pairs.new.items ++ taken (option_copied pattern.entry) (drop (index + 1) elements.now)
+        ≡ pairs.old.items ++ taken (option_copied pattern.entry) (drop index elements.now)) }
 {
     match elements.entry(index) {
         Some((key, value)) => push_element_if(pairs, alloc, is_taken(pattern, key), key, value),
@@ -93,7 +101,8 @@ pub(crate) fn elements_taken(
     elements: &NameMap<Value>,
     pattern: Option<&Text>,
 ) -> Result<Vec<(Text, Value)>, AllocError>
-    ensures { IfOk result (λ pairs. pairs.items ≡ taken (option_copied pattern.entry) elements.now) }
+    ensures { IfOk result (λ pairs. pairs.items
+        ≡ taken (option_copied pattern.entry) elements.now) }
 {
     let mut pairs = Vec::new(alloc);
     'pairs: for index in 0..elements.len() {

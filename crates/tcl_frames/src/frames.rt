@@ -1,5 +1,6 @@
 //! The chain of frames of an interpreter.
-ghost use Rattle.std.specs.Prelude.{◌≡◌, ◌+◌, ◌<◌, ◌≤◌, Ok, length, take, drop, IfOk, OnOk, IfErr, OnErr};
+ghost use Rattle.std.specs.Prelude.{◌≡◌, ◌+◌, ◌<◌, ◌≤◌, Ok, length, take, drop, IfOk, OnOk, IfErr};
+ghost use Rattle.std.specs.Prelude.{OnErr};
 ghost use Rattle.std.specs.Option.{option_copied};
 ghost use Rattle.std.specs.Vec.{vec_capacity};
 ghost use Rattle.std.specs.Prelude.{reverse, nat_lt, ◌↔◌, IsTrue};
@@ -20,7 +21,7 @@ use tcl_text::text::Text;
 use tcl_value::value::Value;
 use tcl_variables::access::Part;
 use tcl_variables::comparing::{Same, same_items};
-use tcl_variables::fault::{FrameError, FrameFault, Refusal, refused};
+use tcl_variables::fault::{FrameError, FrameFault, NameFault, refused};
 use tcl_variables::frame::{Change, Frame};
 use tcl_variables::name::read_name;
 use tcl_variables::name_map::NameMap;
@@ -60,7 +61,8 @@ impl Same for SetAside {
 
 /// The chain of frames of an interpreter, with the parts of chains that are set aside.
 ///
-/// Contracts see it as a `Chain`. Level 0 is global and always there. Every refused call leaves it as it was.
+/// Contracts see it as a `Chain`. Level 0 is global and always there. Every refused call leaves it
+/// as it was.
 pub struct Frames {
     frames: Vec<Frame>,
     aside: Vec<SetAside>,
@@ -85,7 +87,8 @@ impl Model for Frames {
 
     ghost view = { λ a. record { frames = a.frames.items; aside = reverse a.aside.items } };
 
-    ghost invariant = { λ a. IsSound (record { frames = a.frames.items; aside = reverse a.aside.items }) × HasRoom (vec_capacity a.frames) (reverse a.aside.items) };
+    ghost invariant = { λ a. IsSound (record { frames = a.frames.items; aside = reverse a.aside.items }) ×
+        HasRoom (vec_capacity a.frames) (reverse a.aside.items) };
 }
 
 /// Takes the frames above a level out.
@@ -120,12 +123,16 @@ fn may_pop(aside: &[SetAside], count: usize) -> bool
 
 impl Frames {
     ghost use Rattle.std.specs.Prelude.{[], ◌∷◌, IsSome};
-    ghost use Rattle.tcl_frames.specs.Chain.{fresh, read, exists_at, array_at, after_set, after_array, after_unset, after_link, with_frames, names_of, words_at, pushed, popped, set_aside, brought_back};
+    ghost use Rattle.tcl_frames.specs.Chain.{fresh, read, exists_at, array_at, after_set};
+    ghost use Rattle.tcl_frames.specs.Chain.{after_array, after_unset, after_link, with_frames};
+    ghost use Rattle.tcl_frames.specs.Chain.{names_of, words_at, pushed, popped, set_aside};
+    ghost use Rattle.tcl_frames.specs.Chain.{brought_back};
     ghost use Rattle.tcl_variables.specs.Faults.{Refuses};
     ghost use Rattle.tcl_frames.specs.Places.{current};
     ghost use Rattle.tcl_frames.specs.Changes.{change_named};
     ghost use Rattle.tcl_frames.specs.Keys.{change_key, after_set_key, after_unset_key};
-    ghost use Rattle.tcl_frames.specs.Arrays.{after_set_elements, after_unset_elements, of_elements, is_found};
+    ghost use Rattle.tcl_frames.specs.Arrays.{after_set_elements, after_unset_elements};
+    ghost use Rattle.tcl_frames.specs.Arrays.{of_elements, is_found};
     ghost use Rattle.tcl_variables.specs.Arrays.{taken};
     ghost use Rattle.std.specs.Map.{keys_of};
 
@@ -158,8 +165,8 @@ impl Frames {
         Ok(Frames { frames, aside })
     }
 
-    /// Whether the other is an equal chain: the same words, the same names in the same order and what they stand for, and the same set
-    /// aside. This takes no memory.
+    /// Whether the other is an equal chain: the same words, the same names in the same order and
+    /// what they stand for, and the same set aside. This takes no memory.
     pub fn same(&self, other: &Frames) -> bool
         ensures { IsTrue result ↔ (self.now ≡ other.now) }
     {
@@ -198,7 +205,7 @@ impl Frames {
     /// Whether a name's place holds a value. This takes no memory.
     ///
     /// # Errors
-    /// Refusal 238.
+    /// NameFault 238.
     pub fn exists(&self, name: &Text) -> Result<bool, FrameError>
         ensures ok { IfOk result (λ held. exists_at self.now.frames name.now ≡ Ok held) }
         ensures err { IfErr result (λ e. Refuses e (exists_at self.now.frames name.now)) }
@@ -206,12 +213,14 @@ impl Frames {
         exists_in(self.frames.as_slice(), name)
     }
 
-    /// The elements of the array that a name is, in the order of insertion, or none where it isn't an array. This takes no memory.
+    /// The elements of the array that a name is, in the order of insertion, or none where it isn't
+    /// an array. This takes no memory.
     ///
     /// # Errors
-    /// Refusal 238.
+    /// NameFault 238.
     pub fn array<'a>(&'a self, name: &Text) -> Result<Option<&'a NameMap<Value>>, FrameError>
-        ensures ok { IfOk result (λ elements. array_at self.now.frames name.now ≡ Ok (option_copied elements)) }
+        ensures ok { IfOk result
+            (λ elements. array_at self.now.frames name.now ≡ Ok (option_copied elements)) }
         ensures err { IfErr result (λ e. Refuses e (array_at self.now.frames name.now)) }
     {
         array_in(self.frames.as_slice(), name)
@@ -220,7 +229,7 @@ impl Frames {
     /// Whether a name is an array. This takes no memory.
     ///
     /// # Errors
-    /// Refusal 238.
+    /// NameFault 238.
     pub fn is_array(&self, name: &Text) -> Result<bool, FrameError>
         ensures ok { IfOk result (λ is. is_found (array_at self.now.frames name.now) ≡ Ok is) }
         ensures err { IfErr result (λ e. Refuses e (is_found (array_at self.now.frames name.now))) }
@@ -231,10 +240,12 @@ impl Frames {
     /// How many elements the array has that a name is; 0 where it isn't one. This takes no memory.
     ///
     /// # Errors
-    /// Refusal 238.
+    /// NameFault 238.
     pub fn element_count(&self, name: &Text) -> Result<usize, FrameError>
-        ensures ok { IfOk result (λ count. of_elements length (array_at self.now.frames name.now) ≡ Ok count) }
-        ensures err { IfErr result (λ e. Refuses e (of_elements length (array_at self.now.frames name.now))) }
+        ensures ok { IfOk result
+            (λ count. of_elements length (array_at self.now.frames name.now) ≡ Ok count) }
+        ensures err { IfErr result
+            (λ e. Refuses e (of_elements length (array_at self.now.frames name.now))) }
     {
         match self.array(name)? {
             Some(elements) => Ok(elements.len()),
@@ -242,8 +253,8 @@ impl Frames {
         }
     }
 
-    /// The keys of the array that a name is, in the order of insertion: those that a pattern matches, or all where there is none. What
-    /// is no array has none.
+    /// The keys of the array that a name is, in the order of insertion: those that a pattern
+    /// matches, or all where there is none. What is no array has none.
     ///
     /// # Errors
     /// Want of memory; refusal 238.
@@ -253,8 +264,13 @@ impl Frames {
         name: &Text,
         pattern: Option<&Text>,
     ) -> Result<Vec<Text>, FrameError>
-        ensures ok { IfOk result (λ keys. of_elements (λ es. keys_of (taken (option_copied pattern.entry) es)) (array_at self.now.frames name.now) ≡ Ok keys.items) }
-        ensures err { IfErr result (λ e. Refuses e (of_elements (λ es. keys_of (taken (option_copied pattern.entry) es)) (array_at self.now.frames name.now))) }
+        ensures ok { IfOk result
+            (λ keys. of_elements (λ es. keys_of (taken (option_copied pattern.entry) es))
+            (array_at self.now.frames name.now) ≡ Ok keys.items) }
+        ensures err { IfErr result
+            (λ e. Refuses e (of_elements
+            (λ es. keys_of (taken (option_copied pattern.entry) es))
+            (array_at self.now.frames name.now))) }
     {
         match self.array(name)? {
             Some(elements) => Ok(keys_taken(alloc, elements, pattern)?),
@@ -262,8 +278,9 @@ impl Frames {
         }
     }
 
-    /// The keys and values of the array that a name is, in the order of insertion: those whose keys a pattern matches, or all where
-    /// there is none. What is no array has none. The values are shared.
+    /// The keys and values of the array that a name is, in the order of insertion: those whose keys
+    /// a pattern matches, or all where there is none. What is no array has none. The values are
+    /// shared.
     ///
     /// # Errors
     /// Want of memory; refusal 238.
@@ -273,8 +290,12 @@ impl Frames {
         name: &Text,
         pattern: Option<&Text>,
     ) -> Result<Vec<(Text, Value)>, FrameError>
-        ensures ok { IfOk result (λ pairs. of_elements (taken (option_copied pattern.entry)) (array_at self.now.frames name.now) ≡ Ok pairs.items) }
-        ensures err { IfErr result (λ e. Refuses e (of_elements (taken (option_copied pattern.entry)) (array_at self.now.frames name.now))) }
+        ensures ok { IfOk result
+            (λ pairs. of_elements (taken (option_copied pattern.entry))
+            (array_at self.now.frames name.now) ≡ Ok pairs.items) }
+        ensures err { IfErr result
+            (λ e. Refuses e (of_elements (taken (option_copied pattern.entry))
+            (array_at self.now.frames name.now))) }
     {
         match self.array(name)? {
             Some(elements) => Ok(elements_taken(alloc, elements, pattern)?),
@@ -299,7 +320,8 @@ impl Frames {
 
     /// Changes what a name stands for.
     fn change(&mut self, alloc: Global, name: &Text, change: Change) -> Result<(), FrameError>
-        ensures ok { OnOk result (with_frames self.old (change_named change self.old.frames name.now) ≡ Ok self.new) }
+        ensures ok { OnOk result (with_frames self.old (change_named change self.old.frames name.now)
+            ≡ Ok self.new) }
         ensures err { IfErr result (λ e. Refuses e (change_named change self.old.frames name.now)) }
         ensures unchanged { OnErr result (self.new ≡ self.old) }
     {
@@ -330,8 +352,9 @@ impl Frames {
         self.change(alloc, name, Change::SetElements(Vec::new(alloc)))
     }
 
-    /// Sets elements of the array that a name is, from the first on, all of them or none; where there is no variable, the array is
-    /// made. A refusal names the first element, as `a(k)`, or the name where there is none.
+    /// Sets elements of the array that a name is, from the first on, all of them or none; where
+    /// there is no variable, the array is made. A refusal names the first element, as `a(k)`, or
+    /// the name where there is none.
     ///
     /// # Errors
     /// Want of memory; refusals 233 (of setting) and 238.
@@ -342,14 +365,16 @@ impl Frames {
         elements: Vec<(Text, Value)>,
     ) -> Result<(), FrameError>
         ensures ok { OnOk result (after_set_elements self.old name.now elements.items ≡ Ok self.new) }
-        ensures err { IfErr result (λ e. Refuses e (after_set_elements self.old name.now elements.items)) }
+        ensures err { IfErr result
+            (λ e. Refuses e (after_set_elements self.old name.now elements.items)) }
         ensures unchanged { OnErr result (self.new ≡ self.old) }
     {
         self.change(alloc, name, Change::SetElements(elements))
     }
 
-    /// Unsets the elements of the array that a name is whose keys a pattern matches, in time linear in their number, or the array
-    /// itself where there is no pattern. What is no array stays as it is.
+    /// Unsets the elements of the array that a name is whose keys a pattern matches, in time linear
+    /// in their number, or the array itself where there is no pattern. What is no array stays as it
+    /// is.
     ///
     /// # Errors
     /// Want of memory; refusal 238.
@@ -359,8 +384,11 @@ impl Frames {
         name: &Text,
         pattern: Option<&Text>,
     ) -> Result<(), FrameError>
-        ensures ok { OnOk result (after_unset_elements self.old name.now (option_copied pattern.entry) ≡ Ok self.new) }
-        ensures err { IfErr result (λ e. Refuses e (after_unset_elements self.old name.now (option_copied pattern.entry))) }
+        ensures ok { OnOk result (after_unset_elements self.old name.now (option_copied pattern.entry)
+            ≡ Ok self.new) }
+        ensures err { IfErr result
+            (λ e. Refuses e (after_unset_elements self.old name.now
+            (option_copied pattern.entry))) }
         ensures unchanged { OnErr result (self.new ≡ self.old) }
     {
         let pattern = owned_pattern(pattern)?;
@@ -387,15 +415,17 @@ impl Frames {
         key: &Text,
         change: Change,
     ) -> Result<(), FrameError>
-        ensures ok { OnOk result (with_frames self.old (change_key change self.old.frames name.now key.now) ≡ Ok self.new) }
-        ensures err { IfErr result (λ e. Refuses e (change_key change self.old.frames name.now key.now)) }
+        ensures ok { OnOk result (with_frames self.old (change_key change self.old.frames name.now key.now)
+            ≡ Ok self.new) }
+        ensures err { IfErr result
+            (λ e. Refuses e (change_key change self.old.frames name.now key.now)) }
         ensures unchanged { OnErr result (self.new ≡ self.old) }
     {
         change_key_in(self.frames.as_mut_slice(), alloc, name, key, change)
     }
 
-    /// Sets the element with a key, of the array that a name is, which is made where there is no variable. A refusal names the
-    /// element, as `a(k)`.
+    /// Sets the element with a key, of the array that a name is, which is made where there is no
+    /// variable. A refusal names the element, as `a(k)`.
     ///
     /// # Errors
     /// Want of memory; refusals 233 (of setting) and 238 (of the name).
@@ -407,13 +437,15 @@ impl Frames {
         value: Value,
     ) -> Result<(), FrameError>
         ensures ok { OnOk result (after_set_key self.old name.now key.now value ≡ Ok self.new) }
-        ensures err { IfErr result (λ e. Refuses e (after_set_key self.old name.now key.now value)) }
+        ensures err { IfErr result
+            (λ e. Refuses e (after_set_key self.old name.now key.now value)) }
         ensures unchanged { OnErr result (self.new ≡ self.old) }
     {
         self.change_key(alloc, name, key, Change::Assign(value))
     }
 
-    /// Unsets the element with a key, of the array that a name is. A refusal names the element, as `a(k)`.
+    /// Unsets the element with a key, of the array that a name is. A refusal names the element, as
+    /// `a(k)`.
     ///
     /// # Errors
     /// Want of memory; refusals 231, 233, 234 (of unsetting) and 238 (of the name).
@@ -433,8 +465,9 @@ impl Frames {
     /// Makes a local name of the current level a link to what another name is at a level.
     ///
     /// # Errors
-    /// Want of memory. Refusals, in this order: 235 of the level; 238 of the other name, and of the local one, which may be no
-    /// element and hold no two colons side by side; 237; 233 (of reading) where an element of an element is asked for; 236.
+    /// Want of memory. Refusals, in this order: 235 of the level; 238 of the other name, and of the
+    /// local one, which may be no element and hold no two colons side by side; 237; 233 (of
+    /// reading) where an element of an element is asked for; 236.
     pub fn link(
         &mut self,
         alloc: Global,
@@ -443,7 +476,8 @@ impl Frames {
         local: &Text,
     ) -> Result<(), FrameError>
         ensures ok { OnOk result (after_link self.old level other.now local.now ≡ Ok self.new) }
-        ensures err { IfErr result (λ e. Refuses e (after_link self.old level other.now local.now)) }
+        ensures err { IfErr result
+            (λ e. Refuses e (after_link self.old level other.now local.now)) }
         ensures unchanged { OnErr result (self.new ≡ self.old) }
     {
         link_frames(self.frames.as_mut_slice(), alloc, level, other, local)
@@ -461,7 +495,8 @@ impl Frames {
         Ok(())
     }
 
-    /// Takes the frame on top off. Level 0 stays, and so does the level above which frames were set aside. This takes no memory.
+    /// Takes the frame on top off. Level 0 stays, and so does the level above which frames were set
+    /// aside. This takes no memory.
     pub fn pop(&mut self)
         ensures { self.new ≡ popped self.old }
     {
@@ -492,7 +527,8 @@ impl Frames {
         Ok(())
     }
 
-    /// Brings the frames that were set aside last back above their level, and drops what else stands there. This takes no memory.
+    /// Brings the frames that were set aside last back above their level, and drops what else
+    /// stands there. This takes no memory.
     pub fn bring_back(&mut self)
         ensures { self.new ≡ brought_back self.old }
     {
@@ -528,8 +564,12 @@ impl Frames {
     ) -> Result<&mut Value, FrameError>
         requires { level < length self.old.frames }
         ensures* writes_back { sem 𝓛 (LendsPartAt self.entry level base.now (seen_part part.entry) name.now result) }
-        ensures ok { IfOk result (λ v. value_of (seen_part part.entry) (bound self.old.frames level base.now) name.now ≡ Ok v.now) }
-        ensures err { IfErr result (λ e. Refuses e (value_of (seen_part part.entry) (bound self.old.frames level base.now) name.now)) }
+        ensures ok { IfOk result
+            (λ v. value_of (seen_part part.entry) (bound self.old.frames level base.now) name.now
+            ≡ Ok v.now) }
+        ensures err { IfErr result
+            (λ e. Refuses e (value_of (seen_part part.entry) (bound self.old.frames level base.now)
+            name.now)) }
     {
         let frame = &mut self.frames[level];
         match frame.value_mut(base, part, name) {
@@ -538,7 +578,8 @@ impl Frames {
         }
     }
 
-    /// What a part of a name at a level holds, to write, in less time where the name stands at this place.
+    /// What a part of a name at a level holds, to write, in less time where the name stands at this
+    /// place.
     fn lend_near(
         &mut self,
         level: usize,
@@ -549,8 +590,12 @@ impl Frames {
     ) -> Result<&mut Value, FrameError>
         requires { level < length self.old.frames }
         ensures* writes_back { sem 𝓛 (LendsPartAt self.entry level base.now (seen_part part.entry) name.now result) }
-        ensures ok { IfOk result (λ v. value_of (seen_part part.entry) (bound self.old.frames level base.now) name.now ≡ Ok v.now) }
-        ensures err { IfErr result (λ e. Refuses e (value_of (seen_part part.entry) (bound self.old.frames level base.now) name.now)) }
+        ensures ok { IfOk result
+            (λ v. value_of (seen_part part.entry) (bound self.old.frames level base.now) name.now
+            ≡ Ok v.now) }
+        ensures err { IfErr result
+            (λ e. Refuses e (value_of (seen_part part.entry) (bound self.old.frames level base.now)
+            name.now)) }
     {
         let frame = &mut self.frames[level];
         match frame.value_mut_near(place, base, part, name) {
@@ -559,7 +604,8 @@ impl Frames {
         }
     }
 
-    /// What there is where the links from a name at a level end, to write, where the name may be a link itself.
+    /// What there is where the links from a name at a level end, to write, where the name may be a
+    /// link itself.
     fn lend_linked(
         &mut self,
         alloc: Global,
@@ -570,15 +616,22 @@ impl Frames {
     ) -> Result<&mut Value, FrameError>
         requires { level < length self.old.frames }
         ensures* writes_back { sem 𝓛 (LendsEnd self.entry level base.now (option_copied key.entry) name.now result) }
-        ensures ok { IfOk result (λ v. let p = end_of self.old.frames (over (start level base.now) (part_of (option_copied key.entry))) in value_of p.part (bound self.old.frames p.level p.name) name.now ≡ Ok v.now) }
-        ensures err { IfErr result (λ e. let p = end_of self.old.frames (over (start level base.now) (part_of (option_copied key.entry))) in Refuses e (value_of p.part (bound self.old.frames p.level p.name) name.now)) }
+        ensures ok { IfOk result
+            (λ v. let p = end_of self.old.frames
+            (over (start level base.now) (part_of (option_copied key.entry))) in value_of p.part
+            (bound self.old.frames p.level p.name) name.now ≡ Ok v.now) }
+        ensures err { IfErr result
+            (λ e. let p = end_of self.old.frames
+            (over (start level base.now) (part_of (option_copied key.entry))) in Refuses e
+            (value_of p.part (bound self.old.frames p.level p.name) name.now)) }
     {
         let end = find_target(self.frames.as_slice(), alloc, level, base, key)?;
         let at = end_or(&end, level, base, key);
         self.lend(at.level, at.base, at.part, name)
     }
 
-    /// What there is where the links from a name at a level end, to write. A name that is no link, as most are, is looked up once.
+    /// What there is where the links from a name at a level end, to write. A name that is no link,
+    /// as most are, is looked up once.
     fn lend_end(
         &mut self,
         alloc: Global,
@@ -589,8 +642,14 @@ impl Frames {
     ) -> Result<&mut Value, FrameError>
         requires { level < length self.old.frames }
         ensures* writes_back { sem 𝓛 (LendsEnd self.entry level base.now (option_copied key.entry) name.now result) }
-        ensures ok { IfOk result (λ v. let p = end_of self.old.frames (over (start level base.now) (part_of (option_copied key.entry))) in value_of p.part (bound self.old.frames p.level p.name) name.now ≡ Ok v.now) }
-        ensures err { IfErr result (λ e. let p = end_of self.old.frames (over (start level base.now) (part_of (option_copied key.entry))) in Refuses e (value_of p.part (bound self.old.frames p.level p.name) name.now)) }
+        ensures ok { IfOk result
+            (λ v. let p = end_of self.old.frames
+            (over (start level base.now) (part_of (option_copied key.entry))) in value_of p.part
+            (bound self.old.frames p.level p.name) name.now ≡ Ok v.now) }
+        ensures err { IfErr result
+            (λ e. let p = end_of self.old.frames
+            (over (start level base.now) (part_of (option_copied key.entry))) in Refuses e
+            (value_of p.part (bound self.old.frames p.level p.name) name.now)) }
     {
         match unlinked_place(self.frames.as_slice(), level, base) {
             Some(place) => self.lend_near(level, place, base, part_written(key), name),
@@ -598,7 +657,8 @@ impl Frames {
         }
     }
 
-    /// What a name holds, to write: once the borrow ends, the chain is as after [`Frames::set`] of the value that was left.
+    /// What a name holds, to write: once the borrow ends, the chain is as after [`Frames::set`] of
+    /// the value that was left.
     ///
     /// # Errors
     /// Want of memory; refusals 231 to 234 and 238 (of reading).
@@ -608,7 +668,7 @@ impl Frames {
         ensures err { IfErr result (λ e. Refuses e (read self.old.frames name.now)) }
     {
         match read_name(name.as_str()) {
-            None => Err(refused(Refusal::BadName, name)),
+            None => Err(refused(NameFault::BadName, name)),
             Some(written) => {
                 let level = level_meant(self.frames.as_slice(), written.is_global);
                 self.lend_end(alloc, level, written.base, written.key, name)

@@ -8,7 +8,7 @@ use crate::steps::{change_at, change_from, level_meant};
 use std::alloc::{AllocError, Global};
 use tcl_text::text::Text;
 use tcl_variables::access::Part;
-use tcl_variables::fault::{FrameError, Refusal, refused};
+use tcl_variables::fault::{FrameError, NameFault, refused};
 use tcl_variables::frame::{Change, Frame};
 use tcl_variables::name::{element_text, read_name};
 
@@ -27,7 +27,7 @@ pub(crate) fn change_key_in(
     ensures unchanged { OnErr result (frames.new ≡ frames.old) }
 {
     match read_name(name.as_str()) {
-        None => Err(refused(Refusal::BadName, name)),
+        None => Err(refused(NameFault::BadName, name)),
         Some(written) => {
             let level = level_meant(frames, written.is_global);
             let told = element_text(alloc, name, key)?;

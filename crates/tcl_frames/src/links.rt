@@ -3,7 +3,8 @@ ghost use Rattle.std.specs.Prelude.{◌≡◌, ◌<◌, Ok, length, IfOk, OnOk, 
 ghost use Rattle.std.specs.Option.{option_copied};
 ghost use Rattle.tcl_frames.specs.Chain.{link_over, linked};
 ghost use Rattle.tcl_variables.specs.Faults.{Refuses};
-ghost use Rattle.tcl_frames.specs.Places.{bound, under, end_of, current, links, next, passes, is_at};
+ghost use Rattle.tcl_frames.specs.Places.{bound, under, end_of, current, links, next, passes};
+ghost use Rattle.tcl_frames.specs.Places.{is_at};
 ghost use Rattle.tcl_variables.specs.Variables.{part_of};
 ghost use Rattle.tcl_variables.specs.Variables.Part.{whole, nested};
 ghost use Rattle.tcl_frames.specs.Reached.{start, over, may_link};
@@ -12,10 +13,10 @@ ghost use Rattle.tcl_frames.specs.Sound.{AreFit};
 use crate::steps::{find_target, level_for, link_at, link_in, variable_at};
 use std::alloc::{AllocError, Global};
 use tcl_text::text::Text;
-use tcl_variables::fault::{FrameError, FrameFault, Refusal, Verb, refused};
+use tcl_variables::fault::{FrameError, FrameFault, NameFault, Verb, refused};
 use tcl_variables::frame::Frame;
 use tcl_variables::name::{is_plain_name, read_name};
-use tcl_variables::variable::{Place, Variable};
+use tcl_variables::variable::{LinkTarget, Variable};
 
 /// Whether a name at a level is that of another.
 fn is_name_at(level: usize, base: &str, here: usize, local: &Text) -> bool
@@ -25,16 +26,18 @@ fn is_name_at(level: usize, base: &str, here: usize, local: &Text) -> bool
 }
 
 /// Whether a place is a name at a level, or an element of it.
-fn is_place_at(place: &Place, here: usize, local: &Text) -> bool
+fn is_place_at(place: &LinkTarget, here: usize, local: &Text) -> bool
     ensures { result ≡ is_at here local.now (under place.now whole) }
 {
     place.level == here && *local == place.name
 }
 
 /// Whether a link or one that it leads to passes a name at a level.
-fn link_passes(frames: &[Frame], link: &Place, here: usize, local: &Text) -> bool
+fn link_passes(frames: &[Frame], link: &LinkTarget, here: usize, local: &Text) -> bool
     requires { AreFit 0 frames.now }
-    ensures { result ≡ passes (links frames.now) (next frames.now) (is_at here local.now) (under link.now whole) }
+    ensures { result
+        ≡ passes (links frames.now) (next frames.now) (is_at here local.now)
+        (under link.now whole) }
 {
     let mut place = link;
     'links: loop {
@@ -51,7 +54,9 @@ fn link_passes(frames: &[Frame], link: &Place, here: usize, local: &Text) -> boo
 /// Whether following a name at a level passes a name at another.
 fn name_passes(frames: &[Frame], level: usize, base: &str, here: usize, local: &Text) -> bool
     requires { AreFit 0 frames.now }
-    ensures { result ≡ passes (links frames.now) (next frames.now) (is_at here local.now) (start level base.now) }
+    ensures { result
+        ≡ passes (links frames.now) (next frames.now) (is_at here local.now)
+        (start level base.now) }
 {
     if is_name_at(level, base, here, local) {
         return true;
@@ -72,22 +77,26 @@ fn owned_key(alloc: Global, key: Option<&str>) -> Result<Option<Text>, AllocErro
     }
 }
 
-/// The place where the links from a name at a level end, or none where that is an element of an element.
+/// The place where the links from a name at a level end, or none where that is an element of an
+/// element.
 fn end_place(
     frames: &[Frame],
     alloc: Global,
     level: usize,
     base: &str,
     key: Option<&str>,
-) -> Result<Option<Place>, AllocError>
+) -> Result<Option<LinkTarget>, AllocError>
     requires { AreFit 0 frames.now }
-    ensures { IfOk result (λ place. MatchOption place ((end_of frames.now (over (start level base.now) (part_of (option_copied key.entry)))).part ≡ nested) (λ q. end_of frames.now (over (start level base.now) (part_of (option_copied key.entry))) ≡ under q whole)) }
+    ensures { IfOk result (λ place. MatchOption place
+        ((end_of frames.now (over (start level base.now) (part_of (option_copied key.entry)))).part
+        ≡ nested) (λ q. end_of frames.now
+        (over (start level base.now) (part_of (option_copied key.entry))) ≡ under q whole)) }
 {
     match find_target(frames, alloc, level, base, key)? {
         None => {
             let name = Text::new(alloc, base)?;
             let key = owned_key(alloc, key)?;
-            Ok(Some(Place { level, name, key }))
+            Ok(Some(LinkTarget { level, name, key }))
         }
         Some(target) => Ok(target.into_place()),
     }
@@ -110,16 +119,19 @@ fn link_here(
     frames: &mut [Frame],
     alloc: Global,
     local: &Text,
-    place: Place,
+    place: LinkTarget,
 ) -> Result<(), FrameError>
     requires { 0 < length frames.old }
-    ensures ok { OnOk result (link_over frames.old (bound frames.old (current frames.old) local.now) local.now place ≡ Ok frames.new) }
-    ensures err { IfErr result (λ e. Refuses e (link_over frames.old (bound frames.old (current frames.old) local.now) local.now place)) }
+    ensures ok { OnOk result (link_over frames.old (bound frames.old (current frames.old) local.now)
+        local.now place ≡ Ok frames.new) }
+    ensures err { IfErr result
+        (λ e. Refuses e (link_over frames.old (bound frames.old (current frames.old) local.now)
+        local.now place)) }
     ensures unchanged { OnErr result (frames.new ≡ frames.old) }
 {
     let here = frames.len() - 1;
     if !is_free(variable_at(frames, here, local.as_str())) {
-        return Err(refused(Refusal::Exists, local));
+        return Err(refused(NameFault::Exists, local));
     }
     let frame = &mut frames[here];
     frame.link(alloc, local.as_str(), place)?;
@@ -145,17 +157,17 @@ pub(crate) fn link_frames(
     }
     let here = frames.len() - 1;
     match read_name(other.as_str()) {
-        None => Err(refused(Refusal::BadName, other)),
+        None => Err(refused(NameFault::BadName, other)),
         Some(written) => {
             if !is_plain_name(local.as_str()) {
-                return Err(refused(Refusal::BadName, local));
+                return Err(refused(NameFault::BadName, local));
             }
             let from = level_for(written.is_global, level);
             if name_passes(frames, from, written.base, here, local) {
                 return Err(FrameError::Fault(FrameFault::Itself));
             }
             match end_place(frames, alloc, from, written.base, written.key)? {
-                None => Err(refused(Refusal::NotArray(Verb::Read), other)),
+                None => Err(refused(NameFault::NotArray(Verb::Read), other)),
                 Some(place) => link_here(frames, alloc, local, place),
             }
         }

@@ -1,6 +1,7 @@
 //! The names of the variables of a level.
 ghost use Rattle.std.specs.Prelude.{◌≡◌, ◌<◌, ◌+◌, ◌++◌, [], length, drop, IfOk, OnOk};
-ghost use Rattle.tcl_frames.specs.Chain.{holds, kept_if, names_held, names_own, variables_at, names_of, is_own};
+ghost use Rattle.tcl_frames.specs.Chain.{holds, kept_if, names_held, names_own, variables_at};
+ghost use Rattle.tcl_frames.specs.Chain.{names_of, is_own};
 ghost use Rattle.tcl_frames.specs.Places.{end_of};
 ghost use Rattle.tcl_frames.specs.Reached.{start};
 ghost use Rattle.tcl_frames.specs.Sound.{AreFit};
@@ -40,7 +41,9 @@ fn push_held(
 ) -> Result<(), AllocError>
     requires fit { AreFit 0 frames.now }
     requires within { index < length variables.now }
-    ensures { OnOk result (names.new.items ++ names_held frames.now level (drop (index + 1) variables.now) ≡ names.old.items ++ names_held frames.now level (drop index variables.now)) }
+    ensures { OnOk result
+        (names.new.items ++ names_held frames.now level (drop (index + 1) variables.now)
+        ≡ names.old.items ++ names_held frames.now level (drop index variables.now)) }
 {
     match variables.entry(index) {
         Some((name, _)) => {
@@ -76,7 +79,8 @@ pub(crate) fn names_at(
     level: usize,
 ) -> Result<Vec<Text>, AllocError>
     requires { AreFit 0 frames.now }
-    ensures { IfOk result (λ names. names.items ≡ names_held frames.now level (variables_at frames.now level)) }
+    ensures { IfOk result (λ names. names.items
+        ≡ names_held frames.now level (variables_at frames.now level)) }
 {
     match frames.get(level) {
         Some(frame) => held_names(frames, alloc, level, frame.variables()),
@@ -103,7 +107,9 @@ fn push_own(
     index: usize,
 ) -> Result<(), AllocError>
     requires { index < length variables.now }
-    ensures { OnOk result (names.new.items ++ names_own (drop (index + 1) variables.now) ≡ names.old.items ++ names_own (drop index variables.now)) }
+    ensures { OnOk result
+        (names.new.items ++ names_own (drop (index + 1) variables.now)
+        ≡ names.old.items ++ names_own (drop index variables.now)) }
 {
     match variables.entry(index) {
         Some((name, variable)) => push_if(names, alloc, is_own_variable(variable), name),

@@ -1,5 +1,6 @@
 //! What is done to the frames of a chain.
-ghost use Rattle.std.specs.Prelude.{◌≡◌, ◌<◌, Ok, Some, None, length, MatchOption, IfSome, IfOk, OnOk, IfErr, OnErr};
+ghost use Rattle.std.specs.Prelude.{◌≡◌, ◌<◌, Ok, Some, None, length, MatchOption, IfSome, IfOk};
+ghost use Rattle.std.specs.Prelude.{OnOk, IfErr, OnErr};
 ghost use Rattle.std.specs.Option.{option_copied};
 ghost use Rattle.tcl_frames.specs.Chain.{read, exists_at, array_at, place_named};
 ghost use Rattle.tcl_variables.specs.Faults.{Refuses, IsRefusal};
@@ -17,11 +18,11 @@ use std::alloc::{AllocError, Global};
 use tcl_text::text::Text;
 use tcl_value::value::Value;
 use tcl_variables::access::{Part, elements_in, holds_in, value_in};
-use tcl_variables::fault::{FrameError, Refusal, refused};
+use tcl_variables::fault::{FrameError, NameFault, refused};
 use tcl_variables::frame::{Change, Frame};
 use tcl_variables::name::read_name;
 use tcl_variables::name_map::NameMap;
-use tcl_variables::variable::{Place, Variable};
+use tcl_variables::variable::{LinkTarget, Variable};
 
 /// What a name stands for at a level.
 pub(crate) fn variable_at<'a>(frames: &'a [Frame], level: usize, name: &str) -> Option<&'a Variable>
@@ -77,7 +78,7 @@ pub(crate) fn unlinked_place(frames: &[Frame], level: usize, base: &str) -> Opti
 }
 
 /// The place that a variable links to.
-pub(crate) fn link_in<'a>(variable: Option<&'a Variable>) -> Option<&'a Place>
+pub(crate) fn link_in<'a>(variable: Option<&'a Variable>) -> Option<&'a LinkTarget>
     ensures { option_copied result ≡ link_of (option_copied variable.entry) }
 {
     match variable {
@@ -87,14 +88,14 @@ pub(crate) fn link_in<'a>(variable: Option<&'a Variable>) -> Option<&'a Place>
 }
 
 /// The place that a name at a level links to.
-pub(crate) fn link_at<'a>(frames: &'a [Frame], level: usize, name: &Text) -> Option<&'a Place>
+pub(crate) fn link_at<'a>(frames: &'a [Frame], level: usize, name: &Text) -> Option<&'a LinkTarget>
     ensures { option_copied result ≡ link_of (bound frames.now level name.now) }
 {
     link_in(variable_at(frames, level, name.as_str()))
 }
 
 /// Follows a link and those that it leads to.
-pub(crate) fn reach<'a>(frames: &'a [Frame], link: &'a Place) -> Reached<'a>
+pub(crate) fn reach<'a>(frames: &'a [Frame], link: &'a LinkTarget) -> Reached<'a>
     requires { AreFit 0 frames.now }
     ensures { reached result ≡ end_of frames.now (under link.now whole) }
 {
@@ -123,7 +124,8 @@ pub(crate) struct Found<'a> {
 /// Looks a name up at a level.
 pub(crate) fn find<'a>(frames: &'a [Frame], level: usize, base: &str) -> Found<'a>
     requires { AreFit 0 frames.now }
-    ensures variable { option_copied result.variable ≡ bound_where frames.now (end_of frames.now (start level base.now)) }
+    ensures variable { option_copied result.variable ≡ bound_where frames.now
+        (end_of frames.now (start level base.now)) }
     ensures part { seen_part result.part ≡ (end_of frames.now (start level base.now)).part }
 {
     let variable = variable_at(frames, level, base);
@@ -156,7 +158,8 @@ pub(crate) fn level_meant(frames: &[Frame], is_global: bool) -> usize
     level_for(is_global, frames.len().saturating_sub(1))
 }
 
-/// A name that was looked up: what stands where its links end, the part of it that they mean, and the key that was written.
+/// A name that was looked up: what stands where its links end, the part of it that they mean, and
+/// the key that was written.
 #[derive(Clone, Copy)]
 struct Looked<'a, 'n> {
     variable: Option<&'a Variable>,
@@ -167,11 +170,14 @@ struct Looked<'a, 'n> {
 /// Looks a written name up.
 fn look<'a, 'n>(frames: &'a [Frame], name: &'n Text) -> Result<Looked<'a, 'n>, FrameError>
     requires { AreFit 0 frames.now }
-    ensures ok { IfOk result (λ looked. Stands frames.now name.now (option_copied looked.variable) (merge (seen_part looked.part) (part_of (option_copied looked.key)))) }
-    ensures err { IfErr result (λ e. (place_named frames.now name.now ≡ None) × IsRefusal e (BadName name.now)) }
+    ensures ok { IfOk result
+        (λ looked. Stands frames.now name.now (option_copied looked.variable)
+        (merge (seen_part looked.part) (part_of (option_copied looked.key)))) }
+    ensures err { IfErr result
+        (λ e. (place_named frames.now name.now ≡ None) × IsRefusal e (BadName name.now)) }
 {
     match read_name(name.as_str()) {
-        None => Err(refused(Refusal::BadName, name)),
+        None => Err(refused(NameFault::BadName, name)),
         Some(written) => {
             let level = level_meant(frames, written.is_global);
             let found = find(frames, level, written.base);
@@ -216,7 +222,8 @@ pub(crate) fn array_in<'a>(
     name: &Text,
 ) -> Result<Option<&'a NameMap<Value>>, FrameError>
     requires { AreFit 0 frames.now }
-    ensures ok { IfOk result (λ elements. array_at frames.now name.now ≡ Ok (option_copied elements)) }
+    ensures ok { IfOk result
+        (λ elements. array_at frames.now name.now ≡ Ok (option_copied elements)) }
     ensures err { IfErr result (λ e. Refuses e (array_at frames.now name.now)) }
 {
     let looked = look(frames, name)?;
@@ -246,7 +253,8 @@ impl OwnedPart {
     }
 
     fn with_key(alloc: Global, part: Part<'_>, key: Option<&str>) -> Result<OwnedPart, AllocError>
-        ensures { IfOk result (λ owned. owned_part owned ≡ merge (seen_part part.entry) (part_of (option_copied key.entry))) }
+        ensures { IfOk result (λ owned. owned_part owned
+            ≡ merge (seen_part part.entry) (part_of (option_copied key.entry))) }
     {
         match key {
             None => OwnedPart::of(alloc, part),
@@ -280,17 +288,18 @@ impl Target {
     ghost use Rattle.tcl_frames.specs.Targets.{owned_part, target_spot};
 
     /// The place that it is, or none where it is an element of an element.
-    pub(crate) fn into_place(self) -> Option<Place>
-        ensures { MatchOption result (owned_part self.part ≡ nested) (λ q. target_spot self ≡ under q whole) }
+    pub(crate) fn into_place(self) -> Option<LinkTarget>
+        ensures { MatchOption result (owned_part self.part ≡ nested)
+            (λ q. target_spot self ≡ under q whole) }
     {
         let Target { level, name, part } = self;
         match part {
-            OwnedPart::Whole => Some(Place {
+            OwnedPart::Whole => Some(LinkTarget {
                 level,
                 name,
                 key: None,
             }),
-            OwnedPart::Element(key) => Some(Place {
+            OwnedPart::Element(key) => Some(LinkTarget {
                 level,
                 name,
                 key: Some(key),
@@ -309,7 +318,9 @@ pub(crate) fn find_target<'a>(
     key: Option<&'a str>,
 ) -> Result<Option<Target>, AllocError>
     requires { AreFit 0 frames.now }
-    ensures { IfOk result (λ target. end_of frames.now (over (start level base.now) (part_of (option_copied key.entry))) ≡ target_or (start level base.now) (part_of (option_copied key.entry)) target) }
+    ensures { IfOk result (λ target. end_of frames.now
+        (over (start level base.now) (part_of (option_copied key.entry)))
+        ≡ target_or (start level base.now) (part_of (option_copied key.entry)) target) }
 {
     match link_in(variable_at(frames, level, base)) {
         None => Ok(None),
@@ -342,14 +353,16 @@ pub(crate) struct Ended<'a> {
     pub(crate) part: Part<'a>,
 }
 
-/// Where the links from a name at a level end: at the target, or at the name itself where there is none.
+/// Where the links from a name at a level end: at the target, or at the name itself where there is
+/// none.
 pub(crate) fn end_or<'a>(
     target: &'a Option<Target>,
     level: usize,
     base: &'a str,
     key: Option<&'a str>,
 ) -> Ended<'a>
-    ensures { ended result ≡ target_or (start level base.now) (part_of (option_copied key.entry)) target.now }
+    ensures { ended result
+        ≡ target_or (start level base.now) (part_of (option_copied key.entry)) target.now }
 {
     match target {
         None => Ended {
@@ -376,8 +389,11 @@ pub(crate) fn change_at(
     name: &Text,
 ) -> Result<(), FrameError>
     requires { level < length frames.old }
-    ensures ok { OnOk result (change_levels change frames.old (over (start level base.now) (seen_part part.entry)) name.now ≡ Ok frames.new) }
-    ensures err { IfErr result (λ e. Refuses e (change_levels change frames.old (over (start level base.now) (seen_part part.entry)) name.now)) }
+    ensures ok { OnOk result (change_levels change frames.old
+        (over (start level base.now) (seen_part part.entry)) name.now ≡ Ok frames.new) }
+    ensures err { IfErr result
+        (λ e. Refuses e (change_levels change frames.old
+        (over (start level base.now) (seen_part part.entry)) name.now)) }
     ensures unchanged { OnErr result (frames.new ≡ frames.old) }
 {
     let frame = &mut frames[level];
@@ -395,8 +411,14 @@ fn change_unlinked(
     name: &Text,
 ) -> Result<Option<Change>, FrameError>
     requires { level < length frames.old }
-    ensures ok { IfOk result (λ left. MatchOption left (IsChangedThere change frames.old (over (start level base.now) (seen_part part.entry)) name.now frames.new) (λ c. (c ≡ change) × (frames.new ≡ frames.old))) }
-    ensures err { IfErr result (λ e. (link_of (bound frames.old level base.now) ≡ None) × Refuses e (change_levels change frames.old (over (start level base.now) (seen_part part.entry)) name.now)) }
+    ensures ok { IfOk result
+        (λ left. MatchOption left (IsChangedThere change frames.old
+        (over (start level base.now) (seen_part part.entry)) name.now frames.new)
+        (λ c. (c ≡ change) × (frames.new ≡ frames.old))) }
+    ensures err { IfErr result
+        (λ e. (link_of (bound frames.old level base.now) ≡ None) ×
+        Refuses e (change_levels change frames.old
+        (over (start level base.now) (seen_part part.entry)) name.now)) }
     ensures unchanged { OnErr result (frames.new ≡ frames.old) }
 {
     let frame = &mut frames[level];
@@ -415,8 +437,13 @@ fn change_linked(
 ) -> Result<(), FrameError>
     requires fit { AreFit 0 frames.old }
     requires within { level < length frames.old }
-    ensures ok { OnOk result (change_levels change frames.old (end_of frames.old (over (start level base.now) (part_of (option_copied key.entry)))) name.now ≡ Ok frames.new) }
-    ensures err { IfErr result (λ e. Refuses e (change_levels change frames.old (end_of frames.old (over (start level base.now) (part_of (option_copied key.entry)))) name.now)) }
+    ensures ok { OnOk result (change_levels change frames.old
+        (end_of frames.old (over (start level base.now) (part_of (option_copied key.entry))))
+        name.now ≡ Ok frames.new) }
+    ensures err { IfErr result
+        (λ e. Refuses e (change_levels change frames.old
+        (end_of frames.old (over (start level base.now) (part_of (option_copied key.entry))))
+        name.now)) }
     ensures unchanged { OnErr result (frames.new ≡ frames.old) }
 {
     match find_target(frames, alloc, level, base, key)? {
@@ -429,7 +456,8 @@ fn change_linked(
     }
 }
 
-/// Changes what is where the links from a name at a level end. Where the name is no link, as most are, a set looks it up once.
+/// Changes what is where the links from a name at a level end. Where the name is no link, as most
+/// are, a set looks it up once.
 pub(crate) fn change_from(
     frames: &mut [Frame],
     alloc: Global,
@@ -441,8 +469,13 @@ pub(crate) fn change_from(
 ) -> Result<(), FrameError>
     requires fit { AreFit 0 frames.old }
     requires within { level < length frames.old }
-    ensures ok { OnOk result (change_levels change frames.old (end_of frames.old (over (start level base.now) (part_of (option_copied key.entry)))) name.now ≡ Ok frames.new) }
-    ensures err { IfErr result (λ e. Refuses e (change_levels change frames.old (end_of frames.old (over (start level base.now) (part_of (option_copied key.entry)))) name.now)) }
+    ensures ok { OnOk result (change_levels change frames.old
+        (end_of frames.old (over (start level base.now) (part_of (option_copied key.entry))))
+        name.now ≡ Ok frames.new) }
+    ensures err { IfErr result
+        (λ e. Refuses e (change_levels change frames.old
+        (end_of frames.old (over (start level base.now) (part_of (option_copied key.entry))))
+        name.now)) }
     ensures unchanged { OnErr result (frames.new ≡ frames.old) }
 {
     match change_unlinked(frames, alloc, level, base, part_written(key), change, name) {
@@ -466,7 +499,7 @@ pub(crate) fn change_in(
     ensures unchanged { OnErr result (frames.new ≡ frames.old) }
 {
     match read_name(name.as_str()) {
-        None => Err(refused(Refusal::BadName, name)),
+        None => Err(refused(NameFault::BadName, name)),
         Some(written) => {
             let level = level_meant(frames, written.is_global);
             change_from(

@@ -1,10 +1,12 @@
 -- What the parts of the matching tell of patterns and texts.
-use Rattle.std.specs.Prelude.{ℕ, ◌≡◌, ◌<◌, ◌≤◌, ◌==◌, Bool, true, false, if◌then◌else◌, List, [], ◌∷◌, length}
+use Rattle.std.specs.Prelude.{ℕ, ◌≡◌, ◌<◌, ◌≤◌, ◌==◌, Bool, true, false, if◌then◌else◌, List, []}
+use Rattle.std.specs.Prelude.{◌∷◌, length}
 use Rattle.tcl_glob.specs.declared.Item.{Item}
 use Rattle.tcl_glob.specs.declared.Item.TheVariants.{Run, AnyOne, OneOf, Plain}
 use Rattle.tcl_glob.specs.declared.Front.{Front}
 use Rattle.tcl_glob.specs.declared.Front.TheVariants.{Whole, Differs, UpToRun}
-use Rattle.tcl_glob.specs.Patterns.{PatternItem, run, any_one, one_of, plain, set_text, items, matches_items, some_end, letters}
+use Rattle.tcl_glob.specs.Patterns.{PatternItem, run, any_one, one_of, plain, set_text, items}
+use Rattle.tcl_glob.specs.Patterns.{matches_items, some_end, letters}
 
 -- the item that was read
 abbrev pub item_of : Bool → Item → PatternItem
@@ -29,13 +31,17 @@ abbrev pub whole : Bool → List ℕ → List ℕ → Bool
 whole nocase pattern text = matches_items (items (letters nocase pattern)) (letters nocase text)
 
 abbrev pub some : Bool → List ℕ → List ℕ → Bool
-some nocase pattern text = some_end (matches_items (items (letters nocase pattern))) (letters nocase text)
+some nocase pattern text = some_end (matches_items (items (letters nocase pattern)))
+    (letters nocase text)
 
--- What is told of a pattern at a text: it matches the whole of it, it doesn't, or its items up to a run take the
--- characters before a rest, and what follows the run is to match some end of the rest. The run leaves nothing to be
--- found in a later place: so the same holds of the pattern at some end of the text.
+-- What is told of a pattern at a text: it matches the whole of it, it doesn't, or its items up to a
+-- run take the characters before a rest, and what follows the run is to match some end of the rest.
+-- The run leaves nothing to be found in a later place: so the same holds of the pattern at some end
+-- of the text.
 abbrev pub IsFront : Bool → List ℕ → List ℕ → Front → Type 0
 IsFront nocase pattern text Whole = whole nocase pattern text ≡ true
 IsFront nocase pattern text Differs = whole nocase pattern text ≡ false
 IsFront nocase pattern text (UpToRun after rest) =
-    (whole nocase pattern text ≡ some nocase after.now rest.now) × (some nocase pattern text ≡ some nocase after.now rest.now) × (length after.now < length pattern) × (length rest.now ≤ length text)
+    (whole nocase pattern text ≡ some nocase after.now rest.now) ×
+    (some nocase pattern text ≡ some nocase after.now rest.now) ×
+    (length after.now < length pattern) × (length rest.now ≤ length text)

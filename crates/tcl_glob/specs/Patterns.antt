@@ -1,12 +1,13 @@
 -- Patterns, over the characters of texts.
-use Rattle.std.specs.Prelude.{ℕ, ◌==◌, ◌&&◌, ◌||◌, nat_le, Bool, true, false, if◌then◌else◌, List, [], ◌∷◌, map}
+use Rattle.std.specs.Prelude.{ℕ, ◌==◌, ◌&&◌, ◌||◌, nat_le, Bool, true, false, if◌then◌else◌, List}
+use Rattle.std.specs.Prelude.{[], ◌∷◌, map}
 use Rattle.std.specs.Char.{to_ascii_lowercase}
 use Rattle.std.specs.Str.{chars}
 
 -- ---- the items of a pattern
 
--- An item is a run of any characters, any one character, one character of a set (its text up to the `]`), or a
--- character that stands for itself.
+-- An item is a run of any characters, any one character, one character of a set (its text up to the
+-- `]`), or a character that stands for itself.
 pub data PatternItem : Type 0 where
   run : PatternItem
   any_one : PatternItem
@@ -19,13 +20,14 @@ set_text [] = []
 set_text (c ∷ cs) = if c == 93 then [] else c ∷ set_text cs
 
 -- where reading stands: outside a set, behind a backslash, or in a set
-pub data Place : Type 0 where
-  outside : Place
-  escaped : Place
-  inside : Place
+pub data Position : Type 0 where
+  outside : Position
+  escaped : Position
+  inside : Position
 
--- A character outside a set: `*`, `?`, a backslash, `[`, or one that is plain. What follows is read at a place.
-abbrev pub first_item : ℕ → List ℕ → (Place → List PatternItem) → List PatternItem
+-- A character outside a set: `*`, `?`, a backslash, `[`, or one that is plain. What follows is read
+-- at a place.
+abbrev pub first_item : ℕ → List ℕ → (Position → List PatternItem) → List PatternItem
 first_item c cs rest =
     if c == 42 then run ∷ rest outside
     else if c == 63 then any_one ∷ rest outside
@@ -33,9 +35,9 @@ first_item c cs rest =
     else if c == 91 then one_of (set_text cs) ∷ rest inside
     else plain c ∷ rest outside
 
--- The items of a pattern. A backslash makes the next character plain, and is itself where it is the last; a set ends
--- with the first `]`.
-abbrev pub items_at : List ℕ → Place → List PatternItem
+-- The items of a pattern. A backslash makes the next character plain, and is itself where it is the
+-- last; a set ends with the first `]`.
+abbrev pub items_at : List ℕ → Position → List PatternItem
 items_at [] outside = []
 items_at [] escaped = plain 92 ∷ []
 items_at [] inside = []
@@ -57,7 +59,8 @@ abbrev pub contains : List ℕ → ℕ → Bool
 contains [] c = false
 contains (a ∷ []) c = a == c
 contains (a ∷ b ∷ []) c = a == c || b == c
-contains (a ∷ b ∷ d ∷ set) c = if b == 45 then is_between a d c || contains set c else a == c || contains (b ∷ d ∷ set) c
+contains (a ∷ b ∷ d ∷ set) c = if b == 45 then is_between a d c || contains set c else a == c ||
+    contains (b ∷ d ∷ set) c
 
 -- ---- what a pattern matches
 

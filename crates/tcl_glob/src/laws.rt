@@ -1,5 +1,6 @@
 //! What the matching of patterns comes to, as laws of its definition.
-ghost use Rattle.tcl_glob.specs.Laws.{RunTakesFront, PlainMatchesItself, StarMatchesAll, StarsFindPlain};
+ghost use Rattle.tcl_glob.specs.Laws.{RunTakesFront, PlainMatchesItself, StarMatchesAll};
+ghost use Rattle.tcl_glob.specs.Laws.{StarsFindPlain};
 
 /// A run of any characters takes some front of a text, and what follows it matches the rest.
 pub fn run_takes_front()

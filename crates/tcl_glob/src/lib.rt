@@ -2,7 +2,8 @@
 #![tactic(auto)]
 
 ghost use Rattle.std.specs.Prelude.{◌≡◌, ◌∷◌, ◌<◌, ◌≤◌, ◌||◌, [], length, MatchOption};
-ghost use Rattle.tcl_glob.specs.Patterns.{items, items_at, escaped, set_text, contains, is_between, takes, letters, is_match};
+ghost use Rattle.tcl_glob.specs.Patterns.{items, items_at, escaped, set_text, contains, is_between};
+ghost use Rattle.tcl_glob.specs.Patterns.{takes, letters, is_match};
 ghost use Rattle.tcl_glob.specs.Fronts.{item_of, behind_set, range_end, some, IsFront};
 
 pub mod characters;
@@ -35,8 +36,9 @@ enum Front<'a> {
 
 /// Whether a pattern matches a whole text, character by character.
 ///
-/// `*` stands for any run of characters, `?` for one, `[..]` for one of the characters or ranges `a-z` in it, and a
-/// backslash makes the next character plain. With `nocase` the ASCII letters of both are taken in lower case.
+/// `*` stands for any run of characters, `?` for one, `[..]` for one of the characters or ranges
+/// `a-z` in it, and a backslash makes the next character plain. With `nocase` the ASCII letters of
+/// both are taken in lower case.
 ///
 /// It takes no memory, and time in the product of the two lengths at most.
 pub fn matches(pattern: &str, text: &str, nocase: bool) -> bool
@@ -49,8 +51,8 @@ pub fn matches(pattern: &str, text: &str, nocase: bool) -> bool
     }
 }
 
-/// Whether a pattern matches some end of a text. Where its items up to a run are found, they need not be looked for
-/// again in a later place.
+/// Whether a pattern matches some end of a text. Where its items up to a run are found, they need
+/// not be looked for again in a later place.
 fn matches_some_end(pattern: &str, text: &str, nocase: bool) -> bool
     ensures { result ≡ some nocase pattern.now text.now }
 {
@@ -102,7 +104,9 @@ fn match_front<'a>(pattern: &'a str, text: &'a str, nocase: bool) -> Front<'a>
 /// The first item of a pattern, and what follows it.
 fn next_item(pattern: &str, nocase: bool) -> Option<(Item<'_>, &str)>
     ensures { MatchOption result (items (letters nocase pattern.now) ≡ [])
-        (λ found. (items (letters nocase pattern.now) ≡ item_of nocase found.0 ∷ items (letters nocase found.1.now)) × (length found.1.now < length pattern.now)) }
+        (λ found. (items (letters nocase pattern.now)
+        ≡ item_of nocase found.0 ∷ items (letters nocase found.1.now)) ×
+        (length found.1.now < length pattern.now)) }
 {
     let (letter, rest) = first_letter(pattern, nocase)?;
     let found = match letter {
@@ -117,7 +121,8 @@ fn next_item(pattern: &str, nocase: bool) -> Option<(Item<'_>, &str)>
 
 /// The item behind a backslash, and what follows it.
 fn escaped_item(rest: &str, nocase: bool) -> (Item<'_>, &str)
-    ensures item { items_at (letters nocase rest.now) escaped ≡ item_of nocase result.0 ∷ items (letters nocase result.1.now) }
+    ensures item { items_at (letters nocase rest.now) escaped
+        ≡ item_of nocase result.0 ∷ items (letters nocase result.1.now) }
     ensures shorter { length result.1.now ≤ length rest.now }
 {
     match first_letter(rest, nocase) {
@@ -174,7 +179,8 @@ fn set_contains(body: &str, letter: char, nocase: bool) -> bool
 /// The other end of a range that begins with a character, or that character, and what follows.
 fn range_end(from: char, rest: &str, nocase: bool) -> (char, &str)
     ensures to { result.0 ≡ (range_end from (set_text (letters nocase rest.now))).0 }
-    ensures rest { set_text (letters nocase result.1.now) ≡ (range_end from (set_text (letters nocase rest.now))).1 }
+    ensures rest { set_text (letters nocase result.1.now)
+        ≡ (range_end from (set_text (letters nocase rest.now))).1 }
     ensures shorter { length result.1.now ≤ length rest.now }
 {
     if let Some((minus, after)) = first_letter(rest, nocase) {

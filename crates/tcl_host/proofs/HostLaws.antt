@@ -18,7 +18,7 @@ use Rattle.tcl_host.specs.declared.open_mode.OpenMode.{OpenMode}
 use Rattle.tcl_host.specs.declared.open_mode.OpenMode.TheVariants as Mode
 use Rattle.tcl_host.specs.declared.reply.HostReply.{HostReply}
 use Rattle.tcl_host.specs.declared.reply.HostReply.TheVariants.{Opened, Rest, Done, Refused}
-use Rattle.tcl_host.specs.declared.reply.Refusal.TheVariants.{DeviceFault, NotOpened, NoChannel}
+use Rattle.tcl_host.specs.declared.reply.HostRefusal.TheVariants.{DeviceFault, NotOpened, NoChannel}
 use Rattle.tcl_host.specs.declared.request.Request.{Request}
 use Rattle.tcl_host.specs.declared.request.Request.TheVariants.{Open, ReadAll, Write, Close}
 use Rattle.tcl_host.proofs.NameLemmas.{get-insert-same}

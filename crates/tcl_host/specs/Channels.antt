@@ -3,7 +3,8 @@ use Rattle.std.specs.Prelude.{◌≡◌, ℕ, zero, suc, ◌+◌, Bool, List, []
 use Rattle.std.specs.Coded.{Coded, code_by, coded×, coded_ℕ, coded_bool, coded_list}
 use Rattle.tcl_host.specs.declared.memory.channel.Channel.{Channel}
 use Rattle.tcl_host.specs.declared.memory.channel.Stream.{Stream}
-use Rattle.tcl_host.specs.declared.memory.channel.Stream.TheVariants.{Input, ReadFile, Output, Errors, WriteFile}
+use Rattle.tcl_host.specs.declared.memory.channel.Stream.TheVariants.{Input, ReadFile, Output}
+use Rattle.tcl_host.specs.declared.memory.channel.Stream.TheVariants.{Errors, WriteFile}
 
 -- a stream is stored as its kind and its file's name
 abbrev pub stream_tag : Stream → ℕ × List ℕ
@@ -20,7 +21,8 @@ stream_of (suc (suc zero)) name = Output
 stream_of (suc (suc (suc zero))) name = Errors
 stream_of (suc (suc (suc (suc n)))) name = WriteFile name
 
-pub stream_of-tag : (stream : Stream) → stream_of (stream_tag stream).0 (stream_tag stream).1 ≡ stream
+pub stream_of-tag : (stream : Stream) →
+    stream_of (stream_tag stream).0 (stream_tag stream).1 ≡ stream
 stream_of-tag Input = refl
 stream_of-tag (ReadFile name) = refl
 stream_of-tag Output = refl
@@ -28,12 +30,14 @@ stream_of-tag Errors = refl
 stream_of-tag (WriteFile name) = refl
 
 abbrev pub stream_code : Coded Stream
-stream_code = code_by (ℕ × List ℕ) (coded× coded_ℕ (coded_list coded_ℕ)) stream_tag (λ p. stream_of p.0 p.1) stream_of-tag
+stream_code = code_by (ℕ × List ℕ) (coded× coded_ℕ (coded_list coded_ℕ)) stream_tag
+    (λ p. stream_of p.0 p.1) stream_of-tag
 
 -- a channel is stored as its fields
 abbrev pub channel_code : Coded Channel
 channel_code =
-    code_by (Stream × (ℕ × Bool)) (coded× stream_code (coded× coded_ℕ coded_bool)) (λ c. (c.stream, (c.place, c.ended)))
+    code_by (Stream × (ℕ × Bool)) (coded× stream_code (coded× coded_ℕ coded_bool))
+    (λ c. (c.stream, (c.place, c.ended)))
     (λ p. record { stream = p.0; place = p.1.0; ended = p.1.1 }) (λ _. refl)
 
 -- a channel from which so many bytes more were read

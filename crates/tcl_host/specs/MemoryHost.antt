@@ -1,5 +1,6 @@
 -- A host in memory: what it replies to each request, and what it is afterwards.
-use Rattle.std.specs.Prelude.{ℕ, ◌+◌, ◌-◌, ◌==◌, nat_lt, List, ◌++◌, Option, Result, Ok, Err, if◌then◌else◌}
+use Rattle.std.specs.Prelude.{ℕ, ◌+◌, ◌-◌, ◌==◌, nat_lt, List, ◌++◌, Option, Result, Ok, Err}
+use Rattle.std.specs.Prelude.{if◌then◌else◌}
 use Rattle.std.specs.FinMap.{get, insert}
 use Rattle.tcl_host.specs.Hosts.{last_count}
 use Rattle.tcl_host.specs.Stores.{serve, new_store}
@@ -9,8 +10,8 @@ use Rattle.tcl_host.specs.declared.reply.HostError.{HostError}
 use Rattle.tcl_host.specs.declared.reply.HostError.TheVariants as Failed
 use Rattle.tcl_host.specs.declared.reply.HostReply.{HostReply}
 use Rattle.tcl_host.specs.declared.reply.HostReply.TheVariants.{Refused}
-use Rattle.tcl_host.specs.declared.reply.Refusal.{Refusal}
-use Rattle.tcl_host.specs.declared.reply.Refusal.TheVariants.{DeviceFault}
+use Rattle.tcl_host.specs.declared.reply.HostRefusal.{HostRefusal}
+use Rattle.tcl_host.specs.declared.reply.HostRefusal.TheVariants.{DeviceFault}
 use Rattle.tcl_host.specs.declared.request.Request.{Request}
 
 -- a host with no files, on which no fault is planned and none was counted
@@ -32,7 +33,8 @@ called host = record host { fault_in = host.fault_in - 1 }
 abbrev pub replied : MemoryHost → HostReply × Store → HostReply × MemoryHost
 replied host served = (served.0, called (record host { store = served.1 }))
 
--- what it replies, and what it is afterwards: the call for which a fault is planned fails, and each other is served
+-- what it replies, and what it is afterwards: the call for which a fault is planned fails, and each
+-- other is served
 abbrev pub respond : MemoryHost → Request → HostReply × MemoryHost
 respond host request =
     if host.fault_in == 1
@@ -40,20 +42,22 @@ respond host request =
     else replied host (serve host.store request)
 
 -- the error that an answer stands for, where it is one
-abbrev pub refused_by : {A : Type 0} → Result A Refusal → Result A HostError
+abbrev pub refused_by : {A : Type 0} → Result A HostRefusal → Result A HostError
 refused_by (Ok answer) = Ok answer
 refused_by (Err why) = Err (Failed.Refused why)
 
 -- WHAT IS PUT THERE AND SEEN WITHOUT A CALL
 
 abbrev pub with_file : MemoryHost → List ℕ → List ℕ → MemoryHost
-with_file host name bytes = record host { store = record host.store { files = insert host.store.files name bytes } }
+with_file host name bytes = record host
+    { store = record host.store { files = insert host.store.files name bytes } }
 
 abbrev pub file_of : MemoryHost → List ℕ → Option (List ℕ)
 file_of host name = get host.store.files name
 
 abbrev pub with_input : MemoryHost → List ℕ → MemoryHost
-with_input host bytes = record host { store = record host.store { input = host.store.input ++ bytes } }
+with_input host bytes = record host
+    { store = record host.store { input = host.store.input ++ bytes } }
 
 abbrev pub output_of : MemoryHost → List ℕ
 output_of host = host.store.output

@@ -1,26 +1,28 @@
 -- The replies of a host, and what is said of each.
 use Rattle.std.specs.Prelude.{ℕ, Bool, true, false, List, ◌++◌, codes}
 use Rattle.tcl_host.specs.declared.request.Request.{Request}
-use Rattle.tcl_host.specs.declared.request.Request.TheVariants.{Open, ReadLine, ReadAll, Write, Flush, Close, Eof}
-use Rattle.tcl_host.specs.declared.reply.Refusal.{Refusal}
-use Rattle.tcl_host.specs.declared.reply.Refusal.TheVariants.{NoChannel, DeviceFault, NotOpened}
+use Rattle.tcl_host.specs.declared.request.Request.TheVariants.{Open, ReadLine, ReadAll, Write}
+use Rattle.tcl_host.specs.declared.request.Request.TheVariants.{Flush, Close, Eof}
+use Rattle.tcl_host.specs.declared.reply.HostRefusal.{HostRefusal}
+use Rattle.tcl_host.specs.declared.reply.HostRefusal.TheVariants.{NoChannel, DeviceFault, NotOpened}
 use Rattle.tcl_host.specs.declared.reply.HostReply.{HostReply}
-use Rattle.tcl_host.specs.declared.reply.HostReply.TheVariants.{Opened, Line, End, Rest, Done, AtEnd, Refused}
+use Rattle.tcl_host.specs.declared.reply.HostReply.TheVariants.{Opened, Line, End, Rest, Done}
+use Rattle.tcl_host.specs.declared.reply.HostReply.TheVariants.{AtEnd, Refused}
 
 -- the text of a refusal, x being the channel's or the file's name
-abbrev pub refusal_text : Refusal → List ℕ → List ℕ
+abbrev pub refusal_text : HostRefusal → List ℕ → List ℕ
 refusal_text NoChannel x = codes "can not find channel named \"" ++ x ++ codes "\""
 refusal_text DeviceFault x = codes "device fault on \"" ++ x ++ codes "\""
 refusal_text NotOpened x = codes "couldn't open \"" ++ x ++ codes "\""
 
 -- an opening is refused where the file can't be opened or the device fails
-abbrev pub refuses_open : Refusal → Bool
+abbrev pub refuses_open : HostRefusal → Bool
 refuses_open NoChannel = false
 refuses_open DeviceFault = true
 refuses_open NotOpened = true
 
 -- a call on a channel is refused where the channel isn't open for it or the device fails
-abbrev pub refuses_channel : Refusal → Bool
+abbrev pub refuses_channel : HostRefusal → Bool
 refuses_channel NoChannel = true
 refuses_channel DeviceFault = true
 refuses_channel NotOpened = false

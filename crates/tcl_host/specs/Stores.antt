@@ -1,5 +1,8 @@
--- Files, channels and standard streams in memory: what each request does to them, and what is replied.
-use Rattle.std.specs.Prelude.{ℕ, ◌+◌, Bool, true, false, ◌&&◌, ◌==◌, nat_lt, List, [], ◌∷◌, ◌++◌, length, take, drop, Option, None, Some, Result, Ok, Err, codes, if◌then◌else◌}
+-- Files, channels and standard streams in memory: what each request does to them, and what is
+-- replied.
+use Rattle.std.specs.Prelude.{ℕ, ◌+◌, Bool, true, false, ◌&&◌, ◌==◌, nat_lt, List, [], ◌∷◌, ◌++◌}
+use Rattle.std.specs.Prelude.{length, take, drop, Option, None, Some, Result, Ok, Err, codes}
+use Rattle.std.specs.Prelude.{if◌then◌else◌}
 use Rattle.std.specs.Fmt.{decimal}
 use Rattle.std.specs.FinMap.{empty, get, insert, remove, contains_key}
 use Rattle.std.specs.List.{position_or_len}
@@ -9,15 +12,16 @@ use Rattle.tcl_host.specs.Hosts.{line_reply, last_count}
 use Rattle.tcl_host.specs.Names.{Named}
 use Rattle.tcl_host.specs.declared.memory.channel.Channel.{Channel}
 use Rattle.tcl_host.specs.declared.memory.channel.Stream.{Stream}
-use Rattle.tcl_host.specs.declared.memory.channel.Stream.TheVariants.{Input, ReadFile, Output, Errors, WriteFile}
+use Rattle.tcl_host.specs.declared.memory.channel.Stream.TheVariants.{Input, ReadFile, Output}
+use Rattle.tcl_host.specs.declared.memory.channel.Stream.TheVariants.{Errors, WriteFile}
 use Rattle.tcl_host.specs.declared.memory.store.Store.{Store}
 use Rattle.tcl_host.specs.declared.memory.taken.Taken.{Taken}
 use Rattle.tcl_host.specs.declared.open_mode.OpenMode.{OpenMode}
 use Rattle.tcl_host.specs.declared.open_mode.OpenMode.TheVariants.{Read, Write, Append}
 use Rattle.tcl_host.specs.declared.reply.HostReply.{HostReply}
 use Rattle.tcl_host.specs.declared.reply.HostReply.TheVariants.{Opened, Rest, Done, AtEnd, Refused}
-use Rattle.tcl_host.specs.declared.reply.Refusal.{Refusal}
-use Rattle.tcl_host.specs.declared.reply.Refusal.TheVariants.{NoChannel, NotOpened}
+use Rattle.tcl_host.specs.declared.reply.HostRefusal.{HostRefusal}
+use Rattle.tcl_host.specs.declared.reply.HostRefusal.TheVariants.{NoChannel, NotOpened}
 use Rattle.tcl_host.specs.declared.request.Request.{Request}
 use Rattle.tcl_host.specs.declared.request.Request.TheVariants as Asked
 
@@ -30,11 +34,19 @@ new_channel stream = record { stream = stream; place = 0; ended = false }
 -- the channels that are open at first
 abbrev pub standard_channels : Named Channel
 standard_channels =
-    insert (insert (insert empty (codes "stdin") (new_channel Input)) (codes "stdout") (new_channel Output)) (codes "stderr") (new_channel Errors)
+    insert (insert (insert empty (codes "stdin") (new_channel Input)) (codes "stdout")
+    (new_channel Output)) (codes "stderr") (new_channel Errors)
 
 -- no files, nothing put or written
 abbrev pub new_store : Store
-new_store = record { files = empty; channels = standard_channels; input = []; output = []; errors = []; next = 3 }
+new_store = record {
+  files = empty;
+  channels = standard_channels;
+  input = [];
+  output = [];
+  errors = [];
+  next = 3;
+}
 
 -- OPENING
 
@@ -44,7 +56,10 @@ channel_name n = codes "file" ++ decimal n
 
 -- the next channel leads to the stream
 abbrev pub with_channel : Store → Stream → Store
-with_channel store stream = record store { channels = insert store.channels (channel_name store.next) (new_channel stream); next = store.next + 1 }
+with_channel store stream = record store {
+  channels = insert store.channels (channel_name store.next) (new_channel stream);
+  next = store.next + 1;
+}
 
 -- a file is read only where it is there
 abbrev pub can_open : OpenMode → Named (List ℕ) → List ℕ → Bool
@@ -65,7 +80,8 @@ stream_opened Append name = WriteFile name
 
 -- what an opening leaves
 abbrev pub opened : OpenMode → Store → List ℕ → Store
-opened mode store name = with_channel (record store { files = files_opened mode store.files name }) (stream_opened mode name)
+opened mode store name = with_channel (record store { files = files_opened mode store.files name })
+    (stream_opened mode name)
 
 -- the last number isn't given to a channel
 abbrev pub open_file : Store → List ℕ → OpenMode → HostReply × Store
@@ -86,7 +102,8 @@ take_line_of n rest =
     then record { answer = Some (take n rest); count = n + 1; ended = false }
     else record { answer = Some rest; count = length rest; ended = true }
 
--- what one read of a line takes: the bytes up to a newline, or all that are left, and then it met the end
+-- what one read of a line takes: the bytes up to a newline, or all that are left, and then it met
+-- the end
 abbrev pub take_line : List ℕ → Taken (Option (List ℕ))
 take_line [] = record { answer = None; count = 0; ended = true }
 take_line (byte ∷ bytes) = take_line_of (position_or_len is_newline (byte ∷ bytes)) (byte ∷ bytes)
@@ -118,17 +135,21 @@ rest_of store name = rest_on store (get store.channels name)
 -- a channel is moved on
 abbrev pub moved_on : Store → List ℕ → ℕ → Bool → Option Channel → Store
 moved_on store name count ended None = store
-moved_on store name count ended (Some channel) = record store { channels = insert store.channels name (advanced channel count ended) }
+moved_on store name count ended (Some channel) = record store
+    { channels = insert store.channels name (advanced channel count ended) }
 
 abbrev pub moved : Store → List ℕ → ℕ → Bool → Store
 moved store name count ended = moved_on store name count ended (get store.channels name)
 
-abbrev pub read_from : {A : Type 0} → (List ℕ → Taken A) → (A → HostReply) → Store → List ℕ → Option (List ℕ) → HostReply × Store
+abbrev pub read_from : {A : Type 0} → (List ℕ → Taken A) → (A → HostReply) → Store → List ℕ →
+    Option (List ℕ) → HostReply × Store
 read_from how reply store name None = (Refused NoChannel, store)
-read_from how reply store name (Some rest) = (reply (how rest).answer, moved store name (how rest).count (how rest).ended)
+read_from how reply store name (Some rest) =
+    (reply (how rest).answer, moved store name (how rest).count (how rest).ended)
 
 -- a read answers what it takes, and moves its channel on by as much
-abbrev pub read : {A : Type 0} → (List ℕ → Taken A) → (A → HostReply) → Store → List ℕ → HostReply × Store
+abbrev pub read : {A : Type 0} → (List ℕ → Taken A) → (A → HostReply) → Store → List ℕ → HostReply ×
+    Store
 read how reply store name = read_from how reply store name (rest_of store name)
 
 -- whether the last read met the end, where the channel is open for reading
@@ -151,7 +172,8 @@ write_to store text Input = (Refused NoChannel, store)
 write_to store text (ReadFile name) = (Refused NoChannel, store)
 write_to store text Output = (Done, record store { output = store.output ++ text })
 write_to store text Errors = (Done, record store { errors = store.errors ++ text })
-write_to store text (WriteFile name) = (Done, record store { files = appended store.files name text })
+write_to store text (WriteFile name) =
+    (Done, record store { files = appended store.files name text })
 
 abbrev pub write_on : Store → List ℕ → Option Channel → HostReply × Store
 write_on store text None = (Refused NoChannel, store)
@@ -189,6 +211,6 @@ serve store (Asked.Close name) = close store name
 serve store (Asked.Eof name) = (eof_on (get store.channels name), store)
 
 -- the reply that an answer stands for
-abbrev pub reply_by : {A : Type 0} → (A → HostReply) → Result A Refusal → HostReply
+abbrev pub reply_by : {A : Type 0} → (A → HostReply) → Result A HostRefusal → HostReply
 reply_by reply (Ok answer) = reply answer
 reply_by reply (Err why) = Refused why

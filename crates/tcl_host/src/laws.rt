@@ -1,7 +1,8 @@
 //! Laws of the host in memory, each of which a function without a body states.
 ghost use Rattle.tcl_host.specs.Laws.{FaultLaw, LineLaw, WritingLaw, AppendingLaw};
 
-/// A device fault is answered exactly where one is planned for the call; it is counted, and changes nothing else.
+/// A device fault is answered exactly where one is planned for the call; it is counted, and changes
+/// nothing else.
 pub fn faults_are_planned()
     ensures { FaultLaw }
 {}

@@ -1,4 +1,5 @@
-//! The host of an interpreter of the Tcl command language: the files and channels that its scripts reach.
+//! The host of an interpreter of the Tcl command language: the files and channels that its scripts
+//! reach.
 #![tactic(auto)]
 
 pub mod bytes;

@@ -2,8 +2,10 @@
 ghost use Rattle.std.specs.Prelude.{◌≡◌, ◌==◌, IfOk, OnOk, OnErr};
 ghost use Rattle.std.specs.Option.{option_map};
 ghost use Rattle.tcl_host.specs.declared.reply.HostError.{HostError};
-ghost use Rattle.tcl_host.specs.declared.reply.Refusal.{Refusal};
-ghost use Rattle.tcl_host.specs.MemoryHost.{new_host, called, failed, refused_by, with_file, file_of, with_input, output_of, errors_of, with_fault_in};
+ghost use Rattle.tcl_host.specs.declared.reply.HostRefusal.{HostRefusal};
+ghost use Rattle.tcl_host.specs.MemoryHost.{new_host, called, failed, refused_by, with_file};
+ghost use Rattle.tcl_host.specs.MemoryHost.{file_of, with_input, output_of, errors_of};
+ghost use Rattle.tcl_host.specs.MemoryHost.{with_fault_in};
 
 mod channel;
 mod channels;
@@ -15,13 +17,14 @@ use crate::bytes::Bytes;
 use crate::host::Host;
 use crate::memory::store::Store;
 use crate::open_mode::OpenMode;
-use crate::reply::{HostError, Refusal};
+use crate::reply::{HostError, HostRefusal};
 use std::alloc::{AllocError, Global};
 use tcl_text::text::Text;
 
 /// Files, channels and standard streams in memory, of which a call can be made to fail.
 ///
-/// At first the channels `stdin`, `stdout` and `stderr` are open. A channel to a file is named `file` and a number; the first is `file3`.
+/// At first the channels `stdin`, `stdout` and `stderr` are open. A channel to a file is named
+/// `file` and a number; the first is `file3`.
 pub struct MemoryHost {
     store: Store,
     // which call from now on is to fail; 0 where none is
@@ -99,8 +102,8 @@ impl MemoryHost {
         self.store.errors.as_slice()
     }
 
-    /// Makes the call of that number from now on fail once (262), which is counted and changes nothing else; 0 makes none fail.
-    /// It takes the place of a fault that was planned before.
+    /// Makes the call of that number from now on fail once (262), which is counted and changes
+    /// nothing else; 0 makes none fail. It takes the place of a fault that was planned before.
     pub fn fail_at(&mut self, call: u64)
         ensures { self.new ≡ with_fault_in self.old call }
     {
@@ -110,17 +113,17 @@ impl MemoryHost {
     /// Fails, which is counted.
     fn fail(&mut self) -> HostError
         ensures failed { self.new ≡ failed self.old }
-        ensures fault { result ≡ HostError.Refused Refusal.DeviceFault }
+        ensures fault { result ≡ HostError.Refused HostRefusal.DeviceFault }
     {
         self.fault_in = 0;
         if self.failures < u64::MAX {
             self.failures += 1;
         }
-        HostError::Refused(Refusal::DeviceFault)
+        HostError::Refused(HostRefusal::DeviceFault)
     }
 
     /// Takes note of a call that was served.
-    fn reply<T>(&mut self, answer: Result<T, Refusal>) -> Result<T, HostError>
+    fn reply<T>(&mut self, answer: Result<T, HostRefusal>) -> Result<T, HostError>
         ensures called { self.new ≡ called self.old }
         ensures answer { result ≡ refused_by answer }
     {

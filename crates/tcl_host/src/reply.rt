@@ -11,7 +11,7 @@ use tcl_text::text::Text;
 
 /// Why a host refuses a call.
 #[derive(Clone, Copy, Debug, PartialEq, Eq)]
-pub enum Refusal {
+pub enum HostRefusal {
     /// 261: no channel of that name is open for such a call.
     NoChannel,
     /// 262: the device failed.
@@ -36,7 +36,7 @@ pub enum HostReply {
     /// Whether the last read met the end.
     AtEnd(bool),
     /// The call was refused.
-    Refused(Refusal),
+    Refused(HostRefusal),
 }
 
 /// Why a call to a host gave nothing.
@@ -45,7 +45,7 @@ pub enum HostError {
     /// Memory was wanting, and the host is as it was.
     Memory,
     /// The host refused.
-    Refused(Refusal),
+    Refused(HostRefusal),
 }
 
 impl From<AllocError> for HostError {
@@ -64,7 +64,7 @@ impl<T: Drop> From<AllocFailed<T>> for HostError {
     }
 }
 
-impl Refusal {
+impl HostRefusal {
     /// The text that a script sees, `offender` being the channel's name, of an opening the file's.
     ///
     /// # Errors
@@ -73,9 +73,9 @@ impl Refusal {
         ensures { IfOk result (λ text. text ≡ refusal_text self offender.now) }
     {
         match self {
-            Refusal::NoChannel => quoting(alloc, NO_CHANNEL, offender),
-            Refusal::DeviceFault => quoting(alloc, DEVICE_FAULT, offender),
-            Refusal::NotOpened => quoting(alloc, "couldn't open \"", offender),
+            HostRefusal::NoChannel => quoting(alloc, NO_CHANNEL, offender),
+            HostRefusal::DeviceFault => quoting(alloc, DEVICE_FAULT, offender),
+            HostRefusal::NotOpened => quoting(alloc, "couldn't open \"", offender),
         }
     }
 }
@@ -88,25 +88,29 @@ impl HostReply {
         match request {
             Request::Open(_, _) => matches!(
                 self,
-                HostReply::Opened(_) | HostReply::Refused(Refusal::NotOpened | Refusal::DeviceFault)
+                HostReply::Opened(_)
+                    | HostReply::Refused(HostRefusal::NotOpened | HostRefusal::DeviceFault)
             ),
             Request::ReadLine(_) => matches!(
                 self,
                 HostReply::Line(_)
                     | HostReply::End
-                    | HostReply::Refused(Refusal::NoChannel | Refusal::DeviceFault)
+                    | HostReply::Refused(HostRefusal::NoChannel | HostRefusal::DeviceFault)
             ),
             Request::ReadAll(_) => matches!(
                 self,
-                HostReply::Rest(_) | HostReply::Refused(Refusal::NoChannel | Refusal::DeviceFault)
+                HostReply::Rest(_)
+                    | HostReply::Refused(HostRefusal::NoChannel | HostRefusal::DeviceFault)
             ),
             Request::Write(_, _) | Request::Flush(_) | Request::Close(_) => matches!(
                 self,
-                HostReply::Done | HostReply::Refused(Refusal::NoChannel | Refusal::DeviceFault)
+                HostReply::Done
+                    | HostReply::Refused(HostRefusal::NoChannel | HostRefusal::DeviceFault)
             ),
             Request::Eof(_) => matches!(
                 self,
-                HostReply::AtEnd(_) | HostReply::Refused(Refusal::NoChannel | Refusal::DeviceFault)
+                HostReply::AtEnd(_)
+                    | HostReply::Refused(HostRefusal::NoChannel | HostRefusal::DeviceFault)
             ),
         }
     }

@@ -7,7 +7,7 @@ use Rattle.tcl_core.specs.Endings.Reply.{Completed}
 use Rattle.tcl_core.specs.Entries.Entry.{Delete}
 use Rattle.tcl_core.specs.Paths.{Text, Path}
 use Rattle.tcl_core.specs.Programs.Prog.{done}
-use Rattle.tcl_core.specs.Threads.{completed}
+use Rattle.tcl_core.specs.Execution.{completed}
 use Rattle.tcl_flow.specs.View.{completion_of}
 use Rattle.tcl_flow.specs.declared.completion.Completion.{Completion as Ended}
 use Rattle.tcl_language.specs.Instructions.{Program, either, fails}

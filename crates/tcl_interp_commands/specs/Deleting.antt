@@ -12,8 +12,10 @@ abbrev pub IsInUse : Text → Result (Unit {0}) Interruption → Type 0
 IsInUse text (Ok done) = Prim.⊥
 IsInUse text (Err i) = Interrupts i (λ e. e ≡ Completed (failing (in_use text)))
 
--- An ordinary result is nothing; any other completion, that the interpreter is in use; and what is more than that passes.
+-- An ordinary result is nothing; any other completion, that the interpreter is in use; and what is
+-- more than that passes.
 abbrev pub Deletes : Text → Result Text Interruption → Result (Unit {0}) Interruption → Type 0
 Deletes text (Ok value) r = r ≡ Ok tt
-Deletes text (Err (interruption.Completed c)) r = ((code_is_ok c.value.code ≡ true) × (r ≡ Ok tt)) ⊎ ((code_is_ok c.value.code ≡ false) × IsInUse text r)
+Deletes text (Err (interruption.Completed c)) r = ((code_is_ok c.value.code ≡ true) × (r ≡ Ok tt)) ⊎
+    ((code_is_ok c.value.code ≡ false) × IsInUse text r)
 Deletes text (Err i) r = r ≡ Err i

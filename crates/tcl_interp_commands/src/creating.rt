@@ -39,7 +39,9 @@ fn create_below<O: Outside>(
     safe: bool,
 ) -> Result<Value, Interruption>
     requires { IsRunning tree.old place }
-    ensures evaluates { Evaluates O.goes tree.old outside.old place (λ style. interpreters.makes_at word.now safe (above.now, name.now)) tree.new outside.new result }
+    ensures evaluates { Evaluates O.goes tree.old outside.old place
+        (λ style. interpreters.makes_at word.now safe (above.now, name.now)) tree.new outside.new
+        result }
     ensures lost { IsLoss O.loses outside.old outside.new }
     ensures steady { IsSteady tree.old tree.new }
     ensures left { O.entries_left outside.new ≤ O.entries_left outside.old }
@@ -62,7 +64,8 @@ fn create_at<O: Outside>(
     safe: bool,
 ) -> Result<Value, Interruption>
     requires { IsRunning tree.old place }
-    ensures evaluates { Evaluates O.goes tree.old outside.old place (λ style. interpreters.makes_named word.now safe path.now) tree.new outside.new result }
+    ensures evaluates { Evaluates O.goes tree.old outside.old place
+        (λ style. interpreters.makes_named word.now safe path.now) tree.new outside.new result }
     ensures lost { IsLoss O.loses outside.old outside.new }
     ensures steady { IsSteady tree.old tree.new }
     ensures left { O.entries_left outside.new ≤ O.entries_left outside.old }
@@ -83,7 +86,9 @@ fn create_there<O: Outside>(
     safe: bool,
 ) -> Result<Value, Interruption>
     requires { IsRunning tree.old place }
-    ensures evaluates { Evaluates O.goes tree.old outside.old place (λ style. or_fails fault_message (list_of word.now) (interpreters.makes_named word.now safe)) tree.new outside.new result }
+    ensures evaluates { Evaluates O.goes tree.old outside.old place
+        (λ style. or_fails fault_message (list_of word.now)
+        (interpreters.makes_named word.now safe)) tree.new outside.new result }
     ensures lost { IsLoss O.loses outside.old outside.new }
     ensures steady { IsSteady tree.old tree.new }
     ensures left { O.entries_left outside.new ≤ O.entries_left outside.old }
@@ -95,7 +100,9 @@ fn create_there<O: Outside>(
 /// The name of a child that is given none.
 fn free_name(tree: &Tree, alloc: Global, place: Place) -> Result<Text, AllocError>
     requires { (p : Path) × Names tree.now place p }
-    ensures free { IfOk result (λ name. (p : Path) (n : core.Node Own) → Names tree.now place p → tree_of tree.now p ≡ Some n → name ≡ interpreters.free_name n.own) }
+    ensures free { IfOk result
+        (λ name. (p : Path) (n : core.Node Own) → Names tree.now place p →
+        tree_of tree.now p ≡ Some n → name ≡ interpreters.free_name n.own) }
     ensures within { IfOk result (λ name. IsWithin name) }
 {
     let _few = node(tree, place).state.commands.len();
@@ -111,7 +118,8 @@ fn create_unnamed<O: Outside>(
     safe: bool,
 ) -> Result<Value, Interruption>
     requires { IsRunning tree.old place }
-    ensures evaluates { Evaluates O.goes tree.old outside.old place (λ style. interpreters.create_path safe []) tree.new outside.new result }
+    ensures evaluates { Evaluates O.goes tree.old outside.old place
+        (λ style. interpreters.create_path safe []) tree.new outside.new result }
     ensures lost { IsLoss O.loses outside.old outside.new }
     ensures steady { IsSteady tree.old tree.new }
     ensures left { O.entries_left outside.new ≤ O.entries_left outside.old }
@@ -133,7 +141,8 @@ fn create_named<O: Outside>(
     words: &[Value],
 ) -> Result<Value, Interruption>
     requires { IsRunning tree.old place }
-    ensures evaluates { Evaluates O.goes tree.old outside.old place (λ style. interpreters.create_path safe words.now) tree.new outside.new result }
+    ensures evaluates { Evaluates O.goes tree.old outside.old place
+        (λ style. interpreters.create_path safe words.now) tree.new outside.new result }
     ensures lost { IsLoss O.loses outside.old outside.new }
     ensures steady { IsSteady tree.old tree.new }
     ensures left { O.entries_left outside.new ≤ O.entries_left outside.old }
@@ -157,8 +166,11 @@ fn is_option(word: &str) -> bool
 
 /// Whether the options ask for a safe child, and the words behind them.
 fn read_options(alloc: Global, args: &[Value]) -> Result<(bool, &[Value]), Interruption>
-    ensures read { IfOk result (λ found. interpreters.create_options false args.now ≡ interpreters.create_path found.0 found.1.now) }
-    ensures refused { IfErr result (λ i. Interrupts i (FailsSo (interpreters.create_options false args.now))) }
+    ensures read { IfOk result
+        (λ found. interpreters.create_options false args.now
+        ≡ interpreters.create_path found.0 found.1.now) }
+    ensures refused { IfErr result
+        (λ i. Interrupts i (FailsSo (interpreters.create_options false args.now))) }
 {
     let mut safe = false;
     'words: for index in 0..args.len() {
@@ -177,8 +189,9 @@ fn read_options(alloc: Global, args: &[Value]) -> Result<(bool, &[Value]), Inter
     Ok((safe, &[]))
 }
 
-/// `interp create ?-safe? ?--? ?path?`: makes an interpreter, safe where that is asked for or the one that asks is safe, and tells its path; where none
-/// is given, the first of `interp0`, `interp1` and so on that no command is named. (interp(n))
+/// `interp create ?-safe? ?--? ?path?`: makes an interpreter, safe where that is asked for or the
+/// one that asks is safe, and tells its path; where none is given, the first of `interp0`,
+/// `interp1` and so on that no command is named. (interp(n))
 ///
 /// # Errors
 /// 221; 241; those of the path: 101 to 104 and 301; 238, 302 and 307; want of memory.
@@ -190,7 +203,8 @@ pub fn create<O: Outside>(
     args: &[Value],
 ) -> Result<Value, Interruption>
     requires { IsRunning tree.old place }
-    ensures evaluates { Evaluates O.goes tree.old outside.old place (λ style. interpreters.create_options false args.now) tree.new outside.new result }
+    ensures evaluates { Evaluates O.goes tree.old outside.old place
+        (λ style. interpreters.create_options false args.now) tree.new outside.new result }
     ensures lost { IsLoss O.loses outside.old outside.new }
     ensures steady { IsSteady tree.old tree.new }
     ensures left { O.entries_left outside.new ≤ O.entries_left outside.old }

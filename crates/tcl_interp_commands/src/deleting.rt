@@ -17,7 +17,8 @@ use tcl_text::text::Text;
 use tcl_tree::tree::{Place, Tree};
 use tcl_value::value::Value;
 
-/// What the end of asking to delete comes to: that the interpreter is in use, where it isn't an ordinary result.
+/// What the end of asking to delete comes to: that the interpreter is in use, where it isn't an
+/// ordinary result.
 fn deleted(
     alloc: Global,
     text: &Text,
@@ -49,7 +50,9 @@ fn delete_below<O: Outside>(
     name: &Text,
 ) -> Result<(), Interruption>
     requires { IsRunning tree.old place }
-    ensures steps { Steps O.goes tree.old outside.old place (λ rest style. interpreters.deletes_at text.now (above.now, name.now) (rest style)) tree.new outside.new result }
+    ensures steps { Steps O.goes tree.old outside.old place
+        (λ rest style. interpreters.deletes_at text.now (above.now, name.now) (rest style)) tree.new
+        outside.new result }
     ensures lost { IsLoss O.loses outside.old outside.new }
     ensures steady { IsSteady tree.old tree.new }
     ensures left { O.entries_left outside.new ≤ O.entries_left outside.old }
@@ -69,7 +72,9 @@ fn delete_at<O: Outside>(
     path: &[Text],
 ) -> Result<(), Interruption>
     requires { IsRunning tree.old place }
-    ensures steps { Steps O.goes tree.old outside.old place (λ rest style. interpreters.deletes_named text.now path.now (rest style)) tree.new outside.new result }
+    ensures steps { Steps O.goes tree.old outside.old place
+        (λ rest style. interpreters.deletes_named text.now path.now (rest style)) tree.new
+        outside.new result }
     ensures lost { IsLoss O.loses outside.old outside.new }
     ensures steady { IsSteady tree.old tree.new }
     ensures left { O.entries_left outside.new ≤ O.entries_left outside.old }
@@ -83,7 +88,8 @@ fn delete_at<O: Outside>(
 /// Deletes the interpreter at the path that a text is, with all below it.
 ///
 /// # Errors
-/// Those of the path: 101 to 104 and 301; 303 where an evaluation is in progress in it; want of memory.
+/// Those of the path: 101 to 104 and 301; 303 where an evaluation is in progress in it; want of
+/// memory.
 pub fn delete_there<O: Outside>(
     tree: &mut Tree,
     alloc: Global,
@@ -92,7 +98,10 @@ pub fn delete_there<O: Outside>(
     text: &Text,
 ) -> Result<(), Interruption>
     requires { IsRunning tree.old place }
-    ensures steps { Steps O.goes tree.old outside.old place (λ rest style. interpreters.at_path text.now (λ path n. interpreters.deletes_named text.now path (rest style))) tree.new outside.new result }
+    ensures steps { Steps O.goes tree.old outside.old place
+        (λ rest style. interpreters.at_path text.now
+        (λ path n. interpreters.deletes_named text.now path (rest style))) tree.new outside.new
+        result }
     ensures lost { IsLoss O.loses outside.old outside.new }
     ensures steady { IsSteady tree.old tree.new }
     ensures left { O.entries_left outside.new ≤ O.entries_left outside.old }
@@ -101,10 +110,12 @@ pub fn delete_there<O: Outside>(
     delete_at(tree, alloc, outside, place, text, found.path.as_slice())
 }
 
-/// `interp delete ?path ...?`: deletes each interpreter in turn, with all below it, up to the first that is refused. (interp(n))
+/// `interp delete ?path ...?`: deletes each interpreter in turn, with all below it, up to the first
+/// that is refused. (interp(n))
 ///
 /// # Errors
-/// Of each path in turn, 101 to 104, 301, and 303 where an evaluation is in progress in the interpreter; want of memory.
+/// Of each path in turn, 101 to 104, 301, and 303 where an evaluation is in progress in the
+/// interpreter; want of memory.
 pub fn delete<O: Outside>(
     tree: &mut Tree,
     alloc: Global,
@@ -113,7 +124,8 @@ pub fn delete<O: Outside>(
     args: &[Value],
 ) -> Result<Value, Interruption>
     requires { IsRunning tree.old place }
-    ensures evaluates { Evaluates O.goes tree.old outside.old place (λ style. interpreters.delete args.now) tree.new outside.new result }
+    ensures evaluates { Evaluates O.goes tree.old outside.old place
+        (λ style. interpreters.delete args.now) tree.new outside.new result }
     ensures lost { IsLoss O.loses outside.old outside.new }
     ensures steady { IsSteady tree.old tree.new }
     ensures left { O.entries_left outside.new ≤ O.entries_left outside.old }

@@ -19,10 +19,11 @@ use tcl_run::outside::Outside;
 use tcl_tree::tree::{Place, Tree};
 use tcl_value::value::Value;
 
-/// The subcommand of `interp` that a word names. What `interp` does with any words behind that one is the subcommand's program; and where it names none, an
-/// error.
+/// The subcommand of `interp` that a word names. What `interp` does with any words behind that one
+/// is the subcommand's program; and where it names none, an error.
 pub fn subcommand_named(word: &str) -> Option<Subcommand>
-    ensures { (style : Integers) (args : List core.Text) → interpreters.subcommand style word.now args ≡ program_named style result word.now args }
+    ensures { (style : Integers) (args : List core.Text) →
+        interpreters.subcommand style word.now args ≡ program_named style result word.now args }
 {
     Subcommand::named(word)
 }
@@ -41,7 +42,8 @@ pub fn interp_own<O: Outside>(
 ) -> Result<Value, Interruption>
     requires running { IsRunning tree.old place }
     requires own { evaluates_nothing subcommand ≡ true }
-    ensures evaluates { Evaluates O.goes tree.old outside.old place (λ style. program_of style subcommand args.now) tree.new outside.new result }
+    ensures evaluates { Evaluates O.goes tree.old outside.old place
+        (λ style. program_of style subcommand args.now) tree.new outside.new result }
     ensures lost { IsLoss O.loses outside.old outside.new }
     ensures steady { IsSteady tree.old tree.new }
     ensures left { O.entries_left outside.new ≤ O.entries_left outside.old }

@@ -24,7 +24,9 @@ pub fn aliases<O: Outside>(
     args: &[Value],
 ) -> Result<Value, Interruption>
     requires { IsRunning tree.old place }
-    ensures evaluates { Evaluates O.goes tree.old outside.old place (λ style. interpreters.question (codes "interp aliases ?path?") Aliases args.now) tree.new outside.new result }
+    ensures evaluates { Evaluates O.goes tree.old outside.old place
+        (λ style. interpreters.question (codes "interp aliases ?path?") Aliases args.now) tree.new
+        outside.new result }
     ensures lost { IsLoss O.loses outside.old outside.new }
     ensures steady { IsSteady tree.old tree.new }
     ensures left { O.entries_left outside.new ≤ O.entries_left outside.old }
@@ -40,7 +42,8 @@ pub fn aliases<O: Outside>(
     )
 }
 
-/// `interp hidden ?path?`: the names under which commands of an interpreter are hidden, as a list. (interp(n))
+/// `interp hidden ?path?`: the names under which commands of an interpreter are hidden, as a list.
+/// (interp(n))
 ///
 /// # Errors
 /// 241; those of the path: 101 to 104 and 301; 122; want of memory.
@@ -52,7 +55,9 @@ pub fn hidden<O: Outside>(
     args: &[Value],
 ) -> Result<Value, Interruption>
     requires { IsRunning tree.old place }
-    ensures evaluates { Evaluates O.goes tree.old outside.old place (λ style. interpreters.question (codes "interp hidden ?path?") Hidden args.now) tree.new outside.new result }
+    ensures evaluates { Evaluates O.goes tree.old outside.old place
+        (λ style. interpreters.question (codes "interp hidden ?path?") Hidden args.now) tree.new
+        outside.new result }
     ensures lost { IsLoss O.loses outside.old outside.new }
     ensures steady { IsSteady tree.old tree.new }
     ensures left { O.entries_left outside.new ≤ O.entries_left outside.old }
@@ -80,7 +85,9 @@ pub fn is_safe<O: Outside>(
     args: &[Value],
 ) -> Result<Value, Interruption>
     requires { IsRunning tree.old place }
-    ensures evaluates { Evaluates O.goes tree.old outside.old place (λ style. interpreters.question (codes "interp issafe ?path?") IsSafe args.now) tree.new outside.new result }
+    ensures evaluates { Evaluates O.goes tree.old outside.old place
+        (λ style. interpreters.question (codes "interp issafe ?path?") IsSafe args.now) tree.new
+        outside.new result }
     ensures lost { IsLoss O.loses outside.old outside.new }
     ensures steady { IsSteady tree.old tree.new }
     ensures left { O.entries_left outside.new ≤ O.entries_left outside.old }
@@ -108,7 +115,9 @@ pub fn slaves<O: Outside>(
     args: &[Value],
 ) -> Result<Value, Interruption>
     requires { IsRunning tree.old place }
-    ensures evaluates { Evaluates O.goes tree.old outside.old place (λ style. interpreters.question (codes "interp slaves ?path?") Slaves args.now) tree.new outside.new result }
+    ensures evaluates { Evaluates O.goes tree.old outside.old place
+        (λ style. interpreters.question (codes "interp slaves ?path?") Slaves args.now) tree.new
+        outside.new result }
     ensures lost { IsLoss O.loses outside.old outside.new }
     ensures steady { IsSteady tree.old tree.new }
     ensures left { O.entries_left outside.new ≤ O.entries_left outside.old }
@@ -136,7 +145,9 @@ pub fn children<O: Outside>(
     args: &[Value],
 ) -> Result<Value, Interruption>
     requires { IsRunning tree.old place }
-    ensures evaluates { Evaluates O.goes tree.old outside.old place (λ style. interpreters.question (codes "interp children ?path?") Slaves args.now) tree.new outside.new result }
+    ensures evaluates { Evaluates O.goes tree.old outside.old place
+        (λ style. interpreters.question (codes "interp children ?path?") Slaves args.now) tree.new
+        outside.new result }
     ensures lost { IsLoss O.loses outside.old outside.new }
     ensures steady { IsSteady tree.old tree.new }
     ensures left { O.entries_left outside.new ≤ O.entries_left outside.old }

@@ -24,7 +24,8 @@ fn delete_child<O: Outside>(
     name: &Text,
 ) -> Result<Value, Interruption>
     requires { IsRunning tree.old place }
-    ensures evaluates { Evaluates O.goes tree.old outside.old place (λ style. definitions.deletes_child (Some name.now)) tree.new outside.new result }
+    ensures evaluates { Evaluates O.goes tree.old outside.old place
+        (λ style. definitions.deletes_child (Some name.now)) tree.new outside.new result }
     ensures lost { IsLoss O.loses outside.old outside.new }
     ensures steady { IsSteady tree.old tree.new }
     ensures left { O.entries_left outside.new ≤ O.entries_left outside.old }
@@ -43,7 +44,8 @@ fn take_away<O: Outside>(
     word: &Value,
 ) -> Result<Value, Interruption>
     requires { IsRunning tree.old place }
-    ensures evaluates { Evaluates O.goes tree.old outside.old place (λ style. definitions.takes_away word.now) tree.new outside.new result }
+    ensures evaluates { Evaluates O.goes tree.old outside.old place
+        (λ style. definitions.takes_away word.now) tree.new outside.new result }
     ensures lost { IsLoss O.loses outside.old outside.new }
     ensures steady { IsSteady tree.old tree.new }
     ensures left { O.entries_left outside.new ≤ O.entries_left outside.old }
@@ -67,7 +69,8 @@ fn rename_as<O: Outside>(
     new: &Value,
 ) -> Result<Value, Interruption>
     requires { IsRunning tree.old place }
-    ensures evaluates { Evaluates O.goes tree.old outside.old place (λ style. definitions.rename (old.now ∷ new.now ∷ [])) tree.new outside.new result }
+    ensures evaluates { Evaluates O.goes tree.old outside.old place
+        (λ style. definitions.rename (old.now ∷ new.now ∷ [])) tree.new outside.new result }
     ensures lost { IsLoss O.loses outside.old outside.new }
     ensures steady { IsSteady tree.old tree.new }
     ensures left { O.entries_left outside.new ≤ O.entries_left outside.old }
@@ -78,8 +81,8 @@ fn rename_as<O: Outside>(
     rename_to(tree, alloc, place, old, new)
 }
 
-/// `rename oldName newName`: gives a command another name, or takes it away where that is empty; to take a child's command away deletes the child, with all
-/// below it. (rename(n))
+/// `rename oldName newName`: gives a command another name, or takes it away where that is empty; to
+/// take a child's command away deletes the child, with all below it. (rename(n))
 ///
 /// # Errors
 /// 241; 238, 302 and 305; 303 where an evaluation is in progress in the child; want of memory.
@@ -91,7 +94,8 @@ pub fn rename<O: Outside>(
     args: &[Value],
 ) -> Result<Value, Interruption>
     requires { IsRunning tree.old place }
-    ensures evaluates { Evaluates O.goes tree.old outside.old place (λ style. definitions.rename args.now) tree.new outside.new result }
+    ensures evaluates { Evaluates O.goes tree.old outside.old place
+        (λ style. definitions.rename args.now) tree.new outside.new result }
     ensures lost { IsLoss O.loses outside.old outside.new }
     ensures steady { IsSteady tree.old tree.new }
     ensures left { O.entries_left outside.new ≤ O.entries_left outside.old }

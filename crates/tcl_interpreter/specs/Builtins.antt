@@ -2,7 +2,21 @@
 use Rattle.std.specs.Prelude.{codes, ◌∷◌, [], List as Sequence}
 use Rattle.tcl_core.specs.Paths.{Text}
 use Rattle.tcl_interpreter.specs.declared.builtin.Builtin.{Builtin}
-use Rattle.tcl_interpreter.specs.declared.builtin.Builtin.TheVariants.{Set, Unset, Incr, Append, Lappend, Array, Global, Upvar, Uplevel, Proc, Rename, Eval, Expr, If, While, For, Foreach, Lmap, Switch, Break, Continue, Catch, Error, Throw, Return, Try, Info, List, Llength, Lindex, Lrange, Linsert, Lreplace, Lset, Lassign, Lrepeat, Lreverse, Concat, Join, Split, Lsearch, Lsort, Dict, String, Format, Interp, Open, Close, Gets, Puts, Read, Eof, Flush, Source, Exit}
+use Rattle.tcl_interpreter.specs.declared.builtin.Builtin.TheVariants.{Set, Unset, Incr, Append}
+use Rattle.tcl_interpreter.specs.declared.builtin.Builtin.TheVariants.{Lappend, Array, Global}
+use Rattle.tcl_interpreter.specs.declared.builtin.Builtin.TheVariants.{Upvar, Uplevel, Proc, Rename}
+use Rattle.tcl_interpreter.specs.declared.builtin.Builtin.TheVariants.{Eval, Expr, If, While, For}
+use Rattle.tcl_interpreter.specs.declared.builtin.Builtin.TheVariants.{Foreach, Lmap, Switch, Break}
+use Rattle.tcl_interpreter.specs.declared.builtin.Builtin.TheVariants.{Continue, Catch, Error}
+use Rattle.tcl_interpreter.specs.declared.builtin.Builtin.TheVariants.{Throw, Return, Try, Info}
+use Rattle.tcl_interpreter.specs.declared.builtin.Builtin.TheVariants.{List, Llength, Lindex}
+use Rattle.tcl_interpreter.specs.declared.builtin.Builtin.TheVariants.{Lrange, Linsert, Lreplace}
+use Rattle.tcl_interpreter.specs.declared.builtin.Builtin.TheVariants.{Lset, Lassign, Lrepeat}
+use Rattle.tcl_interpreter.specs.declared.builtin.Builtin.TheVariants.{Lreverse, Concat, Join}
+use Rattle.tcl_interpreter.specs.declared.builtin.Builtin.TheVariants.{Split, Lsearch, Lsort, Dict}
+use Rattle.tcl_interpreter.specs.declared.builtin.Builtin.TheVariants.{String, Format, Interp, Open}
+use Rattle.tcl_interpreter.specs.declared.builtin.Builtin.TheVariants.{Close, Gets, Puts, Read, Eof}
+use Rattle.tcl_interpreter.specs.declared.builtin.Builtin.TheVariants.{Flush, Source, Exit}
 
 abbrev pub named : Builtin → Text
 named Set = codes "set"

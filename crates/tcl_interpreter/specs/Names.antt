@@ -2,7 +2,8 @@
 use Rattle.std.specs.Str.{bytes_eq}
 use Rattle.std.specs.Map.{remove_entry}
 use Rattle.indexmap.specs.IndexMap.{insert_entry}
-use Rattle.std.specs.Prelude.{ℕ, Bool, true, false, List, [], ◌∷◌, ◌==◌, ◌&&◌, ◌||◌, not, Option, Some}
+use Rattle.std.specs.Prelude.{ℕ, Bool, true, false, List, [], ◌∷◌, ◌==◌, ◌&&◌, ◌||◌, not, Option}
+use Rattle.std.specs.Prelude.{Some}
 use Rattle.tcl_interpreter.specs.Paths.{Text}
 use Rattle.tcl_interpreter.specs.Own.{Own}
 use Rattle.tcl_interpreter.specs.declared.command.Command.{Command}

@@ -1,5 +1,6 @@
 -- What a contract sees of an interpreter, and of one more or one less in a table.
-use Rattle.std.specs.Prelude.{◌≡◌, ◌≢◌, ℕ, suc, pred, Bool, true, false, cond, List, [], ◌∷◌, ◌++◌, Option, Some, None}
+use Rattle.std.specs.Prelude.{◌≡◌, ◌≢◌, ℕ, suc, pred, Bool, true, false, cond, List, [], ◌∷◌, ◌++◌}
+use Rattle.std.specs.Prelude.{Option, Some, None}
 use Rattle.std.specs.Option.{option_map}
 use Rattle.std.specs.Str.{bytes_eq}
 use Rattle.indexmap.specs.IndexMap.{get, keys}
@@ -19,7 +20,12 @@ abbrev pub NodeView : Type 0
 NodeView = core.Node Own
 
 abbrev pub own_view : State → List Text → Own
-own_view s names = record { chain = s.frames; commands = s.commands.entries; hidden = s.hidden.entries; children = names }
+own_view s names = record {
+  chain = s.frames;
+  commands = s.commands.entries;
+  hidden = s.hidden.entries;
+  children = names;
+}
 
 abbrev pub state_view : State → List Text → NodeView
 state_view s names = record {
@@ -69,7 +75,14 @@ abbrev pub Shape : Type 0
 Shape = Option ℕ × Text × ℕ × List (Text × ℕ) × NodeView
 
 abbrev pub shape_of : Node → Shape
-shape_of node = (node.parent, node.name, node.level, node.children.entries, state_view node.state [])
+shape_of node = (
+  node.parent,
+  node.name,
+  node.level,
+  node.children.entries,
+  state_view node.state
+      [],
+)
 
 abbrev pub shape_at : Slab Node → ℕ → Option Shape
 shape_at s k = option_map shape_of (slab.get s k)
@@ -91,10 +104,12 @@ pub record Attached (s t : Slab Node) (pk : ℕ) (label : Text) (node : Node) : 
   pub name : new.name ≡ old.name
   pub level : new.level ≡ old.level
   pub view : view_of new ≡ with_child label (view_of old)
-  pub gets : (q : Text) → get bytes_eq new.children q ≡ cond (bytes_eq label q) (Some key) (get bytes_eq old.children q)
+  pub gets : (q : Text) → get bytes_eq new.children q
+      ≡ cond (bytes_eq label q) (Some key) (get bytes_eq old.children q)
   pub others : (k : ℕ) → k ≢ pk → k ≢ key → slab.get t k ≡ slab.get s k
 
--- t is s with the node under a new key, and under the label among the children of the node at pk, whatever else that has
+-- t is s with the node under a new key, and under the label among the children of the node at pk,
+-- whatever else that has
 pub record Joined (s t : Slab Node) (pk : ℕ) (label : Text) (node : Node) (key : ℕ) : Type 0 where
   pub was : slab.get s key ≡ None
   pub here : slab.get t key ≡ Some node
@@ -107,7 +122,8 @@ pub record Joined (s t : Slab Node) (pk : ℕ) (label : Text) (node : Node) (key
   pub level : new.level ≡ old.level
   pub safe : new.state.safe ≡ old.state.safe
   pub names : keys new.children ≡ keys old.children ++ label ∷ []
-  pub gets : (q : Text) → get bytes_eq new.children q ≡ cond (bytes_eq label q) (Some key) (get bytes_eq old.children q)
+  pub gets : (q : Text) → get bytes_eq new.children q
+      ≡ cond (bytes_eq label q) (Some key) (get bytes_eq old.children q)
   pub others : (k : ℕ) → k ≢ pk → k ≢ key → slab.get t k ≡ slab.get s k
 
 -- t is s with no node under the key, and none of its name among the children of the node at pk
@@ -121,5 +137,6 @@ pub record Detached (s t : Slab Node) (key : ℕ) (node : Node) (pk : ℕ) : Typ
   pub name : new.name ≡ old.name
   pub level : new.level ≡ old.level
   pub view : view_of new ≡ without_child node.name (view_of old)
-  pub gets : (q : Text) → get bytes_eq new.children q ≡ cond (bytes_eq node.name q) None (get bytes_eq old.children q)
+  pub gets : (q : Text) → get bytes_eq new.children q
+      ≡ cond (bytes_eq node.name q) None (get bytes_eq old.children q)
   pub others : (k : ℕ) → k ≢ pk → k ≢ key → slab.get t k ≡ slab.get s k

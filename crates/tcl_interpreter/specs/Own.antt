@@ -15,7 +15,8 @@ use Rattle.tcl_interpreter.specs.Builtins.{named, language, host}
 abbrev pub CommandMap : Type 0
 CommandMap = List (Text × Command)
 
--- Its chain of frames, with the parts that are set aside; its commands and its hidden commands; and the names of its children.
+-- Its chain of frames, with the parts that are set aside; its commands and its hidden commands; and
+-- the names of its children.
 pub record Own : Type 0 where
   pub chain : Chain
   pub commands : CommandMap
@@ -37,14 +38,24 @@ hidden_of false = []
 
 -- a new interpreter's own part
 abbrev pub new_own : Bool → Own
-new_own safe = record { chain = frames.fresh; commands = commands_of safe; hidden = hidden_of safe; children = [] }
+new_own safe = record {
+  chain = frames.fresh;
+  commands = commands_of safe;
+  hidden = hidden_of safe;
+  children = [];
+}
 
 -- with a child of this name, which is a command; and without it
 abbrev pub with_new_child : Text → Own → Own
-with_new_child n own = record own { commands = own.commands ++ (n, command.Child) ∷ []; children = own.children ++ n ∷ [] }
+with_new_child n own = record own
+    { commands = own.commands ++ (n, command.Child) ∷ []; children = own.children ++ n ∷ [] }
 
 abbrev pub without_old_child : Text → Own → Own
-without_old_child n own = record own { commands = remove_entry (bytes_eq n) own.commands; children = remove_key (bytes_eq n) own.children }
+without_old_child n own = record own {
+  commands = remove_entry (bytes_eq n) own.commands;
+  children = remove_key (bytes_eq n)
+      own.children;
+}
 
 -- what a name stands for
 abbrev pub command_in : Own → Text → Option Command

@@ -2,10 +2,15 @@
 use Rattle.std.specs.Prelude.{codes, ◌++◌}
 use Rattle.tcl_core.specs.Paths.{Text}
 use Rattle.tcl_text.specs.Messages as messages
-use Rattle.tcl_interpreter.specs.declared.refusal.Refusal.{Refusal}
-use Rattle.tcl_interpreter.specs.declared.refusal.Refusal.TheVariants.{Memory, BadName, BadCount, NoInterpreter, Exists, InUse, Denied, NoCommand, NoHidden, TooMany, CountLimit, DepthLimit, BadDepthLimit}
+use Rattle.tcl_interpreter.specs.declared.refusal.TreeError.{TreeError}
+use Rattle.tcl_interpreter.specs.declared.refusal.TreeError.TheVariants.{Memory, BadName, BadCount}
+use Rattle.tcl_interpreter.specs.declared.refusal.TreeError.TheVariants.{NoInterpreter, Exists}
+use Rattle.tcl_interpreter.specs.declared.refusal.TreeError.TheVariants.{InUse, Denied, NoCommand}
+use Rattle.tcl_interpreter.specs.declared.refusal.TreeError.TheVariants.{NoHidden, TooMany}
+use Rattle.tcl_interpreter.specs.declared.refusal.TreeError.TheVariants.{CountLimit, DepthLimit}
+use Rattle.tcl_interpreter.specs.declared.refusal.TreeError.TheVariants.{BadDepthLimit}
 
-abbrev pub text_of : Refusal → Text → Text
+abbrev pub text_of : TreeError → Text → Text
 text_of Memory x = codes "out of memory"
 text_of BadName x = codes "bad name \"" ++ x ++ codes "\""
 text_of BadCount x = codes "bad count \"" ++ x ++ codes "\""

@@ -15,8 +15,9 @@ struct Target {
     words: Vec<Value>,
 }
 
-/// An alias: where its target is, and the words with which a call of it begins there. The target is told from the interpreter that
-/// has the alias, so many levels up and these names down, and is looked up at each call. A clone shares all.
+/// An alias: where its target is, and the words with which a call of it begins there. The target is
+/// told from the interpreter that has the alias, so many levels up and these names down, and is
+/// looked up at each call. A clone shares all.
 #[derive(Drop)]
 pub struct Alias {
     shared: Rc<Target>,
@@ -27,7 +28,12 @@ impl Model for Alias {
 
     ghost Value = { AliasView };
 
-    ghost view = { λ a. record { up = a.shared.value.up; down = a.shared.value.down.items; words = a.shared.value.words.items } };
+    ghost view = { λ a. record {
+      up = a.shared.value.up;
+      down = a.shared.value.down.items;
+      words =
+          a.shared.value.words.items;
+    } };
 }
 
 /// How many leading names two paths have in common. This takes no memory.
@@ -47,8 +53,9 @@ pub fn in_common(these: &[Text], those: &[Text]) -> usize
 }
 
 impl Alias {
-    /// An alias of the interpreter that some names lead to, whose target is the one that others lead to from the same start. The leading
-    /// names that the two have in common are left out of its way.
+    /// An alias of the interpreter that some names lead to, whose target is the one that others
+    /// lead to from the same start. The leading names that the two have in common are left out of
+    /// its way.
     ///
     /// # Errors
     /// Want of memory.
@@ -58,15 +65,24 @@ impl Alias {
         to: &[Text],
         words: Vec<Value>,
     ) -> Result<Alias, AllocError>
-        ensures made { IfOk result (λ made. made ≡ record { up = length from.now - together from.now to.now; down = drop (together from.now to.now) to.now; words = words.items }) }
-        ensures leads { IfOk result (λ made. (a : List (List ℕ)) → (b : List (List ℕ)) × (rise made.up (a ++ from.now) ≡ Some b) × (b ++ made.down ≡ a ++ to.now)) }
+        ensures made { IfOk result
+            (λ made. made ≡ record {
+              up = length from.now - together from.now to.now;
+              down = drop (together from.now to.now)
+                  to.now;
+              words = words.items;
+            }) }
+        ensures leads { IfOk result
+            (λ made. (a : List (List ℕ)) → (b : List (List ℕ)) ×
+            (rise made.up (a ++ from.now) ≡ Some b) × (b ++ made.down ≡ a ++ to.now)) }
     {
         let common = in_common(from, to);
         let down = Vec::from_clones(alloc, &to[common..])?;
         Alias::new(alloc, from.len() - common, down, words)
     }
 
-    /// An alias to the interpreter so many levels up and these names down, whose calls begin with these words.
+    /// An alias to the interpreter so many levels up and these names down, whose calls begin with
+    /// these words.
     ///
     /// # Errors
     /// Want of memory.
@@ -76,7 +92,8 @@ impl Alias {
         down: Vec<Text>,
         words: Vec<Value>,
     ) -> Result<Alias, AllocError>
-        ensures { IfOk result (λ made. made ≡ record { up = up; down = down.items; words = words.items }) }
+        ensures { IfOk result (λ made. made
+            ≡ record { up = up; down = down.items; words = words.items }) }
     {
         let shared = Rc::new(alloc, Target { up, down, words })?;
         Ok(Alias { shared })

@@ -203,7 +203,9 @@ pub(crate) fn add_builtins(
     alloc: Global,
     builtins: &[Builtin],
 ) -> Result<(), AllocError>
-    ensures { OnOk result (commands.new.entries ≡ insert_all bytes_eq commands.old.entries (map entry_of builtins.now)) }
+    ensures { OnOk result
+        (commands.new.entries ≡ insert_all bytes_eq commands.old.entries
+        (map entry_of builtins.now)) }
 {
     commands.reserve(builtins.len())?;
     'builtins: for builtin in builtins {

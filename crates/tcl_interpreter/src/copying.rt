@@ -18,7 +18,8 @@ impl State {
 
     /// One that has the same.
     fn copy(&self) -> Result<State, AllocError>
-        ensures { IfOk result (λ made. (names : List (List ℕ)) → state_view made names ≡ state_view self.now names) }
+        ensures { IfOk result (λ made. (names : List (List ℕ)) →
+            state_view made names ≡ state_view self.now names) }
     {
         let frames = self.frames.copy()?;
         let commands = copy_commands(&self.commands)?;

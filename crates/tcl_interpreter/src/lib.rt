@@ -1,4 +1,5 @@
-//! An interpreter by itself: its variables, its commands and limits, and how its commands are named.
+//! An interpreter by itself: its variables, its commands and limits, and how its commands are
+//! named.
 #![tactic(auto)]
 
 pub mod alias;

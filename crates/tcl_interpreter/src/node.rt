@@ -56,7 +56,9 @@ impl State {
     pub fn new(alloc: Global, safe: bool, root: bool, depth_limit: u64) -> Result<State, AllocError>
         requires least { 1 ≤ depth_limit }
         requires most { depth_limit ≤ 1000 }
-        ensures view { IfOk result (λ state. (names : List (List ℕ)) → state_view state names ≡ new_view safe root depth_limit names) }
+        ensures view { IfOk result
+            (λ state. (names : List (List ℕ)) →
+            state_view state names ≡ new_view safe root depth_limit names) }
         ensures safe { IfOk result (λ state. state.safe ≡ safe) }
     {
         let mut commands = IndexMap::new(alloc);
@@ -101,7 +103,8 @@ impl State {
     /// Moves the meter.
     pub fn advance(&mut self, meter: Meter)
         requires { (names : List (List ℕ)) → full_of meter (state_view self.old names) ≡ false }
-        ensures moved { (names : List (List ℕ)) → state_view self.new names ≡ moved meter (state_view self.old names) }
+        ensures moved { (names : List (List ℕ)) →
+            state_view self.new names ≡ moved meter (state_view self.old names) }
         ensures safe { self.new.safe ≡ self.old.safe }
     {
         match meter {

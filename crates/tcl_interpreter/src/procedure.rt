@@ -13,7 +13,8 @@ struct Definition {
     body: Value,
 }
 
-/// A procedure: its parameters in order, and its body. A clone shares both, so a call that goes on has those that it began with.
+/// A procedure: its parameters in order, and its body. A clone shares both, so a call that goes on
+/// has those that it began with.
 #[derive(Drop)]
 pub struct Procedure {
     shared: Rc<Definition>,
@@ -37,7 +38,8 @@ impl Procedure {
         parameters: Vec<Parameter>,
         body: Value,
     ) -> Result<Procedure, AllocError>
-        ensures { IfOk result (λ made. made ≡ record { parameters = parameters.items; body = body }) }
+        ensures { IfOk result (λ made. made
+            ≡ record { parameters = parameters.items; body = body }) }
     {
         let shared = Rc::new(alloc, Definition { parameters, body })?;
         Ok(Procedure { shared })

@@ -1,7 +1,7 @@
 //! Why a call on the tree is refused.
 ghost use Rattle.std.specs.Prelude.{◌≡◌, ◌++◌, codes, IfOk};
 ghost use Rattle.std.specs.String.{string_bytes};
-ghost use Rattle.tcl_interpreter.specs.declared.refusal.Refusal.TheVariants.{Memory};
+ghost use Rattle.tcl_interpreter.specs.declared.refusal.TreeError.TheVariants.{Memory};
 
 use std::alloc::{AllocError, AllocFailed, Global};
 use tcl_text::messages::{
@@ -10,7 +10,7 @@ use tcl_text::messages::{
 
 /// Why a call on the tree did nothing.
 #[derive(Clone, Copy, Debug, Drop)]
-pub enum Refusal {
+pub enum TreeError {
     /// Want of memory.
     Memory,
     /// No name of a command may be this (238).
@@ -39,19 +39,19 @@ pub enum Refusal {
     BadDepthLimit,
 }
 
-impl From<AllocError> for Refusal {
+impl From<AllocError> for TreeError {
     ghost from_gives = { λ _ e. e ≡ Memory };
 
-    fn from(_error: AllocError) -> Refusal {
-        Refusal::Memory
+    fn from(_error: AllocError) -> TreeError {
+        TreeError::Memory
     }
 }
 
-impl<T: Drop> From<AllocFailed<T>> for Refusal {
+impl<T: Drop> From<AllocFailed<T>> for TreeError {
     ghost from_gives = { λ _ e. e ≡ Memory };
 
-    fn from(_error: AllocFailed<T>) -> Refusal {
-        Refusal::Memory
+    fn from(_error: AllocFailed<T>) -> TreeError {
+        TreeError::Memory
     }
 }
 
@@ -63,7 +63,7 @@ fn quoted(alloc: Global, word: &str, behind: &str) -> Result<String, AllocError>
     format!(in alloc; "\"{word}\"{behind}")
 }
 
-impl Refusal {
+impl TreeError {
     ghost use Rattle.tcl_interpreter.specs.Refusals.{text_of};
 
     /// The text of the refusal; the word is the one that is refused, as it was written.
@@ -74,19 +74,19 @@ impl Refusal {
         ensures { IfOk result (λ text. string_bytes text ≡ text_of self word.now) }
     {
         match self {
-            Refusal::Memory => format!(in alloc; "out of memory"),
-            Refusal::BadName => format!(in alloc; "bad name \"{word}\""),
-            Refusal::BadCount => format!(in alloc; "bad count \"{word}\""),
-            Refusal::NoInterpreter => format!(in alloc; "could not find interpreter \"{word}\""),
-            Refusal::Exists => quoted(alloc, word, ALREADY_EXISTS),
-            Refusal::InUse => format!(in alloc; "interpreter \"{word}\" is in use"),
-            Refusal::Denied => String::from_str(alloc, DENIED),
-            Refusal::NoCommand => format!(in alloc; "invalid command name \"{word}\""),
-            Refusal::NoHidden => format!(in alloc; "invalid hidden command name \"{word}\""),
-            Refusal::TooMany => String::from_str(alloc, TOO_MANY),
-            Refusal::CountLimit(_) => String::from_str(alloc, COUNT_LIMIT),
-            Refusal::DepthLimit(_) => String::from_str(alloc, DEPTH_LIMIT),
-            Refusal::BadDepthLimit => String::from_str(alloc, BAD_DEPTH_LIMIT),
+            TreeError::Memory => format!(in alloc; "out of memory"),
+            TreeError::BadName => format!(in alloc; "bad name \"{word}\""),
+            TreeError::BadCount => format!(in alloc; "bad count \"{word}\""),
+            TreeError::NoInterpreter => format!(in alloc; "could not find interpreter \"{word}\""),
+            TreeError::Exists => quoted(alloc, word, ALREADY_EXISTS),
+            TreeError::InUse => format!(in alloc; "interpreter \"{word}\" is in use"),
+            TreeError::Denied => String::from_str(alloc, DENIED),
+            TreeError::NoCommand => format!(in alloc; "invalid command name \"{word}\""),
+            TreeError::NoHidden => format!(in alloc; "invalid hidden command name \"{word}\""),
+            TreeError::TooMany => String::from_str(alloc, TOO_MANY),
+            TreeError::CountLimit(_) => String::from_str(alloc, COUNT_LIMIT),
+            TreeError::DepthLimit(_) => String::from_str(alloc, DEPTH_LIMIT),
+            TreeError::BadDepthLimit => String::from_str(alloc, BAD_DEPTH_LIMIT),
         }
     }
 }

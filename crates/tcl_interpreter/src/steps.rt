@@ -1,10 +1,12 @@
 //! Steps on the nodes alone.
-ghost use Rattle.std.specs.Prelude.{◌≡◌, ◌≢◌, ◌<◌, ◌+◌, ◌++◌, ◌∷◌, [], List, ℕ, cond, Some, None, OnOk, IfOk, IfSome, IsSome};
+ghost use Rattle.std.specs.Prelude.{◌≡◌, ◌≢◌, ◌<◌, ◌+◌, ◌++◌, ◌∷◌, [], List, ℕ, cond, Some, None};
+ghost use Rattle.std.specs.Prelude.{OnOk, IfOk, IfSome, IsSome};
 ghost use Rattle.std.specs.Str.{bytes_eq};
 ghost use Rattle.slab.specs.Slab.{get, HasRoomFor, slab_len};
 ghost use Rattle.indexmap.specs.IndexMap as map;
 ghost use Rattle.tcl_interpreter.specs.declared.node.Node.{Node};
-ghost use Rattle.tcl_interpreter.specs.Nodes.{SameTable, Attached, Joined, Detached, shape_of, view_of, with_child, without_child};
+ghost use Rattle.tcl_interpreter.specs.Nodes.{SameTable, Attached, Joined, Detached, shape_of};
+ghost use Rattle.tcl_interpreter.specs.Nodes.{view_of, with_child, without_child};
 
 use crate::command::Command;
 use crate::node::Node;
@@ -47,7 +49,9 @@ fn add_child(up: &mut Node, label: Text, twin: Text, key: usize)
     ensures name { up.new.name ≡ up.old.name }
     ensures level { up.new.level ≡ up.old.level }
     ensures view { view_of up.new ≡ with_child label (view_of up.old) }
-    ensures gets { (q : List ℕ) → map.get bytes_eq up.new.children q ≡ cond (bytes_eq label q) (Some key) (map.get bytes_eq up.old.children q) }
+    ensures gets { (q : List ℕ) →
+        map.get bytes_eq up.new.children q
+        ≡ cond (bytes_eq label q) (Some key) (map.get bytes_eq up.old.children q) }
 {
     let _ = up.children.insert(label, key);
     let _ = up.state.commands.insert(twin, Command::Child);
@@ -59,9 +63,12 @@ pub fn attach(nodes: &mut Slab<Node>, parent: usize, label: Text, twin: Text, no
     requires room { HasRoomFor nodes.old 1 }
     requires there { IsSome (get nodes.old parent) }
     requires spare { IfSome (get nodes.old parent) (λ up. 0 < map.spare up.children) }
-    requires spare_commands { IfSome (get nodes.old parent) (λ up. 0 < map.spare up.state.commands) }
-    requires absent { IfSome (get nodes.old parent) (λ up. map.get bytes_eq up.children label ≡ None) }
-    requires free { IfSome (get nodes.old parent) (λ up. map.get bytes_eq up.state.commands label ≡ None) }
+    requires spare_commands { IfSome (get nodes.old parent)
+        (λ up. 0 < map.spare up.state.commands) }
+    requires absent { IfSome (get nodes.old parent)
+        (λ up. map.get bytes_eq up.children label ≡ None) }
+    requires free { IfSome (get nodes.old parent)
+        (λ up. map.get bytes_eq up.state.commands label ≡ None) }
     ensures { Attached nodes.old nodes.new parent label node }
 {
     let key = nodes.insert_reserved(node);
@@ -78,7 +85,9 @@ fn add_key(up: &mut Node, label: Text, key: usize) -> Result<(), AllocError>
     ensures level { up.new.level ≡ up.old.level }
     ensures state { up.new.state ≡ up.old.state }
     ensures names { OnOk result (map.keys up.new.children ≡ map.keys up.old.children ++ label ∷ []) }
-    ensures gets { OnOk result ((q : List ℕ) → map.get bytes_eq up.new.children q ≡ cond (bytes_eq label q) (Some key) (map.get bytes_eq up.old.children q)) }
+    ensures gets { OnOk result ((q : List ℕ) →
+        map.get bytes_eq up.new.children q
+        ≡ cond (bytes_eq label q) (Some key) (map.get bytes_eq up.old.children q)) }
 {
     up.children.insert(label, key)?;
     Ok(())
@@ -92,8 +101,11 @@ pub fn join(
     node: Node,
 ) -> Result<usize, AllocError>
     requires there { IsSome (get nodes.old parent) }
-    requires absent { IfSome (get nodes.old parent) (λ up. map.get bytes_eq up.children label ≡ None) }
-    ensures joined { IfOk result (λ key. (j : Joined nodes.old nodes.new parent label node key) × (j.new.state ≡ j.old.state)) }
+    requires absent { IfSome (get nodes.old parent)
+        (λ up. map.get bytes_eq up.children label ≡ None) }
+    ensures joined { IfOk result
+        (λ key. (j : Joined nodes.old nodes.new parent label node key) ×
+        (j.new.state ≡ j.old.state)) }
 {
     let key = nodes.insert(node)?;
     match nodes.get_mut(parent) {
@@ -109,7 +121,9 @@ fn remove_child(up: &mut Node, name: &Text)
     ensures name { up.new.name ≡ up.old.name }
     ensures level { up.new.level ≡ up.old.level }
     ensures view { view_of up.new ≡ without_child name.now (view_of up.old) }
-    ensures gets { (q : List ℕ) → map.get bytes_eq up.new.children q ≡ cond (bytes_eq name.now q) None (map.get bytes_eq up.old.children q) }
+    ensures gets { (q : List ℕ) →
+        map.get bytes_eq up.new.children q
+        ≡ cond (bytes_eq name.now q) None (map.get bytes_eq up.old.children q) }
 {
     up.children.shift_remove(name);
     up.state.commands.shift_remove(name);
@@ -120,7 +134,8 @@ pub fn detach(nodes: &mut Slab<Node>, key: usize, parent: usize)
     requires there { IsSome (get nodes.old key) }
     requires parent { IsSome (get nodes.old parent) }
     requires apart { parent ≢ key }
-    ensures detached { (node : Node) → get nodes.old key ≡ Some node → Detached nodes.old nodes.new key node parent }
+    ensures detached { (node : Node) → get nodes.old key ≡ Some node →
+        Detached nodes.old nodes.new key node parent }
     ensures len { slab_len nodes.new + 1 ≡ slab_len nodes.old }
 {
     let node = nodes.remove(key);

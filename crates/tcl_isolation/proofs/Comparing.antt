@@ -9,7 +9,7 @@ use Rattle.tcl_core.specs.Programs.{Prog, Table, Wait}
 use Rattle.tcl_core.specs.Programs.Prog.{wait}
 use Rattle.tcl_core.specs.Rules.{Derives}
 use Rattle.tcl_core.specs.Runs.{Ending, World, entering}
-use Rattle.tcl_core.specs.Threads.{before, event}
+use Rattle.tcl_core.specs.Execution.{before, event}
 use Rattle.tcl_core.specs.Trees.{Event, Move, Node, Tree, What, asked, at, at_top, where_none}
 use Rattle.tcl_core.specs.Trees.Grants.{Budget}
 use Rattle.tcl_core.specs.Trees.Move.{Born, Fall, Enter, Come}
@@ -27,7 +27,7 @@ use Rattle.tcl_core.proofs.Reacting.{IsLasting, Lasting}
 use Rattle.tcl_core.proofs.RuleLaws.{derived_runs, runs_derived}
 use Rattle.tcl_core.proofs.Unended.{uncut}
 use Rattle.tcl_core.proofs.Worlds.{first_part, living}
-use Rattle.tcl_watching.specs.Boundary.{past, past_the_top}
+use Rattle.tcl_recorder.specs.Boundary.{past, past_the_top}
 use Rattle.tcl_isolation.specs.Visits.{IsBelowTheTop}
 use Rattle.tcl_isolation.proofs.Records.{Kind, kind, lasting_back, lasting_front, moves_past}
 use Rattle.tcl_isolation.proofs.Watching.{Watched, life, remains, same_moves, seen, tape, unended_seen}

@@ -1,4 +1,4 @@
--- What code threads in an entry, as a watched visit.
+-- What code executes in an entry, as a watched visit.
 use Rattle.std.proofs.Common.{List, [], ◌∷◌, ◌++◌, None, refl, sym, ◌∙◌, ap}
 use Rattle.tcl_core.specs.Endings.{Reply}
 use Rattle.tcl_core.specs.Entries.{Entry}
@@ -6,13 +6,13 @@ use Rattle.tcl_core.specs.Laws.{IsSpared}
 use Rattle.tcl_core.specs.Paths.{Path, Place}
 use Rattle.tcl_core.specs.Programs.{Table, Wait}
 use Rattle.tcl_core.specs.Runs.{entering}
-use Rattle.tcl_core.specs.Threads.{Crossings, Threads, event}
+use Rattle.tcl_core.specs.Execution.{Crossings, Executes, event}
 use Rattle.tcl_core.specs.Trees.{Event, Tree}
 use Rattle.tcl_core.specs.Trees.Grants.{Listed}
 use Rattle.tcl_core.specs.Trees.What.{Done}
 use Rattle.tcl_core.proofs.Following.{Rest, Says, ahead, allowed-all, allowed-append, follows, handed-all, handed-append}
 use Rattle.tcl_core.proofs.RuleLaws.{derived_runs}
-use Rattle.tcl_watching.specs.Boundary.{boundary}
+use Rattle.tcl_recorder.specs.Boundary.{boundary}
 use Rattle.tcl_isolation.specs.Visits.{WatchedVisit, visit}
 
 module _ {O I S : Type 0} (goes : Tree O → S → Wait → Event O → S → Type 0) (prog : Table O I) (T V : Tree O) (o z : S) (t : Path) (i : Entry) (c : Place) (r : Reply) where
@@ -20,7 +20,7 @@ module _ {O I S : Type 0} (goes : Tree O → S → Wait → Event O → S → Ty
   last : Rest O
   last = record { moves = []; words = []; tape = event t (Done None r) ∷ [] }
 
-  pub entry_visit : Threads (Crossings goes) prog T o t (entering prog (T t) i) V z r → (events : List (Event O)) × (IsSpared c (visit t i events r) → WatchedVisit goes prog T o t i c (boundary c (visit t i events r)) V z r)
+  pub entry_visit : Executes (Crossings goes) prog T o t (entering prog (T t) i) V z r → (events : List (Event O)) × (IsSpared c (visit t i events r) → WatchedVisit goes prog T o t i c (boundary c (visit t i events r)) V z r)
   unfolding last
   entry_visit th =
       let h : Says (Crossings goes) prog T o t (entering prog (T t) i) V z r = follows (Crossings goes) prog th in

@@ -7,7 +7,7 @@ use Rattle.tcl_core.specs.Laws.{NoLeaving, turn}
 use Rattle.tcl_core.specs.Laws.Turn.{Enters}
 use Rattle.tcl_core.specs.Paths.{Path, Place, Height, rise_to}
 use Rattle.tcl_core.specs.Programs.{Table, Wait}
-use Rattle.tcl_core.specs.Threads.{Chain, Crossings, before, event, hears, more, none, passing}
+use Rattle.tcl_core.specs.Execution.{Chain, Crossings, before, event, hears, more, none, passing}
 use Rattle.tcl_core.specs.Trees.{Event, Tree, What, effect}
 use Rattle.tcl_core.specs.Trees.What.{Out, In, Done, Back, Refused}
 use Rattle.tcl_host.specs.declared.reply.HostReply.{HostReply}

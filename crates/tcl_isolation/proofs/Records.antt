@@ -6,14 +6,14 @@ use Rattle.tcl_core.specs.Entries.Answer.{Replied, Heard}
 use Rattle.tcl_core.specs.Laws.{IsUnended, KeepsTop, Unended}
 use Rattle.tcl_core.specs.Lives.{Outcome, last_of, outcome_at, outcome_of, outs_of, put, told}
 use Rattle.tcl_core.specs.Paths.{Place, rise_to}
-use Rattle.tcl_core.specs.Threads.{event}
+use Rattle.tcl_core.specs.Execution.{event}
 use Rattle.tcl_core.specs.Trees.{Event, Move, What, asked, at_top, where_none}
 use Rattle.tcl_core.specs.Trees.Move.{Enter, Come, Born, Fall}
 use Rattle.tcl_core.specs.Trees.What.{Out, In, Done, Back, Made, Dropped}
 use Rattle.tcl_core.specs.Views.{moves_of}
 use Rattle.tcl_core.proofs.PathLaws.{not_both}
 use Rattle.tcl_core.proofs.Reacting.{IsLasting, Lasting}
-use Rattle.tcl_watching.specs.Boundary.{past, past_the_top}
+use Rattle.tcl_recorder.specs.Boundary.{past, past_the_top}
 
 module _ {O : Type 0} where
   -- ## Each happening is recorded, or isn't

@@ -8,7 +8,7 @@ use Rattle.tcl_core.specs.Paths.{Path, Place}
 use Rattle.tcl_core.specs.Programs.{Table, Wait}
 use Rattle.tcl_core.specs.Programs.Prog.{wait}
 use Rattle.tcl_core.specs.Tables.{Keeps_to, exposes, hostless, unlimiting}
-use Rattle.tcl_core.specs.Threads.{before}
+use Rattle.tcl_core.specs.Execution.{before}
 use Rattle.tcl_core.specs.Trees.{Event, Node, Tree, at}
 use Rattle.tcl_core.specs.Views.{moves_of, steps_of, view}
 use Rattle.tcl_core.proofs.Counts.{counting, limiting}

@@ -6,12 +6,12 @@ use Rattle.tcl_core.specs.Laws.{NoLeaving, Turn, comes_in, goes_out, life_at, tu
 use Rattle.tcl_core.specs.Laws.Turn.{Enters, Leaves, Inside, Elsewhere}
 use Rattle.tcl_core.specs.Lives.{outs_of, put, told}
 use Rattle.tcl_core.specs.Paths.{Path, Place, Height, rise_to, seen_height, strip}
-use Rattle.tcl_core.specs.Threads.{event}
+use Rattle.tcl_core.specs.Execution.{event}
 use Rattle.tcl_core.specs.Trees.{Event, Move, What, seen_answer, seen_reply}
 use Rattle.tcl_core.specs.Trees.What.{Out, In, Done, Back, Made, Dropped}
 use Rattle.tcl_core.specs.Views.{kept, moves_of, view}
 use Rattle.tcl_core.proofs.PathLaws.{seen_rise}
-use Rattle.tcl_watching.specs.Boundary.{boundary, past_the_top}
+use Rattle.tcl_recorder.specs.Boundary.{boundary, past_the_top}
 use Rattle.tcl_isolation.proofs.Untouching.{unseen_above}
 
 not_leaving : (o : Option Place) → comes_in o ≡ Leaves → Prim.⊥

@@ -10,7 +10,7 @@ use Rattle.tcl_core.specs.Programs.{Calls_only, Prog, Table, Wait, spot, closes}
 use Rattle.tcl_core.specs.Rules.{Derives}
 use Rattle.tcl_core.specs.Rules.Derives.{completed, exited, acted, refused, unheard, went, passed, halted, wrapped, wrapped_passed, wrapped_halted, too_deep, shut, unheard_inside, called, called_passed, called_halted, unreached, called_out, unanswered, unfit, answered, heard, answered_passed, entered, entered_halted, entered_exiting, born, fallen}
 use Rattle.tcl_core.specs.Runs.{Ending, Step, World, entering, where_stands}
-use Rattle.tcl_core.specs.Threads.{before, event}
+use Rattle.tcl_core.specs.Execution.{before, event}
 use Rattle.tcl_core.specs.Trees.{Event, Node, Tree, What, seen_what}
 use Rattle.tcl_core.specs.Trees.What.{Out, In, Done, Back, Dropped}
 use Rattle.tcl_core.specs.Views.{from_above, kept, view}
@@ -20,7 +20,7 @@ use Rattle.tcl_core.proofs.Plain.{IsPlain, closes_plain, decide_plain, opens_pla
 use Rattle.tcl_core.proofs.RuleLaws.{runs_derived}
 use Rattle.tcl_core.proofs.TreeLaws.{spot_in, reached_at}
 use Rattle.tcl_core.proofs.Callers.{entering_calls}
-use Rattle.tcl_watching.specs.Boundary.{boundary, past, past_the_top}
+use Rattle.tcl_recorder.specs.Boundary.{boundary, past, past_the_top}
 use Rattle.tcl_isolation.specs.Visits.{CallsNobody, WatchedVisit, visit}
 use Rattle.tcl_isolation.proofs.Records.{Kind, kind}
 

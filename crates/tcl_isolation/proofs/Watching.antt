@@ -9,7 +9,7 @@ use Rattle.tcl_core.specs.Lives.Outcome.{Finished}
 use Rattle.tcl_core.specs.Paths.{Path, Place, rise_to}
 use Rattle.tcl_core.specs.Programs.{Table, Wait}
 use Rattle.tcl_core.specs.Programs.Prog.{wait}
-use Rattle.tcl_core.specs.Threads.{before}
+use Rattle.tcl_core.specs.Execution.{before}
 use Rattle.tcl_core.specs.Trees.{Event, Move, Node, Tree, What, at}
 use Rattle.tcl_core.specs.Trees.What.{Done}
 use Rattle.tcl_core.specs.Views.{moves_of, steps_of, view}

@@ -1,4 +1,5 @@
--- The laws of isolation, told of records. They hold whatever the commands are: `prog` is their table.
+-- The laws of isolation, told of records. They hold whatever the commands are: `prog` is their
+-- table.
 use Rattle.std.specs.Prelude.{◌≡◌, ℕ, ◌≤◌, ◌+◌, List, [], ◌∷◌, ◌++◌, Option, Some}
 use Rattle.tcl_core.specs.Endings.{Reply}
 use Rattle.tcl_core.specs.Entries.{Entry}
@@ -8,21 +9,25 @@ use Rattle.tcl_core.specs.Lives.Outcome.{Finished}
 use Rattle.tcl_core.specs.Paths.{Path, Place}
 use Rattle.tcl_core.specs.Programs.{Table, Wait}
 use Rattle.tcl_core.specs.Runs.{entering}
-use Rattle.tcl_core.specs.Threads.{Chain, Crossings, Threads}
+use Rattle.tcl_core.specs.Execution.{Chain, Crossings, Executes}
 use Rattle.tcl_core.specs.Trees.{Event, Move, Node, Tree, at}
 use Rattle.tcl_core.specs.Views.{moves_of, steps_of, view}
 use Rattle.tcl_host.specs.declared.reply.HostReply.{HostReply}
 use Rattle.tcl_host.specs.declared.request.Request.{Request}
 use Rattle.tcl_run.specs.Outsides.{hosted}
 use Rattle.tcl_tree.specs.Own.{Own}
-use Rattle.tcl_watching.specs.Boundary.{boundary}
+use Rattle.tcl_recorder.specs.Boundary.{boundary}
 use Rattle.tcl_isolation.specs.Visits.{CallsNobody, IsBelowTheTop, WatchedVisit, visit}
 
--- What code threads in an entry is a watched visit, wherever the watched interpreter is and whatever crosses its boundary, if it isn't dropped.
-abbrev pub EntriesAreVisits : {O S : Type 0} → Type 0 → (Tree O → S → Wait → Event O → S → Type 0) → Type 0
-EntriesAreVisits {O} {S} I goes = (prog : Table O I) (T V : Tree O) (o z : S) (t : Path) (i : Entry) (c : Place) (r : Reply) →
-    Threads (Crossings goes) prog T o t (entering prog (T t) i) V z r →
-    (events : List (Event O)) × (IsSpared c (visit t i events r) → WatchedVisit goes prog T o t i c (boundary c (visit t i events r)) V z r)
+-- What code executes in an entry is a watched visit, wherever the watched interpreter is and
+-- whatever crosses its boundary, if it isn't dropped.
+abbrev pub EntriesAreVisits : {O S : Type 0} → Type 0 → (Tree O → S → Wait → Event O → S → Type 0) →
+    Type 0
+EntriesAreVisits {O} {S} I goes = (prog : Table O I) (T V : Tree O) (o z : S) (t : Path) (i : Entry)
+    (c : Place) (r : Reply) →
+    Executes (Crossings goes) prog T o t (entering prog (T t) i) V z r →
+    (events : List (Event O)) × (IsSpared c (visit t i events r) →
+    WatchedVisit goes prog T o t i c (boundary c (visit t i events r)) V z r)
 
 -- ## What a subtree does by itself
 
@@ -30,80 +35,129 @@ EntriesAreVisits {O} {S} I goes = (prog : Table O I) (T V : Tree O) (o z : S) (t
 abbrev pub Suffices : {O : Type 0} → ℕ → Option (Node O) → Option (Node O) → Type 0
 Suffices m old new = count_at new ≤ count_at old + m
 
--- Where no entry was ended from outside, the subtree by itself does with the moves of the record what the record tells of it, and leaves the
--- subtree that stands there afterwards: with every budget that isn't less than the rise of its top's count.
+-- Where no entry was ended from outside, the subtree by itself does with the moves of the record
+-- what the record tells of it, and leaves the subtree that stands there afterwards: with every
+-- budget that isn't less than the rise of its top's count.
 abbrev pub Reacts : {O S : Type 0} → Type 0 → (Tree O → S → Wait → Event O → S → Type 0) → Type 0
-Reacts {O} {S} I goes = (prog : Table O I) (T V : Tree O) (o z : S) (t : Path) (i : Entry) (c : Place) (crossings : List (Event O)) (r : Reply) (n : Node O) (m : ℕ) →
-    WatchedVisit goes prog T o t i c crossings V z r → IsBelowTheTop c → T c ≡ Some n → IsUnended crossings → Suffices m (T c) (V c) →
-    React prog (at T c) (moves_of crossings) m (outcome_of crossings Finished) (outs_of crossings) (at V c)
+Reacts {O} {S} I goes = (prog : Table O I) (T V : Tree O) (o z : S) (t : Path) (i : Entry)
+    (c : Place) (crossings : List (Event O)) (r : Reply) (n : Node O) (m : ℕ) →
+    WatchedVisit goes prog T o t i c crossings V z r → IsBelowTheTop c → T c ≡ Some n →
+    IsUnended crossings → Suffices m (T c) (V c) →
+    React prog (at T c) (moves_of crossings) m (outcome_of crossings Finished) (outs_of crossings)
+    (at V c)
 
 -- And that is all that it does: no other reaction of it comes to anything else.
 abbrev pub ReactsSo : {O S : Type 0} → Type 0 → (Tree O → S → Wait → Event O → S → Type 0) → Type 0
-ReactsSo {O} {S} I goes = (prog : Table O I) (T V : Tree O) (o z : S) (t : Path) (i : Entry) (c : Place) (crossings : List (Event O)) (r : Reply) (n : Node O) (m : ℕ) (x : Outcome) (told : List (Event O)) (W : Tree O) →
-    WatchedVisit goes prog T o t i c crossings V z r → IsBelowTheTop c → T c ≡ Some n → IsUnended crossings → Suffices m (T c) (V c) →
-    React prog (at T c) (moves_of crossings) m x told W → (x ≡ outcome_of crossings Finished) × (told ≡ outs_of crossings) × (W ≡ at V c)
+ReactsSo {O} {S} I goes = (prog : Table O I) (T V : Tree O) (o z : S) (t : Path) (i : Entry)
+    (c : Place) (crossings : List (Event O)) (r : Reply) (n : Node O) (m : ℕ) (x : Outcome)
+    (told : List (Event O)) (W : Tree O) →
+    WatchedVisit goes prog T o t i c crossings V z r → IsBelowTheTop c → T c ≡ Some n →
+    IsUnended crossings → Suffices m (T c) (V c) →
+    React prog (at T c) (moves_of crossings) m x told W → (x ≡ outcome_of crossings Finished) ×
+    (told ≡ outs_of crossings) × (W ≡ at V c)
 
--- And where an entry was ended from outside, what the record tells up to some place before that is a beginning of what the subtree by itself
--- does with the moves up to there, and the same budget.
-abbrev pub ReactsUntil : {O S : Type 0} → Type 0 → (Tree O → S → Wait → Event O → S → Type 0) → Type 0
-ReactsUntil {O} {S} I goes = (prog : Table O I) (T V : Tree O) (o z : S) (t : Path) (i : Entry) (c : Place) (crossings before later : List (Event O)) (r : Reply) (n : Node O) (m : ℕ) (x : Outcome) (outs : List (Event O)) (W : Tree O) →
-    WatchedVisit goes prog T o t i c crossings V z r → IsBelowTheTop c → T c ≡ Some n → crossings ≡ before ++ later → IsUnended before → Suffices m (T c) (V c) →
-    React prog (at T c) (moves_of before) m x outs W → (more : List (Event O)) × (outs ≡ outs_of before ++ more)
+-- And where an entry was ended from outside, what the record tells up to some place before that is
+-- a beginning of what the subtree by itself does with the moves up to there, and the same budget.
+abbrev pub ReactsUntil : {O S : Type 0} → Type 0 → (Tree O → S → Wait → Event O → S → Type 0) →
+    Type 0
+ReactsUntil {O} {S} I goes = (prog : Table O I) (T V : Tree O) (o z : S) (t : Path) (i : Entry)
+    (c : Place) (crossings before later : List (Event O)) (r : Reply) (n : Node O) (m : ℕ)
+    (x : Outcome) (outs : List (Event O)) (W : Tree O) →
+    WatchedVisit goes prog T o t i c crossings V z r → IsBelowTheTop c → T c ≡ Some n →
+    crossings ≡ before ++ later → IsUnended before → Suffices m (T c) (V c) →
+    React prog (at T c) (moves_of before) m x outs W → (more : List (Event O)) ×
+    (outs ≡ outs_of before ++ more)
 
 -- ## What is outside
 
--- From an entry into the watched subtree, or an answer to a call of it, to the next call or end that leaves it: where one happening hands in a move,
--- and what follows tells nothing to the outside, nothing outside changes by that; and the host makes no step, whatever state it is in.
-pub record QuietBetween {S : Type 0} (I : Type 0) (step : S → Request → HostReply → S → Type 0) : Type 0 where
-  pub tree : (prog : Table Own I) (T V : Tree Own) (o z : S) (t : Path) (i : Entry) (c : Place) (crossings : List (Event Own)) (r : Reply) (first mid last : List (Event Own)) (ev : Event Own) (m : Move Own) →
-      (w : WatchedVisit (hosted step) prog T o t i c crossings V z r) → visit t i w.events r ≡ first ++ ev ∷ (mid ++ last) → moves_of (boundary c (ev ∷ [])) ≡ m ∷ [] → outs_of (boundary c mid) ≡ [] →
+-- From an entry into the watched subtree, or an answer to a call of it, to the next call or end
+-- that leaves it: where one happening hands in a move, and what follows tells nothing to the
+-- outside, nothing outside changes by that; and the host makes no step, whatever state it is in.
+pub record QuietBetween {S : Type 0} (I : Type 0) (step : S → Request → HostReply → S → Type 0) :
+    Type 0 where
+  pub tree : (prog : Table Own I) (T V : Tree Own) (o z : S) (t : Path) (i : Entry) (c : Place)
+      (crossings : List (Event Own)) (r : Reply) (first mid last : List (Event Own))
+      (ev : Event Own) (m : Move Own) →
+      (w : WatchedVisit (hosted step) prog T o t i c crossings V z r) →
+      visit t i w.events r ≡ first ++ ev ∷ (mid ++ last) →
+      moves_of (boundary c (ev ∷ [])) ≡ m ∷ [] → outs_of (boundary c mid) ≡ [] →
       rest (after mid (after (first ++ ev ∷ []) T)) c ≡ rest (after (first ++ ev ∷ []) T) c
-  pub host : (prog : Table Own I) (T V : Tree Own) (o z : S) (t : Path) (i : Entry) (c : Place) (crossings : List (Event Own)) (r : Reply) (first mid last : List (Event Own)) (ev : Event Own) (m : Move Own) (M N : Tree Own) (o1 o2 : S) →
-      (w : WatchedVisit (hosted step) prog T o t i c crossings V z r) → visit t i w.events r ≡ first ++ ev ∷ (mid ++ last) → moves_of (boundary c (ev ∷ [])) ≡ m ∷ [] → outs_of (boundary c mid) ≡ [] →
+  pub host : (prog : Table Own I) (T V : Tree Own) (o z : S) (t : Path) (i : Entry) (c : Place)
+      (crossings : List (Event Own)) (r : Reply) (first mid last : List (Event Own))
+      (ev : Event Own) (m : Move Own) (M N : Tree Own) (o1 o2 : S) →
+      (w : WatchedVisit (hosted step) prog T o t i c crossings V z r) →
+      visit t i w.events r ≡ first ++ ev ∷ (mid ++ last) →
+      moves_of (boundary c (ev ∷ [])) ≡ m ∷ [] → outs_of (boundary c mid) ≡ [] →
       Chain (Crossings (hosted step)) M o1 mid N o2 → o2 ≡ o1
 
--- Where the evaluation is in the watched subtree and nobody there calls outside it, all outside it is afterwards what it was.
-abbrev pub LeavesTheRest : {O S : Type 0} → Type 0 → (Tree O → S → Wait → Event O → S → Type 0) → Type 0
-LeavesTheRest {O} {S} I goes = (prog : Table O I) (T V : Tree O) (o z : S) (u : Path) (i : Entry) (c : Place) (crossings : List (Event O)) (r : Reply) →
-    WatchedVisit goes prog T o (c ++ u) i c crossings V z r → CallsNobody crossings → rest V c ≡ rest T c
+-- Where the evaluation is in the watched subtree and nobody there calls outside it, all outside it
+-- is afterwards what it was.
+abbrev pub LeavesTheRest : {O S : Type 0} → Type 0 → (Tree O → S → Wait → Event O → S → Type 0) →
+    Type 0
+LeavesTheRest {O} {S} I goes = (prog : Table O I) (T V : Tree O) (o z : S) (u : Path) (i : Entry)
+    (c : Place) (crossings : List (Event O)) (r : Reply) →
+    WatchedVisit goes prog T o (c ++ u) i c crossings V z r → CallsNobody crossings →
+    rest V c ≡ rest T c
 
--- And the host is: none was asked for anything, since nothing came back from past the top of the whole tree.
+-- And the host is: none was asked for anything, since nothing came back from past the top of the
+-- whole tree.
 abbrev pub LeavesTheHost : {S : Type 0} → Type 0 → (S → Request → HostReply → S → Type 0) → Type 0
-LeavesTheHost {S} I step = (prog : Table Own I) (T V : Tree Own) (o z : S) (u : Path) (i : Entry) (c : Place) (crossings : List (Event Own)) (r : Reply) →
+LeavesTheHost {S} I step = (prog : Table Own I) (T V : Tree Own) (o z : S) (u : Path) (i : Entry)
+    (c : Place) (crossings : List (Event Own)) (r : Reply) →
     WatchedVisit (hosted step) prog T o (c ++ u) i c crossings V z r → CallsNobody crossings → z ≡ o
 
 -- ## Two worlds
 
--- Two evaluations in two worlds: other trees, other outsides, and other places of what is evaluated and of what is watched. The watched subtrees
--- are the same, and in neither an entry was ended from outside. Where all moves of their records agree, so do the records, and the subtrees left.
-abbrev pub WorldsAgree : {O S R : Type 0} → Type 0 → (Tree O → S → Wait → Event O → S → Type 0) → (Tree O → R → Wait → Event O → R → Type 0) → Type 0
-WorldsAgree {O} {S} {R} I goes goes2 = (prog : Table O I) (T V T2 V2 : Tree O) (o z : S) (o2 z2 : R) (t t2 : Path) (i i2 : Entry) (c d : Place) (crossings others : List (Event O)) (r r2 : Reply) (n : Node O) →
-    WatchedVisit goes prog T o t i c crossings V z r → IsBelowTheTop c → T c ≡ Some n → IsUnended crossings →
+-- Two evaluations in two worlds: other trees, other outsides, and other places of what is evaluated
+-- and of what is watched. The watched subtrees are the same, and in neither an entry was ended from
+-- outside. Where all moves of their records agree, so do the records, and the subtrees left.
+abbrev pub WorldsAgree : {O S R : Type 0} → Type 0 → (Tree O → S → Wait → Event O → S → Type 0) →
+    (Tree O → R → Wait → Event O → R → Type 0) → Type 0
+WorldsAgree {O} {S} {R} I goes goes2 = (prog : Table O I) (T V T2 V2 : Tree O) (o z : S) (o2 z2 : R)
+    (t t2 : Path) (i i2 : Entry) (c d : Place) (crossings others : List (Event O)) (r r2 : Reply)
+    (n : Node O) →
+    WatchedVisit goes prog T o t i c crossings V z r → IsBelowTheTop c → T c ≡ Some n →
+    IsUnended crossings →
     WatchedVisit goes2 prog T2 o2 t2 i2 d others V2 z2 r2 → IsBelowTheTop d → IsUnended others →
-    at T c ≡ at T2 d → moves_of crossings ≡ moves_of others → (crossings ≡ others) × (outs_of crossings ≡ outs_of others) × (at V c ≡ at V2 d)
+    at T c ≡ at T2 d → moves_of crossings ≡ moves_of others → (crossings ≡ others) ×
+    (outs_of crossings ≡ outs_of others) × (at V c ≡ at V2 d)
 
--- And where the moves begin with the same, the records are the same up to where the next move stands: so the same is told until then.
-abbrev pub WorldsAgreeUntil : {O S R : Type 0} → Type 0 → (Tree O → S → Wait → Event O → S → Type 0) → (Tree O → R → Wait → Event O → R → Type 0) → Type 0
-WorldsAgreeUntil {O} {S} {R} I goes goes2 = (prog : Table O I) (T V T2 V2 : Tree O) (o z : S) (o2 z2 : R) (t t2 : Path) (i i2 : Entry) (c d : Place) (crossings others : List (Event O)) (r r2 : Reply) (n : Node O) (ms a b : List (Move O)) →
-    WatchedVisit goes prog T o t i c crossings V z r → IsBelowTheTop c → T c ≡ Some n → IsUnended crossings →
+-- And where the moves begin with the same, the records are the same up to where the next move
+-- stands: so the same is told until then.
+abbrev pub WorldsAgreeUntil : {O S R : Type 0} → Type 0 →
+    (Tree O → S → Wait → Event O → S → Type 0) → (Tree O → R → Wait → Event O → R → Type 0) → Type 0
+WorldsAgreeUntil {O} {S} {R} I goes goes2 = (prog : Table O I) (T V T2 V2 : Tree O) (o z : S)
+    (o2 z2 : R) (t t2 : Path) (i i2 : Entry) (c d : Place) (crossings others : List (Event O))
+    (r r2 : Reply) (n : Node O) (ms a b : List (Move O)) →
+    WatchedVisit goes prog T o t i c crossings V z r → IsBelowTheTop c → T c ≡ Some n →
+    IsUnended crossings →
     WatchedVisit goes2 prog T2 o2 t2 i2 d others V2 z2 r2 → IsBelowTheTop d → IsUnended others →
     at T c ≡ at T2 d → moves_of crossings ≡ ms ++ a → moves_of others ≡ ms ++ b →
-    (same : List (Event O)) × (rest1 : List (Event O)) × (rest2 : List (Event O)) × (crossings ≡ same ++ rest1) × (others ≡ same ++ rest2) × (moves_of same ≡ ms) × AtMove rest1 × AtMove rest2
+    (same : List (Event O)) × (rest1 : List (Event O)) × (rest2 : List (Event O)) ×
+    (crossings ≡ same ++ rest1) × (others ≡ same ++ rest2) × (moves_of same ≡ ms) ×
+    AtMove rest1 × AtMove rest2
 
 -- ## Counted steps
 
 -- The watched interpreter's count rises by the steps that were made in its subtree.
-abbrev pub CountRises : {O S : Type 0} → Type 0 → (Tree O → S → Wait → Event O → S → Type 0) → Type 0
-CountRises {O} {S} I goes = (prog : Table O I) (T V : Tree O) (o z : S) (t : Path) (i : Entry) (c : Place) (crossings : List (Event O)) (r : Reply) (n : Node O) →
-    (w : WatchedVisit goes prog T o t i c crossings V z r) → IsBelowTheTop c → T c ≡ Some n → count_at (V c) ≡ n.count + steps_of (view c (visit t i w.events r))
+abbrev pub CountRises : {O S : Type 0} → Type 0 → (Tree O → S → Wait → Event O → S → Type 0) →
+    Type 0
+CountRises {O} {S} I goes = (prog : Table O I) (T V : Tree O) (o z : S) (t : Path) (i : Entry)
+    (c : Place) (crossings : List (Event O)) (r : Reply) (n : Node O) →
+    (w : WatchedVisit goes prog T o t i c crossings V z r) → IsBelowTheTop c → T c ≡ Some n →
+    count_at (V c) ≡ n.count + steps_of (view c (visit t i w.events r))
 
 -- how often it was counted, and the limit that it then has
 pub record IsWithin {O : Type 0} (o : Option (Node O)) (l b : ℕ) : Type 0 where
   pub count : count_at o ≤ b
   pub limit : (k : ℕ) × (limit_at o ≡ Some k) × (k ≤ l)
 
--- With a count limit that nothing in the evaluation raises or takes away, it is counted at most to the greater of the limit and the count before:
--- to each number that both are at most.
-abbrev pub CountStaysWithin : {O S : Type 0} → Type 0 → (Tree O → S → Wait → Event O → S → Type 0) → Type 0
-CountStaysWithin {O} {S} I goes = (prog : Table O I) (T V : Tree O) (o z : S) (t : Path) (i : Entry) (c : Place) (crossings : List (Event O)) (r : Reply) (n : Node O) (l b : ℕ) →
-    (w : WatchedVisit goes prog T o t i c crossings V z r) → IsBelowTheTop c → T c ≡ Some n → n.limit ≡ Some l → IsLowering l c (visit t i w.events r) → l ≤ b → n.count ≤ b → IsWithin (V c) l b
+-- With a count limit that nothing in the evaluation raises or takes away, it is counted at most to
+-- the greater of the limit and the count before: to each number that both are at most.
+abbrev pub CountStaysWithin : {O S : Type 0} → Type 0 → (Tree O → S → Wait → Event O → S → Type 0) →
+    Type 0
+CountStaysWithin {O} {S} I goes = (prog : Table O I) (T V : Tree O) (o z : S) (t : Path) (i : Entry)
+    (c : Place) (crossings : List (Event O)) (r : Reply) (n : Node O) (l b : ℕ) →
+    (w : WatchedVisit goes prog T o t i c crossings V z r) → IsBelowTheTop c → T c ≡ Some n →
+    n.limit ≡ Some l → IsLowering l c (visit t i w.events r) → l ≤ b → n.count ≤ b → IsWithin
+    (V c) l b

@@ -8,13 +8,18 @@ pub data Behind (word : Text) : List Text → List Text → Type 0 where
   stated : (ws : List Text) → Behind word (word ∷ ws) ws
   left_out : (x : Text) (ws : List Text) → (x ≡ word → Prim.⊥) → Behind word (x ∷ ws) (x ∷ ws)
 
--- Words are a condition and its body; these and a last body; or these and, behind `elseif`, the words of another `if`. `then` may stand before the body of a condition, and `else` before a
--- last one.
+-- Words are a condition and its body; these and a last body; or these and, behind `elseif`, the
+-- words of another `if`. `then` may stand before the body of a condition, and `else` before a last
+-- one.
 pub data IsIf : List Text → Branches → Type 0 where
-  alone : (test body : Text) (ws : List Text) → Behind (codes "then") ws (body ∷ []) → IsIf (test ∷ ws) (record { tests = (test, body) ∷ []; last = None })
-  with_last : (test body first last : Text) (ws others : List Text) → Behind (codes "then") ws (body ∷ first ∷ others) → (first ≡ codes "elseif" → Prim.⊥) → Behind (codes "else") (first ∷ others) (last ∷ []) →
+  alone : (test body : Text) (ws : List Text) → Behind (codes "then") ws (body ∷ []) →
+      IsIf (test ∷ ws) (record { tests = (test, body) ∷ []; last = None })
+  with_last : (test body first last : Text) (ws others : List Text) →
+      Behind (codes "then") ws (body ∷ first ∷ others) → (first ≡ codes "elseif" → Prim.⊥) →
+      Behind (codes "else") (first ∷ others) (last ∷ []) →
       IsIf (test ∷ ws) (record { tests = (test, body) ∷ []; last = Some last })
-  with_more : (test body : Text) (ws rest : List Text) (b : Branches) → Behind (codes "then") ws (body ∷ codes "elseif" ∷ rest) → IsIf rest b →
+  with_more : (test body : Text) (ws rest : List Text) (b : Branches) →
+      Behind (codes "then") ws (body ∷ codes "elseif" ∷ rest) → IsIf rest b →
       IsIf (test ∷ ws) (record { tests = (test, body) ∷ b.tests; last = b.last })
 
 -- The function says what the relation says.

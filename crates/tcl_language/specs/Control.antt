@@ -1,5 +1,6 @@
 -- The commands that evaluate scripts in their own interpreter, and those that only end one.
-use Rattle.std.specs.Prelude.{ℕ, zero, suc, ℤ, pos, negsuc, Bool, true, false, List, [], ◌∷◌, ◌++◌, Option, Some, None, Result, Ok, Err, codes, ◌&&◌}
+use Rattle.std.specs.Prelude.{ℕ, zero, suc, ℤ, pos, negsuc, Bool, true, false, List, [], ◌∷◌, ◌++◌}
+use Rattle.std.specs.Prelude.{Option, Some, None, Result, Ok, Err, codes, ◌&&◌}
 use Rattle.std.specs.Fmt.{signed_decimal}
 use Rattle.std.specs.Str.{bytes_eq}
 use Rattle.tcl_core.specs.Paths.{Text}
@@ -17,7 +18,8 @@ use Rattle.tcl_text.specs.Writing.{written_list, fault_message}
 use Rattle.tcl_tree.specs.Own.{Own}
 use Rattle.tcl_tree.specs.Commands.{ProcedureView}
 use Rattle.tcl_interpreter.specs.declared.parameter.Parameter.{Parameter}
-use Rattle.tcl_language.specs.Instructions.{Walk, Program, either, fits, fails, grown, or_fails, look, with_chain, too_long}
+use Rattle.tcl_language.specs.Instructions.{Walk, Program, either, fits, fails, grown, or_fails}
+use Rattle.tcl_language.specs.Instructions.{look, with_chain, too_long}
 use Rattle.tcl_language.specs.Instructions.Instr.{Script, Foreach}
 use Rattle.tcl_language.specs.Faults.{wrong_args}
 use Rattle.tcl_language.specs.Words.{concat, is_level}
@@ -52,7 +54,8 @@ abbrev pub uplevel_words : Integers → Text → List Text → Bool → Program
 uplevel_words style word rest true = level style word (script_at rest)
 uplevel_words style word rest false = level style (codes "1") (script_at (word ∷ rest))
 
--- `uplevel ?level? arg ?arg ...?`: there is a level where two words or more begin with digits, or `#` and digits
+-- `uplevel ?level? arg ?arg ...?`: there is a level where two words or more begin with digits, or
+-- `#` and digits
 abbrev pub uplevel : Integers → List Text → Program
 uplevel style [] = fails (wrong_args (codes "uplevel ?level? arg ?arg ...?"))
 uplevel style (arg ∷ []) = level style (codes "1") (script_at (arg ∷ []))
@@ -67,12 +70,15 @@ options_text c = written_list (shown (caught c))
 abbrev pub code_text : Completion → Text
 code_text c = signed_decimal c.code
 
--- `catch script ?resultVarName? ?optionVarName?` gives the code. Stops and exits it is never told of.
+-- `catch script ?resultVarName? ?optionVarName?` gives the code. Stops and exits it is never told
+-- of.
 abbrev pub catch : List Text → Program
 catch (script ∷ []) = go (Script script) (λ c. done (ok (code_text c)))
-catch (script ∷ result ∷ []) = go (Script script) (λ c. sets result c.text (done (ok (code_text c))))
+catch (script ∷ result ∷ []) = go (Script script)
+    (λ c. sets result c.text (done (ok (code_text c))))
 catch (script ∷ result ∷ options ∷ []) =
-    go (Script script) (λ c. sets result c.text (grown (options_text c) (λ text. sets options text (done (ok (code_text c))))))
+    go (Script script) (λ c. sets result c.text
+    (grown (options_text c) (λ text. sets options text (done (ok (code_text c))))))
 catch _ = fails (wrong_args (codes "catch script ?resultVarName? ?optionVarName?"))
 
 -- ## Ends
@@ -90,7 +96,12 @@ continues [] = with_code 4 []
 continues (x ∷ xs) = fails (wrong_args (codes "continue"))
 
 abbrev pub error_with : Text → Text → Program
-error_with message errorcode = done (record { code = pos 1; text = message; options = record { code = pos 1; level = 0; errorcode = errorcode } })
+error_with message errorcode = done
+    (record {
+      code = pos 1;
+      text = message;
+      options = record { code = pos 1; level = 0; errorcode = errorcode };
+    })
 
 -- `error message ?errorInfo? ?errorCode?`
 abbrev pub error : List Text → Program
@@ -124,7 +135,8 @@ abbrev pub is_over : List Walk → Bool
 is_over [] = true
 is_over (walk ∷ walks) = is_empty walk.left && is_over walks
 
--- the variables are set to the elements that come next, from the left; where none is left to the empty text
+-- the variables are set to the elements that come next, from the left; where none is left to the
+-- empty text
 abbrev pub sets_names : List Text → List Text → (List Text → Program) → Program
 sets_names [] left k = k left
 sets_names (name ∷ names) [] k = sets name [] (sets_names names [] k)
@@ -132,12 +144,14 @@ sets_names (name ∷ names) (x ∷ left) k = sets name x (sets_names names left 
 
 abbrev pub sets_walks : List Walk → (List Walk → Program) → Program
 sets_walks [] k = k []
-sets_walks (walk ∷ walks) k = sets_names walk.names walk.left (λ left. sets_walks walks (λ more. k (record { names = walk.names; left = left } ∷ more)))
+sets_walks (walk ∷ walks) k = sets_names walk.names walk.left
+    (λ left. sets_walks walks (λ more. k (record { names = walk.names; left = left } ∷ more)))
 
 -- A turn is counted before its variables are set.
 abbrev pub foreach_turns : List Walk → Text → Program
 foreach_turns walks body = either (is_over walks) (done (ok []))
-    (act Charge (λ T. sets_walks walks (λ rest. go (Script body) (λ c. after_body c.code c (go (Foreach rest body) done)))))
+    (act Charge (λ T. sets_walks walks
+    (λ rest. go (Script body) (λ c. after_body c.code c (go (Foreach rest body) done)))))
 
 abbrev pub foreach_form : Text
 foreach_form = codes "foreach varList list ?varList list ...? command"
@@ -149,13 +163,17 @@ walk_of (name ∷ names) left k = k (record { names = name ∷ names; left = lef
 
 abbrev pub walks_of : List Text → List Walk → (List Walk → Text → Program) → Program
 walks_of (names ∷ elements ∷ rest) walks k =
-    or_fails fault_message (list_of names) (λ xs. or_fails fault_message (list_of elements) (λ ys. walk_of xs ys (λ walk. walks_of rest (walks ++ walk ∷ []) k)))
+    or_fails fault_message (list_of names)
+    (λ xs. or_fails fault_message (list_of elements)
+    (λ ys. walk_of xs ys (λ walk. walks_of rest (walks ++ walk ∷ []) k)))
 walks_of (body ∷ []) walks k = k walks body
 walks_of [] walks k = fails (wrong_args foreach_form)
 
 -- `foreach varList list ?varList list ...? command`
 abbrev pub foreach : List Text → Program
-foreach (names ∷ elements ∷ rest) = either (is_odd rest) (walks_of (names ∷ elements ∷ rest) [] (λ walks body. go (Foreach walks body) done)) (fails (wrong_args foreach_form))
+foreach (names ∷ elements ∷ rest) = either (is_odd rest)
+    (walks_of (names ∷ elements ∷ rest) [] (λ walks body. go (Foreach walks body) done))
+    (fails (wrong_args foreach_form))
 foreach _ = fails (wrong_args foreach_form)
 
 -- ## Procedures
@@ -165,7 +183,8 @@ abbrev pub parameter_form : Text → Option Text → Text
 parameter_form name None = name
 parameter_form name (Some default) = codes "?" ++ name ++ codes "?"
 
-abbrev pub by_default : Text → Option Text → Option (List (Text × Text)) → Option (List (Text × Text))
+abbrev pub by_default : Text → Option Text → Option (List (Text × Text)) →
+    Option (List (Text × Text))
 by_default name None rest = None
 by_default name (Some default) None = None
 by_default name (Some default) (Some rest) = Some ((name, default) ∷ rest)
@@ -197,8 +216,8 @@ last_bound false p (word ∷ []) = Some ((p.name, word) ∷ [])
 last_bound false p (word ∷ more ∷ words) = None
 last_bound false p [] = by_default p.name p.default (Some [])
 
--- What the parameters of a call are bound to, from the left: a word, or the default where none is left. A last `args` takes the list
--- of what is left. None where words are too few or too many.
+-- What the parameters of a call are bound to, from the left: a word, or the default where none is
+-- left. A last `args` takes the list of what is left. None where words are too few or too many.
 abbrev pub bindings : List Parameter → List Text → Option (List (Text × Text))
 bindings [] [] = Some []
 bindings [] (word ∷ words) = None
@@ -223,12 +242,14 @@ abbrev pub out_of_frame : Own → Own
 out_of_frame own = with_chain own (popped own.chain)
 
 abbrev pub runs_body : ProcedureView → List Text → List (Text × Text) → Program
-runs_body p words bs = look (λ n. inside (Framed (in_frame words bs n.own) out_of_frame) (Script p.body) (λ c. done (leave_proc c)))
+runs_body p words bs = look (λ n. inside (Framed (in_frame words bs n.own) out_of_frame)
+    (Script p.body) (λ c. done (leave_proc c)))
 
 abbrev pub call_bound : ProcedureView → Text → List Text → Option (List (Text × Text)) → Program
 call_bound p name words None = fails (wrong_args (proc_form name p.parameters))
 call_bound p name words (Some bs) = either (fit_all bs) (runs_body p words bs) (done too_long)
 
--- A call of a procedure binds its parameters in a frame of its own and runs the body that it had when it was called.
+-- A call of a procedure binds its parameters in a frame of its own and runs the body that it had
+-- when it was called.
 abbrev pub procedure : ProcedureView → Text → List Text → Program
 procedure p name args = call_bound p name (name ∷ args) (bindings p.parameters args)

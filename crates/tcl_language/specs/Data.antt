@@ -1,4 +1,5 @@
--- The commands on lists, dicts and texts: those that are functions of their words, and those that set variables too.
+-- The commands on lists, dicts and texts: those that are functions of their words, and those that
+-- set variables too.
 use Rattle.std.specs.Prelude.{List, [], ◌∷◌, length, Err, codes}
 use Rattle.std.specs.Str.{bytes_eq}
 use Rattle.tcl_core.specs.Paths.{Text}
@@ -8,7 +9,8 @@ use Rattle.tcl_text.specs.Lists.{list_of}
 use Rattle.tcl_text.specs.Writing.{fault_message}
 use Rattle.tcl_words.specs.Outcomes.{Outcome}
 use Rattle.tcl_lists.specs.Lists.{lappend_of, lassign_rest}
-use Rattle.tcl_dicts.specs.Dicts.{create_of, exists_of, get_of, keys_of, merge_of, remove_of, replace_of, size_of, values_of}
+use Rattle.tcl_dicts.specs.Dicts.{create_of, exists_of, get_of, keys_of, merge_of, remove_of}
+use Rattle.tcl_dicts.specs.Dicts.{replace_of, size_of, values_of}
 use Rattle.tcl_language.specs.Instructions.{Program, either, fails, or_fails}
 use Rattle.tcl_language.specs.Faults.{wrong_args, unknown_subcommand}
 use Rattle.tcl_language.specs.Variables.{reads_or, sets}
@@ -27,12 +29,16 @@ answered outcome = given outcome (λ text. done (ok text))
 -- `lappend varName ?value ...?`: a missing variable is an empty list
 abbrev pub lappend : List Text → Program
 lappend [] = fails (wrong_args (codes "lappend varName ?value ...?"))
-lappend (name ∷ values) = reads_or name [] (λ old. given (lappend_of old values) (λ new. sets name new (done (ok new))))
+lappend (name ∷ values) = reads_or name []
+    (λ old. given (lappend_of old values) (λ new. sets name new (done (ok new))))
 
--- `lassign list ?varName ...?`: the variables are set to the elements, from the left, and to empty texts where none is left; it gives the elements that are left
+-- `lassign list ?varName ...?`: the variables are set to the elements, from the left, and to empty
+-- texts where none is left; it gives the elements that are left
 abbrev pub lassign : List Text → Program
 lassign [] = fails (wrong_args (codes "lassign list ?varName ...?"))
-lassign (list ∷ names) = or_fails fault_message (list_of list) (λ elements. sets_names names elements (λ left. answered (lassign_rest (length names) elements)))
+lassign (list ∷ names) = or_fails fault_message (list_of list)
+    (λ elements. sets_names names elements
+    (λ left. answered (lassign_rest (length names) elements)))
 
 -- ## Dicts
 
@@ -42,8 +48,16 @@ Subcommand = Text × (List Text → Outcome)
 
 abbrev pub dict_subcommands : List Subcommand
 dict_subcommands =
-    (codes "create", create_of) ∷ (codes "get", get_of) ∷ (codes "exists", exists_of) ∷ (codes "keys", keys_of) ∷ (codes "values", values_of) ∷
-    (codes "size", size_of) ∷ (codes "merge", merge_of) ∷ (codes "replace", replace_of) ∷ (codes "remove", remove_of) ∷ []
+    (codes "create", create_of) ∷ (codes "get", get_of) ∷ (codes "exists", exists_of) ∷ (
+      codes
+          "keys",
+      keys_of,
+    ) ∷ (codes "values", values_of) ∷
+    (codes "size", size_of) ∷ (codes "merge", merge_of) ∷ (codes "replace", replace_of) ∷ (
+      codes
+          "remove",
+      remove_of,
+    ) ∷ []
 
 abbrev pub subcommand_in : List Subcommand → Text → List Text → Outcome
 subcommand_in [] word = λ args. Err (unknown_subcommand word)

@@ -21,9 +21,13 @@ abbrev pub has_name : Text → List Parameter → Bool
 has_name name [] = false
 has_name name (p ∷ ps) = bytes_eq name p.name || has_name name ps
 
--- a name that a parameter may have: no element's, with no two colons in it, and no other parameter's
-abbrev pub with_parameter : Text → Option Text → List Parameter → (List Parameter → Program) → Program
-with_parameter name default before k = either (is_plain name) (either (has_name name before) (fails (bad_name name)) (k (before ++ record { name = name; default = default } ∷ []))) (fails (bad_name name))
+-- a name that a parameter may have: no element's, with no two colons in it, and no other
+-- parameter's
+abbrev pub with_parameter : Text → Option Text → List Parameter → (List Parameter → Program) →
+    Program
+with_parameter name default before k = either (is_plain name)
+    (either (has_name name before) (fails (bad_name name))
+    (k (before ++ record { name = name; default = default } ∷ []))) (fails (bad_name name))
 
 -- a parameter is a name, or a name and a default
 abbrev pub parameter : Text → List Text → List Parameter → (List Parameter → Program) → Program
@@ -34,12 +38,15 @@ parameter text _ before k = fails (bad_name text)
 -- the parameters are read from the left
 abbrev pub parameters : List Text → List Parameter → (List Parameter → Program) → Program
 parameters [] before k = k before
-parameters (text ∷ texts) before k = or_fails fault_message (list_of text) (λ words. parameter text words before (λ more. parameters texts more k))
+parameters (text ∷ texts) before k = or_fails fault_message (list_of text)
+    (λ words. parameter text words before (λ more. parameters texts more k))
 
 -- `proc name args body`
 abbrev pub proc : List Text → Program
-proc (name ∷ args ∷ body ∷ []) = or_fails fault_message (list_of args) (λ texts. parameters texts [] (λ ps.
-    renaming done_so (λ own. named own name (command.Procedure (record { parameters = ps; body = body })))))
+proc (name ∷ args ∷ body ∷ []) = or_fails fault_message (list_of args)
+    (λ texts. parameters texts [] (λ ps.
+    renaming done_so (λ own. named own name
+    (command.Procedure (record { parameters = ps; body = body })))))
 proc _ = fails (wrong_args (codes "proc name args body"))
 
 abbrev pub child_named : Own → Option Text → Bool
@@ -52,7 +59,8 @@ deletes_child (Some plain) = delete (written_list (plain ∷ []) ∷ [])
 
 -- a command is taken away; where it is a child's, the child is deleted
 abbrev pub takes_away : Text → Program
-takes_away name = look (λ n. either (child_named n.own (command_name name)) (deletes_child (command_name name)) (renaming done_so (λ own. removed own name)))
+takes_away name = look (λ n. either (child_named n.own (command_name name))
+    (deletes_child (command_name name)) (renaming done_so (λ own. removed own name)))
 
 -- `rename oldName newName`
 abbrev pub rename : List Text → Program

@@ -1,5 +1,6 @@
 -- Expressions, and the commands with conditions.
-use Rattle.std.specs.Prelude.{ℕ, zero, suc, ℤ, pos, Bool, List, [], ◌∷◌, length, Option, Some, None, codes}
+use Rattle.std.specs.Prelude.{ℕ, zero, suc, ℤ, pos, Bool, List, [], ◌∷◌, length, Option, Some, None}
+use Rattle.std.specs.Prelude.{codes}
 use Rattle.std.specs.Str.{bytes_eq}
 use Rattle.tcl_core.specs.Paths.{Text}
 use Rattle.tcl_core.specs.Endings.{Completion, ok}
@@ -10,7 +11,8 @@ use Rattle.tcl_expr.specs.Expressions.{expression_of}
 use Rattle.tcl_expr.specs.Faults as expr_faults
 use Rattle.tcl_operators.specs.Apply.{truth}
 use Rattle.tcl_operators.specs.Messages as operators
-use Rattle.tcl_expression_evaluation.specs.Computations.{Computation, value, refused, substitute, computation_of, final}
+use Rattle.tcl_expression_evaluation.specs.Computations.{Computation, value, refused, substitute}
+use Rattle.tcl_expression_evaluation.specs.Computations.{computation_of, final}
 use Rattle.tcl_language.specs.Instructions.{Program, either, fails, grown, on_ok, or_fails}
 use Rattle.tcl_language.specs.Instructions.Instr.{Script, Parts, Expression, While, For}
 use Rattle.tcl_language.specs.Faults.{wrong_args}
@@ -26,7 +28,8 @@ computed (substitute part next) k = go (Parts part.parts [] []) (on_ok (λ v. co
 -- A text is read whole as an expression, and then computed.
 abbrev pub expression : Integers → Text → Program
 expression style text = or_fails (expr_faults.message_of text) (expression_of style text)
-    (λ tree. computed (computation_of style tree) (λ v. or_fails operators.message_of (final style v) (λ result. done (ok result))))
+    (λ tree. computed (computation_of style tree)
+    (λ v. or_fails operators.message_of (final style v) (λ result. done (ok result))))
 
 -- `expr arg ?arg ...?`
 abbrev pub expr : List Text → Program
@@ -37,7 +40,8 @@ expr (arg ∷ args) = grown (concat (arg ∷ args)) (λ text. go (Expression tex
 
 -- on with what a condition comes to: the boolean that its value is
 abbrev pub condition : Integers → Text → (Bool → Program) → Program
-condition style test k = go (Expression test) (on_ok (λ v. or_fails operators.message_of (truth style v) k))
+condition style test k = go (Expression test)
+    (on_ok (λ v. or_fails operators.message_of (truth style v) k))
 
 -- The branches of an `if`: conditions, each with its body; and a last body, if there is one.
 pub record Branches : Type 0 where
@@ -58,10 +62,12 @@ abbrev pub last_branch : List Text → Option Branches
 last_branch (body ∷ []) = Some (record { tests = []; last = Some body })
 last_branch _ = None
 
--- behind a body: `elseif` and what a branch begins with; a last body, before which `else` may stand; or nothing
+-- behind a body: `elseif` and what a branch begins with; a last body, before which `else` may
+-- stand; or nothing
 abbrev pub behind_body : List Text → (List Text → Option Branches) → Option Branches
 behind_body [] go_on = Some (record { tests = []; last = None })
-behind_body (word ∷ words) go_on = either (bytes_eq word (codes "elseif")) (go_on words) (last_branch (without_first (codes "else") (word ∷ words)))
+behind_body (word ∷ words) go_on = either (bytes_eq word (codes "elseif")) (go_on words)
+    (last_branch (without_first (codes "else") (word ∷ words)))
 
 abbrev pub body_first : Text → List Text → (List Text → Option Branches) → Option Branches
 body_first test [] go_on = None
@@ -88,13 +94,16 @@ runs_last (Some body) = go (Script body) done
 -- the body of the first condition that is true
 abbrev pub first_true : Integers → List (Text × Text) → Option Text → Program
 first_true style [] last = runs_last last
-first_true style (branch ∷ rest) last = condition style branch.0 (λ holds. either holds (go (Script branch.1) done) (first_true style rest last))
+first_true style (branch ∷ rest) last = condition style branch.0
+    (λ holds. either holds (go (Script branch.1) done) (first_true style rest last))
 
 abbrev pub runs_branches : Integers → Option Branches → Program
-runs_branches style None = fails (wrong_args (codes "if expr1 ?then? body1 ?elseif expr2 ?then? body2 ...? ?else? ?bodyN?"))
+runs_branches style None = fails
+    (wrong_args (codes "if expr1 ?then? body1 ?elseif expr2 ?then? body2 ...? ?else? ?bodyN?"))
 runs_branches style (Some b) = first_true style b.tests b.last
 
--- `if expr1 ?then? body1 ?elseif expr2 ?then? body2 ...? ?else? ?bodyN?`: the words are read as branches first
+-- `if expr1 ?then? body1 ?elseif expr2 ?then? body2 ...? ?else? ?bodyN?`: the words are read as
+-- branches first
 abbrev pub if_first : Integers → List Text → Program
 if_first style words = runs_branches style (branches_of words)
 
@@ -102,26 +111,32 @@ if_first style words = runs_branches style (branches_of words)
 
 -- the turn of a loop while its condition is true: it is counted, and the body runs
 abbrev pub turn : Integers → Text → Text → (Completion → Program) → Program
-turn style test body k = condition style test (λ holds. either holds (act Charge (λ T. go (Script body) k)) (done (ok [])))
+turn style test body k = condition style test
+    (λ holds. either holds (act Charge (λ T. go (Script body) k)) (done (ok [])))
 
 abbrev pub while_turns : Integers → Text → Text → Program
-while_turns style test body = turn style test body (λ c. after_body c.code c (go (While test body) done))
+while_turns style test body = turn style test body
+    (λ c. after_body c.code c (go (While test body) done))
 
 -- `while test command`
 abbrev pub while_loop : List Text → Program
 while_loop (test ∷ body ∷ []) = go (While test body) done
 while_loop _ = fails (wrong_args (codes "while test command"))
 
--- what a loop does after the script between two turns: on, or it is over, or the script's end is its own, a `continue` too
+-- what a loop does after the script between two turns: on, or it is over, or the script's end is
+-- its own, a `continue` too
 abbrev pub after_next : ℤ → Completion → Program → Program
 after_next (pos zero) c more = more
 after_next (pos (suc (suc (suc zero)))) c more = done (ok [])
 after_next n c more = done c
 
 abbrev pub for_turns : Integers → Text → Text → Text → Program
-for_turns style test next body = turn style test body (λ c. after_body c.code c (go (Script next) (λ d. after_next d.code d (go (For test next body) done))))
+for_turns style test next body = turn style test body
+    (λ c. after_body c.code c (go (Script next)
+    (λ d. after_next d.code d (go (For test next body) done))))
 
 -- `for start test next command`
 abbrev pub for_loop : List Text → Program
-for_loop (start ∷ test ∷ next ∷ body ∷ []) = go (Script start) (on_ok (λ text. go (For test next body) done))
+for_loop (start ∷ test ∷ next ∷ body ∷ []) = go (Script start)
+    (on_ok (λ text. go (For test next body) done))
 for_loop _ = fails (wrong_args (codes "for start test next command"))

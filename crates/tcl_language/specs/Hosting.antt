@@ -1,5 +1,6 @@
 -- The commands that reach the host, and `exit`.
-use Rattle.std.specs.Prelude.{ℕ, ℤ, pos, negsuc, Bool, List, [], ◌∷◌, ◌++◌, None, codes, nat_le, ◌==◌}
+use Rattle.std.specs.Prelude.{ℕ, ℤ, pos, negsuc, Bool, List, [], ◌∷◌, ◌++◌, None, codes, nat_le}
+use Rattle.std.specs.Prelude.{◌==◌}
 use Rattle.std.specs.Str.{bytes_eq}
 use Rattle.tcl_core.specs.Paths.{Text}
 use Rattle.tcl_core.specs.Endings.{ok}
@@ -19,7 +20,8 @@ use Rattle.tcl_language.specs.Variables.{integer}
 -- what a refusal of the host says of a channel
 abbrev pub channel_message : ℕ → Text → Text
 channel_message number channel =
-    either (number == 262) (quoted (codes "device fault on ") channel []) (quoted (codes "can not find channel named ") channel [])
+    either (number == 262) (quoted (codes "device fault on ") channel [])
+    (quoted (codes "can not find channel named ") channel [])
 
 -- on with the host's reply to a request; nothing else answers one
 abbrev pub heard : (HostReply → Program) → Said → Program

@@ -1,5 +1,6 @@
 -- `info`, which tells of the interpreter that asks.
-use Rattle.std.specs.Prelude.{ℕ, zero, suc, ℤ, pos, negsuc, Bool, false, List, [], ◌∷◌, Option, Some, None, codes, ◌-◌, nat_le, cond}
+use Rattle.std.specs.Prelude.{ℕ, zero, suc, ℤ, pos, negsuc, Bool, false, List, [], ◌∷◌, Option}
+use Rattle.std.specs.Prelude.{Some, None, codes, ◌-◌, nat_le, cond}
 use Rattle.std.specs.Fmt.{decimal}
 use Rattle.std.specs.Str.{bytes_eq}
 use Rattle.tcl_core.specs.Paths.{Text}
@@ -21,12 +22,14 @@ use Rattle.tcl_language.specs.Variables.{integer}
 -- the names that have the form of a pattern
 abbrev pub matching : Text → List Text → List Text
 matching pattern [] = []
-matching pattern (name ∷ names) = kept_if (is_match false pattern name) name (matching pattern names)
+matching pattern (name ∷ names) = kept_if (is_match false pattern name) name
+    (matching pattern names)
 
 -- `info vars|globals|locals ?pattern?`
 abbrev pub names : Scope → Text → List Text → Program
 names scope form [] = look (λ n. gives (written_list (names_of scope n.own.chain.frames)))
-names scope form (pattern ∷ []) = look (λ n. gives (written_list (matching pattern (names_of scope n.own.chain.frames))))
+names scope form (pattern ∷ []) = look
+    (λ n. gives (written_list (matching pattern (names_of scope n.own.chain.frames))))
 names scope form _ = fails (wrong_args form)
 
 -- `info cmdcount`
@@ -61,7 +64,8 @@ words_of text (Some (suc level)) n = words_or text (words_at n.own.chain.frames 
 -- `info level ?number?`
 abbrev pub level : Integers → List Text → Program
 level style [] = look (λ n. done (ok (decimal (current n.own.chain.frames))))
-level style (number ∷ []) = integer style number (λ z. look (λ n. words_of number (numbered (current n.own.chain.frames) z) n))
+level style (number ∷ []) = integer style number
+    (λ z. look (λ n. words_of number (numbered (current n.own.chain.frames) z) n))
 level style _ = fails (wrong_args (codes "info level ?number?"))
 
 abbrev pub chosen : Integers → Text → List Text → Program

@@ -1,5 +1,6 @@
 -- What can be going on inside an interpreter, and how its programs are put together.
-use Rattle.std.specs.Prelude.{ℕ, zero, suc, ℤ, pos, negsuc, Bool, true, false, List, [], Option, Some, None, Result, Ok, Err, length, nat_le}
+use Rattle.std.specs.Prelude.{ℕ, zero, suc, ℤ, pos, negsuc, Bool, true, false, List, [], Option}
+use Rattle.std.specs.Prelude.{Some, None, Result, Ok, Err, length, nat_le}
 use Rattle.tcl_core.specs.Paths.{Text}
 use Rattle.tcl_core.specs.Endings.{Completion, ok, error}
 use Rattle.tcl_core.specs.Entries.{Entry}
@@ -44,7 +45,8 @@ pub data Instr : Type 0 where
   Foreach : (walks : List Walk) (body : Text) → Instr
   -- an expression, whose value is wanted
   Expression : (text : Text) → Instr
-  -- the turns that are left of a loop with a condition, and of one that has a script between two turns
+  -- the turns that are left of a loop with a condition, and of one that has a script between two
+  -- turns
   While : (test body : Text) → Instr
   For : (test next body : Text) → Instr
   -- what another interpreter could ask for, asked by the interpreter itself

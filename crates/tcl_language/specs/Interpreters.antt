@@ -1,13 +1,18 @@
--- `interp`, and a child's own command: what one interpreter asks of another. Paths are lists of names downward from the one that asks.
-use Rattle.std.specs.Prelude.{ℕ, zero, suc, ℤ, pos, negsuc, Bool, true, false, ◌&&◌, ◌||◌, List, [], ◌∷◌, ◌++◌, Option, Some, None, is_some, not, codes, ◌-◌, ◌==◌, nat_le, length, drop}
+-- `interp`, and a child's own command: what one interpreter asks of another. Paths are lists of
+-- names downward from the one that asks.
+use Rattle.std.specs.Prelude.{ℕ, zero, suc, ℤ, pos, negsuc, Bool, true, false, ◌&&◌, ◌||◌, List, []}
+use Rattle.std.specs.Prelude.{◌∷◌, ◌++◌, Option, Some, None, is_some, not, codes, ◌-◌, ◌==◌, nat_le}
+use Rattle.std.specs.Prelude.{length, drop}
 use Rattle.std.specs.Fmt.{decimal}
 use Rattle.std.specs.Str.{bytes_eq}
 use Rattle.std.specs.Map.{lookup}
 use Rattle.tcl_core.specs.Paths.{Text, Path, together}
 use Rattle.tcl_core.specs.Endings.{Completion, ok, error}
 use Rattle.tcl_core.specs.Entries.{Entry, Question, Said}
-use Rattle.tcl_core.specs.Entries.Entry.{Eval, CallWords, InvokeHidden, SetAlias, ClearAlias, Hide, Expose, SetCountLimit, SetDepthLimit, Create, Delete, Ask}
-use Rattle.tcl_core.specs.Entries.Question.{Exists, IsSafe, Aliases, AliasOf, Hidden as HiddenNames, Slaves, CountLimitOf, DepthLimitOf}
+use Rattle.tcl_core.specs.Entries.Entry.{Eval, CallWords, InvokeHidden, SetAlias, ClearAlias, Hide}
+use Rattle.tcl_core.specs.Entries.Entry.{Expose, SetCountLimit, SetDepthLimit, Create, Delete, Ask}
+use Rattle.tcl_core.specs.Entries.Question.{Exists, IsSafe, Aliases, AliasOf, Hidden as HiddenNames}
+use Rattle.tcl_core.specs.Entries.Question.{Slaves, CountLimitOf, DepthLimitOf}
 use Rattle.tcl_core.specs.Entries.Said.{Finished, Told}
 use Rattle.tcl_core.specs.Trees.{Node}
 use Rattle.tcl_core.specs.Programs.Act.{Look, Make, Drop, Limit, LimitDepth}
@@ -19,14 +24,16 @@ use Rattle.tcl_text.specs.Messages as messages
 use Rattle.tcl_tree.specs.Own.{Own, CommandMap, new_own, with_new_child, without_old_child}
 use Rattle.tcl_tree.specs.Commands.{AliasView}
 use Rattle.tcl_language.specs.Naming.{Named, named, cleared, hidden_as, exposed_as}
-use Rattle.tcl_interpreter.specs.declared.refusal.Refusal.{Refusal}
-use Rattle.tcl_interpreter.specs.declared.refusal.Refusal.TheVariants as refusal
+use Rattle.tcl_interpreter.specs.declared.refusal.TreeError.{TreeError}
+use Rattle.tcl_interpreter.specs.declared.refusal.TreeError.TheVariants as refusal
 use Rattle.tcl_interpreter.specs.declared.command.Command.{Command}
 use Rattle.tcl_interpreter.specs.declared.command.Command.TheVariants as command
-use Rattle.tcl_language.specs.Instructions.{Program, either, fails, fits, gives, grown, or_fails, look, change, too_long}
+use Rattle.tcl_language.specs.Instructions.{Program, either, fails, fits, gives, grown, or_fails}
+use Rattle.tcl_language.specs.Instructions.{look, change, too_long}
 use Rattle.tcl_language.specs.Instructions.Instr.{Serve}
 use Rattle.tcl_variables.specs.Messages.{quoted}
-use Rattle.tcl_language.specs.Faults.{wrong_args, lost_alias, bad_name, invalid_command, invalid_hidden, unknown_subcommand}
+use Rattle.tcl_language.specs.Faults.{wrong_args, lost_alias, bad_name, invalid_command}
+use Rattle.tcl_language.specs.Faults.{invalid_hidden, unknown_subcommand}
 use Rattle.tcl_language.specs.Names.{is_name}
 use Rattle.tcl_language.specs.Variables.{integer}
 use Rattle.tcl_language.specs.Words.{concat}
@@ -58,7 +65,8 @@ finished k (Told reply) = done (ok [])
 -- what is asked of the interpreter at a path: of itself at the empty one, and else of one below
 abbrev pub asks_at : Path → Entry → (Completion → Program) → Program
 asks_at [] entry k = go (Serve entry) k
-asks_at (name ∷ path) entry k = call (Some 0) (name ∷ path) entry (error (no_interpreter [])) (finished k)
+asks_at (name ∷ path) entry k = call (Some 0) (name ∷ path) entry (error (no_interpreter []))
+    (finished k)
 
 abbrev pub where_it_stands : Text → (Node Own → Program) → Option (Node Own) → Program
 where_it_stands text k None = fails (no_interpreter text)
@@ -66,14 +74,17 @@ where_it_stands text k (Some n) = k n
 
 -- on with the path that a text is, and the interpreter there
 abbrev pub at_path : Text → (Path → Node Own → Program) → Program
-at_path text k = or_fails fault_message (list_of text) (λ path. act Look (λ T. where_it_stands text (k path) (T path)))
+at_path text k = or_fails fault_message (list_of text)
+    (λ path. act Look (λ T. where_it_stands text (k path) (T path)))
 
 abbrev pub asks : Text → Entry → Program
 asks text entry = at_path text (λ path n. asks_at path entry done)
 
--- An alias calls its target with its own words and then those of the call. Its code passes unchanged.
+-- An alias calls its target with its own words and then those of the call. Its code passes
+-- unchanged.
 abbrev pub call_alias : AliasView → Text → List Text → Program
-call_alias a word args = call (Some a.up) a.down (CallWords (a.words ++ args)) (either (fits (lost_alias word)) (error (lost_alias word)) too_long) (finished done)
+call_alias a word args = call (Some a.up) a.down (CallWords (a.words ++ args))
+    (either (fits (lost_alias word)) (error (lost_alias word)) too_long) (finished done)
 
 -- on, unless the interpreter that asks is safe
 abbrev pub permitted : Program → Program
@@ -85,7 +96,8 @@ abbrev pub most_children : ℕ
 most_children = 256
 
 abbrev pub makes : Text → Bool → Own → Program
-makes name safe own = change (with_new_child name own) (act (Make name (new_own safe) safe) (λ T. done (ok [])))
+makes name safe own = change (with_new_child name own)
+    (act (Make name (new_own safe) safe) (λ T. done (ok [])))
 
 abbrev pub creates_new : Text → Bool → Node Own → Program
 creates_new name safe n =
@@ -95,10 +107,12 @@ creates_new name safe n =
     (makes name (safe || n.safe) n.own)))
     (fails (bad_name name))
 
--- A child is made, safe where that is asked for or its parent is safe. No other child has its name, which isn't empty, has no two colons
--- side by side and isn't that of a command, and there are fewer than 256 children.
+-- A child is made, safe where that is asked for or its parent is safe. No other child has its name,
+-- which isn't empty, has no two colons side by side and isn't that of a command, and there are
+-- fewer than 256 children.
 abbrev pub creates : Text → Bool → Program
-creates name safe = look (λ n. act Look (λ T. either (is_some (T (name ∷ []))) (fails (already_exists name)) (creates_new name safe n)))
+creates name safe = look (λ n. act Look
+    (λ T. either (is_some (T (name ∷ []))) (fails (already_exists name)) (creates_new name safe n)))
 
 abbrev pub numbered : ℕ → Text
 numbered n = codes "interp" ++ decimal n
@@ -106,7 +120,8 @@ numbered n = codes "interp" ++ decimal n
 -- the least number from n on that no command's name has, among so many
 abbrev pub least_free : ℕ → ℕ → CommandMap → ℕ
 least_free zero n commands = n
-least_free (suc turns) n commands = either (is_some (lookup (bytes_eq (numbered n)) commands)) (least_free turns (suc n) commands) n
+least_free (suc turns) n commands = either (is_some (lookup (bytes_eq (numbered n)) commands))
+    (least_free turns (suc n) commands) n
 
 -- the name of a child that is given none
 abbrev pub free_name : Own → Text
@@ -133,7 +148,8 @@ is_depth_limit n = nat_le 1 n && nat_le n 1000
 
 abbrev pub limits_depth : ℕ → Program
 limits_depth limit = look (λ n. either n.root (fails denied)
-    (either (is_depth_limit limit) (act (LimitDepth limit) (λ T. done (ok (decimal limit)))) (fails messages.bad_depth_limit)))
+    (either (is_depth_limit limit) (act (LimitDepth limit) (λ T. done (ok (decimal limit))))
+    (fails messages.bad_depth_limit)))
 
 abbrev pub alias_only : Text → Command → List Text → List Text
 alias_only name (command.Alias a) names = name ∷ names
@@ -181,14 +197,14 @@ answers question = look (λ n. gives (answer question n))
 
 -- ## What is done to an interpreter's commands
 
-abbrev pub refusal_text : Refusal → Text → Text
+abbrev pub refusal_text : TreeError → Text → Text
 refusal_text refusal.BadName x = bad_name x
 refusal_text refusal.Exists x = already_exists x
 refusal_text refusal.NoCommand x = invalid_command x
 refusal_text refusal.NoHidden x = invalid_hidden x
 refusal_text e x = denied
 
-abbrev pub refused_text : Refusal × Text → Text
+abbrev pub refused_text : TreeError × Text → Text
 refused_text e = refusal_text e.0 e.1
 
 -- the own part becomes what it is named to be, and on
@@ -199,7 +215,8 @@ abbrev pub done_so : Program
 done_so = done (ok [])
 
 abbrev pub sets_alias : Text → ℕ → List Text → List Text → Program
-sets_alias name up down words = renaming done_so (λ own. named own name (command.Alias (record { up = up; down = down; words = words })))
+sets_alias name up down words = renaming done_so
+    (λ own. named own name (command.Alias (record { up = up; down = down; words = words })))
 
 abbrev pub clears_alias : Text → Program
 clears_alias name = renaming done_so (λ own. cleared own name)
@@ -242,7 +259,8 @@ is_option (c ∷ cs) = c == 45
 abbrev pub invoked_as : Text → Text → Bool → List Text → Program
 invoked_as text form global [] = fails (wrong_args form)
 invoked_as text form global (name ∷ args) =
-    either (is_option name && not global) (either (is_global name) (invoked_as text form true args) (fails (bad_option name)))
+    either (is_option name && not global)
+    (either (is_global name) (invoked_as text form true args) (fails (bad_option name)))
     (asks_trusted text (InvokeHidden global (name ∷ args)))
 
 -- `interp invokehidden path ?-global? hiddenName ?arg ...?`
@@ -266,7 +284,8 @@ before_last x (y ∷ ys) = (x ∷ (before_last y ys).0, (before_last y ys).1)
 
 -- the child that a path names: its last name, in the interpreter at the names before it
 abbrev pub makes_at : Text → Bool → List Text × Text → Program
-makes_at text safe p = act Look (λ T. where_it_stands text (λ n. asks_at p.0 (Create (Some p.1) safe) (with_text text)) (T p.0))
+makes_at text safe p = act Look
+    (λ T. where_it_stands text (λ n. asks_at p.0 (Create (Some p.1) safe) (with_text text)) (T p.0))
 
 abbrev pub makes_named : Text → Bool → List Text → Program
 makes_named text safe [] = fails (bad_name [])
@@ -276,7 +295,8 @@ abbrev pub create_form : Text
 create_form = codes "interp create ?-safe? ?--? ?path?"
 
 abbrev pub create_path : Bool → List Text → Program
-create_path safe [] = look (λ n. asks_at [] (Create (Some (free_name n.own)) safe) (with_text (free_name n.own)))
+create_path safe [] = look (λ n. asks_at [] (Create (Some (free_name n.own)) safe)
+    (with_text (free_name n.own)))
 create_path safe (text ∷ []) = or_fails fault_message (list_of text) (makes_named text safe)
 create_path safe (x ∷ y ∷ rest) = fails (wrong_args create_form)
 
@@ -310,7 +330,8 @@ delete (text ∷ texts) = at_path text (λ path n. deletes_named text path (dele
 abbrev pub alias_path : Text → Text → Text → Text → List Text → Program
 alias_path source name target word args =
     at_path source (λ path n. or_fails fault_message (list_of target) (λ goal.
-    asks_at path (SetAlias name (length path - together path goal) (drop (together path goal) goal) (word ∷ args)) (with_text name)))
+    asks_at path (SetAlias name (length path - together path goal) (drop (together path goal) goal)
+    (word ∷ args)) (with_text name)))
 
 abbrev pub alias_form : Text
 alias_form = codes "interp alias srcPath srcCmd ?targetPath? ?targetCmd? ?arg ...?"
@@ -337,7 +358,8 @@ exists_at path (Some n) = asks_at path (Ask Exists) done
 -- a path that leads nowhere is an answer here
 abbrev pub exists : List Text → Program
 exists [] = asks [] (Ask Exists)
-exists (text ∷ []) = or_fails fault_message (list_of text) (λ path. act Look (λ T. exists_at path (T path)))
+exists (text ∷ []) = or_fails fault_message (list_of text)
+    (λ path. act Look (λ T. exists_at path (T path)))
 exists (x ∷ y ∷ rest) = fails (wrong_args (codes "interp exists ?path?"))
 
 -- ## Limits
@@ -357,11 +379,15 @@ limit_number text (negsuc n) k = fails (bad_count text)
 -- the empty text is no limit
 abbrev pub limit_value : Integers → Text → (Option ℕ → Program) → Program
 limit_value style [] k = k None
-limit_value style (c ∷ cs) k = integer style (c ∷ cs) (λ z. limit_number (c ∷ cs) z (λ n. k (Some n)))
+limit_value style (c ∷ cs) k = integer style (c ∷ cs)
+    (λ z. limit_number (c ∷ cs) z (λ n. k (Some n)))
 
 abbrev pub sets_limit : Integers → Text → Text → Program
-sets_limit style text value = permitted (or_fails fault_message (list_of text) (λ path. below_itself path
-    (act Look (λ T. where_it_stands text (λ n. limit_value style value (λ limit. asks_at path (SetCountLimit limit) done)) (T path)))))
+sets_limit style text value = permitted
+    (or_fails fault_message (list_of text) (λ path. below_itself path
+    (act Look (λ T. where_it_stands text
+    (λ n. limit_value style value (λ limit. asks_at path (SetCountLimit limit) done))
+    (T path)))))
 
 abbrev pub commands_only : Text → Program → Program
 commands_only word k = either (bytes_eq word (codes "commands")) k (fails (bad_option word))
@@ -372,7 +398,8 @@ value_only word k = either (bytes_eq word (codes "-value")) k (fails (bad_option
 -- `interp limit path commands ?-value n?`
 abbrev pub limit : Integers → List Text → Program
 limit style (text ∷ word ∷ []) = commands_only word (asks text (Ask CountLimitOf))
-limit style (text ∷ word ∷ option ∷ value ∷ []) = commands_only word (value_only option (sets_limit style text value))
+limit style (text ∷ word ∷ option ∷ value ∷ []) = commands_only word
+    (value_only option (sets_limit style text value))
 limit style _ = fails (wrong_args limit_form)
 
 abbrev pub depth_number : ℤ → (ℕ → Program) → Program
@@ -384,8 +411,11 @@ unless_root [] k = look (λ n. either n.root (fails denied) k)
 unless_root (x ∷ xs) k = k
 
 abbrev pub sets_depth_limit : Integers → Text → Text → Program
-sets_depth_limit style text value = permitted (or_fails fault_message (list_of text) (λ path. unless_root path
-    (act Look (λ T. where_it_stands text (λ n. integer style value (λ z. depth_number z (λ limit. asks_at path (SetDepthLimit limit) done))) (T path)))))
+sets_depth_limit style text value = permitted
+    (or_fails fault_message (list_of text) (λ path. unless_root path
+    (act Look (λ T. where_it_stands text
+    (λ n. integer style value (λ z. depth_number z
+    (λ limit. asks_at path (SetDepthLimit limit) done))) (T path)))))
 
 -- `interp recursionlimit path ?n?`
 abbrev pub recursion_limit : Integers → List Text → Program
@@ -397,7 +427,8 @@ recursion_limit style _ = fails (wrong_args (codes "interp recursionlimit path ?
 
 -- `interp eval path arg ?arg ...?`
 abbrev pub eval : List Text → Program
-eval (text ∷ arg ∷ args) = at_path text (λ path n. grown (concat (arg ∷ args)) (λ script. asks_at path (Eval script) done))
+eval (text ∷ arg ∷ args) = at_path text
+    (λ path n. grown (concat (arg ∷ args)) (λ script. asks_at path (Eval script) done))
 eval _ = fails (wrong_args (codes "interp eval path arg ?arg ...?"))
 
 -- ## The two commands
@@ -408,12 +439,15 @@ subcommand style word args =
     (either (bytes_eq word (codes "delete")) (delete args)
     (either (bytes_eq word (codes "eval")) (eval args)
     (either (bytes_eq word (codes "alias")) (alias args)
-    (either (bytes_eq word (codes "aliases")) (question (codes "interp aliases ?path?") Aliases args)
+    (either (bytes_eq word (codes "aliases"))
+    (question (codes "interp aliases ?path?") Aliases args)
     (either (bytes_eq word (codes "exists")) (exists args)
-    (either (bytes_eq word (codes "hidden")) (question (codes "interp hidden ?path?") HiddenNames args)
+    (either (bytes_eq word (codes "hidden"))
+    (question (codes "interp hidden ?path?") HiddenNames args)
     (either (bytes_eq word (codes "issafe")) (question (codes "interp issafe ?path?") IsSafe args)
     (either (bytes_eq word (codes "slaves")) (question (codes "interp slaves ?path?") Slaves args)
-    (either (bytes_eq word (codes "children")) (question (codes "interp children ?path?") Slaves args)
+    (either (bytes_eq word (codes "children"))
+    (question (codes "interp children ?path?") Slaves args)
     (either (bytes_eq word (codes "limit")) (limit style args)
     (either (bytes_eq word (codes "recursionlimit")) (recursion_limit style args)
     (either (bytes_eq word (codes "hide")) (hide args)
@@ -432,30 +466,39 @@ child_form name form = name ++ 32 ∷ form
 
 abbrev pub child_eval : Text → List Text → Program
 child_eval name [] = fails (wrong_args (child_form name (codes "eval arg ?arg ...?")))
-child_eval name (arg ∷ args) = grown (concat (arg ∷ args)) (λ script. asks_at (name ∷ []) (Eval script) done)
+child_eval name (arg ∷ args) = grown (concat (arg ∷ args))
+    (λ script. asks_at (name ∷ []) (Eval script) done)
 
--- The target of an alias that a child is given so is in the interpreter that asks, one level above the child.
+-- The target of an alias that a child is given so is in the interpreter that asks, one level above
+-- the child.
 abbrev pub child_alias : Text → List Text → Program
 child_alias name (source ∷ []) = asks_at (name ∷ []) (Ask (AliasOf source)) done
 child_alias name (source ∷ [] ∷ []) = asks_at (name ∷ []) (ClearAlias source) done
-child_alias name (source ∷ word ∷ args) = asks_at (name ∷ []) (SetAlias source 1 [] (word ∷ args)) (with_text source)
-child_alias name [] = fails (wrong_args (child_form name (codes "alias srcCmd ?targetCmd? ?arg ...?")))
+child_alias name (source ∷ word ∷ args) = asks_at (name ∷ []) (SetAlias source 1 [] (word ∷ args))
+    (with_text source)
+child_alias name [] = fails (wrong_args
+    (child_form name (codes "alias srcCmd ?targetCmd? ?arg ...?")))
 
 abbrev pub child_question : Text → Text → Question → List Text → Program
 child_question name form q [] = asks_at (name ∷ []) (Ask q) done
 child_question name form q (x ∷ xs) = fails (wrong_args (child_form name form))
 
 abbrev pub child_limit : Integers → Text → List Text → Program
-child_limit style name (word ∷ []) = commands_only word (asks_at (name ∷ []) (Ask CountLimitOf) done)
+child_limit style name (word ∷ []) = commands_only word
+    (asks_at (name ∷ []) (Ask CountLimitOf) done)
 child_limit style name (word ∷ option ∷ value ∷ []) =
-    commands_only word (value_only option (permitted (limit_value style value (λ limit. asks_at (name ∷ []) (SetCountLimit limit) done))))
+    commands_only word (value_only option
+    (permitted (limit_value style value
+    (λ limit. asks_at (name ∷ []) (SetCountLimit limit) done))))
 child_limit style name _ = fails (wrong_args (child_form name (codes "limit commands ?-value n?")))
 
 abbrev pub child_recursion_limit : Integers → Text → List Text → Program
 child_recursion_limit style name [] = asks_at (name ∷ []) (Ask DepthLimitOf) done
 child_recursion_limit style name (value ∷ []) =
-    permitted (integer style value (λ z. depth_number z (λ limit. asks_at (name ∷ []) (SetDepthLimit limit) done)))
-child_recursion_limit style name _ = fails (wrong_args (child_form name (codes "recursionlimit ?n?")))
+    permitted (integer style value
+    (λ z. depth_number z (λ limit. asks_at (name ∷ []) (SetDepthLimit limit) done)))
+child_recursion_limit style name _ = fails
+    (wrong_args (child_form name (codes "recursionlimit ?n?")))
 
 -- the path of a child, as a text
 abbrev pub child_path : Text → Text
@@ -472,7 +515,8 @@ child_expose name (hidden ∷ x ∷ []) = asks_trusted (child_path name) (Expose
 child_expose name _ = fails (wrong_args (child_form name (codes "expose hiddenName ?cmd?")))
 
 abbrev pub child_invoke_hidden : Text → List Text → Program
-child_invoke_hidden name args = invoked_as (child_path name) (child_form name (codes "invokehidden ?-global? hiddenName ?arg ...?")) false args
+child_invoke_hidden name args = invoked_as (child_path name)
+    (child_form name (codes "invokehidden ?-global? hiddenName ?arg ...?")) false args
 
 abbrev pub child_subcommand : Integers → Text → Text → List Text → Program
 child_subcommand style name word args =

@@ -12,7 +12,8 @@ use Rattle.tcl_language.specs.Table.{program, serve}
 -- The programs of the commands call, and never wait without a call.
 abbrev pub ProgramsCall : Type 0
 ProgramsCall = (style : Integers) →
-    ((i : Instr) → Calls_only (program style i)) × ((entry : Entry) → Calls_only (serve style entry))
+    ((i : Instr) → Calls_only (program style i)) ×
+    ((entry : Entry) → Calls_only (serve style entry))
 
 -- the language, in a style of integer texts, once that is proved
 abbrev pub language_with : ProgramsCall → Integers → Table Own Instr

@@ -1,4 +1,5 @@
--- How commands are named, hidden and exposed: what each call makes of an interpreter's own part, or why it is refused, with the text that is wrong.
+-- How commands are named, hidden and exposed: what each call makes of an interpreter's own part, or
+-- why it is refused, with the text that is wrong.
 use Rattle.std.specs.Prelude.{cond, [], ◌∷◌, ◌++◌, Option, Some, None, is_some, Result, Ok, Err}
 use Rattle.std.specs.Str.{bytes_eq}
 use Rattle.std.specs.Map.{remove_entry}
@@ -9,8 +10,9 @@ use Rattle.tcl_tree.specs.Naming as tree
 use Rattle.tcl_tree.specs.Own.{Own, command_in, hidden_in}
 use Rattle.tcl_interpreter.specs.declared.command.Command.{Command}
 use Rattle.tcl_interpreter.specs.declared.command.Command.TheVariants as command
-use Rattle.tcl_interpreter.specs.declared.refusal.Refusal.{Refusal}
-use Rattle.tcl_interpreter.specs.declared.refusal.Refusal.TheVariants.{BadName, Exists, NoCommand, NoHidden}
+use Rattle.tcl_interpreter.specs.declared.refusal.TreeError.{TreeError}
+use Rattle.tcl_interpreter.specs.declared.refusal.TreeError.TheVariants.{BadName, Exists, NoCommand}
+use Rattle.tcl_interpreter.specs.declared.refusal.TreeError.TheVariants.{NoHidden}
 
 abbrev pub without_colons : Text → Option Text
 without_colons name = cond (has_colons name) None (Some name)
@@ -19,13 +21,14 @@ abbrev pub of_global : Text → Option Text → Option Text
 of_global name None = without_colons name
 of_global name (Some rest) = without_colons rest
 
--- The name by which a command is kept: two leading colons name the global level, which is the only one; no other two stand in it.
+-- The name by which a command is kept: two leading colons name the global level, which is the only
+-- one; no other two stand in it.
 abbrev pub command_name : Text → Option Text
 command_name name = of_global name (after_colons name)
 
 -- what is left of the interpreter's own part; or the refusal, and the text that is wrong
 abbrev pub Named : Type 0
-Named = Result Own (Refusal × Text)
+Named = Result Own (TreeError × Text)
 
 -- what the table makes of an own part, with the text that is wrong where it refuses
 abbrev pub with_word : Text → tree.Named → Named
@@ -44,7 +47,8 @@ keeps_child o x k = cond (is_child o) (Err (Exists, x)) k
 
 -- the name stands for a command from now on, where it was or at the end; the name of a child can't
 abbrev pub named : Own → Text → Command → Named
-named own x c = by_name (command_name x) x (λ plain. keeps_child (command_in own plain) x (Ok (with_command plain c own)))
+named own x c = by_name (command_name x) x
+    (λ plain. keeps_child (command_in own plain) x (Ok (with_command plain c own)))
 
 abbrev pub clears : Own → Text → Text → Option Command → Named
 clears own plain x (Some (command.Alias a)) = Ok (without_command plain own)
@@ -57,8 +61,12 @@ cleared own x = by_name (command_name x) x (λ plain. clears own plain x (comman
 -- ## Hiding and exposing
 
 abbrev pub put_hidden : Own → Text → Text → Command → Named
-put_hidden own plain h c = cond (has_colons h) (Err (BadName, h)) (cond (is_some (hidden_in own h)) (Err (Exists, h))
-    (Ok (record own { commands = remove_entry (bytes_eq plain) own.commands; hidden = own.hidden ++ (h, c) ∷ [] })))
+put_hidden own plain h c = cond (has_colons h) (Err (BadName, h))
+    (cond (is_some (hidden_in own h)) (Err (Exists, h))
+    (Ok (record own {
+      commands = remove_entry (bytes_eq plain) own.commands;
+      hidden = own.hidden ++ (h, c) ∷ [];
+    })))
 
 abbrev pub hides : Own → Text → Text → Text → Option Command → Named
 hides own plain x h None = Err (NoCommand, x)
@@ -73,8 +81,13 @@ hidden_as own x h = by_name (command_name x) x (λ plain. hides own plain x h (c
 
 abbrev pub exposes : Own → Text → Text → Option Command → Named
 exposes own h x None = Err (NoHidden, h)
-exposes own h x (Some c) = by_name (command_name x) x (λ plain. cond (is_some (command_in own plain)) (Err (Exists, x))
-    (Ok (record own { commands = own.commands ++ (plain, c) ∷ []; hidden = remove_entry (bytes_eq h) own.hidden })))
+exposes own h x (Some c) = by_name (command_name x) x
+    (λ plain. cond (is_some (command_in own plain)) (Err (Exists, x))
+    (Ok (record own {
+      commands = own.commands ++ (plain, c) ∷ [];
+      hidden = remove_entry (bytes_eq h)
+          own.hidden;
+    })))
 
 -- a hidden command becomes a command of a name that none has
 abbrev pub exposed_as : Own → Text → Text → Named
@@ -84,7 +97,8 @@ exposed_as own h x = exposes own h x (hidden_in own h)
 
 abbrev pub renames : Own → Text → Text → Text → Option Command → Named
 renames own plain x y None = Err (NoCommand, x)
-renames own plain x y (Some c) = keeps_child (Some c) x (by_name (command_name y) y (λ other. cond (is_some (command_in own other)) (Err (Exists, y))
+renames own plain x y (Some c) = keeps_child (Some c) x
+    (by_name (command_name y) y (λ other. cond (is_some (command_in own other)) (Err (Exists, y))
     (Ok (record own { commands = remove_entry (bytes_eq plain) own.commands ++ (other, c) ∷ [] }))))
 
 -- a command that isn't a child gets another name

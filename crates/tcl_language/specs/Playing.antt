@@ -1,4 +1,5 @@
--- A run, computed: what comes of a program by itself, where no limit from outside is in the way and the host accepts all that is asked of it.
+-- A run, computed: what comes of a program by itself, where no limit from outside is in the way and
+-- the host accepts all that is asked of it.
 use Rattle.std.specs.Prelude.{◌≡◌, ℕ, zero, suc, Bool, true, false, Option, Some, None}
 use Rattle.tcl_core.specs.Paths.{Place, Height, rise_to}
 use Rattle.tcl_core.specs.Endings.{Completion, Reply, refusal}
@@ -8,7 +9,7 @@ use Rattle.tcl_core.specs.Entries.{Entry}
 use Rattle.tcl_core.specs.Entries.Answer.{Heard}
 use Rattle.tcl_core.specs.Entries.HostReply.{Accepted}
 use Rattle.tcl_core.specs.Entries.Said.{Finished, Told}
-use Rattle.tcl_core.specs.Threads.{Threads}
+use Rattle.tcl_core.specs.Execution.{Executes}
 use Rattle.tcl_core.specs.Trees.{Tree, Event, effect, at}
 use Rattle.tcl_core.specs.Trees.Move.{Come}
 use Rattle.tcl_core.specs.Trees.Grants.{Budget}
@@ -38,7 +39,8 @@ module _ {O I : Type 0} (prog : Table O I) where
   acted k T p (Some (a, x, TooDeep)) = None
   acted k T p (Some (a, x, Off r)) = Some (effect (spot p a) x T, r)
 
-  abbrev pub wrapped : (Tree O → Played) → (Tree O → Played) → Tree O → Place → Option (Deed O) → Played
+  abbrev pub wrapped : (Tree O → Played) → (Tree O → Played) → Tree O → Place → Option (Deed O) →
+      Played
   wrapped k deep T p None = None
   wrapped k deep T p (Some (a, x, On)) = k (effect (spot p a) x T)
   wrapped k deep T p (Some (a, x, TooDeep)) = deep (effect (spot p a) x T)
@@ -66,13 +68,17 @@ module _ {O I : Type 0} (prog : Table O I) where
   play (suc n) T p (done c) = Some (T, Completed c)
   play (suc n) T p (exit s) = Some (T, Exit s)
   play (suc n) T p (act d k) = acted (λ U. play n U p (k (at T p))) T p (decide d T p (Budget 1000))
-  play (suc n) T p (go i k) = follow (play n T p (prog.program i)) (on_completed (λ U c. play n U p (k c)))
+  play (suc n) T p (go i k) = follow (play n T p (prog.program i))
+      (on_completed (λ U c. play n U p (k c)))
   play (suc n) T p (inside b i k) =
-      wrapped (λ U. follow (play n U p (prog.program i)) (λ V r. on_completed (λ W c. play n W p (k c)) (effect p (closes b (V p)) V) r))
+      wrapped (λ U. follow (play n U p (prog.program i))
+      (λ V r. on_completed (λ W c. play n W p (k c)) (effect p (closes b (V p)) V) r))
       (λ U. play n U p (k (refusal Depth))) T p (opens b T p (Budget 1000))
   play (suc n) T p (call h down i lost k) =
-      risen_by (λ a. reached_by (λ t. follow (play n T t (entering prog (T t) i)) (λ U r. on_completed (λ V c. play n V p (k (Finished c))) U (carried h p down r)))
-      (play n T p (k (Finished lost))) (reached T a down)) (where_fit (accepts h i) (play n T p (k (Told Accepted)))) (rise_to h p)
+      risen_by (λ a. reached_by (λ t. follow (play n T t (entering prog (T t) i))
+      (λ U r. on_completed (λ V c. play n V p (k (Finished c))) U (carried h p down r)))
+      (play n T p (k (Finished lost))) (reached T a down))
+      (where_fit (accepts h i) (play n T p (k (Told Accepted)))) (rise_to h p)
   play (suc n) T p (wait s k) = None
 
 -- how it ends
@@ -87,4 +93,4 @@ Any T o s ev u = Unit {0}
 -- What is played is a run.
 abbrev pub PlayIsRun : Type 0 → Type 0 → Type 0
 PlayIsRun O I = (prog : Table O I) (n : ℕ) (T V : Tree O) (p : Place) (x : Prog O I) (r : Reply) →
-    play prog n T p x ≡ Some (V, r) → Threads Any prog T tt p x V tt r
+    play prog n T p x ≡ Some (V, r) → Executes Any prog T tt p x V tt r

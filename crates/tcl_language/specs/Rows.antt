@@ -15,7 +15,15 @@ use Rattle.tcl_language.specs.Table.{serve}
 use Rattle.tcl_language.specs.Playing.{play, ends}
 
 abbrev pub root : Option ℕ → Node Own
-root limit = record { own = new_own false; safe = false; root = true; count = 0; limit = limit; depth = 0; depth_limit = 1000 }
+root limit = record {
+  own = new_own false;
+  safe = false;
+  root = true;
+  count = 0;
+  limit = limit;
+  depth = 0;
+  depth_limit = 1000;
+}
 
 abbrev pub start : Option ℕ → List Text → Option (Node Own)
 start limit [] = Some (root limit)
@@ -24,7 +32,8 @@ start limit (x ∷ p) = None
 module _ (language : Integers → Table Own Instr) where
   -- how a script ends in a new interpreter, which may make so many steps
   abbrev pub outcome_in : Integers → Option ℕ → Text → Option Reply
-  outcome_in style limit script = ends (play (language style) 1000 (start limit) [] (serve style (Eval script)))
+  outcome_in style limit script = ends
+      (play (language style) 1000 (start limit) [] (serve style (Eval script)))
 
   abbrev pub outcome : Text → Option Reply
   outcome script = outcome_in Tcl8 None script
@@ -36,7 +45,8 @@ module _ (language : Integers → Table Own Instr) where
   abbrev pub Fails : Text → Text → Type 0
   Fails script text = outcome script ≡ Some (Completed (error text))
 
-  -- it ends the run with a status, or it gives the text within so many steps, or is stopped by their limit
+  -- it ends the run with a status, or it gives the text within so many steps, or is stopped by
+  -- their limit
   abbrev pub Exits : Text → ℕ → Type 0
   Exits script status = outcome script ≡ Some (Exit (pos status))
 
@@ -57,109 +67,163 @@ module _ (language : Integers → Table Own Instr) where
     pub open_bracket : Fails (codes "set x [list a") (codes "missing close-bracket")
     pub spread : Gives (codes "list {*}{a {b c}} \\x41 \\1011 #") (codes "a {b c} A A1 #")
     pub hash : Gives (codes "list # a") (codes "{#} a")
-    pub element : Gives (codes "set a(x) 1; set i x; list $a($i) [catch {set a 5} m] $m") (codes "1 1 {can't set \"a\": variable is array}")
+    pub element : Gives (codes "set a(x) 1; set i x; list $a($i) [catch {set a 5} m] $m")
+        (codes "1 1 {can't set \"a\": variable is array}")
     pub itself : Fails (codes "upvar 0 a a") (codes "can't upvar from variable to itself")
     pub overflow : Fails (codes "incr n 9223372036854775807; incr n") (codes "integer overflow")
     pub foreach : Gives (codes "foreach x {a b c} {set y $x}; set y") (codes "c")
-    pub options : Gives (codes "catch {error boom {} {A 1}} m o; set o") (codes "-code 1 -level 0 -errorcode {A 1}")
+    pub options : Gives (codes "catch {error boom {} {A 1}} m o; set o")
+        (codes "-code 1 -level 0 -errorcode {A 1}")
     pub loose_break : Fails (codes "break") (codes "invoked \"break\" outside of a loop")
     pub unknown : Fails (codes "nosuch a b") (codes "invalid command name \"nosuch\"")
     pub octal : Gives (codes "set x 010; incr x") (codes "9")
     pub exit : Exits (codes "exit 7; set a 1") 7
     pub exit_status : Fails (codes "exit 256") (codes "exit status must be between 0 and 255")
-    pub children : Gives (codes "list [interp create] [interp create -safe] [interp slaves]") (codes "interp0 interp1 {interp0 interp1}")
-    pub made_again : Gives (codes "interp create; interp create; interp delete interp0; interp create; interp slaves") (codes "interp1 interp0")
-    pub within_limit : Gives (codes "interp create -safe c; c limit commands -value 3; c eval {set a 1; set b 2; set d 3}") (codes "3")
+    pub children : Gives (codes "list [interp create] [interp create -safe] [interp slaves]")
+        (codes "interp0 interp1 {interp0 interp1}")
+    pub made_again : Gives (codes
+        "interp create; interp create; interp delete interp0; interp create; interp slaves")
+        (codes "interp1 interp0")
+    pub within_limit : Gives (codes
+        "interp create -safe c; c limit commands -value 3; c eval {set a 1; set b 2; set d 3}")
+        (codes "3")
     pub past_limit : Gives (codes "interp create -safe c; c limit commands -value 3; catch {c eval {set a 1; set b 2; set d 3; set e 4}} m; c limit commands -value {}; list $m [c eval {info vars}]") (codes "{command count limit exceeded} {a b d}")
     pub nested_limit : Gives (codes "interp create c; c eval {interp create g}; c limit commands -value 4; set r [catch {c eval {g eval {set a 1; set b 2; set d 3}}} m]; c limit commands -value {}; list $r $m [c eval {g eval {info cmdcount}}]") (codes "1 {command count limit exceeded} 3")
     pub wider_limit : Gives (codes "interp create c; c eval {interp create g}; c limit commands -value 5; set r [catch {c eval {g eval {set a 1; set b 2; set d 3}}} m]; c limit commands -value {}; list $r $m [c eval {g eval {info cmdcount}}]") (codes "0 3 4")
-    pub own_limit : Gives (codes "interp create -safe c; catch {c eval {interp limit {} commands -value 5}} m; set m") (codes "permission denied")
-    pub hidden : Gives (codes "interp create -safe c; interp hidden c") (codes "open close gets puts read eof flush source exit")
-    pub safe_below_safe : Gives (codes "interp create -safe c; c eval {interp create g; interp issafe g}") (codes "1")
-    pub hidden_exit : Gives (codes "interp create -safe c; catch {c eval {exit}} m; set m") (codes "invalid command name \"exit\"")
+    pub own_limit : Gives (codes
+        "interp create -safe c; catch {c eval {interp limit {} commands -value 5}} m; set m")
+        (codes "permission denied")
+    pub hidden : Gives (codes "interp create -safe c; interp hidden c")
+        (codes "open close gets puts read eof flush source exit")
+    pub safe_below_safe : Gives (codes
+        "interp create -safe c; c eval {interp create g; interp issafe g}") (codes "1")
+    pub hidden_exit : Gives (codes "interp create -safe c; catch {c eval {exit}} m; set m")
+        (codes "invalid command name \"exit\"")
     pub unset_last : Gives (codes "set a 1; set b 2; unset a; set a 3; info vars") (codes "b a")
-    pub loose_break_in_proc : Gives (codes "proc p {} {break}; list [catch {break}] [catch p m] $m") (codes "3 1 {invoked \"break\" outside of a loop}")
-    pub linked : Gives (codes "proc add {n} {upvar 1 $n v; incr v 2}; set k 5; add k; set k") (codes "7")
-    pub by_hidden_door : Gives (codes "interp create -safe c; catch {c eval {exit}} m; interp invokehidden c puts hi; set m") (codes "invalid command name \"exit\"")
+    pub loose_break_in_proc : Gives (codes "proc p {} {break}; list [catch {break}] [catch p m] $m")
+        (codes "3 1 {invoked \"break\" outside of a loop}")
+    pub linked : Gives (codes "proc add {n} {upvar 1 $n v; incr v 2}; set k 5; add k; set k")
+        (codes "7")
+    pub by_hidden_door : Gives (codes
+        "interp create -safe c; catch {c eval {exit}} m; interp invokehidden c puts hi; set m")
+        (codes "invalid command name \"exit\"")
     pub no_exposing : Gives (codes "interp create -safe c; c eval {interp create g; list [interp issafe g] [catch {interp expose g exit} m] $m}") (codes "1 1 {permission denied}")
     pub in_use : Gives (codes "interp create -safe c; proc kill {} {interp delete c}; interp alias c kill {} kill; c eval {list [catch kill m] $m}") (codes "1 {interpreter \"c\" is in use}")
-    pub parameters : Gives (codes "proc f {a {b 2} args} {list $a $b $args}; list [f 1] [f 1 3 4 5] [catch f m] $m") (codes "{1 2 {}} {1 3 {4 5}} 1 {wrong # args: should be \"f a ?b? ?arg ...?\"}")
-    pub locals_of_caller : Gives (codes "interp alias {} put {} set; proc f {} {put v 1; info locals}; f") (codes "v")
-    pub uplevel : Gives (codes "proc up {} {uplevel {set a 5}}; proc g {} {up; set a}; g") (codes "5")
+    pub parameters : Gives (codes
+        "proc f {a {b 2} args} {list $a $b $args}; list [f 1] [f 1 3 4 5] [catch f m] $m")
+        (codes "{1 2 {}} {1 3 {4 5}} 1 {wrong # args: should be \"f a ?b? ?arg ...?\"}")
+    pub locals_of_caller : Gives (codes
+        "interp alias {} put {} set; proc f {} {put v 1; info locals}; f") (codes "v")
+    pub uplevel : Gives (codes "proc up {} {uplevel {set a 5}}; proc g {} {up; set a}; g")
+        (codes "5")
     pub level_words : Gives (codes "proc f args {info level 0}; f a {b c}") (codes "f a {b c}")
     pub link_makes_none : Gives (codes "proc h {} {upvar #0 nope v; info vars}; h") []
     pub alias_counts : Gives (codes "interp create -safe c; proc answer k {interp eval c [list set seen $k]; list yes}; interp alias c ask {} answer; c eval {list [ask q] $seen}") (codes "yes q")
     pub alias_words : Gives (codes "interp alias {} p {} list x; p {a b} c") (codes "x {a b} c")
     pub turns_counted : Gives (codes "foreach x {a b c} {set y $x}; info cmdcount") (codes "8")
-    pub hidden_below : Gives (codes "interp create -safe c; c eval {interp create g; interp hidden g}") (codes "open close gets puts read eof flush source exit")
+    pub hidden_below : Gives (codes
+        "interp create -safe c; c eval {interp create g; interp hidden g}")
+        (codes "open close gets puts read eof flush source exit")
     pub missing_counted : Gives (codes "catch {nosuch}; info cmdcount") (codes "3")
     pub padded : Gives (codes "foreach {a b} {1 2 3} {set l [list $a $b]}; set l") (codes "3 {}")
-    pub no_child_given_away : Fails (codes "interp create c; rename c d") (codes "\"c\" already exists")
+    pub no_child_given_away : Fails (codes "interp create c; rename c d")
+        (codes "\"c\" already exists")
     pub deleted_by_name : Gives (codes "interp create c; rename c {}; interp exists c") (codes "0")
-    pub hidden_by_name : Gives (codes "interp hide {} append; catch {append a b} m; set m") (codes "invalid command name \"append\"")
+    pub hidden_by_name : Gives (codes "interp hide {} append; catch {append a b} m; set m")
+        (codes "invalid command name \"append\"")
     pub returns : Gives (codes "proc f {} {return a; list b}; f") (codes "a")
     pub returned_code : Fails (codes "return -code 7 x") (codes "command returned bad code: 7")
     pub returned_level : Fails (codes "return -level 2 x") (codes "command returned bad code: 2")
-    pub caught_return : Gives (codes "list [catch {return -code 7 -level 2 x} m o] $m $o") (codes "2 x {-code 7 -level 2}")
+    pub caught_return : Gives (codes "list [catch {return -code 7 -level 2 x} m o] $m $o")
+        (codes "2 x {-code 7 -level 2}")
     pub returned_options : Gives (codes "proc f {} {return -code 9 -options {-code error -errorcode {A 1}} x}; list [catch f m o] $m $o") (codes "1 x {-code 1 -level 0 -errorcode {A 1}}")
-    pub later_options_win : Gives (codes "proc f {} {return -options {-code error} -code ok x}; catch f") (codes "0")
+    pub later_options_win : Gives (codes
+        "proc f {} {return -options {-code error} -code ok x}; catch f") (codes "0")
     pub bad_code : Fails (codes "return -code broke x") (codes "bad completion code \"broke\"")
     pub bad_return_level : Fails (codes "return -level -1 x") (codes "bad option \"-1\"")
     pub redefined : Gives (codes "interp create -safe c; proc redo {} {c eval {proc f {} {return new}}}; interp alias c redo {} redo; c eval {proc f {} {redo; return old}; list [f] [f]}") (codes "old new")
     pub asked : Gives (codes "interp create -safe c; proc answer k {interp eval c [list set seen $k]; return yes}; interp alias c ask {} answer; c eval {list [ask q] $seen}") (codes "yes q")
-    pub division : Gives (codes "list [expr {-7 / 2}] [expr {-7 % 2}] [expr {-2 ** 2}]") (codes "-4 1 4")
+    pub division : Gives (codes "list [expr {-7 / 2}] [expr {-7 % 2}] [expr {-2 ** 2}]")
+        (codes "-4 1 4")
     pub sum_overflow : Fails (codes "expr {9223372036854775807 + 1}") (codes "integer overflow")
     pub least : Gives (codes "expr {-9223372036854775808}") (codes "-9223372036854775808")
     pub octal_sum : Gives (codes "expr {010 + 1}") (codes "9")
     pub no_octal : Fails (codes "expr {08 + 1}") (codes "syntax error in expression \"08 + 1\"")
-    pub powers : Gives (codes "list [expr {2 ** 3 ** 2}] [expr {1 << 62}] [expr {-1 >> 70}] [expr {~5 & 0xff}]") (codes "512 4611686018427387904 -1 250")
+    pub powers : Gives (codes
+        "list [expr {2 ** 3 ** 2}] [expr {1 << 62}] [expr {-1 >> 70}] [expr {~5 & 0xff}]")
+        (codes "512 4611686018427387904 -1 250")
     pub shift_overflow : Fails (codes "expr {1 << 63}") (codes "integer overflow")
     pub lazy_and : Gives (codes "set z 0; expr {0 && [set z 1]}; set z") (codes "0")
     pub lazy_or : Gives (codes "set z 0; list [expr {1 || [set z 1]}] $z") (codes "1 0")
     pub lazy_choice : Gives (codes "set z 0; list [expr {1 ? 2 : [set z 1]}] $z") (codes "2 0")
     pub from_the_left : Gives (codes "set x 1; expr {$x + [incr x] * $x}") (codes "5")
     pub joined : Gives (codes "set x 3; expr $x * (1 + 1)") (codes "6")
-    pub operand_ends : Gives (codes "list [catch {expr {[break] + 1}}] [catch {expr {1 / 0}} m] $m") (codes "3 1 {divide by zero}")
-    pub read_whole : Gives (codes "set z 0; list [catch {expr {[set z 1] +}} m] $m $z") (codes "1 {syntax error in expression \"[set z 1] +\"} 0")
-    pub non_numeric : Fails (codes "set x a; expr {1 + $x}") (codes "can't use non-numeric string as operand of \"+\"")
+    pub operand_ends : Gives (codes "list [catch {expr {[break] + 1}}] [catch {expr {1 / 0}} m] $m")
+        (codes "3 1 {divide by zero}")
+    pub read_whole : Gives (codes "set z 0; list [catch {expr {[set z 1] +}} m] $m $z")
+        (codes "1 {syntax error in expression \"[set z 1] +\"} 0")
+    pub non_numeric : Fails (codes "set x a; expr {1 + $x}")
+        (codes "can't use non-numeric string as operand of \"+\"")
     pub final_number : Gives (codes "list [expr {\"0x10\"}] [expr {\" a \"}]") (codes "16 { a }")
-    pub no_expression : Fails (codes "expr") (codes "wrong # args: should be \"expr arg ?arg ...?\"")
+    pub no_expression : Fails (codes "expr")
+        (codes "wrong # args: should be \"expr arg ?arg ...?\"")
     pub compared_tens : Gives9 (codes "expr {010 == 10}") (codes "1")
     pub child_style : Gives9 (codes "interp create c; c eval {expr {-010}}") (codes "-10")
-    pub loops : Gives (codes "set s 0; for {set i 0} {$i < 5} {incr i} {if {$i == 3} continue; incr s $i}; set s") (codes "7")
-    pub ends_the_loop : Gives (codes "proc q {} {return -code break}; while 1 {q}; set z ok") (codes "ok")
-    pub else_branch : Gives (codes "if 0 then {list a} elseif {1 > 2} {list b} else {list c}") (codes "c")
+    pub loops : Gives (codes
+        "set s 0; for {set i 0} {$i < 5} {incr i} {if {$i == 3} continue; incr s $i}; set s")
+        (codes "7")
+    pub ends_the_loop : Gives (codes "proc q {} {return -code break}; while 1 {q}; set z ok")
+        (codes "ok")
+    pub else_branch : Gives (codes "if 0 then {list a} elseif {1 > 2} {list b} else {list c}")
+        (codes "c")
     pub elseif_branch : Gives (codes "if no {list a} elseif yes then {list b} {list c}") (codes "b")
     pub no_branch : Gives (codes "if 0 {list a}") []
     pub words_first : Gives (codes "set z 0; list [catch {if {[set z 1]} {list a} elseif} m] $m $z") (codes "1 {wrong # args: should be \"if expr1 ?then? body1 ?elseif expr2 ?then? body2 ...? ?else? ?bodyN?\"} 0")
     pub behind_else : Fails (codes "if 0 {list a} else {list b} {list c}") (codes "wrong # args: should be \"if expr1 ?then? body1 ?elseif expr2 ?then? body2 ...? ?else? ?bodyN?\"")
-    pub later_condition : Gives (codes "set z 0; if 1 {list a} elseif {[set z 1]} {list b}; set z") (codes "0")
-    pub no_boolean : Fails (codes "if {\"maybe\"} {list a}") (codes "expected boolean value but got \"maybe\"")
-    pub loop_gives_nothing : Gives (codes "set i 0; list [while {$i < 2} {incr i}] $i") (codes "{} 2")
+    pub later_condition : Gives (codes "set z 0; if 1 {list a} elseif {[set z 1]} {list b}; set z")
+        (codes "0")
+    pub no_boolean : Fails (codes "if {\"maybe\"} {list a}")
+        (codes "expected boolean value but got \"maybe\"")
+    pub loop_gives_nothing : Gives (codes "set i 0; list [while {$i < 2} {incr i}] $i")
+        (codes "{} 2")
     pub while_counted : Gives (codes "set i 0; while {$i < 2} {incr i}; info cmdcount") (codes "7")
-    pub next_breaks : Gives (codes "for {set i 0; set n 0} 1 {if {$i == 2} break; incr i} {incr n}; list $i $n") (codes "2 3")
+    pub next_breaks : Gives (codes
+        "for {set i 0; set n 0} 1 {if {$i == 2} break; incr i} {incr n}; list $i $n") (codes "2 3")
     pub next_continues : Gives (codes "catch {for {} 1 continue {}}") (codes "4")
-    pub start_ends : Gives (codes "set z 0; list [catch {for {error a} 1 {} {set z 1}} m] $m $z") (codes "1 a 0")
+    pub start_ends : Gives (codes "set z 0; list [catch {for {error a} 1 {} {set z 1}} m] $m $z")
+        (codes "1 a 0")
     pub stopped_loop : Gives (codes "interp create -safe c; c limit commands -value 20; set r [catch {c eval {catch {while 1 {}} y}} m]; c limit commands -value {}; list $r $m [c eval {info cmdcount}] [c eval {info exists y}]") (codes "1 {command count limit exceeded} 21 0")
     pub loop_stopped : Stops 50 (codes "catch {while 1 {}}")
     pub turns_refused : Stops 6 (codes "foreach x {a b c} {set y $x}")
     pub turns_made : GivesWithin 7 (codes "foreach x {a b c} {set y $x}") []
     pub bad_list : Fails (codes "llength \"a {b\"") (codes "unmatched open brace in list")
-    pub matching : Gives (codes "list [string match {[a-c]?*} bz] [string match {[a-c]?*} b] [dict get {a 1 a 2} a]") (codes "1 0 2")
+    pub matching : Gives (codes
+        "list [string match {[a-c]?*} bz] [string match {[a-c]?*} b] [dict get {a 1 a 2} a]")
+        (codes "1 0 2")
     pub string_map : Gives (codes "string map {a b b c} aabz") (codes "bbcz")
     pub format : Gives (codes "format {%05d/%-4s/%x/%c} -42 ab 255 65") (codes "-0042/ab  /ff/A")
-    pub format_texts : Gives (codes "format {%+d|%.2s|%5s|%-5s|%o} 7 abc ab ab 8") (codes "+7|ab|   ab|ab   |10")
-    pub lappend : Gives (codes "set l {a b}; lappend l {c d} {}; list [llength $l] [lindex $l end] [lrange $l 1 2]") (codes "4 {} {b {c d}}")
+    pub format_texts : Gives (codes "format {%+d|%.2s|%5s|%-5s|%o} 7 abc ab ab 8")
+        (codes "+7|ab|   ab|ab   |10")
+    pub lappend : Gives (codes
+        "set l {a b}; lappend l {c d} {}; list [llength $l] [lindex $l end] [lrange $l 1 2]")
+        (codes "4 {} {b {c d}}")
     pub lappend_makes : Gives (codes "lappend l; lappend l a; set l") (codes "a")
     pub split : Gives (codes "split a,b,,c ,") (codes "a b {} c")
-    pub kept_integer : Gives (codes "set x 010; list [expr {$x + 0}] [llength $x] $x [incr x] $x") (codes "8 1 010 9 9")
-    pub kept_dict : Gives (codes "set d {k 1 k 2}; dict get $d k; list [dict size $d] [llength $d] [lindex $d 1] $d") (codes "1 4 1 {k 1 k 2}")
-    pub kept_list : Gives (codes "set l {a  b}; llength $l; append l {  c}; list [llength $l] $l") (codes "3 {a  b  c}")
+    pub kept_integer : Gives (codes "set x 010; list [expr {$x + 0}] [llength $x] $x [incr x] $x")
+        (codes "8 1 010 9 9")
+    pub kept_dict : Gives (codes
+        "set d {k 1 k 2}; dict get $d k; list [dict size $d] [llength $d] [lindex $d 1] $d")
+        (codes "1 4 1 {k 1 k 2}")
+    pub kept_list : Gives (codes "set l {a  b}; llength $l; append l {  c}; list [llength $l] $l")
+        (codes "3 {a  b  c}")
     pub string_parts : Gives (codes "list [string length h\\u00e9llo] [string first {} abc] [string compare a B] [string compare -nocase a B]") (codes "5 -1 1 -1")
     pub string_is : Gives (codes "list [string is digit 12] [string is alpha {}] [string is alpha -strict {}] [string is list -strict {}]") (codes "1 1 0 1")
-    pub lassign : Gives (codes "list [lassign {a b c} x y] $x $y [lassign {a} x y] $x $y") (codes "c a b {} a {}")
+    pub lassign : Gives (codes "list [lassign {a b c} x y] $x $y [lassign {a} x y] $x $y")
+        (codes "c a b {} a {}")
     pub insertion : Gives (codes "list [linsert {a b} end c] [lreplace {a b c} 1 1 x y] [lreverse {a b c}] [lrepeat 2 a b] [concat {a b} { c }] [join {a b} -]") (codes "{a b c} {a x y c} {c b a} {a b a b} {a b c} a-b")
     pub dict_built : Gives (codes "set d [dict create a 1 b 2 a 3]; list $d [dict exists $d b] [dict exists $d c] [dict replace $d c 4] [dict remove $d a]") (codes "{a 3 b 2} 1 0 {a 3 b 2 c 4} {b 2}")
     pub missing_key : Fails (codes "dict get {a 1} b") (codes "key \"b\" not known in dictionary")
     pub other_subcommand : Fails (codes "dict nosuch") (codes "unknown subcommand \"nosuch\"")
-    pub decimal_ten : Gives9 (codes "list [expr {010 + 1}] [expr {08 + 1}] [expr {0o10 + 1}] [lindex {a b c} 01]") (codes "11 9 9 b")
+    pub decimal_ten : Gives9 (codes
+        "list [expr {010 + 1}] [expr {08 + 1}] [expr {0o10 + 1}] [lindex {a b c} 01]")
+        (codes "11 9 9 b")

@@ -35,7 +35,8 @@ spread false text k = k (text ∷ [])
 abbrev pub script : Text → Program
 script text = inside Deeper (Commands (read_script text).commands (read_script text).fault []) done
 
--- After its last command comes its fault, which is the error; else its result is the last command's.
+-- After its last command comes its fault, which is the error; else its result is the last
+-- command's.
 abbrev pub over : Option Fault → Text → Program
 over None last = done (ok last)
 over (Some fault) last = fails (message_of fault)
@@ -43,9 +44,11 @@ over (Some fault) last = fails (message_of fault)
 -- The first command that isn't ok ends it.
 abbrev pub commands : List (List WordRead) → Option Fault → Text → Program
 commands [] fault last = over fault last
-commands (words ∷ rest) fault last = go (Words words []) (on_ok (λ text. go (Commands rest fault text) done))
+commands (words ∷ rest) fault last = go (Words words [])
+    (on_ok (λ text. go (Commands rest fault text) done))
 
--- A command makes its step once its words are there, and before its name is looked up. One that has no words is none.
+-- A command makes its step once its words are there, and before its name is looked up. One that has
+-- no words is none.
 abbrev pub charged : List Text → Program
 charged [] = done (ok [])
 charged (word ∷ words) = act Charge (λ T. go (Call (word ∷ words)) done)
@@ -53,20 +56,26 @@ charged (word ∷ words) = act Charge (λ T. go (Call (word ∷ words)) done)
 -- Words are substituted from the left.
 abbrev pub words : List WordRead → List Text → Program
 words [] before = charged before
-words (word ∷ rest) before = go (Parts word.parts [] []) (on_ok (λ text. spread word.expand text (λ more. go (Words rest (before ++ more)) done)))
+words (word ∷ rest) before = go (Parts word.parts [] [])
+    (on_ok (λ text. spread word.expand text (λ more. go (Words rest (before ++ more)) done)))
 
 -- the value of the element whose key is there goes to the word's text before it
 abbrev pub closed : List Open → Text → List Part → Program
 closed [] key rest = done (ok key)
 closed (element ∷ elements) key rest =
-    reads (element_text element.name key) (λ value. grown (element.before ++ value) (λ all. go (Parts rest elements all) done))
+    reads (element_text element.name key)
+    (λ value. grown (element.before ++ value) (λ all. go (Parts rest elements all) done))
 
 -- The parts of a word are substituted from the left, once.
 abbrev pub parts : List Part → List Open → Text → Program
 parts [] elements before = done (ok before)
-parts (part.Literal more ∷ rest) elements before = grown (before ++ more) (λ all. go (Parts rest elements all) done)
-parts (part.Variable name ∷ rest) elements before = reads name (λ value. grown (before ++ value) (λ all. go (Parts rest elements all) done))
-parts (part.Element name ∷ rest) elements before = go (Parts rest (record { name = name; before = before } ∷ elements) []) done
+parts (part.Literal more ∷ rest) elements before = grown (before ++ more)
+    (λ all. go (Parts rest elements all) done)
+parts (part.Variable name ∷ rest) elements before = reads name
+    (λ value. grown (before ++ value) (λ all. go (Parts rest elements all) done))
+parts (part.Element name ∷ rest) elements before = go
+    (Parts rest (record { name = name; before = before } ∷ elements) []) done
 parts (part.EndElement ∷ rest) elements key = closed elements key rest
 parts (part.Script text ∷ rest) elements before =
-    go (Script text) (on_ok (λ value. grown (before ++ value) (λ all. go (Parts rest elements all) done)))
+    go (Script text) (on_ok
+    (λ value. grown (before ++ value) (λ all. go (Parts rest elements all) done)))

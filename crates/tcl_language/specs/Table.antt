@@ -5,7 +5,9 @@ use Rattle.std.specs.Map.{lookup}
 use Rattle.tcl_core.specs.Paths.{Text}
 use Rattle.tcl_core.specs.Endings.{Completion, ok, settle}
 use Rattle.tcl_core.specs.Entries.{Entry}
-use Rattle.tcl_core.specs.Entries.Entry.{Eval, CallWords, InvokeHidden, SetAlias, ClearAlias, Hide, Expose, SetCountLimit, SetDepthLimit, Create, Delete, Ask, AskHost}
+use Rattle.tcl_core.specs.Entries.Entry.{Eval, CallWords, InvokeHidden, SetAlias, ClearAlias, Hide}
+use Rattle.tcl_core.specs.Entries.Entry.{Expose, SetCountLimit, SetDepthLimit, Create, Delete, Ask}
+use Rattle.tcl_core.specs.Entries.Entry.{AskHost}
 use Rattle.tcl_core.specs.Programs.Act.{Charge}
 use Rattle.tcl_core.specs.Programs.Wrap.{Deeper, Framed}
 use Rattle.tcl_core.specs.Programs.Prog.{done, act, go, inside}
@@ -16,9 +18,12 @@ use Rattle.tcl_interpreter.specs.declared.builtin.Builtin.TheVariants as name
 use Rattle.tcl_interpreter.specs.declared.command.Command.{Command}
 use Rattle.tcl_interpreter.specs.declared.command.Command.TheVariants as command
 use Rattle.tcl_language.specs.Instructions.{Instr, Program, fails, gives, look}
-use Rattle.tcl_language.specs.Instructions.Instr.{Script, Commands, Words, Parts, Call, Target, Invoke, Hidden, Foreach, Expression, While, For, Serve}
+use Rattle.tcl_language.specs.Instructions.Instr.{Script, Commands, Words, Parts, Call, Target}
+use Rattle.tcl_language.specs.Instructions.Instr.{Invoke, Hidden, Foreach, Expression, While, For}
+use Rattle.tcl_language.specs.Instructions.Instr.{Serve}
 use Rattle.tcl_language.specs.Faults.{invalid_command, invalid_hidden, bad_name}
-use Rattle.tcl_lists.specs.Lists.{lindex_of, linsert_of, llength_of, lrange_of, lrepeat_of, lreplace_of, lreverse_of}
+use Rattle.tcl_lists.specs.Lists.{lindex_of, linsert_of, llength_of, lrange_of, lrepeat_of}
+use Rattle.tcl_lists.specs.Lists.{lreplace_of, lreverse_of}
 use Rattle.tcl_list_texts.specs.Joining.{concat_of, join_of}
 use Rattle.tcl_list_texts.specs.Splitting.{split_of}
 use Rattle.tcl_strings.specs.Subcommands.{string_of}
@@ -35,7 +40,8 @@ use Rattle.tcl_language.specs.Interpreters as interpreters
 use Rattle.tcl_language.specs.Control.{at_level, level_over}
 use Rattle.tcl_language.specs.Naming.{command_name}
 
--- the program of a built-in command with its arguments; a command that isn't written yet is no command
+-- the program of a built-in command with its arguments; a command that isn't written yet is no
+-- command
 abbrev pub builtin : Integers → Builtin → Text → List Text → Program
 builtin style name.Set word args = variables.set args
 builtin style name.Unset word args = variables.unset args
@@ -89,7 +95,8 @@ dispatch style word args missing None = fails (missing word)
 dispatch style word args missing (Some (command.Builtin b)) = builtin style b word args
 dispatch style word args missing (Some (command.Procedure p)) = control.procedure p word args
 dispatch style word args missing (Some (command.Alias a)) = interpreters.call_alias a word args
-dispatch style word args missing (Some command.Child) = interpreters.child style (child_name (command_name word)) args
+dispatch style word args missing (Some command.Child) = interpreters.child style
+    (child_name (command_name word)) args
 
 -- on with the name by which a command is kept, or the error that no command has such a name
 abbrev pub kept_name : Option Text → Text → (Text → Program) → Program
@@ -99,12 +106,15 @@ kept_name (Some plain) word k = k plain
 -- A call looks the first word up among the commands; among these no hidden name is found.
 abbrev pub called : Integers → List Text → Program
 called style [] = done (ok [])
-called style (word ∷ args) = kept_name (command_name word) word (λ plain. look (λ n. dispatch style word args invalid_command (lookup (bytes_eq plain) n.own.commands)))
+called style (word ∷ args) = kept_name (command_name word) word
+    (λ plain. look (λ n. dispatch style word args invalid_command
+    (lookup (bytes_eq plain) n.own.commands)))
 
 -- and one of a hidden command among the hidden ones
 abbrev pub invoked : Integers → List Text → Program
 invoked style [] = done (ok [])
-invoked style (word ∷ args) = look (λ n. dispatch style word args invalid_hidden (lookup (bytes_eq word) n.own.hidden))
+invoked style (word ∷ args) = look
+    (λ n. dispatch style word args invalid_hidden (lookup (bytes_eq word) n.own.hidden))
 
 -- no word is one empty word
 abbrev pub some_words : List Text → List Text
@@ -114,23 +124,27 @@ some_words (word ∷ words) = word ∷ words
 abbrev pub settled : Completion → Program
 settled c = done (settle c)
 
--- a hidden command is counted, then nested, then looked up, at level 0 where that is asked for; and settled
+-- a hidden command is counted, then nested, then looked up, at level 0 where that is asked for; and
+-- settled
 abbrev pub invoked_at : Bool → List Text → Program
-invoked_at true words = look (λ n. inside (Framed (at_level 0 n.own) level_over) (Invoke words) settled)
+invoked_at true words = look (λ n. inside (Framed (at_level 0 n.own) level_over) (Invoke words)
+    settled)
 invoked_at false words = go (Invoke words) settled
 
 -- What another interpreter, or the outside, asks for.
 abbrev pub serve : Integers → Entry → Program
 serve style (Eval text) = go (Script text) settled
 serve style (CallWords words) = act Charge (λ T. go (Target (some_words words)) done)
-serve style (InvokeHidden is_global words) = act Charge (λ T. invoked_at is_global (some_words words))
+serve style (InvokeHidden is_global words) = act Charge
+    (λ T. invoked_at is_global (some_words words))
 serve style (SetAlias name up down words) = interpreters.sets_alias name up down words
 serve style (ClearAlias name) = interpreters.clears_alias name
 serve style (Hide name hidden) = interpreters.hides name hidden
 serve style (Expose hidden name) = interpreters.exposes hidden name
 serve style (SetCountLimit limit) = interpreters.limits limit
 serve style (SetDepthLimit limit) = interpreters.limits_depth limit
-serve style (Create None safe) = look (λ n. interpreters.creates (interpreters.free_name n.own) safe)
+serve style (Create None safe) = look
+    (λ n. interpreters.creates (interpreters.free_name n.own) safe)
 serve style (Create (Some name) safe) = interpreters.creates name safe
 serve style (Delete name) = interpreters.deletes name
 serve style (Ask question) = interpreters.answers question

@@ -3,7 +3,8 @@ use Rattle.std.specs.Prelude.{Bool, true, false, List, [], ◌∷◌, ◌==◌, 
 use Rattle.tcl_core.specs.Paths.{Text}
 use Rattle.tcl_list_texts.specs.Joining.{joined, filled}
 
--- White space is trimmed off both ends of each word, what is then empty left out, and the rest joined by one space.
+-- White space is trimmed off both ends of each word, what is then empty left out, and the rest
+-- joined by one space.
 abbrev pub concat : List Text → Text
 concat xs = joined (codes " ") (filled xs)
 

@@ -1,4 +1,5 @@
-//! What scripts and commands mean: the program of each command. The definitions stand in `specs/`, and each function here is a law.
+//! What scripts and commands mean: the program of each command. The definitions stand in `specs/`,
+//! and each function here is a law.
 #![tactic(auto)]
 
 ghost use Rattle.tcl_language.specs.Branching.{IfIsRead};

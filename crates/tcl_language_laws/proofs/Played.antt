@@ -16,14 +16,14 @@ use Rattle.tcl_core.specs.Programs.Wrap.{Deeper, Framed}
 use Rattle.tcl_core.specs.Programs.Next.{On, TooDeep, Off}
 use Rattle.tcl_core.specs.Programs.Prog.{done, exit, act, go, inside, call, wait}
 use Rattle.tcl_core.specs.Runs.{carried, reached, entering}
-use Rattle.tcl_core.specs.Threads.{Threads, Decides, Opens_so}
-use Rattle.tcl_core.specs.Threads.Threads.{completed, exited, acted as acts, refused, went, passed, wrapped as wraps, wrapped_passed, too_deep, shut, called, called_passed, unreached, called_out, heard}
+use Rattle.tcl_core.specs.Execution.{Executes, Decides, Opens_so}
+use Rattle.tcl_core.specs.Execution.Executes.{completed, exited, acted as acts, refused, went, passed, wrapped as wraps, wrapped_passed, too_deep, shut, called, called_passed, unreached, called_out, heard}
 use Rattle.tcl_language.specs.Playing as playing
 use Rattle.tcl_language.specs.Playing.{Played, play, Any, PlayIsRun}
 
 module _ {O I : Type 0} (prog : Table O I) where
   abbrev Goes : Tree O → Place → Prog O I → Tree O → Reply → Type 0
-  Goes T p x V r = Threads Any prog T tt p x V tt r
+  Goes T p x V r = Executes Any prog T tt p x V tt r
 
   abbrev IsRun : Tree O → Place → Prog O I → Played prog → Type 0
   IsRun T p x None = Unit {0}

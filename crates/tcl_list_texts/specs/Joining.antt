@@ -40,7 +40,8 @@ filled (w ∷ words) = with_part (trimmed w) (filled words)
 abbrev pub concat_of : List (List ℕ) → Outcome
 concat_of words = limited (joined (codes " ") (filled words))
 
--- what stands between a text and another that is added to it: a space, if there is anything of the first
+-- what stands between a text and another that is added to it: a space, if there is anything of the
+-- first
 abbrev pub gap : List ℕ → List ℕ
 gap [] = []
 gap (b ∷ made) = codes " "

@@ -10,7 +10,8 @@ use Rattle.tcl_lists.specs.Lists.{Texts, list_value}
 abbrev pub Parts : Type 0
 Parts = List ℕ × List (List ℕ)
 
--- what a character makes of the parts behind it: a separator ends an empty part, any other character is put before the first
+-- what a character makes of the parts behind it: a separator ends an empty part, any other
+-- character is put before the first
 abbrev pub before_parts : Bool → ℕ → Parts → Parts
 before_parts true c p = ([], p.0 ∷ p.1)
 before_parts false c p = (c ∷ p.0, p.1)
@@ -27,7 +28,8 @@ part_texts p = text_of p.0 ∷ map text_of p.1
 abbrev pub letter_text : ℕ → List ℕ
 letter_text c = text_of (c ∷ [])
 
--- The parts of a text between characters of a set; each character where the set is empty. An empty text has none.
+-- The parts of a text between characters of a set; each character where the set is empty. An empty
+-- text has none.
 abbrev pub split_at : List ℕ → List ℕ → Texts
 split_at set [] = []
 split_at [] (c ∷ cs) = map letter_text (c ∷ cs)

@@ -1,12 +1,14 @@
 //! Texts of several: `join` and `concat`.
-ghost use Rattle.std.specs.Prelude.{◌≡◌, ◌≤◌, ◌++◌, ◌∷◌, [], ℕ, List as Bytes, length, codes, unwrap_or, OnOk, IfOk, IfSome, IfErr, Ok};
+ghost use Rattle.std.specs.Prelude.{◌≡◌, ◌≤◌, ◌++◌, ◌∷◌, [], ℕ, List as Bytes, length, codes};
+ghost use Rattle.std.specs.Prelude.{unwrap_or, OnOk, IfOk, IfSome, IfErr, Ok};
 ghost use Rattle.std.specs.Option.{option_copied};
 ghost use Rattle.std.specs.Str.{chars};
 ghost use Rattle.std.specs.String.{string_bytes};
 ghost use Rattle.tcl_words.specs.Outcomes.{Gives, Refuses};
 ghost use Rattle.tcl_words.specs.Limits.{limited};
 ghost use Rattle.tcl_characters.specs.Texts.{text_of, trim_start, trim_end};
-ghost use Rattle.tcl_list_texts.specs.Joining.{joined, join_of, trimmed, with_part, gap, onto, concat_of};
+ghost use Rattle.tcl_list_texts.specs.Joining.{joined, join_of, trimmed, with_part, gap, onto};
+ghost use Rattle.tcl_list_texts.specs.Joining.{concat_of};
 
 use std::alloc::{AllocError, Global};
 use tcl_characters::trimming::{trim_left, trim_right};
@@ -34,7 +36,9 @@ fn add(alloc: Global, made: &mut String, separator: &str, more: &str) -> Result<
     requires { length (string_bytes made.old) ≤ 16777216 }
     ensures added { OnOk result (string_bytes made.new ≡ string_bytes made.old ++ (separator.now ++ more.now)) }
     ensures within { OnOk result (length (string_bytes made.new) ≤ 16777216) }
-    ensures refused { (rest : Bytes ℕ) → IfErr result (λ e. Refuses e (limited (string_bytes made.old ++ ((separator.now ++ more.now) ++ rest)))) }
+    ensures refused { (rest : Bytes ℕ) → IfErr result
+        (λ e. Refuses e (limited
+        (string_bytes made.old ++ ((separator.now ++ more.now) ++ rest)))) }
 {
     let room = MOST_BYTES - made.len();
     if separator.len() > room || more.len() > room - separator.len() {
@@ -68,9 +72,12 @@ fn add_value(
     value: &Value,
 ) -> Result<(), Refusal>
     requires { length (string_bytes made.old) ≤ 16777216 }
-    ensures added { OnOk result (string_bytes made.new ≡ string_bytes made.old ++ (separator.now ++ value.now)) }
+    ensures added { OnOk result (string_bytes made.new
+        ≡ string_bytes made.old ++ (separator.now ++ value.now)) }
     ensures within { OnOk result (length (string_bytes made.new) ≤ 16777216) }
-    ensures refused { (rest : Bytes ℕ) → IfErr result (λ e. Refuses e (limited (string_bytes made.old ++ ((separator.now ++ value.now) ++ rest)))) }
+    ensures refused { (rest : Bytes ℕ) → IfErr result
+        (λ e. Refuses e (limited
+        (string_bytes made.old ++ ((separator.now ++ value.now) ++ rest)))) }
 {
     let text = value.text(alloc)?;
     add(alloc, made, separator, text.as_str())
@@ -86,7 +93,8 @@ fn separator_text(alloc: Global, word: Option<&Value>) -> Result<Text, Refusal>
     }
 }
 
-/// `join list ?joinString?`: the elements of the list with a text between any two, a space where none is named.
+/// `join list ?joinString?`: the elements of the list with a text between any two, a space where
+/// none is named.
 ///
 /// # Errors
 /// 241, 101 to 104, 122; want of memory.
@@ -114,12 +122,16 @@ fn gap(made: &str) -> &'static str
     if made.is_empty() { "" } else { " " }
 }
 
-/// Adds what is left of a text without white space at its ends, with a space before it unless it is the first.
+/// Adds what is left of a text without white space at its ends, with a space before it unless it is
+/// the first.
 fn add_part(alloc: Global, made: &mut String, text: &str) -> Result<(), Refusal>
     requires { length (string_bytes made.old) ≤ 16777216 }
-    ensures added { (l : Bytes (Bytes ℕ)) → OnOk result (onto (string_bytes made.new) l ≡ onto (string_bytes made.old) (with_part (trimmed text.now) l)) }
+    ensures added { (l : Bytes (Bytes ℕ)) →
+        OnOk result (onto (string_bytes made.new) l
+        ≡ onto (string_bytes made.old) (with_part (trimmed text.now) l)) }
     ensures within { OnOk result (length (string_bytes made.new) ≤ 16777216) }
-    ensures refused { (l : Bytes (Bytes ℕ)) → IfErr result (λ e. Refuses e (limited (onto (string_bytes made.old) (with_part (trimmed text.now) l)))) }
+    ensures refused { (l : Bytes (Bytes ℕ)) → IfErr result
+        (λ e. Refuses e (limited (onto (string_bytes made.old) (with_part (trimmed text.now) l)))) }
 {
     let part = trimmed(text);
     if part.is_empty() {
@@ -152,8 +164,8 @@ fn concat_all(alloc: Global, words: &[Value]) -> Result<Value, Refusal>
     text_value(alloc, made)
 }
 
-/// `concat ?arg ...?`: the words without white space at their ends, those of which something is left, with a space between
-/// any two. A single word without white space at its ends is handed on.
+/// `concat ?arg ...?`: the words without white space at their ends, those of which something is
+/// left, with a space between any two. A single word without white space at its ends is handed on.
 ///
 /// # Errors
 /// 122; want of memory.

@@ -1,5 +1,6 @@
 //! The parts of a text: `split`.
-ghost use Rattle.std.specs.Prelude.{◌≡◌, ◌≤◌, ◌+◌, ◌++◌, ◌∷◌, [], length, map, unwrap_or, OnOk, IfOk, IfErr, Ok, MatchOption};
+ghost use Rattle.std.specs.Prelude.{◌≡◌, ◌≤◌, ◌+◌, ◌++◌, ◌∷◌, [], length, map, unwrap_or, OnOk};
+ghost use Rattle.std.specs.Prelude.{IfOk, IfErr, Ok, MatchOption};
 ghost use Rattle.std.specs.Option.{option_copied};
 ghost use Rattle.std.specs.Str.{chars};
 ghost use Rattle.std.specs.Char.{encode_utf8};
@@ -7,7 +8,8 @@ ghost use Rattle.std.specs.String.{string_bytes};
 ghost use Rattle.tcl_words.specs.Outcomes.{Gives, Refuses};
 ghost use Rattle.tcl_characters.specs.Texts.{text_of, is_among};
 ghost use Rattle.tcl_lists.specs.Lists.{Texts, list_value};
-ghost use Rattle.tcl_list_texts.specs.Splitting.{parts, part_texts, letter_text, split_at, separators, split_of};
+ghost use Rattle.tcl_list_texts.specs.Splitting.{parts, part_texts, letter_text, split_at};
+ghost use Rattle.tcl_list_texts.specs.Splitting.{separators, split_of};
 
 use std::alloc::Global;
 use tcl_lists::building::list_value;
@@ -18,7 +20,8 @@ use tcl_value::list::List;
 use tcl_value::value::Value;
 use tcl_words::refusal::Refusal;
 
-/// Space, tab, newline and carriage return, between which a text is split where no other characters are named.
+/// Space, tab, newline and carriage return, between which a text is split where no other characters
+/// are named.
 const SEPARATORS: &str = " \t\n\r";
 
 /// Whether a character is one of a set.
@@ -31,7 +34,8 @@ fn is_among(set: &str, letter: char) -> bool
 /// The first character of a text and what follows it.
 fn split_first(text: &str) -> Option<(char, &str)>
     ensures { MatchOption result (chars text.now ≡ [])
-        (λ found. (chars text.now ≡ found.0 ∷ chars found.1.now) × (length text.now ≡ length (encode_utf8 found.0) + length found.1.now)) }
+        (λ found. (chars text.now ≡ found.0 ∷ chars found.1.now) ×
+        (length text.now ≡ length (encode_utf8 found.0) + length found.1.now)) }
 {
     let mut characters = text.chars();
     let first = characters.next()?;
@@ -42,7 +46,8 @@ fn split_first(text: &str) -> Option<(char, &str)>
 fn push_part(alloc: Global, made: &mut List, part: String) -> Result<(), Refusal>
     requires { length (string_bytes part) ≤ 16777216 }
     ensures pushed { OnOk result (made.new ≡ made.old ++ string_bytes part ∷ []) }
-    ensures refused { (rest : Texts) → IfErr result (λ e. Refuses e (list_value (made.old ++ (string_bytes part ∷ rest)))) }
+    ensures refused { (rest : Texts) → IfErr result
+        (λ e. Refuses e (list_value (made.old ++ (string_bytes part ∷ rest)))) }
 {
     let text = Text::from_string(alloc, part)?;
     if let Err(why) = made.push(alloc, Value::from_short_text(text)) {
@@ -54,7 +59,8 @@ fn push_part(alloc: Global, made: &mut List, part: String) -> Result<(), Refusal
 /// The parts of a text between the characters of a set.
 fn split_between(alloc: Global, text: &str, set: &str) -> Result<Value, Refusal>
     requires { length text.now ≤ 16777216 }
-    ensures { Gives (λ value. value) result (list_value (part_texts (parts (chars set.now) (chars text.now)))) }
+    ensures { Gives (λ value. value) result
+        (list_value (part_texts (parts (chars set.now) (chars text.now)))) }
 {
     let mut made = List::new(alloc)?;
     let mut part = String::new(alloc);
@@ -91,7 +97,8 @@ fn split_letters(alloc: Global, text: &str) -> Result<Value, Refusal>
 /// The parts of a text between the characters of a set, or its characters where the set is empty.
 fn split_text(alloc: Global, text: &str, set: &str) -> Result<Value, Refusal>
     requires { length text.now ≤ 16777216 }
-    ensures { Gives (λ value. value) result (list_value (split_at (chars set.now) (chars text.now))) }
+    ensures { Gives (λ value. value) result
+        (list_value (split_at (chars set.now) (chars text.now))) }
 {
     if text.is_empty() {
         return Ok(Value::empty());
@@ -121,8 +128,8 @@ fn separator_text(alloc: Global, word: Option<&Value>) -> Result<Text, Refusal>
     }
 }
 
-/// `split string ?splitChars?`: the parts of the text between characters of a set, which is space, tab, newline and carriage
-/// return where none is named; each character where the set is empty.
+/// `split string ?splitChars?`: the parts of the text between characters of a set, which is space,
+/// tab, newline and carriage return where none is named; each character where the set is empty.
 ///
 /// # Errors
 /// 241, 122; want of memory.

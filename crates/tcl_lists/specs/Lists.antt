@@ -1,5 +1,7 @@
--- The list commands as functions of texts. A value that is read as a list is the list of its elements' texts.
-use Rattle.std.specs.Prelude.{◌≡◌, ℕ, zero, suc, ◌+◌, ℤ, pos, negsuc, List, [], ◌∷◌, ◌++◌, length, reverse, drop, slice_index_or, Ok, Err, codes}
+-- The list commands as functions of texts. A value that is read as a list is the list of its
+-- elements' texts.
+use Rattle.std.specs.Prelude.{◌≡◌, ℕ, zero, suc, ◌+◌, ℤ, pos, negsuc, List, [], ◌∷◌, ◌++◌, length}
+use Rattle.std.specs.Prelude.{reverse, drop, slice_index_or, Ok, Err, codes}
 use Rattle.std.specs.declared.result.Result.{Result}
 use Rattle.tcl_text.specs.declared.integer.Integers.{Integers}
 use Rattle.tcl_text.specs.declared.index.Index.{Index}
@@ -75,7 +77,8 @@ linsert_of style words =
     next (index_word style (length l + 1) p.1) (λ at.
     list_value (before at l ++ p.2 ++ from at l))))
 
--- the elements behind those between two indexes: all that stand from the first place on, but for those between
+-- the elements behind those between two indexes: all that stand from the first place on, but for
+-- those between
 abbrev pub behind_span : Index → Index → Texts → Texts
 behind_span first last l = drop (length (span first last l)) (from first l)
 
@@ -99,7 +102,8 @@ abbrev pub copies : ℕ → Texts → Texts
 copies zero words = []
 copies (suc n) words = words ++ copies n words
 
--- the words, as often as a count says; 245 where it is negative, and `text` is the word that says it
+-- the words, as often as a count says; 245 where it is negative, and `text` is the word that says
+-- it
 abbrev pub counted_copies : List ℕ → Texts → ℤ → Outcome
 counted_copies text words (pos n) = list_value (copies n words)
 counted_copies text words (negsuc n) = Err (bad_count text)
@@ -137,7 +141,8 @@ indexes_of (w ∷ ws) =
     next (list_word w) (λ is.
     next (indexes_of ws) (λ rest. Ok (is ++ rest)))
 
--- Words behind a list: where there are any, the list is read first, then each word as a list of indexes, and then one index after the other.
+-- Words behind a list: where there are any, the list is read first, then each word as a list of
+-- indexes, and then one index after the other.
 abbrev pub at_words : Integers → List ℕ → Texts → Outcome
 at_words style text [] = Ok text
 at_words style text (w ∷ ws) =

@@ -6,7 +6,8 @@ use Rattle.tcl_words.specs.declared.refusal.Refusal.{Refusal}
 use Rattle.tcl_words.specs.Outcomes.{Outcome, Refuses}
 use Rattle.tcl_words.specs.Faults.{too_long}
 use Rattle.tcl_value.specs.declared.value.ChangeError.{ChangeError}
-use Rattle.tcl_value.specs.declared.value.ChangeError.TheVariants.{Memory, TooLong, List as NoList, NoElement}
+use Rattle.tcl_value.specs.declared.value.ChangeError.TheVariants.{Memory, TooLong, List as NoList}
+use Rattle.tcl_value.specs.declared.value.ChangeError.TheVariants.{NoElement}
 
 -- what is told of a place that a list hasn't
 abbrev pub out_of_range : List ℕ

@@ -36,8 +36,10 @@ pub fn push_part(
     requires order { first ≤ end }
     requires within { end ≤ length list.now }
     ensures pushed { OnOk result (made.new ≡ made.old ++ drop first (take end list.now)) }
-    ensures refused { (rest : Texts) → IfErr result (λ e. Refuses e (list_value (made.old ++ (drop first (take end list.now) ++ rest)))) }
-    ensures refused_here { IfErr result (λ e. Refuses e (list_value (made.old ++ drop first (take end list.now)))) }
+    ensures refused { (rest : Texts) → IfErr result
+        (λ e. Refuses e (list_value (made.old ++ (drop first (take end list.now) ++ rest)))) }
+    ensures refused_here { IfErr result
+        (λ e. Refuses e (list_value (made.old ++ drop first (take end list.now)))) }
 {
     'elements: for index in first..end {
         if let Err(why) = made.push_from(list, index) {
@@ -53,7 +55,8 @@ pub fn push_part(
 /// 122 only where no list that begins so is a value; want of memory.
 pub fn push_words(alloc: Global, made: &mut List, words: &[Value]) -> Result<(), Refusal>
     ensures pushed { OnOk result (made.new ≡ made.old ++ words.now) }
-    ensures refused { (rest : Texts) → IfErr result (λ e. Refuses e (list_value (made.old ++ (words.now ++ rest)))) }
+    ensures refused { (rest : Texts) → IfErr result
+        (λ e. Refuses e (list_value (made.old ++ (words.now ++ rest)))) }
     ensures refused_here { IfErr result (λ e. Refuses e (list_value (made.old ++ words.now))) }
 {
     'words: for word in words {
@@ -92,7 +95,8 @@ pub fn spliced_value(
 ) -> Result<Value, Refusal>
     requires order { first ≤ end }
     requires within { end ≤ length list.now }
-    ensures { Gives (λ value. value) result (list_value (take first list.now ++ words.now ++ drop end list.now)) }
+    ensures { Gives (λ value. value) result
+        (list_value (take first list.now ++ words.now ++ drop end list.now)) }
 {
     let mut made = List::new(alloc)?;
     push_part(alloc, &mut made, list, 0, first)?;

@@ -14,19 +14,23 @@ use tcl_text::integer::Integers;
 use tcl_value::value::Value;
 use tcl_words::refusal::Refusal;
 
-/// The words of `lset varName ?index ...? newValue`: the name, those of the indexes, and the new value.
+/// The words of `lset varName ?index ...? newValue`: the name, those of the indexes, and the new
+/// value.
 ///
 /// # Errors
 /// 241 where there are fewer than two; want of memory.
 pub fn lset_words(alloc: Global, words: &[Value]) -> Result<(&Value, &[Value], &Value), Refusal>
-    ensures { Gives (λ p. (p.0.now, p.1.now, p.2.now)) result (first_middle_last (codes "lset varName ?index ...? newValue") words.now) }
+    ensures { Gives (λ p. (p.0.now, p.1.now, p.2.now)) result
+        (first_middle_last (codes "lset varName ?index ...? newValue") words.now) }
 {
     first_middle_last(alloc, words, "lset varName ?index ...? newValue")
 }
 
-/// What is told of index words that spell no lists: a fault of the list that is to be changed comes first.
+/// What is told of index words that spell no lists: a fault of the list that is to be changed comes
+/// first.
 fn list_first(alloc: Global, old: &mut Value, why: Refusal) -> Refusal
-    ensures told { (path : Result Texts (List ℕ)) → Refuses why path → Refuses result (path_or old.old path) }
+    ensures told { (path : Result Texts (List ℕ)) → Refuses why path →
+        Refuses result (path_or old.old path) }
     ensures text { old.new ≡ old.old }
 {
     match why {
@@ -57,7 +61,8 @@ fn set_at_path(
     path: &[Value],
     new: Value,
 ) -> Result<(), Refusal>
-    ensures { Changes result old.old old.new (nested_outcome (element_changed style path.now new old.old)) }
+    ensures { Changes result old.old old.new
+        (nested_outcome (element_changed style path.now new old.old)) }
 {
     match set_element(alloc, style, old, path, new) {
         Ok(()) => {
@@ -68,14 +73,16 @@ fn set_at_path(
     }
 }
 
-/// What `lset varName ?index ...? newValue` makes of the variable's value: another element stands at the first index in its
-/// list, at the next index in the list that stands there, and so on. The place behind the last element adds one. Each word
-/// may be a list of indexes; where they name none, the value becomes the new one as it is. Where nobody shares the
-/// outermost list it is changed in place. A refusal leaves the value as it was.
+/// What `lset varName ?index ...? newValue` makes of the variable's value: another element stands
+/// at the first index in its list, at the next index in the list that stands there, and so on. The
+/// place behind the last element adds one. Each word may be a list of indexes; where they name
+/// none, the value becomes the new one as it is. Where nobody shares the outermost list it is
+/// changed in place. A refusal leaves the value as it was.
 ///
 /// # Errors
-/// 101 to 104 where the value is no list, then where one of the words is none; then from the left 114 where an index is
-/// none, 243 where it names another place, and 101 to 104 where an element on the way is no list; 122; want of memory.
+/// 101 to 104 where the value is no list, then where one of the words is none; then from the left
+/// 114 where an index is none, 243 where it names another place, and 101 to 104 where an element on
+/// the way is no list; 122; want of memory.
 pub fn lset(
     alloc: Global,
     style: Integers,

@@ -4,7 +4,8 @@ ghost use Rattle.tcl_words.specs.Outcomes.{Gives};
 ghost use Rattle.tcl_words.specs.Limits.{counted};
 ghost use Rattle.tcl_words.specs.Spans.{before, from, span};
 ghost use Rattle.tcl_words.specs.Words.{index_word};
-ghost use Rattle.tcl_lists.specs.Lists.{list_value, list_of, llength_of, lrange_of, linsert_of, lreplace_of, lreverse_of, lassign_rest, behind_span};
+ghost use Rattle.tcl_lists.specs.Lists.{list_value, list_of, llength_of, lrange_of, linsert_of};
+ghost use Rattle.tcl_lists.specs.Lists.{lreplace_of, lreverse_of, lassign_rest, behind_span};
 
 use crate::building::{list_value, part_value, push_words, spliced_value};
 use crate::places::{before_place, up_to_place};
@@ -77,13 +78,15 @@ pub fn lrange(alloc: Global, style: Integers, words: &[Value]) -> Result<Value, 
 
 /// A list with words before a place.
 fn inserted_value(alloc: Global, list: &List, at: Index, words: &[Value]) -> Result<Value, Refusal>
-    ensures { Gives (λ value. value) result (list_value (before at list.now ++ words.now ++ from at list.now)) }
+    ensures { Gives (λ value. value) result
+        (list_value (before at list.now ++ words.now ++ from at list.now)) }
 {
     let place = before_place(at, list.len());
     spliced_value(alloc, list, place, place, words)
 }
 
-/// `linsert list index ?element ...?`: the elements with others before an index; `end` is the place past the last.
+/// `linsert list index ?element ...?`: the elements with others before an index; `end` is the place
+/// past the last.
 ///
 /// # Errors
 /// 241, 101 to 104, 114, 122; want of memory.
@@ -96,7 +99,8 @@ pub fn linsert(alloc: Global, style: Integers, words: &[Value]) -> Result<Value,
     inserted_value(alloc, &list, at, elements)
 }
 
-/// The place to which an index word points in a list of so many elements, of which `end` is the place past the last.
+/// The place to which an index word points in a list of so many elements, of which `end` is the
+/// place past the last.
 fn insertion_word(
     alloc: Global,
     style: Integers,
@@ -119,15 +123,16 @@ fn replaced_value(
     last: Index,
     words: &[Value],
 ) -> Result<Value, Refusal>
-    ensures { Gives (λ value. value) result (list_value (before first list.now ++ words.now ++ behind_span first last list.now)) }
+    ensures { Gives (λ value. value) result
+        (list_value (before first list.now ++ words.now ++ behind_span first last list.now)) }
 {
     let place = before_place(first, list.len());
     let end = up_to_place(last, list.len()).max(place);
     spliced_value(alloc, list, place, end, words)
 }
 
-/// `lreplace list first last ?element ...?`: the elements with others in the place of those between two indexes. A place
-/// outside is brought to the nearer end.
+/// `lreplace list first last ?element ...?`: the elements with others in the place of those between
+/// two indexes. A place outside is brought to the nearer end.
 ///
 /// # Errors
 /// 241, 101 to 104, 114, 122; want of memory.

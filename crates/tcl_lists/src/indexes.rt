@@ -1,7 +1,8 @@
 //! The command that reads by indexes.
 ghost use Rattle.std.specs.Prelude.{◌≡◌, ◌++◌, OnOk, IfOk};
 ghost use Rattle.tcl_words.specs.Outcomes.{Gives};
-ghost use Rattle.tcl_lists.specs.Lists.{element, at_index, at_indexes, indexes_of, at_words, lindex_of};
+ghost use Rattle.tcl_lists.specs.Lists.{element, at_index, at_indexes, indexes_of, at_words};
+ghost use Rattle.tcl_lists.specs.Lists.{lindex_of};
 
 use crate::reading::{first_and_rest, index_word, list_word, own_list};
 use std::alloc::{AllocError, Global};
@@ -104,9 +105,10 @@ fn at_words(
     at_indexes(alloc, style, own, &indexes)
 }
 
-/// `lindex list ?index ...?`: what stands at the first index of the list, at the second index of that, and so on; nothing
-/// where there is none. Each word may be a list of indexes. The list is read first, then each of the other words as a list,
-/// and then one index after the other; without them the first word is given as it is.
+/// `lindex list ?index ...?`: what stands at the first index of the list, at the second index of
+/// that, and so on; nothing where there is none. Each word may be a list of indexes. The list is
+/// read first, then each of the other words as a list, and then one index after the other; without
+/// them the first word is given as it is.
 ///
 /// # Errors
 /// 241, 101 to 104, 114; want of memory.

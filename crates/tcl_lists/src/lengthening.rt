@@ -1,7 +1,8 @@
 //! The change that `lappend` makes, and `lrepeat`.
 ghost use Rattle.std.specs.Prelude.{◌≡◌, ◌∷◌, []};
 ghost use Rattle.tcl_words.specs.Outcomes.{Gives};
-ghost use Rattle.tcl_lists.specs.Lists.{list_value, copies, counted_copies, lappend_of, lrepeat_of, Changes};
+ghost use Rattle.tcl_lists.specs.Lists.{list_value, copies, counted_copies, lappend_of, lrepeat_of};
+ghost use Rattle.tcl_lists.specs.Lists.{Changes};
 
 use crate::building::{list_value, push_words};
 use crate::reading::{first_and_rest, integer_word, list_word};
@@ -12,7 +13,8 @@ use tcl_value::list::List;
 use tcl_value::value::Value;
 use tcl_words::refusal::{Refusal, bad_count, too_long};
 
-/// The list of a value with a word behind its elements: in place where the value is kept as a list that isn't shared.
+/// The list of a value with a word behind its elements: in place where the value is kept as a list
+/// that isn't shared.
 fn push(alloc: Global, old: &mut Value, word: &Value) -> Result<(), Refusal>
     ensures { Changes result old.old old.new (lappend_of old.old (word.now ∷ [])) }
 {
@@ -32,8 +34,8 @@ fn extended(alloc: Global, old: &Value, words: &[Value]) -> Result<Value, Refusa
     list_value(alloc, made)
 }
 
-/// What `lappend varName ?value ...?` makes of the variable's value: the list with the words behind its elements. A refusal
-/// leaves the value as it was.
+/// What `lappend varName ?value ...?` makes of the variable's value: the list with the words behind
+/// its elements. A refusal leaves the value as it was.
 ///
 /// # Errors
 /// 101 to 104 where the value is no list, 122; want of memory.

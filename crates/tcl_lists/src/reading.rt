@@ -1,10 +1,12 @@
 //! How the words of list commands are read.
 ghost use Rattle.std.specs.Prelude.{◌≡◌};
 ghost use Rattle.tcl_words.specs.Outcomes.{Gives};
-ghost use Rattle.tcl_words.specs.Arguments.{one_word, three_words, one_or_two_words, two_or_three_words};
+ghost use Rattle.tcl_words.specs.Arguments.{one_word, three_words, one_or_two_words};
+ghost use Rattle.tcl_words.specs.Arguments.{two_or_three_words};
 ghost use Rattle.tcl_words.specs.Words.{integer_word, index_word, list_word};
 ghost use Rattle.std.specs.Option.{option_copied};
-ghost use Rattle.tcl_lists.specs.Lists.{first_and_rest, two_and_rest, three_and_rest, all_and_last, first_middle_last};
+ghost use Rattle.tcl_lists.specs.Lists.{first_and_rest, two_and_rest, three_and_rest, all_and_last};
+ghost use Rattle.tcl_lists.specs.Lists.{first_middle_last};
 
 use crate::refusing::no_list;
 use std::alloc::Global;
@@ -38,7 +40,8 @@ pub fn one_or_two_words<'a>(
     words: &'a [Value],
     form: &str,
 ) -> Result<(&'a Value, Option<&'a Value>), Refusal>
-    ensures { Gives (λ p. (p.0.now, option_copied p.1)) result (one_or_two_words form.now words.now) }
+    ensures { Gives (λ p. (p.0.now, option_copied p.1)) result
+        (one_or_two_words form.now words.now) }
 {
     match words {
         [a] => Ok((a, None)),
@@ -107,7 +110,8 @@ pub fn three_and_rest<'a>(
     words: &'a [Value],
     form: &str,
 ) -> Result<(&'a Value, &'a Value, &'a Value, &'a [Value]), Refusal>
-    ensures { Gives (λ p. (p.0.now, p.1.now, p.2.now, p.3.now)) result (three_and_rest form.now words.now) }
+    ensures { Gives (λ p. (p.0.now, p.1.now, p.2.now, p.3.now)) result
+        (three_and_rest form.now words.now) }
 {
     match words {
         [a, b, c, rest @ ..] => Ok((a, b, c, rest)),
@@ -141,7 +145,8 @@ pub fn first_middle_last<'a>(
     words: &'a [Value],
     form: &str,
 ) -> Result<(&'a Value, &'a [Value], &'a Value), Refusal>
-    ensures { Gives (λ p. (p.0.now, p.1.now, p.2.now)) result (first_middle_last form.now words.now) }
+    ensures { Gives (λ p. (p.0.now, p.1.now, p.2.now)) result
+        (first_middle_last form.now words.now) }
 {
     let (first, rest) = first_and_rest(alloc, words, form)?;
     let (middle, last) = all_and_last(alloc, rest, form)?;
@@ -157,7 +162,8 @@ pub fn two_or_three_words<'a>(
     words: &'a [Value],
     form: &str,
 ) -> Result<(&'a Value, &'a Value, Option<&'a Value>), Refusal>
-    ensures { Gives (λ p. (p.0.now, p.1.now, option_copied p.2)) result (two_or_three_words form.now words.now) }
+    ensures { Gives (λ p. (p.0.now, p.1.now, option_copied p.2)) result
+        (two_or_three_words form.now words.now) }
 {
     match words {
         [a, b] => Ok((a, b, None)),
@@ -217,7 +223,8 @@ pub fn own_integer(alloc: Global, style: Integers, own: &mut Value) -> Result<i6
     }
 }
 
-/// The place to which an index word points in a list of so many elements, of which `end` is the last.
+/// The place to which an index word points in a list of so many elements, of which `end` is the
+/// last.
 ///
 /// # Errors
 /// 114 where it is no index text, 122 where no value has so many elements; want of memory.

@@ -19,7 +19,8 @@ use tcl_words::refusal::{Refusal, too_long};
 
 /// What is told of a value that isn't made.
 pub fn not_made(alloc: Global, why: ValueError) -> Refusal
-    ensures { (outcome : Outcome) → (why ≡ ValueError.TooLong → outcome ≡ Err too_long) → Refuses result outcome }
+    ensures { (outcome : Outcome) → (why ≡ ValueError.TooLong → outcome ≡ Err too_long) →
+        Refuses result outcome }
 {
     match why {
         ValueError::Memory => Refusal::Memory,
@@ -71,7 +72,8 @@ fn nested_fault(alloc: Global, nested: &NestedFault) -> Refusal
 
 /// What is told of nested lists or dicts in a value that isn't changed.
 pub fn nested_refusal(alloc: Global, why: NestedError) -> Refusal
-    ensures { (outcome : Result (List ℕ) NestedFault) → RefusesText why outcome → Refuses result (nested_outcome outcome) }
+    ensures { (outcome : Result (List ℕ) NestedFault) → RefusesText why outcome →
+        Refuses result (nested_outcome outcome) }
 {
     match why {
         NestedError::Memory => Refusal::Memory,

@@ -2,19 +2,27 @@
 use Rattle.std.specs.Prelude.{ℕ, List, ◌++◌, codes}
 use Rattle.tcl_text.specs.Writing.{fault_message}
 use Rattle.tcl_text.specs.declared.list.ListError.{ListError}
-use Rattle.tcl_text.specs.declared.list.ListError.TheVariants.{Memory as ListMemory, Fault as ListFaulty}
+use Rattle.tcl_text.specs.declared.list.ListError.TheVariants.{Memory as ListMemory}
+use Rattle.tcl_text.specs.declared.list.ListError.TheVariants.{Fault as ListFaulty}
 use Rattle.tcl_text.specs.Messages as messages
 use Rattle.tcl_value.specs.DictMessages.{dict_message}
 use Rattle.tcl_value.specs.declared.dict_fault.DictError.{DictError}
-use Rattle.tcl_value.specs.declared.dict_fault.DictError.TheVariants.{Memory as DictMemory, Fault as DictFaulty}
+use Rattle.tcl_value.specs.declared.dict_fault.DictError.TheVariants.{Memory as DictMemory}
+use Rattle.tcl_value.specs.declared.dict_fault.DictError.TheVariants.{Fault as DictFaulty}
 use Rattle.tcl_value.specs.declared.dict_fault.EntryError.{EntryError}
-use Rattle.tcl_value.specs.declared.dict_fault.EntryError.TheVariants.{Memory as EntryMemory, TooLong as LongEntry, Fault as EntryFaulty}
+use Rattle.tcl_value.specs.declared.dict_fault.EntryError.TheVariants.{Memory as EntryMemory}
+use Rattle.tcl_value.specs.declared.dict_fault.EntryError.TheVariants.{TooLong as LongEntry}
+use Rattle.tcl_value.specs.declared.dict_fault.EntryError.TheVariants.{Fault as EntryFaulty}
 use Rattle.tcl_value.specs.declared.value.ValueError.{ValueError}
-use Rattle.tcl_value.specs.declared.value.ValueError.TheVariants.{Memory as ValueMemory, TooLong as LongValue}
+use Rattle.tcl_value.specs.declared.value.ValueError.TheVariants.{Memory as ValueMemory}
+use Rattle.tcl_value.specs.declared.value.ValueError.TheVariants.{TooLong as LongValue}
 use Rattle.tcl_value.specs.declared.value.ChangeError.{ChangeError}
-use Rattle.tcl_value.specs.declared.value.ChangeError.TheVariants.{Memory as ChangeMemory, TooLong as LongChange, List as ChangeFaulty, NoElement}
+use Rattle.tcl_value.specs.declared.value.ChangeError.TheVariants.{Memory as ChangeMemory}
+use Rattle.tcl_value.specs.declared.value.ChangeError.TheVariants.{TooLong as LongChange}
+use Rattle.tcl_value.specs.declared.value.ChangeError.TheVariants.{List as ChangeFaulty, NoElement}
 use Rattle.tcl_nested.specs.declared.fault.NestedFault.{NestedFault}
-use Rattle.tcl_nested.specs.declared.fault.NestedFault.TheVariants.{List as NoList, Dict as NoDict, BadIndex, NoPlace, UnknownKey}
+use Rattle.tcl_nested.specs.declared.fault.NestedFault.TheVariants.{List as NoList, Dict as NoDict}
+use Rattle.tcl_nested.specs.declared.fault.NestedFault.TheVariants.{BadIndex, NoPlace, UnknownKey}
 use Rattle.tcl_nested.specs.declared.fault.NestedError.{NestedError}
 use Rattle.tcl_nested.specs.declared.fault.NestedError.TheVariants.{Memory, TooLong, Fault}
 

@@ -1,5 +1,7 @@
--- Changes inside nested lists and dicts, as functions of texts. The texts that they give have no limit; that of values is in what is refused.
-use Rattle.std.specs.Prelude.{◌≡◌, ℕ, pos, ◌-ℤ◌, nat_le, if◌then◌else◌, List, [], ◌∷◌, length, Ok, Err, option_map}
+-- Changes inside nested lists and dicts, as functions of texts. The texts that they give have no
+-- limit; that of values is in what is refused.
+use Rattle.std.specs.Prelude.{◌≡◌, ℕ, pos, ◌-ℤ◌, nat_le, if◌then◌else◌, List, [], ◌∷◌, length, Ok}
+use Rattle.std.specs.Prelude.{Err, option_map}
 use Rattle.std.specs.declared.result.Result.{Result}
 use Rattle.std.specs.declared.option.Option.{Option}
 use Rattle.std.specs.declared.option.Option.TheVariants.{None, Some}
@@ -16,7 +18,8 @@ use Rattle.tcl_value.specs.Writing.{write}
 use Rattle.tcl_value.specs.Texts.{flat}
 use Rattle.tcl_value.specs.Dicts.{Pairs, put, without, value_of, dict_of}
 use Rattle.tcl_nested.specs.declared.fault.NestedFault.{NestedFault}
-use Rattle.tcl_nested.specs.declared.fault.NestedFault.TheVariants.{List as NoList, Dict as NoDict, BadIndex, NoPlace, UnknownKey}
+use Rattle.tcl_nested.specs.declared.fault.NestedFault.TheVariants.{List as NoList, Dict as NoDict}
+use Rattle.tcl_nested.specs.declared.fault.NestedFault.TheVariants.{BadIndex, NoPlace, UnknownKey}
 use Rattle.tcl_nested.specs.declared.fault.NestedError.{NestedError}
 use Rattle.tcl_nested.specs.declared.fault.NestedError.TheVariants.{Memory, TooLong, Fault}
 
@@ -29,7 +32,8 @@ abbrev pub Outcome : Type 0
 Outcome = Result (List ℕ) NestedFault
 
 -- what follows, where there is something
-abbrev pub next : {X Y : Type 0} → Result X NestedFault → (X → Result Y NestedFault) → Result Y NestedFault
+abbrev pub next : {X Y : Type 0} → Result X NestedFault → (X → Result Y NestedFault) →
+    Result Y NestedFault
 next (Ok x) go = go x
 next (Err fault) go = Err fault
 
@@ -63,12 +67,15 @@ abbrev pub place_or : List ℕ → ℕ → Option Index → Result ℕ NestedFau
 place_or index count None = Err (BadIndex index)
 place_or index count (Some at) = place_found (place_within count at)
 
--- the place that an index names in a list, `end` being the last: one of an element, or that behind the last; else 114 or 243
+-- the place that an index names in a list, `end` being the last: one of an element, or that behind
+-- the last; else 114 or 243
 abbrev pub place_in : Integers → Texts → List ℕ → Result ℕ NestedFault
-place_in style l index = place_or index (length l) (option_map place (index_of style (pos (length l) -ℤ pos 1) index))
+place_in style l index = place_or index (length l)
+    (option_map place (index_of style (pos (length l) -ℤ pos 1) index))
 
--- The text with another element at a path of indexes: the first names a place in its list, and the rest lead on in the element there.
--- A list that is changed is written anew. Without an index it is the new text as it is.
+-- The text with another element at a path of indexes: the first names a place in its list, and the
+-- rest lead on in the element there. A list that is changed is written anew. Without an index it is
+-- the new text as it is.
 abbrev pub element_changed : Integers → Texts → List ℕ → List ℕ → Outcome
 element_changed style [] new text = Ok new
 element_changed style (i ∷ path) new text =
@@ -76,20 +83,23 @@ element_changed style (i ∷ path) new text =
     next (place_in style l i) (λ n.
     next (element_changed style path new (element_at n l)) (λ x. Ok (write (with_element n x l)))))
 
--- The text with another value at a path of keys: the first is one of its dict, and the rest lead on in the value of that. A key that is
--- missing is new. A dict that is changed is written anew. Without a key it is the new text as it is.
+-- The text with another value at a path of keys: the first is one of its dict, and the rest lead on
+-- in the value of that. A key that is missing is new. A dict that is changed is written anew.
+-- Without a key it is the new text as it is.
 abbrev pub value_changed : Texts → List ℕ → List ℕ → Outcome
 value_changed [] new text = Ok new
 value_changed (k ∷ keys) new text =
     next (dict_in text) (λ es.
-    next (value_changed keys new (value_or_empty (value_of es k))) (λ x. Ok (write (flat (put es k x)))))
+    next (value_changed keys new (value_or_empty (value_of es k)))
+    (λ x. Ok (write (flat (put es k x)))))
 
 -- the value of a key, or 242
 abbrev pub known : List ℕ → Option (List ℕ) → Outcome
 known key (Some v) = Ok v
 known key None = Err (UnknownKey key)
 
--- the text without a key in the dict to which a path of other keys leads, each of which is there; the last key may be missing
+-- the text without a key in the dict to which a path of other keys leads, each of which is there;
+-- the last key may be missing
 abbrev pub key_removed : Texts → List ℕ → List ℕ → Outcome
 key_removed [] key text = next (dict_in text) (λ es. Ok (write (flat (without es key))))
 key_removed (k ∷ path) key text =
@@ -108,7 +118,8 @@ Refuses Memory outcome = Unit {0}
 Refuses TooLong outcome = ⊥
 Refuses (Fault fault) outcome = outcome ≡ Err fault
 
--- when a change is refused: where there is a fault, or where the changed text is too long for a value; want of memory aside
+-- when a change is refused: where there is a fault, or where the changed text is too long for a
+-- value; want of memory aside
 abbrev pub RefusesText : NestedError → Outcome → Type 0
 RefusesText Memory outcome = Unit {0}
 RefusesText TooLong outcome = AtText outcome IsPast

@@ -24,6 +24,9 @@ abbrev pub raised : List Step → Outcome → Outcome
 raised steps (Ok x) = Ok (above_all steps x)
 raised steps (Err fault) = Err fault
 
--- Indexes name these places, which come behind others: what stands at a path of the places stands at the path of the indexes.
+-- Indexes name these places, which come behind others: what stands at a path of the places stands
+-- at the path of the indexes.
 abbrev pub Leads : Integers → List (List ℕ) → List ℕ → List ℕ → List ℕ → Type 0
-Leads style path before places text = (more : List ℕ) × (places ≡ before ++ more) × ((new now : List ℕ) → element_put more new text ≡ Some now → element_changed style path new text ≡ Ok now)
+Leads style path before places text = (more : List ℕ) × (places ≡ before ++ more) ×
+    ((new now : List ℕ) → element_put more new text ≡ Some now →
+    element_changed style path new text ≡ Ok now)

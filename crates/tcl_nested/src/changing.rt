@@ -1,5 +1,6 @@
 //! Changes inside nested lists and dicts.
-ghost use Rattle.std.specs.Prelude.{◌≡◌, ◌≤◌, ◌-ℤ◌, pos, length, Ok, Err, IfOk, IfErr, IfSome, OnOk, OnErr, ok_or, option_map};
+ghost use Rattle.std.specs.Prelude.{◌≡◌, ◌≤◌, ◌-ℤ◌, pos, length, Ok, Err, IfOk, IfErr, IfSome};
+ghost use Rattle.std.specs.Prelude.{OnOk, OnErr, ok_or, option_map};
 ghost use Rattle.std.specs.Bool.{OnTrue, OnFalse};
 ghost use Rattle.tcl_text.specs.Indexes.{index_of, place};
 ghost use Rattle.tcl_value.specs.Writing.{write};
@@ -8,7 +9,10 @@ ghost use Rattle.tcl_value.specs.Dicts.{put, without, value_of, dict_of};
 ghost use Rattle.tcl_value.specs.Reading.{list_of};
 ghost use Rattle.tcl_value.specs.Changes.{AtList};
 ghost use Rattle.tcl_value.specs.DictChanges.{AtDict};
-ghost use Rattle.tcl_nested.specs.Nested.{next, list_in, dict_in, place_within, place_or, place_in, element_at, with_element, element_changed, value_or_empty, value_changed, known, key_removed, Refuses, RefusesText};
+ghost use Rattle.tcl_nested.specs.Nested.{next, list_in, dict_in, place_within, place_or, place_in};
+ghost use Rattle.tcl_nested.specs.Nested.{element_at, with_element, element_changed};
+ghost use Rattle.tcl_nested.specs.Nested.{value_or_empty, value_changed, known, key_removed};
+ghost use Rattle.tcl_nested.specs.Nested.{Refuses, RefusesText};
 ghost use Rattle.tcl_nested.specs.Steps.{Leads};
 
 use crate::fault::{NestedError, NestedFault};
@@ -21,18 +25,20 @@ use tcl_value::dict::Dict;
 use tcl_value::list::List;
 use tcl_value::value::Value;
 
-/// How many levels a path may have for a change in place: more lists and dicts never stand in one another without a text.
+/// How many levels a path may have for a change in place: more lists and dicts never stand in one
+/// another without a text.
 const MOST_LEVELS: usize = 100;
 
-/// Puts a value at a path of indexes: the first names a place in the list that a value reads as, the next a place in the list
-/// that stands there, and so on. The place behind the last element adds one, and what is added is empty where the path leads
-/// on. A list that is changed is written anew; without an index the value becomes the new one as it is. A list on the way that
-/// is kept as one and that nobody shares is changed in place.
+/// Puts a value at a path of indexes: the first names a place in the list that a value reads as,
+/// the next a place in the list that stands there, and so on. The place behind the last element
+/// adds one, and what is added is empty where the path leads on. A list that is changed is written
+/// anew; without an index the value becomes the new one as it is. A list on the way that is kept as
+/// one and that nobody shares is changed in place.
 ///
 /// # Errors
-/// [`NestedError::Fault`]: from the left 101 to 104 where there is no list, then 114 where an index is none, then 243 where
-/// it names another place. [`NestedError::TooLong`] exactly where the changed text would be too long (122); want of memory.
-/// Any leaves the value as it was.
+/// [`NestedError::Fault`]: from the left 101 to 104 where there is no list, then 114 where an index
+/// is none, then 243 where it names another place. [`NestedError::TooLong`] exactly where the
+/// changed text would be too long (122); want of memory. Any leaves the value as it was.
 pub fn set_element(
     alloc: Global,
     style: Integers,
@@ -41,7 +47,8 @@ pub fn set_element(
     value: Value,
 ) -> Result<(), NestedError>
     ensures changed { OnOk result (element_changed style path.now value own.old ≡ Ok own.new) }
-    ensures refused { IfErr result (λ e. RefusesText e (element_changed style path.now value own.old)) }
+    ensures refused { IfErr result
+        (λ e. RefusesText e (element_changed style path.now value own.old)) }
     ensures unchanged { OnErr result (own.new ≡ own.old) }
 {
     if put_in_place(alloc, style, own, path, &value) {
@@ -50,8 +57,8 @@ pub fn set_element(
     set_element_anew(alloc, style, own, path, value)
 }
 
-/// Puts a value at a path of several indexes, where each list on the way is kept as one. Says whether it did; where it didn't,
-/// nothing is changed.
+/// Puts a value at a path of several indexes, where each list on the way is kept as one. Says
+/// whether it did; where it didn't, nothing is changed.
 fn put_in_place(
     alloc: Global,
     style: Integers,
@@ -105,7 +112,8 @@ fn set_element_anew(
     value: Value,
 ) -> Result<(), NestedError>
     ensures changed { OnOk result (element_changed style path.now value own.old ≡ Ok own.new) }
-    ensures refused { IfErr result (λ e. RefusesText e (element_changed style path.now value own.old)) }
+    ensures refused { IfErr result
+        (λ e. RefusesText e (element_changed style path.now value own.old)) }
     ensures unchanged { OnErr result (own.new ≡ own.old) }
 {
     match path {
@@ -121,13 +129,15 @@ fn set_element_anew(
     }
 }
 
-/// Gives a value to a path of keys: the first is a key of the dict that a value reads as, the next one of the dict that is its
-/// value, and so on. A key that is missing is new. A dict that is changed is written anew; without a key the value becomes
-/// the new one as it is. A dict on the way that is kept as one and that nobody shares is changed in place.
+/// Gives a value to a path of keys: the first is a key of the dict that a value reads as, the next
+/// one of the dict that is its value, and so on. A key that is missing is new. A dict that is
+/// changed is written anew; without a key the value becomes the new one as it is. A dict on the way
+/// that is kept as one and that nobody shares is changed in place.
 ///
 /// # Errors
-/// [`NestedError::Fault`] where there is no dict (101 to 104, 121), the first from the left. [`NestedError::TooLong`] exactly
-/// where the changed text would be too long (122); want of memory. Any leaves the value as it was.
+/// [`NestedError::Fault`] where there is no dict (101 to 104, 121), the first from the left.
+/// [`NestedError::TooLong`] exactly where the changed text would be too long (122); want of memory.
+/// Any leaves the value as it was.
 pub fn set_value(
     alloc: Global,
     own: &mut Value,
@@ -144,8 +154,8 @@ pub fn set_value(
     set_value_anew(alloc, own, path, value)
 }
 
-/// Gives a value to a path of keys, where each dict on the way is kept as one. Says whether it did; where it didn't, nothing is
-/// changed.
+/// Gives a value to a path of keys, where each dict on the way is kept as one. Says whether it did;
+/// where it didn't, nothing is changed.
 fn set_in_place(alloc: Global, own: &mut Value, path: &[Value], value: &Value) -> bool
     ensures changed { OnTrue result (value_changed path.now value.now own.old ≡ Ok own.new) }
     ensures unchanged { OnFalse result (own.new ≡ own.old) }
@@ -178,13 +188,13 @@ fn set_value_anew(
     }
 }
 
-/// Removes a key from the dict to which a path of other keys leads, if it is there. A dict that is changed is written anew. A dict
-/// that is kept as one and that nobody shares is changed in place.
+/// Removes a key from the dict to which a path of other keys leads, if it is there. A dict that is
+/// changed is written anew. A dict that is kept as one and that nobody shares is changed in place.
 ///
 /// # Errors
-/// [`NestedError::Fault`], the first from the left: 101 to 104 and 121 where there is no dict, 242 where a key of the path is
-/// missing. [`NestedError::TooLong`] exactly where the changed text would be too long (122); want of memory. Any leaves the
-/// value as it was.
+/// [`NestedError::Fault`], the first from the left: 101 to 104 and 121 where there is no dict, 242
+/// where a key of the path is missing. [`NestedError::TooLong`] exactly where the changed text
+/// would be too long (122); want of memory. Any leaves the value as it was.
 pub fn remove_key(
     alloc: Global,
     own: &mut Value,
@@ -201,8 +211,8 @@ pub fn remove_key(
     remove_key_anew(alloc, own, path, key)
 }
 
-/// Removes a key from the dict to which a path of other keys leads, where that dict and each on the way is kept as one. Says whether
-/// it did; where it didn't, nothing is changed.
+/// Removes a key from the dict to which a path of other keys leads, where that dict and each on the
+/// way is kept as one. Says whether it did; where it didn't, nothing is changed.
 fn remove_in_place(alloc: Global, own: &mut Value, path: &[Value], key: &Value) -> bool
     ensures changed { OnTrue result (key_removed path.now key.now own.old ≡ Ok own.new) }
     ensures unchanged { OnFalse result (own.new ≡ own.old) }
@@ -210,7 +220,8 @@ fn remove_in_place(alloc: Global, own: &mut Value, path: &[Value], key: &Value) 
     own.remove_inside(alloc, path, key)
 }
 
-/// Removes a key from the dict to which a path of other keys leads, where the dicts inside the outermost one are copied.
+/// Removes a key from the dict to which a path of other keys leads, where the dicts inside the
+/// outermost one are copied.
 fn remove_key_anew(
     alloc: Global,
     own: &mut Value,
@@ -262,8 +273,12 @@ fn place_among(
     count: usize,
     index: &Value,
 ) -> Result<usize, NestedError>
-    ensures found { IfOk result (λ n. place_or index.now count (option_map place (index_of style (pos count -ℤ pos 1) index.now)) ≡ Ok n) }
-    ensures refused { IfErr result (λ e. Refuses e (place_or index.now count (option_map place (index_of style (pos count -ℤ pos 1) index.now)))) }
+    ensures found { IfOk result
+        (λ n. place_or index.now count
+        (option_map place (index_of style (pos count -ℤ pos 1) index.now)) ≡ Ok n) }
+    ensures refused { IfErr result
+        (λ e. Refuses e (place_or index.now count
+        (option_map place (index_of style (pos count -ℤ pos 1) index.now)))) }
 {
     if count > MOST_BYTES {
         return Err(NestedError::Memory);
@@ -293,8 +308,11 @@ fn enter_list(
     own: &mut Value,
     index: &Value,
 ) -> Result<(List, usize, Value), NestedError>
-    ensures found { IfOk result (λ p. (list_of own.old ≡ Ok p.0) × (place_in style p.0 index.now ≡ Ok p.1) × (p.2 ≡ element_at p.1 p.0)) }
-    ensures refused { IfErr result (λ e. Refuses e (next (list_in own.old) (λ l. place_in style l index.now))) }
+    ensures found { IfOk result
+        (λ p. (list_of own.old ≡ Ok p.0) × (place_in style p.0 index.now ≡ Ok p.1) ×
+        (p.2 ≡ element_at p.1 p.0)) }
+    ensures refused { IfErr result
+        (λ e. Refuses e (next (list_in own.old) (λ l. place_in style l index.now))) }
     ensures text { own.new ≡ own.old }
 {
     let list = own.as_list(alloc)?;
@@ -310,23 +328,30 @@ fn find_in(
     own: &mut Value,
     index: &Value,
 ) -> Result<(usize, Value), NestedError>
-    ensures found { IfOk result (λ p. AtList (list_of own.old) (λ l. (place_in style l index.now ≡ Ok p.0) × (p.1 ≡ element_at p.0 l))) }
-    ensures refused { IfErr result (λ e. Refuses e (next (list_in own.old) (λ l. place_in style l index.now))) }
+    ensures found { IfOk result
+        (λ p. AtList (list_of own.old)
+        (λ l. (place_in style l index.now ≡ Ok p.0) × (p.1 ≡ element_at p.0 l))) }
+    ensures refused { IfErr result
+        (λ e. Refuses e (next (list_in own.old) (λ l. place_in style l index.now))) }
     ensures text { own.new ≡ own.old }
 {
     let (_list, place, inner) = enter_list(alloc, style, own, index)?;
     Ok((place, inner))
 }
 
-/// Puts an element at a place of the list that a value reads as, where it goes last if there is none yet.
+/// Puts an element at a place of the list that a value reads as, where it goes last if there is
+/// none yet.
 fn put_element(
     alloc: Global,
     own: &mut Value,
     place: usize,
     element: Value,
 ) -> Result<(), NestedError>
-    ensures changed { OnOk result (next (list_in own.old) (λ l. Ok (write (with_element place element l))) ≡ Ok own.new) }
-    ensures refused { IfErr result (λ e. RefusesText e (next (list_in own.old) (λ l. Ok (write (with_element place element l))))) }
+    ensures changed { OnOk result (next (list_in own.old)
+        (λ l. Ok (write (with_element place element l))) ≡ Ok own.new) }
+    ensures refused { IfErr result
+        (λ e. RefusesText e (next (list_in own.old)
+        (λ l. Ok (write (with_element place element l))))) }
     ensures unchanged { OnErr result (own.new ≡ own.old) }
 {
     let count = own.as_list(alloc)?.len();
@@ -377,7 +402,8 @@ fn enter_dict(
 
 /// What the dict that a value reads as has for a key.
 fn value_in(alloc: Global, own: &mut Value, key: &Value) -> Result<Option<Value>, NestedError>
-    ensures found { IfOk result (λ found. AtDict (dict_of own.old) (λ es. found ≡ value_of es key.now)) }
+    ensures found { IfOk result
+        (λ found. AtDict (dict_of own.old) (λ es. found ≡ value_of es key.now)) }
     ensures refused { IfErr result (λ e. Refuses e (dict_in own.old)) }
     ensures text { own.new ≡ own.old }
 {

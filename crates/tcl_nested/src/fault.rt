@@ -60,7 +60,8 @@ impl NestedFault {
 /// # Errors
 /// Want of memory.
 pub fn unknown_key_message(alloc: Global, key: &str) -> Result<Text, AllocError>
-    ensures { IfOk result (λ made. made ≡ codes "key \"" ++ key.now ++ codes "\" not known in dictionary") }
+    ensures { IfOk result (λ made. made
+        ≡ codes "key \"" ++ key.now ++ codes "\" not known in dictionary") }
 {
     let mut text = String::from_str(alloc, "key \"")?;
     text.push_str(key)?;

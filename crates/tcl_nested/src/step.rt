@@ -45,7 +45,8 @@ fn with_element(
     element: Value,
 ) -> Result<Value, ValueError>
     ensures made { IfOk result (λ value. value ≡ write (with_element place element list)) }
-    ensures refused { IsErrOf result ValueError.TooLong → IsPast (write (with_element place element list)) }
+    ensures refused { IsErrOf result ValueError.TooLong →
+        IsPast (write (with_element place element list)) }
 {
     let mut list = list;
     if place < list.len() {
@@ -59,7 +60,8 @@ fn with_element(
 /// The value of a dict with a value for a key.
 fn with_value(alloc: Global, dict: Dict, key: &Value, value: Value) -> Result<Value, ValueError>
     ensures made { IfOk result (λ made. made ≡ write (flat (put dict key.now value))) }
-    ensures refused { IsErrOf result ValueError.TooLong → IsPast (write (flat (put dict key.now value))) }
+    ensures refused { IsErrOf result ValueError.TooLong →
+        IsPast (write (flat (put dict key.now value))) }
 {
     let mut dict = dict;
     dict.set(alloc, key, value)?;

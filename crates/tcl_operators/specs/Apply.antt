@@ -1,6 +1,7 @@
--- What operators and functions make of values, which are texts: numbers are read from them, and results written in decimal. Operands are looked at from the
--- left, and only where they are needed.
-use Rattle.std.specs.Prelude.{◌≡◌, ◌≤◌, Bool, true, false, not, cond, List, [], ◌∷◌, length, ℤ, pos, neg_ℤ, unsigned_abs, int_lt, Option, Some, None, Result, Ok, Err}
+-- What operators and functions make of values, which are texts: numbers are read from them, and
+-- results written in decimal. Operands are looked at from the left, and only where they are needed.
+use Rattle.std.specs.Prelude.{◌≡◌, ◌≤◌, Bool, true, false, not, cond, List, [], ◌∷◌, length, ℤ, pos}
+use Rattle.std.specs.Prelude.{neg_ℤ, unsigned_abs, int_lt, Option, Some, None, Result, Ok, Err}
 use Rattle.std.specs.List.{list_any}
 use Rattle.std.specs.Fmt.{signed_decimal}
 use Rattle.std.specs.Cmp.Lexicographic.{slice_cmp}
@@ -28,7 +29,8 @@ use Rattle.tcl_operators.specs.declared.kind.Arithmetic.{Arithmetic}
 use Rattle.tcl_operators.specs.declared.kind.Comparison.{Comparison}
 use Rattle.tcl_operators.specs.declared.kind.Comparison.TheVariants as comparison
 use Rattle.tcl_operators.specs.declared.fault.Operator.{Operator}
-use Rattle.tcl_operators.specs.declared.fault.Operator.TheVariants.{Unary, Binary, Function as Called}
+use Rattle.tcl_operators.specs.declared.fault.Operator.TheVariants.{Unary, Binary}
+use Rattle.tcl_operators.specs.declared.fault.Operator.TheVariants.{Function as Called}
 use Rattle.tcl_operators.specs.declared.fault.OperatorFault.{OperatorFault}
 use Rattle.tcl_operators.specs.declared.fault.OperatorFault.TheVariants as fault
 use Rattle.tcl_operators.specs.declared.fault.ApplyError.{ApplyError}
@@ -54,7 +56,8 @@ Gives (Ok y) given = given ≡ Ok y
 Gives (Err e) given = Refuses e given
 
 infixl 10 ◌>>=◌
-abbrev pub ◌>>=◌ : {A B : Type 0} → Result A OperatorFault → (A → Result B OperatorFault) → Result B OperatorFault
+abbrev pub ◌>>=◌ : {A B : Type 0} → Result A OperatorFault → (A → Result B OperatorFault) →
+    Result B OperatorFault
 (Ok x) >>= f = f x
 (Err e) >>= f = Err e
 
@@ -105,18 +108,21 @@ abbrev pub two_integers : Integers → Operator → Bytes → Bytes → Result (
 two_integers style o a b = integer style o a >>= λ x. integer style o b >>= λ y. Ok (x, y)
 
 abbrev pub arithmetic : Integers → BinaryOperator → Arithmetic → Bytes → Bytes → Outcome
-arithmetic style o k a b = two_integers style (Binary o) a b >>= λ p. number (in_range (computed k p.0 p.1))
+arithmetic style o k a b = two_integers style (Binary o) a b >>= λ p. number
+    (in_range (computed k p.0 p.1))
 
--- Two integer texts compare as their numbers, and other texts by the numbers of their characters, as the bytes of UTF-8 do. An integer text out of range
--- compares with nothing.
-abbrev pub order_read : Bytes → Bytes → Result ℤ IntegerFault → Result ℤ IntegerFault → Result Ordering OperatorFault
+-- Two integer texts compare as their numbers, and other texts by the numbers of their characters,
+-- as the bytes of UTF-8 do. An integer text out of range compares with nothing.
+abbrev pub order_read : Bytes → Bytes → Result ℤ IntegerFault → Result ℤ IntegerFault →
+    Result Ordering OperatorFault
 order_read a b (Err integer_fault.TooLarge) y = Err fault.TooLarge
 order_read a b (Ok m) (Err integer_fault.TooLarge) = Err fault.TooLarge
 order_read a b (Ok m) (Ok n) = Ok (int_cmp m n)
 order_read a b (Ok m) (Err integer_fault.NotInteger) = Ok (slice_cmp nat_cmp a b)
 order_read a b (Err integer_fault.NotInteger) (Err integer_fault.TooLarge) = Err fault.TooLarge
 order_read a b (Err integer_fault.NotInteger) (Ok n) = Ok (slice_cmp nat_cmp a b)
-order_read a b (Err integer_fault.NotInteger) (Err integer_fault.NotInteger) = Ok (slice_cmp nat_cmp a b)
+order_read a b (Err integer_fault.NotInteger) (Err integer_fault.NotInteger) =
+    Ok (slice_cmp nat_cmp a b)
 
 abbrev pub order : Integers → Bytes → Bytes → Result Ordering OperatorFault
 order style a b = order_read a b (int_of style a) (int_of style b)
@@ -165,9 +171,11 @@ apply_binary style o a b = apply_kind style o (kind_of o) a b
 -- ## Operators before an operand
 
 abbrev pub apply_unary : Integers → UnaryOperator → Bytes → Outcome
-apply_unary style unary.Negate a = integer style (Unary unary.Negate) a >>= λ x. number (checked (neg_ℤ x))
+apply_unary style unary.Negate a = integer style (Unary unary.Negate) a >>= λ x. number
+    (checked (neg_ℤ x))
 apply_unary style unary.Plus a = integer style (Unary unary.Plus) a >>= λ x. Ok (signed_decimal x)
-apply_unary style unary.Complement a = integer style (Unary unary.Complement) a >>= λ x. Ok (signed_decimal (complement_of x))
+apply_unary style unary.Complement a = integer style (Unary unary.Complement) a >>= λ x.
+    Ok (signed_decimal (complement_of x))
 apply_unary style unary.Not a = truth style a >>= λ x. Ok (answer (not x))
 
 -- ## Functions
@@ -201,4 +209,5 @@ Takes f operands = 1 ≤ length operands
 
 abbrev pub apply_func : Integers → Function → List Bytes → Outcome
 apply_func style f [] = Err (fault.NotNumeric (Called f))
-apply_func style f (a ∷ more) = integer style (Called f) a >>= λ n. choose style f n more >>= λ m. called f m
+apply_func style f (a ∷ more) = integer style (Called f) a >>= λ n. choose style f n more >>= λ m.
+    called f m

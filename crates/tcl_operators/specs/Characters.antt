@@ -6,4 +6,5 @@ use Rattle.std.specs.Str.{chars, IsUtf8}
 use Rattle.tcl_value.specs.Limits.{Bytes}
 
 abbrev pub BytesOrderCharacters : Type 0
-BytesOrderCharacters = (a b : Bytes) → IsUtf8 a → IsUtf8 b → slice_cmp nat_cmp a b ≡ slice_cmp nat_cmp (chars a) (chars b)
+BytesOrderCharacters = (a b : Bytes) → IsUtf8 a → IsUtf8 b →
+    slice_cmp nat_cmp a b ≡ slice_cmp nat_cmp (chars a) (chars b)

@@ -2,9 +2,14 @@
 use Rattle.tcl_expr.specs.declared.operator.BinaryOperator.{BinaryOperator}
 use Rattle.tcl_expr.specs.declared.operator.BinaryOperator.TheVariants as operator
 use Rattle.tcl_operators.specs.declared.kind.Kind.{Kind}
-use Rattle.tcl_operators.specs.declared.kind.Kind.TheVariants.{Arithmetic, Comparison, SameText, OtherText, Within, Without, And, Or}
-use Rattle.tcl_operators.specs.declared.kind.Arithmetic.TheVariants.{Power, Multiply, Divide, Remainder, Add, Subtract, ShiftLeft, ShiftRight, BitAnd, BitXor, BitOr}
-use Rattle.tcl_operators.specs.declared.kind.Comparison.TheVariants.{Less, Greater, AtMost, AtLeast, Equal, Unequal}
+use Rattle.tcl_operators.specs.declared.kind.Kind.TheVariants.{Arithmetic, Comparison, SameText}
+use Rattle.tcl_operators.specs.declared.kind.Kind.TheVariants.{OtherText, Within, Without, And, Or}
+use Rattle.tcl_operators.specs.declared.kind.Arithmetic.TheVariants.{Power, Multiply, Divide}
+use Rattle.tcl_operators.specs.declared.kind.Arithmetic.TheVariants.{Remainder, Add, Subtract}
+use Rattle.tcl_operators.specs.declared.kind.Arithmetic.TheVariants.{ShiftLeft, ShiftRight, BitAnd}
+use Rattle.tcl_operators.specs.declared.kind.Arithmetic.TheVariants.{BitXor, BitOr}
+use Rattle.tcl_operators.specs.declared.kind.Comparison.TheVariants.{Less, Greater, AtMost, AtLeast}
+use Rattle.tcl_operators.specs.declared.kind.Comparison.TheVariants.{Equal, Unequal}
 
 abbrev pub kind_of : BinaryOperator → Kind
 kind_of operator.Power = Arithmetic Power

@@ -13,7 +13,9 @@ use Rattle.tcl_text.specs.Messages as messages
 use Rattle.tcl_operators.specs.declared.fault.Operator.{Operator}
 use Rattle.tcl_operators.specs.declared.fault.Operator.TheVariants as operators
 use Rattle.tcl_operators.specs.declared.fault.OperatorFault.{OperatorFault}
-use Rattle.tcl_operators.specs.declared.fault.OperatorFault.TheVariants.{TooLarge, NotBoolean, NotNumeric, Arithmetic, List as NoList}
+use Rattle.tcl_operators.specs.declared.fault.OperatorFault.TheVariants.{TooLarge, NotBoolean}
+use Rattle.tcl_operators.specs.declared.fault.OperatorFault.TheVariants.{NotNumeric, Arithmetic}
+use Rattle.tcl_operators.specs.declared.fault.OperatorFault.TheVariants.{List as NoList}
 
 abbrev pub unary_symbol : UnaryOperator → List ℕ
 unary_symbol unary.Negate = codes "-"
@@ -65,6 +67,7 @@ arithmetic_message fault.NegativeExponent = codes "negative exponent"
 abbrev pub message_of : OperatorFault → List ℕ
 message_of TooLarge = codes "integer value too large to represent"
 message_of (NotBoolean text) = codes "expected boolean value but got \"" ++ text ++ codes "\""
-message_of (NotNumeric o) = codes "can't use non-numeric string as operand of \"" ++ symbol_of o ++ codes "\""
+message_of (NotNumeric o) = codes "can't use non-numeric string as operand of \"" ++ symbol_of
+    o ++ codes "\""
 message_of (Arithmetic f) = arithmetic_message f
 message_of (NoList f) = fault_message f

@@ -1,17 +1,25 @@
 -- What operators make of whole numbers of any size.
-use Rattle.std.specs.Prelude.{◌≡◌, ℕ, zero, suc, ◌+◌, ◌-◌, ◌/◌, ◌%◌, ◌^◌, min, max, ℤ, pos, negsuc, neg_ℤ, ◌+ℤ◌, ◌-ℤ◌, ◌*ℤ◌, cond, Result, Ok, Err, bit_and, bit_or, bit_xor}
+use Rattle.std.specs.Prelude.{◌≡◌, ℕ, zero, suc, ◌+◌, ◌-◌, ◌/◌, ◌%◌, ◌^◌, min, max, ℤ, pos, negsuc}
+use Rattle.std.specs.Prelude.{neg_ℤ, ◌+ℤ◌, ◌-ℤ◌, ◌*ℤ◌, cond, Result, Ok, Err, bit_and, bit_or}
+use Rattle.std.specs.Prelude.{bit_xor}
 use Rattle.tcl_arithmetic.specs.declared.ArithmeticFault.{ArithmeticFault}
-use Rattle.tcl_arithmetic.specs.declared.ArithmeticFault.TheVariants.{Overflow, DivideByZero, NegativeShift, NegativeExponent}
+use Rattle.tcl_arithmetic.specs.declared.ArithmeticFault.TheVariants.{Overflow, DivideByZero}
+use Rattle.tcl_arithmetic.specs.declared.ArithmeticFault.TheVariants.{NegativeShift}
+use Rattle.tcl_arithmetic.specs.declared.ArithmeticFault.TheVariants.{NegativeExponent}
 use Rattle.tcl_arithmetic.specs.Division.{IsDivision}
 use Rattle.tcl_arithmetic.specs.Digits.{digit}
 use Rattle.tcl_arithmetic.specs.Powers.{power}
 use Rattle.tcl_text.specs.Numbers.{fits_64}
 use Rattle.tcl_operators.specs.declared.kind.Arithmetic.{Arithmetic}
-use Rattle.tcl_operators.specs.declared.kind.Arithmetic.TheVariants.{Power, Multiply, Divide, Remainder, Add, Subtract, ShiftLeft, ShiftRight, BitAnd, BitXor, BitOr}
+use Rattle.tcl_operators.specs.declared.kind.Arithmetic.TheVariants.{Power, Multiply, Divide}
+use Rattle.tcl_operators.specs.declared.kind.Arithmetic.TheVariants.{Remainder, Add, Subtract}
+use Rattle.tcl_operators.specs.declared.kind.Arithmetic.TheVariants.{ShiftLeft, ShiftRight, BitAnd}
+use Rattle.tcl_operators.specs.declared.kind.Arithmetic.TheVariants.{BitXor, BitOr}
 
 -- ## The one pair of a quotient and a remainder
 
--- a divided by a number above 0, rounded down: -1 - a is above -d - d * q and at most -1 - d * q, where q is a / d
+-- a divided by a number above 0, rounded down: -1 - a is above -d - d * q and at most -1 - d * q,
+-- where q is a / d
 abbrev pub floor : ℤ → ℕ → ℤ
 floor (pos a) d = pos (a / d)
 floor (negsuc a) d = negsuc (a / d)

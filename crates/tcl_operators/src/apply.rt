@@ -1,10 +1,14 @@
 //! Operators and functions applied to values.
-ghost use Rattle.std.specs.Prelude.{◌≡◌, ◌<◌, pos, neg_ℤ, unsigned_abs, unwrap_or, Ok, Err, IfOk, IfErr};
+ghost use Rattle.std.specs.Prelude.{◌≡◌, ◌<◌, pos, neg_ℤ, unsigned_abs, unwrap_or, Ok, Err, IfOk};
+ghost use Rattle.std.specs.Prelude.{IfErr};
 ghost use Rattle.std.specs.Ordering.{nat_cmp};
 ghost use Rattle.std.specs.Str.{bytes_eq};
 ghost use Rattle.std.specs.Cmp.Lexicographic.{slice_cmp};
 ghost use Rattle.tcl_operators.specs.WholeNumbers.{complement_of, computed, in_range, checked};
-ghost use Rattle.tcl_operators.specs.Apply.{Gives, integer_read, arithmetic_read, integer, truth, arithmetic, order_read, order, holds, answer, is_among, among, and_then, or_else, apply_binary, apply_unary, chosen, choose, Takes, apply_func};
+ghost use Rattle.tcl_operators.specs.Apply.{Gives, integer_read, arithmetic_read, integer, truth};
+ghost use Rattle.tcl_operators.specs.Apply.{arithmetic, order_read, order, holds, answer, is_among};
+ghost use Rattle.tcl_operators.specs.Apply.{among, and_then, or_else, apply_binary, apply_unary};
+ghost use Rattle.tcl_operators.specs.Apply.{chosen, choose, Takes, apply_func};
 ghost use Rattle.tcl_value.specs.Limits.{Bytes};
 
 use crate::fault::{ApplyError, Operator, OperatorFault};
@@ -40,7 +44,8 @@ fn integer_of(operator: Operator, value: &mut Value, style: Integers) -> Result<
     read_operand(operator, value.as_int(style))
 }
 
-/// The truth value of a value, as a condition has it: a boolean word, an abbreviation of one, or an integer text, which is false where it is 0.
+/// The truth value of a value, as a condition has it: a boolean word, an abbreviation of one, or an
+/// integer text, which is false where it is 0.
 ///
 /// # Errors
 /// 113 exactly where the text has no truth value; want of memory. The text stays in either case.
@@ -99,8 +104,11 @@ fn order_of_numbers(
     left: Result<i64, IntegerFault>,
     right: Result<i64, IntegerFault>,
 ) -> Result<Option<Ordering>, OperatorFault>
-    ensures ordered { IfOk result (λ found. (a b : Bytes) → order_read a b left right ≡ Ok (unwrap_or found (slice_cmp nat_cmp a b))) }
-    ensures refused { IfErr result (λ fault. (a b : Bytes) → order_read a b left right ≡ Err fault) }
+    ensures ordered { IfOk result
+        (λ found. (a b : Bytes) → order_read a b left right
+        ≡ Ok (unwrap_or found (slice_cmp nat_cmp a b))) }
+    ensures refused { IfErr result
+        (λ fault. (a b : Bytes) → order_read a b left right ≡ Err fault) }
 {
     match (left, right) {
         (Err(IntegerFault::TooLarge), _) | (_, Err(IntegerFault::TooLarge)) => {
@@ -111,7 +119,8 @@ fn order_of_numbers(
     }
 }
 
-/// The order of two values: of their numbers where both are integer texts, and otherwise of their texts.
+/// The order of two values: of their numbers where both are integer texts, and otherwise of their
+/// texts.
 fn order_of(
     alloc: Global,
     left: &mut Value,
@@ -181,7 +190,8 @@ fn apply_arithmetic(
     Ok(Value::from_int(compute(computation, x, y)?))
 }
 
-/// What `&&` makes of the truth of its first operand and of its second, which is looked at where the first is true.
+/// What `&&` makes of the truth of its first operand and of its second, which is looked at where
+/// the first is true.
 fn apply_and(
     alloc: Global,
     left: bool,
@@ -197,7 +207,8 @@ fn apply_and(
     Ok(answer(truth_of(alloc, right, style)?))
 }
 
-/// What `||` makes of the truth of its first operand and of its second, which is looked at where the first is false.
+/// What `||` makes of the truth of its first operand and of its second, which is looked at where
+/// the first is false.
 fn apply_or(
     alloc: Global,
     left: bool,
@@ -213,13 +224,14 @@ fn apply_or(
     Ok(answer(truth_of(alloc, right, style)?))
 }
 
-/// What an operator makes of two values, as `expr(n)` has it. Both operands of `&&` and `||` are at hand here: the second is looked at only
-/// where it tells the result.
+/// What an operator makes of two values, as `expr(n)` has it. Both operands of `&&` and `||` are at
+/// hand here: the second is looked at only where it tells the result.
 ///
 /// # Errors
-/// The operands are looked at from the left. 112 where an integer text is out of range, in comparisons too; 214 where a number is needed
-/// and a text is no integer; 113 where a truth value is needed and a text has none; 101 to 104 where a text spells no list; then 212, 213, 215
-/// and 216 of the numbers. Want of memory. The operands' texts stay.
+/// The operands are looked at from the left. 112 where an integer text is out of range, in
+/// comparisons too; 214 where a number is needed and a text is no integer; 113 where a truth value
+/// is needed and a text has none; 101 to 104 where a text spells no list; then 212, 213, 215 and
+/// 216 of the numbers. Want of memory. The operands' texts stay.
 pub fn apply_binary(
     alloc: Global,
     operator: BinaryOperator,
@@ -257,8 +269,8 @@ pub fn apply_binary(
 /// What an operator makes of the value behind it, as `expr(n)` has it.
 ///
 /// # Errors
-/// 112 and 214 of an operand that has to be a whole number, and 113 of the operand of `!`; 212 of the least number behind a minus. Want of memory.
-/// The operand's text stays.
+/// 112 and 214 of an operand that has to be a whole number, and 113 of the operand of `!`; 212 of
+/// the least number behind a minus. Want of memory. The operand's text stays.
 pub fn apply_unary(
     alloc: Global,
     operator: UnaryOperator,
@@ -335,10 +347,12 @@ fn choose_among(
     Ok(best)
 }
 
-/// What a function makes of values, as `expr(n)` has it: the size of one, or the least or greatest of all.
+/// What a function makes of values, as `expr(n)` has it: the size of one, or the least or greatest
+/// of all.
 ///
 /// # Errors
-/// From the left, 112 and 214 of an operand that isn't a whole number; 212 of the size of the least number. The operands' texts stay.
+/// From the left, 112 and 214 of an operand that isn't a whole number; 212 of the size of the least
+/// number. The operands' texts stay.
 pub fn apply_func(
     function: Function,
     operands: &mut [Value],

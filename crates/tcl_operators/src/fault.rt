@@ -1,6 +1,7 @@
 //! Why an operator or a function has no result.
 ghost use Rattle.std.specs.Prelude.{◌≡◌, ◌++◌, IfOk, codes};
-ghost use Rattle.tcl_operators.specs.Messages.{unary_symbol, binary_symbol, function_symbol, symbol_of, arithmetic_message, message_of};
+ghost use Rattle.tcl_operators.specs.Messages.{unary_symbol, binary_symbol, function_symbol};
+ghost use Rattle.tcl_operators.specs.Messages.{symbol_of, arithmetic_message, message_of};
 ghost use Rattle.tcl_operators.specs.declared.fault.ApplyError.TheVariants.{Memory};
 
 use std::alloc::{AllocError, Global};
@@ -190,7 +191,9 @@ impl OperatorFault {
 
 /// What is told of an operand that isn't a whole number (214).
 fn not_numeric_message(alloc: Global, operator: Operator) -> Result<Text, AllocError>
-    ensures { IfOk result (λ made. made ≡ codes "can't use non-numeric string as operand of \"" ++ symbol_of operator ++ codes "\"") }
+    ensures { IfOk result (λ made. made
+        ≡ codes "can't use non-numeric string as operand of \"" ++ symbol_of operator ++ codes
+        "\"") }
 {
     let front = "can't use non-numeric string as operand of \"";
     quoting(alloc, front, operator.symbol())

@@ -3,8 +3,8 @@ use Rattle.std.proofs.Common.{◌≡◌, ℕ, ◌<◌, ◌∙◌, Bool, true, fa
 use Rattle.std.proofs.lemmas.Bool.{false≢true}
 use Rattle.std.proofs.lemmas.Bool.Decides.{nat_tests}
 use Rattle.tcl_parser.specs.declared.fault.Fault.{Fault}
-use Rattle.tcl_parser.specs.declared.reader.Stop.{Stop}
-use Rattle.tcl_parser.specs.declared.reader.Stop.TheVariants as stops
+use Rattle.tcl_parser.specs.declared.reader.ReadError.{ReadError}
+use Rattle.tcl_parser.specs.declared.reader.ReadError.TheVariants as stops
 use Rattle.tcl_parser.specs.declared.script.Part.{Part}
 use Rattle.tcl_parser.specs.Words.{WordRead, Reading}
 use Rattle.tcl_parser.specs.Several.{over, next, Several, led_by, and_then}
@@ -121,7 +121,7 @@ pub no_words : (words : List WordRead) → (length words == 0) ≡ true → word
 no_words [] h = refl
 no_words (w ∷ ws) h = absurd (grind (arith, nat_tests))
 
-pub words_stopped : (k : ℕ) (s rest start : List ℕ) (stop : Stop) → start ≡ after_white rest → command_ends (level_at k).inside start ≡ false → Stops stop (read_word (level_at k) start) →
+pub words_stopped : (k : ℕ) (s rest start : List ℕ) (stop : ReadError) → start ≡ after_white rest → command_ends (level_at k).inside start ≡ false → Stops stop (read_word (level_at k) start) →
     (read_words (level_at k) rest).ended ≡ (read_words (level_at k) (after_gap false s)).ended → Stops stop (read_command (level_at k) s)
 words_stopped k s rest start stops.Memory w e r ended = tt
 words_stopped k s rest start (stops.Fault f) w e r ended = words_stop k s rest start f w e r ended

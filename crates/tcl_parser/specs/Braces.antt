@@ -14,5 +14,6 @@ read_on depth (Line rest) = put (32 ∷ []) (in_braces false depth rest.now)
 -- a piece leaves less to read
 abbrev pub GoesOn : ℕ → List ℕ → BracePiece → Type 0
 GoesOn depth s (Close rest) = length rest.now < length s
-GoesOn depth s (Characters front deeper rest) = (length rest.now < length s) × (deeper + length rest.now ≤ depth + length s)
+GoesOn depth s (Characters front deeper rest) = (length rest.now < length s) ×
+    (deeper + length rest.now ≤ depth + length s)
 GoesOn depth s (Line rest) = length rest.now < length s

@@ -1,4 +1,5 @@
--- The characters that mean something in a script, as bytes: each is ASCII, and UTF-8 hides no ASCII byte in another character.
+-- The characters that mean something in a script, as bytes: each is ASCII, and UTF-8 hides no ASCII
+-- byte in another character.
 use Rattle.std.specs.Prelude.{ℕ, ◌==◌, Bool, ◌&&◌, ◌||◌}
 use Rattle.std.specs.Int.{is_in_range}
 
@@ -58,7 +59,8 @@ is_command_end inside b = is_separator b || (inside && (b == close_bracket))
 
 -- a letter, a digit or an underscore
 abbrev pub is_name_character : ℕ → Bool
-is_name_character b = is_in_range 97 122 b || is_in_range 65 90 b || is_in_range 48 57 b || (b == 95)
+is_name_character b = is_in_range 97 122 b || is_in_range 65 90 b || is_in_range 48 57 b ||
+    (b == 95)
 
 -- where substitution begins
 abbrev pub is_substitution : ℕ → Bool

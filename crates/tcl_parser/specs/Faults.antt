@@ -1,7 +1,9 @@
 -- What a fault says, and whether more text could mend it.
 use Rattle.std.specs.Prelude.{ℕ, Bool, true, false, not, List, Option, Some, None, codes}
 use Rattle.tcl_parser.specs.declared.fault.Fault.{Fault}
-use Rattle.tcl_parser.specs.declared.fault.Fault.TheVariants.{CloseBrace, VariableBrace, CloseQuote, CloseBracket, AfterBrace, AfterQuote, CloseParenthesis, TooDeep}
+use Rattle.tcl_parser.specs.declared.fault.Fault.TheVariants.{CloseBrace, VariableBrace, CloseQuote}
+use Rattle.tcl_parser.specs.declared.fault.Fault.TheVariants.{CloseBracket, AfterBrace, AfterQuote}
+use Rattle.tcl_parser.specs.declared.fault.Fault.TheVariants.{CloseParenthesis, TooDeep}
 
 -- the text of the error
 abbrev pub message_of : Fault → List ℕ

@@ -1,16 +1,24 @@
 -- What a script reads as: the commands of a text, in order, and the fault that comes after them.
-use Rattle.std.specs.Prelude.{ℕ, zero, suc, ◌-◌, ◌==◌, nat_lt, Bool, true, false, ◌&&◌, ◌||◌, not, cond, List, [], ◌∷◌, ◌++◌, length, take, drop, Option, Some, None, Result, Ok, Err}
+use Rattle.std.specs.Prelude.{ℕ, zero, suc, ◌-◌, ◌==◌, nat_lt, Bool, true, false, ◌&&◌, ◌||◌, not}
+use Rattle.std.specs.Prelude.{cond, List, [], ◌∷◌, ◌++◌, length, take, drop, Option, Some, None}
+use Rattle.std.specs.Prelude.{Result, Ok, Err}
 use Rattle.tcl_text.specs.Backslash.{escape, escape_rest, is_blank}
 use Rattle.tcl_parser.specs.declared.fault.Fault.{Fault}
-use Rattle.tcl_parser.specs.declared.fault.Fault.TheVariants.{CloseBrace, VariableBrace, CloseQuote, CloseBracket, AfterBrace, AfterQuote, CloseParenthesis, TooDeep}
+use Rattle.tcl_parser.specs.declared.fault.Fault.TheVariants.{CloseBrace, VariableBrace, CloseQuote}
+use Rattle.tcl_parser.specs.declared.fault.Fault.TheVariants.{CloseBracket, AfterBrace, AfterQuote}
+use Rattle.tcl_parser.specs.declared.fault.Fault.TheVariants.{CloseParenthesis, TooDeep}
 use Rattle.tcl_parser.specs.declared.script.Part.{Part}
-use Rattle.tcl_parser.specs.declared.script.Part.TheVariants.{Literal, Variable, Element, EndElement, Script}
+use Rattle.tcl_parser.specs.declared.script.Part.TheVariants.{Literal, Variable, Element}
+use Rattle.tcl_parser.specs.declared.script.Part.TheVariants.{EndElement, Script}
 use Rattle.tcl_parser.specs.Words.{WordRead, Reading}
 use Rattle.tcl_parser.specs.declared.scan.Run.{Run}
 use Rattle.tcl_parser.specs.declared.scan.Run.TheVariants.{VariableName, Index, Quotes, Bare}
 use Rattle.tcl_parser.specs.Texts.{begins_with}
 use Rattle.tcl_parser.specs.Runs.{run_of, after_run}
-use Rattle.tcl_parser.specs.Characters.{newline, quote, hash, dollar, open_parenthesis, close_parenthesis, asterisk, colon, open_bracket, backslash, close_bracket, open_brace, close_brace, is_white, is_separator, is_command_end, is_name_character}
+use Rattle.tcl_parser.specs.Characters.{newline, quote, hash, dollar, open_parenthesis}
+use Rattle.tcl_parser.specs.Characters.{close_parenthesis, asterisk, colon, open_bracket, backslash}
+use Rattle.tcl_parser.specs.Characters.{close_bracket, open_brace, close_brace, is_white}
+use Rattle.tcl_parser.specs.Characters.{is_separator, is_command_end, is_name_character}
 use Rattle.tcl_parser.specs.Several.{Turn, over, next, Several, several}
 
 infixl 10 ◌>>=◌
@@ -50,8 +58,8 @@ after_white (b ∷ c ∷ s) =
     (cond ((b == backslash) && (c == newline)) (after_white s)
     (b ∷ c ∷ s))
 
--- What follows white space, separators and comments. In a comment, which the flag says, a backslash and the character
--- after it are passed over, and a newline ends it.
+-- What follows white space, separators and comments. In a comment, which the flag says, a backslash
+-- and the character after it are passed over, and a newline ends it.
 unfoldable pub after_gap : Bool → List ℕ → List ℕ
 after_gap in_comment [] = []
 after_gap true (b ∷ []) = []
@@ -66,11 +74,13 @@ after_gap false (b ∷ c ∷ s) =
     (cond ((b == backslash) && (c == newline)) (after_gap false s)
     (b ∷ c ∷ s)))
 
--- Whether a word that isn't in quotes or braces can't go on: white space, a command's end or the text's end comes.
+-- Whether a word that isn't in quotes or braces can't go on: white space, a command's end or the
+-- text's end comes.
 abbrev pub word_ends : Bool → List ℕ → Bool
 word_ends inside [] = true
 word_ends inside (b ∷ []) = is_white b || is_command_end inside b
-word_ends inside (b ∷ c ∷ s) = is_white b || is_command_end inside b || ((b == backslash) && (c == newline))
+word_ends inside (b ∷ c ∷ s) = is_white b || is_command_end inside b ||
+    ((b == backslash) && (c == newline))
 
 -- Whether a command ends, where no white space comes.
 abbrev pub command_ends : Bool → List ℕ → Bool
@@ -84,26 +94,30 @@ after_command (b ∷ s) = cond (is_separator b) s (b ∷ s)
 
 -- ## Words in braces
 
--- The text up to the close brace and what follows the brace. `depth` braces stand open inside the word, and the flag
--- says that a backslash-newline came, with which the spaces and tabs after it are one space.
+-- The text up to the close brace and what follows the brace. `depth` braces stand open inside the
+-- word, and the flag says that a backslash-newline came, with which the spaces and tabs after it
+-- are one space.
 abbrev pub put : List ℕ → Result (List ℕ × List ℕ) Fault → Result (List ℕ × List ℕ) Fault
 put bs (Ok read) = Ok (bs ++ read.0, read.1)
 put bs (Err f) = Err f
 
 unfoldable pub in_braces : Bool → ℕ → List ℕ → Result (List ℕ × List ℕ) Fault
 in_braces joining depth [] = Err CloseBrace
-in_braces joining depth (b ∷ []) = cond ((b == close_brace) && (depth == 0)) (Ok ([], [])) (Err CloseBrace)
+in_braces joining depth (b ∷ []) = cond ((b == close_brace) && (depth == 0)) (Ok ([], []))
+    (Err CloseBrace)
 in_braces joining depth (b ∷ c ∷ s) =
     cond (joining && is_blank b) (in_braces true depth (c ∷ s))
     (cond (b == open_brace) (put (b ∷ []) (in_braces false (suc depth) (c ∷ s)))
-    (cond (b == close_brace) (cond (depth == 0) (Ok ([], c ∷ s)) (put (b ∷ []) (in_braces false (depth - 1) (c ∷ s))))
-    (cond (b == backslash) (cond (c == newline) (put (32 ∷ []) (in_braces true depth s)) (put (b ∷ c ∷ []) (in_braces false depth s)))
+    (cond (b == close_brace) (cond (depth == 0) (Ok ([], c ∷ s))
+    (put (b ∷ []) (in_braces false (depth - 1) (c ∷ s))))
+    (cond (b == backslash) (cond (c == newline) (put (32 ∷ []) (in_braces true depth s))
+    (put (b ∷ c ∷ []) (in_braces false depth s)))
     (put (b ∷ []) (in_braces false depth (c ∷ s))))))
 
 -- ## Variables
 
--- What follows the name at the front: letters, digits, underscores and runs of two or more colons. The flag says that
--- such a run stands before.
+-- What follows the name at the front: letters, digits, underscores and runs of two or more colons.
+-- The flag says that such a run stands before.
 unfoldable pub after_name : Bool → List ℕ → List ℕ
 after_name colons [] = []
 after_name colons (b ∷ []) = cond (is_name_character b || (colons && (b == colon))) [] (b ∷ [])
@@ -180,10 +194,11 @@ substituted level quoted indexes (b ∷ s) =
     (cond (b == backslash) (part_turn (Literal (escape s).meaning) indexes (escape_rest s))
     (plain_turn (run_at level.inside quoted indexes) indexes (b ∷ s))))
 
--- What ends that in which a part would stand: an index its close parenthesis, a word in quotes its close quote, and
--- another word white space, a command's end or the text's.
+-- What ends that in which a part would stand: an index its close parenthesis, a word in quotes its
+-- close quote, and another word white space, a command's end or the text's.
 abbrev pub part_end : Bool → Bool → Place → Option (Turn Part Place)
-part_end inside quoted (suc indexes, s) = cond (begins_with close_parenthesis s) (Some (next EndElement (indexes, drop 1 s))) None
+part_end inside quoted (suc indexes, s) = cond (begins_with close_parenthesis s)
+    (Some (next EndElement (indexes, drop 1 s))) None
 part_end inside true (zero, s) = cond (begins_with quote s) (Some (over (drop 1 s))) None
 part_end inside false (zero, s) = cond (word_ends inside s) (Some (over s)) None
 
@@ -193,7 +208,8 @@ end_or None other = other
 
 -- A part of a word, which stands in quotes or doesn't, or the end of an index or of the word.
 abbrev pub read_part : Level → Bool → Place → PartTurn
-read_part level quoted (indexes, s) = end_or (part_end level.inside quoted (indexes, s)) (substituted level quoted indexes s)
+read_part level quoted (indexes, s) = end_or (part_end level.inside quoted (indexes, s))
+    (substituted level quoted indexes s)
 
 -- the parts of a word from a place on
 unfoldable pub read_parts : Level → Bool → Place → Several Part
@@ -211,13 +227,17 @@ closed inside fault read = cond (word_ends inside read.1) (Ok read) (Err fault)
 
 abbrev pub read_word_parts : Level → List ℕ → Result (List Part × List ℕ) Fault
 read_word_parts level s =
-    cond (begins_with quote s) (joined_parts (read_parts level true (zero, drop 1 s)) >>= closed level.inside AfterQuote)
-    (cond (begins_with open_brace s) (in_braces false 0 (drop 1 s) >>= λ read. closed level.inside AfterBrace (with_literal read.0 [], read.1))
+    cond (begins_with quote s) (joined_parts (read_parts level true (zero, drop 1 s)) >>= closed
+    level.inside AfterQuote)
+    (cond (begins_with open_brace s)
+    (in_braces false 0 (drop 1 s) >>= λ read. closed level.inside AfterBrace
+    (with_literal read.0 [], read.1))
     (joined_parts (read_parts level false (zero, s))))
 
 -- whether `{*}` marks the word behind it: it stands directly before that word
 abbrev pub is_expanded : Bool → List ℕ → Bool
-is_expanded inside (a ∷ b ∷ c ∷ s) = (a == open_brace) && (b == asterisk) && (c == close_brace) && not (word_ends inside s)
+is_expanded inside (a ∷ b ∷ c ∷ s) = (a == open_brace) && (b == asterisk) && (c == close_brace) &&
+    not (word_ends inside s)
 is_expanded inside s = false
 
 abbrev pub marked : Bool → List Part × List ℕ → Result (WordRead × List ℕ) Fault
@@ -236,7 +256,8 @@ word_next (word, rest) = Ok (next word rest)
 
 -- A word of a command, or the command's end, from behind the white space on.
 abbrev pub word_or_end : Level → List ℕ → Result (Turn WordRead (List ℕ)) Fault
-word_or_end level s = cond (command_ends level.inside s) (Ok (over (after_command s))) (read_word level s >>= word_next)
+word_or_end level s = cond (command_ends level.inside s) (Ok (over (after_command s)))
+    (read_word level s >>= word_next)
 
 abbrev pub word_turn : Level → List ℕ → Result (Turn WordRead (List ℕ)) Fault
 word_turn level s = word_or_end level (after_white s)
@@ -247,7 +268,8 @@ read_words level s = several (word_turn level) (suc (length s)) s
 -- A command: its words, and what follows its end. There are no words only where the script ends.
 abbrev pub read_command : Level → List ℕ → Result (List WordRead × List ℕ) Fault
 read_command level s =
-    let words = read_words level (after_gap false s) in words.ended >>= λ rest. Ok (words.items, rest)
+    let words = read_words level (after_gap false s) in words.ended >>= λ rest.
+    Ok (words.items, rest)
 
 abbrev pub command_or_end : List WordRead × List ℕ → Result (Turn (List WordRead) (List ℕ)) Fault
 command_or_end ([], rest) = Ok (over rest)
@@ -266,10 +288,12 @@ read_commands level s = several (command_turn level) (suc (length s)) s
 abbrev pub closing : List ℕ → Result (List ℕ) Fault
 closing s = cond (begins_with close_bracket s) (Ok s) (Err CloseBracket)
 
--- What follows a bracketed script, from its close bracket on, where so many brackets may still stand inside one another.
+-- What follows a bracketed script, from its close bracket on, where so many brackets may still
+-- stand inside one another.
 unfoldable pub after_script : ℕ → List ℕ → Result (List ℕ) Fault
 after_script zero s = Err TooDeep
-after_script (suc room) s = (read_commands (record { nested = after_script room; inside = true }) s).ended >>= closing
+after_script (suc room) s = (read_commands (record { nested = after_script room; inside = true })
+    s).ended >>= closing
 
 -- where k brackets are open
 abbrev pub level_at : ℕ → Level
@@ -282,4 +306,5 @@ fault_of (Err f) = Some f
 -- What a text reads as: its commands in order, and the fault that comes after them.
 abbrev pub read_script : List ℕ → Reading
 read_script s =
-    let commands = read_commands (level_at 0) s in record { commands = commands.items; fault = fault_of commands.ended }
+    let commands = read_commands (level_at 0) s
+    in record { commands = commands.items; fault = fault_of commands.ended }

@@ -2,8 +2,10 @@
 use Rattle.std.specs.Prelude.{ℕ, ◌==◌, Bool, ◌||◌, not, List, take, drop}
 use Rattle.std.specs.List.{prefix_len}
 use Rattle.tcl_parser.specs.declared.scan.Run.{Run}
-use Rattle.tcl_parser.specs.declared.scan.Run.TheVariants.{Comment, Braces, VariableName, Index, Quotes, Bare}
-use Rattle.tcl_parser.specs.Characters.{newline, quote, close_parenthesis, backslash, open_brace, close_brace, is_white, is_command_end, is_substitution}
+use Rattle.tcl_parser.specs.declared.scan.Run.TheVariants.{Comment, Braces, VariableName, Index}
+use Rattle.tcl_parser.specs.declared.scan.Run.TheVariants.{Quotes, Bare}
+use Rattle.tcl_parser.specs.Characters.{newline, quote, close_parenthesis, backslash, open_brace}
+use Rattle.tcl_parser.specs.Characters.{close_brace, is_white, is_command_end, is_substitution}
 
 -- whether a byte ends such a run
 abbrev pub ends_run : Run → ℕ → Bool

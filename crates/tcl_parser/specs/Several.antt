@@ -2,7 +2,8 @@
 use Rattle.std.specs.Prelude.{ℕ, zero, suc, List, [], ◌∷◌, Result, Ok, Err}
 use Rattle.tcl_parser.specs.declared.fault.Fault.{Fault}
 
--- One turn: nothing more is to be read and this follows, or a thing was read and this is where the next turn starts.
+-- One turn: nothing more is to be read and this follows, or a thing was read and this is where the
+-- next turn starts.
 pub data Turn (A S : Type 0) : Type 0 where
   over : List ℕ → Turn A S
   next : A → S → Turn A S

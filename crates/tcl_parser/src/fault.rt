@@ -41,8 +41,8 @@ impl Fault {
         }
     }
 
-    /// Whether something stands open at the end of the text, so that more text could mend the fault: refusals 201, 202,
-    /// 203 and 205.
+    /// Whether something stands open at the end of the text, so that more text could mend the
+    /// fault: refusals 201, 202, 203 and 205.
     pub fn is_open(self) -> bool
         ensures { result ≡ is_open self }
     {

@@ -1,4 +1,5 @@
-//! Reading scripts of the Tcl command language: their commands, words and parts, and the fault that ends them.
+//! Reading scripts of the Tcl command language: their commands, words and parts, and the fault that
+//! ends them.
 #![tactic(auto)]
 
 pub mod fault;

@@ -3,7 +3,9 @@ ghost use Rattle.std.specs.Prelude.{◌≡◌, ◌∷◌, [], ◌++◌, false, z
 ghost use Rattle.std.specs.String.{string_bytes};
 ghost use Rattle.tcl_parser.specs.Building.{Yields, Adds};
 ghost use Rattle.tcl_parser.specs.Pieces.{part_of};
-ghost use Rattle.tcl_parser.specs.Reading.{with_literal, joined_parts, read_parts, in_braces, read_word_parts, read_word, read_command, read_script, level_at};
+ghost use Rattle.tcl_parser.specs.Reading.{with_literal, joined_parts, read_parts, in_braces};
+ghost use Rattle.tcl_parser.specs.Reading.{read_word_parts, read_word, read_command, read_script};
+ghost use Rattle.tcl_parser.specs.Reading.{level_at};
 ghost use Rattle.tcl_parser.specs.Faults.{is_complete_with};
 ghost use Rattle.tcl_parser.specs.Grammar.{ReadsAll};
 
@@ -20,49 +22,50 @@ use tcl_text::text::Text;
 
 /// Why reading stops.
 #[derive(Drop)]
-pub enum Stop {
+pub enum ReadError {
     /// Want of memory.
     Memory,
     /// The text can't be read on.
     Fault(Fault),
 }
 
-impl From<AllocError> for Stop {
+impl From<AllocError> for ReadError {
     ghost use Rattle.std.specs.Prelude.{◌≡◌};
-    ghost use Rattle.tcl_parser.specs.declared.reader.Stop.TheVariants.{Memory};
+    ghost use Rattle.tcl_parser.specs.declared.reader.ReadError.TheVariants.{Memory};
 
     ghost from_gives = { λ _ e. e ≡ Memory };
 
-    fn from(_error: AllocError) -> Stop {
-        Stop::Memory
+    fn from(_error: AllocError) -> ReadError {
+        ReadError::Memory
     }
 }
 
-impl<T: Drop> From<AllocFailed<T>> for Stop {
+impl<T: Drop> From<AllocFailed<T>> for ReadError {
     ghost use Rattle.std.specs.Prelude.{◌≡◌};
-    ghost use Rattle.tcl_parser.specs.declared.reader.Stop.TheVariants.{Memory};
+    ghost use Rattle.tcl_parser.specs.declared.reader.ReadError.TheVariants.{Memory};
 
     ghost from_gives = { λ _ e. e ≡ Memory };
 
-    fn from(_error: AllocFailed<T>) -> Stop {
-        Stop::Memory
+    fn from(_error: AllocFailed<T>) -> ReadError {
+        ReadError::Memory
     }
 }
 
-impl From<Fault> for Stop {
+impl From<Fault> for ReadError {
     ghost use Rattle.std.specs.Prelude.{◌≡◌};
-    ghost use Rattle.tcl_parser.specs.declared.reader.Stop.TheVariants as stops;
+    ghost use Rattle.tcl_parser.specs.declared.reader.ReadError.TheVariants as stops;
 
     ghost from_gives = { λ fault e. e ≡ stops.Fault fault };
 
-    fn from(fault: Fault) -> Stop {
-        Stop::Fault(fault)
+    fn from(fault: Fault) -> ReadError {
+        ReadError::Fault(fault)
     }
 }
 
 /// Adds a literal to parts, unless it is empty.
 fn push_literal(alloc: Global, parts: &mut Vec<Part>, literal: String) -> Result<(), AllocError>
-    ensures { OnOk result (parts.new.items ≡ parts.old.items ++ with_literal (string_bytes literal) []) }
+    ensures { OnOk result
+        (parts.new.items ≡ parts.old.items ++ with_literal (string_bytes literal) []) }
 {
     if literal.is_empty() {
         return Ok(());
@@ -79,7 +82,8 @@ fn push_part(
     literal: &mut String,
     part: Part,
 ) -> Result<(), AllocError>
-    ensures parts { OnOk result (parts.new.items ≡ (parts.old.items ++ with_literal (string_bytes literal.old) []) ++ part ∷ []) }
+    ensures parts { OnOk result (parts.new.items
+        ≡ (parts.old.items ++ with_literal (string_bytes literal.old) []) ++ part ∷ []) }
     ensures literal { OnOk result (string_bytes literal.new ≡ []) }
 {
     push_literal(alloc, parts, mem::replace(literal, String::new(alloc)))?;
@@ -94,7 +98,9 @@ fn add(
     literal: &mut String,
     seen: Seen<'_>,
 ) -> Result<(), AllocError>
-    ensures { OnOk result (Adds parts.old.items (string_bytes literal.old) (part_of seen.entry) parts.new.items (string_bytes literal.new)) }
+    ensures { OnOk result
+        (Adds parts.old.items (string_bytes literal.old) (part_of seen.entry) parts.new.items
+        (string_bytes literal.new)) }
 {
     match seen {
         Seen::Literal(text) => literal.push_str(text),
@@ -119,8 +125,9 @@ fn add(
 ///
 /// # Errors
 /// The first fault of the text, or want of memory.
-pub fn read_parts(alloc: Global, text: &str, quoted: bool) -> Result<(Vec<Part>, &str), Stop>
-    ensures { Yields (λ x. (x.0.items, x.1.now)) result (joined_parts (read_parts (level_at 0) quoted (zero, text.now))) }
+pub fn read_parts(alloc: Global, text: &str, quoted: bool) -> Result<(Vec<Part>, &str), ReadError>
+    ensures { Yields (λ x. (x.0.items, x.1.now)) result
+        (joined_parts (read_parts (level_at 0) quoted (zero, text.now))) }
 {
     let mut parts = Vec::new(alloc);
     let mut literal = String::new(alloc);
@@ -142,7 +149,7 @@ pub fn read_parts(alloc: Global, text: &str, quoted: bool) -> Result<(Vec<Part>,
 }
 
 /// The text of a word in braces, from behind its open brace on, and what follows it.
-fn read_braces(alloc: Global, text: &str) -> Result<(String, &str), Stop>
+fn read_braces(alloc: Global, text: &str) -> Result<(String, &str), ReadError>
     ensures { Yields (λ x. (string_bytes x.0, x.1.now)) result (in_braces false zero text.now) }
 {
     let mut word = String::new(alloc);
@@ -165,7 +172,7 @@ fn read_braces(alloc: Global, text: &str) -> Result<(String, &str), Stop>
 }
 
 /// The parts of a word, behind its mark `{*}`, and what follows it.
-fn read_word_parts(alloc: Global, text: &str) -> Result<(Vec<Part>, &str), Stop>
+fn read_word_parts(alloc: Global, text: &str) -> Result<(Vec<Part>, &str), ReadError>
     ensures { Yields (λ x. (x.0.items, x.1.now)) result (read_word_parts (level_at 0) text.now) }
 {
     if let Some(rest) = strip_byte(text, b'"') {
@@ -183,7 +190,7 @@ fn read_word_parts(alloc: Global, text: &str) -> Result<(Vec<Part>, &str), Stop>
 }
 
 /// A word and what follows it.
-fn read_word(alloc: Global, text: &str) -> Result<(Word, &str), Stop>
+fn read_word(alloc: Global, text: &str) -> Result<(Word, &str), ReadError>
     ensures { Yields (λ x. (x.0, x.1.now)) result (read_word (level_at 0) text.now) }
 {
     let (expand, text) = match strip_mark(false, text) {
@@ -195,7 +202,7 @@ fn read_word(alloc: Global, text: &str) -> Result<(Word, &str), Stop>
 }
 
 /// The words of a command, and what follows it. There are none only where the script ends.
-fn read_command(alloc: Global, text: &str) -> Result<(Vec<Word>, &str), Stop>
+fn read_command(alloc: Global, text: &str) -> Result<(Vec<Word>, &str), ReadError>
     ensures { Yields (λ x. (x.0.items, x.1.now)) result (read_command (level_at 0) text.now) }
 {
     let mut words = Vec::new(alloc);
@@ -211,8 +218,8 @@ fn read_command(alloc: Global, text: &str) -> Result<(Vec<Word>, &str), Stop>
     }
 }
 
-/// Reads a script: its commands in order, up to its end or to its first fault, as `Tcl(n)` has it, rules 1 to 11. A
-/// command is read with the scripts in its brackets, which stay texts.
+/// Reads a script: its commands in order, up to its end or to its first fault, as `Tcl(n)` has it,
+/// rules 1 to 11. A command is read with the scripts in its brackets, which stay texts.
 ///
 /// # Errors
 /// Want of memory alone: a fault of the text is part of the script.
@@ -236,8 +243,8 @@ pub fn parse(alloc: Global, text: &str) -> Result<Script, AllocError>
             }
             Err(stop) => {
                 return match stop {
-                    Stop::Memory => Err(AllocError),
-                    Stop::Fault(fault) => Ok(Script {
+                    ReadError::Memory => Err(AllocError),
+                    ReadError::Fault(fault) => Ok(Script {
                         commands,
                         fault: Some(fault),
                     }),
@@ -247,8 +254,8 @@ pub fn parse(alloc: Global, text: &str) -> Result<Script, AllocError>
     }
 }
 
-/// Whether a text is a complete script: nothing stands open at its end, neither braces, quotes, brackets nor an index. A
-/// script with another fault is complete.
+/// Whether a text is a complete script: nothing stands open at its end, neither braces, quotes,
+/// brackets nor an index. A script with another fault is complete.
 ///
 /// # Errors
 /// Want of memory.

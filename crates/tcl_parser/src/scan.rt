@@ -1,9 +1,14 @@
 //! The forms of a script's text that hold no other: white space, comments, names, words in braces.
-ghost use Rattle.std.specs.Prelude.{◌≡◌, ◌∷◌, [], ◌+◌, ◌^◌, ◌<◌, ◌≤◌, ◌==◌, length, true, false, Ok, Err, MatchOption, MatchResult, IfOk, IfSome, IfNone, take, drop};
-ghost use Rattle.tcl_parser.specs.Characters.{is_white, is_separator, is_command_end, is_name_character, is_substitution};
+ghost use Rattle.std.specs.Prelude.{◌≡◌, ◌∷◌, [], ◌+◌, ◌^◌, ◌<◌, ◌≤◌, ◌==◌, length, true, false};
+ghost use Rattle.std.specs.Prelude.{Ok, Err, MatchOption, MatchResult, IfOk, IfSome, IfNone, take};
+ghost use Rattle.std.specs.Prelude.{drop};
+ghost use Rattle.tcl_parser.specs.Characters.{is_white, is_separator, is_command_end};
+ghost use Rattle.tcl_parser.specs.Characters.{is_name_character, is_substitution};
 ghost use Rattle.tcl_parser.specs.Runs.{ends_run, run_of, after_run};
 ghost use Rattle.tcl_parser.specs.Texts.{EndsWith, begins_with, IsNotAscii, after_ascii};
-ghost use Rattle.tcl_parser.specs.Reading.{before, after_white, after_gap, after_command, word_ends, command_ends, is_expanded, after_name, in_braces};
+ghost use Rattle.tcl_parser.specs.Reading.{before, after_white, after_gap, after_command};
+ghost use Rattle.tcl_parser.specs.Reading.{word_ends, command_ends, is_expanded, after_name};
+ghost use Rattle.tcl_parser.specs.Reading.{in_braces};
 ghost use Rattle.tcl_parser.specs.Braces.{read_on, GoesOn};
 
 use crate::fault::Fault;
@@ -108,7 +113,8 @@ pub fn split_ascii(text: &str) -> Option<(u8, &str)>
 /// What follows an ASCII character that a text begins with.
 pub fn strip_byte(text: &str, byte: u8) -> Option<&str>
     requires { byte < 128 }
-    ensures { MatchOption result (begins_with byte text.now ≡ false) (λ rest. text.now ≡ byte ∷ rest.now) }
+    ensures { MatchOption result (begins_with byte text.now ≡ false)
+        (λ rest. text.now ≡ byte ∷ rest.now) }
 {
     let (first, rest) = split_ascii(text)?;
     if first == byte { Some(rest) } else { None }
@@ -123,7 +129,8 @@ pub fn before<'a>(text: &'a str, rest: &str) -> &'a str
     front
 }
 
-/// What follows white space that a text begins with, as far as one character or a backslash-newline.
+/// What follows white space that a text begins with, as far as one character or a
+/// backslash-newline.
 fn strip_white(text: &str) -> Option<&str>
     ensures on { IfSome result (λ rest. after_white text.now ≡ after_white rest.now) }
     ensures shorter { IfSome result (λ rest. length rest.now < length text.now) }
@@ -179,7 +186,8 @@ fn skip_comment(text: &str) -> &str
     }
 }
 
-/// What follows what may stand before a command, as far as one character, a backslash-newline or a comment.
+/// What follows what may stand before a command, as far as one character, a backslash-newline or a
+/// comment.
 fn strip_gap(text: &str) -> Option<&str>
     ensures on { IfSome result (λ rest. after_gap false text.now ≡ after_gap false rest.now) }
     ensures shorter { IfSome result (λ rest. length rest.now < length text.now) }
@@ -210,7 +218,8 @@ pub fn skip_gap(text: &str) -> &str
     rest
 }
 
-/// Whether a word that isn't in quotes or braces can't go on: white space, a command's end or the text's end comes.
+/// Whether a word that isn't in quotes or braces can't go on: white space, a command's end or the
+/// text's end comes.
 pub fn word_ends(inside: bool, text: &str) -> bool
     ensures { result ≡ word_ends inside text.now }
 {
@@ -260,8 +269,8 @@ pub fn strip_mark(inside: bool, text: &str) -> Option<&str>
     }
 }
 
-/// What follows a character of a name, or two colons, and whether that ends a run of two or more colons. The flag says
-/// that such a run stands before the text.
+/// What follows a character of a name, or two colons, and whether that ends a run of two or more
+/// colons. The flag says that such a run stands before the text.
 fn strip_name(colons: bool, text: &str) -> Option<(bool, &str)>
     ensures on { IfSome result (λ x. after_name colons text.now ≡ after_name x.0 x.1.now) }
     ensures shorter { IfSome result (λ x. length x.1.now < length text.now) }
@@ -281,8 +290,8 @@ fn strip_name(colons: bool, text: &str) -> Option<(bool, &str)>
     Some((true, rest))
 }
 
-/// What follows the name that a text begins with, perhaps an empty one: letters, digits, underscores and runs of two or
-/// more colons, as `Tcl(n)`, rule 8, has it.
+/// What follows the name that a text begins with, perhaps an empty one: letters, digits,
+/// underscores and runs of two or more colons, as `Tcl(n)`, rule 8, has it.
 pub fn skip_name(text: &str) -> &str
     ensures rest { result.now ≡ after_name false text.now }
     ensures ends { EndsWith text.now result.now }
@@ -300,19 +309,23 @@ pub fn skip_name(text: &str) -> &str
 pub enum BracePiece<'a> {
     /// The close brace of the word.
     Close(&'a str),
-    /// Characters that stand for themselves; then how many braces are open inside the word, and what follows.
+    /// Characters that stand for themselves; then how many braces are open inside the word, and
+    /// what follows.
     Characters(&'a str, usize, &'a str),
     /// A backslash-newline with the spaces and tabs after it, which is one space.
     Line(&'a str),
 }
 
-/// A piece of a word in braces, from a place in it at which `depth` braces are open inside the word.
+/// A piece of a word in braces, from a place in it at which `depth` braces are open inside the
+/// word.
 ///
 /// # Errors
 /// The text ends inside the word.
 pub fn next_in_braces(text: &str, depth: usize) -> Result<BracePiece<'_>, Fault>
     requires { depth + length text.now < 2 ^ 64 }
-    ensures reads { MatchResult result (λ piece. in_braces false depth text.now ≡ read_on depth piece) (λ fault. in_braces false depth text.now ≡ Err fault) }
+    ensures reads { MatchResult result
+        (λ piece. in_braces false depth text.now ≡ read_on depth piece)
+        (λ fault. in_braces false depth text.now ≡ Err fault) }
     ensures goes_on { IfOk result (λ piece. GoesOn depth text.now piece) }
 {
     let (run, stop) = split_run(text, Run::Braces);

@@ -5,17 +5,18 @@ use tcl_text::text::Text;
 
 /// A part of a word.
 ///
-/// The parts of a word are kept flat: an `Element` opens an index, whose parts follow up to its `EndElement`. So no
-/// value here holds another of its type, however deep indexes stand inside one another.
+/// The parts of a word are kept flat: an `Element` opens an index, whose parts follow up to its
+/// `EndElement`. So no value here holds another of its type, however deep indexes stand inside one
+/// another.
 #[derive(Debug, Drop)]
 pub enum Part {
-    /// A text that stands for itself, with its backslash sequences replaced. It isn't empty, and no literal follows
-    /// another.
+    /// A text that stands for itself, with its backslash sequences replaced. It isn't empty, and no
+    /// literal follows another.
     Literal(Text),
     /// The value of the variable of this name.
     Variable(Text),
-    /// The value of an element of the array of this name, which may be empty. Its index is made of the parts up to
-    /// the `EndElement` that belongs to it.
+    /// The value of an element of the array of this name, which may be empty. Its index is made of
+    /// the parts up to the `EndElement` that belongs to it.
     Element(Text),
     /// The end of an index.
     EndElement,

@@ -1,6 +1,10 @@
 //! The ends of words, commands and scripts, found with nothing built.
-ghost use Rattle.std.specs.Prelude.{◌≡◌, ◌∷◌, ◌+◌, ◌-◌, ◌^◌, ◌<◌, ◌≤◌, length, nat_lt, false, zero, Ok, Err, MatchOption, IfOk, if◌then◌else◌};
-ghost use Rattle.tcl_parser.specs.Reading.{after_dollar, braced_variable, run_at, missing, part_end, level_at, read_part, substituted, read_parts, in_braces, read_word, read_word_parts, read_command, after_script, before, word_ends};
+ghost use Rattle.std.specs.Prelude.{◌≡◌, ◌∷◌, ◌+◌, ◌-◌, ◌^◌, ◌<◌, ◌≤◌, length, nat_lt, false, zero};
+ghost use Rattle.std.specs.Prelude.{Ok, Err, MatchOption, IfOk, if◌then◌else◌};
+ghost use Rattle.tcl_parser.specs.Reading.{after_dollar, braced_variable, run_at, missing};
+ghost use Rattle.tcl_parser.specs.Reading.{part_end, level_at, read_part, substituted, read_parts};
+ghost use Rattle.tcl_parser.specs.Reading.{in_braces, read_word, read_word_parts, read_command};
+ghost use Rattle.tcl_parser.specs.Reading.{after_script, before, word_ends};
 ghost use Rattle.tcl_parser.specs.Runs.{after_run};
 ghost use Rattle.tcl_parser.specs.Pieces.{Gives, turn_of, rest_of, skimmed};
 
@@ -55,7 +59,8 @@ fn run_at(inside: bool, quoted: bool, indexes: usize) -> Run
 
 /// The variable whose name begins behind `${`.
 fn read_braced_variable(text: &str, indexes: usize) -> Result<Piece<'_>, Fault>
-    ensures { Gives turn_of result (braced_variable indexes text.now (after_run Run.VariableName text.now)) }
+    ensures { Gives turn_of result
+        (braced_variable indexes text.now (after_run Run.VariableName text.now)) }
 {
     let (name, stop) = split_run(text, Run::VariableName);
     match strip_byte(stop, b'}') {
@@ -64,7 +69,8 @@ fn read_braced_variable(text: &str, indexes: usize) -> Result<Piece<'_>, Fault>
     }
 }
 
-/// What begins behind a `$`: a variable, an element's name, or nothing, where the `$` stands for itself.
+/// What begins behind a `$`: a variable, an element's name, or nothing, where the `$` stands for
+/// itself.
 fn read_variable(text: &str, indexes: usize) -> Result<Piece<'_>, Fault>
     requires { indexes + length text.now < 2 ^ 64 }
     ensures { Gives turn_of result (after_dollar indexes text.now) }
@@ -104,12 +110,14 @@ pub fn skip_braces(text: &str) -> Result<&str, Fault>
     }
 }
 
-/// What follows a word in braces or quotes, which may be white space, a command's end or the text's end.
+/// What follows a word in braces or quotes, which may be white space, a command's end or the text's
+/// end.
 ///
 /// # Errors
 /// The fault, where something else follows.
 pub fn closed(rest: &str, inside: bool, fault: Fault) -> Result<&str, Fault>
-    ensures { Gives (λ after. after.now) result (if word_ends inside rest.now then Ok rest.now else Err fault) }
+    ensures { Gives (λ after. after.now) result
+        (if word_ends inside rest.now then Ok rest.now else Err fault) }
 {
     if word_ends(inside, rest) {
         Ok(rest)
@@ -129,8 +137,8 @@ fn missing(indexes: usize) -> Fault
     }
 }
 
-/// The end of that in which a part would stand: of an index, of a word in quotes or of a word by itself. None where a
-/// part comes.
+/// The end of that in which a part would stand: of an index, of a word in quotes or of a word by
+/// itself. None where a part comes.
 fn part_end(text: &str, inside: bool, quoted: bool, indexes: usize) -> Option<Piece<'_>>
     ensures { MatchOption result (part_end inside quoted (indexes, text.now) ≡ None)
         (λ piece. part_end inside quoted (indexes, text.now) ≡ Some (turn_of piece)) }
@@ -182,8 +190,8 @@ fn read_substitution(
     }
 }
 
-/// A part of a word, which stands in quotes or doesn't, or the end of an index or of the word. So many brackets stand
-/// open, and so many indexes of the word.
+/// A part of a word, which stands in quotes or doesn't, or the end of an index or of the word. So
+/// many brackets stand open, and so many indexes of the word.
 ///
 /// # Errors
 /// The first fault that the text has there.
@@ -208,7 +216,8 @@ pub fn next_part(
 #[cycle(skip)]
 fn skip_parts(text: &str, brackets: usize, quoted: bool) -> Result<&str, Fault>
     requires { brackets ≤ 200 }
-    ensures { Gives (λ rest. rest.now) result (read_parts (level_at brackets) quoted (zero, text.now)).ended }
+    ensures { Gives (λ rest. rest.now) result
+        (read_parts (level_at brackets) quoted (zero, text.now)).ended }
 {
     let mut rest = text;
     let mut indexes = 0;
@@ -227,7 +236,8 @@ fn skip_parts(text: &str, brackets: usize, quoted: bool) -> Result<&str, Fault>
 #[cycle(skip)]
 fn skip_word_parts(text: &str, brackets: usize) -> Result<&str, Fault>
     requires { brackets ≤ 200 }
-    ensures { Gives (λ rest. rest.now) result (rest_of (read_word_parts (level_at brackets) text.now)) }
+    ensures { Gives (λ rest. rest.now) result
+        (rest_of (read_word_parts (level_at brackets) text.now)) }
 {
     if let Some(rest) = strip_byte(text, b'"') {
         let after = skip_parts(rest, brackets, true)?;
@@ -256,7 +266,8 @@ fn skip_word(text: &str, brackets: usize) -> Result<&str, Fault>
 #[cycle(skip)]
 fn skip_command(text: &str, brackets: usize) -> Result<(bool, &str), Fault>
     requires { brackets ≤ 200 }
-    ensures { Gives (λ x. (x.0, x.1.now)) result (skimmed (read_command (level_at brackets) text.now)) }
+    ensures { Gives (λ x. (x.0, x.1.now)) result
+        (skimmed (read_command (level_at brackets) text.now)) }
 {
     let mut rest = skip_gap(text);
     let mut some = false;
@@ -270,7 +281,8 @@ fn skip_command(text: &str, brackets: usize) -> Result<(bool, &str), Fault>
     }
 }
 
-/// The script that stands behind a `[`, and what follows its close bracket. So many brackets stand open outside it.
+/// The script that stands behind a `[`, and what follows its close bracket. So many brackets stand
+/// open outside it.
 #[cycle(skip)]
 fn skip_script(text: &str, brackets: usize) -> Result<(&str, &str), Fault>
     requires { brackets ≤ 200 }

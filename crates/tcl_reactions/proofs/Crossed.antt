@@ -13,7 +13,7 @@ use Rattle.tcl_core.specs.Programs.{Prog, Table}
 use Rattle.tcl_core.specs.Programs.Prog.{call, wait}
 use Rattle.tcl_core.specs.Runs.{Step, carried, lessened, entering, reached}
 use Rattle.tcl_core.specs.Rules.{Derives, IsNoExit}
-use Rattle.tcl_core.specs.Threads.{Crossings, event}
+use Rattle.tcl_core.specs.Execution.{Crossings, event}
 use Rattle.tcl_core.proofs.PathLaws.{rise_back}
 use Rattle.tcl_core.proofs.Unended.{NotCut}
 use Rattle.tcl_core.proofs.TreeLaws.{reached_at}

@@ -13,7 +13,7 @@ use Rattle.tcl_core.specs.Programs.{Deed, spot, Act, Wrap, decide, opens, changi
 use Rattle.tcl_core.specs.Programs.Act.{Look, Change, Charge, Limit, LimitDepth, Make, Drop}
 use Rattle.tcl_core.specs.Programs.Wrap.{Deeper, Framed}
 use Rattle.tcl_core.specs.Programs.Next.{On, Off}
-use Rattle.tcl_core.specs.Threads.{Crossings, Decides, Opens_so, event}
+use Rattle.tcl_core.specs.Execution.{Crossings, Decides, Opens_so, event}
 use Rattle.tcl_core.specs.Lives.{Outcome, Uncut, outcome_at}
 use Rattle.tcl_core.proofs.Budgets.{decide_budget, opens_budget}
 use Rattle.tcl_core.proofs.Parting.{act_silent, opens_silent}

@@ -13,7 +13,7 @@ use Rattle.tcl_core.specs.Trees.Move.{Born, Fall, Enter, Come}
 use Rattle.tcl_core.specs.Trees.What.{Charged, Refused, Out, In, Done, Back}
 use Rattle.tcl_core.specs.Programs.{Wait}
 use Rattle.tcl_core.specs.Runs.{is_exit, is_own}
-use Rattle.tcl_core.specs.Threads.{event}
+use Rattle.tcl_core.specs.Execution.{event}
 use Rattle.tcl_core.specs.Lives.{Outcome}
 use Rattle.tcl_core.specs.Lives.Outcome.{Exited}
 use Rattle.tcl_core.specs.Laws.{KeepsTop}

@@ -12,7 +12,7 @@ use Rattle.tcl_core.specs.Programs.{Wrap, Prog, Table, closes}
 use Rattle.tcl_core.specs.Programs.Wrap.{Deeper, Framed}
 use Rattle.tcl_core.specs.Runs.{World, Ending, Step, carried}
 use Rattle.tcl_core.specs.Rules.{Derives, IsNoExit}
-use Rattle.tcl_core.specs.Threads.{event}
+use Rattle.tcl_core.specs.Execution.{event}
 use Rattle.tcl_core.specs.Lives.{Outcome, copies, outcome_of, outs_of, spent_at}
 use Rattle.tcl_core.specs.Lives.Outcome.{Finished, Exited}
 use Rattle.tcl_core.proofs.Parting.{closes_silent}

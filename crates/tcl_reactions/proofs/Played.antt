@@ -12,8 +12,8 @@ use Rattle.tcl_core.specs.Programs.{Prog, Table, spot}
 use Rattle.tcl_core.specs.Programs.Prog.{done, exit, wait}
 use Rattle.tcl_core.specs.Runs.{World, Ending, Halts, Exits, carried, entering, height_of}
 use Rattle.tcl_core.specs.Rules.{Derives, IsNoExit}
-use Rattle.tcl_core.specs.Threads.{Crossings, Threads, event}
-use Rattle.tcl_core.specs.Threads.Threads.{completed, exited, acted, refused, went, passed, wrapped, wrapped_passed, too_deep, shut, called, called_passed, unreached, called_out, answered, heard, answered_passed, entered, entered_exiting}
+use Rattle.tcl_core.specs.Execution.{Crossings, Executes, event}
+use Rattle.tcl_core.specs.Execution.Executes.{completed, exited, acted, refused, went, passed, wrapped, wrapped_passed, too_deep, shut, called, called_passed, unreached, called_out, answered, heard, answered_passed, entered, entered_exiting}
 use Rattle.tcl_core.specs.Lives.{Outcome, copies, idle, never}
 use Rattle.tcl_core.specs.Lives.Outcome.{Finished, Exited}
 use Rattle.tcl_core.proofs.Unended
@@ -31,7 +31,7 @@ use Rattle.tcl_reactions.proofs.Waited.{answered_by, answered_passed_by, entered
 use Rattle.tcl_reactions.proofs.Turns.{after_end, answers_at, done_end, done_on, done_over, in_way, not_some, same_end, visit_way}
 
 module _ {O I : Type 0} (prog : Table O I) where
-  pub played : {T : Tree O} {o : Player O} {p : Place} {x : Prog O I} {V : Tree O} {z : Player O} {r : Reply} → Threads (Crossings plays) prog T o p x V z r → o.fate ≡ None → Calm (last_end o) → Result prog T o p x V z r
+  pub played : {T : Tree O} {o : Player O} {p : Place} {x : Prog O I} {V : Tree O} {z : Player O} {r : Reply} → Executes (Crossings plays) prog T o p x V z r → o.fate ≡ None → Calm (last_end o) → Result prog T o p x V z r
   played (completed {T} {o} {p} {c}) n m = at_once prog T o p (done c) (Completed c) n tt (λ f. m) (λ y. Derives.completed (ahead T [] y) p c)
   played (exited {T} {o} {p} {n}) l m = at_once prog T o p (exit n) (Exit n) l tt (λ f. m) (λ y. Derives.exited (ahead T [] y) p n)
   played (acted {T} {V} {o} {u} {z} {p} {d} {k} {r} x is_so on s t) n m =

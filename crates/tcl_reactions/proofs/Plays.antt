@@ -15,7 +15,7 @@ use Rattle.tcl_core.specs.Programs.Next.{On, TooDeep, Off}
 use Rattle.tcl_core.specs.Programs.Prog.{act, go, inside}
 use Rattle.tcl_core.specs.Runs.{World, Ending}
 use Rattle.tcl_core.specs.Rules.{Derives, IsNoExit, IsOn}
-use Rattle.tcl_core.specs.Threads.{Crossings, Decides, Opens_so, event}
+use Rattle.tcl_core.specs.Execution.{Crossings, Decides, Opens_so, event}
 use Rattle.tcl_core.specs.Lives.{spent_at}
 use Rattle.tcl_core.proofs.Following.{allowed}
 use Rattle.tcl_core.proofs.Parting.{closes_silent}

@@ -13,8 +13,8 @@ use Rattle.tcl_core.specs.Programs.{Wait, Prog, Table}
 use Rattle.tcl_core.specs.Programs.Prog.{wait}
 use Rattle.tcl_core.specs.Runs.{fits, height_of}
 use Rattle.tcl_core.specs.Rules.{IsNoExit}
-use Rattle.tcl_core.specs.Threads.{Crossings, Threads, event}
-use Rattle.tcl_core.specs.Threads.Threads.{completed, exited, acted, refused, went, passed, wrapped, wrapped_passed, too_deep, shut, called, called_passed, unreached, called_out, answered, heard, answered_passed, entered, entered_exiting}
+use Rattle.tcl_core.specs.Execution.{Crossings, Executes, event}
+use Rattle.tcl_core.specs.Execution.Executes.{completed, exited, acted, refused, went, passed, wrapped, wrapped_passed, too_deep, shut, called, called_passed, unreached, called_out, answered, heard, answered_passed, entered, entered_exiting}
 use Rattle.tcl_core.specs.Lives.{Uncut, begun, ended, ending_of, outs_of}
 use Rattle.tcl_core.specs.Lives.Outcome.{Finished}
 use Rattle.tcl_core.proofs.Beginnings.{outs_append}
@@ -141,7 +141,7 @@ module _ {O I : Type 0} (prog : Table O I) where
   ended_at_once T o u s a f (unfits m ms n l e d q) g k = not_some o.fate f n g
   ended_at_once T o u s a f (passes h n d q) g k = k q d
 
-  pub after_end : {T : Tree O} {o : Player O} {p : Place} {x : Prog O I} {V : Tree O} {z : Player O} {r : Reply} → Threads (Crossings plays) prog T o p x V z r → After T o x V z r
+  pub after_end : {T : Tree O} {o : Player O} {p : Place} {x : Prog O I} {V : Tree O} {z : Player O} {r : Reply} → Executes (Crossings plays) prog T o p x V z r → After T o x V z r
   after_end (completed) = tt
   after_end (exited) = tt
   after_end (acted x is_so on s t) = tt

@@ -14,7 +14,7 @@ use Rattle.tcl_core.specs.Programs.{Prog, Table, Wait}
 use Rattle.tcl_core.specs.Programs.Prog.{wait}
 use Rattle.tcl_core.specs.Runs.{World, Ending, Step, Halts, Exits, Exiting, entering, ends_call, fits, height_of}
 use Rattle.tcl_core.specs.Rules.{Derives, IsNoExit}
-use Rattle.tcl_core.specs.Threads.{Crossings, event}
+use Rattle.tcl_core.specs.Execution.{Crossings, event}
 use Rattle.tcl_core.specs.Lives.{Outcome, copies}
 use Rattle.tcl_core.specs.Lives.Outcome.{Exited}
 use Rattle.tcl_core.proofs.Seeing.{is_exit_self}

@@ -12,7 +12,7 @@ use Rattle.tcl_core.specs.Trees.What.{Charged, Refused, Nested, Out, In, Done, B
 use Rattle.tcl_core.specs.Programs.{Wait, Wrap, closes}
 use Rattle.tcl_core.specs.Programs.Wrap.{Deeper, Framed}
 use Rattle.tcl_core.specs.Runs.{World, Step, fits}
-use Rattle.tcl_core.specs.Threads.{Crossings, event}
+use Rattle.tcl_core.specs.Execution.{Crossings, event}
 use Rattle.tcl_core.specs.Lives.{Outcome, Uncut, IsUncut, begun, begun_at, ended, ended_at, last_of, one_more, outs_of, outcome_of, outcome_at, put, told}
 use Rattle.tcl_core.specs.Lives.Outcome.{Finished, Exited}
 use Rattle.tcl_core.proofs.Beginnings.{outs_append}

@@ -13,8 +13,8 @@ use Rattle.tcl_core.specs.Lives.Outcome.{Finished, Waiting, Ended, Exited, Spent
 use Rattle.tcl_core.specs.Programs.{Deed, Prog, Table}
 use Rattle.tcl_core.specs.Programs.Next.{On, Off}
 use Rattle.tcl_core.specs.Programs.Prog.{wait}
-use Rattle.tcl_core.specs.Threads.{Crossings, Threads, event}
-use Rattle.tcl_core.specs.Threads.Threads.{completed, exited, acted, refused, wrapped, wrapped_passed, called_out, answered, answered_passed}
+use Rattle.tcl_core.specs.Execution.{Crossings, Executes, event}
+use Rattle.tcl_core.specs.Execution.Executes.{completed, exited, acted, refused, wrapped, wrapped_passed, called_out, answered, answered_passed}
 use Rattle.tcl_core.specs.Trees.{Move, Tree, effect}
 use Rattle.tcl_core.specs.Trees.Move.{Come}
 use Rattle.tcl_core.specs.Trees.What.{Changed, Charged, Nested, Refused, Unnested, Done}
@@ -24,7 +24,7 @@ use Rattle.tcl_reactions.specs.Playing.Answers.{reads, ends, waits, unfits}
 use Rattle.tcl_reactions.specs.Playing.Fate.{Waits, Unfits, EndsAbove, Spends}
 
 abbrev Runs : Table ℕ Script → Tree ℕ → Player ℕ → Prog ℕ Script → Tree ℕ → Player ℕ → Reply → Type 0
-Runs prog T o x V z r = Threads (Crossings plays) prog T o [] x V z r
+Runs prog T o x V z r = Executes (Crossings plays) prog T o [] x V z r
 
 -- AN ENTRY THAT IS PASSED ON
 -- after the entry was read, and after the call went out

@@ -6,12 +6,13 @@ use Rattle.tcl_core.specs.Endings.Reply.{Completed, Cut, Exit}
 use Rattle.tcl_core.specs.Entries.Answer.{Replied, Heard}
 use Rattle.tcl_core.specs.Entries.Entry.{Eval}
 use Rattle.tcl_core.specs.Entries.HostReply.{TheEnd}
-use Rattle.tcl_core.specs.Example.{Script, an_answer, child_alone, commands, finish, finish_calls, lost, one_entry}
+use Rattle.tcl_core.specs.Example.{Script, an_answer, child_alone, commands, finish, finish_calls}
+use Rattle.tcl_core.specs.Example.{lost, one_entry}
 use Rattle.tcl_core.specs.Lives.{Outcome}
 use Rattle.tcl_core.specs.Lives.Outcome.{Finished, Waiting, Ended, Exited, Spent, Misfit}
 use Rattle.tcl_core.specs.Programs.{Table}
 use Rattle.tcl_core.specs.Programs.Prog.{done, exit, call}
-use Rattle.tcl_core.specs.Threads.{event}
+use Rattle.tcl_core.specs.Execution.{event}
 use Rattle.tcl_core.specs.Trees.{Event, Move, Tree}
 use Rattle.tcl_core.specs.Trees.Move.{Come}
 use Rattle.tcl_core.specs.Trees.What.{Out, Done}
@@ -19,14 +20,27 @@ use Rattle.tcl_reactions.specs.Playing.{IsOver, Lived, Player, beginner, outcome
 
 -- each entry is passed on to the interpreter above, which is outside of the tree
 abbrev pub asking : Table ℕ Script
-asking = record { program = λ i. done lost; entry = λ i. call (Some 1) [] i lost finish; lost = lost; programs_call = λ i. tt; entries_call = λ i. finish_calls }
+asking = record {
+  program = λ i. done lost;
+  entry = λ i. call (Some 1) [] i lost finish;
+  lost = lost;
+  programs_call = λ i. tt;
+  entries_call = λ i. finish_calls;
+}
 
 -- each entry is an exit
 abbrev pub leaving : Table ℕ Script
-leaving = record { program = λ i. done lost; entry = λ i. exit (pos 3); lost = lost; programs_call = λ i. tt; entries_call = λ i. tt }
+leaving = record {
+  program = λ i. done lost;
+  entry = λ i. exit (pos 3);
+  lost = lost;
+  programs_call = λ i. tt;
+  entries_call = λ i. tt;
+}
 
 -- Playing these moves with so many steps comes to this outcome, tells this, and is then over.
-pub record Comes_to (prog : Table ℕ Script) (ms : List (Move ℕ)) (n : ℕ) (x : Outcome) (outs : List (Event ℕ)) : Type 0 where
+pub record Comes_to (prog : Table ℕ Script) (ms : List (Move ℕ)) (n : ℕ) (x : Outcome)
+    (outs : List (Event ℕ)) : Type 0 where
   pub last : Tree ℕ
   pub player : Player ℕ
   pub playing : Lived prog child_alone (beginner ms n) last player
@@ -53,10 +67,13 @@ pub record WorkedPlayings : Type 0 where
   pub spent : Comes_to commands one_entry 0 Spent []
   -- an answer to a call that it didn't make
   pub uncalled : Comes_to commands an_answer 1 Misfit []
-  -- an answer that its call waits for, none, an end from outside, and what a host says, which is no answer to it
-  pub answered : Comes_to asking (one_entry_and (Completed (ok []))) 1 Finished (asked ∷ done_so ∷ [])
+  -- an answer that its call waits for, none, an end from outside, and what a host says, which is no
+  -- answer to it
+  pub answered : Comes_to asking (one_entry_and (Completed (ok []))) 1 Finished
+      (asked ∷ done_so ∷ [])
   pub waiting : Comes_to asking one_entry 1 Waiting (asked ∷ [])
   pub ended : Comes_to asking (one_entry_and (Cut Above)) 1 Ended (asked ∷ [])
   pub unfit : Comes_to asking one_entry_heard 1 Misfit (asked ∷ [])
   -- an exit
-  pub exited : Comes_to leaving one_entry 1 (Exited (pos 3)) (event [] (Done None (Exit (pos 3))) ∷ [])
+  pub exited : Comes_to leaving one_entry 1 (Exited (pos 3))
+      (event [] (Done None (Exit (pos 3))) ∷ [])

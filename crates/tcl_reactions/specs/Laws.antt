@@ -10,35 +10,52 @@ use Rattle.tcl_core.specs.Trees.{Tree, Move}
 use Rattle.tcl_core.specs.Trees.What.{Charged, Refused, Dropped, Out, In, Done, Back}
 use Rattle.tcl_core.specs.Programs.{Table}
 use Rattle.tcl_core.specs.Runs.{is_own}
-use Rattle.tcl_core.specs.Threads.{event}
+use Rattle.tcl_core.specs.Execution.{event}
 use Rattle.tcl_core.specs.Lives.{React}
 use Rattle.tcl_core.specs.Lives.Outcome.{Exited}
 use Rattle.tcl_core.specs.Laws.{KeepsTop}
-use Rattle.tcl_reactions.specs.Playing.{Fate, Player, Lived, IsOver, beginner, last_end, outcome, plays, tree_left}
+use Rattle.tcl_reactions.specs.Playing.{Fate, Player, Lived, IsOver, beginner, last_end, outcome}
+use Rattle.tcl_reactions.specs.Playing.{plays, tree_left}
 
--- What comes of playing these moves to a tree, with so many steps, is what that tree does by itself with them and that budget: the
--- outcome, what is told to the outside, and the tree left.
+-- What comes of playing these moves to a tree, with so many steps, is what that tree does by itself
+-- with them and that budget: the outcome, what is told to the outside, and the tree left.
 abbrev pub PlayedIsReact : Type 0 → Type 0 → Type 0
 PlayedIsReact O I = (prog : Table O I) (S V : Tree O) (ms : List (Move O)) (n : ℕ) (z : Player O) →
-    Lived prog S (beginner ms n) V z → IsOver z → React prog S ms n (outcome z) z.outs (tree_left z V)
+    Lived prog S (beginner ms n) V z → IsOver z →
+    React prog S ms n (outcome z) z.outs (tree_left z V)
 
 -- the last entry ended by this exit, or the playing is over
 abbrev pub HasExited : {O : Type 0} → Player O → ℤ → Type 0
 HasExited {O} o n = ((f : Fate O) × (o.fate ≡ Some f)) ⊎ (last_end o ≡ Exited n)
 
--- The player is never at a loss, whatever it was told before, where the moves are entries and answers.
+-- The player is never at a loss, whatever it was told before, where the moves are entries and
+-- answers.
 pub record NeverStuck (O : Type 0) : Type 0 where
   -- a step is made, or it is refused
-  pub steps : (T : Tree O) (p : Place) (o : Player O) → ((z : Player O) × plays T o None (event p Charged) z) ⊎ ((z : Player O) × plays T o None (event p (Refused Count None)) z)
-  -- an interpreter is dropped; a call goes out, comes in at another of the tree, is done, and is answered there
-  pub drops : (T : Tree O) (p : Place) (o : Player O) → (z : Player O) × plays T o None (event p Dropped) z
-  pub goes_out : (T : Tree O) (p : Place) (h : Height) (down : Path) (i : Entry) (o : Player O) → (z : Player O) × plays T o None (event p (Out h down i)) z
-  pub comes_in : (T : Tree O) (p a : Place) (h : Height) (i : Entry) (o : Player O) → rise_to h p ≡ Some a → (z : Player O) × plays T o None (event p (In h i)) z
-  pub is_done : (T : Tree O) (p : Place) (h : Height) (r : Reply) (o : Player O) → (z : Player O) × plays T o None (event p (Done h r)) z
-  pub comes_back : (T : Tree O) (p a : Place) (h : Height) (y : Answer) (o : Player O) → rise_to h p ≡ Some a → (z : Player O) × plays T o None (event p (Back h y)) z
+  pub steps : (T : Tree O) (p : Place) (o : Player O) →
+      ((z : Player O) × plays T o None (event p Charged) z) ⊎
+      ((z : Player O) × plays T o None (event p (Refused Count None)) z)
+  -- an interpreter is dropped; a call goes out, comes in at another of the tree, is done, and is
+  -- answered there
+  pub drops : (T : Tree O) (p : Place) (o : Player O) → (z : Player O) ×
+      plays T o None (event p Dropped) z
+  pub goes_out : (T : Tree O) (p : Place) (h : Height) (down : Path) (i : Entry) (o : Player O) →
+      (z : Player O) × plays T o None (event p (Out h down i)) z
+  pub comes_in : (T : Tree O) (p a : Place) (h : Height) (i : Entry) (o : Player O) →
+      rise_to h p ≡ Some a → (z : Player O) × plays T o None (event p (In h i)) z
+  pub is_done : (T : Tree O) (p : Place) (h : Height) (r : Reply) (o : Player O) → (z : Player O) ×
+      plays T o None (event p (Done h r)) z
+  pub comes_back : (T : Tree O) (p a : Place) (h : Height) (y : Answer) (o : Player O) →
+      rise_to h p ≡ Some a → (z : Player O) × plays T o None (event p (Back h y)) z
   -- to a call that left the tree an entry comes next, or an answer of its own
-  pub next : (T : Tree O) (p : Place) (h : Height) (i : Entry) (o : Player O) → rise_to h p ≡ None → KeepsTop o.left →
-      ((t : Path) × (e : Entry) × (z : Player O) × plays T o None (event t (In None e)) z) ⊎ ((a : Answer) × (z : Player O) × plays T o (Some (h, i)) (event p (Back h a)) z × (is_own h i a ≡ true))
+  pub next : (T : Tree O) (p : Place) (h : Height) (i : Entry) (o : Player O) → rise_to h p ≡ None →
+      KeepsTop o.left →
+      ((t : Path) × (e : Entry) × (z : Player O) × plays T o None (event t (In None e)) z) ⊎
+      ((a : Answer) × (z : Player O) × plays T o (Some (h, i)) (event p (Back h a)) z ×
+      (is_own h i a ≡ true))
   -- and after an entry of it that ended by an exit the call ends by that exit
-  pub has_exited : (T : Tree O) (t : Path) (n : ℤ) (o z : Player O) → plays T o None (event t (Done None (Exit n))) z → HasExited z n
-  pub exits : (T : Tree O) (p : Place) (h : Height) (i : Entry) (n : ℤ) (o : Player O) → rise_to h p ≡ None → HasExited o n → (z : Player O) × plays T o (Some (h, i)) (event p (Back h (Replied (Exit n)))) z
+  pub has_exited : (T : Tree O) (t : Path) (n : ℤ) (o z : Player O) →
+      plays T o None (event t (Done None (Exit n))) z → HasExited z n
+  pub exits : (T : Tree O) (p : Place) (h : Height) (i : Entry) (n : ℤ) (o : Player O) →
+      rise_to h p ≡ None → HasExited o n → (z : Player O) ×
+      plays T o (Some (h, i)) (event p (Back h (Replied (Exit n)))) z

@@ -1,5 +1,7 @@
--- An outside that plays a list of moves to a tree by itself: what it makes of what it is told, and how the playing is over.
-use Rattle.std.specs.Prelude.{◌≡◌, ℕ, suc, Bool, true, false, List, [], ◌∷◌, ◌++◌, Option, Some, None}
+-- An outside that plays a list of moves to a tree by itself: what it makes of what it is told, and
+-- how the playing is over.
+use Rattle.std.specs.Prelude.{◌≡◌, ℕ, suc, Bool, true, false, List, [], ◌∷◌, ◌++◌, Option, Some}
+use Rattle.std.specs.Prelude.{None}
 use Rattle.tcl_core.specs.Paths.{Path, Place, rise_to}
 use Rattle.tcl_core.specs.Endings.{Reply}
 use Rattle.tcl_core.specs.Endings.Meter.{Count}
@@ -11,7 +13,7 @@ use Rattle.tcl_core.specs.Trees.What.{Charged, Refused, Out, In, Done, Back}
 use Rattle.tcl_core.specs.Trees.Move.{Enter, Come}
 use Rattle.tcl_core.specs.Programs.{Wait, Table}
 use Rattle.tcl_core.specs.Runs.{answers_call, entering, is_exit}
-use Rattle.tcl_core.specs.Threads.{Crossings, Threads, event}
+use Rattle.tcl_core.specs.Execution.{Crossings, Executes, event}
 use Rattle.tcl_core.specs.Lives.{Outcome, outcome_of}
 use Rattle.tcl_core.specs.Lives.Outcome.{Finished, Waiting, Ended, Exited, Spent, Misfit}
 
@@ -26,15 +28,17 @@ pub data Fate (O : Type 0) : Type 0 where
   -- a step was to be made, and none was left
   Spends : Fate O
 
--- Who plays: the moves and the steps that are left, what was told, and why the playing is over, if it is.
+-- Who plays: the moves and the steps that are left, what was told, and why the playing is over, if
+-- it is.
 pub record Player (O : Type 0) : Type 0 where
   pub left : List (Move O)
   pub steps : ℕ
   pub outs : List (Event O)
   pub fate : Option (Fate O)
 
--- Whether an answer may come to the open call: to an alias how its evaluation ended, to a request one of its own answers; but after an
--- entry that ended by an exit that exit alone. The outcome is that of the last entry.
+-- Whether an answer may come to the open call: to an alias how its evaluation ended, to a request
+-- one of its own answers; but after an entry that ended by an exit that exit alone. The outcome is
+-- that of the last entry.
 abbrev pub may_come : Outcome → Wait → Answer → Bool
 may_come (Exited n) s a = is_exit n a
 may_come x s a = answers_call s a
@@ -54,7 +58,8 @@ abbrev pub IsNoCut : Answer → Type 0
 IsNoCut (Replied (Cut c)) = Prim.⊥
 IsNoCut a = Unit {0}
 
--- What ends an open call once the playing is over: an end from outside, or an exit. Which one doesn't matter, since no program is told.
+-- What ends an open call once the playing is over: an end from outside, or an exit. Which one
+-- doesn't matter, since no program is told.
 abbrev pub IsEnd : Answer → Type 0
 IsEnd (Replied (Cut c)) = Unit {0}
 IsEnd (Replied (Exit n)) = Unit {0}
@@ -76,20 +81,28 @@ module _ {O : Type 0} where
   last_end o = outcome_of o.outs Finished
 
 -- The open call s is answered by a, the tree being T.
-pub data Answers {O : Type 0} (T : Tree O) (o : Player O) (s : Wait) (a : Answer) (z : Player O) : Type 0 where
+pub data Answers {O : Type 0} (T : Tree O) (o : Player O) (s : Wait) (a : Answer) (z : Player O) :
+    Type 0 where
   -- by the next move
-  reads : (ms : List (Move O)) → o.fate ≡ None → o.left ≡ Come a ∷ ms → suits {O = O} (last_end o) s (Come a) ≡ true → IsNoCut a → z ≡ reading o ms → Answers T o s a z
-  -- or the playing is over by it: the next move is an end from outside; there is none; or it doesn't fit
-  ends : (b : Answer) (ms : List (Move O)) → o.fate ≡ None → o.left ≡ Come b ∷ ms → suits {O = O} (last_end o) s (Come b) ≡ true → IsCut b → IsEnd a → z ≡ stopping (reading o ms) EndsAbove → Answers T o s a z
+  reads : (ms : List (Move O)) → o.fate ≡ None → o.left ≡ Come a ∷ ms →
+      suits {O = O} (last_end o) s (Come a) ≡ true → IsNoCut a → z ≡ reading o ms →
+      Answers T o s a z
+  -- or the playing is over by it: the next move is an end from outside; there is none; or it
+  -- doesn't fit
+  ends : (b : Answer) (ms : List (Move O)) → o.fate ≡ None → o.left ≡ Come b ∷ ms →
+      suits {O = O} (last_end o) s (Come b) ≡ true → IsCut b → IsEnd a →
+      z ≡ stopping (reading o ms) EndsAbove → Answers T o s a z
   waits : o.fate ≡ None → o.left ≡ [] → IsEnd a → z ≡ stopping o (Waits T) → Answers T o s a z
-  unfits : (m : Move O) (ms : List (Move O)) → o.fate ≡ None → o.left ≡ m ∷ ms → suits (last_end o) s m ≡ false → IsEnd a → z ≡ stopping o Unfits → Answers T o s a z
+  unfits : (m : Move O) (ms : List (Move O)) → o.fate ≡ None → o.left ≡ m ∷ ms →
+      suits (last_end o) s m ≡ false → IsEnd a → z ≡ stopping o Unfits → Answers T o s a z
   -- or it was over already, and nothing more is read
   passes : (f : Fate O) → o.fate ≡ Some f → IsEnd a → z ≡ o → Answers T o s a z
 
 module _ {O : Type 0} where
   -- a step is made, where the playing goes on and one is left
   abbrev pub Pays : Player O → Player O → Type 0
-  Pays o z = (o.fate ≡ None) × (o.steps ≡ suc z.steps) × (z ≡ record { left = o.left; steps = z.steps; outs = o.outs; fate = o.fate })
+  Pays o z = (o.fate ≡ None) × (o.steps ≡ suc z.steps) ×
+      (z ≡ record { left = o.left; steps = z.steps; outs = o.outs; fate = o.fate })
 
   -- a step is refused, where none is left or the playing is over
   abbrev pub Refuses : Option (Fate O) → Player O → Player O → Type 0
@@ -114,28 +127,36 @@ module _ {O : Type 0} where
   meets T o s p Charged z = Pays o z
   meets T o s p (Refused Count None) z = Refuses o.fate o z
   meets T o s p (Refused m h) z = Prim.⊥
-  meets T o s p (Out h down i) z = past (rise_to h p) o z (Tells o.fate o (event p (Out h down i)) z)
+  meets T o s p (Out h down i) z = past (rise_to h p) o z
+      (Tells o.fate o (event p (Out h down i)) z)
   meets T o s p (Done h r) z = past (rise_to h p) o z (Tells o.fate o (event p (Done h r)) z)
   meets T o s p (In h i) z = past (rise_to h p) o z (HandsIn o p i z)
   meets T o s p (Back h a) z = past (rise_to h p) o z (Answers T o s a z)
   meets T o s p _ z = z ≡ o
 
-  -- The player goes from o to z by a happening, which finds the tree T. It refuses no evaluation: only steps are counted.
+  -- The player goes from o to z by a happening, which finds the tree T. It refuses no evaluation:
+  -- only steps are counted.
   abbrev pub plays : Tree O → Player O → Wait → Event O → Player O → Type 0
   plays T o s ev z = meets T o s ev.place ev.what z
 
--- The playing from the tree T and the player o, entry by entry: each is handed in where the one before came to its end, and not by an exit.
-pub data Lived {O I : Type 0} (prog : Table O I) (T : Tree O) (o : Player O) : Tree O → Player O → Type 0 where
+-- The playing from the tree T and the player o, entry by entry: each is handed in where the one
+-- before came to its end, and not by an exit.
+pub data Lived {O I : Type 0} (prog : Table O I) (T : Tree O) (o : Player O) : Tree O → Player O →
+    Type 0 where
   begun : Lived prog T o T o
-  entered : {U V : Tree O} {u w v z : Player O} (t : Path) (i : Entry) (r : Reply) → Lived prog T o U u → u.fate ≡ None → last_end u ≡ Finished →
-      plays U u None (event t (In None i)) w → Threads (Crossings plays) prog U w t (entering prog (U t) i) V v r → plays V v None (event t (Done None r)) z → Lived prog T o V z
+  entered : {U V : Tree O} {u w v z : Player O} (t : Path) (i : Entry) (r : Reply) →
+      Lived prog T o U u → u.fate ≡ None → last_end u ≡ Finished →
+      plays U u None (event t (In None i)) w →
+      Executes (Crossings plays) prog U w t (entering prog (U t) i) V v r →
+      plays V v None (event t (Done None r)) z → Lived prog T o V z
 
 module _ {O : Type 0} where
   -- who is to play these moves, with so many steps
   abbrev pub beginner : List (Move O) → ℕ → Player O
   beginner ms n = record { left = ms; steps = n; outs = []; fate = None }
 
-  -- The playing is over: it was cut short; or the last entry ended by an exit; or no entry comes next.
+  -- The playing is over: it was cut short; or the last entry ended by an exit; or no entry comes
+  -- next.
   abbrev pub NoEntryNext : List (Move O) → Type 0
   NoEntryNext [] = Unit {0}
   NoEntryNext (Come a ∷ ms) = Unit {0}
@@ -171,7 +192,8 @@ module _ {O : Type 0} where
   abbrev pub outcome : Player O → Outcome
   outcome z = outcome_by z.fate (last_end z) z.left
 
-  -- the tree that it leaves, V being the one after all: where it waits, the one that stood at the open call
+  -- the tree that it leaves, V being the one after all: where it waits, the one that stood at the
+  -- open call
   abbrev pub left_by : Option (Fate O) → Tree O → Tree O
   left_by (Some (Waits S)) V = S
   left_by f V = V

@@ -1,5 +1,6 @@
-//! What a tree does to which a list of moves is played. The definitions stand in `specs/`, and each function here is a law.
-//! `O` is the own part of an interpreter, `I` what can be going on in one; each law holds for every table of commands.
+//! What a tree does to which a list of moves is played. The definitions stand in `specs/`, and each
+//! function here is a law. `O` is the own part of an interpreter, `I` what can be going on in one;
+//! each law holds for every table of commands.
 #![tactic(auto)]
 
 ghost use Rattle.tcl_reactions.specs.Example.{WorkedPlayings};

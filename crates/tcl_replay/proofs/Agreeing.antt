@@ -16,7 +16,7 @@ use Rattle.tcl_text.specs.declared.integer.Integers.{Integers}
 use Rattle.tcl_tree.specs.Own.{Own}
 use Rattle.tcl_tree.specs.TreeOf.{marks_of, tree_of}
 use Rattle.tcl_tree.specs.declared.tree.Tree.{Tree as Table}
-use Rattle.tcl_watching.specs.Records.{RecordView}
+use Rattle.tcl_recorder.specs.Records.{RecordView}
 use Rattle.tcl_replay.specs.Worlds.{World}
 use Rattle.tcl_replay.proofs.Recorded.{at_first, at_last, run_of, stood, visited}
 

@@ -7,7 +7,7 @@ use Rattle.tcl_core.specs.Lives.{End as Ending, limited}
 use Rattle.tcl_core.specs.Paths.{Path, Text}
 use Rattle.tcl_core.specs.Runs.{Runs, entering}
 use Rattle.tcl_core.specs.Programs.{Wait}
-use Rattle.tcl_core.specs.Threads.{Chain, Crossings, before, event}
+use Rattle.tcl_core.specs.Execution.{Chain, Crossings, before, event}
 use Rattle.tcl_core.specs.Trees.{Event, Tree, Node}
 use Rattle.tcl_core.specs.Trees.What.{In, Done}
 use Rattle.tcl_core.proofs.Following.{ahead-all, nothing}
@@ -36,12 +36,12 @@ use Rattle.tcl_eval.specs.Running.{IsOpenRun, ending_of, first_of, most_steps, r
 use Rattle.tcl_eval.specs.declared.running.End.{End}
 use Rattle.tcl_eval.specs.declared.running.Refused.{Refused}
 use Rattle.tcl_eval.specs.declared.running.Refused.TheVariants as refused
-use Rattle.tcl_watching.specs.Laws.{IsWatched}
-use Rattle.tcl_watching.specs.Recording.{crossed, noted, recorded}
-use Rattle.tcl_watching.specs.declared.recorder.Recorder.{Recorder}
-use Rattle.tcl_watching.proofs.Fates.{fate_parts}
-use Rattle.tcl_watching.proofs.Visits.{after_parts, visits}
-use Rattle.tcl_watching.proofs.Watched.{after_one, step as recorder_step, unwatched, watched}
+use Rattle.tcl_recorder.specs.Laws.{IsWatched}
+use Rattle.tcl_recorder.specs.Recording.{crossed, noted, recorded}
+use Rattle.tcl_recorder.specs.declared.recorder.Recorder.{Recorder}
+use Rattle.tcl_recorder.proofs.Fates.{fate_parts}
+use Rattle.tcl_recorder.proofs.Visits.{after_parts, visits}
+use Rattle.tcl_recorder.proofs.Watched.{after_one, step as recorder_step, unwatched, watched}
 use Rattle.tcl_replay.specs.Watched.{IsEntryRun}
 
 -- where a run can begin, the interpreter stands, and the script is short

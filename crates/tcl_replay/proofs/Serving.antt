@@ -8,15 +8,15 @@ use Rattle.tcl_core.specs.Lives.{Outcome, React}
 use Rattle.tcl_core.specs.Paths.{Path, Place, Text}
 use Rattle.tcl_core.specs.Programs.{Wait}
 use Rattle.tcl_core.specs.Runs.{entering}
-use Rattle.tcl_core.specs.Threads.{Crossings, event, hears}
+use Rattle.tcl_core.specs.Execution.{Crossings, event, hears}
 use Rattle.tcl_core.specs.Trees.{Event, Move, Tree, What}
 use Rattle.tcl_core.specs.Trees.What.{Charged, Refused, Dropped, Out, In, Done, Back}
 use Rattle.tcl_evaluation.specs.Waiting.{EndsEntry}
 use Rattle.tcl_flow.specs.View.{completion_of}
 use Rattle.tcl_flow.specs.Stopping as stopping
 use Rattle.tcl_language_laws.specs.Language.{language}
-use Rattle.tcl_playing.specs.Players.{Begins, played, player_of}
-use Rattle.tcl_playing.specs.declared.player.Player as declared
+use Rattle.tcl_player.specs.Players.{Begins, played, player_of}
+use Rattle.tcl_player.specs.declared.player.Player as declared
 use Rattle.tcl_reactions.specs.Playing.{IsOver, Lived, Player, beginner, outcome, plays, tree_left}
 use Rattle.tcl_reactions.specs.Playing.Lived.{entered}
 use Rattle.tcl_reactions.proofs.Reacted.{played_is_react}
@@ -30,7 +30,7 @@ use Rattle.tcl_text.specs.declared.integer.Integers.{Integers}
 use Rattle.tcl_tree.specs.Own.{Own}
 use Rattle.tcl_tree.specs.TreeOf.{marks_of, tree_of}
 use Rattle.tcl_tree.specs.declared.tree.Tree as table
-use Rattle.tcl_watching.proofs.Watched.{comes_along}
+use Rattle.tcl_recorder.proofs.Watched.{comes_along}
 
 -- what a player as it is kept is told is told the player that is seen
 seen : (T : Tree Own) (o : declared.Player) (s : Wait) (p : Place) (x : What Own) (u : declared.Player) → hears played T o s p x u → hears plays T (player_of o) s p x (player_of u)

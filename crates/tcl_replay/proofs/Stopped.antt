@@ -4,7 +4,7 @@ use Rattle.tcl_core.specs.Endings.{Reply}
 use Rattle.tcl_core.specs.Entries.{Entry}
 use Rattle.tcl_core.specs.Laws.{Obeys, Unmoved, freed, raised_at, unmoved_by}
 use Rattle.tcl_core.specs.Paths.{Height, Place, rise_to, strip}
-use Rattle.tcl_core.specs.Threads.{event}
+use Rattle.tcl_core.specs.Execution.{event}
 use Rattle.tcl_core.specs.Trees.{Event, What}
 use Rattle.tcl_core.specs.Trees.What.{Charged, Done, In}
 

@@ -1,12 +1,13 @@
 -- What contracts see of a replay.
-use Rattle.std.specs.Prelude.{ℕ, ◌+◌, Bool, true, false, nat_le, Option, Some, None, List, [], Result, Err}
+use Rattle.std.specs.Prelude.{ℕ, ◌+◌, Bool, true, false, nat_le, Option, Some, None, List, []}
+use Rattle.std.specs.Prelude.{Result, Err}
 use Rattle.tcl_core.specs.Endings.{Reply}
 use Rattle.tcl_core.specs.Entries.{Entry}
 use Rattle.tcl_core.specs.Lives.{Outcome, count_at}
 use Rattle.tcl_core.specs.Lives.Outcome.{Waiting}
 use Rattle.tcl_core.specs.Paths.{Path}
 use Rattle.tcl_core.specs.Runs.{entering}
-use Rattle.tcl_core.specs.Threads.{event}
+use Rattle.tcl_core.specs.Execution.{event}
 use Rattle.tcl_core.specs.Trees.{Tree}
 use Rattle.tcl_core.specs.Trees.What.{Done}
 use Rattle.tcl_eval.specs.Running.{most_steps}
@@ -40,10 +41,12 @@ is_waiting Waiting = true
 is_waiting x = false
 
 -- An entry that was handed in to the tree U ran there, and the player was told how it ended.
-pub record Serves (style : Integers) (U : Tree Own) (w : Player Own) (target : Path) (i : Entry) (V : Tree Own) (z : Player Own) : Type 0 where
+pub record Serves (style : Integers) (U : Tree Own) (w : Player Own) (target : Path) (i : Entry)
+    (V : Tree Own) (z : Player Own) : Type 0 where
   pub between : Player Own
   pub reply : Reply
-  pub runs : Comes plays (language style) U w target (entering (language style) (U target) i) V between reply
+  pub runs : Comes plays (language style) U w target (entering (language style) (U target) i) V
+      between reply
   pub told : plays V between None (event target (Done None reply)) z
 
 -- the evaluation ended for want of memory

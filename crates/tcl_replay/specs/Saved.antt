@@ -10,14 +10,19 @@ use Rattle.tcl_tree.specs.TreeOf.{marks_of, tree_of}
 use Rattle.tcl_tree.specs.declared.tree.Tree.{Tree as Table}
 use Rattle.tcl_replay.specs.declared.saving.Saved.{Saved}
 
--- its interpreters, how integer texts are read in them, and whether a replay left it where a call was open
+-- its interpreters, how integer texts are read in them, and whether a replay left it where a call
+-- was open
 pub record SavedView : Type 0 where
   pub tree : Tree Own
   pub integers : Integers
   pub waits : Bool
 
 abbrev pub saved_of : Saved → SavedView
-saved_of s = record { tree = tree_of s.tree; integers = (marks_of s.tree).integers; waits = s.waits }
+saved_of s = record {
+  tree = tree_of s.tree;
+  integers = (marks_of s.tree).integers;
+  waits = s.waits;
+}
 
 -- why nothing is saved, want of memory aside: the tree is broken, or nobody stands there
 abbrev pub first_of : Bool → Bool → Option Refused

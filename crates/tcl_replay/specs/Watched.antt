@@ -1,18 +1,22 @@
 -- What contracts see of an evaluation that is watched.
-use Rattle.std.specs.Prelude.{◌≡◌, ℕ, ◌≤◌, ◌+◌, ◌&&◌, Bool, true, false, List, [], ◌++◌, nat_le, Option, Some, None, is_some, Result, Ok, Err}
+use Rattle.std.specs.Prelude.{◌≡◌, ℕ, ◌≤◌, ◌+◌, ◌&&◌, Bool, true, false, List, [], ◌++◌, nat_le}
+use Rattle.std.specs.Prelude.{Option, Some, None, is_some, Result, Ok, Err}
 use Rattle.tcl_core.specs.Endings.{Reply}
 use Rattle.tcl_core.specs.Entries.Entry.{Eval}
-use Rattle.tcl_core.specs.Laws.{AreFree, ArePlain, AsLimited, AsksNothing, IsLowering, IsSafeAt, IsSpared, IsStanding, IsUnended, Obeys, Unasked, rest}
-use Rattle.tcl_core.specs.Lives.{Outcome, React, count_at, end_at, limit_at, limited, outcome_of, outs_of}
+use Rattle.tcl_core.specs.Laws.{AreFree, ArePlain, AsLimited, AsksNothing, IsLowering, IsSafeAt}
+use Rattle.tcl_core.specs.Laws.{IsSpared, IsStanding, IsUnended, Obeys, Unasked, rest}
+use Rattle.tcl_core.specs.Lives.{Outcome, React, count_at, end_at, limit_at, limited, outcome_of}
+use Rattle.tcl_core.specs.Lives.{outs_of}
 use Rattle.tcl_core.specs.Lives.Outcome.{Finished}
 use Rattle.tcl_core.specs.Paths.{Path, Text}
 use Rattle.tcl_core.specs.Runs.{Runs, Visits, entering}
 use Rattle.tcl_core.specs.Tables.{exposes}
-use Rattle.tcl_core.specs.Threads.{Chain, Crossings, before}
+use Rattle.tcl_core.specs.Execution.{Chain, Crossings, before}
 use Rattle.tcl_core.specs.Trees.{Event, Node, Tree, at, effect}
 use Rattle.tcl_core.specs.Trees.What.{Limited}
 use Rattle.tcl_core.specs.Views.{moves_of, steps_of, view}
-use Rattle.tcl_eval.specs.Running.{IsRun, IsWhole, ending_of, first_of, most_steps, root_count, root_limit}
+use Rattle.tcl_eval.specs.Running.{IsRun, IsWhole, ending_of, first_of, most_steps, root_count}
+use Rattle.tcl_eval.specs.Running.{root_limit}
 use Rattle.tcl_eval.specs.declared.running.End.{End}
 use Rattle.tcl_eval.specs.declared.running.Refused.{Refused}
 use Rattle.tcl_eval.specs.declared.running.Refused.TheVariants as refused
@@ -28,23 +32,27 @@ use Rattle.tcl_run.specs.Outsides.{hosted}
 use Rattle.tcl_tree.specs.Own.{Own}
 use Rattle.tcl_tree.specs.TreeOf.{marks_of, tree_of}
 use Rattle.tcl_tree.specs.declared.tree.Tree.{Tree as Table}
-use Rattle.tcl_watching.specs.Boundary.{boundary}
-use Rattle.tcl_watching.specs.Laws.{WatchedEntry}
-use Rattle.tcl_watching.specs.Records.{RecordView}
-use Rattle.tcl_watching.specs.declared.recorder.Recorder.{Recorder}
+use Rattle.tcl_recorder.specs.Boundary.{boundary}
+use Rattle.tcl_recorder.specs.Laws.{WatchedEntry}
+use Rattle.tcl_recorder.specs.Records.{RecordView}
+use Rattle.tcl_recorder.specs.declared.recorder.Recorder.{Recorder}
 use Rattle.tcl_replay.specs.declared.watching.Unwatched.{Unwatched}
 use Rattle.tcl_replay.specs.declared.watching.Unwatched.TheVariants as unwatched
 
 -- ## Before it
 
--- The first of these that doesn't hold is why there is none: the tree isn't broken, interpreters stand at the path and where it is watched, the steps
--- can be counted, and the script is short enough.
+-- The first of these that doesn't hold is why there is none: the tree isn't broken, interpreters
+-- stand at the path and where it is watched, the steps can be counted, and the script is short
+-- enough.
 abbrev pub unwatchable : Table → Path → Text → ℕ → Path → Option Refused
-unwatchable t path script limit watched = first_of (marks_of t).broken (is_some (tree_of t path) && is_some (tree_of t watched)) (nat_le (root_count t + limit) most_steps) (fits script)
+unwatchable t path script limit watched = first_of (marks_of t).broken
+    (is_some (tree_of t path) && is_some (tree_of t watched))
+    (nat_le (root_count t + limit) most_steps) (fits script)
 
 -- ## What it answers
 
--- what is answered where the run ended so, with this record, and the watched interpreter was deleted or not
+-- what is answered where the run ended so, with this record, and the watched interpreter was
+-- deleted or not
 abbrev pub answer_if : Bool → End → RecordView → Result (End × RecordView) Unwatched
 answer_if true e r = Err (unwatched.Deleted e)
 answer_if false e r = Ok (e, r)
@@ -73,14 +81,20 @@ IfRefused (Err (unwatched.Refused f)) P = P f
 
 -- ## The run and its record
 
--- A run of the script is one entry into the interpreter at the path, in the tree whose root may be counted so many steps more; then the root has its own limit
--- again. This happens in it, it takes the host from one state to the other, and the crossings are those of the boundary of the interpreter at `watched`,
--- which stood there at first. Just this is what happens in the whole evaluation of the script, with replies that belong to the host.
-pub record IsRecorded {S : Type 0} (step : S → Request → HostReply → S → Type 0) (old : Table) (o : S) (path : Path) (script : Text) (limit : ℕ) (watched : Path) (crossings : List (Event Own)) (new : Table) (z : S) (e : End) : Type 0 where
+-- A run of the script is one entry into the interpreter at the path, in the tree whose root may be
+-- counted so many steps more; then the root has its own limit again. This happens in it, it takes
+-- the host from one state to the other, and the crossings are those of the boundary of the
+-- interpreter at `watched`, which stood there at first. Just this is what happens in the whole
+-- evaluation of the script, with replies that belong to the host.
+pub record IsRecorded {S : Type 0} (step : S → Request → HostReply → S → Type 0) (old : Table)
+    (o : S) (path : Path) (script : Text) (limit : ℕ) (watched : Path)
+    (crossings : List (Event Own)) (new : Table) (z : S) (e : End) : Type 0 where
   pub during : Tree Own
   pub reply : Reply
   pub events : List (Event Own)
-  pub visits : Visits (language (marks_of old).integers) (Runs (language (marks_of old).integers)) (before (limited limit (tree_of old)) (visit path (Eval script) events reply)) None path (Eval script) (before during []) (Some reply)
+  pub visits : Visits (language (marks_of old).integers) (Runs (language (marks_of old).integers))
+      (before (limited limit (tree_of old)) (visit path (Eval script) events reply)) None path
+      (Eval script) (before during []) (Some reply)
   pub outside : Chain (Crossings (hosted step)) (limited limit (tree_of old)) o events during z
   pub recorded : crossings ≡ boundary watched (visit path (Eval script) events reply)
   pub node : Node Own
@@ -90,109 +104,159 @@ pub record IsRecorded {S : Type 0} (step : S → Request → HostReply → S →
   pub whole : IsWhole step old o path script limit new z e
   pub taped : whole.whole.tape ≡ visit path (Eval script) events reply
 
-module _ {S : Type 0} (step : S → Request → HostReply → S → Type 0) (old : Table) (o : S) (path : Path) (script : Text) (limit : ℕ) (watched : Path) where
+module _ {S : Type 0} (step : S → Request → HostReply → S → Type 0) (old : Table) (o : S)
+    (path : Path) (script : Text) (limit : ℕ) (watched : Path) where
   -- all that happened in it, from the entry to its end
-  abbrev pub happened : (crossings : List (Event Own)) (new : Table) (z : S) (e : End) → IsRecorded step old o path script limit watched crossings new z e → List (Event Own)
+  abbrev pub happened : (crossings : List (Event Own)) (new : Table) (z : S) (e : End) →
+      IsRecorded step old o path script limit watched crossings new z e → List (Event Own)
   happened crossings new z e w = visit path (Eval script) w.events w.reply
 
   -- There is such a run in which the watched interpreter isn't dropped, and of which this is so.
-  abbrev pub IsRecordWith : (crossings : List (Event Own)) (new : Table) (z : S) (e : End) → (List (Event Own) → Type 0) → Type 0
-  IsRecordWith crossings new z e P = (w : IsRecorded step old o path script limit watched crossings new z e) × IsSpared watched (happened crossings new z e w) × P (happened crossings new z e w)
+  abbrev pub IsRecordWith : (crossings : List (Event Own)) (new : Table) (z : S) (e : End) →
+      (List (Event Own) → Type 0) → Type 0
+  IsRecordWith crossings new z e P =
+      (w : IsRecorded step old o path script limit watched crossings new z e) ×
+      IsSpared watched (happened crossings new z e w) × P (happened crossings new z e w)
 
-  -- The record has the crossings of the watched interpreter's boundary in the run, in which that one isn't dropped.
+  -- The record has the crossings of the watched interpreter's boundary in the run, in which that
+  -- one isn't dropped.
   abbrev pub IsRecord : RecordView → Table → S → End → Type 0
   IsRecord r new z e = (r.watched ≡ watched) × IsRecordWith r.crossings new z e (λ τ. Unit {0})
 
   -- There is such a run in which the watched interpreter is dropped.
   abbrev pub IsDeletion : Table → S → End → Type 0
-  IsDeletion new z e = (crossings : List (Event Own)) × (w : IsRecorded step old o path script limit watched crossings new z e) × (IsSpared watched (happened crossings new z e w) → Prim.⊥)
+  IsDeletion new z e = (crossings : List (Event Own)) ×
+      (w : IsRecorded step old o path script limit watched crossings new z e) ×
+      (IsSpared watched (happened crossings new z e w) → Prim.⊥)
 
 -- ## What the watched interpreter does by itself
 
--- Below the top, where no entry was ended from outside, the subtree by itself does with the moves of the record what the record tells of it, and leaves the
--- subtree that stands there afterwards: with every budget that isn't less than the rise of its top's count.
+-- Below the top, where no entry was ended from outside, the subtree by itself does with the moves
+-- of the record what the record tells of it, and leaves the subtree that stands there afterwards:
+-- with every budget that isn't less than the rise of its top's count.
 abbrev pub Reacts : Table → Path → List (Event Own) → Table → Type 0
-Reacts old c crossings new = IsBelowTheTop c → IsUnended crossings → (m : ℕ) → Suffices m (tree_of old c) (tree_of new c) →
-    React (language (marks_of old).integers) (at (tree_of old) c) (moves_of crossings) m (outcome_of crossings Finished) (outs_of crossings) (at (tree_of new) c)
+Reacts old c crossings new = IsBelowTheTop c → IsUnended crossings → (m : ℕ) →
+    Suffices m (tree_of old c) (tree_of new c) →
+    React (language (marks_of old).integers) (at (tree_of old) c) (moves_of crossings) m
+    (outcome_of crossings Finished) (outs_of crossings) (at (tree_of new) c)
 
 -- And it does nothing else with them.
 abbrev pub ReactsSo : Table → Path → List (Event Own) → Table → Type 0
-ReactsSo old c crossings new = IsBelowTheTop c → IsUnended crossings → (m : ℕ) → Suffices m (tree_of old c) (tree_of new c) → (x : Outcome) (told : List (Event Own)) (W : Tree Own) →
-    React (language (marks_of old).integers) (at (tree_of old) c) (moves_of crossings) m x told W → (x ≡ outcome_of crossings Finished) × (told ≡ outs_of crossings) × (W ≡ at (tree_of new) c)
+ReactsSo old c crossings new = IsBelowTheTop c → IsUnended crossings → (m : ℕ) →
+    Suffices m (tree_of old c) (tree_of new c) →
+    (x : Outcome) (told : List (Event Own)) (W : Tree Own) →
+    React (language (marks_of old).integers) (at (tree_of old) c) (moves_of crossings) m x told W →
+    (x ≡ outcome_of crossings Finished) × (told ≡ outs_of crossings) × (W ≡ at (tree_of new) c)
 
--- What the record tells up to some place before the first end from outside is a beginning of what the subtree by itself does with the moves up to there.
+-- What the record tells up to some place before the first end from outside is a beginning of what
+-- the subtree by itself does with the moves up to there.
 abbrev pub ReactsUntil : Table → Path → List (Event Own) → Table → Type 0
-ReactsUntil old c crossings new = IsBelowTheTop c → (early late : List (Event Own)) → crossings ≡ early ++ late → IsUnended early → (m : ℕ) → Suffices m (tree_of old c) (tree_of new c) →
-    (x : Outcome) (told : List (Event Own)) (W : Tree Own) → React (language (marks_of old).integers) (at (tree_of old) c) (moves_of early) m x told W → (more : List (Event Own)) × (told ≡ outs_of early ++ more)
+ReactsUntil old c crossings new = IsBelowTheTop c → (early late : List (Event Own)) →
+    crossings ≡ early ++ late → IsUnended early → (m : ℕ) →
+    Suffices m (tree_of old c) (tree_of new c) →
+    (x : Outcome) (told : List (Event Own)) (W : Tree Own) →
+    React (language (marks_of old).integers) (at (tree_of old) c) (moves_of early) m x told W →
+    (more : List (Event Own)) × (told ≡ outs_of early ++ more)
 
 -- ## What is outside of it
 
--- Where the script was evaluated in the watched subtree and nobody there called outside it, all outside it, counts and depths above it aside, is afterwards
--- what it was; and so is the host.
-abbrev pub LeavesTheOutside : {S : Type 0} → Table → S → Path → Path → List (Event Own) → Table → S → Type 0
-LeavesTheOutside old o path c crossings new z = (u : Path) → path ≡ c ++ u → CallsNobody crossings → (rest (tree_of new) c ≡ rest (tree_of old) c) × (z ≡ o)
+-- Where the script was evaluated in the watched subtree and nobody there called outside it, all
+-- outside it, counts and depths above it aside, is afterwards what it was; and so is the host.
+abbrev pub LeavesTheOutside : {S : Type 0} → Table → S → Path → Path → List (Event Own) → Table →
+    S → Type 0
+LeavesTheOutside old o path c crossings new z = (u : Path) → path ≡ c ++ u → CallsNobody crossings →
+    (rest (tree_of new) c ≡ rest (tree_of old) c) × (z ≡ o)
 
--- Where the watched interpreter is safe, in its subtree nobody has a host command, and no entry of the record exposes one or invokes a hidden one, the record
--- has no request of the host.
+-- Where the watched interpreter is safe, in its subtree nobody has a host command, and no entry of
+-- the record exposes one or invokes a hidden one, the record has no request of the host.
 abbrev pub AsksTheHostNothing : Table → Path → List (Event Own) → Type 0
-AsksTheHostNothing old c crossings = IsBelowTheTop c → IsSafeAt (tree_of old) c → ArePlain plain (at (tree_of old) c) → AreFree exposes (moves_of crossings) → AsksNothing crossings
+AsksTheHostNothing old c crossings = IsBelowTheTop c → IsSafeAt (tree_of old) c → ArePlain plain
+    (at (tree_of old) c) → AreFree exposes (moves_of crossings) → AsksNothing crossings
 
 -- ## Counted steps
 
-module _ {S : Type 0} (step : S → Request → HostReply → S → Type 0) (old : Table) (o : S) (path : Path) (script : Text) (limit : ℕ) (c : Path) where
+module _ {S : Type 0} (step : S → Request → HostReply → S → Type 0) (old : Table) (o : S)
+    (path : Path) (script : Text) (limit : ℕ) (c : Path) where
   -- The watched interpreter's count rises by the steps that were made in its subtree.
   abbrev pub Counts : RecordView → Table → S → End → Type 0
-  Counts r new z e = IsBelowTheTop c → IsRecordWith step old o path script limit c r.crossings new z e (λ τ. count_at (tree_of new c) ≡ count_at (tree_of old c) + steps_of (view c τ))
+  Counts r new z e = IsBelowTheTop c →
+      IsRecordWith step old o path script limit c r.crossings new z e
+      (λ τ. count_at (tree_of new c) ≡ count_at (tree_of old c) + steps_of (view c τ))
 
-  -- Once a stop that names the watched interpreter or one above it is raised in its subtree, or comes into it as an answer, no step is made there before the
-  -- stop has left it.
+  -- Once a stop that names the watched interpreter or one above it is raised in its subtree, or
+  -- comes into it as an answer, no step is made there before the stop has left it.
   abbrev pub Stops : RecordView → Table → S → End → Type 0
   Stops r new z e = IsRecordWith step old o path script limit c r.crossings new z e (λ τ. Obeys c τ)
 
-  -- With a count limit that nothing in the run raises or takes away, it is counted at most to the greater of the limit and the count before: to each number
-  -- that both are at most.
+  -- With a count limit that nothing in the run raises or takes away, it is counted at most to the
+  -- greater of the limit and the count before: to each number that both are at most.
   abbrev pub CountStaysWithin : RecordView → Table → S → End → Type 0
-  CountStaysWithin r new z e = IsBelowTheTop c → IsRecordWith step old o path script limit c r.crossings new z e
-      (λ τ. (l b : ℕ) → limit_at (tree_of old c) ≡ Some l → IsLowering l c τ → l ≤ b → count_at (tree_of old c) ≤ b → IsWithin (tree_of new c) l b)
+  CountStaysWithin r new z e = IsBelowTheTop c →
+      IsRecordWith step old o path script limit c r.crossings new z e
+      (λ τ. (l b : ℕ) → limit_at (tree_of old c) ≡ Some l → IsLowering l c τ → l ≤ b →
+      count_at (tree_of old c) ≤ b → IsWithin (tree_of new c) l b)
 
   -- an interpreter that stands has the limits that it had
   abbrev pub KeepsLimits : Option (Node Own) → Option (Node Own) → Type 0
-  KeepsLimits was is = (n : Node Own) → was ≡ Some n → (m : Node Own) × (is ≡ Some m) × (m.limit ≡ n.limit) × (m.depth_limit ≡ n.depth_limit)
+  KeepsLimits was is = (n : Node Own) → was ≡ Some n → (m : Node Own) × (is ≡ Some m) ×
+      (m.limit ≡ n.limit) × (m.depth_limit ≡ n.depth_limit)
 
-  -- No script in a safe watched interpreter changes a limit. The interpreter at q below it, for which no entry of the record asks a limit, has the limits that
-  -- it had, or is new and has those of a new one; and the ones that it had where it is neither made nor dropped, as the watched interpreter itself is not.
+  -- No script in a safe watched interpreter changes a limit. The interpreter at q below it, for
+  -- which no entry of the record asks a limit, has the limits that it had, or is new and has those
+  -- of a new one; and the ones that it had where it is neither made nor dropped, as the watched
+  -- interpreter itself is not.
   abbrev pub LimitsStay : RecordView → Table → S → End → Type 0
   LimitsStay r new z e = IsBelowTheTop c → IsSafeAt (tree_of old) c →
       (Unasked [] (moves_of r.crossings) → KeepsLimits (tree_of old c) (tree_of new c)) ×
       IsRecordWith step old o path script limit c r.crossings new z e
-      (λ τ. (q : Path) → Unasked q (moves_of r.crossings) → AsLimited (tree_of old (c ++ q)) (tree_of new (c ++ q)) × (IsStanding (c ++ q) τ → KeepsLimits (tree_of old (c ++ q)) (tree_of new (c ++ q))))
+      (λ τ. (q : Path) → Unasked q (moves_of r.crossings) →
+      AsLimited (tree_of old (c ++ q)) (tree_of new (c ++ q)) ×
+      (IsStanding (c ++ q) τ → KeepsLimits (tree_of old (c ++ q)) (tree_of new (c ++ q))))
 
--- With a count limit that no entry of the record raises or takes away, a safe watched interpreter is counted at most to the greater of the limit and the count
--- before.
+-- With a count limit that no entry of the record raises or takes away, a safe watched interpreter
+-- is counted at most to the greater of the limit and the count before.
 abbrev pub ScriptsStayWithin : Table → Path → List (Event Own) → Table → Type 0
-ScriptsStayWithin old c crossings new = IsBelowTheTop c → IsSafeAt (tree_of old) c → (l b : ℕ) → limit_at (tree_of old c) ≡ Some l → AreLowering l (moves_of crossings) → l ≤ b → count_at (tree_of old c) ≤ b →
+ScriptsStayWithin old c crossings new = IsBelowTheTop c → IsSafeAt (tree_of old) c → (l b : ℕ) →
+    limit_at (tree_of old c) ≡ Some l → AreLowering l (moves_of crossings) → l ≤ b →
+    count_at (tree_of old c) ≤ b →
     IsWithin (tree_of new c) l b
 
 -- ## One fact of the run, from which the rest follows
 
--- The run with a recorder, which is told of its entry and of its end; and the whole evaluation in which the same happens.
-pub record IsEntryRun {S : Type 0} (step : S → Request → HostReply → S → Type 0) (old : Table) (o : Recorder S) (path : Path) (script : Text) (limit : ℕ) (new : Table) (z : Recorder S) (e : End) : Type 0 where
+-- The run with a recorder, which is told of its entry and of its end; and the whole evaluation in
+-- which the same happens.
+pub record IsEntryRun {S : Type 0} (step : S → Request → HostReply → S → Type 0) (old : Table)
+    (o : Recorder S) (path : Path) (script : Text) (limit : ℕ) (new : Table) (z : Recorder S)
+    (e : End) : Type 0 where
   pub during : Tree Own
   pub reply : Reply
-  pub entry : WatchedEntry (hosted step) (language (marks_of old).integers) (limited limit (tree_of old)) o path (Eval script) during z reply
-  pub runs : Runs (language (marks_of old).integers) (before (limited limit (tree_of old)) entry.events) path (entering (language (marks_of old).integers) (limited limit (tree_of old) path) (Eval script)) (before during []) (Some reply)
+  pub entry : WatchedEntry (hosted step) (language (marks_of old).integers)
+      (limited limit (tree_of old)) o path (Eval script) during z reply
+  pub runs : Runs (language (marks_of old).integers)
+      (before (limited limit (tree_of old)) entry.events) path
+      (entering (language (marks_of old).integers) (limited limit (tree_of old) path) (Eval script))
+      (before during []) (Some reply)
   pub run : IsRun (hosted step) old o.outside path script (root_count old + limit) new z.outside e
   pub after : tree_of new ≡ effect [] (Limited (root_limit old)) during
   pub ends : end_at path reply ≡ Some (ending_of e)
   pub whole : IsWhole step old o.outside path script limit new z.outside e
   pub taped : whole.whole.tape ≡ visit path (Eval script) entry.events reply
 
--- the run with a recorder of the interpreter at a path, which holds the outside and has no crossing yet
+-- the run with a recorder of the interpreter at a path, which holds the outside and has no crossing
+-- yet
 abbrev pub recorder_of : {S : Type 0} → S → Path → Recorder S
-recorder_of o watched = record { outside = o; kept = record { watched = watched; crossings = [] }; deleted = false }
+recorder_of o watched = record {
+  outside = o;
+  kept = record { watched = watched; crossings = [] };
+  deleted = false;
+}
 
 -- what an evaluation answers that was recorded: memory was wanted, or there was such a run
-pub record Watches {S : Type 0} (step : S → Request → HostReply → S → Type 0) (old : Table) (o : S) (path : Path) (script : Text) (limit : ℕ) (watched : Path) (new : Table) (z : S) (result : Result (End × RecordView) Unwatched) : Type 0 where
+pub record Watches {S : Type 0} (step : S → Request → HostReply → S → Type 0) (old : Table) (o : S)
+    (path : Path) (script : Text) (limit : ℕ) (watched : Path) (new : Table) (z : S)
+    (result : Result (End × RecordView) Unwatched) : Type 0 where
   pub memory : IfRefused result (λ f. (f ≡ refused.Memory) × ((marks_of new).broken ≡ true))
-  pub made : IfEnds result (λ e. (kept : RecordView) × (deleted : Bool) × (result ≡ answer_if deleted e kept) ×
-      IsEntryRun step old (recorder_of o watched) path script limit new (record { outside = z; kept = kept; deleted = deleted }) e)
+  pub made : IfEnds result (λ e. (kept : RecordView) × (deleted : Bool) ×
+      (result ≡ answer_if deleted e kept) ×
+      IsEntryRun step old (recorder_of o watched) path script limit new
+      (record { outside = z; kept = kept; deleted = deleted }) e)

@@ -1,10 +1,11 @@
 //! Moves that are played to a saved interpreter.
-ghost use Rattle.std.specs.Prelude.{◌≡◌, ◌+◌, ◌≤◌, length, nat_le, IfErr, IfNone, IfOk, IfSome, OnOk};
+ghost use Rattle.std.specs.Prelude.{◌≡◌, ◌+◌, ◌≤◌, length, nat_le, IfErr, IfNone, IfOk, IfSome};
+ghost use Rattle.std.specs.Prelude.{OnOk};
 ghost use Rattle.tcl_core.specs.Lives.{React};
 ghost use Rattle.tcl_eval.specs.Running.{most_steps, root_count};
 ghost use Rattle.tcl_language_laws.specs.Language.{language};
-ghost use Rattle.tcl_playing.specs.Moves.{moves_in};
-ghost use Rattle.tcl_playing.specs.Players.{Stands, player_of, result_of};
+ghost use Rattle.tcl_player.specs.Moves.{moves_in};
+ghost use Rattle.tcl_player.specs.Players.{Stands, player_of, result_of};
 ghost use Rattle.tcl_reactions.specs.Playing as playing;
 ghost use Rattle.tcl_reactions.specs.Playing.{IsOver, Lived, beginner, tree_left};
 ghost use Rattle.tcl_replay.specs.Replaying.{Serves, is_waiting, unfit, wants_memory};
@@ -13,13 +14,14 @@ ghost use Rattle.tcl_replay.specs.declared.replaying.Unplayed.TheVariants.{Memor
 ghost use Rattle.tcl_run.specs.Entering.{whole_entry};
 ghost use Rattle.tcl_tree.specs.Own.{Own};
 ghost use Rattle.tcl_tree.specs.TreeOf.{marks_of, tree_of};
-ghost use Rattle.tcl_watching.specs.Crossings.{events_of};
+ghost use Rattle.tcl_recorder.specs.Crossings.{events_of};
 
 use crate::saving::Saved;
 use std::alloc::{AllocError, Global};
 use tcl_evaluation::waiting::enter;
-use tcl_playing::moves::Move;
-use tcl_playing::player::{Outcome, Player};
+use tcl_player::moves::Move;
+use tcl_player::player::{Outcome, Player};
+use tcl_recorder::crossing::Crossing;
 use tcl_run::entry::Entry;
 use tcl_run::interruption::Interruption;
 use tcl_run::outside::Outside;
@@ -27,7 +29,6 @@ use tcl_text::text::Text;
 use tcl_tree::node::MOST_STEPS;
 use tcl_tree::tree::Tree;
 use tcl_value::value::Value;
-use tcl_watching::crossing::Crossing;
 
 /// What came of moves that were played to a saved interpreter.
 #[derive(Drop)]
@@ -77,23 +78,30 @@ impl Replayed {
 pub enum Unplayed {
     /// 401: memory was wanted.
     Memory,
-    /// 404: the steps that were counted in the interpreter and those of the replay pass 9223372036854775807 together.
+    /// 404: the steps that were counted in the interpreter and those of the replay pass
+    /// 9223372036854775807 together.
     CountTooLarge,
     /// 412: it was left by a replay at an open call, and waits there.
     Waits,
 }
 
 impl Saved {
-    /// Plays moves to the interpreter by itself, in order, up to what first ends that, with at most so many counted steps.
+    /// Plays moves to the interpreter by itself, in order, up to what first ends that, with at most
+    /// so many counted steps.
     ///
     /// # Errors
     /// 412 and 404, which are looked for in this order; and 401.
     pub fn replay(&self, alloc: Global, moves: &[Move], limit: u64) -> Result<Replayed, Unplayed>
         ensures refused { IfSome (unfit (saved_of self.now) limit) (λ e. result ≡ Err e) }
         ensures begun { IfNone (unfit (saved_of self.now) limit) (IfErr result (λ e. e ≡ Memory)) }
-        ensures reacts { IfOk result (λ r. React (language (saved_of self.now).integers) (saved_of self.now).tree (moves_in moves.now) limit (result_of r.outcome) (events_of r.outwards.items) (saved_of r.saved).tree) }
-        ensures style { IfOk result (λ r. (saved_of r.saved).integers ≡ (saved_of self.now).integers) }
-        ensures waits { IfOk result (λ r. (saved_of r.saved).waits ≡ is_waiting (result_of r.outcome)) }
+        ensures reacts { IfOk result
+            (λ r. React (language (saved_of self.now).integers) (saved_of self.now).tree
+            (moves_in moves.now) limit (result_of r.outcome) (events_of r.outwards.items)
+            (saved_of r.saved).tree) }
+        ensures style { IfOk result
+            (λ r. (saved_of r.saved).integers ≡ (saved_of self.now).integers) }
+        ensures waits { IfOk result
+            (λ r. (saved_of r.saved).waits ≡ is_waiting (result_of r.outcome)) }
     {
         if self.waits {
             return Err(Unplayed::Waits);
@@ -133,7 +141,9 @@ fn steps_of(tree: &Tree) -> u64
 /// # Errors
 /// Want of memory.
 fn play(tree: &Tree, alloc: Global, moves: &[Move], limit: u64) -> Result<Replayed, AllocError>
-    ensures reacts { IfOk result (λ r. React (language (marks_of tree.now).integers) (tree_of tree.now) (moves_in moves.now) limit (result_of r.outcome) (events_of r.outwards.items) (saved_of r.saved).tree) }
+    ensures reacts { IfOk result
+        (λ r. React (language (marks_of tree.now).integers) (tree_of tree.now) (moves_in moves.now)
+        limit (result_of r.outcome) (events_of r.outwards.items) (saved_of r.saved).tree) }
     ensures style { IfOk result (λ r. (saved_of r.saved).integers ≡ (marks_of tree.now).integers) }
     ensures waits { IfOk result (λ r. (saved_of r.saved).waits ≡ is_waiting (result_of r.outcome)) }
 {
@@ -161,12 +171,15 @@ fn copy_of(tree: &Tree) -> Result<Tree, AllocError>
     }
 }
 
-/// What is left after moves were played: the tree that stood at the open call, where there is one, or else the tree after all.
+/// What is left after moves were played: the tree that stood at the open call, where there is one,
+/// or else the tree after all.
 ///
 /// # Errors
 /// Want of memory.
 fn left(tree: Tree, stood: Option<Tree>, outcome: Outcome) -> Result<Saved, AllocError>
-    ensures tree { IfOk result (λ made. (o : playing.Player Own) → Stands stood o.fate → (saved_of made).tree ≡ tree_left o (tree_of tree)) }
+    ensures tree { IfOk result
+        (λ made. (o : playing.Player Own) → Stands stood o.fate →
+        (saved_of made).tree ≡ tree_left o (tree_of tree)) }
     ensures style { IfOk result (λ made. (saved_of made).integers ≡ (marks_of tree).integers) }
     ensures waits { IfOk result (λ made. (saved_of made).waits ≡ is_waiting (result_of outcome)) }
 {
@@ -193,7 +206,8 @@ fn play_entries<'a>(
     alloc: Global,
     player: &mut Player<'a>,
 ) -> Result<(), AllocError>
-    ensures lived { OnOk result (Lived (language (marks_of tree.old).integers) (tree_of tree.old) (player_of player.old) (tree_of tree.new) (player_of player.new)) }
+    ensures lived { OnOk result (Lived (language (marks_of tree.old).integers) (tree_of tree.old)
+        (player_of player.old) (tree_of tree.new) (player_of player.new)) }
     ensures over { OnOk result (IsOver (player_of player.new)) }
     ensures marks { OnOk result (marks_of tree.new ≡ marks_of tree.old) }
 {
@@ -216,7 +230,8 @@ fn play_entry<'a>(
     target: Vec<Text>,
     entry: Entry,
 ) -> Result<(), AllocError>
-    ensures serves { OnOk result (Serves (marks_of tree.old).integers (tree_of tree.old) (player_of player.old) target.items (whole_entry entry) (tree_of tree.new) (player_of player.new)) }
+    ensures serves { OnOk result (Serves (marks_of tree.old).integers (tree_of tree.old) (player_of player.old)
+        target.items (whole_entry entry) (tree_of tree.new) (player_of player.new)) }
     ensures marks { OnOk result (marks_of tree.new ≡ marks_of tree.old) }
     ensures left { length (player_of player.new).left ≤ length (player_of player.old).left }
 {

@@ -24,7 +24,13 @@ pub struct Saved {
 pub fn save(tree: &Tree, path: &[Text]) -> Result<Saved, Refused>
     ensures refused { IfSome (unsavable tree.now path.now) (λ e. result ≡ Err e) }
     ensures begun { IfNone (unsavable tree.now path.now) (IfErr result (λ e. e ≡ Memory)) }
-    ensures saved { IfOk result (λ s. saved_of s ≡ record { tree = at (tree_of tree.now) path.now; integers = (marks_of tree.now).integers; waits = false }) }
+    ensures saved { IfOk result
+        (λ s. saved_of s ≡ record {
+          tree = at (tree_of tree.now) path.now;
+          integers = (marks_of tree.now).integers;
+          waits =
+              false;
+        }) }
 {
     if tree.is_broken() {
         return Err(Refused::Broken);
@@ -39,10 +45,13 @@ pub fn save(tree: &Tree, path: &[Text]) -> Result<Saved, Refused>
 }
 
 impl Saved {
-    /// Whether another one is equal: its interpreters, all that they have and all orders of names included, and its style of integers. What became of it
-    /// in a replay isn't looked at. This takes no memory.
+    /// Whether another one is equal: its interpreters, all that they have and all orders of names
+    /// included, and its style of integers. What became of it in a replay isn't looked at. This
+    /// takes no memory.
     pub fn same(&self, other: &Saved) -> bool
-        ensures { IsTrue result ↔ (((saved_of self.now).tree ≡ (saved_of other.now).tree) × ((saved_of self.now).integers ≡ (saved_of other.now).integers)) }
+        ensures { IsTrue result ↔
+            (((saved_of self.now).tree ≡ (saved_of other.now).tree) ×
+            ((saved_of self.now).integers ≡ (saved_of other.now).integers)) }
     {
         self.tree.same(&other.tree)
     }

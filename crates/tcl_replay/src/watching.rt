@@ -1,27 +1,32 @@
 //! Evaluations whose crossings of one boundary are recorded.
-ghost use Rattle.std.specs.Prelude.{◌≡◌, ◌+◌, Err, IfErr, IfNone, IfOk, IfSome, IsErrOf, None, OnOk, [], false, true};
+ghost use Rattle.std.specs.Prelude.{◌≡◌, ◌+◌, Err, IfErr, IfNone, IfOk, IfSome, IsErrOf, None};
+ghost use Rattle.std.specs.Prelude.{OnOk, [], false, true};
 ghost use Rattle.tcl_core.specs.Entries.Entry.{Eval};
-ghost use Rattle.tcl_core.specs.Threads.{event};
+ghost use Rattle.tcl_core.specs.Execution.{event};
 ghost use Rattle.tcl_core.specs.Trees.What.{In};
 ghost use Rattle.tcl_eval.specs.Running.{IsRun, IsWhole, root_count, unfit};
 ghost use Rattle.tcl_eval.specs.declared.running.Refused.TheVariants.{Memory};
 ghost use Rattle.tcl_language.specs.Instructions.{fits};
 ghost use Rattle.tcl_run.specs.Outsides.{hosted};
 ghost use Rattle.tcl_tree.specs.TreeOf.{marks_of, tree_of};
-ghost use Rattle.tcl_watching.specs.Recording.{noted};
-ghost use Rattle.tcl_replay.specs.Watched.{AsksTheHostNothing, Counts, CountStaysWithin, IfDeleted, IfEnds, IfRefused, IsDeletion, IsEntryRun, IsRecord, LeavesTheOutside, LimitsStay, Reacts, ReactsSo, ReactsUntil, ScriptsStayWithin, Stops, Watches, answer_of, unwatchable};
+ghost use Rattle.tcl_recorder.specs.Recording.{noted};
+ghost use Rattle.tcl_replay.specs.Watched.{AsksTheHostNothing, Counts, CountStaysWithin, IfDeleted};
+ghost use Rattle.tcl_replay.specs.Watched.{IfEnds, IfRefused, IsDeletion, IsEntryRun, IsRecord};
+ghost use Rattle.tcl_replay.specs.Watched.{LeavesTheOutside, LimitsStay, Reacts, ReactsSo};
+ghost use Rattle.tcl_replay.specs.Watched.{ReactsUntil, ScriptsStayWithin, Stops, Watches};
+ghost use Rattle.tcl_replay.specs.Watched.{answer_of, unwatchable};
 ghost use Rattle.tcl_replay.specs.declared.watching.Unwatched.TheVariants as unwatched;
 
 use std::alloc::{AllocError, Global};
 use tcl_eval::running::{End, Refused, open_run, refusal};
 use tcl_host::host::Host;
 use tcl_isolation::laws::{asks_the_host_nothing, limits_stay, scripts_stay_within};
+use tcl_recorder::record::Record;
+use tcl_recorder::recorder::Recorder;
 use tcl_run::entry::Entry;
 use tcl_text::text::Text;
 use tcl_tree::tree::Tree;
 use tcl_value::value::Value;
-use tcl_watching::record::Record;
-use tcl_watching::recorder::Recorder;
 
 /// Why there is no record of an evaluation.
 #[derive(Drop)]
@@ -32,12 +37,14 @@ pub enum Unwatched {
     Deleted(End),
 }
 
-/// Evaluates a script in the interpreter at the path, as `eval` does, and records what crosses the boundary of the interpreter at `watched`: the entries into
-/// its subtree, its calls that leave the subtree, and how they end. The host is given back.
+/// Evaluates a script in the interpreter at the path, as `eval` does, and records what crosses the
+/// boundary of the interpreter at `watched`: the entries into its subtree, its calls that leave the
+/// subtree, and how they end. The host is given back.
 ///
 /// # Errors
-/// 402; 403 where no interpreter stands at the path, or none at `watched`; 404; 122: they are looked for in this order, and change nothing. 401, by which the
-/// tree is broken. 411, with the end of the run, where the watched interpreter was deleted in it.
+/// 402; 403 where no interpreter stands at the path, or none at `watched`; 404; 122: they are
+/// looked for in this order, and change nothing. 401, by which the tree is broken. 411, with the
+/// end of the run, where the watched interpreter was deleted in it.
 pub fn eval_watched<H: Host>(
     tree: &mut Tree,
     alloc: Global,
@@ -47,24 +54,46 @@ pub fn eval_watched<H: Host>(
     limit: u64,
     watched: &[Text],
 ) -> (H, Result<(End, Record), Unwatched>)
-    ensures refused { IfSome (unwatchable tree.old path.now script.now limit watched.now) (λ e. result.1 ≡ Err (unwatched.Refused e)) }
-    ensures unchanged { IfSome (unwatchable tree.old path.now script.now limit watched.now) (λ _. (tree.new ≡ tree.old) × (result.0 ≡ host)) }
-    ensures begun { IfNone (unwatchable tree.old path.now script.now limit watched.now) (IfRefused result.1 (λ e. e ≡ Memory)) }
+    ensures refused { IfSome (unwatchable tree.old path.now script.now limit watched.now)
+        (λ e. result.1 ≡ Err (unwatched.Refused e)) }
+    ensures unchanged { IfSome (unwatchable tree.old path.now script.now limit watched.now)
+        (λ _. (tree.new ≡ tree.old) × (result.0 ≡ host)) }
+    ensures begun { IfNone (unwatchable tree.old path.now script.now limit watched.now)
+        (IfRefused result.1 (λ e. e ≡ Memory)) }
     ensures broken { IfRefused result.1 (λ e. e ≡ Memory → (marks_of tree.new).broken ≡ true) }
-    ensures runs { IfEnds result.1 (λ end. IsRun (hosted H.step) tree.old host path.now script.now (root_count tree.old + limit) tree.new result.0 end) }
-    ensures whole { IfEnds result.1 (λ end. IsWhole H.step tree.old host path.now script.now limit tree.new result.0 end) }
-    ensures recorded { IfOk result.1 (λ r. IsRecord H.step tree.old host path.now script.now limit watched.now r.1 tree.new result.0 r.0) }
-    ensures deleted { IfDeleted result.1 (λ end. IsDeletion H.step tree.old host path.now script.now limit watched.now tree.new result.0 end) }
+    ensures runs { IfEnds result.1
+        (λ end. IsRun (hosted H.step) tree.old host path.now script.now
+        (root_count tree.old + limit) tree.new result.0 end) }
+    ensures whole { IfEnds result.1
+        (λ end. IsWhole H.step tree.old host path.now script.now limit tree.new result.0 end) }
+    ensures recorded { IfOk result.1
+        (λ r. IsRecord H.step tree.old host path.now script.now limit watched.now r.1 tree.new
+        result.0 r.0) }
+    ensures deleted { IfDeleted result.1
+        (λ end. IsDeletion H.step tree.old host path.now script.now limit watched.now tree.new
+        result.0 end) }
     ensures reacts { IfOk result.1 (λ r. Reacts tree.old watched.now r.1.crossings tree.new) }
     ensures reacts_so { IfOk result.1 (λ r. ReactsSo tree.old watched.now r.1.crossings tree.new) }
-    ensures reacts_until { IfOk result.1 (λ r. ReactsUntil tree.old watched.now r.1.crossings tree.new) }
-    ensures leaves_the_outside { IfOk result.1 (λ r. LeavesTheOutside tree.old host path.now watched.now r.1.crossings tree.new result.0) }
-    ensures asks_nothing { IfOk result.1 (λ r. AsksTheHostNothing tree.old watched.now r.1.crossings) }
-    ensures counts { IfOk result.1 (λ r. Counts H.step tree.old host path.now script.now limit watched.now r.1 tree.new result.0 r.0) }
-    ensures stops { IfOk result.1 (λ r. Stops H.step tree.old host path.now script.now limit watched.now r.1 tree.new result.0 r.0) }
-    ensures count_stays_within { IfOk result.1 (λ r. CountStaysWithin H.step tree.old host path.now script.now limit watched.now r.1 tree.new result.0 r.0) }
-    ensures scripts_stay_within { IfOk result.1 (λ r. ScriptsStayWithin tree.old watched.now r.1.crossings tree.new) }
-    ensures limits_stay { IfOk result.1 (λ r. LimitsStay H.step tree.old host path.now script.now limit watched.now r.1 tree.new result.0 r.0) }
+    ensures reacts_until { IfOk result.1
+        (λ r. ReactsUntil tree.old watched.now r.1.crossings tree.new) }
+    ensures leaves_the_outside { IfOk result.1
+        (λ r. LeavesTheOutside tree.old host path.now watched.now r.1.crossings tree.new result.0) }
+    ensures asks_nothing { IfOk result.1
+        (λ r. AsksTheHostNothing tree.old watched.now r.1.crossings) }
+    ensures counts { IfOk result.1
+        (λ r. Counts H.step tree.old host path.now script.now limit watched.now r.1 tree.new
+        result.0 r.0) }
+    ensures stops { IfOk result.1
+        (λ r. Stops H.step tree.old host path.now script.now limit watched.now r.1 tree.new result.0
+        r.0) }
+    ensures count_stays_within { IfOk result.1
+        (λ r. CountStaysWithin H.step tree.old host path.now script.now limit watched.now r.1
+        tree.new result.0 r.0) }
+    ensures scripts_stay_within { IfOk result.1
+        (λ r. ScriptsStayWithin tree.old watched.now r.1.crossings tree.new) }
+    ensures limits_stay { IfOk result.1
+        (λ r. LimitsStay H.step tree.old host path.now script.now limit watched.now r.1 tree.new
+        result.0 r.0) }
 {
     asks_the_host_nothing::<H>();
     limits_stay::<H>();
@@ -106,7 +135,8 @@ fn watch<H: Host>(
     watched: &[Text],
 ) -> (H, Result<(End, Record), Unwatched>)
     requires fit { unfit tree.old path.now script.now limit ≡ None }
-    ensures { Watches H.step tree.old host path.now script.now limit watched.now tree.new result.0 result.1 }
+    ensures { Watches H.step tree.old host path.now script.now limit watched.now tree.new result.0
+        result.1 }
 {
     let names = match Vec::from_clones(alloc, watched) {
         Ok(names) => names,
@@ -118,7 +148,7 @@ fn watch<H: Host>(
     let mut recorder = Recorder::new(alloc, host, names);
     let ended = run(tree, alloc, &mut recorder, path, script, limit);
     let (host, kept, deleted) = recorder.into_parts();
-    (host, told(ended, kept, deleted))
+    (host, outcome_of(ended, kept, deleted))
 }
 
 /// Evaluates the script, whose entry the recorder is told of, and its end.
@@ -133,7 +163,9 @@ fn run<H: Host>(
     requires fit { unfit tree.old path.now script.now limit ≡ None }
     ensures memory { IfErr result (λ e. e ≡ Memory) }
     ensures broken { IsErrOf result Memory → (marks_of tree.new).broken ≡ true }
-    ensures runs { IfOk result (λ end. IsEntryRun H.step tree.old recorder.old path.now script.now limit tree.new recorder.new end) }
+    ensures runs { IfOk result
+        (λ end. IsEntryRun H.step tree.old recorder.old path.now script.now limit tree.new
+        recorder.new end) }
 {
     match begin(alloc, recorder, path, script) {
         Ok(()) => open_run(tree, alloc, recorder, path, script, limit),
@@ -152,14 +184,16 @@ fn begin<H: Host>(
     script: &str,
 ) -> Result<(), AllocError>
     requires short { fits script.now ≡ true }
-    ensures { OnOk result (recorder.new ≡ noted recorder.old (event path.now (In None (Eval script.now)))) }
+    ensures { OnOk result
+        (recorder.new ≡ noted recorder.old (event path.now (In None (Eval script.now)))) }
 {
     let entry = Entry::Eval(Value::from_short_text(Text::new(alloc, script)?));
     recorder.entry_begins(alloc, path, &entry)
 }
 
-/// What is answered where the run ended so, with this record, and the watched interpreter was deleted or not.
-fn told(
+/// What is answered where the run ended so, with this record, and the watched interpreter was
+/// deleted or not.
+fn outcome_of(
     ended: Result<End, Refused>,
     kept: Record,
     deleted: bool,

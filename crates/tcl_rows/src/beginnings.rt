@@ -5,15 +5,15 @@ use crate::playing::played;
 use crate::scripts::is_told_incomplete;
 use crate::watching::{Watched, saved, watch_inside, watch_outside};
 use crate::world::Trees;
-use crate::writing::{crossings, told};
+use crate::writing::{crossings, show};
 use std::alloc::{AllocError, Global};
 use tcl_host::memory::MemoryHost;
-use tcl_playing::moves::moves_of;
-use tcl_playing::player::Outcome;
+use tcl_player::moves::moves_of;
+use tcl_player::player::Outcome;
+use tcl_recorder::crossing::Crossing;
 use tcl_replay::replaying::Replayed;
 use tcl_replay::saving::Saved;
 use tcl_tree::tree::Tree;
-use tcl_watching::crossing::Crossing;
 
 /// Who evaluates the beginnings, and who is watched.
 #[derive(Clone, Copy)]
@@ -62,7 +62,7 @@ fn is_told_again(
     outwards: &[Crossing],
     crossed: &[Crossing],
 ) -> Result<bool, AllocError> {
-    let wanted = told(alloc, crossed)?;
+    let wanted = show(alloc, crossed)?;
     let found = crossings(alloc, outwards)?;
     Ok(found.as_str() == wanted.as_str())
 }

@@ -7,13 +7,13 @@ use crate::world::{Trees, no_call, number_of};
 use crate::writing;
 use std::alloc::{AllocError, Global};
 use tcl_flow::completion;
-use tcl_playing::moves::{Move, moves_of};
+use tcl_player::moves::{Move, moves_of};
+use tcl_recorder::crossing::{Answer, Reply};
 use tcl_replay::replaying::{Replayed, Unplayed};
 use tcl_replay::saving::Saved;
 use tcl_run::entry::Entry;
 use tcl_text::text::Text;
 use tcl_value::value::Value;
-use tcl_watching::crossing::{Answer, Reply};
 
 /// The label of what moves were played to last.
 const PLAYED: &str = "played";
@@ -78,7 +78,7 @@ fn note(world: &mut Trees, alloc: Global, replayed: Replayed) -> Result<String, 
 }
 
 /// What came of moves, or why they weren't played.
-fn come(
+fn reach(
     world: &mut Trees,
     alloc: Global,
     played: Result<Replayed, Unplayed>,
@@ -101,7 +101,7 @@ fn play_moves(
         Some(saved) => played(saved, alloc, moves, limit),
         None => return no_call(alloc),
     };
-    come(world, alloc, played)
+    reach(world, alloc, played)
 }
 
 /// `play LABEL STEPS MOVES`
@@ -156,11 +156,11 @@ pub(crate) fn play_again(
         Some(saved) => replayed_again(saved, alloc, moves.as_slice(), limit),
         None => return no_call(alloc),
     };
-    come(world, alloc, played)
+    reach(world, alloc, played)
 }
 
 /// What was told.
-pub(crate) fn told(world: &Trees, alloc: Global) -> Result<String, AllocError> {
+pub(crate) fn show(world: &Trees, alloc: Global) -> Result<String, AllocError> {
     writing::crossings(alloc, world.told.as_slice())
 }
 

@@ -5,12 +5,12 @@ use crate::writing;
 use std::alloc::{AllocError, Global};
 use tcl_eval::running::{End, Refused};
 use tcl_host::memory::MemoryHost;
+use tcl_recorder::crossing::Crossing;
+use tcl_recorder::record::Record;
 use tcl_replay::saving::{self, Saved};
 use tcl_replay::watching::{Unwatched, eval_watched};
 use tcl_text::text::Text;
 use tcl_tree::tree::Tree;
-use tcl_watching::crossing::Crossing;
-use tcl_watching::record::Record;
 
 /// How an evaluation that was watched came out.
 #[derive(Drop)]
@@ -44,7 +44,7 @@ fn unwatched(alloc: Global, why: &Unwatched) -> Result<String, AllocError> {
 }
 
 /// How an evaluation ended, or why there is no record of it, and what crossed the boundary.
-fn told(
+fn show(
     alloc: Global,
     given: Result<(End, Record), Unwatched>,
 ) -> Result<(String, Vec<Crossing>), AllocError> {
@@ -78,7 +78,7 @@ fn watch_at(
     watched: &[Text],
 ) -> Result<Watched, AllocError> {
     let (host, given) = run_watched(tree, alloc, path, script, limit, watched)?;
-    let (ending, crossings) = told(alloc, given)?;
+    let (ending, crossings) = show(alloc, given)?;
     Ok(Watched {
         ending,
         crossings,

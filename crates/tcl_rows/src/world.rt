@@ -5,11 +5,11 @@ use crate::{evaluating, hosting, memory, playing, watching};
 use row_runner::World;
 use std::alloc::{AllocError, Global};
 use tcl_host::memory::MemoryHost;
+use tcl_recorder::crossing::Crossing;
 use tcl_replay::saving::Saved;
 use tcl_text::list::{ListError, read_list};
 use tcl_text::text::Text;
 use tcl_tree::tree::Tree;
-use tcl_watching::crossing::Crossing;
 
 /// An interpreter by itself that was kept under a label.
 pub(crate) struct Kept {
@@ -133,7 +133,7 @@ fn of_none(world: &mut Trees, alloc: Global, call: &str) -> Result<String, Alloc
         "failures" => hosting::failures(world, alloc),
         "record" => watching::record(world, alloc),
         "crossings" => watching::crossings(world, alloc),
-        "told" => playing::told(world, alloc),
+        "told" => playing::show(world, alloc),
         "last" => playing::last(world, alloc),
         _ => no_call(alloc),
     }

@@ -9,9 +9,9 @@ use std::alloc::{AllocError, Global};
 use tcl_flow::completion::Completion;
 use tcl_host::reply::HostReply;
 use tcl_host::request::Request;
+use tcl_recorder::crossing::{Answer, Crossing, Reply};
 use tcl_run::entry::{Entry, OwnEntry};
 use tcl_value::value::Value;
-use tcl_watching::crossing::{Answer, Crossing, Reply};
 
 /// Two words or texts, with a blank between them.
 fn two(alloc: Global, first: &str, second: &str) -> Result<String, AllocError> {
@@ -131,7 +131,7 @@ fn is_told(crossing: &Crossing) -> bool {
 }
 
 /// Of these crossings what the watched interpreter tells, one a line.
-pub(crate) fn told(alloc: Global, crossed: &[Crossing]) -> Result<String, AllocError> {
+pub(crate) fn show(alloc: Global, crossed: &[Crossing]) -> Result<String, AllocError> {
     let mut text = String::new(alloc);
     'crossings: for one in crossed {
         if is_told(one) {

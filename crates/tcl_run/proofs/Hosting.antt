@@ -4,7 +4,7 @@ use Rattle.tcl_core.specs.Endings.{Reply}
 use Rattle.tcl_core.specs.Entries.{Entry}
 use Rattle.tcl_core.specs.Paths.{Path, Place, rise}
 use Rattle.tcl_core.specs.Programs.{Wait}
-use Rattle.tcl_core.specs.Threads.{passing}
+use Rattle.tcl_core.specs.Execution.{passing}
 use Rattle.tcl_core.specs.Trees.{Event, Tree}
 use Rattle.tcl_core.proofs.PathLaws.{rise_back}
 use Rattle.tcl_host.specs.declared.reply.HostReply.{HostReply}

@@ -16,7 +16,7 @@ use Rattle.tcl_core.specs.Programs.Wrap.{Deeper, Framed}
 use Rattle.tcl_core.specs.Programs.Next.{On, Off, TooDeep}
 use Rattle.tcl_core.specs.Programs.Prog.{done, act, go, inside, call}
 use Rattle.tcl_core.specs.Runs.{carried, entering, where_stands}
-use Rattle.tcl_core.specs.Threads.{Crossings, event, completed, acted, refused, went, passed, wrapped, wrapped_passed, too_deep, shut, called, called_passed, unreached}
+use Rattle.tcl_core.specs.Execution.{Crossings, event, completed, acted, refused, went, passed, wrapped, wrapped_passed, too_deep, shut, called, called_passed, unreached}
 use Rattle.tcl_tree.specs.Own.{Own}
 use Rattle.tcl_language.specs.Instructions.{Instr, Program, look, change, at_node, or_fails, grown, either, fits, too_long as too_long_error}
 use Rattle.tcl_language.specs.Interpreters.{finished}

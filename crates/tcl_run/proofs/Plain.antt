@@ -19,7 +19,7 @@ use Rattle.tcl_core.specs.Programs.Act.{Look, Change, Charge, Limit, LimitDepth,
 use Rattle.tcl_core.specs.Programs.Next.{On}
 use Rattle.tcl_core.specs.Programs.Prog.{done, exit, act, go, inside, call, wait}
 use Rattle.tcl_core.specs.Rules.{IsOn}
-use Rattle.tcl_core.specs.Threads.{completed, exited, acted, Crossings, event}
+use Rattle.tcl_core.specs.Execution.{completed, exited, acted, Crossings, event}
 use Rattle.tcl_core.specs.Trees.{Tree, Node, effect, at}
 use Rattle.tcl_core.specs.Trees.What.{Seen, Changed, Limited, DepthLimited}
 use Rattle.tcl_language.specs.Instructions.{Instr, Program, look, change, with_chain, at_node, or_fails}

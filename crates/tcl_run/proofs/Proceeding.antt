@@ -1,7 +1,7 @@
 -- One law for each thing that evaluations do on their way: however far it comes from there, so far it comes from here, be it to an end or to where all is given up.
 use Rattle.std.proofs.Common.{◌≡◌, ℕ, ℤ, true, false, List, [], ◌∷◌, ◌++◌, Option, Some, None, refl, sym, ◌∙◌, ap, subst, append-nil}
 use Rattle.std.specs.Prelude.{Result, Ok, Err}
-use Rattle.tcl_beginnings.specs.Beginnings as beginnings
+use Rattle.tcl_partial_runs.specs.Beginnings as beginnings
 use Rattle.tcl_core.specs.Paths.{Path, Place, Height, rise_to}
 use Rattle.tcl_core.specs.Endings.{Completion, Reply, IsQuit}
 use Rattle.tcl_core.specs.Endings.Meter.{Count, Depth}
@@ -19,8 +19,8 @@ use Rattle.tcl_core.specs.Programs.Next.{On}
 use Rattle.tcl_core.specs.Programs.Prog.{done, exit, act, go, inside, call, wait}
 use Rattle.tcl_core.specs.Rules.{IsOn, IsNoExit}
 use Rattle.tcl_core.specs.Runs.{Ending, carried, entering, is_own, where_stands}
-use Rattle.tcl_core.specs.Threads.{Crossings, Decides, Opens_so, event}
-use Rattle.tcl_core.specs.Threads as threads
+use Rattle.tcl_core.specs.Execution.{Crossings, Decides, Opens_so, event}
+use Rattle.tcl_core.specs.Execution as executes
 use Rattle.tcl_tree.specs.Own.{Own}
 use Rattle.tcl_language.specs.Instructions.{Instr, Program, look, change, at_node, or_fails, grown, either, fits, too_long as too_long_error}
 use Rattle.tcl_language.specs.Interpreters.{finished}
@@ -63,10 +63,10 @@ module _ {S : Type 0} {ways : Ways S} {language : Table Own Instr} where
   -- ## Ends, and what is given up
 
   pub completed : {T : Tree Own} {o : S} {p : Place} {c : Completion} → Proceeds ways language T o p (done c) T o (Some (Completed c))
-  completed = ended threads.completed
+  completed = ended executes.completed
 
   pub exited : {T : Tree Own} {o : S} {p : Place} {n : ℤ} → Proceeds ways language T o p (exit n) T o (Some (Exit n))
-  exited = ended threads.exited
+  exited = ended executes.exited
 
   -- it is given up at once: the outside is as it was, or what may have become of it
   pub stopped : {T V : Tree Own} {o : S} {p : Place} {x : Program} → Proceeds ways language T o p x V o None
@@ -92,7 +92,7 @@ module _ {S : Type 0} {ways : Ways S} {language : Table Own Instr} where
 
   pub acts : {T V : Tree Own} {o u z : S} {p : Place} {d : Act Own} {k : Tree Own → Program} {e : Ending} (x : Deed Own) → Decides d T p x → IsOn x.2 → Crossings ways.goes T o None (event (spot p x.0) x.1) u →
       Proceeds ways language (effect (spot p x.0) x.1 T) u p (k (at T p)) V z e → Proceeds ways language T o p (act d k) V z e
-  acts x d on s (ended t) = ended (threads.acted x d on s t)
+  acts x d on s (ended t) = ended (executes.acted x d on s t)
   acts x d on s (given_up b l) = given_up (beginnings.acted x d on s b) l
 
   pub looks : {T V : Tree Own} {o z : S} {p : Place} {n : Node Own} {k : Node Own → Program} {e : Ending} → T p ≡ Some n →
@@ -128,13 +128,13 @@ module _ {S : Type 0} {ways : Ways S} {language : Table Own Instr} where
 
   pub goes_on : {T U V : Tree Own} {o u z : S} {p : Place} {i : Instr} {k : Completion → Program} {c : Completion} {e : Ending} →
       Proceeds ways language T o p (language.program i) U u (Some (Completed c)) → Proceeds ways language U u p (k c) V z e → Proceeds ways language T o p (go i k) V z e
-  goes_on (ended m) (ended n) = ended (threads.went m n)
+  goes_on (ended m) (ended n) = ended (executes.went m n)
   goes_on (ended m) (given_up b l) = given_up (beginnings.went m b) l
 
   -- what is no completion ends what called it, or is given up with it
   pub passed : {T U : Tree Own} {o u : S} {p : Place} {i : Instr} {k : Completion → Program} {e : Ending} → IsQuitting e →
       Proceeds ways language T o p (language.program i) U u e → Proceeds ways language T o p (go i k) U u e
-  passed quit (ended m) = ended (threads.passed quit m)
+  passed quit (ended m) = ended (executes.passed quit m)
   passed quit (given_up b l) = given_up (beginnings.going b) l
 
   pub goes_done : {T V : Tree Own} {o z : S} {p : Place} {i : Instr} {e : Ending} →
@@ -166,7 +166,7 @@ module _ {S : Type 0} {ways : Ways S} {language : Table Own Instr} where
     where
       by : {e : Ending} → Proceeds ways language (effect p (Changed own) T) o p (language.program i) V u (Some (Completed c)) → Proceeds ways language (effect p (brought_back back (V p)) V) u p (k c) X z e →
           Proceeds ways language T o p (inside (Framed own back) i k) X z e
-      by (ended t) (ended s) = ended (threads.wrapped (None, Changed own, On) (λ gs. ap (λ x. Some (changing own x)) there) refl (record { told = refl }) t (brings_back back stands) s)
+      by (ended t) (ended s) = ended (executes.wrapped (None, Changed own, On) (λ gs. ap (λ x. Some (changing own x)) there) refl (record { told = refl }) t (brings_back back stands) s)
       by (ended t) (given_up s l) = given_up (beginnings.wrapped (None, Changed own, On) (λ gs. ap (λ x. Some (changing own x)) there) refl (record { told = refl }) t (brings_back back stands) s) l
 
   pub framed_passed : {T U V W : Tree Own} {o u : S} {p : Place} {n m : Node Own} {own : Own} {back : Own → Own} {i : Instr} {k : Completion → Program} {e : Ending} → IsQuitting e →
@@ -176,7 +176,7 @@ module _ {S : Type 0} {ways : Ways S} {language : Table Own Instr} where
       at_finish (b ∙ ap (λ (x : Option (Node Own)). effect p (brought_back back x) V) (sym stands)) (by quit (at_start a t))
     where
       by : {e : Ending} → IsQuitting e → Proceeds ways language (effect p (Changed own) T) o p (language.program i) V u e → Proceeds ways language T o p (inside (Framed own back) i k) (effect p (brought_back back (V p)) V) u e
-      by quit (ended t) = ended (threads.wrapped_passed (None, Changed own, On) quit (λ gs. ap (λ x. Some (changing own x)) there) refl (record { told = refl }) t (brings_back back stands))
+      by quit (ended t) = ended (executes.wrapped_passed (None, Changed own, On) quit (λ gs. ap (λ x. Some (changing own x)) there) refl (record { told = refl }) t (brings_back back stands))
       by quit (given_up s l) = given_up (beginnings.within (None, Changed own, On) (λ gs. ap (λ x. Some (changing own x)) there) refl (record { told = refl }) s) l
 
   -- given up with the other frames, wherever: nothing is said of putting them back
@@ -219,7 +219,7 @@ module _ {S : Type 0} {ways : Ways S} {language : Table Own Instr} where
   calls_on {T} {U} {V} {o} {u} {v} {w} {z} {p} {n} {down} {i} {lost} {k} {m} {s} {e} {c} a r there x t f y g = by (entry_runs i there t) g
     where
       by : {e : Ending} → Proceeds ways language T u (a ++ down) (entering language (T (a ++ down)) i) U v (Some s) → Proceeds ways language U w p (k c) V z e → Proceeds ways language T o p (call (Some n) down i lost (finished k)) V z e
-      by (ended t) (ended g) = ended (threads.called a (a ++ down) r (ap (λ x. where_stands x (a ++ down)) there) (record { told = x.leaves }) (record { told = x.enters }) t (record { told = y.leaves }) f (record { told = y.returns }) g)
+      by (ended t) (ended g) = ended (executes.called a (a ++ down) r (ap (λ x. where_stands x (a ++ down)) there) (record { told = x.leaves }) (record { told = x.enters }) t (record { told = y.leaves }) f (record { told = y.returns }) g)
       by (ended t) (given_up g l) = given_up (beginnings.called a (a ++ down) r (ap (λ x. where_stands x (a ++ down)) there) (record { told = x.leaves }) (record { told = x.enters }) t (record { told = y.leaves }) f (record { told = y.returns }) g) l
 
   -- what is no completion ends the caller too
@@ -246,7 +246,7 @@ module _ {S : Type 0} {ways : Ways S} {language : Table Own Instr} where
   -- the caller goes on with `lost` where nobody stands
   pub finds_none_on : {T V : Tree Own} {o u z : S} {p : Place} {n : ℕ} {down : Path} {i : Entry} {lost : Completion} {k : Completion → Program} {e : Ending} (a : Place) → rise_to (Some n) p ≡ Some a → T (a ++ down) ≡ None →
       Misses ways.goes T o p n down i (Completed lost) u → Proceeds ways language T u p (k lost) V z e → Proceeds ways language T o p (call (Some n) down i lost (finished k)) V z e
-  finds_none_on {down = down} a e gone x (ended t) = ended (threads.unreached a e (ap (λ x. where_stands x (a ++ down)) gone) (record { told = x.leaves }) (record { told = x.returns }) t)
+  finds_none_on {down = down} a e gone x (ended t) = ended (executes.unreached a e (ap (λ x. where_stands x (a ++ down)) gone) (record { told = x.leaves }) (record { told = x.returns }) t)
   finds_none_on {down = down} a e gone x (given_up b l) = given_up (beginnings.unreached a e (ap (λ x. where_stands x (a ++ down)) gone) (record { told = x.leaves }) (record { told = x.returns }) b) l
 
   pub finds_none : {T : Tree Own} {o u : S} {p : Place} {n : ℕ} {down : Path} {i : Entry} {lost : Completion} {r : Reply} (a : Place) → rise_to (Some n) p ≡ Some a → T (a ++ down) ≡ None → Misses ways.goes T o p n down i (Completed lost) u → r ≡ Completed lost →
@@ -257,38 +257,38 @@ module _ {S : Type 0} {ways : Ways S} {language : Table Own Instr} where
 
   pub calls_out : {T V : Tree Own} {o u z : S} {p : Place} {h : Height} {down : Path} {i : Entry} {lost : Completion} {k : Said → Program} {e : Ending} → rise_to h p ≡ None →
       ways.goes T o None (event p (Out h down i)) u → Proceeds ways language T u p (wait (Some (h, i)) k) V z e → Proceeds ways language T o p (call h down i lost k) V z e
-  calls_out up g (ended t) = ended (threads.called_out up (record { told = g }) t)
+  calls_out up g (ended t) = ended (executes.called_out up (record { told = g }) t)
   calls_out up g (given_up b l) = given_up (beginnings.called_out up (record { told = g }) b) l
 
   -- the call that is waited for is answered by a completion, and the program goes on
   pub answers_on : {T V : Tree Own} {o u z : S} {p : Place} {h : Height} {i : Entry} {k : Said → Program} {e : Ending} (c : Completion) → rise_to h p ≡ None → is_own h i (Replied (Completed c)) ≡ true →
       ways.goes T o (Some (h, i)) (event p (Back h (Replied (Completed c)))) u → Proceeds ways language T u p (k (Finished c)) V z e → Proceeds ways language T o p (wait (Some (h, i)) k) V z e
-  answers_on c up own g (ended t) = ended (threads.answered up own (record { told = g }) t)
+  answers_on c up own g (ended t) = ended (executes.answered up own (record { told = g }) t)
   answers_on c up own g (given_up b l) = given_up (beginnings.answered up own (record { told = g }) b) l
 
   -- what is no completion ends it
   pub answers_passed : {T : Tree Own} {o u : S} {p : Place} {h : Height} {i : Entry} {k : Said → Program} {r : Reply} → IsQuit r → rise_to h p ≡ None → is_own h i (Replied r) ≡ true →
       ways.goes T o (Some (h, i)) (event p (Back h (Replied r))) u → Proceeds ways language T o p (wait (Some (h, i)) k) T u (Some r)
-  answers_passed quit up own g = ended (threads.answered_passed quit up own (record { told = g }))
+  answers_passed quit up own g = ended (executes.answered_passed quit up own (record { told = g }))
 
   -- it is answered by a host's reply
   pub hears_on : {T V : Tree Own} {o u z : S} {p : Place} {h : Height} {i : Entry} {k : Said → Program} {e : Ending} (a : HostReply) → rise_to h p ≡ None → is_own h i (Heard a) ≡ true →
       ways.goes T o (Some (h, i)) (event p (Back h (Heard a))) u → Proceeds ways language T u p (k (Told a)) V z e → Proceeds ways language T o p (wait (Some (h, i)) k) V z e
-  hears_on a up own g (ended t) = ended (threads.heard up own (record { told = g }) t)
+  hears_on a up own g (ended t) = ended (executes.heard up own (record { told = g }) t)
   hears_on a up own g (given_up b l) = given_up (beginnings.heard up own (record { told = g }) b) l
 
   -- an entry is handed in meanwhile, and done, and the program waits on
   pub enters_on : {T U V : Tree Own} {o o1 o2 o3 z : S} {p : Place} {h : Height} {i : Entry} {k : Said → Program} {y : Reply} {e : Ending} (t : Path) (inner : Entry) → rise_to h p ≡ None →
       ways.goes T o None (event t (In None inner)) o1 → Proceeds ways language T o1 t (entering language (T t) inner) U o2 (Some y) → ways.goes U o2 None (event t (Done None y)) o3 → IsNoExit y →
       Proceeds ways language U o3 p (wait (Some (h, i)) k) V z e → Proceeds ways language T o p (wait (Some (h, i)) k) V z e
-  enters_on t inner up g (ended m) d stays (ended n) = ended (threads.entered t inner up (record { told = g }) m (record { told = d }) stays n)
+  enters_on t inner up g (ended m) d stays (ended n) = ended (executes.entered t inner up (record { told = g }) m (record { told = d }) stays n)
   enters_on t inner up g (ended m) d stays (given_up b l) = given_up (beginnings.entered t inner up (record { told = g }) m (record { told = d }) stays b) l
 
   -- it ends by an exit, and the program with it
   pub enters_exiting : {T U : Tree Own} {o o1 o2 o3 o4 : S} {p : Place} {h : Height} {i : Entry} {k : Said → Program} {n : ℤ} (t : Path) (inner : Entry) → rise_to h p ≡ None →
       ways.goes T o None (event t (In None inner)) o1 → Proceeds ways language T o1 t (entering language (T t) inner) U o2 (Some (Exit n)) → ways.goes U o2 None (event t (Done None (Exit n))) o3 →
       ways.goes U o3 (Some (h, i)) (event p (Back h (Replied (Exit n)))) o4 → Proceeds ways language T o p (wait (Some (h, i)) k) U o4 (Some (Exit n))
-  enters_exiting t inner up g (ended m) d back = ended (threads.entered_exiting t inner up (record { told = g }) m (record { told = d }) (record { told = back }))
+  enters_exiting t inner up g (ended m) d back = ended (executes.entered_exiting t inner up (record { told = g }) m (record { told = d }) (record { told = back }))
 
   -- it is given up, or its end is not told
   pub enters_lost : {T U V : Tree Own} {o o1 o2 z : S} {p : Place} {h : Height} {i : Entry} {k : Said → Program} {e : Ending} (t : Path) (inner : Entry) → rise_to h p ≡ None →

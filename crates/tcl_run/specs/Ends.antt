@@ -1,5 +1,6 @@
 -- What contracts see of how an evaluation ends.
-use Rattle.std.specs.Prelude.{◌≡◌, ℕ, zero, suc, pos, List, Some, None, Result, Ok, Err, IsOkAnd, MatchResult}
+use Rattle.std.specs.Prelude.{◌≡◌, ℕ, zero, suc, pos, List, Some, None, Result, Ok, Err, IsOkAnd}
+use Rattle.std.specs.Prelude.{MatchResult}
 use Rattle.tcl_core.specs.Endings as core
 use Rattle.tcl_core.specs.Endings.{Completion, Reply, ok, error}
 use Rattle.tcl_core.specs.Endings.Reply.{Completed, Stop, Exit, Cut}
@@ -38,7 +39,8 @@ Interrupts (interruption.Cut c) P = P (Cut (cause_of c))
 abbrev pub IfEnded : Result (List ℕ) Interruption → (Reply → Type 0) → Type 0
 IfEnded r P = MatchResult r (λ text. P (Completed (ok text))) (λ i. Interrupts i P)
 
--- what is said of how far an evaluation came, at an interruption: it ended so, or it was given up where memory was wanted
+-- what is said of how far an evaluation came, at an interruption: it ended so, or it was given up
+-- where memory was wanted
 abbrev pub Breaks : Interruption → (Ending → Type 0) → Type 0
 Breaks interruption.Memory P = P None
 Breaks (interruption.Completed c) P = P (Some (Completed (completion_of c.value)))
@@ -71,7 +73,8 @@ IsFailure message (Err f) e = e ≡ Completed (failing (message f))
 
 -- what a reading gave: its value, or the error that says why it gave none
 abbrev pub Gave : {A F : Type 0} → (F → List ℕ) → Result A F → Result A Interruption → Type 0
-Gave message read given = MatchResult given (λ a. read ≡ Ok a) (λ i. Interrupts i (IsFailure message read))
+Gave message read given = MatchResult given (λ a. read ≡ Ok a)
+    (λ i. Interrupts i (IsFailure message read))
 
 -- how a refused call on the variables ends
 abbrev pub Tells : FrameError → Interruption → Type 0

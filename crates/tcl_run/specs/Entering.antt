@@ -1,8 +1,11 @@
 -- What an interpreter is asked for, in the words of the core.
 use Rattle.tcl_core.specs.Entries as core
-use Rattle.tcl_core.specs.Entries.Entry.{Eval, CallWords, InvokeHidden, SetAlias, ClearAlias, Hide, Expose, SetCountLimit, SetDepthLimit, Create, Delete, Ask, AskHost}
+use Rattle.tcl_core.specs.Entries.Entry.{Eval, CallWords, InvokeHidden, SetAlias, ClearAlias, Hide}
+use Rattle.tcl_core.specs.Entries.Entry.{Expose, SetCountLimit, SetDepthLimit, Create, Delete, Ask}
+use Rattle.tcl_core.specs.Entries.Entry.{AskHost}
 use Rattle.tcl_core.specs.Entries.Request.{Open, ReadLine, ReadAll, Write, Flush, Close, AtEnd}
-use Rattle.tcl_core.specs.Entries.Question.{Exists, IsSafe, Aliases, AliasOf, Hidden, Slaves, CountLimitOf, DepthLimitOf}
+use Rattle.tcl_core.specs.Entries.Question.{Exists, IsSafe, Aliases, AliasOf, Hidden, Slaves}
+use Rattle.tcl_core.specs.Entries.Question.{CountLimitOf, DepthLimitOf}
 use Rattle.tcl_core.specs.Paths.{Text}
 use Rattle.tcl_host.specs.declared.open_mode.OpenMode.{OpenMode}
 use Rattle.tcl_host.specs.declared.open_mode.OpenMode.TheVariants as mode

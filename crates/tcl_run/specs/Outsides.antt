@@ -9,13 +9,13 @@ use Rattle.tcl_core.specs.Entries.HostReply.{Opened, Bytes, TheEnd, Accepted, Is
 use Rattle.tcl_core.specs.Paths.{Path, Place, Height}
 use Rattle.tcl_core.specs.Programs.{Wait}
 use Rattle.tcl_core.specs.Runs.{is_own}
-use Rattle.tcl_core.specs.Threads.{event, past_top}
+use Rattle.tcl_core.specs.Execution.{event, past_top}
 use Rattle.tcl_core.specs.Trees.{Event, Tree, What}
 use Rattle.tcl_core.specs.Trees.What.{Out, In, Done, Back, Refused}
 use Rattle.tcl_host.specs.declared.reply.HostReply.{HostReply as TheirReply}
 use Rattle.tcl_host.specs.declared.reply.HostReply.TheVariants as theirs
-use Rattle.tcl_host.specs.declared.reply.Refusal.{Refusal}
-use Rattle.tcl_host.specs.declared.reply.Refusal.TheVariants as refusal
+use Rattle.tcl_host.specs.declared.reply.HostRefusal.{HostRefusal}
+use Rattle.tcl_host.specs.declared.reply.HostRefusal.TheVariants as refusal
 use Rattle.tcl_host.specs.declared.request.Request.{Request as TheirRequest}
 use Rattle.tcl_language.specs.Interpreters.{no_interpreter}
 use Rattle.tcl_run.specs.Ends.{Interrupts}
@@ -25,27 +25,33 @@ use Rattle.tcl_run.specs.declared.outside.Turn.{Turn}
 use Rattle.tcl_run.specs.declared.outside.Turn.TheVariants as turn
 use Rattle.tcl_tree.specs.Own.{Own}
 
--- How an outside goes from one state to the next by what it is told: a call that goes out, an entry that comes in, the reply to it, the answer that comes back, a step,
--- an interpreter that is dropped; the tree being what it then is. An answer from past the top of the tree comes with the call that it answers.
+-- How an outside goes from one state to the next by what it is told: a call that goes out, an entry
+-- that comes in, the reply to it, the answer that comes back, a step, an interpreter that is
+-- dropped; the tree being what it then is. An answer from past the top of the tree comes with the
+-- call that it answers.
 abbrev pub Going : Type 0 → Type 1
 Going S = Tree Own → S → Wait → Event Own → S → Type 0
 
 -- ## Calls within the tree
 
--- A call goes out from the interpreter at p, n levels up to the one at a and these names down, and comes in there.
-pub record Enters {S : Type 0} (goes : Going S) (T : Tree Own) (o : S) (p : Place) (n : ℕ) (a : Place) (down : Path) (i : Entry) (z : S) : Type 0 where
+-- A call goes out from the interpreter at p, n levels up to the one at a and these names down, and
+-- comes in there.
+pub record Enters {S : Type 0} (goes : Going S) (T : Tree Own) (o : S) (p : Place) (n : ℕ)
+    (a : Place) (down : Path) (i : Entry) (z : S) : Type 0 where
   pub between : S
   pub leaves : goes T o None (event p (Out (Some n) down i)) between
   pub enters : goes T between None (event (a ++ down) (In (Some (length down)) i)) z
 
 -- It is done there by one reply, and answered by another.
-pub record Returns {S : Type 0} (goes : Going S) (T : Tree Own) (o : S) (p : Place) (n : ℕ) (a : Place) (down : Path) (s r : Reply) (z : S) : Type 0 where
+pub record Returns {S : Type 0} (goes : Going S) (T : Tree Own) (o : S) (p : Place) (n : ℕ)
+    (a : Place) (down : Path) (s r : Reply) (z : S) : Type 0 where
   pub between : S
   pub leaves : goes T o None (event (a ++ down) (Done (Some (length down)) s)) between
   pub returns : goes T between None (event p (Back (Some n) (Replied r))) z
 
 -- A call finds nobody, and is answered by that.
-pub record Misses {S : Type 0} (goes : Going S) (T : Tree Own) (o : S) (p : Place) (n : ℕ) (down : Path) (i : Entry) (r : Reply) (z : S) : Type 0 where
+pub record Misses {S : Type 0} (goes : Going S) (T : Tree Own) (o : S) (p : Place) (n : ℕ)
+    (down : Path) (i : Entry) (r : Reply) (z : S) : Type 0 where
   pub between : S
   pub leaves : goes T o None (event p (Out (Some n) down i)) between
   pub returns : goes T between None (event p (Back (Some n) (Replied r))) z
@@ -53,11 +59,12 @@ pub record Misses {S : Type 0} (goes : Going S) (T : Tree Own) (o : S) (p : Plac
 -- ## Calls that pass the top
 
 -- the call from p, so high up and for this, is answered so
-abbrev pub Answers : {S : Type 0} → Going S → Tree Own → S → Path → Height → Entry → S → Answer → Type 0
+abbrev pub Answers : {S : Type 0} → Going S → Tree Own → S → Path → Height → Entry → S → Answer →
+    Type 0
 Answers goes T o p h i z a = goes T o (Some (h, i)) (event p (Back h a)) z × (is_own h i a ≡ true)
 
 -- the numbers of a host's refusals
-abbrev pub number_of : Refusal → ℕ
+abbrev pub number_of : HostRefusal → ℕ
 number_of refusal.NoChannel = 261
 number_of refusal.DeviceFault = 262
 number_of refusal.NotOpened = 267
@@ -78,12 +85,18 @@ IsAsked None (AskHost request) = Unit {0}
 IsAsked None i = Prim.⊥
 IsAsked (Some n) i = Unit {0}
 
--- What comes next while the call is open: an entry, where this outside hands in any; or the call's answer.
-abbrev pub ComesNext : {S : Type 0} → Going S → Type 0 → Tree Own → S → Path → Height → Entry → S → Result Turn Interruption → Type 0
-ComesNext goes hands_in T o p h i z (Ok (turn.Entry target entry)) = goes T o None (event target.items (In None (whole_entry entry))) z × hands_in
-ComesNext goes hands_in T o p h i z (Ok (turn.Completed text)) = Answers goes T o p h i z (Replied (Completed (ok text)))
-ComesNext goes hands_in T o p h i z (Ok (turn.Heard reply)) = Answers goes T o p h i z (Heard (reply_of reply))
-ComesNext goes hands_in T o p h i z (Err e) = Interrupts e (λ r. Answers goes T o p h i z (Replied r))
+-- What comes next while the call is open: an entry, where this outside hands in any; or the call's
+-- answer.
+abbrev pub ComesNext : {S : Type 0} → Going S → Type 0 → Tree Own → S → Path → Height → Entry → S →
+    Result Turn Interruption → Type 0
+ComesNext goes hands_in T o p h i z (Ok (turn.Entry target entry)) = goes T o None
+    (event target.items (In None (whole_entry entry))) z × hands_in
+ComesNext goes hands_in T o p h i z (Ok (turn.Completed text)) = Answers goes T o p h i z
+    (Replied (Completed (ok text)))
+ComesNext goes hands_in T o p h i z (Ok (turn.Heard reply)) = Answers goes T o p h i z
+    (Heard (reply_of reply))
+ComesNext goes hands_in T o p h i z (Err e) = Interrupts e
+    (λ r. Answers goes T o p h i z (Replied r))
 
 -- what is said where an entry comes next
 abbrev pub OnEntry : Result Turn Interruption → Type 0 → Type 0
@@ -92,10 +105,14 @@ OnEntry r P = Unit {0}
 
 -- ## A host as the outside
 
--- The host makes a step for each request by its reply. It hands in nothing, and above the tree no interpreter is.
-abbrev pub hosted_by : {S : Type 0} → (S → TheirRequest → TheirReply → S → Type 0) → S → Wait → What Own → S → Type 0
-hosted_by step o (Some (None, AskHost request)) (Back h (Heard a)) u = (q : TheirRequest) × (reply : TheirReply) × (request_of q ≡ request) × (reply_of reply ≡ a) × step o q reply u
-hosted_by step o (Some (Some up, i)) (Back h (Replied r)) u = (u ≡ o) × (r ≡ Completed (error (no_interpreter [])))
+-- The host makes a step for each request by its reply. It hands in nothing, and above the tree no
+-- interpreter is.
+abbrev pub hosted_by : {S : Type 0} → (S → TheirRequest → TheirReply → S → Type 0) → S → Wait →
+    What Own → S → Type 0
+hosted_by step o (Some (None, AskHost request)) (Back h (Heard a)) u = (q : TheirRequest) ×
+    (reply : TheirReply) × (request_of q ≡ request) × (reply_of reply ≡ a) × step o q reply u
+hosted_by step o (Some (Some up, i)) (Back h (Replied r)) u = (u ≡ o) ×
+    (r ≡ Completed (error (no_interpreter [])))
 hosted_by step o s (Out h down i) u = u ≡ o
 hosted_by step o s (Done h r) u = u ≡ o
 hosted_by step o s _ u = Prim.⊥

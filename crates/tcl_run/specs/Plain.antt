@@ -1,4 +1,5 @@
--- What a program does that runs nothing inside, calls nobody, counts no step and drops no child: it looks, changes, and is over.
+-- What a program does that runs nothing inside, calls nobody, counts no step and drops no child: it
+-- looks, changes, and is over.
 use Rattle.std.specs.Prelude.{◌≡◌, ℕ, List, [], ◌∷◌, ◌++◌, Some, Result, MatchResult}
 use Rattle.tcl_core.specs.Paths.{Place, Path}
 use Rattle.tcl_core.specs.Endings.{Reply}
@@ -23,11 +24,14 @@ abbrev pub Does : Program → Tree Own → Place → Tree Own → Reply → Type
 Does (done c) T p V r = (V ≡ T) × (r ≡ Completed c)
 Does (exit n) T p V r = (V ≡ T) × (r ≡ Exit n)
 Does (act Look k) T p V r = Does (k (at T p)) T p V r
-Does (act (Change own) k) T p V r = (n : Node Own) × (T p ≡ Some n) × Does (k (at T p)) (effect p (Changed own) T) p V r
+Does (act (Change own) k) T p V r = (n : Node Own) × (T p ≡ Some n) ×
+    Does (k (at T p)) (effect p (Changed own) T) p V r
 Does (act (Limit l) k) T p V r = Does (k (at T p)) (effect p (Limited l) T) p V r
 Does (act (LimitDepth l) k) T p V r = Does (k (at T p)) (effect p (DepthLimited l) T) p V r
 Does (act Charge k) T p V r = Prim.⊥
-Does (act (Make name own safe) k) T p V r = Does (k (at T p)) (effect (spot p (making name own safe (T p) (T (p ++ name ∷ []))).0) (making name own safe (T p) (T (p ++ name ∷ []))).1 T) p V r
+Does (act (Make name own safe) k) T p V r = Does (k (at T p))
+    (effect (spot p (making name own safe (T p) (T (p ++ name ∷ []))).0)
+    (making name own safe (T p) (T (p ++ name ∷ []))).1 T) p V r
 Does (act (Drop name) k) T p V r = Prim.⊥
 Does (go i k) T p V r = Prim.⊥
 Does (inside b i k) T p V r = Prim.⊥
@@ -35,11 +39,18 @@ Does (call h down i lost k) T p V r = Prim.⊥
 Does (wait s k) T p V r = Prim.⊥
 
 -- What came of such a program in the interpreter that the place names.
-abbrev pub Acts : table.Tree → table_place.Place → (Integers → Program) → table.Tree → Result (List ℕ) Interruption → Type 0
-Acts old place program new result = IfEnded result (λ r. (p : Path) (style : Integers) → IsThere old place p style → Does (program style) (tree_of old) p (tree_of new) r)
+abbrev pub Acts : table.Tree → table_place.Place → (Integers → Program) → table.Tree →
+    Result (List ℕ) Interruption → Type 0
+Acts old place program new result = IfEnded result
+    (λ r. (p : Path) (style : Integers) → IsThere old place p style →
+    Does (program style) (tree_of old) p (tree_of new) r)
 
--- What came of a step in the interpreter that the place names: the program goes on from the new table, whatever follows; or it ends there.
-abbrev pub Steps : {A : Type 0} → table.Tree → table_place.Place → (Program → Program) → table.Tree → Result A Interruption → Type 0
+-- What came of a step in the interpreter that the place names: the program goes on from the new
+-- table, whatever follows; or it ends there.
+abbrev pub Steps : {A : Type 0} → table.Tree → table_place.Place → (Program → Program) →
+    table.Tree → Result A Interruption → Type 0
 Steps old place step new result = MatchResult result
-    (λ a. (p : Path) → Names old place p → (k : Program) (V : Tree Own) (r : Reply) → Does k (tree_of new) p V r → Does (step k) (tree_of old) p V r)
-    (λ i. Interrupts i (λ e. (p : Path) → Names old place p → (k : Program) → Does (step k) (tree_of old) p (tree_of new) e))
+    (λ a. (p : Path) → Names old place p → (k : Program) (V : Tree Own) (r : Reply) →
+    Does k (tree_of new) p V r → Does (step k) (tree_of old) p V r)
+    (λ i. Interrupts i (λ e. (p : Path) → Names old place p → (k : Program) →
+    Does (step k) (tree_of old) p (tree_of new) e))

@@ -1,7 +1,7 @@
 -- How a run goes through the table of interpreters.
 use Rattle.std.specs.Prelude.{◌≡◌, ℕ, ◌<◌, ◌-◌, ◌++◌, List, [], Option, Some, None, Result, Ok, Err}
 use Rattle.std.specs.Option.{option_map}
-use Rattle.tcl_beginnings.specs.Beginnings.{Begun}
+use Rattle.tcl_partial_runs.specs.Beginnings.{Begun}
 use Rattle.tcl_core.specs.Paths.{Place, Path}
 use Rattle.tcl_core.specs.Endings.{Reply}
 use Rattle.tcl_core.specs.Endings.Cause.{Above}
@@ -10,7 +10,7 @@ use Rattle.tcl_core.specs.Endings.Meter.{Count}
 use Rattle.tcl_core.specs.Programs.{blocked, is_spent}
 use Rattle.tcl_core.specs.Programs as programs
 use Rattle.tcl_core.specs.Runs.{Ending}
-use Rattle.tcl_core.specs.Threads.{Threads, Crossings, event}
+use Rattle.tcl_core.specs.Execution.{Executes, Crossings, event}
 use Rattle.tcl_core.specs.Trees.{Tree, Node, effect}
 use Rattle.tcl_core.specs.Trees.What.{Changed, Charged, Refused}
 use Rattle.tcl_frames.specs.Chain.{Chain}
@@ -27,8 +27,9 @@ use Rattle.tcl_run.specs.Outsides.{Going}
 use Rattle.tcl_run.specs.declared.interruption.Interruption.{Interruption}
 
 -- From a tree and a state of the outside the program at the place may end so, with these left.
-abbrev pub Comes : {S : Type 0} → Going S → programs.Table Own Instr → Tree Own → S → Place → Program → Tree Own → S → Reply → Type 0
-Comes goes language T o p x V z r = Threads (Crossings goes) language T o p x V z r
+abbrev pub Comes : {S : Type 0} → Going S → programs.Table Own Instr → Tree Own → S → Place →
+    Program → Tree Own → S → Reply → Type 0
+Comes goes language T o p x V z r = Executes (Crossings goes) language T o p x V z r
 
 -- What may have become of the outside by now: it was lost once or more, or not at all.
 pub data IsLoss {S : Type 0} (loses : S → S → Type 0) (o : S) : S → Type 0 where
@@ -43,11 +44,15 @@ pub record Ways (S : Type 0) : Type 1 where
 abbrev pub ways : {S : Type 0} → Going S → (S → S → Type 0) → Ways S
 ways goes loses = record { goes = goes; loses = loses }
 
--- From a tree and a state of the outside the program at the place came so far, with these left: to its end; or to where it was given up, as for want of memory, of which
--- nothing is said of the tree, and the outside is what may have become of its state there.
-pub data Proceeds {S : Type 0} (ways : Ways S) (language : programs.Table Own Instr) (T : Tree Own) (o : S) (p : Place) (x : Program) (V : Tree Own) (z : S) : Ending → Type 0 where
-  ended : {r : Reply} → Comes ways.goes language T o p x V z r → Proceeds ways language T o p x V z (Some r)
-  given_up : {last : S} → Begun (Crossings ways.goes) language T o p x last → IsLoss ways.loses last z → Proceeds ways language T o p x V z None
+-- From a tree and a state of the outside the program at the place came so far, with these left: to
+-- its end; or to where it was given up, as for want of memory, of which nothing is said of the
+-- tree, and the outside is what may have become of its state there.
+pub data Proceeds {S : Type 0} (ways : Ways S) (language : programs.Table Own Instr) (T : Tree Own)
+    (o : S) (p : Place) (x : Program) (V : Tree Own) (z : S) : Ending → Type 0 where
+  ended : {r : Reply} → Comes ways.goes language T o p x V z r →
+      Proceeds ways language T o p x V z (Some r)
+  given_up : {last : S} → Begun (Crossings ways.goes) language T o p x last →
+      IsLoss ways.loses last z → Proceeds ways language T o p x V z None
 
 -- how many evaluations are in progress in an interpreter, and how many there may be
 abbrev pub meters_of : Node Own → ℕ × ℕ
@@ -79,12 +84,15 @@ room T = 1000 - depth_at T []
 -- What an evaluation leaves as it is: what is in use keeps its key and its depth.
 pub record IsSteady (old new : table.Tree) : Type 0 where
   pub marks : marks_of new ≡ marks_of old
-  pub keys : (q : Path) (k : ℕ) → key_of old q ≡ Some k → InUse (tree_of old) q → key_of new q ≡ Some k
-  pub depths : (q : Path) → InUse (tree_of old) q → depth_at (tree_of new) q ≡ depth_at (tree_of old) q
+  pub keys : (q : Path) (k : ℕ) → key_of old q ≡ Some k → InUse (tree_of old) q →
+      key_of new q ≡ Some k
+  pub depths : (q : Path) → InUse (tree_of old) q →
+      depth_at (tree_of new) q ≡ depth_at (tree_of old) q
   -- and the top its depth, in use or not, since that measures how much deeper an evaluation can go
   pub top : depth_at (tree_of new) [] ≡ depth_at (tree_of old) []
 
--- What a change of own parts, or of counts, leaves as it is: all keys, and all depths with their limits.
+-- What a change of own parts, or of counts, leaves as it is: all keys, and all depths with their
+-- limits.
 pub record IsLevel (old new : table.Tree) : Type 0 where
   pub marks : marks_of new ≡ marks_of old
   pub keys : (q : Path) → key_of new q ≡ key_of old q
@@ -95,46 +103,63 @@ abbrev pub IsRunning : table.Tree → table_place.Place → Type 0
 IsRunning t place = (p : Path) × Names t place p × InUse (tree_of t) p
 
 -- a step at p is counted, and the outside is told of it
-pub record Counts {S : Type 0} (goes : Going S) (T : Tree Own) (o : S) (p : Place) (U : Tree Own) (z : S) : Type 0 where
+pub record Counts {S : Type 0} (goes : Going S) (T : Tree Own) (o : S) (p : Place) (U : Tree Own)
+    (z : S) : Type 0 where
   pub free : blocked is_spent T p ≡ None
   pub counted : U ≡ effect p Charged T
   pub told : goes T o None (event p Charged) z
 
--- a step at p is refused by the limit of an interpreter, or, where no limit refuses it, by the outside; and no interpreter changes
-pub data RefusesStep {S : Type 0} (goes : Going S) (T : Tree Own) (o : S) (p : Place) (U : Tree Own) : S → Reply → Type 0 where
-  by_limit : (levels : ℕ) → blocked is_spent T p ≡ Some levels → U ≡ T → RefusesStep goes T o p U o (Stop levels Count)
-  from_outside : {z : S} → blocked is_spent T p ≡ None → U ≡ T → goes T o None (event p (Refused Count None)) z → RefusesStep goes T o p U z (Cut Above)
+-- a step at p is refused by the limit of an interpreter, or, where no limit refuses it, by the
+-- outside; and no interpreter changes
+pub data RefusesStep {S : Type 0} (goes : Going S) (T : Tree Own) (o : S) (p : Place)
+    (U : Tree Own) : S → Reply → Type 0 where
+  by_limit : (levels : ℕ) → blocked is_spent T p ≡ Some levels → U ≡ T →
+      RefusesStep goes T o p U o (Stop levels Count)
+  from_outside : {z : S} → blocked is_spent T p ≡ None → U ≡ T →
+      goes T o None (event p (Refused Count None)) z → RefusesStep goes T o p U z (Cut Above)
 
 -- the place names the interpreter at p, in a tree of that style of integers
-pub record IsThere (t : table.Tree) (place : table_place.Place) (p : Path) (style : Integers) : Type 0 where
+pub record IsThere (t : table.Tree) (place : table_place.Place) (p : Path) (style : Integers) : Type
+    0 where
   pub names : Names t place p
   pub style_is : (marks_of t).integers ≡ style
 
 -- and an evaluation is in progress there
-pub record IsAt (t : table.Tree) (place : table_place.Place) (p : Path) (style : Integers) : Type 0 where
-  pub names : Names t place p
-  pub style_is : (marks_of t).integers ≡ style
-  pub running : InUse (tree_of t) p
+pub record IsAt (t : table.Tree) (place : table_place.Place) (p : Path) (style : Integers) : Type 0
+  where
+    pub names : Names t place p
+    pub style_is : (marks_of t).integers ≡ style
+    pub running : InUse (tree_of t) p
 
--- What came of a program in the interpreter that the place names, where an evaluation is in progress.
-abbrev pub Evaluates : {S : Type 0} → Going S → table.Tree → S → table_place.Place → (Integers → Program) → table.Tree → S → Result (List ℕ) Interruption → Type 0
+-- What came of a program in the interpreter that the place names, where an evaluation is in
+-- progress.
+abbrev pub Evaluates : {S : Type 0} → Going S → table.Tree → S → table_place.Place →
+    (Integers → Program) → table.Tree → S → Result (List ℕ) Interruption → Type 0
 Evaluates goes old o place program new z result =
-    IfEnded result (λ r. (p : Path) (style : Integers) → IsAt old place p style → Comes goes (language style) (tree_of old) o p (program style) (tree_of new) z r)
+    IfEnded result (λ r. (p : Path) (style : Integers) → IsAt old place p style →
+    Comes goes (language style) (tree_of old) o p (program style) (tree_of new) z r)
 
 -- the same, wherever the place is
-abbrev pub EvaluatesAt : {S : Type 0} → Going S → table.Tree → S → table_place.Place → (Integers → Program) → table.Tree → S → Result (List ℕ) Interruption → Type 0
+abbrev pub EvaluatesAt : {S : Type 0} → Going S → table.Tree → S → table_place.Place →
+    (Integers → Program) → table.Tree → S → Result (List ℕ) Interruption → Type 0
 EvaluatesAt goes old o place program new z result =
-    IfEnded result (λ r. (p : Path) (style : Integers) → IsThere old place p style → Comes goes (language style) (tree_of old) o p (program style) (tree_of new) z r)
+    IfEnded result (λ r. (p : Path) (style : Integers) → IsThere old place p style →
+    Comes goes (language style) (tree_of old) o p (program style) (tree_of new) z r)
 
--- How far a program came in the interpreter that the place names, where an evaluation is in progress.
-abbrev pub ProceedsIn : {S : Type 0} → Ways S → table.Tree → S → table_place.Place → (Integers → Program) → table.Tree → S → Result (List ℕ) Interruption → Type 0
+-- How far a program came in the interpreter that the place names, where an evaluation is in
+-- progress.
+abbrev pub ProceedsIn : {S : Type 0} → Ways S → table.Tree → S → table_place.Place →
+    (Integers → Program) → table.Tree → S → Result (List ℕ) Interruption → Type 0
 ProceedsIn ways old o place program new z result =
-    IfRan result (λ e. (p : Path) (style : Integers) → IsAt old place p style → Proceeds ways (language style) (tree_of old) o p (program style) (tree_of new) z e)
+    IfRan result (λ e. (p : Path) (style : Integers) → IsAt old place p style →
+    Proceeds ways (language style) (tree_of old) o p (program style) (tree_of new) z e)
 
 -- the same, wherever the place is
-abbrev pub ProceedsAt : {S : Type 0} → Ways S → table.Tree → S → table_place.Place → (Integers → Program) → table.Tree → S → Result (List ℕ) Interruption → Type 0
+abbrev pub ProceedsAt : {S : Type 0} → Ways S → table.Tree → S → table_place.Place →
+    (Integers → Program) → table.Tree → S → Result (List ℕ) Interruption → Type 0
 ProceedsAt ways old o place program new z result =
-    IfRan result (λ e. (p : Path) (style : Integers) → IsThere old place p style → Proceeds ways (language style) (tree_of old) o p (program style) (tree_of new) z e)
+    IfRan result (λ e. (p : Path) (style : Integers) → IsThere old place p style →
+    Proceeds ways (language style) (tree_of old) o p (program style) (tree_of new) z e)
 
 -- the own part at p has another chain, where there is one
 abbrev pub Rechained : Tree Own → Place → Own → Result Chain FrameFault → Tree Own → Type 0

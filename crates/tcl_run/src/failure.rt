@@ -56,7 +56,8 @@ pub fn refused(alloc: Global, refusal: Refusal) -> Interruption
     }
 }
 
-/// What becomes of an evaluation that would be too deep for the interpreter so many levels up: where that is its own, an error; else a stop.
+/// What becomes of an evaluation that would be too deep for the interpreter so many levels up:
+/// where that is its own, an error; else a stop.
 pub fn too_deep(alloc: Global, levels: usize) -> Interruption
     ensures { Interrupts result (λ e. e ≡ too_deep_at levels) }
 {
@@ -165,7 +166,8 @@ pub fn bad_level(alloc: Global, level: &str) -> Interruption
 
 /// The command has no such subcommand.
 pub fn unknown_subcommand(alloc: Global, name: &str) -> Interruption
-    ensures { Interrupts result (λ e. e ≡ Completed (failing (faults.unknown_subcommand name.now))) }
+    ensures { Interrupts result (λ e. e
+        ≡ Completed (failing (faults.unknown_subcommand name.now))) }
 {
     failure_about(alloc, "unknown subcommand ", name)
 }

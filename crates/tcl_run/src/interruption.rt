@@ -24,7 +24,8 @@ pub enum Interruption {
     Memory,
     /// It completed otherwise, as by an error or a return.
     Completed(Box<Completion>),
-    /// A step or a level would have passed a limit. No script of the interpreters that it ends is told of it.
+    /// A step or a level would have passed a limit. No script of the interpreters that it ends is
+    /// told of it.
     Stopped(Stop),
     /// The whole run ends with this status.
     Exited(i64),
@@ -67,8 +68,8 @@ impl<T: Drop> From<AllocFailed<T>> for Interruption {
 /// Returns the completion that an evaluation ended in.
 ///
 /// # Errors
-/// A stop, an exit, a cut and want of memory are no completions: they are returned as they came, and
-/// no script catches them.
+/// A stop, an exit, a cut and want of memory are no completions: they are returned as they came,
+/// and no script catches them.
 #[inline(never)]
 pub fn caught(ended: Result<Value, Interruption>) -> Result<Completion, Interruption>
     ensures { Catches ended result }

@@ -1,17 +1,19 @@
 //! What stands outside of a tree.
-ghost use Rattle.std.specs.Prelude.{◌≡◌, ℕ, ◌≤◌, ◌<◌, ◌&&◌, Bool, true, false, [], ◌∷◌, ◌++◌, Some, None, OnOk};
+ghost use Rattle.std.specs.Prelude.{◌≡◌, ℕ, ◌≤◌, ◌<◌, ◌&&◌, Bool, true, false, [], ◌∷◌, ◌++◌, Some};
+ghost use Rattle.std.specs.Prelude.{None, OnOk};
 ghost use Rattle.tcl_core.specs.Paths.{Path, rise_to};
 ghost use Rattle.tcl_core.specs.Programs.{Wait};
 ghost use Rattle.tcl_core.specs.Endings.Reply.{Exit};
 ghost use Rattle.tcl_core.specs.Entries.Answer.{Replied};
-ghost use Rattle.tcl_core.specs.Threads.{event};
+ghost use Rattle.tcl_core.specs.Execution.{event};
 ghost use Rattle.tcl_core.specs.Trees as core;
 ghost use Rattle.tcl_core.specs.Trees.{Event};
 ghost use Rattle.tcl_core.specs.Endings.Meter.{Count};
 ghost use Rattle.tcl_core.specs.Trees.What.{Charged, Refused, Dropped, Out, Done, Back};
 ghost use Rattle.tcl_run.specs.Ends.{IfEnded, WhereMemory};
 ghost use Rattle.tcl_run.specs.Entering.{whole_entry};
-ghost use Rattle.tcl_run.specs.Outsides.{ComesNext, Enters, IsAsked, Misses, OnEntry, Returns, hosted};
+ghost use Rattle.tcl_run.specs.Outsides.{ComesNext, Enters, IsAsked, Misses, OnEntry, Returns};
+ghost use Rattle.tcl_run.specs.Outsides.{hosted};
 ghost use Rattle.tcl_tree.specs.Own.{Own};
 ghost use Rattle.tcl_tree.specs.TreeOf.{tree_of, Names};
 
@@ -36,13 +38,15 @@ pub enum Turn {
     Heard(HostReply),
 }
 
-/// What stands outside of a tree. It is told of each crossing between two interpreters of the tree, and asked for what passes the tree's top; it grants steps,
-/// and is told of each, and of each interpreter that is dropped.
+/// What stands outside of a tree. It is told of each crossing between two interpreters of the tree,
+/// and asked for what passes the tree's top; it grants steps, and is told of each, and of each
+/// interpreter that is dropped.
 pub trait Outside {
     // from one state to the next, by what it is told, the tree being what it then is
     ghost goes: { core.Tree Own → Self → Wait → Event Own → Self → Type 0 };
 
-    // what may have become of a state, where an evaluation is given up, by all that it is told, and by a question for which it wants memory
+    // what may have become of a state, where an evaluation is given up, by all that it is told, and
+    // by a question for which it wants memory
     ghost loses: { Self → Self → Type 0 };
 
     // how many entries it may still hand in
@@ -61,13 +65,15 @@ pub trait Outside {
     /// A step is made that it granted.
     fn makes_step(&mut self)
         requires { has_steps self.old ≡ true }
-        ensures told { (T : core.Tree Own) (p : Path) → goes T self.old None (event p Charged) self.new }
+        ensures told { (T : core.Tree Own) (p : Path) →
+            goes T self.old None (event p Charged) self.new }
         ensures lost { loses self.old self.new }
         ensures left { entries_left self.new ≤ entries_left self.old };
 
     /// It refuses a step, having none left.
     fn refuses_step(&mut self)
-        ensures told { has_steps self.old ≡ false → (T : core.Tree Own) (p : Path) → goes T self.old None (event p (Refused Count None)) self.new }
+        ensures told { has_steps self.old ≡ false → (T : core.Tree Own) (p : Path) →
+            goes T self.old None (event p (Refused Count None)) self.new }
         ensures lost { loses self.old self.new }
         ensures left { entries_left self.new ≤ entries_left self.old };
 
@@ -82,7 +88,8 @@ pub trait Outside {
         parent: Place,
         name: &Text,
     ) -> Result<(), AllocError>
-        ensures told { OnOk result ((T : core.Tree Own) (p : Path) → Names tree.now parent p → goes T self.old None (event (p ++ name.now ∷ []) Dropped) self.new) }
+        ensures told { OnOk result ((T : core.Tree Own) (p : Path) → Names tree.now parent p →
+            goes T self.old None (event (p ++ name.now ∷ []) Dropped) self.new) }
         ensures lost { loses self.old self.new }
         ensures left { entries_left self.new ≤ entries_left self.old };
 
@@ -99,7 +106,9 @@ pub trait Outside {
         down: &[Text],
         entry: &Entry,
     ) -> Result<(), AllocError>
-        ensures told { OnOk result ((p a : Path) → Names tree.now caller p → rise_to (Some up) p ≡ Some a → Enters goes (tree_of tree.now) self.old p up a down.now (whole_entry entry.now) self.new) }
+        ensures told { OnOk result ((p a : Path) → Names tree.now caller p → rise_to (Some up) p ≡ Some a →
+            Enters goes (tree_of tree.now) self.old p up a down.now (whole_entry entry.now)
+            self.new) }
         ensures lost { loses self.old self.new }
         ensures left { entries_left self.new ≤ entries_left self.old };
 
@@ -117,11 +126,15 @@ pub trait Outside {
         ended: &Result<Value, Interruption>,
         told: &Result<Value, Interruption>,
     ) -> Result<(), AllocError>
-        ensures told { OnOk result (IfEnded ended.now (λ s. IfEnded told.now (λ r. (p a : Path) → Names tree.now caller p → rise_to (Some up) p ≡ Some a → Returns goes (tree_of tree.now) self.old p up a down.now s r self.new))) }
+        ensures told { OnOk result (IfEnded ended.now
+            (λ s. IfEnded told.now (λ r. (p a : Path) → Names tree.now caller p →
+            rise_to (Some up) p ≡ Some a →
+            Returns goes (tree_of tree.now) self.old p up a down.now s r self.new))) }
         ensures lost { loses self.old self.new }
         ensures left { entries_left self.new ≤ entries_left self.old };
 
-    /// The caller's call, so many levels up and these names down, finds nobody there, and is answered by that.
+    /// The caller's call, so many levels up and these names down, finds nobody there, and is
+    /// answered by that.
     ///
     /// # Errors
     /// Want of memory.
@@ -135,11 +148,15 @@ pub trait Outside {
         entry: &Entry,
         told: &Result<Value, Interruption>,
     ) -> Result<(), AllocError>
-        ensures told { OnOk result (IfEnded told.now (λ r. (p a : Path) → Names tree.now caller p → rise_to (Some up) p ≡ Some a → Misses goes (tree_of tree.now) self.old p up down.now (whole_entry entry.now) r self.new)) }
+        ensures told { OnOk result (IfEnded told.now
+            (λ r. (p a : Path) → Names tree.now caller p → rise_to (Some up) p ≡ Some a →
+            Misses goes (tree_of tree.now) self.old p up down.now (whole_entry entry.now) r
+            self.new)) }
         ensures lost { loses self.old self.new }
         ensures left { entries_left self.new ≤ entries_left self.old };
 
-    /// The caller's call passes the top of the tree, so many levels up, or to the host, and these names down.
+    /// The caller's call passes the top of the tree, so many levels up, or to the host, and these
+    /// names down.
     ///
     /// # Errors
     /// Want of memory.
@@ -152,7 +169,9 @@ pub trait Outside {
         down: &[Text],
         entry: &Entry,
     ) -> Result<(), AllocError>
-        ensures told { OnOk result ((p : Path) → Names tree.now caller p → rise_to up p ≡ None → goes (tree_of tree.now) self.old None (event p (Out up down.now (whole_entry entry.now))) self.new) }
+        ensures told { OnOk result ((p : Path) → Names tree.now caller p → rise_to up p ≡ None →
+            goes (tree_of tree.now) self.old None
+            (event p (Out up down.now (whole_entry entry.now))) self.new) }
         ensures lost { loses self.old self.new }
         ensures left { entries_left self.new ≤ entries_left self.old };
 
@@ -169,7 +188,9 @@ pub trait Outside {
         entry: &Entry,
     ) -> Result<Turn, Interruption>
         requires asked { IsAsked up (whole_entry entry.now) }
-        ensures comes { (p : Path) → Names tree.now caller p → rise_to up p ≡ None → ComesNext goes hands_in (tree_of tree.now) self.old p up (whole_entry entry.now) self.new result }
+        ensures comes { (p : Path) → Names tree.now caller p → rise_to up p ≡ None →
+            ComesNext goes hands_in (tree_of tree.now) self.old p up (whole_entry entry.now)
+            self.new result }
         ensures lost { WhereMemory result (loses self.old self.new) }
         ensures fewer { OnEntry result (entries_left self.new < entries_left self.old) }
         ensures left { entries_left self.new ≤ entries_left self.old };
@@ -185,7 +206,9 @@ pub trait Outside {
         target: &[Text],
         ended: &Result<Value, Interruption>,
     ) -> Result<(), AllocError>
-        ensures told { OnOk result (IfEnded ended.now (λ r. goes (tree_of tree.now) self.old None (event target.now (Done None r)) self.new)) }
+        ensures told { OnOk result (IfEnded ended.now
+            (λ r. goes (tree_of tree.now) self.old None (event target.now (Done None r))
+            self.new)) }
         ensures lost { loses self.old self.new }
         ensures left { entries_left self.new ≤ entries_left self.old };
 
@@ -202,12 +225,15 @@ pub trait Outside {
         entry: &Entry,
         status: i64,
     ) -> Result<(), AllocError>
-        ensures told { OnOk result (hands_in → (p : Path) → Names tree.now caller p → rise_to up p ≡ None → goes (tree_of tree.now) self.old (Some (up, whole_entry entry.now)) (event p (Back up (Replied (Exit status)))) self.new) }
+        ensures told { OnOk result (hands_in → (p : Path) → Names tree.now caller p → rise_to up p ≡ None →
+            goes (tree_of tree.now) self.old (Some (up, whole_entry entry.now))
+            (event p (Back up (Replied (Exit status)))) self.new) }
         ensures lost { loses self.old self.new }
         ensures left { entries_left self.new ≤ entries_left self.old };
 }
 
-/// A host by itself: it does what it is asked, hands in nothing, and above the tree no interpreter is.
+/// A host by itself: it does what it is asked, hands in nothing, and above the tree no interpreter
+/// is.
 impl<H: Host> Outside for H {
     ghost goes = { λ T o s ev u. hosted H.step T o s ev u };
 

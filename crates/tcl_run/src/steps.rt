@@ -1,5 +1,6 @@
 //! The steps that evaluations are put together from.
-ghost use Rattle.std.specs.Prelude.{◌≡◌, ◌≤◌, true, false, Some, None, Err, IfOk, IfErr, OnOk, OnErr};
+ghost use Rattle.std.specs.Prelude.{◌≡◌, ◌≤◌, true, false, Some, None, Err, IfOk, IfErr, OnOk};
+ghost use Rattle.std.specs.Prelude.{OnErr};
 ghost use Rattle.std.specs.Option.{option_copied, option_map};
 ghost use Rattle.tcl_core.specs.Paths.{Path};
 ghost use Rattle.tcl_core.specs.Trees as core;
@@ -11,7 +12,8 @@ ghost use Rattle.tcl_core.specs.Endings as endings;
 ghost use Rattle.tcl_run.specs.Runs.{Counts, IsLevel, RefusesStep, Rechained};
 ghost use Rattle.tcl_tree.specs.Own.{Own};
 ghost use Rattle.tcl_tree.specs.TreeOf.{tree_of, Names};
-ghost use Rattle.tcl_run.specs.Ends.{Breaks, Interrupts, Says, Gave, Stays, IsText, Tells, ListTells, IsFailure};
+ghost use Rattle.tcl_run.specs.Ends.{Breaks, Interrupts, Says, Gave, Stays, IsText, Tells};
+ghost use Rattle.tcl_run.specs.Ends.{ListTells, IsFailure};
 ghost use Rattle.tcl_text.specs.Lists.{list_of};
 ghost use Rattle.tcl_text.specs.Writing.{fault_message};
 
@@ -80,7 +82,8 @@ pub fn known_short(value: Value) -> Value
 
 /// The frames of the interpreter that the place names.
 fn frames_seen(tree: &Tree, place: Place) -> Option<&Frames>
-    ensures { (p : Path) → Names tree.now place p → option_copied result ≡ option_map (λ n. n.own.chain) (tree_of tree.now p) }
+    ensures { (p : Path) → Names tree.now place p → option_copied result ≡ option_map
+        (λ n. n.own.chain) (tree_of tree.now p) }
 {
     match tree.node_at(place) {
         Some(node) => Some(&node.state.frames),
@@ -95,7 +98,8 @@ pub fn read_variable(
     place: Place,
     name: &Text,
 ) -> Result<Value, Interruption>
-    ensures read { (p : Path) (n : core.Node Own) → Names tree.now place p → tree_of tree.now p ≡ Some n → Gave frame_message (read n.own.chain.frames name.now) result }
+    ensures read { (p : Path) (n : core.Node Own) → Names tree.now place p →
+        tree_of tree.now p ≡ Some n → Gave frame_message (read n.own.chain.frames name.now) result }
     ensures short { IfOk result (λ value. fits value ≡ true) }
 {
     let Some(frames) = frames_seen(tree, place) else {
@@ -107,7 +111,8 @@ pub fn read_variable(
     }
 }
 
-/// The text of an ordinary completion, on which its caller goes on; anything else is the caller's own end.
+/// The text of an ordinary completion, on which its caller goes on; anything else is the caller's
+/// own end.
 pub fn on_ok(ended: Result<Value, Interruption>) -> Result<Value, Interruption>
     ensures text { IfOk result (IsText ended) }
     ensures same { IfErr result (λ i. ended ≡ Err i) }
@@ -129,15 +134,19 @@ pub fn on_ok(ended: Result<Value, Interruption>) -> Result<Value, Interruption>
 /// Counts a step in the interpreter and in all above it.
 ///
 /// # Errors
-/// 308, as a stop, of the nearest interpreter whose limit of steps would be passed, itself first; and where none would be, that the outside grants no step more.
+/// 308, as a stop, of the nearest interpreter whose limit of steps would be passed, itself first;
+/// and where none would be, that the outside grants no step more.
 pub fn charge<O: Outside>(
     tree: &mut Tree,
     outside: &mut O,
     place: Place,
 ) -> Result<(), Interruption>
     requires { (p : Path) × Names tree.old place p }
-    ensures counted { OnOk result ((p : Path) → Names tree.old place p → Counts O.goes (tree_of tree.old) outside.old p (tree_of tree.new) outside.new) }
-    ensures refused { IfErr result (λ i. Says i (λ e. (p : Path) → Names tree.old place p → RefusesStep O.goes (tree_of tree.old) outside.old p (tree_of tree.new) outside.new e)) }
+    ensures counted { OnOk result ((p : Path) → Names tree.old place p →
+        Counts O.goes (tree_of tree.old) outside.old p (tree_of tree.new) outside.new) }
+    ensures refused { IfErr result
+        (λ i. Says i (λ e. (p : Path) → Names tree.old place p →
+        RefusesStep O.goes (tree_of tree.old) outside.old p (tree_of tree.new) outside.new e)) }
     ensures level { IsLevel tree.old tree.new }
     ensures left { O.entries_left outside.new ≤ O.entries_left outside.old }
 {
@@ -163,11 +172,14 @@ fn past_limit(levels: usize) -> Interruption
     })
 }
 
-/// How a step is refused that the outside doesn't grant: by a limit that it would pass, or else by the outside.
+/// How a step is refused that the outside doesn't grant: by a limit that it would pass, or else by
+/// the outside.
 fn refusal<O: Outside>(tree: &Tree, outside: &mut O, place: Place) -> Interruption
     requires place { (p : Path) × Names tree.now place p }
     requires refuses { O.has_steps outside.old ≡ false }
-    ensures refused { Says result (λ e. (p : Path) → Names tree.now place p → RefusesStep O.goes (tree_of tree.now) outside.old p (tree_of tree.now) outside.new e) }
+    ensures refused { Says result
+        (λ e. (p : Path) → Names tree.now place p →
+        RefusesStep O.goes (tree_of tree.now) outside.old p (tree_of tree.now) outside.new e) }
     ensures left { O.entries_left outside.new ≤ O.entries_left outside.old }
 {
     match tree.spent_at(place) {
@@ -188,8 +200,13 @@ pub fn write_variable(
     value: Value,
 ) -> Result<(), Interruption>
     requires { (p : Path) × Names tree.old place p }
-    ensures written { OnOk result ((p : Path) (n : core.Node Own) → Names tree.old place p → tree_of tree.old p ≡ Some n → Rechained (tree_of tree.old) p n.own (after_set n.own.chain name.now value) (tree_of tree.new)) }
-    ensures refused { IfErr result (λ i. Interrupts i (λ e. (p : Path) (n : core.Node Own) → Names tree.old place p → tree_of tree.old p ≡ Some n → IsFailure frame_message (after_set n.own.chain name.now value) e)) }
+    ensures written { OnOk result ((p : Path) (n : core.Node Own) → Names tree.old place p →
+        tree_of tree.old p ≡ Some n → Rechained (tree_of tree.old) p n.own
+        (after_set n.own.chain name.now value) (tree_of tree.new)) }
+    ensures refused { IfErr result
+        (λ i. Interrupts i (λ e. (p : Path) (n : core.Node Own) → Names tree.old place p →
+        tree_of tree.old p ≡ Some n → IsFailure frame_message (after_set n.own.chain name.now value)
+        e)) }
     ensures unchanged { OnErr result (tree_of tree.new ≡ tree_of tree.old) }
     ensures level { IsLevel tree.old tree.new }
 {

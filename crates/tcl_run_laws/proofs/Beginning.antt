@@ -9,7 +9,7 @@ use Rattle.tcl_core.specs.Paths.{Path, Place, Text, rise_to}
 use Rattle.tcl_core.specs.Programs.{Prog, Table}
 use Rattle.tcl_core.specs.Rules.{Derives}
 use Rattle.tcl_core.specs.Runs.{Runs, World, entering}
-use Rattle.tcl_core.specs.Threads.{Crossings, event}
+use Rattle.tcl_core.specs.Execution.{Crossings, event}
 use Rattle.tcl_core.specs.Trees.{Event, Node, Tree, What, granted, paid, with_limit}
 use Rattle.tcl_core.specs.Trees.Grants.{Budget}
 use Rattle.tcl_core.specs.Trees.What.{Charged, Nested, Refused, In, Done}
@@ -22,8 +22,8 @@ use Rattle.tcl_core.proofs.SameRuns.{asked-inj}
 use Rattle.tcl_core.proofs.Unended.{NotCut}
 use Rattle.tcl_core.proofs.TreeLaws.{denied_budget}
 use Rattle.tcl_core.proofs.Callers.{entering_calls}
-use Rattle.tcl_beginnings.specs.Beginnings.{Begins, BeginsEach, Begun, allowed, handed, handing}
-use Rattle.tcl_beginnings.proofs.Begins.{begins}
+use Rattle.tcl_partial_runs.specs.Beginnings.{Begins, BeginsEach, Begun, allowed, handed, handing}
+use Rattle.tcl_partial_runs.proofs.Begins.{begins}
 use Rattle.tcl_host.specs.declared.reply.HostReply.{HostReply as TheirReply}
 use Rattle.tcl_host.specs.declared.request.Request.{Request as TheirRequest}
 use Rattle.tcl_language_laws.specs.Language.{language}
@@ -63,7 +63,7 @@ module _ {I S : Type 0} (step : S → TheirRequest → TheirReply → S → Type
 
   -- a whole evaluation that is handed what these happenings read begins with them
   module _ {R : Type 0} (goes : _) {o z : R} (b : BeginsEach {O = Own} {I = I} {S = R} goes prog (limited n T) o p script z) (replies more : List Answer) (ending : End) (all : List (Event Own)) (V : Tree Own)
-      (calm : Rattle.tcl_beginnings.specs.Beginnings.IsUnrefused b.told) (reads : handed b.told (comes more) ≡ comes (replies ++ more)) (whole : Whole prog T p s n (replies ++ more) ending all V) where
+      (calm : Rattle.tcl_partial_runs.specs.Beginnings.IsUnrefused b.told) (reads : handed b.told (comes more) ≡ comes (replies ++ more)) (whole : Whole prog T p s n (replies ++ more) ending all V) where
     -- the world after the entry
     abbrev inner : World Own
     inner = whole.run.entered

@@ -9,7 +9,7 @@ use Rattle.tcl_core.specs.Programs.{Act, Deed, Wait, Wrap, spot, closes, changin
 use Rattle.tcl_core.specs.Programs.Act.{Look, Change, Charge, Limit, LimitDepth, Make, Drop}
 use Rattle.tcl_core.specs.Programs.Next.{On, Off}
 use Rattle.tcl_core.specs.Programs.Wrap.{Deeper, Framed}
-use Rattle.tcl_core.specs.Threads.{Crossings, Decides, Opens_so, event, passing}
+use Rattle.tcl_core.specs.Execution.{Crossings, Decides, Opens_so, event, passing}
 use Rattle.tcl_core.specs.Trees.{Event, Grants, Node, Tree, What, granted}
 use Rattle.tcl_core.specs.Trees.Grant.{Allow, Deny}
 use Rattle.tcl_core.specs.Trees.Grants.{Listed, Budget}

@@ -9,12 +9,12 @@ use Rattle.tcl_core.specs.Paths.{Path, Place, Height, rise_to}
 use Rattle.tcl_core.specs.Programs.{Calls_only, Prog, Table, Wait, spot, closes}
 use Rattle.tcl_core.specs.Programs.Prog.{call, wait}
 use Rattle.tcl_core.specs.Runs.{carried}
-use Rattle.tcl_core.specs.Threads.{Crossings, event}
+use Rattle.tcl_core.specs.Execution.{Crossings, event}
 use Rattle.tcl_core.specs.Trees.{Tree, at}
 use Rattle.tcl_core.specs.Trees.What.{Out, In, Done, Back}
 use Rattle.tcl_core.proofs.Callers.{Fits, entering_calls, fit, no_wait, waits_for}
-use Rattle.tcl_beginnings.specs.Beginnings.{Begun}
-use Rattle.tcl_beginnings.specs.Beginnings.Begun.{stopped, ended, acted, going, went, within, wrapped, too_deep, calling_out, calling, returning, called, unreached, called_out, answered, heard, entering_in, leaving, left, entered}
+use Rattle.tcl_partial_runs.specs.Beginnings.{Begun}
+use Rattle.tcl_partial_runs.specs.Beginnings.Begun.{stopped, ended, acted, going, went, within, wrapped, too_deep, calling_out, calling, returning, called, unreached, called_out, answered, heard, entering_in, leaving, left, entered}
 use Rattle.tcl_host.specs.declared.reply.HostReply.{HostReply as TheirReply}
 use Rattle.tcl_host.specs.declared.request.Request.{Request as TheirRequest}
 use Rattle.tcl_run.specs.Outsides.{hosted}

@@ -9,7 +9,7 @@ use Rattle.tcl_core.specs.Laws.{IsSpared, IsLowering}
 use Rattle.tcl_core.specs.Lives.{IsUncut, Uncut, comes, outs_of, put}
 use Rattle.tcl_core.specs.Paths.{Path, Place, Height, rise_to}
 use Rattle.tcl_core.specs.Programs.{Wait}
-use Rattle.tcl_core.specs.Threads.{Chain, event, more, none}
+use Rattle.tcl_core.specs.Execution.{Chain, event, more, none}
 use Rattle.tcl_core.specs.Trees.{Event, Tree, What, where_none, effect}
 use Rattle.tcl_core.specs.Trees.What.{Out, Done, Back}
 use Rattle.tcl_core.specs.Trees.Move.{Come}

@@ -13,8 +13,8 @@ use Rattle.tcl_core.specs.Programs.Act.{Look, Change, Charge, Limit, LimitDepth,
 use Rattle.tcl_core.specs.Programs.Next.{Off}
 use Rattle.tcl_core.specs.Programs.Prog.{done, exit, act, go, inside, call, wait}
 use Rattle.tcl_core.specs.Runs.{carried, entering, fits, height_of, lessened, reached}
-use Rattle.tcl_core.specs.Threads.{Threads, event, passing}
-use Rattle.tcl_core.specs.Threads.Threads.{completed, exited, acted, refused, went, passed, wrapped, wrapped_passed, too_deep, shut, called, called_passed, unreached, called_out, answered, heard, answered_passed, entered, entered_exiting}
+use Rattle.tcl_core.specs.Execution.{Executes, event, passing}
+use Rattle.tcl_core.specs.Execution.Executes.{completed, exited, acted, refused, went, passed, wrapped, wrapped_passed, too_deep, shut, called, called_passed, unreached, called_out, answered, heard, answered_passed, entered, entered_exiting}
 use Rattle.tcl_core.specs.Trees.{Event, Node, Tree, What, at}
 use Rattle.tcl_core.specs.Trees.What.{Out, In, Done, Back}
 use Rattle.tcl_core.specs.Trees.Move.{Come}
@@ -180,55 +180,55 @@ module _ {I S R : Type 0} (step : S → TheirRequest → TheirReply → S → Ty
 
   -- What comes so, with the call that is open; the top still stands; and the end is none from outside.
   pub record Held (T : Tree Own) (o : State) (c : Wait) (p : Place) (x : Prog Own I) (V : Tree Own) (z : State) (r : Reply) : Type 0 where
-    pub threads : Threads (Taped (keeps_call step)) prog T (keeping o c) p x V (keeping z None) r
+    pub executes : Executes (Taped (keeps_call step)) prog T (keeping o c) p x V (keeping z None) r
     pub top : HasTop V
     pub uncut : NotCut r
 
   pub calm : (T : Tree Own) (o : State) (p : Place) (x : Prog Own I) (V : Tree Own) (z : State) (r : Reply) → Calls_only x → Held T o (waits_for x) p x V z r → Held T o None p x V z r
   calm T o p x V z r f h = subst (λ c. Held T o c p x V z r) (no_wait x f) h
 
-  pub held : {T V : Tree Own} {o z : State} {p : Place} {x : Prog Own I} {r : Reply} → Threads (Taped goes) prog T o p x V z r → Fits x → LimitsBelow fine (is_below p) x → HasTop T → Held T o (waits_for x) p x V z r
-  held completed f l top = record { threads = completed; top = top; uncut = tt }
-  held exited f l top = record { threads = exited; top = top; uncut = tt }
+  pub held : {T V : Tree Own} {o z : State} {p : Place} {x : Prog Own I} {r : Reply} → Executes (Taped goes) prog T o p x V z r → Fits x → LimitsBelow fine (is_below p) x → HasTop T → Held T o (waits_for x) p x V z r
+  held completed f l top = record { executes = completed; top = top; uncut = tt }
+  held exited f l top = record { executes = exited; top = top; uncut = tt }
   held (acted {T} {V} {o} {u} {z} {p} {d} {k} {r} x is_so on s t) f l top =
       let g = decides_near step d T (host_of o.0) p (host_of u.0) x (none_at fine p d k l) is_so (so T o None (event (spot p x.0) x.1) u s) in
       let h = calm _ u p (k (at T p)) V z r (f (at T p)) (held t (fit (k (at T p)) (f (at T p))) (after_act fine (is_below p) d k (at T p) l) (top_near (spot p x.0) x.1 T g.near top)) in
-      record { threads = acted x is_so on (stays T o u None None (spot p x.0) x.1 g.near s) h.threads; top = h.top; uncut = h.uncut }
+      record { executes = acted x is_so on (stays T o u None None (spot p x.0) x.1 g.near s) h.executes; top = h.top; uncut = h.uncut }
   held (refused {T} {o} {u} {p} {d} {k} {r} x is_so off s) f l top =
       let g = decides_near step d T (host_of o.0) p (host_of u.0) x (none_at fine p d k l) is_so (so T o None (event (spot p x.0) x.1) u s) in
-      record { threads = refused x is_so off (stays T o u None None (spot p x.0) x.1 g.near s); top = top_near (spot p x.0) x.1 T g.near top; uncut = off_uncut x.2 r off g.uncut }
+      record { executes = refused x is_so off (stays T o u None None (spot p x.0) x.1 g.near s); top = top_near (spot p x.0) x.1 T g.near top; uncut = off_uncut x.2 r off g.uncut }
   held (went {T} {U} {V} {o} {u} {z} {p} {i} {k} {c} {r} a b) f l top =
       let g = calm T o p (prog.program i) U u (Completed c) (prog.programs_call i) (held a (fit (prog.program i) (prog.programs_call i)) (at_place fine p (prog.program i) (keep.programs i l.0)) top) in
       let h = calm U u p (k c) V z r (f c) (held b (fit (k c) (f c)) (l.1 c) g.top) in
-      record { threads = went g.threads h.threads; top = h.top; uncut = h.uncut }
+      record { executes = went g.executes h.executes; top = h.top; uncut = h.uncut }
   held (passed {T} {U} {o} {u} {p} {i} {k} {r} q a) f l top =
       let g = calm T o p (prog.program i) U u r (prog.programs_call i) (held a (fit (prog.program i) (prog.programs_call i)) (at_place fine p (prog.program i) (keep.programs i l.0)) top) in
-      record { threads = passed q g.threads; top = g.top; uncut = g.uncut }
+      record { executes = passed q g.executes; top = g.top; uncut = g.uncut }
   held (wrapped {T} {U} {V} {o} {o1} {o2} {o3} {z} {p} {b} {i} {k} {c} {r} x is_so on s1 a s2 t) f l top =
       let n = opens_near step b T (host_of o.0) p (host_of o1.0) x is_so (so T o None (event (spot p x.0) x.1) o1 s1) in
       let m = closes_near step p b (U p) in
       let g = calm _ o1 p (prog.program i) U o2 (Completed c) (prog.programs_call i) (held a (fit (prog.program i) (prog.programs_call i)) (at_place fine p (prog.program i) (keep.programs i l.0)) (top_near (spot p x.0) x.1 T n.near top)) in
       let h = calm _ o3 p (k c) V z r (f c) (held t (fit (k c) (f c)) (l.1 c) (top_near p (closes b (U p)) U m g.top)) in
-      record { threads = wrapped x is_so on (stays T o o1 None None (spot p x.0) x.1 n.near s1) g.threads (stays U o2 o3 None None p (closes b (U p)) m s2) h.threads; top = h.top; uncut = h.uncut }
+      record { executes = wrapped x is_so on (stays T o o1 None None (spot p x.0) x.1 n.near s1) g.executes (stays U o2 o3 None None p (closes b (U p)) m s2) h.executes; top = h.top; uncut = h.uncut }
   held (wrapped_passed {T} {U} {o} {o1} {o2} {o3} {p} {b} {i} {k} {r} x q is_so on s1 a s2) f l top =
       let n = opens_near step b T (host_of o.0) p (host_of o1.0) x is_so (so T o None (event (spot p x.0) x.1) o1 s1) in
       let m = closes_near step p b (U p) in
       let g = calm _ o1 p (prog.program i) U o2 r (prog.programs_call i) (held a (fit (prog.program i) (prog.programs_call i)) (at_place fine p (prog.program i) (keep.programs i l.0)) (top_near (spot p x.0) x.1 T n.near top)) in
-      record { threads = wrapped_passed x q is_so on (stays T o o1 None None (spot p x.0) x.1 n.near s1) g.threads (stays U o2 o3 None None p (closes b (U p)) m s2); top = top_near p (closes b (U p)) U m g.top; uncut = g.uncut }
+      record { executes = wrapped_passed x q is_so on (stays T o o1 None None (spot p x.0) x.1 n.near s1) g.executes (stays U o2 o3 None None p (closes b (U p)) m s2); top = top_near p (closes b (U p)) U m g.top; uncut = g.uncut }
   held (too_deep {T} {V} {o} {u} {z} {p} {b} {i} {k} {r} x is_so deep s t) f l top =
       let n = opens_near step b T (host_of o.0) p (host_of u.0) x is_so (so T o None (event (spot p x.0) x.1) u s) in
       let h = calm _ u p (k _) V z r (f _) (held t (fit (k _) (f _)) (l.1 _) (top_near (spot p x.0) x.1 T n.near top)) in
-      record { threads = too_deep x is_so deep (stays T o u None None (spot p x.0) x.1 n.near s) h.threads; top = h.top; uncut = h.uncut }
+      record { executes = too_deep x is_so deep (stays T o u None None (spot p x.0) x.1 n.near s) h.executes; top = h.top; uncut = h.uncut }
   held (shut {T} {o} {u} {p} {b} {i} {k} {r} x is_so off s) f l top =
       let n = opens_near step b T (host_of o.0) p (host_of u.0) x is_so (so T o None (event (spot p x.0) x.1) u s) in
-      record { threads = shut x is_so off (stays T o u None None (spot p x.0) x.1 n.near s); top = top_near (spot p x.0) x.1 T n.near top; uncut = off_uncut x.2 r off n.uncut }
+      record { executes = shut x is_so off (stays T o u None None (spot p x.0) x.1 n.near s); top = top_near (spot p x.0) x.1 T n.near top; uncut = off_uncut x.2 r off n.uncut }
   held (called {T} {U} {V} {o} {o1} {o2} {o3} {o4} {o5} {z} {p} {h} {down} {i} {lost} {k} {s} {r} {c} a t e there s1 s2 m s3 so s4 n) f l top =
       let y : Inside (Some (length down)) t = comes_within T a t down there in
       let j = calm T o2 t (entering prog (T t) i) U o3 s (entering_calls prog (T t) i) (held m (fit (entering prog (T t) i) (entering_calls prog (T t) i)) (entering_limits fine prog keep (T t) i t (λ g. asked_below a down i l.0 (sym (reached_at (T (a ++ down)) t (a ++ down) there) ∙ g))) top) in
       let g = calm U o5 p (k (Finished c)) V z r (f (Finished c)) (held n (fit (k (Finished c)) (f (Finished c))) (l.1 (Finished c)) j.top) in
       record {
-        threads = called a t e there (stays T o o1 None None p (Out h down i) (a, e) s1) (stays T o1 o2 None None t (In (Some (length down)) i) y s2) j.threads
-            (stays U o3 o4 None None t (Done (Some (length down)) s) y s3) so (stays U o4 o5 None None p (Back h (Replied (carried h p down s))) (a, e) s4) g.threads;
+        executes = called a t e there (stays T o o1 None None p (Out h down i) (a, e) s1) (stays T o1 o2 None None t (In (Some (length down)) i) y s2) j.executes
+            (stays U o3 o4 None None t (Done (Some (length down)) s) y s3) so (stays U o4 o5 None None p (Back h (Replied (carried h p down s))) (a, e) s4) g.executes;
         top = g.top;
         uncut = g.uncut;
       }
@@ -236,7 +236,7 @@ module _ {I S R : Type 0} (step : S → TheirRequest → TheirReply → S → Ty
       let y : Inside (Some (length down)) t = comes_within T a t down there in
       let j = calm T o2 t (entering prog (T t) i) U o3 s (entering_calls prog (T t) i) (held m (fit (entering prog (T t) i) (entering_calls prog (T t) i)) (entering_limits fine prog keep (T t) i t (λ g. asked_below a down i l.0 (sym (reached_at (T (a ++ down)) t (a ++ down) there) ∙ g))) top) in
       record {
-        threads = called_passed a t e there (stays T o o1 None None p (Out h down i) (a, e) s1) (stays T o1 o2 None None t (In (Some (length down)) i) y s2) j.threads
+        executes = called_passed a t e there (stays T o o1 None None p (Out h down i) (a, e) s1) (stays T o1 o2 None None t (In (Some (length down)) i) y s2) j.executes
             (stays U o3 o4 None None t (Done (Some (length down)) s) y s3) so q (stays U o4 o5 None None p (Back h (Replied r)) (a, e) s4);
         top = j.top;
         uncut = subst NotCut so (carried_uncut h p down s j.uncut);
@@ -244,19 +244,19 @@ module _ {I S R : Type 0} (step : S → TheirRequest → TheirReply → S → Ty
   held (unreached {T} {V} {o} {o1} {o2} {z} {p} {h} {down} {i} {lost} {k} {r} a e there s1 s2 t) f l top =
       let g = calm T o2 p (k (Finished lost)) V z r (f (Finished lost)) (held t (fit (k (Finished lost)) (f (Finished lost))) (l.1 (Finished lost)) top) in
       record {
-        threads = unreached a e there (stays T o o1 None None p (Out h down i) (a, e) s1) (stays T o1 o2 None None p (Back h (Replied (Completed lost))) (a, e) s2) g.threads;
+        executes = unreached a e there (stays T o o1 None None p (Out h down i) (a, e) s1) (stays T o1 o2 None None p (Back h (Replied (Completed lost))) (a, e) s2) g.executes;
         top = g.top;
         uncut = g.uncut;
       }
   held (called_out {T} {V} {o} {u} {z} {p} {h} {down} {i} {lost} {k} {r} e s t) f l top =
       let g = held t f l.1 top in
-      record { threads = called_out e (leaves T o u p h down i e s) g.threads; top = g.top; uncut = g.uncut }
+      record { executes = called_out e (leaves T o u p h down i e s) g.executes; top = g.top; uncut = g.uncut }
   held (answered {T} {V} {o} {u} {z} {p} {s} {k} {c} {r} e is_fit j t) f l top =
       let g = calm T u p (k (Finished c)) V z r (f (Finished c)) (held t (fit (k (Finished c)) (f (Finished c))) (l (Finished c)) top) in
-      record { threads = answered e is_fit (comes_back T o u p s (Replied (Completed c)) e is_fit j) g.threads; top = g.top; uncut = g.uncut }
+      record { executes = answered e is_fit (comes_back T o u p s (Replied (Completed c)) e is_fit j) g.executes; top = g.top; uncut = g.uncut }
   held (heard {T} {V} {o} {u} {z} {p} {s} {k} {a} {r} e is_fit j t) f l top =
       let g = calm T u p (k (told_so a)) V z r (f (told_so a)) (held t (fit (k (told_so a)) (f (told_so a))) (l (told_so a)) top) in
-      record { threads = heard e is_fit (comes_back T o u p s (Heard a) e is_fit j) g.threads; top = g.top; uncut = g.uncut }
+      record { executes = heard e is_fit (comes_back T o u p s (Heard a) e is_fit j) g.executes; top = g.top; uncut = g.uncut }
   held (answered_passed {T} {o} {u} {p} {s} {k} {r} q e is_fit j) f l top =
       let told = (so T o s (event p (Back (height_of s) (Replied r))) u j).told in
       quits_not (host_of o.0) (host_of u.0) p s r q is_fit (subst (λ b. passing b (hosted_at step) T (host_of o.0) s (event p (Back (height_of s) (Replied r))) (host_of u.0)) e told)

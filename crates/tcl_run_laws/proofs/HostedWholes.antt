@@ -9,7 +9,7 @@ use Rattle.tcl_core.specs.Paths.{Path, Text}
 use Rattle.tcl_core.specs.Programs.{Prog, Table, Wait}
 use Rattle.tcl_core.specs.Rules.{Derives}
 use Rattle.tcl_core.specs.Runs.{Runs, Visits, entering}
-use Rattle.tcl_core.specs.Threads.{Chain, Crossings, Threads, event, more, none}
+use Rattle.tcl_core.specs.Execution.{Chain, Crossings, Executes, event, more, none}
 use Rattle.tcl_core.specs.Trees.{Event, Node, Tree, with_limit}
 use Rattle.tcl_core.specs.Trees.Grants.{Budget}
 use Rattle.tcl_core.specs.Trees.What.{In, Done}
@@ -112,7 +112,7 @@ pub record WholeTape {I S R : Type 0} (step : S → TheirRequest → TheirReply 
 module _ {I S R : Type 0} (step : S → TheirRequest → TheirReply → S → Type 0) (goes : Going R) (host_of : R → S)
     (as_host : (T : Tree Own) (o : R) (s : Wait) (ev : Event Own) (u : R) → goes T o s ev u → Crossings (hosted step) T (host_of o) s ev (host_of u)) (fine : I → Bool) (prog : Table Own I)
     (T V : Tree Own) (o z : R) (p : Path) (s : Text) (n : ℕ) (r : Reply) where
-  pub whole_tape : KeepTops fine prog → HasTop T → Threads goes prog (limited n T) o p (entering prog (limited n T p) (Eval s)) V z r → WholeTape step goes host_of prog T p s n o V z r
+  pub whole_tape : KeepTops fine prog → HasTop T → Executes goes prog (limited n T) o p (entering prog (limited n T p) (Eval s)) V z r → WholeTape step goes host_of prog T p s n o V z r
   unfolding whole
   whole_tape keep top t =
       let x : Prog Own I = entering prog (limited n T p) (Eval s) in
@@ -120,9 +120,9 @@ module _ {I S R : Type 0} (step : S → TheirRequest → TheirReply → S → Ty
       let k = tapes goes prog t [] in
       let g : Held step goes host_of as_host fine prog keep (limited n T) (o, []) None p x V (z, k.tape) r =
       calm step goes host_of as_host fine prog keep (limited n T) (o, []) p x V (z, k.tape) r calls
-      (held step goes host_of as_host fine prog keep k.threads (fit x calls) (entering_limits fine prog keep (limited n T p) (Eval s) p (λ e. refl)) (limited_top [] (Some (count_at (T []) + n)) T top)) in
-      let f = follows (Taped (keeps_call step)) prog g.threads in
-      let d = follows (Taped goes) prog k.threads in
+      (held step goes host_of as_host fine prog keep k.executes (fit x calls) (entering_limits fine prog keep (limited n T p) (Eval s) p (λ e. refl)) (limited_top [] (Some (count_at (T []) + n)) T top)) in
+      let f = follows (Taped (keeps_call step)) prog g.executes in
+      let d = follows (Taped goes) prog k.executes in
       let same : f.events ≡ d.events = sym (all_written (keeps_call step) f.chain) ∙ all_written goes d.chain in
       let h : Hosts step (holding (host_of o) None) (f.events ++ event p (Done None r) ∷ []) (host_of z) =
       belonging step fine prog T V (host_of o) (host_of z) p s n r g.uncut f.events (unwritten (keeps_call step) f.chain) in
@@ -145,7 +145,7 @@ module _ {I S R : Type 0} (step : S → TheirRequest → TheirReply → S → Ty
 
 -- the same of the host by itself
 module _ {I S : Type 0} (step : S → TheirRequest → TheirReply → S → Type 0) (fine : I → Bool) (prog : Table Own I) (T V : Tree Own) (o z : S) (p : Path) (s : Text) (n : ℕ) (r : Reply) where
-  pub whole_run : KeepTops fine prog → HasTop T → Threads (Crossings (hosted step)) prog (limited n T) o p (entering prog (limited n T p) (Eval s)) V z r → WholeRun step prog T p s n o V z r
+  pub whole_run : KeepTops fine prog → HasTop T → Executes (Crossings (hosted step)) prog (limited n T) o p (entering prog (limited n T p) (Eval s)) V z r → WholeRun step prog T p s n o V z r
   whole_run keep top t = (whole_tape step (Crossings (hosted step)) (λ u. u) (λ U a w ev u g. g) fine prog T V o z p s n r keep top t).whole
 
 module _ {S : Type 0} (step : S → TheirRequest → TheirReply → S → Type 0) (style : Integers) (T V : Tree Own) (o z : S) (p : Path) (s : Text) (n : ℕ) (r : Reply) (there : Node Own) where
@@ -154,8 +154,8 @@ module _ {S : Type 0} (step : S → TheirRequest → TheirReply → S → Type 0
   limited_there [] e = (_, ap (with_limit (Some (count_at (T []) + n))) e)
   limited_there (x ∷ q) e = (there, e)
 
-  pub whole_script : HasTop T → T p ≡ Some there → Threads (Crossings (hosted step)) (language style) (limited n T) o p (serve style (Eval s)) V z r → WholeRun step (language style) T p s n o V z r
+  pub whole_script : HasTop T → T p ≡ Some there → Executes (Crossings (hosted step)) (language style) (limited n T) o p (serve style (Eval s)) V z r → WholeRun step (language style) T p s n o V z r
   whole_script top e t =
       let m = limited_there p e in
       whole_run step leaves_steps (language style) T V o z p s n r (language_keeps_tops style) top
-      (subst (λ a. Threads (Crossings (hosted step)) (language style) (limited n T) o p (entering (language style) a (Eval s)) V z r) (sym m.1) t)
+      (subst (λ a. Executes (Crossings (hosted step)) (language style) (limited n T) o p (entering (language style) a (Eval s)) V z r) (sym m.1) t)

@@ -9,7 +9,7 @@ use Rattle.tcl_core.specs.Programs.{Act, Deed, Wrap, spot, closes, changing, mak
 use Rattle.tcl_core.specs.Programs.Act.{Look, Change, Charge, Limit, LimitDepth, Make, Drop}
 use Rattle.tcl_core.specs.Programs.Next.{On, Off}
 use Rattle.tcl_core.specs.Programs.Wrap.{Deeper, Framed}
-use Rattle.tcl_core.specs.Threads.{Decides, Opens_so}
+use Rattle.tcl_core.specs.Execution.{Decides, Opens_so}
 use Rattle.tcl_core.specs.Trees.{Grants, Node, Tree, What, granted}
 use Rattle.tcl_core.specs.Trees.Grant.{Allow, Deny}
 use Rattle.tcl_core.specs.Trees.Grants.{Listed, Budget}

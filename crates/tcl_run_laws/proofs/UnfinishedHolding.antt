@@ -8,11 +8,11 @@ use Rattle.tcl_core.specs.Entries.Entry.{AskHost}
 use Rattle.tcl_core.specs.Lives.{comes, outs_of, put, told}
 use Rattle.tcl_core.specs.Paths.{Path, Place, Height, rise_to}
 use Rattle.tcl_core.specs.Programs.{Wait}
-use Rattle.tcl_core.specs.Threads.{Chain, event, more, none}
+use Rattle.tcl_core.specs.Execution.{Chain, event, more, none}
 use Rattle.tcl_core.specs.Trees.{Event, Move, Tree, What, asked, at_top, effect, where_none}
 use Rattle.tcl_core.specs.Trees.What.{Made, Dropped, Out, In, Done, Back}
 use Rattle.tcl_core.specs.Trees.Move.{Born, Fall, Enter, Come}
-use Rattle.tcl_beginnings.specs.Beginnings.{IsUnrefused, Unrefused, handed}
+use Rattle.tcl_partial_runs.specs.Beginnings.{IsUnrefused, Unrefused, handed}
 use Rattle.tcl_run_laws.specs.Replies.{Belongs, over, served, missed}
 use Rattle.tcl_host.specs.declared.reply.HostReply.{HostReply as TheirReply}
 use Rattle.tcl_host.specs.declared.request.Request.{Request as TheirRequest}

@@ -10,13 +10,13 @@ use Rattle.tcl_core.specs.Entries.Said.{Finished, Told as told_so}
 use Rattle.tcl_core.specs.Paths.{Path, Place, Height, rise_to}
 use Rattle.tcl_core.specs.Programs.{Calls_only, Prog, Table, Wait, spot, closes}
 use Rattle.tcl_core.specs.Runs.{carried, fits, height_of}
-use Rattle.tcl_core.specs.Threads.{Crossings, Threads, event, passing}
-use Rattle.tcl_core.specs.Threads.Threads.{completed, exited, acted, refused, went, passed, wrapped, wrapped_passed, too_deep, shut, called, called_passed, unreached, called_out, answered, heard, answered_passed, entered, entered_exiting}
+use Rattle.tcl_core.specs.Execution.{Crossings, Executes, event, passing}
+use Rattle.tcl_core.specs.Execution.Executes.{completed, exited, acted, refused, went, passed, wrapped, wrapped_passed, too_deep, shut, called, called_passed, unreached, called_out, answered, heard, answered_passed, entered, entered_exiting}
 use Rattle.tcl_core.specs.Trees.{Event, Tree, What, at}
 use Rattle.tcl_core.specs.Trees.What.{Refused, Out, In, Done, Back}
 use Rattle.tcl_core.specs.Trees.Move.{Come}
 use Rattle.tcl_core.proofs.Callers.{waits_for, Fits, no_wait, fit, entering_calls}
-use Rattle.tcl_beginnings.specs.Beginnings.{Unrefused}
+use Rattle.tcl_partial_runs.specs.Beginnings.{Unrefused}
 use Rattle.tcl_host.specs.declared.reply.HostReply.{HostReply as TheirReply}
 use Rattle.tcl_host.specs.declared.request.Request.{Request as TheirRequest}
 use Rattle.tcl_run.specs.Outsides.{hosted, hosted_at, hosted_by}
@@ -88,14 +88,14 @@ module _ {I S : Type 0} (step : S → TheirRequest → TheirReply → S → Type
 
   -- what comes so, with the call that is open at first, and none in the end
   abbrev pub Held : Tree Own → S → Wait → Place → Prog Own I → Tree Own → S → Reply → Type 0
-  Held T o c p x V z r = Threads (keeps_call step) prog T (o, c) p x V (z, None) r
+  Held T o c p x V z r = Executes (keeps_call step) prog T (o, c) p x V (z, None) r
 
   -- what calls starts with no call open
   pub calls : {T V : Tree Own} {o z : S} {p : Place} {x : Prog Own I} {r : Reply} → Calls_only x → (Fits x → Held T o (waits_for x) p x V z r) → Held T o None p x V z r
   calls {T} {V} {o} {z} {p} {x} {r} f h = subst (λ c. Held T o c p x V z r) (no_wait x f) (h (fit x f))
 
   -- WITH A HOST: what comes with it comes with the call that is open to it
-  pub held : {T V : Tree Own} {o z : S} {p : Place} {x : Prog Own I} {r : Reply} → Threads (Crossings (hosted step)) prog T o p x V z r → Fits x → Held T o (waits_for x) p x V z r
+  pub held : {T V : Tree Own} {o z : S} {p : Place} {x : Prog Own I} {r : Reply} → Executes (Crossings (hosted step)) prog T o p x V z r → Fits x → Held T o (waits_for x) p x V z r
   held completed f = completed
   held exited f = exited
   held (acted {T} {V} {o} {u} {z} {p} {d} {k} {r} x is_so on s t) f = acted x is_so on (stays T o u None None (spot p x.0) x.1 (decides_placed d T p x is_so) s) (calls (f (at T p)) (held t))

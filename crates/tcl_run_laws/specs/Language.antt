@@ -10,6 +10,7 @@ abbrev pub leaves_steps : Instr → Bool
 leaves_steps (Serve entry) = not (sets_steps entry)
 leaves_steps _ = true
 
--- In every style, an interpreter's limit of steps is set by the entry for it alone, and only one below is asked for that.
+-- In every style, an interpreter's limit of steps is set by the entry for it alone, and only one
+-- below is asked for that.
 abbrev pub LanguageKeepsTops : Type 0
 LanguageKeepsTops = (style : Integers) → KeepTops leaves_steps (language style)

@@ -19,18 +19,23 @@ abbrev pub AsksBelow : Path → Entry → Type 0
 AsksBelow [] i = sets_steps i ≡ false
 AsksBelow (name ∷ down) i = Unit {0}
 
--- A program that asks only so, and goes on only as `fine` says; `may` says whether it may set the limit of steps of its own interpreter.
+-- A program that asks only so, and goes on only as `fine` says; `may` says whether it may set the
+-- limit of steps of its own interpreter.
 abbrev pub LimitsBelow : {O I : Type 0} → (I → Bool) → Bool → Prog O I → Type 0
 LimitsBelow fine may (done c) = Unit {0}
 LimitsBelow fine may (exit n) = Unit {0}
-LimitsBelow {O} fine may (act (Limit l) k) = (may ≡ true) × ((T : Tree O) → LimitsBelow fine may (k T))
+LimitsBelow {O} fine may (act (Limit l) k) = (may ≡ true) ×
+    ((T : Tree O) → LimitsBelow fine may (k T))
 LimitsBelow {O} fine may (act d k) = (T : Tree O) → LimitsBelow fine may (k T)
 LimitsBelow fine may (go i k) = (fine i ≡ true) × ((c : Completion) → LimitsBelow fine may (k c))
-LimitsBelow fine may (inside b i k) = (fine i ≡ true) × ((c : Completion) → LimitsBelow fine may (k c))
-LimitsBelow fine may (call h down i lost k) = AsksBelow down i × ((s : Said) → LimitsBelow fine may (k s))
+LimitsBelow fine may (inside b i k) = (fine i ≡ true) ×
+    ((c : Completion) → LimitsBelow fine may (k c))
+LimitsBelow fine may (call h down i lost k) = AsksBelow down i ×
+    ((s : Said) → LimitsBelow fine may (k s))
 LimitsBelow fine may (wait s k) = (a : Said) → LimitsBelow fine may (k a)
 
--- The commands are such programs: a limit of steps is set by the entry for it, and by nothing else. So the top of a tree keeps the limit that it has.
+-- The commands are such programs: a limit of steps is set by the entry for it, and by nothing else.
+-- So the top of a tree keeps the limit that it has.
 pub record KeepTops {O I : Type 0} (fine : I → Bool) (prog : Table O I) : Type 0 where
   pub programs : (i : I) → fine i ≡ true → LimitsBelow fine false (prog.program i)
   pub entries : (i : Entry) → sets_steps i ≡ false → LimitsBelow fine false (prog.entry i)

@@ -1,7 +1,10 @@
 //! What a whole evaluation counts, and which limits it keeps. The definitions stand in `specs/`,
 //! and each function here is a law. `O` is the own part of an interpreter and `I` what can be going
 //! on in one: the laws over them hold for every table of commands.
-ghost use Rattle.tcl_run_laws.specs.BudgetLaws.{DepthsHold, LimitsHold, RootsCount, ScriptsKeepBudgets, ScriptsSetNoLimit, StepsAreBounded, StepsAreCounted, StopsHold, TablesAreOrderly};
+ghost use Rattle.tcl_run_laws.specs.BudgetLaws.{DepthsHold, LimitsHold, RootsCount};
+ghost use Rattle.tcl_run_laws.specs.BudgetLaws.{ScriptsKeepBudgets, ScriptsSetNoLimit};
+ghost use Rattle.tcl_run_laws.specs.BudgetLaws.{StepsAreBounded, StepsAreCounted, StopsHold};
+ghost use Rattle.tcl_run_laws.specs.BudgetLaws.{TablesAreOrderly};
 
 use tcl_language_laws::safe_scripts_set_no_limit;
 

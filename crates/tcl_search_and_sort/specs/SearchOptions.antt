@@ -21,7 +21,8 @@ with_option s word =
     else (if bytes_eq word (codes "-not") then Ok (record s { negated = true })
     else Err (bad_option word)))))
 
--- a search with the options of words, from the left: of two that exclude one another the later is taken
+-- a search with the options of words, from the left: of two that exclude one another the later is
+-- taken
 abbrev pub with_options : Search → Texts → Result Search (List ℕ)
 with_options s [] = Ok s
 with_options s (w ∷ words) = next (with_option s w) (λ t. with_options t words)
@@ -31,4 +32,5 @@ abbrev pub all_and_two : List ℕ → Texts → Result (Texts × List ℕ × Lis
 all_and_two form [] = Err (wrong_arguments form)
 all_and_two form (a ∷ []) = Err (wrong_arguments form)
 all_and_two form (a ∷ b ∷ []) = Ok ([], a, b)
-all_and_two form (a ∷ b ∷ c ∷ words) = next (all_and_two form (b ∷ c ∷ words)) (λ p. Ok (a ∷ p.0, p.1, p.2))
+all_and_two form (a ∷ b ∷ c ∷ words) = next (all_and_two form (b ∷ c ∷ words))
+    (λ p. Ok (a ∷ p.0, p.1, p.2))

@@ -1,5 +1,6 @@
 -- Searching a list: the command lsearch.
-use Rattle.std.specs.Prelude.{ℕ, ◌+◌, pos, negsuc, Bool, false, not, cond, if◌then◌else◌, List, [], ◌∷◌, map, filter, Ok, codes}
+use Rattle.std.specs.Prelude.{ℕ, ◌+◌, pos, negsuc, Bool, false, not, cond, if◌then◌else◌, List, []}
+use Rattle.std.specs.Prelude.{◌∷◌, map, filter, Ok, codes}
 use Rattle.std.specs.Str.{bytes_eq}
 use Rattle.std.specs.Fmt.{signed_decimal}
 use Rattle.tcl_glob.specs.Patterns.{is_match}
@@ -15,7 +16,8 @@ is_like exact pattern text = cond exact (bytes_eq text pattern) (is_match false 
 
 -- whether a search takes an element
 abbrev pub takes : Search → List ℕ → List ℕ → Bool
-takes s pattern text = cond s.negated (not (is_like s.exact pattern text)) (is_like s.exact pattern text)
+takes s pattern text = cond s.negated (not (is_like s.exact pattern text))
+    (is_like s.exact pattern text)
 
 -- elements with the places at which they stand, the first at this one
 abbrev pub placed : ℕ → Texts → List (ℕ × List ℕ)

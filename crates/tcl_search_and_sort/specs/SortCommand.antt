@@ -42,6 +42,8 @@ IsSortedWord style word s = After (list_word word) (IsSortedAs style s s.by_numb
 abbrev pub IsSortedBehind : Integers → Texts × List ℕ → Outcome → Type 0
 IsSortedBehind style p = After (with_options plain p.0) (IsSortedWord style p.1)
 
--- what the command comes to: the words are counted, then the options read, then the list, then its elements
+-- what the command comes to: the words are counted, then the options read, then the list, then its
+-- elements
 abbrev pub IsLsort : Integers → Texts → Outcome → Type 0
-IsLsort style words = After (all_and_last (codes "lsort ?option ...? list") words) (IsSortedBehind style)
+IsLsort style words = After (all_and_last (codes "lsort ?option ...? list") words)
+    (IsSortedBehind style)

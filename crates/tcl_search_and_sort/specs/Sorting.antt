@@ -23,7 +23,8 @@ abbrev pub is_before : {X : Type 0} → (X → X → Ordering) → Bool → X �
 is_before order false x y = is_lt (order x y)
 is_before order true x y = is_lt (order y x)
 
--- the elements of a list in order, in which those of which neither comes before the other stand as they stood
+-- the elements of a list in order, in which those of which neither comes before the other stand as
+-- they stood
 pub record IsOrdered {X : Type 0} (before : X → X → Bool) (l m : List X) : Type 0 where
   pub permutation : IsPermutation l m
   pub ordered : IsSortedBy before m
@@ -37,7 +38,8 @@ is_repeated same x (y ∷ l) = same x y
 -- all elements of a list in order, or the last of each run of equal ones
 abbrev pub kept : {X : Type 0} → (X → X → Bool) → Bool → List X → List X
 kept same unique [] = []
-kept same unique (x ∷ l) = cond (unique && is_repeated same x l) (kept same unique l) (x ∷ kept same unique l)
+kept same unique (x ∷ l) = cond (unique && is_repeated same x l) (kept same unique l)
+    (x ∷ kept same unique l)
 
 -- whether two texts are the same
 abbrev pub same_text : List ℕ → List ℕ → Bool
@@ -45,7 +47,9 @@ same_text = bytes_eq
 
 -- A list's elements in the order of their texts, as a value: what there is, or what is told.
 abbrev pub IsSortedList : Texts → Bool → Bool → Outcome → Type 0
-IsSortedList l decreasing unique outcome = (m : Texts) × IsOrdered (is_before text_order decreasing) l m × (outcome ≡ list_value (kept same_text unique m))
+IsSortedList l decreasing unique outcome = (m : Texts) ×
+    IsOrdered (is_before text_order decreasing) l m ×
+    (outcome ≡ list_value (kept same_text unique m))
 
 -- an element with its integer
 abbrev pub Numbered : Type 0
@@ -81,11 +85,14 @@ After (Err fault) P outcome = outcome ≡ Err fault
 
 -- Rows in the order of their integers, as a value of their elements.
 abbrev pub IsSortedRows : Bool → Bool → List Numbered → Outcome → Type 0
-IsSortedRows decreasing unique rows outcome = (m : List Numbered) × IsOrdered (is_before number_order decreasing) rows m × (outcome ≡ list_value (elements_of (kept same_number unique m)))
+IsSortedRows decreasing unique rows outcome = (m : List Numbered) ×
+    IsOrdered (is_before number_order decreasing) rows m ×
+    (outcome ≡ list_value (elements_of (kept same_number unique m)))
 
 -- A list's elements in the order of their integers, as a value.
 abbrev pub IsSortedNumbers : Integers → Texts → Bool → Bool → Outcome → Type 0
-IsSortedNumbers style l decreasing unique = After (numbered style l) (IsSortedRows decreasing unique)
+IsSortedNumbers style l decreasing unique = After (numbered style l)
+    (IsSortedRows decreasing unique)
 
 -- what a call returned is such an outcome, unless memory ran out
 abbrev pub GivesSome : Result Value Refusal → (Outcome → Type 0) → Type 0

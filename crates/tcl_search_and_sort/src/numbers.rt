@@ -1,9 +1,12 @@
 //! Lists in the order of their integers.
-ghost use Rattle.std.specs.Prelude.{◌≡◌, ◌<◌, ◌+◌, ◌++◌, ◌∷◌, ◌&&◌, [], pos, length, drop, slice_index_or, OnOk, IfOk, IfErr};
+ghost use Rattle.std.specs.Prelude.{◌≡◌, ◌<◌, ◌+◌, ◌++◌, ◌∷◌, ◌&&◌, [], pos, length, drop};
+ghost use Rattle.std.specs.Prelude.{slice_index_or, OnOk, IfOk, IfErr};
 ghost use Rattle.tcl_words.specs.Outcomes.{Gives, Refuses};
 ghost use Rattle.tcl_words.specs.Words.{integer_word};
 ghost use Rattle.tcl_lists.specs.Lists.{Texts, list_value};
-ghost use Rattle.tcl_search_and_sort.specs.Sorting.{is_repeated, kept, same_number, with_number, numbered, elements_of, GivesSome, IsSortedNumbers};
+ghost use Rattle.tcl_search_and_sort.specs.Sorting.{is_repeated, kept, same_number, with_number};
+ghost use Rattle.tcl_search_and_sort.specs.Sorting.{numbered, elements_of, GivesSome};
+ghost use Rattle.tcl_search_and_sort.specs.Sorting.{IsSortedNumbers};
 
 use crate::ordering::{push_value, put_in_order};
 use crate::rows::NumberRow;
@@ -47,17 +50,21 @@ fn numbered(alloc: Global, style: Integers, list: &List) -> Result<Vec<NumberRow
     Ok(rows)
 }
 
-/// Whether the row at a place has the same integer as the next, where only the last of equal rows is wanted.
+/// Whether the row at a place has the same integer as the next, where only the last of equal rows
+/// is wanted.
 fn is_left_out(rows: &[NumberRow], index: usize, unique: bool) -> bool
     requires { index < length rows.now }
-    ensures { result ≡ (unique && is_repeated same_number (slice_index_or rows.now index ([], pos 0)) (drop (index + 1) rows.now)) }
+    ensures { result
+        ≡ (unique && is_repeated same_number (slice_index_or rows.now index ([], pos 0))
+        (drop (index + 1) rows.now)) }
 {
     unique && index + 1 < rows.len() && rows[index] == rows[index + 1]
 }
 
 /// The list of the elements of rows in order, or of the last of each run of equal ones.
 fn rows_value(alloc: Global, rows: &[NumberRow], unique: bool) -> Result<Value, Refusal>
-    ensures { Gives (λ value. value) result (list_value (elements_of (kept same_number unique rows.now))) }
+    ensures { Gives (λ value. value) result
+        (list_value (elements_of (kept same_number unique rows.now))) }
 {
     let mut made = List::new(alloc)?;
     'rows: for index in 0..rows.len() {
@@ -69,8 +76,8 @@ fn rows_value(alloc: Global, rows: &[NumberRow], unique: bool) -> Result<Value, 
     list_value(alloc, made)
 }
 
-/// The elements of a list in the order of their integers, or in the opposite order; equal ones stay as they stood, or the last
-/// of them alone is kept.
+/// The elements of a list in the order of their integers, or in the opposite order; equal ones stay
+/// as they stood, or the last of them alone is kept.
 ///
 /// # Errors
 /// 111 and 112 of the first element that has no integer, 122; want of memory.

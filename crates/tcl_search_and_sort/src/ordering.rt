@@ -1,8 +1,10 @@
 //! Rows in order.
-ghost use Rattle.std.specs.Prelude.{◌≡◌, ◌<◌, ◌+◌, ◌++◌, ◌∷◌, ◌&&◌, [], true, length, drop, slice_index_or, OnOk, IfOk, IfErr};
+ghost use Rattle.std.specs.Prelude.{◌≡◌, ◌<◌, ◌+◌, ◌++◌, ◌∷◌, ◌&&◌, [], true, length, drop};
+ghost use Rattle.std.specs.Prelude.{slice_index_or, OnOk, IfOk, IfErr};
 ghost use Rattle.tcl_words.specs.Outcomes.{Gives, Refuses};
 ghost use Rattle.tcl_lists.specs.Lists.{Texts, list_value};
-ghost use Rattle.tcl_search_and_sort.specs.Sorting.{is_before, IsOrdered, is_repeated, kept, same_text, GivesSome, IsSortedList};
+ghost use Rattle.tcl_search_and_sort.specs.Sorting.{is_before, IsOrdered, is_repeated, kept};
+ghost use Rattle.tcl_search_and_sort.specs.Sorting.{same_text, GivesSome, IsSortedList};
 
 use crate::rows::TextRow;
 use std::alloc::{AllocError, Global};
@@ -39,7 +41,9 @@ fn put_in_opposite_order<T: Ord>(rows: &mut Vec<T>) -> Result<(), AllocError>
 /// Whether the row at a place is equal to the next, where only the last of equal rows is wanted.
 fn is_left_out(rows: &[TextRow], index: usize, unique: bool) -> bool
     requires { index < length rows.now }
-    ensures { result ≡ (unique && is_repeated same_text (slice_index_or rows.now index []) (drop (index + 1) rows.now)) }
+    ensures { result
+        ≡ (unique && is_repeated same_text (slice_index_or rows.now index [])
+        (drop (index + 1) rows.now)) }
 {
     unique && index + 1 < rows.len() && rows[index] == rows[index + 1]
 }
@@ -64,7 +68,8 @@ pub fn rows_value(alloc: Global, rows: &[TextRow], unique: bool) -> Result<Value
 /// Adds a value to a list.
 pub(crate) fn push_value(alloc: Global, made: &mut List, value: &Value) -> Result<(), Refusal>
     ensures pushed { OnOk result (made.new ≡ made.old ++ value.now ∷ []) }
-    ensures refused { (rest : Texts) → IfErr result (λ e. Refuses e (list_value (made.old ++ (value.now ∷ rest)))) }
+    ensures refused { (rest : Texts) → IfErr result
+        (λ e. Refuses e (list_value (made.old ++ (value.now ∷ rest)))) }
 {
     let own = value.clone()?;
     if let Err(why) = made.push(alloc, own) {
@@ -86,8 +91,8 @@ fn rows_of(alloc: Global, list: &List) -> Result<Vec<TextRow>, AllocError>
     Ok(rows)
 }
 
-/// The elements of a list in the order of their texts, or in the opposite order; equal ones stay as they stood, or the last of
-/// them alone is kept.
+/// The elements of a list in the order of their texts, or in the opposite order; equal ones stay as
+/// they stood, or the last of them alone is kept.
 ///
 /// # Errors
 /// 122; want of memory.

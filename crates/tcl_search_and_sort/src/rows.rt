@@ -92,7 +92,8 @@ impl Ord for TextRow {
     }
 }
 
-/// An element with its integer, which contracts see as its text and the integer. Rows compare by their integers.
+/// An element with its integer, which contracts see as its text and the integer. Rows compare by
+/// their integers.
 #[derive(Drop)]
 pub struct NumberRow {
     number: i64,

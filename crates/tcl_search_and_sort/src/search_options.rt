@@ -1,7 +1,8 @@
 //! The words of `lsearch`.
 ghost use Rattle.std.specs.Prelude.{◌≡◌};
 ghost use Rattle.tcl_words.specs.Outcomes.{Gives};
-ghost use Rattle.tcl_search_and_sort.specs.SearchOptions.{plain, with_option, with_options, all_and_two};
+ghost use Rattle.tcl_search_and_sort.specs.SearchOptions.{plain, with_option, with_options};
+ghost use Rattle.tcl_search_and_sort.specs.SearchOptions.{all_and_two};
 
 use std::alloc::Global;
 use tcl_value::value::Value;
@@ -60,7 +61,8 @@ impl Search {
         }
     }
 
-    /// The search with the options of words, from the left: of `-exact` and `-glob` the later is taken.
+    /// The search with the options of words, from the left: of `-exact` and `-glob` the later is
+    /// taken.
     ///
     /// # Errors
     /// 221; want of memory.

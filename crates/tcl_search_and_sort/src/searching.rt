@@ -3,7 +3,8 @@ ghost use Rattle.std.specs.Prelude.{◌≡◌, ◌++◌, ◌∷◌, [], pos, map
 ghost use Rattle.std.specs.Fmt.{signed_decimal};
 ghost use Rattle.tcl_words.specs.Outcomes.{Gives, Refuses};
 ghost use Rattle.tcl_lists.specs.Lists.{Texts, list_value};
-ghost use Rattle.tcl_search_and_sort.specs.Searching.{is_like, takes, placed, taken, told, nothing_told, first_told, found, lsearch_of};
+ghost use Rattle.tcl_search_and_sort.specs.Searching.{is_like, takes, placed, taken, told};
+ghost use Rattle.tcl_search_and_sort.specs.Searching.{nothing_told, first_told, found, lsearch_of};
 
 use crate::search_options::{Search, all_and_two};
 use std::alloc::{AllocError, Global};
@@ -46,7 +47,7 @@ fn place_value(index: usize) -> Result<Value, Refusal>
 }
 
 /// What is told of an element at a place: itself, or the place.
-fn told(inline: bool, index: usize, value: Value) -> Result<Value, Refusal>
+fn found_value(inline: bool, index: usize, value: Value) -> Result<Value, Refusal>
     ensures { Gives (λ value. value) result (Ok (told inline (index, value))) }
 {
     if inline {
@@ -68,12 +69,13 @@ fn nothing_told(inline: bool) -> Value
 
 /// What is told of the first element that a search takes.
 fn first_told(alloc: Global, search: Search, pattern: &Value, list: &List) -> Result<Value, Refusal>
-    ensures { Gives (λ value. value) result (Ok (first_told search.inline (taken search pattern.now (placed 0 list.now)))) }
+    ensures { Gives (λ value. value) result
+        (Ok (first_told search.inline (taken search pattern.now (placed 0 list.now)))) }
 {
     'elements: for index in 0..list.len() {
         let value = list.get(index)?;
         if takes(alloc, search, pattern, &value)? {
-            return told(search.inline, index, value);
+            return found_value(search.inline, index, value);
         }
     }
     Ok(nothing_told(search.inline))
@@ -88,9 +90,10 @@ fn push_told(
     value: Value,
 ) -> Result<(), Refusal>
     ensures pushed { OnOk result (made.new ≡ made.old ++ told inline (index, value) ∷ []) }
-    ensures refused { (rest : Texts) → IfErr result (λ e. Refuses e (list_value (made.old ++ (told inline (index, value) ∷ rest)))) }
+    ensures refused { (rest : Texts) → IfErr result
+        (λ e. Refuses e (list_value (made.old ++ (told inline (index, value) ∷ rest)))) }
 {
-    let own = told(inline, index, value)?;
+    let own = found_value(inline, index, value)?;
     if let Err(why) = made.push(alloc, own) {
         return Err(not_made(alloc, why));
     }
@@ -99,7 +102,8 @@ fn push_told(
 
 /// The list of what is told of all elements that a search takes.
 fn all_told(alloc: Global, search: Search, pattern: &Value, list: &List) -> Result<Value, Refusal>
-    ensures { Gives (λ value. value) result (list_value (map (told search.inline) (taken search pattern.now (placed 0 list.now)))) }
+    ensures { Gives (λ value. value) result
+        (list_value (map (told search.inline) (taken search pattern.now (placed 0 list.now)))) }
 {
     let mut made = List::new(alloc)?;
     'elements: for index in 0..list.len() {
@@ -122,9 +126,10 @@ fn found(alloc: Global, search: Search, pattern: &Value, list: &List) -> Result<
     }
 }
 
-/// `lsearch ?option ...? list pattern`: the first place at which an element matches the pattern, -1 where there is none. With
-/// `-exact` the element has to be the pattern (`-glob` undoes it), with `-not` it has to be none that fits; `-all` gives all
-/// such places in a list, and `-inline` the elements in place of the places: nothing where there is none.
+/// `lsearch ?option ...? list pattern`: the first place at which an element matches the pattern, -1
+/// where there is none. With `-exact` the element has to be the pattern (`-glob` undoes it), with
+/// `-not` it has to be none that fits; `-all` gives all such places in a list, and `-inline` the
+/// elements in place of the places: nothing where there is none.
 ///
 /// # Errors
 /// 241, 221, 101 to 104, 122; want of memory.

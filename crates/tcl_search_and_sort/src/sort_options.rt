@@ -60,7 +60,8 @@ impl Sorting {
         }
     }
 
-    /// With the options of words, from the left: of two that exclude one another the later is taken.
+    /// With the options of words, from the left: of two that exclude one another the later is
+    /// taken.
     fn with_options(self, alloc: Global, words: &[Value]) -> Result<Sorting, Refusal>
         ensures { Gives (λ sorting. sorting) result (with_options self words.now) }
     {
@@ -71,8 +72,8 @@ impl Sorting {
         Ok(sorting)
     }
 
-    /// What options ask for: without any by the texts, from the least to the greatest, all elements. Of two that exclude one another
-    /// the later is taken.
+    /// What options ask for: without any by the texts, from the least to the greatest, all
+    /// elements. Of two that exclude one another the later is taken.
     ///
     /// # Errors
     /// 221; want of memory.

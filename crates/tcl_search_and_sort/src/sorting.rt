@@ -1,7 +1,8 @@
 //! The command that puts a list in order.
 ghost use Rattle.tcl_words.specs.Words.{list_word};
 ghost use Rattle.tcl_search_and_sort.specs.Sorting.{After, GivesSome};
-ghost use Rattle.tcl_search_and_sort.specs.SortCommand.{plain, with_options, IsSortedAs, IsSortedWord, IsLsort};
+ghost use Rattle.tcl_search_and_sort.specs.SortCommand.{plain, with_options, IsSortedAs};
+ghost use Rattle.tcl_search_and_sort.specs.SortCommand.{IsSortedWord, IsLsort};
 
 use crate::numbers::sorted_numbers;
 use crate::ordering::sorted_texts;
@@ -31,7 +32,8 @@ fn sorted_word(
     sorting: Sorting,
     word: &Value,
 ) -> Result<Value, Refusal>
-    ensures { GivesSome result (After (list_word word.now) (IsSortedAs style sorting sorting.by_number)) }
+    ensures { GivesSome result
+        (After (list_word word.now) (IsSortedAs style sorting sorting.by_number)) }
 {
     let list = list_word(alloc, word)?;
     sorted(alloc, style, sorting, &list)
@@ -44,15 +46,17 @@ fn sorted_by_options(
     options: &[Value],
     word: &Value,
 ) -> Result<Value, Refusal>
-    ensures { GivesSome result (After (with_options plain options.now) (IsSortedWord style word.now)) }
+    ensures { GivesSome result
+        (After (with_options plain options.now) (IsSortedWord style word.now)) }
 {
     let sorting = Sorting::read(alloc, options)?;
     sorted_word(alloc, style, sorting, word)
 }
 
-/// `lsort ?option ...? list`: the elements in the order of their texts, by the numbers of their characters, or with `-integer` in the
-/// order of their integers; with `-decreasing` from the greatest to the least. Equal elements stay as they stood; with `-unique`
-/// the last of them alone is kept. `-ascii` and `-increasing` undo what came before them.
+/// `lsort ?option ...? list`: the elements in the order of their texts, by the numbers of their
+/// characters, or with `-integer` in the order of their integers; with `-decreasing` from the
+/// greatest to the least. Equal elements stay as they stood; with `-unique` the last of them alone
+/// is kept. `-ascii` and `-increasing` undo what came before them.
 ///
 /// # Errors
 /// 241, 221, 101 to 104, 111, 112, 122; want of memory.

@@ -13,9 +13,11 @@ abbrev pub path_of : Bool → List (List ℕ)
 path_of true = codes "main" ∷ []
 path_of false = []
 
--- The tree is a root alone, or one with a safe child; integer texts are read in the style that was asked for.
+-- The tree is a root alone, or one with a safe child; integer texts are read in the style that was
+-- asked for.
 pub record Begins (o : Options) (t : Tree) : Type 0 where
-  pub tree : MatchBool o.is_safe (Makes (alone new_root) (tree_of t) [] (codes "main") true) (tree_of t ≡ alone new_root)
+  pub tree : MatchBool o.is_safe (Makes (alone new_root) (tree_of t) [] (codes "main") true)
+      (tree_of t ≡ alone new_root)
   pub marks : marks_of t ≡ record { integers = o.integers; broken = false }
 
 -- the command by which a variable is set
@@ -24,4 +26,6 @@ set_command name value = written_list (codes "set" ∷ name ∷ value ∷ [])
 
 -- the three commands: the file's name, or `-`; the arguments as a list; and how many they are
 abbrev pub setting_of : List ℕ → List (List ℕ) → List ℕ
-setting_of file arguments = set_command (codes "argv0") file ++ codes "\n" ++ set_command (codes "argv") (written_list arguments) ++ codes "\n" ++ set_command (codes "argc") (decimal (length arguments))
+setting_of file arguments = set_command (codes "argv0") file ++ codes "\n" ++ set_command
+    (codes "argv") (written_list arguments) ++ codes "\n" ++ set_command (codes "argc")
+    (decimal (length arguments))

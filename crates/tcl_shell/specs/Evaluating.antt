@@ -1,5 +1,7 @@
--- What a script comes to: by the evaluator's own account of its run, in the tree and the host that it finds.
-use Rattle.std.specs.Prelude.{◌≡◌, ◌≢◌, ◌<◌, ◌≤◌, ◌+◌, ◌⊎◌, ℕ, ℤ, pos, negsuc, List, length, map, Some, Result, Ok, Err}
+-- What a script comes to: by the evaluator's own account of its run, in the tree and the host that
+-- it finds.
+use Rattle.std.specs.Prelude.{◌≡◌, ◌≢◌, ◌<◌, ◌≤◌, ◌+◌, ◌⊎◌, ℕ, ℤ, pos, negsuc, List, length, map}
+use Rattle.std.specs.Prelude.{Some, Result, Ok, Err}
 use Rattle.std.specs.Str.{IsUtf8}
 use Rattle.std.specs.declared.alloc.AllocError.{AllocError}
 use Rattle.tcl_core.specs.Paths.{Path, Text}
@@ -16,7 +18,8 @@ use Rattle.tcl_text.specs.Messages as messages
 use Rattle.tcl_shell.specs.Beginning.{Begins, path_of, setting_of}
 use Rattle.tcl_shell.specs.Reading.{Serving}
 use Rattle.tcl_shell.specs.declared.ending.Ending.{Ending}
-use Rattle.tcl_shell.specs.declared.ending.Ending.TheVariants.{Finished, Failed, Unreadable, Stopped, Exited, OutOfMemory}
+use Rattle.tcl_shell.specs.declared.ending.Ending.TheVariants.{Finished, Failed, Unreadable}
+use Rattle.tcl_shell.specs.declared.ending.Ending.TheVariants.{Stopped, Exited, OutOfMemory}
 use Rattle.tcl_shell.specs.declared.options.Options.{Options}
 
 -- the most bytes that a script may have
@@ -41,10 +44,12 @@ abbrev pub IsNoStatus : ℤ → Type 0
 IsNoStatus (pos n) = 255 < n
 IsNoStatus (negsuc n) = Unit {0}
 
--- What the end of a run comes to: a result where its code is 0, and an error else; a limit; a status. Want of memory says nothing.
+-- What the end of a run comes to: a result where its code is 0, and an error else; a limit; a
+-- status. Want of memory says nothing.
 abbrev pub Comes : End → Ending → Type 0
 Comes e (Finished text) = (c : Completion) × (e ≡ Done c) × (c.code ≡ pos 0) × (text ≡ c.text)
-Comes e (Failed text) = ((c : Completion) × (e ≡ Done c) × (c.code ≢ pos 0) × (text ≡ c.text)) ⊎ ((n : ℤ) × (e ≡ Exit n) × IsNoStatus n × (text ≡ bad_status))
+Comes e (Failed text) = ((c : Completion) × (e ≡ Done c) × (c.code ≢ pos 0) × (text ≡ c.text)) ⊎
+    ((n : ℤ) × (e ≡ Exit n) × IsNoStatus n × (text ≡ bad_status))
 Comes e (Stopped kind) = e ≡ end.Stopped kind
 Comes e (Exited n) = e ≡ Exit (pos n)
 Comes e OutOfMemory = Unit {0}
@@ -55,33 +60,47 @@ abbrev pub IsRefused : Refused → Ending → Type 0
 IsRefused TooLong e = (e ≡ Failed too_long) ⊎ (e ≡ OutOfMemory)
 IsRefused _ e = e ≡ OutOfMemory
 
--- The script ran in the interpreter at the path with so many steps, and this is what its end comes to; or it was too long to be run.
-abbrev pub RunsIn : {S : Type 0} → Serving S → Tree → S → Path → Text → ℕ → Ending → Tree → S → Type 0
-RunsIn step t h path script limit e u z = (end : End) × IsRun (hosted step) t h path script (root_count t + limit) u z end × Comes end e
+-- The script ran in the interpreter at the path with so many steps, and this is what its end comes
+-- to; or it was too long to be run.
+abbrev pub RunsIn : {S : Type 0} → Serving S → Tree → S → Path → Text → ℕ → Ending → Tree → S →
+    Type 0
+RunsIn step t h path script limit e u z = (end : End) ×
+    IsRun (hosted step) t h path script (root_count t + limit) u z end × Comes end e
 
 abbrev pub IsTooLongIn : {S : Type 0} → Tree → S → Path → Text → ℕ → Ending → S → Type 0
-IsTooLongIn t h path script limit e z = (unfit t path script limit ≡ Some TooLong) × (z ≡ h) × (e ≡ Failed too_long)
+IsTooLongIn t h path script limit e z = (unfit t path script limit ≡ Some TooLong) × (z ≡ h) ×
+    (e ≡ Failed too_long)
 
-abbrev pub EndsAs : {S : Type 0} → Serving S → Tree → S → Path → Text → ℕ → Ending → Tree → S → Type 0
+abbrev pub EndsAs : {S : Type 0} → Serving S → Tree → S → Path → Text → ℕ → Ending → Tree → S →
+    Type 0
 EndsAs step t h path script limit OutOfMemory u z = Unit {0}
-EndsAs step t h path script limit e u z = RunsIn step t h path script limit e u z ⊎ IsTooLongIn t h path script limit e z
+EndsAs step t h path script limit e u z = RunsIn step t h path script limit e u z ⊎ IsTooLongIn t h
+    path script limit e z
 
 -- ## A script
 
 -- what comes of a script, the variables of the command line having been set with this end
-abbrev pub Then : {S : Type 0} → Serving S → Options → Text → Ending → Tree → S → Ending → S → Type 0
-Then step o script (Finished text) t h e z = (u : Tree) × EndsAs step t h (path_of o.is_safe) script o.limit e u z
+abbrev pub Then : {S : Type 0} → Serving S → Options → Text → Ending → Tree → S → Ending → S →
+    Type 0
+Then step o script (Finished text) t h e z = (u : Tree) ×
+    EndsAs step t h (path_of o.is_safe) script o.limit e u z
 Then step o script first t h e z = (e ≡ first) × (z ≡ h)
 
--- In a fresh tree the variables of the command line are set by three steps, and then the script runs, with as many as were asked for. Want of memory says nothing.
+-- In a fresh tree the variables of the command line are set by three steps, and then the script
+-- runs, with as many as were asked for. Want of memory says nothing.
 abbrev pub RunsTo : {S : Type 0} → Serving S → Options → Text → S → Ending → S → Type 0
 RunsTo step o script h OutOfMemory z = Unit {0}
 RunsTo {S} step o script h e z =
-    (t : Tree) × (u : Tree) × (mid : S) × (first : Ending) × Begins o t × EndsAs step t h (path_of o.is_safe) (setting_of o.file.now (map (λ word. word.now) o.arguments.items)) 3 first u mid
+    (t : Tree) × (u : Tree) × (mid : S) × (first : Ending) × Begins o t ×
+    EndsAs step t h (path_of o.is_safe)
+    (setting_of o.file.now (map (λ word. word.now) o.arguments.items)) 3 first u mid
     × Then step o script first u mid e z
 
--- What the bytes of a script come to: they are too long for one; they aren't UTF-8; or the script ends so.
+-- What the bytes of a script come to: they are too long for one; they aren't UTF-8; or the script
+-- ends so.
 abbrev pub EvaluatesTo : {S : Type 0} → Serving S → Options → List ℕ → S → Ending → S → Type 0
 EvaluatesTo step o bytes h OutOfMemory z = Unit {0}
-EvaluatesTo step o bytes h Unreadable z = (length bytes ≤ longest) × (IsUtf8 bytes → Prim.⊥) × (z ≡ h)
-EvaluatesTo step o bytes h e z = ((longest < length bytes) × (e ≡ Failed too_long) × (z ≡ h)) ⊎ ((length bytes ≤ longest) × IsUtf8 bytes × RunsTo step o bytes h e z)
+EvaluatesTo step o bytes h Unreadable z = (length bytes ≤ longest) × (IsUtf8 bytes → Prim.⊥) ×
+    (z ≡ h)
+EvaluatesTo step o bytes h e z = ((longest < length bytes) × (e ≡ Failed too_long) × (z ≡ h)) ⊎
+    ((length bytes ≤ longest) × IsUtf8 bytes × RunsTo step o bytes h e z)

@@ -1,4 +1,5 @@
--- What the bytes of a script are: of a file by an open, a read and a close of the host, of the standard input by a read.
+-- What the bytes of a script are: of a file by an open, a read and a close of the host, of the
+-- standard input by a read.
 use Rattle.std.specs.Prelude.{◌≡◌, ◌⊎◌, ℕ, List, Result, Ok, Err, codes}
 use Rattle.std.specs.Bool.{MatchBool}
 use Rattle.std.specs.Str.{bytes_eq}
@@ -7,7 +8,7 @@ use Rattle.tcl_host.specs.declared.reply.HostError.{HostError}
 use Rattle.tcl_host.specs.declared.reply.HostError.TheVariants as error
 use Rattle.tcl_host.specs.declared.reply.HostReply.{HostReply}
 use Rattle.tcl_host.specs.declared.reply.HostReply.TheVariants.{Opened, Rest, Done, Refused}
-use Rattle.tcl_host.specs.declared.reply.Refusal.{Refusal}
+use Rattle.tcl_host.specs.declared.reply.HostRefusal.{HostRefusal}
 use Rattle.tcl_host.specs.declared.request.Request.{Request}
 use Rattle.tcl_host.specs.declared.request.Request.TheVariants.{Open, ReadAll, Close}
 use Rattle.tcl_shell.specs.declared.ending.Ending.{Ending}
@@ -28,7 +29,7 @@ GivesBytes (Err e) result = result ≡ Err (unread_by e)
 
 -- The host refuses a request.
 abbrev pub Refuses : {S : Type 0} → Serving S → S → Request → S → Type 0
-Refuses step old request new = (why : Refusal) × step old request (Refused why) new
+Refuses step old request new = (why : HostRefusal) × step old request (Refused why) new
 
 -- It is asked, and replies; or it wants memory, and is as it was.
 abbrev pub Asks : {S : Type 0} → Serving S → S → Request → S → Type 0
@@ -45,17 +46,21 @@ ReadsInput step old (Err _) new = Prim.⊥
 abbrev pub OpensSo : {S : Type 0} → Serving S → List ℕ → S → List ℕ → S → Type 0
 OpensSo step file old channel new = step old (Open file Read) (Opened channel) new
 
--- The file is opened, read and closed; or the host refuses one of these, and what was opened is closed nevertheless.
+-- The file is opened, read and closed; or the host refuses one of these, and what was opened is
+-- closed nevertheless.
 abbrev pub ReadsFile : {S : Type 0} → Serving S → List ℕ → S → Result (List ℕ) Ending → S → Type 0
 ReadsFile {S} step file old (Ok bytes) new =
-    (channel : List ℕ) × (opened : S) × (read : S) × OpensSo step file old channel opened × step opened (ReadAll channel) (Rest bytes) read × step read (Close channel) Done new
+    (channel : List ℕ) × (opened : S) × (read : S) × OpensSo step file old channel opened ×
+    step opened (ReadAll channel) (Rest bytes) read × step read (Close channel) Done new
 ReadsFile step file old (Err OutOfMemory) new = Unit {0}
 ReadsFile {S} step file old (Err Unreadable) new =
     Refuses step old (Open file Read) new
     ⊎ ((channel : List ℕ) × (opened : S) × (read : S) × OpensSo step file old channel opened
-    × ((Refuses step opened (ReadAll channel) read × step read (Close channel) Done new) ⊎ (Asks step opened (ReadAll channel) read × Refuses step read (Close channel) new)))
+    × ((Refuses step opened (ReadAll channel) read × step read (Close channel) Done new) ⊎
+    (Asks step opened (ReadAll channel) read × Refuses step read (Close channel) new)))
 ReadsFile step file old (Err _) new = Prim.⊥
 
 -- `-` stands for the standard input
 abbrev pub ReadsScript : {S : Type 0} → Serving S → List ℕ → S → Result (List ℕ) Ending → S → Type 0
-ReadsScript step file old result new = MatchBool (bytes_eq file (codes "-")) (ReadsInput step old result new) (ReadsFile step file old result new)
+ReadsScript step file old result new = MatchBool (bytes_eq file (codes "-"))
+    (ReadsInput step old result new) (ReadsFile step file old result new)

@@ -1,5 +1,6 @@
 //! What a script finds: a tree of interpreters, and the variables of its command line.
-ghost use Rattle.std.specs.Prelude.{◌≡◌, ◌++◌, ℕ, List, [], ◌∷◌, true, false, IfOk, map, codes, take, length};
+ghost use Rattle.std.specs.Prelude.{◌≡◌, ◌++◌, ℕ, List, [], ◌∷◌, true, false, IfOk, map, codes};
+ghost use Rattle.std.specs.Prelude.{take, length};
 ghost use Rattle.tcl_tree.specs.Changes.{Makes};
 ghost use Rattle.tcl_tree.specs.TreeOf.{tree_of, marks_of, alone, new_root};
 ghost use Rattle.std.specs.String.{string_bytes};
@@ -40,7 +41,8 @@ impl Begun {
     /// A root alone, in which the script runs.
     fn in_the_root(alloc: Global, integers: Integers) -> Result<Begun, AllocError>
         ensures tree { IfOk result (λ begun. tree_of begun.tree ≡ alone new_root) }
-        ensures marks { IfOk result (λ begun. marks_of begun.tree ≡ record { integers = integers; broken = false }) }
+        ensures marks { IfOk result
+            (λ begun. marks_of begun.tree ≡ record { integers = integers; broken = false }) }
         ensures path { IfOk result (λ begun. begun.path.items ≡ []) }
     {
         Ok(Begun {
@@ -51,8 +53,10 @@ impl Begun {
 
     /// A root with a safe child `main`, in which the script runs.
     fn in_a_safe_child(alloc: Global, integers: Integers) -> Result<Begun, AllocError>
-        ensures tree { IfOk result (λ begun. Makes (alone new_root) (tree_of begun.tree) [] (codes "main") true) }
-        ensures marks { IfOk result (λ begun. marks_of begun.tree ≡ record { integers = integers; broken = false }) }
+        ensures tree { IfOk result
+            (λ begun. Makes (alone new_root) (tree_of begun.tree) [] (codes "main") true) }
+        ensures marks { IfOk result
+            (λ begun. marks_of begun.tree ≡ record { integers = integers; broken = false }) }
         ensures path { IfOk result (λ begun. begun.path.items ≡ codes "main" ∷ []) }
     {
         let mut tree = Tree::with_integers(alloc, integers)?;
@@ -71,7 +75,8 @@ impl Begun {
 /// # Errors
 /// Want of memory.
 pub fn setting_of(alloc: Global, options: &Options<'_>) -> Result<String, AllocError>
-    ensures { IfOk result (λ script. string_bytes script ≡ setting_of options.now.file.now (map (λ word. word.now) options.now.arguments.items)) }
+    ensures { IfOk result (λ script. string_bytes script
+        ≡ setting_of options.now.file.now (map (λ word. word.now) options.now.arguments.items)) }
 {
     let arguments = texts_of(alloc, options.arguments.as_slice())?;
     let count = arguments.len();

@@ -1,6 +1,7 @@
 //! What evaluating a script comes to.
 ghost use Rattle.std.specs.Prelude.{◌≡◌, IfOk};
-ghost use Rattle.tcl_shell.specs.Evaluating.{EndsAs, EvaluatesTo, RunsTo, Comes, IsRefused, failed_so};
+ghost use Rattle.tcl_shell.specs.Evaluating.{EndsAs, EvaluatesTo, RunsTo, Comes, IsRefused};
+ghost use Rattle.tcl_shell.specs.Evaluating.{failed_so};
 
 use crate::begun::{Begun, setting_of};
 use crate::ending::Ending;
@@ -16,7 +17,8 @@ use tcl_text::text::Text;
 /// How many commands set the variables of the command line.
 const SETTING_STEPS: u64 = 3;
 
-/// What the bytes of a script come to: they are too long for one; they aren't UTF-8; or the script ends so.
+/// What the bytes of a script come to: they are too long for one; they aren't UTF-8; or the script
+/// ends so.
 pub fn evaluated<H: Host>(
     alloc: Global,
     host: &mut H,
@@ -56,18 +58,19 @@ fn ended<H: Host>(
     script: &str,
     limit: u64,
 ) -> Ending
-    ensures ends { EndsAs H.step begun.old.tree host.old begun.old.path.items script.now limit result begun.new.tree host.new }
+    ensures ends { EndsAs H.step begun.old.tree host.old begun.old.path.items script.now limit result
+        begun.new.tree host.new }
     ensures path { begun.new.path ≡ begun.old.path }
 {
     let path = begun.path.as_slice();
     match eval(&mut begun.tree, alloc, host, path, script, limit) {
-        Ok(end) => come(alloc, end),
+        Ok(end) => ending_of(alloc, end),
         Err(refused) => refused_by(alloc, refused),
     }
 }
 
 /// What the end of a run comes to. No script gives a status that is none.
-fn come(alloc: Global, end: End) -> Ending
+fn ending_of(alloc: Global, end: End) -> Ending
     ensures { Comes end result }
 {
     match end {

@@ -1,8 +1,12 @@
 //! The words of the command line, read by `clap`.
-ghost use Rattle.std.specs.Prelude.{◌≡◌, ℕ, List, [], IfOk, IfErr, map, option_map, unwrap_or, false};
+ghost use Rattle.std.specs.Prelude.{◌≡◌, ℕ, List, [], IfOk, IfErr, map, option_map, unwrap_or};
+ghost use Rattle.std.specs.Prelude.{false};
 ghost use Rattle.std.specs.Borrow.{Bor};
 ghost use Rattle.clap.specs.Words.{app_of, rule_of, found_of, rows_of};
-ghost use Rattle.tcl_shell.specs.CommandLine.{command, styles, limit_rule, safe_rule, integers_rule, file_rule, arguments_rule, IsRead, IsNotRead, IsParsed, IsMisparsed, Tells, Says, LimitIs, style_of};
+ghost use Rattle.tcl_shell.specs.CommandLine.{command, styles, limit_rule, safe_rule};
+ghost use Rattle.tcl_shell.specs.CommandLine.{integers_rule, file_rule, arguments_rule, IsRead};
+ghost use Rattle.tcl_shell.specs.CommandLine.{IsNotRead, IsParsed, IsMisparsed, Tells, Says};
+ghost use Rattle.tcl_shell.specs.CommandLine.{LimitIs, style_of};
 
 use crate::ending::Ending;
 use clap::error::ErrorKind;
@@ -41,8 +45,10 @@ impl<'a> Options<'a> {
     /// # Errors
     /// Help where it is asked for, a mistake in the words, and want of memory.
     pub fn read(alloc: Global, words: &'a [&'a str]) -> Result<Options<'a>, Ending>
-        ensures read { IfOk result (λ options. IsRead (map (λ word. word.now) words.entry.now) options) }
-        ensures mistake { IfErr result (λ ending. IsNotRead (map (λ word. word.now) words.entry.now) ending) }
+        ensures read { IfOk result
+            (λ options. IsRead (map (λ word. word.now) words.entry.now) options) }
+        ensures mistake { IfErr result
+            (λ ending. IsNotRead (map (λ word. word.now) words.entry.now) ending) }
     {
         let matches = match parsed(alloc, words) {
             Ok(matches) => matches,
@@ -80,7 +86,8 @@ fn safe_option<'a>(alloc: Global) -> Arg<'a>
 
 /// The option `--integers STYLE`.
 fn integers_option<'a>(alloc: Global) -> Arg<'a>
-    ensures rule { (names : Bor (List (Bor (List ℕ)))) × (map (λ name. name.now) names.now ≡ styles) × (rule_of result ≡ integers_rule names) }
+    ensures rule { (names : Bor (List (Bor (List ℕ)))) ×
+        (map (λ name. name.now) names.now ≡ styles) × (rule_of result ≡ integers_rule names) }
     ensures local { result.global ≡ false }
 {
     Arg::new(alloc, "integers")
@@ -110,7 +117,8 @@ fn arguments_argument<'a>(alloc: Global) -> Arg<'a>
 
 /// The command line's own description.
 fn command<'a>(alloc: Global) -> Result<Command<'a>, AllocError>
-    ensures { IfOk result (λ made. (names : Bor (List (Bor (List ℕ)))) × (map (λ name. name.now) names.now ≡ styles) × (app_of made ≡ command names)) }
+    ensures { IfOk result (λ made. (names : Bor (List (Bor (List ℕ)))) ×
+        (map (λ name. name.now) names.now ≡ styles) × (app_of made ≡ command names)) }
 {
     Command::new(alloc, "tclsafe")
         .arg(limit_option(alloc))?
@@ -122,8 +130,11 @@ fn command<'a>(alloc: Global) -> Result<Command<'a>, AllocError>
 
 /// What the words match.
 fn parsed<'a>(alloc: Global, words: &'a [&'a str]) -> Result<ArgMatches<'a>, Error>
-    ensures parsed { IfOk result (λ matches. IsParsed (map (λ word. word.now) words.entry.now) (rows_of (found_of matches))) }
-    ensures mistake { IfErr result (λ error. IsMisparsed (map (λ word. word.now) words.entry.now) error) }
+    ensures parsed { IfOk result
+        (λ matches. IsParsed (map (λ word. word.now) words.entry.now)
+        (rows_of (found_of matches))) }
+    ensures mistake { IfErr result
+        (λ error. IsMisparsed (map (λ word. word.now) words.entry.now) error) }
 {
     command(alloc)?.try_get_matches_from(words)
 }
@@ -166,7 +177,9 @@ fn style_of(word: Option<&str>) -> Integers
 
 /// The script's arguments.
 fn arguments_of<'a>(alloc: Global, words: Option<&[&'a str]>) -> Result<Vec<&'a str>, AllocError>
-    ensures { IfOk result (λ made. map (λ word. word.now) made.items ≡ unwrap_or (option_map (λ all. map (λ word. word.now) all.now) words.entry) []) }
+    ensures { IfOk result (λ made. map
+        (λ word. word.now) made.items ≡ unwrap_or
+        (option_map (λ all. map (λ word. word.now) all.now) words.entry) []) }
 {
     match words {
         Some(words) => Vec::from_slice(alloc, words),

@@ -11,16 +11,19 @@ use crate::telling::tell;
 use std::alloc::Global;
 use tcl_host::host::Host;
 
-/// Evaluates a script as `tclsafe [--limit N] [--safe] [--integers 8|9] [FILE] [ARG..]` does, and gives the exit status: 0 a result or help, 1 an
-/// error, 2 a mistake in the words or a script that can't be read as UTF-8, 3 a limit that was met, 4 want of memory, n where the script exits with n.
+/// Evaluates a script as `tclsafe [--limit N] [--safe] [--integers 8|9] [FILE] [ARG..]` does, and
+/// gives the exit status: 0 a result or help, 1 an error, 2 a mistake in the words or a script that
+/// can't be read as UTF-8, 3 a limit that was met, 4 want of memory, n where the script exits with
+/// n.
 ///
-/// The first word is the program's name. The script makes at most N steps, from 0 to 1000000000000, or 10000000 where the words don't say.
+/// The first word is the program's name. The script makes at most N steps, from 0 to 1000000000000,
+/// or 10000000 where the words don't say.
 pub fn run_args<H: Host>(alloc: Global, words: &[&str], host: &mut H) -> u8
     ensures { Runs H.step (map (λ word. word.now) words.now) host.old result host.new }
 {
     match Options::read(alloc, words) {
         Ok(options) => {
-            let ending = come(alloc, host, &options);
+            let ending = evaluate_file(alloc, host, &options);
             tell(alloc, host, options.file, ending)
         }
         Err(ending) => tell(alloc, host, STANDARD_INPUT, ending),
@@ -28,7 +31,7 @@ pub fn run_args<H: Host>(alloc: Global, words: &[&str], host: &mut H) -> u8
 }
 
 /// What the script comes to.
-fn come<H: Host>(alloc: Global, host: &mut H, options: &Options<'_>) -> Ending
+fn evaluate_file<H: Host>(alloc: Global, host: &mut H, options: &Options<'_>) -> Ending
     ensures { Comes H.step options.now host.old result host.new }
 {
     match read_script(host, alloc, options.file) {

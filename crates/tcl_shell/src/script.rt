@@ -1,6 +1,7 @@
 //! The bytes of a script, which the host gives.
 ghost use Rattle.std.specs.Prelude.{◌≡◌};
-ghost use Rattle.tcl_shell.specs.Reading.{GivesBytes, ReadsFile, ReadsInput, ReadsScript, unread_by};
+ghost use Rattle.tcl_shell.specs.Reading.{GivesBytes, ReadsFile, ReadsInput, ReadsScript};
+ghost use Rattle.tcl_shell.specs.Reading.{unread_by};
 
 use crate::ending::Ending;
 use crate::options::STANDARD_INPUT;
@@ -10,7 +11,8 @@ use tcl_host::host::Host;
 use tcl_host::open_mode::OpenMode;
 use tcl_host::reply::HostError;
 
-/// The bytes of the script: of a file by an open, a read and a close of the host, of the standard input by a read.
+/// The bytes of the script: of a file by an open, a read and a close of the host, of the standard
+/// input by a read.
 ///
 /// # Errors
 /// That it couldn't be read, where the host refuses one of these; want of memory.

@@ -1,7 +1,8 @@
 //! What the program shows and tells of how a run ended, and its exit status.
 ghost use Rattle.std.specs.Prelude.{◌≡◌, ◌++◌, IfOk, codes};
 ghost use Rattle.std.specs.String.{string_bytes};
-ghost use Rattle.tcl_shell.specs.Telling.{ShowsSo, FinishesSo, Printed, Told, Attempts, complaint, limit_text};
+ghost use Rattle.tcl_shell.specs.Telling.{ShowsSo, FinishesSo, Printed, Told, Attempts, complaint};
+ghost use Rattle.tcl_shell.specs.Telling.{limit_text};
 
 use crate::ending::Ending;
 use std::alloc::{AllocError, Global};
@@ -16,8 +17,8 @@ pub const MEMORY_LINE: &str = "tclsafe: out of memory\n";
 
 /// Shows the result or tells the error, each by one write, and gives the exit status.
 ///
-/// A fault of a write to `stderr` changes no status. Where the result can't be written, that is an error of its own (status 1); where memory
-/// runs out for a line, the status is 4.
+/// A fault of a write to `stderr` changes no status. Where the result can't be written, that is an
+/// error of its own (status 1); where memory runs out for a line, the status is 4.
 pub fn tell<H: Host>(alloc: Global, host: &mut H, file: &str, ending: Ending) -> u8
     ensures { ShowsSo H.step file.now ending host.old result host.new }
 {
@@ -63,7 +64,8 @@ fn print<H: Host>(alloc: Global, host: &mut H, text: &str) -> u8
 
 /// Tells that the script couldn't be read.
 fn tell_unreadable<H: Host>(alloc: Global, host: &mut H, file: &str) -> u8
-    ensures { Told H.step (complaint (codes "cannot read " ++ file.now)) 2 host.old result host.new }
+    ensures { Told H.step (complaint (codes "cannot read " ++ file.now)) 2 host.old result
+        host.new }
 {
     match line_of(alloc, "cannot read ", file) {
         Ok(line) => put(host, line.as_str(), 2),

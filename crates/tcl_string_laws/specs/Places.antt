@@ -17,9 +17,11 @@ pub record IsLast (needle cs : List ℕ) (end k : ℕ) : Type 0 where
 -- the first place is the least at which the needle stands; there is none where it stands nowhere
 abbrev pub FirstPlaces : Type 0
 FirstPlaces = (needle cs : List ℕ) (start : ℕ) → (needle ≡ [] → Prim.⊥)
-    → MatchOption (first_place needle cs start) ((j : ℕ) → start ≤ j → StandsAt needle cs j → Prim.⊥) (IsFirst needle cs start)
+    → MatchOption (first_place needle cs start)
+    ((j : ℕ) → start ≤ j → StandsAt needle cs j → Prim.⊥) (IsFirst needle cs start)
 
 -- the last place is the greatest at which the needle stands; there is none where it stands nowhere
 abbrev pub LastPlaces : Type 0
 LastPlaces = (needle cs : List ℕ) (end : ℕ) → (needle ≡ [] → Prim.⊥)
-    → MatchOption (last_place needle cs end) ((j : ℕ) → j + length needle ≤ end → StandsAt needle cs j → Prim.⊥) (IsLast needle cs end)
+    → MatchOption (last_place needle cs end)
+    ((j : ℕ) → j + length needle ≤ end → StandsAt needle cs j → Prim.⊥) (IsLast needle cs end)

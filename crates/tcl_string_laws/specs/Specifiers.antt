@@ -1,5 +1,6 @@
 -- How a specifier of `format` is written behind its `%`.
-use Rattle.std.specs.Prelude.{ℕ, ◌≡◌, ◌≤◌, ◌==◌, ◌||◌, ◌⊎◌, ◌↔◌, min, Bool, true, false, List, [], ◌∷◌, ◌++◌, Some, None}
+use Rattle.std.specs.Prelude.{ℕ, ◌≡◌, ◌≤◌, ◌==◌, ◌||◌, ◌⊎◌, ◌↔◌, min, Bool, true, false, List, []}
+use Rattle.std.specs.Prelude.{◌∷◌, ◌++◌, Some, None}
 use Rattle.std.specs.declared.option.Option.{Option}
 use Rattle.std.specs.Char.{is_ascii_digit}
 use Rattle.tcl_text.specs.Numbers.{sum_of_digits}
@@ -44,8 +45,8 @@ abbrev pub precision_of : Option (List ℕ) → Option ℕ
 precision_of None = None
 precision_of (Some ds) = Some (min (sum_of_digits 10 ds) 16777216)
 
--- The characters are those of the specifier, and then the rest: flags, a width, a precision, a size, and the character of
--- the conversion.
+-- The characters are those of the specifier, and then the rest: flags, a width, a precision, a
+-- size, and the character of the conversion.
 pub record IsWritten (cs : List ℕ) (s : Specifier) (rest : List ℕ) : Type 0 where
   pub flags : List ℕ
   pub width : List ℕ
@@ -65,4 +66,5 @@ pub record IsWritten (cs : List ℕ) (s : Specifier) (rest : List ℕ) : Type 0 
 
 -- a specifier is read where one is written, and that one
 abbrev pub SpecifiersReadOneWay : Type 0
-SpecifiersReadOneWay = (cs : List ℕ) (s : Specifier) (rest : List ℕ) → (specified cs ≡ (Some s, rest)) ↔ IsWritten cs s rest
+SpecifiersReadOneWay = (cs : List ℕ) (s : Specifier) (rest : List ℕ) →
+    (specified cs ≡ (Some s, rest)) ↔ IsWritten cs s rest

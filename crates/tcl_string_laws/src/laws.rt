@@ -13,7 +13,8 @@ pub fn last_places()
     ensures { LastPlaces }
 {}
 
-/// At each place what stands for the first key of a mapping that fits there is put, and isn't read again.
+/// At each place what stands for the first key of a mapping that fits there is put, and isn't read
+/// again.
 pub fn mapped_texts()
     ensures { MapsOneWay }
 {}

@@ -21,10 +21,13 @@ sign Equal = pos 0
 sign Greater = pos 1
 
 abbrev pub equal_of : List (List ℕ) → Outcome
-equal_of words = next (nocase_words (codes "string equal ?-nocase? a b") words) (λ p. Ok (signed_decimal (truth (is_eq (order (letters p.0 p.1) (letters p.0 p.2))))))
+equal_of words = next (nocase_words (codes "string equal ?-nocase? a b") words)
+    (λ p. Ok (signed_decimal (truth (is_eq (order (letters p.0 p.1) (letters p.0 p.2))))))
 
 abbrev pub compare_of : List (List ℕ) → Outcome
-compare_of words = next (nocase_words (codes "string compare ?-nocase? a b") words) (λ p. Ok (signed_decimal (sign (order (letters p.0 p.1) (letters p.0 p.2)))))
+compare_of words = next (nocase_words (codes "string compare ?-nocase? a b") words)
+    (λ p. Ok (signed_decimal (sign (order (letters p.0 p.1) (letters p.0 p.2)))))
 
 abbrev pub match_of : List (List ℕ) → Outcome
-match_of words = next (nocase_words (codes "string match ?-nocase? pattern s") words) (λ p. Ok (signed_decimal (truth (is_match p.0 p.1 p.2))))
+match_of words = next (nocase_words (codes "string match ?-nocase? pattern s") words)
+    (λ p. Ok (signed_decimal (truth (is_match p.0 p.1 p.2))))

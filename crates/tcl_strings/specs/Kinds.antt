@@ -1,5 +1,6 @@
 -- The subcommand is.
-use Rattle.std.specs.Prelude.{ℕ, ℤ, pos, ◌==◌, Bool, true, false, not, if◌then◌else◌, List, [], ◌∷◌, length, Ok, Err, Some, None, codes, is_ok, is_some}
+use Rattle.std.specs.Prelude.{ℕ, ℤ, pos, ◌==◌, Bool, true, false, not, if◌then◌else◌, List, [], ◌∷◌}
+use Rattle.std.specs.Prelude.{length, Ok, Err, Some, None, codes, is_ok, is_some}
 use Rattle.std.specs.declared.result.Result.{Result}
 use Rattle.std.specs.declared.option.Option.{Option}
 use Rattle.std.specs.Fmt.{signed_decimal}
@@ -13,7 +14,8 @@ use Rattle.tcl_words.specs.Outcomes.{Outcome, next}
 use Rattle.tcl_words.specs.Faults.{wrong_arguments, bad_option}
 use Rattle.tcl_characters.specs.Classes.{is_member}
 use Rattle.tcl_characters.specs.declared.classes.Class.{Class}
-use Rattle.tcl_characters.specs.declared.classes.Class.TheVariants.{Alpha, Digit, Alnum, Upper, Lower, Space, Xdigit}
+use Rattle.tcl_characters.specs.declared.classes.Class.TheVariants.{Alpha, Digit, Alnum, Upper}
+use Rattle.tcl_characters.specs.declared.classes.Class.TheVariants.{Lower, Space, Xdigit}
 use Rattle.tcl_strings.specs.declared.kinds.Kind.{Kind}
 use Rattle.tcl_strings.specs.declared.kinds.Kind.TheVariants.{Integer, Boolean, WholeList, Of}
 
@@ -54,7 +56,8 @@ empty_fits WholeList strict = true
 empty_fits kind strict = not strict
 
 abbrev pub is_kind : Integers → Bool → Kind → List ℕ → Bool
-is_kind style strict kind text = if length text == 0 then empty_fits kind strict else fits_kind style kind text
+is_kind style strict kind text = if length text == 0 then empty_fits kind strict else fits_kind
+    style kind text
 
 -- ---- the words
 

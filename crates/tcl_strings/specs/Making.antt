@@ -1,5 +1,6 @@
 -- The subcommands repeat, tolower, toupper, cat, map.
-use Rattle.std.specs.Prelude.{ℕ, ◌%◌, ◌==◌, ℤ, pos, negsuc, if◌then◌else◌, List, length, map, Ok, Err, codes}
+use Rattle.std.specs.Prelude.{ℕ, ◌%◌, ◌==◌, ℤ, pos, negsuc, if◌then◌else◌, List, length, map, Ok}
+use Rattle.std.specs.Prelude.{Err, codes}
 use Rattle.std.specs.declared.result.Result.{Result}
 use Rattle.std.specs.Char.{to_ascii_lowercase, to_ascii_uppercase}
 use Rattle.std.specs.Str.{chars}
@@ -24,10 +25,12 @@ repeat_of style words =
     next (integer_word style p.1) (λ count. limited (copies (times count) p.0)))
 
 abbrev pub to_lower_of : List (List ℕ) → Outcome
-to_lower_of words = next (one_word (codes "string tolower s") words) (λ s. limited (text_of (map to_ascii_lowercase (chars s))))
+to_lower_of words = next (one_word (codes "string tolower s") words)
+    (λ s. limited (text_of (map to_ascii_lowercase (chars s))))
 
 abbrev pub to_upper_of : List (List ℕ) → Outcome
-to_upper_of words = next (one_word (codes "string toupper s") words) (λ s. limited (text_of (map to_ascii_uppercase (chars s))))
+to_upper_of words = next (one_word (codes "string toupper s") words)
+    (λ s. limited (text_of (map to_ascii_uppercase (chars s))))
 
 abbrev pub cat_of : List (List ℕ) → Outcome
 cat_of words = limited (joined words)

@@ -4,7 +4,8 @@ use Rattle.std.specs.Str.{chars}
 use Rattle.tcl_text.specs.declared.integer.Integers.{Integers}
 use Rattle.tcl_text.specs.declared.index.Index.{Index}
 use Rattle.tcl_words.specs.Outcomes.{Outcome, next}
-use Rattle.tcl_words.specs.Arguments.{one_word, two_words, three_words, one_or_two_words, three_or_four_words}
+use Rattle.tcl_words.specs.Arguments.{one_word, two_words, three_words, one_or_two_words}
+use Rattle.tcl_words.specs.Arguments.{three_or_four_words}
 use Rattle.tcl_words.specs.Words.{index_word}
 use Rattle.tcl_words.specs.Limits.{limited, counted}
 use Rattle.tcl_words.specs.Spans.{before, behind, span}
@@ -34,10 +35,12 @@ abbrev pub where_none : List ℕ → List ℕ → List ℕ → List ℕ
 where_none [] whole changed = whole
 where_none (c ∷ cs) whole changed = changed
 
--- Text in the place of the characters between two indexes; where there are none between them nothing changes.
+-- Text in the place of the characters between two indexes; where there are none between them
+-- nothing changes.
 abbrev pub replaced : Index → Index → List ℕ → List ℕ → List ℕ
 replaced first last new text =
-    where_none (span first last (chars text)) text (text_of (before first (chars text)) ++ new ++ text_of (behind last (chars text)))
+    where_none (span first last (chars text)) text
+    (text_of (before first (chars text)) ++ new ++ text_of (behind last (chars text)))
 
 abbrev pub replace_of : Integers → List (List ℕ) → Outcome
 replace_of style words =
@@ -48,7 +51,8 @@ replace_of style words =
 
 -- the characters from the last to the first
 abbrev pub reverse_of : List (List ℕ) → Outcome
-reverse_of words = next (one_word (codes "string reverse s") words) (λ s. limited (text_of (reverse (chars s))))
+reverse_of words = next (one_word (codes "string reverse s") words)
+    (λ s. limited (text_of (reverse (chars s))))
 
 -- the characters that are trimmed where none are named: white space and U+0000
 abbrev pub white : List ℕ
@@ -67,4 +71,5 @@ trim_right_of words =
 abbrev pub trim_of : List (List ℕ) → Outcome
 trim_of words =
     next (one_or_two_words (codes "string trim s ?chars?") words) (λ p.
-    limited (text_of (trim_end (chars (unwrap_or p.1 white)) (trim_start (chars (unwrap_or p.1 white)) (chars p.0)))))
+    limited (text_of (trim_end (chars (unwrap_or p.1 white))
+    (trim_start (chars (unwrap_or p.1 white)) (chars p.0)))))

@@ -5,13 +5,19 @@ use Rattle.std.specs.Str.{bytes_eq}
 use Rattle.tcl_text.specs.declared.integer.Integers.{Integers}
 use Rattle.tcl_words.specs.Outcomes.{Outcome}
 use Rattle.tcl_words.specs.Faults.{wrong_arguments, unknown_subcommand}
-use Rattle.tcl_strings.specs.Parts.{length_of, index_of, range_of, replace_of, reverse_of, trim_of, trim_left_of, trim_right_of}
+use Rattle.tcl_strings.specs.Parts.{length_of, index_of, range_of, replace_of, reverse_of, trim_of}
+use Rattle.tcl_strings.specs.Parts.{trim_left_of, trim_right_of}
 use Rattle.tcl_strings.specs.Comparing.{equal_of, compare_of, match_of}
 use Rattle.tcl_strings.specs.Searching.{first_of, last_of}
 use Rattle.tcl_strings.specs.Making.{repeat_of, to_lower_of, to_upper_of, cat_of, map_of}
 use Rattle.tcl_strings.specs.Kinds.{is_of}
 use Rattle.tcl_strings.specs.declared.subcommand.Subcommand.{Subcommand}
-use Rattle.tcl_strings.specs.declared.subcommand.Subcommand.TheVariants.{Length, Index, Range, Equal, Compare, Match, Map, First, Last, Repeat, Reverse, Replace, ToLower, ToUpper, Trim, TrimLeft, TrimRight, Cat, Is}
+use Rattle.tcl_strings.specs.declared.subcommand.Subcommand.TheVariants.{Length, Index, Range}
+use Rattle.tcl_strings.specs.declared.subcommand.Subcommand.TheVariants.{Equal, Compare, Match, Map}
+use Rattle.tcl_strings.specs.declared.subcommand.Subcommand.TheVariants.{First, Last, Repeat}
+use Rattle.tcl_strings.specs.declared.subcommand.Subcommand.TheVariants.{Reverse, Replace, ToLower}
+use Rattle.tcl_strings.specs.declared.subcommand.Subcommand.TheVariants.{ToUpper, Trim, TrimLeft}
+use Rattle.tcl_strings.specs.declared.subcommand.Subcommand.TheVariants.{TrimRight, Cat, Is}
 
 abbrev pub or_else : Option Subcommand → Option Subcommand → Option Subcommand
 or_else (Some a) b = Some a
@@ -54,7 +60,8 @@ change_of name =
 
 -- the subcommand of a name
 abbrev pub subcommand_of : List ℕ → Option Subcommand
-subcommand_of name = or_else (part_of name) (or_else (test_of name) (or_else (making_of name) (change_of name)))
+subcommand_of name = or_else (part_of name)
+    (or_else (test_of name) (or_else (making_of name) (change_of name)))
 
 -- what a subcommand answers its words
 abbrev pub outcome_of : Integers → Subcommand → List (List ℕ) → Outcome

@@ -40,8 +40,8 @@ fn same(a: &str, b: &str, nocase: bool) -> bool
     order::equal(a, b, nocase)
 }
 
-/// `string equal ?-nocase? a b`: 1 where the texts have the same characters, else 0. With `-nocase` the case of ASCII letters
-/// doesn't count.
+/// `string equal ?-nocase? a b`: 1 where the texts have the same characters, else 0. With `-nocase`
+/// the case of ASCII letters doesn't count.
 ///
 /// # Errors
 /// 241, 221; want of memory.
@@ -52,8 +52,9 @@ pub fn equal(alloc: Global, words: &[Text]) -> Result<Answer, Refusal>
     Ok(Answer::Number(truth(same(a.as_str(), b.as_str(), nocase))))
 }
 
-/// `string compare ?-nocase? a b`: -1, 0 or 1 as the first text comes before the second, is the same or comes behind it, by
-/// the numbers of their characters. With `-nocase` the case of ASCII letters doesn't count.
+/// `string compare ?-nocase? a b`: -1, 0 or 1 as the first text comes before the second, is the
+/// same or comes behind it, by the numbers of their characters. With `-nocase` the case of ASCII
+/// letters doesn't count.
 ///
 /// # Errors
 /// 241, 221; want of memory.
@@ -64,8 +65,8 @@ pub fn compare(alloc: Global, words: &[Text]) -> Result<Answer, Refusal>
     Ok(Answer::Number(sign(order::compare(a.as_str(), b.as_str(), nocase))))
 }
 
-/// `string match ?-nocase? pattern s`: 1 where the pattern matches the whole text, else 0. With `-nocase` the case of ASCII
-/// letters doesn't count.
+/// `string match ?-nocase? pattern s`: 1 where the pattern matches the whole text, else 0. With
+/// `-nocase` the case of ASCII letters doesn't count.
 ///
 /// # Errors
 /// 241, 221; want of memory.

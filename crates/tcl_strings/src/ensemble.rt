@@ -52,7 +52,8 @@ pub fn run(
 /// What `string` answers the words behind it: a subcommand and its words.
 ///
 /// # Errors
-/// 241 without a word, 244 where the first names no subcommand, and those of the subcommand; want of memory.
+/// 241 without a word, 244 where the first names no subcommand, and those of the subcommand; want
+/// of memory.
 pub fn string(alloc: Global, style: Integers, words: &[Text]) -> Result<Answer, Refusal>
     ensures { Gives answer_text result (string_of style words.now) }
 {

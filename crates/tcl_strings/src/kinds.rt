@@ -3,7 +3,8 @@ ghost use Rattle.std.specs.Prelude.{◌≡◌, Ok, is_ok};
 ghost use Rattle.tcl_text.specs.Lists.{list_of};
 ghost use Rattle.std.specs.Option.{option_copied};
 ghost use Rattle.tcl_words.specs.Outcomes.{Gives, answer_text};
-ghost use Rattle.tcl_strings.specs.Kinds.{class_of, kind_of, fits_kind, empty_fits, is_kind, class_words, kind_or, strict_word, truth, is_of};
+ghost use Rattle.tcl_strings.specs.Kinds.{class_of, kind_of, fits_kind, empty_fits, is_kind};
+ghost use Rattle.tcl_strings.specs.Kinds.{class_words, kind_or, strict_word, truth, is_of};
 
 use std::alloc::Global;
 use tcl_characters::classes::{Class, all_members};
@@ -156,8 +157,8 @@ fn truth(holds: bool) -> i64
     i64::from(holds)
 }
 
-/// `string is class ?-strict? s`: 1 where the text is of the class, else 0. The empty text is of each class, with `-strict`
-/// of `list` alone.
+/// `string is class ?-strict? s`: 1 where the text is of the class, else 0. The empty text is of
+/// each class, with `-strict` of `list` alone.
 ///
 /// # Errors
 /// 241, 221; want of memory.

@@ -6,7 +6,8 @@ ghost use Rattle.tcl_words.specs.Limits.{limited};
 ghost use Rattle.tcl_words.specs.Faults.{too_long};
 ghost use Rattle.tcl_characters.specs.Texts.{copies};
 ghost use Rattle.tcl_characters.specs.Mapping.{mapped};
-ghost use Rattle.tcl_strings.specs.Making.{to_lower_of, to_upper_of, times, repeat_of, cat_of, mapping_word, map_of};
+ghost use Rattle.tcl_strings.specs.Making.{to_lower_of, to_upper_of, times, repeat_of, cat_of};
+ghost use Rattle.tcl_strings.specs.Making.{mapping_word, map_of};
 
 use crate::options::nocase_words;
 use std::alloc::Global;
@@ -82,7 +83,8 @@ pub fn repeat_text(alloc: Global, style: Integers, words: &[Text]) -> Result<Ans
 
 /// What is told of a text that isn't made.
 fn not_made(alloc: Global, why: LimitError) -> Refusal
-    ensures { (outcome : Outcome) → (why ≡ LimitError.TooLong → outcome ≡ Err too_long) → Refuses result outcome }
+    ensures { (outcome : Outcome) → (why ≡ LimitError.TooLong → outcome ≡ Err too_long) →
+        Refuses result outcome }
 {
     match why {
         LimitError::Memory => Refusal::Memory,
@@ -124,8 +126,9 @@ fn mapping_word(alloc: Global, word: &str) -> Result<Vec<Text>, Refusal>
     Ok(list)
 }
 
-/// `string map ?-nocase? mapping s`: the text in which what stands for the keys of the mapping is put in their place, at each
-/// place the first key that fits. With `-nocase` the case of ASCII letters doesn't count in the keys.
+/// `string map ?-nocase? mapping s`: the text in which what stands for the keys of the mapping is
+/// put in their place, at each place the first key that fits. With `-nocase` the case of ASCII
+/// letters doesn't count in the keys.
 ///
 /// # Errors
 /// 241, 221, 101 to 104, 121, 122; want of memory.

@@ -9,8 +9,8 @@ use tcl_words::refusal::{Refusal, bad_option, wrong_arguments};
 /// Two words, before which the option `-nocase` may stand: whether it does, and the words.
 ///
 /// # Errors
-/// 241 with the form where there is another number of words, 221 where the first of three is no `-nocase`; want of
-/// memory.
+/// 241 with the form where there is another number of words, 221 where the first of three is no
+/// `-nocase`; want of memory.
 pub fn nocase_words<'a>(
     alloc: Global,
     words: &'a [Text],

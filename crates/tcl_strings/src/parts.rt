@@ -1,12 +1,13 @@
-//! The subcommands that give parts of texts: `length`, `index`, `range`, `replace`, `reverse`, `trim`, `trimleft`,
-//! `trimright`.
+//! The subcommands that give parts of texts: `length`, `index`, `range`, `replace`, `reverse`,
+//! `trim`, `trimleft`, `trimright`.
 ghost use Rattle.std.specs.Prelude.{◌≡◌, [], unwrap_or};
 ghost use Rattle.std.specs.Option.{option_copied};
 ghost use Rattle.std.specs.Str.{chars};
 ghost use Rattle.tcl_characters.specs.Texts.{text_of, trim_start, trim_end};
 ghost use Rattle.tcl_words.specs.Outcomes.{Gives, answer_text};
 ghost use Rattle.tcl_words.specs.Limits.{limited};
-ghost use Rattle.tcl_strings.specs.Parts.{length_of, index_of, range_of, reverse_of, trim_of, trim_left_of, trim_right_of, white, replaced, replace_of};
+ghost use Rattle.tcl_strings.specs.Parts.{length_of, index_of, range_of, reverse_of, trim_of};
+ghost use Rattle.tcl_strings.specs.Parts.{trim_left_of, trim_right_of, white, replaced, replace_of};
 
 use crate::spans::{before, behind, span};
 use std::alloc::Global;
@@ -107,7 +108,8 @@ pub fn trimright(alloc: Global, words: &[Text]) -> Result<Answer, Refusal>
 
 /// A text without the characters of a set at both ends.
 fn trimmed<'a>(text: &'a str, set: &str) -> &'a str
-    ensures { result.now ≡ text_of (trim_end (chars set.now) (trim_start (chars set.now) (chars text.now))) }
+    ensures { result.now
+        ≡ text_of (trim_end (chars set.now) (trim_start (chars set.now) (chars text.now))) }
 {
     trim_right(trim_left(text, set), set)
 }
@@ -152,8 +154,8 @@ fn or_empty(word: Option<&Text>) -> &str
     }
 }
 
-/// `string replace s first last ?new?`: the text with `new`, or nothing, in the place of the characters from one index to
-/// another. It stays as it is where there are none.
+/// `string replace s first last ?new?`: the text with `new`, or nothing, in the place of the
+/// characters from one index to another. It stays as it is where there are none.
 ///
 /// # Errors
 /// 241, 114, 122; want of memory.

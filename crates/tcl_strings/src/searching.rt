@@ -25,7 +25,8 @@ fn index_or(
     left_out: Index,
     word: Option<&Text>,
 ) -> Result<Index, Refusal>
-    ensures { Gives (λ place. place) result (index_or style count left_out (option_copied word.entry)) }
+    ensures { Gives (λ place. place) result
+        (index_or style count left_out (option_copied word.entry)) }
 {
     match word {
         Some(word) => index_word(alloc, style, count, word.as_str()),
@@ -65,8 +66,8 @@ fn place_answer(alloc: Global, place: Option<usize>) -> Result<Answer, Refusal>
     }
 }
 
-/// `string first needle s ?start?`: the first place, from an index on, at which the characters of the needle stand in the
-/// text; -1 where there is none or the needle is empty.
+/// `string first needle s ?start?`: the first place, from an index on, at which the characters of
+/// the needle stand in the text; -1 where there is none or the needle is empty.
 ///
 /// # Errors
 /// 241, 114; want of memory.
@@ -82,8 +83,8 @@ pub fn first(alloc: Global, style: Integers, words: &[Text]) -> Result<Answer, R
     )
 }
 
-/// `string last needle s ?last?`: the last place at which the characters of the needle stand in the text, none of them
-/// behind an index; -1 where there is none or the needle is empty.
+/// `string last needle s ?last?`: the last place at which the characters of the needle stand in the
+/// text, none of them behind an index; -1 where there is none or the needle is empty.
 ///
 /// # Errors
 /// 241, 114; want of memory.

@@ -1,6 +1,7 @@
 //! The names of the subcommands.
 ghost use Rattle.std.specs.Prelude.{◌≡◌};
-ghost use Rattle.tcl_strings.specs.Subcommands.{part_of, test_of, making_of, change_of, subcommand_of};
+ghost use Rattle.tcl_strings.specs.Subcommands.{part_of, test_of, making_of, change_of};
+ghost use Rattle.tcl_strings.specs.Subcommands.{subcommand_of};
 
 /// A subcommand of `string`.
 #[derive(Clone, Copy, Debug)]

@@ -9,8 +9,8 @@ use Rattle.std.proofs.lemmas.Bool.{lt-ltb, ltb-true, and_parts, and_from, cases_
 use Rattle.std.proofs.lemmas.Int.Digits.{digits_value_more}
 use Rattle.std.proofs.lemmas.Str.{IsCharBoundary-before_ascii, IsCharBoundary-end}
 use Rattle.tcl_text.specs.Reading.{is_plain, stop_test}
-use Rattle.tcl_text.specs.declared.list.Stop.{Stop}
-use Rattle.tcl_text.specs.declared.list.Stop.TheVariants.{White, Quote}
+use Rattle.tcl_text.specs.declared.list.UnitEnd.{UnitEnd}
+use Rattle.tcl_text.specs.declared.list.UnitEnd.TheVariants.{White, Quote}
 use Rattle.tcl_text.specs.Lists.{is_white}
 use Rattle.tcl_text.specs.Backslash.{is_number, number_len, is_blank}
 
@@ -130,12 +130,12 @@ blank_is_ascii b h = grind (arith, nat_tests)
 pub white_is_ascii : (b : ℕ) → is_white b ≡ true → b < 128
 white_is_ascii b h = grind (arith, nat_tests)
 
-stop_is_ascii : (stop : Stop) (b : ℕ) → is_plain (stop_test stop) b ≡ false → b < 128
+stop_is_ascii : (stop : UnitEnd) (b : ℕ) → is_plain (stop_test stop) b ≡ false → b < 128
 stop_is_ascii White b h = grind (arith, nat_tests)
 stop_is_ascii Quote b h = grind (arith, nat_tests)
 
 -- what isn't plain is ASCII, and a text may be cut before it
-pub stop_boundary : (stop : Stop) (s : List ℕ) → IsCharBoundary s (prefix_len (is_plain (stop_test stop)) s)
+pub stop_boundary : (stop : UnitEnd) (s : List ℕ) → IsCharBoundary s (prefix_len (is_plain (stop_test stop)) s)
 stop_boundary stop s =
     let p : ℕ → Bool = is_plain (stop_test stop) in
     let n : ℕ = prefix_len p s in

@@ -6,8 +6,8 @@ use Rattle.std.proofs.lemmas.Bool.Decides.{nat_tests}
 use Rattle.tcl_text.specs.Backslash.{escape, escape_rest}
 use Rattle.tcl_text.specs.declared.list.ListFault.{ListFault}
 use Rattle.tcl_text.specs.declared.list.ListFault.TheVariants.{UnmatchedQuote}
-use Rattle.tcl_text.specs.declared.list.Stop.{Stop}
-use Rattle.tcl_text.specs.declared.list.Stop.TheVariants.{White, Quote}
+use Rattle.tcl_text.specs.declared.list.UnitEnd.{UnitEnd}
+use Rattle.tcl_text.specs.declared.list.UnitEnd.TheVariants.{White, Quote}
 use Rattle.tcl_text.specs.Lists.{is_white, is_quote, stops, units, with_meaning, element_at, with_element, elements, list_of, none_open, close_brace, after_brace, after_quote}
 use Rattle.std.proofs.Common.{IfOk, IfErr}
 use Rattle.tcl_text.specs.declared.list.ListError.{ListError}
@@ -39,27 +39,27 @@ front_all p (b ∷ s) =
 pub list_past_white : (s : List ℕ) → list_of (drop (prefix_len is_white s) s) ≡ list_of s
 list_past_white s = sym (elements_white (take (prefix_len is_white s) s) (drop (prefix_len is_white s) s) (front_all is_white s)) ∙ ap (λ z. elements z 0) (take-append-drop (prefix_len is_white s) s)
 
-slash_goes_on : (stop : Stop) → stop_test stop 92 ≡ false
+slash_goes_on : (stop : UnitEnd) → stop_test stop 92 ≡ false
 slash_goes_on White = refl
 slash_goes_on Quote = refl
 
 -- a text at the end of a run, or at a backslash
-abbrev pub AtSeam : Stop → List ℕ → Type 0
+abbrev pub AtSeam : UnitEnd → List ℕ → Type 0
 AtSeam stop s = stops (λ b. not (is_plain (stop_test stop) b)) s ≡ true
 
 seam_byte : (t : Bool) (b : ℕ) → not (not (b == 92) && not t) ≡ true → b ≢ 92 → t ≡ true
 seam_byte true b h n = refl
 seam_byte false b h n = absurd (grind (arith, nat_tests))
 
-pub seam_ends : (stop : Stop) (s : List ℕ) → AtSeam stop s → ((after : List ℕ) → s ≢ 92 ∷ after) → stops (stop_test stop) s ≡ true
+pub seam_ends : (stop : UnitEnd) (s : List ℕ) → AtSeam stop s → ((after : List ℕ) → s ≢ 92 ∷ after) → stops (stop_test stop) s ≡ true
 seam_ends stop [] h n = refl
 seam_ends stop (b ∷ s) h n = seam_byte (stop_test stop b) b h (λ e. n s (ap (λ z. z ∷ s) e))
 
-pub units_at_end : (stop : Stop) (s : List ℕ) → AtSeam stop s → ((after : List ℕ) → s ≢ 92 ∷ after) → units (stop_test stop) s 0 ≡ ([], s)
+pub units_at_end : (stop : UnitEnd) (s : List ℕ) → AtSeam stop s → ((after : List ℕ) → s ≢ 92 ∷ after) → units (stop_test stop) s 0 ≡ ([], s)
 units_at_end stop s h n = units_stopped (stop_test stop) s (seam_ends stop s h n)
 
 -- a run whose front is plain, up to its end
-pub units_begin : (stop : Stop) (s plain rest : List ℕ) → plain ≡ take (prefix_len (is_plain (stop_test stop)) s) s → rest ≡ drop (prefix_len (is_plain (stop_test stop)) s) s →
+pub units_begin : (stop : UnitEnd) (s plain rest : List ℕ) → plain ≡ take (prefix_len (is_plain (stop_test stop)) s) s → rest ≡ drop (prefix_len (is_plain (stop_test stop)) s) s →
     (AtSeam stop rest) × (with_meaning plain (units (stop_test stop) rest 0) ≡ units (stop_test stop) s 0)
 units_begin stop s plain rest p r = (
   subst (AtSeam stop) (sym r) (front_stops (is_plain (stop_test stop)) s),
@@ -67,7 +67,7 @@ units_begin stop s plain rest p r = (
 )
 
 -- a sequence and the plain text behind it
-pub units_on : (stop : Stop) (text rest after behind plain left meaning own : List ℕ) → with_meaning meaning (units (stop_test stop) rest 0) ≡ units (stop_test stop) text 0 → rest ≡ 92 ∷ after →
+pub units_on : (stop : UnitEnd) (text rest after behind plain left meaning own : List ℕ) → with_meaning meaning (units (stop_test stop) rest 0) ≡ units (stop_test stop) text 0 → rest ≡ 92 ∷ after →
     own ≡ (escape after).meaning → behind ≡ escape_rest after → plain ≡ take (prefix_len (is_plain (stop_test stop)) behind) behind → left ≡ drop (prefix_len (is_plain (stop_test stop)) behind) behind →
     with_meaning ((meaning ++ own) ++ plain) (units (stop_test stop) left 0) ≡ units (stop_test stop) text 0
 units_on stop text rest after behind plain left meaning own whole slash o b p l =
@@ -78,14 +78,14 @@ units_on stop text rest after behind plain left meaning own whole slash o b p l 
     let inner : with_meaning own (units f behind 0) ≡ units f rest 0 = (λ i. with_meaning (o i) (units f (b i) 0)) ∙ sym (units_sequence f after (slash_goes_on stop)) ∙ ap (λ z. units f z 0) (sym slash) in
     joined ∙ ap (λ z. with_meaning meaning (with_meaning own z)) step.1 ∙ ap (with_meaning meaning) inner ∙ whole
 
-pub on_shorter : (stop : Stop) (rest after behind left : List ℕ) → rest ≡ 92 ∷ after → behind ≡ escape_rest after → left ≡ drop (prefix_len (is_plain (stop_test stop)) behind) behind → length left < length rest
+pub on_shorter : (stop : UnitEnd) (rest after behind left : List ℕ) → rest ≡ 92 ∷ after → behind ≡ escape_rest after → left ≡ drop (prefix_len (is_plain (stop_test stop)) behind) behind → length left < length rest
 on_shorter stop rest after behind left slash b l =
     let x = ap length slash in
     let y = ap length b in
     let z = ap length l in
     omega (arith, length-drop (escape after).taken after, length-drop (prefix_len (is_plain (stop_test stop)) behind) behind)
 
-pub units_done : (stop : Stop) (text rest meaning : List ℕ) → with_meaning meaning (units (stop_test stop) rest 0) ≡ units (stop_test stop) text 0 → AtSeam stop rest → ((after : List ℕ) → rest ≢ 92 ∷ after) →
+pub units_done : (stop : UnitEnd) (text rest meaning : List ℕ) → with_meaning meaning (units (stop_test stop) rest 0) ≡ units (stop_test stop) text 0 → AtSeam stop rest → ((after : List ℕ) → rest ≢ 92 ∷ after) →
     units (stop_test stop) text 0 ≡ (meaning, rest)
 units_done stop text rest meaning whole seam n =
     sym whole ∙ ap (with_meaning meaning) (units_at_end stop rest seam n) ∙ (λ i. (append-nil meaning i, rest))

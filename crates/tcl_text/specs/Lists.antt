@@ -1,5 +1,6 @@
 -- Lists in texts: the list that a text spells, and the fault of a text that spells none.
-use Rattle.std.specs.Prelude.{◌≡◌, ◌≢◌, ℕ, zero, suc, ◌-◌, Bool, true, false, not, ◌||◌, cond, ◌==◌, List, [], ◌∷◌, ◌++◌, length, take, Some, None, Ok, Err, ◌⊎◌, ◌↔◌}
+use Rattle.std.specs.Prelude.{◌≡◌, ◌≢◌, ℕ, zero, suc, ◌-◌, Bool, true, false, not, ◌||◌, cond, ◌==◌}
+use Rattle.std.specs.Prelude.{List, [], ◌∷◌, ◌++◌, length, take, Some, None, Ok, Err, ◌⊎◌, ◌↔◌}
 use Rattle.std.specs.declared.option.Option.{Option}
 use Rattle.std.specs.declared.result.Result.{Result}
 use Rattle.std.specs.Option.{option_and_then}
@@ -9,9 +10,11 @@ use Rattle.std.specs.Str.{chars, encode_utf8_all}
 use Rattle.tcl_text.specs.Backslash.{Escape, escape, escape_of}
 use Rattle.tcl_text.specs.declared.list.Braces.{Braces}
 use Rattle.tcl_text.specs.declared.list.ListFault.{ListFault}
-use Rattle.tcl_text.specs.declared.list.ListFault.TheVariants.{UnmatchedBrace, UnmatchedQuote, AfterBrace, AfterQuote}
+use Rattle.tcl_text.specs.declared.list.ListFault.TheVariants.{UnmatchedBrace, UnmatchedQuote}
+use Rattle.tcl_text.specs.declared.list.ListFault.TheVariants.{AfterBrace, AfterQuote}
 
--- White space: space, and 9 to 13, which are tab, newline, vertical tab, form feed and carriage return.
+-- White space: space, and 9 to 13, which are tab, newline, vertical tab, form feed and carriage
+-- return.
 abbrev pub is_white : ℕ → Bool
 is_white b = (b == 32) || is_in_range 9 13 b
 
@@ -30,7 +33,8 @@ stops stop (b ∷ s) = stop b
 abbrev pub ends : List ℕ → Bool
 ends s = stops is_white s
 
--- Braces as they are counted, 123 and 125: how many are open, and whether a backslash, 92, has just been passed, so that the next character is skipped.
+-- Braces as they are counted, 123 and 125: how many are open, and whether a backslash, 92, has just
+-- been passed, so that the next character is skipped.
 abbrev pub braces : ℕ → Bool → Braces
 braces depth skips = record { depth = depth; skips = skips }
 
@@ -55,7 +59,8 @@ unfoldable pub count_all : List ℕ → Braces → Option Braces
 count_all [] b = Some b
 count_all (c ∷ s) b = option_and_then (count_all s) (count b c)
 
--- The braces of a text balance, and never more are closed than opened; no backslash at its end is left over.
+-- The braces of a text balance, and never more are closed than opened; no backslash at its end is
+-- left over.
 abbrev pub IsBalanced : List ℕ → Type 0
 IsBalanced x = count_all x none_open ≡ Some none_open
 
@@ -67,16 +72,20 @@ unit b s = cond (b == 92) (escape s) (escape_of (b ∷ []) 0)
 -- A sequence has all bytes that the whole text lets it have.
 pub data Units (stop : ℕ → Bool) (after : List ℕ) : List ℕ → List ℕ → Type 0 where
   none : Units stop after [] []
-  byte : (b : ℕ) (x s : List ℕ) → b ≢ 92 → stop b ≡ false → Units stop after x s → Units stop after (b ∷ x) (b ∷ s)
-  sequence : (own x s m t : List ℕ) → t ≡ own ++ s → (escape (t ++ after)).taken ≡ length own → m ≡ (escape (t ++ after)).meaning ++ x → Units stop after x s → Units stop after m (92 ∷ t)
+  byte : (b : ℕ) (x s : List ℕ) → b ≢ 92 → stop b ≡ false → Units stop after x s →
+      Units stop after (b ∷ x) (b ∷ s)
+  sequence : (own x s m t : List ℕ) → t ≡ own ++ s → (escape (t ++ after)).taken ≡ length own →
+      m ≡ (escape (t ++ after)).meaning ++ x → Units stop after x s → Units stop after m (92 ∷ t)
 
 -- s, with `after` behind it, is one element, x: in braces, in quotes (34), or bare.
 pub data Elem (x s after : List ℕ) : Type 0 where
   braced : s ≡ 123 ∷ (x ++ 125 ∷ []) → IsBalanced x → Elem x s after
   quoted : (t : List ℕ) → s ≡ 34 ∷ (t ++ 34 ∷ []) → Units is_quote (34 ∷ after) x t → Elem x s after
-  bare : (b : ℕ) (t : List ℕ) → s ≡ b ∷ t → b ≢ 123 → b ≢ 34 → Units is_white after x (b ∷ t) → Elem x s after
+  bare : (b : ℕ) (t : List ℕ) → s ≡ b ∷ t → b ≢ 123 → b ≢ 34 → Units is_white after x (b ∷ t) →
+      Elem x s after
 
--- s is perhaps white space, the element x, which may end where it does, and a rest of which `Goes` holds.
+-- s is perhaps white space, the element x, which may end where it does, and a rest of which `Goes`
+-- holds.
 pub record Begins (x s : List ℕ) (Goes : List ℕ → Type 0) : Type 0 where
   pub white : List ℕ
   pub elem : List ℕ
@@ -87,7 +96,8 @@ pub record Begins (x s : List ℕ) (Goes : List ℕ → Type 0) : Type 0 where
   pub is_end : ends rest ≡ true
   pub goes : Goes rest
 
--- The text s spells the list: its elements in order, with white space between any two and perhaps at both ends.
+-- The text s spells the list: its elements in order, with white space between any two and perhaps
+-- at both ends.
 abbrev pub Spells : List (List ℕ) → List ℕ → Type 0
 Spells [] s = IsWhite s
 Spells (x ∷ l) s = Begins x s (Spells l)
@@ -96,16 +106,23 @@ Spells (x ∷ l) s = Begins x s (Spells l)
 abbrev pub offending : List ℕ → List ℕ
 offending s = encode_utf8_all (take 20 (chars (take_while (λ b. not (is_white b)) s)))
 
--- s begins with an element that isn't closed, or that is closed and followed by neither white space nor the end.
+-- s begins with an element that isn't closed, or that is closed and followed by neither white space
+-- nor the end.
 abbrev pub Breaks : ListFault → List ℕ → Type 0
-Breaks UnmatchedBrace s = (t : List ℕ) × (s ≡ 123 ∷ t) × ((x after : List ℕ) → t ≡ x ++ 125 ∷ after → IsBalanced x → ⊥)
-Breaks UnmatchedQuote s = (t : List ℕ) × (s ≡ 34 ∷ t) × ((x u after : List ℕ) → t ≡ u ++ 34 ∷ after → Units is_quote (34 ∷ after) x u → ⊥)
-Breaks (AfterBrace y) s = (x : List ℕ) × (after : List ℕ) × (s ≡ 123 ∷ (x ++ 125 ∷ after)) × IsBalanced x × (ends after ≡ false) × (y ≡ offending after)
-Breaks (AfterQuote y) s = (x : List ℕ) × (u : List ℕ) × (after : List ℕ) × (s ≡ 34 ∷ (u ++ 34 ∷ after)) × Units is_quote (34 ∷ after) x u × (ends after ≡ false) × (y ≡ offending after)
+Breaks UnmatchedBrace s = (t : List ℕ) × (s ≡ 123 ∷ t) ×
+    ((x after : List ℕ) → t ≡ x ++ 125 ∷ after → IsBalanced x → ⊥)
+Breaks UnmatchedQuote s = (t : List ℕ) × (s ≡ 34 ∷ t) ×
+    ((x u after : List ℕ) → t ≡ u ++ 34 ∷ after → Units is_quote (34 ∷ after) x u → ⊥)
+Breaks (AfterBrace y) s = (x : List ℕ) × (after : List ℕ) × (s ≡ 123 ∷ (x ++ 125 ∷ after)) ×
+    IsBalanced x × (ends after ≡ false) × (y ≡ offending after)
+Breaks (AfterQuote y) s = (x : List ℕ) × (u : List ℕ) × (after : List ℕ) ×
+    (s ≡ 34 ∷ (u ++ 34 ∷ after)) × Units is_quote (34 ∷ after) x u × (ends after ≡ false) ×
+    (y ≡ offending after)
 
 -- After these elements, each followed by white space, comes one that breaks.
 abbrev pub FaultAfter : List (List ℕ) → ListFault → List ℕ → Type 0
-FaultAfter [] f s = (white : List ℕ) × (rest : List ℕ) × (s ≡ white ++ rest) × IsWhite white × Breaks f rest
+FaultAfter [] f s = (white : List ℕ) × (rest : List ℕ) × (s ≡ white ++ rest) × IsWhite white ×
+    Breaks f rest
 FaultAfter (x ∷ l) f s = Begins x s (FaultAfter l f)
 
 abbrev pub HasFault : List ℕ → ListFault → Type 0
@@ -117,7 +134,8 @@ abbrev pub with_byte : ℕ → Option (List ℕ × List ℕ) → Option (List �
 with_byte c None = None
 with_byte c (Some p) = Some (c ∷ p.0, p.1)
 
-abbrev pub next_brace : Option Braces → List ℕ → ℕ → (Braces → Option (List ℕ × List ℕ)) → Option (List ℕ × List ℕ)
+abbrev pub next_brace : Option Braces → List ℕ → ℕ → (Braces → Option (List ℕ × List ℕ)) →
+    Option (List ℕ × List ℕ)
 next_brace None s c go = Some ([], s)
 next_brace (Some b) s c go = with_byte c (go b)
 
@@ -129,11 +147,13 @@ close_brace (c ∷ s) b = next_brace (count b c) s c (close_brace s)
 abbrev pub with_meaning : List ℕ → List ℕ × List ℕ → List ℕ × List ℕ
 with_meaning m p = (m ++ p.0, p.1)
 
--- what the units up to the first byte that stops mean, and the text from that byte on; the bytes that are skipped belong to a sequence
+-- what the units up to the first byte that stops mean, and the text from that byte on; the bytes
+-- that are skipped belong to a sequence
 unfoldable pub units : (ℕ → Bool) → List ℕ → ℕ → List ℕ × List ℕ
 units stop [] skip = ([], [])
 units stop (b ∷ s) (suc skip) = units stop s skip
-units stop (b ∷ s) zero = cond (stop b) ([], b ∷ s) (with_meaning (unit b s).meaning (units stop s (unit b s).taken))
+units stop (b ∷ s) zero = cond (stop b) ([], b ∷ s)
+    (with_meaning (unit b s).meaning (units stop s (unit b s).taken))
 
 -- an element and what follows it, which is white space or the end
 abbrev pub after_brace : Option (List ℕ × List ℕ) → Result (List ℕ × List ℕ) ListFault
@@ -151,11 +171,13 @@ element_at (b ∷ s) =
     (cond (b == 34) (after_quote (units is_quote s 0).0 (units is_quote s 0).1)
     (Ok (units is_white (b ∷ s) 0)))
 
-abbrev pub with_element : List ℕ → Result (List (List ℕ)) ListFault → Result (List (List ℕ)) ListFault
+abbrev pub with_element : List ℕ → Result (List (List ℕ)) ListFault →
+    Result (List (List ℕ)) ListFault
 with_element x (Ok l) = Ok (x ∷ l)
 with_element x (Err f) = Err f
 
-abbrev pub next_element : Result (List ℕ × List ℕ) ListFault → (List ℕ → Result (List (List ℕ)) ListFault) → Result (List (List ℕ)) ListFault
+abbrev pub next_element : Result (List ℕ × List ℕ) ListFault →
+    (List ℕ → Result (List (List ℕ)) ListFault) → Result (List (List ℕ)) ListFault
 next_element (Ok p) go = with_element p.0 (go p.1)
 next_element (Err f) go = Err f
 
@@ -163,13 +185,15 @@ next_element (Err f) go = Err f
 unfoldable pub elements : List ℕ → ℕ → Result (List (List ℕ)) ListFault
 elements [] skip = Ok []
 elements (b ∷ s) (suc skip) = elements s skip
-elements (b ∷ s) zero = cond (is_white b) (elements s 0) (next_element (element_at (b ∷ s)) (λ rest. elements s (length s - length rest)))
+elements (b ∷ s) zero = cond (is_white b) (elements s 0)
+    (next_element (element_at (b ∷ s)) (λ rest. elements s (length s - length rest)))
 
 -- the list that a text spells, or the fault that it has
 abbrev pub list_of : List ℕ → Result (List (List ℕ)) ListFault
 list_of s = elements s 0
 
--- What the definitions promise: each text has just one of a list that it spells and a fault, and just one such list or fault.
+-- What the definitions promise: each text has just one of a list that it spells and a fault, and
+-- just one such list or fault.
 abbrev pub Decided : Type 0
 Decided = (s : List ℕ) → ((l : List (List ℕ)) × Spells l s) ⊎ ((f : ListFault) × HasFault s f)
 

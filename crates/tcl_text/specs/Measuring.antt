@@ -1,5 +1,6 @@
 -- What the length of a text as an element of a list depends on, byte by byte.
-use Rattle.std.specs.Prelude.{ℕ, ◌+◌, ◌<◌, ◌^◌, Bool, false, not, ◌||◌, ◌&&◌, cond, ◌==◌, List, [], ◌∷◌, Some, None}
+use Rattle.std.specs.Prelude.{ℕ, ◌+◌, ◌<◌, ◌^◌, Bool, false, not, ◌||◌, ◌&&◌, cond, ◌==◌, List, []}
+use Rattle.std.specs.Prelude.{◌∷◌, Some, None}
 use Rattle.std.specs.declared.option.Option.{Option}
 use Rattle.std.specs.Option.{option_and_then}
 use Rattle.tcl_text.specs.declared.list.Braces.{Braces}
@@ -34,7 +35,8 @@ tally_of x = tally_with (record { special = 0; braces = Some none_open; last = 0
 abbrev pub fits_by : Tally → Bool
 fits_by t = (all_closed t.braces && not (t.last == 92)) && not t.joins
 
--- how a text with a tally is written, by its length and by whether it is a first element that begins with `#`
+-- how a text with a tally is written, by its length and by whether it is a first element that
+-- begins with `#`
 abbrev pub form_by : Tally → ℕ → Bool → Form
 form_by t len comment =
     cond (len == 0) Braced

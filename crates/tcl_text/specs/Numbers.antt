@@ -1,5 +1,7 @@
 -- Integer texts, as whole numbers of any size.
-use Rattle.std.specs.Prelude.{ℕ, ◌+◌, ◌*◌, ◌^◌, ◌≤◌, ◌≡◌, ◌==◌, ◌&&◌, ◌||◌, nat_lt, Bool, true, false, if◌then◌else◌, List, [], ◌∷◌, length, ℤ, pos, negsuc, neg_ℤ, Option, None, Some, option_map, Result, Ok, Err}
+use Rattle.std.specs.Prelude.{ℕ, ◌+◌, ◌*◌, ◌^◌, ◌≤◌, ◌≡◌, ◌==◌, ◌&&◌, ◌||◌, nat_lt, Bool, true}
+use Rattle.std.specs.Prelude.{false, if◌then◌else◌, List, [], ◌∷◌, length, ℤ, pos, negsuc, neg_ℤ}
+use Rattle.std.specs.Prelude.{Option, None, Some, option_map, Result, Ok, Err}
 use Rattle.std.specs.Char.{digit_value}
 use Rattle.tcl_text.specs.Lists.{is_white}
 use Rattle.tcl_text.specs.declared.integer.Integers.{Integers}
@@ -39,7 +41,8 @@ sum_of_digits base (c ∷ cs) = digit_value c * base ^ length cs + sum_of_digits
 -- the number that one digit or more of a base write
 abbrev pub in_base : ℕ → List ℕ → Option ℕ
 in_base base [] = None
-in_base base (c ∷ cs) = if are_digits base (c ∷ cs) then Some (sum_of_digits base (c ∷ cs)) else None
+in_base base (c ∷ cs) = if are_digits base (c ∷ cs) then Some (sum_of_digits base (c ∷ cs))
+    else None
 
 -- ---- integer texts
 

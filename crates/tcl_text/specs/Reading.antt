@@ -5,11 +5,11 @@ use Rattle.tcl_text.specs.Lists.{is_white, is_quote}
 use Rattle.tcl_text.specs.declared.list.ListFault.{ListFault}
 use Rattle.tcl_text.specs.declared.list.ListError.{ListError}
 use Rattle.tcl_text.specs.declared.list.ListError.TheVariants.{Memory, Fault}
-use Rattle.tcl_text.specs.declared.list.Stop.{Stop}
-use Rattle.tcl_text.specs.declared.list.Stop.TheVariants.{White, Quote}
+use Rattle.tcl_text.specs.declared.list.UnitEnd.{UnitEnd}
+use Rattle.tcl_text.specs.declared.list.UnitEnd.TheVariants.{White, Quote}
 
 -- the bytes at which a run of units ends
-abbrev pub stop_test : Stop → ℕ → Bool
+abbrev pub stop_test : UnitEnd → ℕ → Bool
 stop_test White = is_white
 stop_test Quote = is_quote
 

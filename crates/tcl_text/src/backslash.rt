@@ -1,11 +1,13 @@
 //! Backslash sequences.
-ghost use Rattle.std.specs.Prelude.{◌≡◌, ℕ, List, ◌++◌, ◌∷◌, [], ◌+◌, ◌≤◌, ◌<◌, ◌^◌, length, take, drop};
+ghost use Rattle.std.specs.Prelude.{◌≡◌, ℕ, List, ◌++◌, ◌∷◌, [], ◌+◌, ◌≤◌, ◌<◌, ◌^◌, length, take};
+ghost use Rattle.std.specs.Prelude.{drop};
 ghost use Rattle.std.specs.Char.{encode_utf8};
 ghost use Rattle.std.specs.List.{prefix_len};
-ghost use Rattle.tcl_text.specs.Backslash.{escape, escape_by, escape_of, escape_rest, hexadecimal, is_blank, number_len, number_value, character};
+ghost use Rattle.tcl_text.specs.Backslash.{escape, escape_by, escape_of, escape_rest, hexadecimal};
+ghost use Rattle.tcl_text.specs.Backslash.{is_blank, number_len, number_value, character};
 
-/// The number at the head of a text: the most digits of `base`, no more than `width`, that stand for
-/// no more than `greatest`, as their value and what follows them.
+/// The number at the head of a text: the most digits of `base`, no more than `width`, that stand
+/// for no more than `greatest`, as their value and what follows them.
 fn read_number(text: &str, width: usize, base: u32, greatest: u32) -> (u32, &str)
     requires some_base { 2 ≤ base }
     requires small_base { base ≤ 16 }
@@ -77,11 +79,11 @@ fn read_hexadecimal(letter: char, text: &str, width: usize, greatest: u32) -> (c
 }
 
 /// The character that a backslash means with the text after it, and what of that text follows the
-/// sequence, as `Tcl(n)`, rule 9, has it: `\a \b \f \n \r \t \v`; a newline with the spaces and tabs
-/// after it is a space; one to three octal digits, up to 255; `x` and one or two hexadecimal digits,
-/// `u` and one to four, `U` and one to eight, up to 10FFFF, where a surrogate gives U+FFFD. Any other
-/// character, and a letter `x`, `u` or `U` without digits, is itself. At the end of a text the
-/// backslash is itself.
+/// sequence, as `Tcl(n)`, rule 9, has it: `\a \b \f \n \r \t \v`; a newline with the spaces and
+/// tabs after it is a space; one to three octal digits, up to 255; `x` and one or two hexadecimal
+/// digits, `u` and one to four, `U` and one to eight, up to 10FFFF, where a surrogate gives U+FFFD.
+/// Any other character, and a letter `x`, `u` or `U` without digits, is itself. At the end of a
+/// text the backslash is itself.
 pub fn read_escape(text: &str) -> (char, &str)
     ensures meaning { encode_utf8 result.0 ≡ (escape text.now).meaning }
     ensures rest { result.1.now ≡ escape_rest text.now }

@@ -15,8 +15,8 @@ pub enum BooleanFault {
     NotBoolean,
 }
 
-/// The truth value of a text: `true`, `false`, `yes`, `no`, `on` or `off` in any ASCII case, an abbreviation that fits
-/// one of them only, or an integer text inside 64 bits, 0 being false.
+/// The truth value of a text: `true`, `false`, `yes`, `no`, `on` or `off` in any ASCII case, an
+/// abbreviation that fits one of them only, or an integer text inside 64 bits, 0 being false.
 ///
 /// # Errors
 /// `NotBoolean` for any other text.
@@ -75,7 +75,8 @@ fn abbreviates(text: &[u8], word: &[u8]) -> bool
 /// # Errors
 /// Want of memory.
 pub fn not_boolean_message(alloc: Global, text: &str) -> Result<Text, AllocError>
-    ensures { IfOk result (λ made. made ≡ codes "expected boolean value but got \"" ++ text.now ++ codes "\"") }
+    ensures { IfOk result (λ made. made
+        ≡ codes "expected boolean value but got \"" ++ text.now ++ codes "\"") }
 {
     quoting(alloc, "expected boolean value but got \"", text)
 }

@@ -5,7 +5,8 @@ ghost use Rattle.std.specs.Str.{chars};
 /// What follows the first `count` characters.
 pub fn skip_characters(text: &str, count: usize) -> &str
     ensures rest { chars result.now ≡ drop count (chars text.now) }
-    ensures cut { (front : List ℕ) × (text.now ≡ front ++ result.now) × (chars front ≡ take count (chars text.now)) }
+    ensures cut { (front : List ℕ) × (text.now ≡ front ++ result.now) ×
+        (chars front ≡ take count (chars text.now)) }
 {
     let mut rest = text.chars();
     'skip: for _ in 0..count {

@@ -1,8 +1,10 @@
 //! Index texts.
-ghost use Rattle.std.specs.Prelude.{◌≡◌, ◌++◌, ◌<◌, ◌==◌, ◌+ℤ◌, ◌-ℤ◌, if◌then◌else◌, length, codes, IfSome, IfOk, ok_or, option_map};
+ghost use Rattle.std.specs.Prelude.{◌≡◌, ◌++◌, ◌<◌, ◌==◌, ◌+ℤ◌, ◌-ℤ◌, if◌then◌else◌, length, codes};
+ghost use Rattle.std.specs.Prelude.{IfSome, IfOk, ok_or, option_map};
 ghost use Rattle.std.specs.Str.{bytes_eq};
 ghost use Rattle.tcl_text.specs.NumberForms.{IndexesByForm};
-ghost use Rattle.tcl_text.specs.Indexes.{only_inside, base_of, offset_of, is_operator, last_operator, sum_around, index_of, place};
+ghost use Rattle.tcl_text.specs.Indexes.{only_inside, base_of, offset_of, is_operator};
+ghost use Rattle.tcl_text.specs.Indexes.{last_operator, sum_around, index_of, place};
 
 use crate::integer::{
     Integers, read_int, read_signed, read_unsigned, trim_white_end, trim_white_start,
@@ -33,8 +35,9 @@ pub enum IndexFault {
     BadIndex,
 }
 
-/// Where an index text points: `N`, `end`, `N+M`, `N-M`, `end+M` or `end-M`, N an integer text and M one without a
-/// sign, with no white space inside, and both inside 64 bits. `end` is what the word `end` stands for.
+/// Where an index text points: `N`, `end`, `N+M`, `N-M`, `end+M` or `end-M`, N an integer text and
+/// M one without a sign, with no white space inside, and both inside 64 bits. `end` is what the
+/// word `end` stands for.
 ///
 /// # Errors
 /// `BadIndex` for any other text.
@@ -66,8 +69,8 @@ fn read_sum(text: &[u8], style: Integers, end: i64) -> Option<Index>
     Some(place_of_sum(text[at], base, offset))
 }
 
-/// The place of the sum, or of the difference where the operator is no `+`. Past 64 bits the place is the same as at
-/// the greatest or the least number.
+/// The place of the sum, or of the difference where the operator is no `+`. Past 64 bits the place
+/// is the same as at the greatest or the least number.
 fn place_of_sum(operator: u8, base: i64, offset: i64) -> Index
     ensures { result ≡ place (if operator == 43 then base +ℤ offset else base -ℤ offset) }
 {

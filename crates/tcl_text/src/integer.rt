@@ -1,10 +1,12 @@
 //! Integer texts.
-ghost use Rattle.std.specs.Prelude.{◌≡◌, ℕ, ◌+◌, ◌*◌, ◌++◌, ◌≤◌, length, codes, IfOk, OnOk, OnErr, option_map, ℤ, FitsSigned};
+ghost use Rattle.std.specs.Prelude.{◌≡◌, ℕ, ◌+◌, ◌*◌, ◌++◌, ◌≤◌, length, codes, IfOk, OnOk, OnErr};
+ghost use Rattle.std.specs.Prelude.{option_map, ℤ, FitsSigned};
 ghost use Rattle.std.specs.Int.{w64};
 ghost use Rattle.std.specs.Fmt.{signed_decimal};
 ghost use Rattle.std.specs.String.{string_bytes};
 ghost use Rattle.tcl_text.specs.NumberForms.{IntegersByForm};
-ghost use Rattle.tcl_text.specs.Numbers.{trim_start, trim_end, in_base, unsigned, with_sign, signed, integer_of, in_64_bits, in_unsigned_64, IsKept};
+ghost use Rattle.tcl_text.specs.Numbers.{trim_start, trim_end, in_base, unsigned, with_sign};
+ghost use Rattle.tcl_text.specs.Numbers.{signed, integer_of, in_64_bits, in_unsigned_64, IsKept};
 ghost use Rattle.tcl_text.specs.declared.integer.Integers.{Integers};
 
 use crate::list::is_white;
@@ -32,11 +34,12 @@ pub enum IntegerFault {
     TooLarge,
 }
 
-/// The integer of a text: white space, a sign or none, digits, white space. The digits are decimal, or after `0x`,
-/// `0o` or `0b` of that base, or octal by the style.
+/// The integer of a text: white space, a sign or none, digits, white space. The digits are decimal,
+/// or after `0x`, `0o` or `0b` of that base, or octal by the style.
 ///
 /// # Errors
-/// `NotInteger` where the text has another form, and `TooLarge` where the number takes more than 64 bits.
+/// `NotInteger` where the text has another form, and `TooLarge` where the number takes more than 64
+/// bits.
 pub fn read_int(text: &str, style: Integers) -> Result<i64, IntegerFault>
     ensures { result ≡ in_64_bits (integer_of style text.now) }
 {
@@ -80,7 +83,8 @@ pub(crate) fn read_signed(text: &[u8], style: Integers) -> Result<i64, IntegerFa
 
 /// Whether a minus sign stands first, and what follows the sign.
 fn split_sign(text: &[u8]) -> (bool, &[u8])
-    ensures { (style : Integers) → signed style text.now ≡ option_map (with_sign result.0) (unsigned style result.1.now) }
+    ensures { (style : Integers) →
+        signed style text.now ≡ option_map (with_sign result.0) (unsigned style result.1.now) }
 {
     match text {
         [b'-', digits @ ..] => (true, digits),
@@ -163,7 +167,8 @@ pub fn push_int(text: &mut String, number: i64) -> Result<(), AllocError>
 
 /// What is written of an integer reads as that integer, in both styles.
 pub fn written_integers_read_back()
-    ensures reads { (style : Integers) (n : ℤ) → FitsSigned w64 n → integer_of style (signed_decimal n) ≡ Some n }
+    ensures reads { (style : Integers) (n : ℤ) → FitsSigned w64 n →
+        integer_of style (signed_decimal n) ≡ Some n }
     ensures fits { (n : ℤ) → FitsSigned w64 n → in_64_bits (Some n) ≡ Ok n }
 {}
 
@@ -184,7 +189,8 @@ pub fn int_len(number: i64) -> usize
 /// # Errors
 /// Want of memory.
 pub fn not_integer_message(alloc: Global, text: &str) -> Result<Text, AllocError>
-    ensures { IfOk result (λ made. made ≡ codes "expected integer but got \"" ++ text.now ++ codes "\"") }
+    ensures { IfOk result (λ made. made
+        ≡ codes "expected integer but got \"" ++ text.now ++ codes "\"") }
 {
     quoting(alloc, "expected integer but got \"", text)
 }

@@ -1,4 +1,5 @@
-//! The texts of the Tcl command language: shared texts, and lists, numbers, truth values and indexes written in texts.
+//! The texts of the Tcl command language: shared texts, and lists, numbers, truth values and
+//! indexes written in texts.
 #![tactic(auto)]
 
 pub mod backslash;

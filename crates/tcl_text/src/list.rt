@@ -1,8 +1,11 @@
 //! Lists in texts.
-ghost use Rattle.std.specs.Prelude.{◌≡◌, ◌≢◌, ℕ, List, ◌++◌, ◌∷◌, [], ◌+◌, ◌≤◌, ◌<◌, ◌^◌, length, take, drop, Some, None, Ok, MatchOption, IfOk, IfErr, Err, not};
+ghost use Rattle.std.specs.Prelude.{◌≡◌, ◌≢◌, ℕ, List, ◌++◌, ◌∷◌, [], ◌+◌, ◌≤◌, ◌<◌, ◌^◌, length};
+ghost use Rattle.std.specs.Prelude.{take, drop, Some, None, Ok, MatchOption, IfOk, IfErr, Err, not};
 ghost use Rattle.std.specs.List.{prefix_len, take_while};
 ghost use Rattle.std.specs.Str.{chars};
-ghost use Rattle.tcl_text.specs.Lists.{is_white, close_brace, none_open, count, units, ends, offending, element_at, list_of, Spells, HasFault, Decided, OneList, OneFault, NeverBoth, GivesList, GivesFault};
+ghost use Rattle.tcl_text.specs.Lists.{is_white, close_brace, none_open, count, units, ends};
+ghost use Rattle.tcl_text.specs.Lists.{offending, element_at, list_of, Spells, HasFault, Decided};
+ghost use Rattle.tcl_text.specs.Lists.{OneList, OneFault, NeverBoth, GivesList, GivesFault};
 ghost use Rattle.tcl_text.specs.Reading.{is_plain, stop_test, Gives, IfFault};
 ghost use Rattle.tcl_text.specs.Writing.{fault_message, shown_after};
 ghost use Rattle.tcl_text.specs.declared.list.ListFault.{ListFault};
@@ -154,9 +157,11 @@ impl Braces {
     }
 }
 
-/// The text before the close brace of an open brace that stands before this text, and the text behind it.
+/// The text before the close brace of an open brace that stands before this text, and the text
+/// behind it.
 pub fn split_braced(text: &str) -> Option<(&str, &str)>
-    ensures { MatchOption result (close_brace text.now none_open ≡ None) (λ parts. close_brace text.now none_open ≡ Some (parts.0.now, parts.1.now)) }
+    ensures { MatchOption result (close_brace text.now none_open ≡ None)
+        (λ parts. close_brace text.now none_open ≡ Some (parts.0.now, parts.1.now)) }
 {
     let mut braces = Braces::NONE_OPEN;
     'bytes: for (i, byte) in text.as_bytes().iter().enumerate() {
@@ -174,18 +179,18 @@ pub fn split_braced(text: &str) -> Option<(&str, &str)>
 
 /// What ends a run of units.
 #[derive(Clone, Copy)]
-enum Stop {
+enum UnitEnd {
     White,
     Quote,
 }
 
-impl Stop {
+impl UnitEnd {
     fn is_at(self, byte: u8) -> bool
         ensures { result ≡ stop_test self byte }
     {
         match self {
-            Stop::White => is_white(byte),
-            Stop::Quote => byte == b'"',
+            UnitEnd::White => is_white(byte),
+            UnitEnd::Quote => byte == b'"',
         }
     }
 
@@ -213,13 +218,14 @@ impl Stop {
 /// What follows this ASCII character at the head of a text.
 fn strip_mark(text: &str, mark: char) -> Option<&str>
     requires { mark < 128 }
-    ensures { MatchOption result ((rest : List ℕ) → text.now ≢ mark ∷ rest) (λ rest. text.now ≡ mark ∷ rest.now) }
+    ensures { MatchOption result ((rest : List ℕ) → text.now ≢ mark ∷ rest)
+        (λ rest. text.now ≡ mark ∷ rest.now) }
 {
     text.strip_prefix(mark)
 }
 
 /// What the units up to the end of the run mean, and the text from there on.
-fn read_units(alloc: Global, text: &str, stop: Stop) -> Result<(Text, &str), AllocError>
+fn read_units(alloc: Global, text: &str, stop: UnitEnd) -> Result<(Text, &str), AllocError>
     ensures { IfOk result (λ read. units (stop_test stop) text.now 0 ≡ (read.0, read.1.now)) }
 {
     let (plain, rest) = stop.split_plain(text);
@@ -273,7 +279,7 @@ fn read_element(alloc: Global, text: &str) -> Result<(Text, &str), ListError>
         return Ok((Text::new(alloc, inside)?, rest));
     }
     if let Some(inside) = strip_mark(text, '"') {
-        let (element, rest) = read_units(alloc, inside, Stop::Quote)?;
+        let (element, rest) = read_units(alloc, inside, UnitEnd::Quote)?;
         let Some(rest) = strip_mark(rest, '"') else {
             return Err(ListError::Fault(ListFault::UnmatchedQuote));
         };
@@ -283,20 +289,23 @@ fn read_element(alloc: Global, text: &str) -> Result<(Text, &str), ListError>
         }
         return Ok((element, rest));
     }
-    Ok(read_units(alloc, text, Stop::White)?)
+    Ok(read_units(alloc, text, UnitEnd::White)?)
 }
 
-/// The list that a text spells: elements in braces, in quotes or bare, with white space between them.
-/// A backslash and what follows it have their meaning in quotes and in bare elements, and nothing else is replaced.
+/// The list that a text spells: elements in braces, in quotes or bare, with white space between
+/// them. A backslash and what follows it have their meaning in quotes and in bare elements, and
+/// nothing else is replaced.
 ///
 /// # Errors
 /// The fault of a text that spells none, and want of memory.
 pub fn read_list(alloc: Global, text: &str) -> Result<Vec<Text>, ListError>
     ensures reads { Gives (λ list. list.items) result (list_of text.now) }
     ensures found { IfOk result (λ list. Spells list.items text.now) }
-    ensures only { (list : List (List ℕ)) → Spells list text.now → Gives (λ found. found.items) result (Ok list) }
+    ensures only { (list : List (List ℕ)) → Spells list text.now → Gives
+        (λ found. found.items) result (Ok list) }
     ensures fault { IfErr result (λ error. IfFault error (HasFault text.now)) }
-    ensures only_fault { (fault : ListFault) → HasFault text.now fault → Gives (λ found. found.items) result (Err fault) }
+    ensures only_fault { (fault : ListFault) → HasFault text.now fault → Gives
+        (λ found. found.items) result (Err fault) }
 {
     read_all(alloc, text)
 }

@@ -7,8 +7,8 @@ ghost use Rattle.tcl_text.specs.Writing.{escaped_byte, hash_mark, written};
 use crate::list_writing::{Form, form_of, is_comment, is_special, letter_of};
 use itoa::Buffer;
 
-/// Whether a text is an element as it is written in a list, where `first` says whether it is the list's first. This takes no
-/// memory.
+/// Whether a text is an element as it is written in a list, where `first` says whether it is the
+/// list's first. This takes no memory.
 pub fn is_written(text: &[u8], element: &str, first: bool) -> bool
     ensures { IsTrue result ↔ (text.now ≡ written first element.now) }
 {
@@ -51,7 +51,8 @@ fn is_closed(text: &[u8], inside: &[u8]) -> bool
 
 /// What stands behind the backslash of a first element that begins with `#`.
 fn behind_hash_mark(text: &[u8], comment: bool) -> Option<&[u8]>
-    ensures { MatchOption result ((rest : List ℕ) → text.now ≢ hash_mark comment ++ rest) (λ rest. text.now ≡ hash_mark comment ++ rest.now) }
+    ensures { MatchOption result ((rest : List ℕ) → text.now ≢ hash_mark comment ++ rest)
+        (λ rest. text.now ≡ hash_mark comment ++ rest.now) }
 {
     if !comment {
         return Some(text);
@@ -64,7 +65,8 @@ fn behind_hash_mark(text: &[u8], comment: bool) -> Option<&[u8]>
 
 /// What stands behind a byte that is written with a backslash where it is special.
 fn behind_byte(text: &[u8], byte: u8) -> Option<&[u8]>
-    ensures { MatchOption result ((rest : List ℕ) → text.now ≢ escaped_byte byte ++ rest) (λ rest. text.now ≡ escaped_byte byte ++ rest.now) }
+    ensures { MatchOption result ((rest : List ℕ) → text.now ≢ escaped_byte byte ++ rest)
+        (λ rest. text.now ≡ escaped_byte byte ++ rest.now) }
 {
     if !is_special(byte) {
         return match text {

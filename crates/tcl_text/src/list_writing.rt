@@ -1,8 +1,11 @@
 //! Writing a list.
-ghost use Rattle.std.specs.Prelude.{◌≡◌, ℕ, List, ◌++◌, ◌∷◌, [], ◌+◌, ◌≤◌, ◌==◌, ◌&&◌, length, take, IfOk, OnOk, OnErr, string_bytes};
+ghost use Rattle.std.specs.Prelude.{◌≡◌, ℕ, List, ◌++◌, ◌∷◌, [], ◌+◌, ◌≤◌, ◌==◌, ◌&&◌, length};
+ghost use Rattle.std.specs.Prelude.{take, IfOk, OnOk, OnErr, string_bytes};
 ghost use Rattle.std.specs.Char.{encode_utf8};
 ghost use Rattle.std.specs.List.{list_any, flat_map, count_by};
-ghost use Rattle.tcl_text.specs.Writing.{is_special, has_special, begins_with_hash, is_comment, fits_braces, form_of, letter_of, escaped_byte, written, written_list, WrittenSpells, Extends, hash_mark};
+ghost use Rattle.tcl_text.specs.Writing.{is_special, has_special, begins_with_hash, is_comment};
+ghost use Rattle.tcl_text.specs.Writing.{fits_braces, form_of, letter_of, escaped_byte, written};
+ghost use Rattle.tcl_text.specs.Writing.{written_list, WrittenSpells, Extends, hash_mark};
 
 use crate::list::{Braces, is_white};
 use crate::text::Text;
@@ -105,7 +108,8 @@ fn is_special_character(character: char) -> bool
 
 /// Adds a text with a backslash before each special character.
 fn push_escaped(out: &mut String, text: &str) -> Result<(), AllocError>
-    ensures added { OnOk result (string_bytes out.new ≡ string_bytes out.old ++ flat_map escaped_byte text.now) }
+    ensures added { OnOk result (string_bytes out.new
+        ≡ string_bytes out.old ++ flat_map escaped_byte text.now) }
     ensures kept { Extends (string_bytes out.old) (string_bytes out.new) }
 {
     let mut rest = text.chars();
@@ -116,7 +120,8 @@ fn push_escaped(out: &mut String, text: &str) -> Result<(), AllocError>
 }
 
 fn push_character(out: &mut String, character: char) -> Result<(), AllocError>
-    ensures added { OnOk result (string_bytes out.new ≡ string_bytes out.old ++ flat_map escaped_byte (encode_utf8 character)) }
+    ensures added { OnOk result (string_bytes out.new
+        ≡ string_bytes out.old ++ flat_map escaped_byte (encode_utf8 character)) }
     ensures kept { Extends (string_bytes out.old) (string_bytes out.new) }
 {
     if !is_special_character(character) {

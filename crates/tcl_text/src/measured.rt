@@ -1,7 +1,8 @@
 //! Texts whose length as elements of a list is known without reading them again as they grow.
 ghost use Rattle.std.specs.Prelude.{◌≡◌, ◌++◌, ◌≤◌, ◌+◌, ◌<◌, ◌^◌, length, Bool, List, ℕ};
 ghost use Rattle.std.specs.Bool.{OnTrue, OnFalse};
-ghost use Rattle.tcl_text.specs.Measuring.{tallied, tally_with, tally_of, fits_by, form_by, HasRoom};
+ghost use Rattle.tcl_text.specs.Measuring.{tallied, tally_with, tally_of, fits_by, form_by};
+ghost use Rattle.tcl_text.specs.Measuring.{HasRoom};
 ghost use Rattle.tcl_text.specs.Writing.{is_comment, written};
 
 use crate::list::Braces;
@@ -10,7 +11,8 @@ use crate::text::Text;
 use std::alloc::AllocError;
 use std::marker::Model;
 
-/// What the length of a text as an element of a list depends on, beside its own length and its first byte.
+/// What the length of a text as an element of a list depends on, beside its own length and its
+/// first byte.
 #[derive(Clone, Copy)]
 pub(crate) struct Tally {
     /// How many special characters it has.
@@ -97,7 +99,8 @@ impl Tally {
     /// How many bytes write the text that has this tally and so many bytes.
     fn written_len(self, len: u128, comment: bool) -> u128
         requires { len < 2 ^ 66 }
-        ensures { (first : Bool) (x : List ℕ) → self ≡ tally_of x → len ≡ length x → comment ≡ is_comment first x → result ≡ length (written first x) }
+        ensures { (first : Bool) (x : List ℕ) → self ≡ tally_of x → len ≡ length x →
+            comment ≡ is_comment first x → result ≡ length (written first x) }
     {
         match self.form(len, comment) {
             Form::Plain => len,
@@ -109,8 +112,9 @@ impl Tally {
 
 /// A text, which contracts see as the list of its bytes.
 ///
-/// It knows how many bytes write it as an element of a list, and knows it again when it has grown, without reading what stood
-/// there before. A clone shares the bytes; a text that isn't shared grows in place.
+/// It knows how many bytes write it as an element of a list, and knows it again when it has grown,
+/// without reading what stood there before. A clone shares the bytes; a text that isn't shared
+/// grows in place.
 #[derive(Drop)]
 pub struct Measured {
     text: Text,
@@ -145,7 +149,8 @@ impl Measured {
         &self.text
     }
 
-    /// How many bytes it takes as it is written in a list, where it is the first element or another.
+    /// How many bytes it takes as it is written in a list, where it is the first element or
+    /// another.
     pub fn written_len(&self, first: bool) -> usize
         ensures { result ≡ length (written first self.now) }
     {
@@ -172,21 +177,26 @@ impl Measured {
         }
     }
 
-    /// Whether more behind it, with which it has this tally, makes what is written of it longer by at most so many bytes.
+    /// Whether more behind it, with which it has this tally, makes what is written of it longer by
+    /// at most so many bytes.
     fn has_room(&self, more: &str, tally: Tally, first: bool, room: usize) -> bool
         requires { tally ≡ tally_of (self.now ++ more.now) }
-        ensures { OnTrue result (length (written first (self.now ++ more.now)) ≤ length (written first self.now) + room) }
+        ensures { OnTrue result
+            (length (written first (self.now ++ more.now)) ≤ length
+            (written first self.now) + room) }
     {
         let len = self.text.len() as u128 + more.len() as u128;
         let after = tally.written_len(len, self.is_comment_with(more, first));
         after <= self.written_len(first) as u128 + room as u128
     }
 
-    /// Adds to its end, where what is written of it, wherever it stands, is then longer by at most so many bytes: in place where the
-    /// text isn't shared. Says whether it did; where it didn't, nothing is changed.
+    /// Adds to its end, where what is written of it, wherever it stands, is then longer by at most
+    /// so many bytes: in place where the text isn't shared. Says whether it did; where it didn't,
+    /// nothing is changed.
     pub fn append_within(&mut self, more: &str, room: usize) -> bool
         ensures appended { OnTrue result (self.new ≡ self.old ++ more.now) }
-        ensures light { OnTrue result ((first : Bool) → length (written first self.new) ≤ length (written first self.old) + room) }
+        ensures light { OnTrue result ((first : Bool) →
+            length (written first self.new) ≤ length (written first self.old) + room) }
         ensures unchanged { OnFalse result (self.new ≡ self.old) }
     {
         let tally = self.tally_with(more);

@@ -1,5 +1,5 @@
 //! The commands of strings: the subcommands each by its function, `string` itself, and `format`.
-use crate::answers::{answer as told, refusal};
+use crate::answers::{answer as show, refusal};
 use std::alloc::{AllocError, Global};
 use tcl_format::command::format as format_text;
 use tcl_format::refusal::{bad_format, not_enough};
@@ -68,7 +68,7 @@ fn of_makers(
 fn of_string(alloc: Global, style: Integers, words: &[Text]) -> Result<String, AllocError> {
     match string(alloc, style, words) {
         Ok(Answer::Number(number)) => write_int(alloc, number),
-        answer => told(alloc, answer),
+        answer => show(alloc, answer),
     }
 }
 
@@ -93,6 +93,6 @@ pub(crate) fn answer(
             bad_format(alloc, text.as_str(), rest.as_str()),
         ),
         ("not_enough", []) => refusal(alloc, not_enough(alloc)),
-        _ => told(alloc, of_makers(alloc, style, verb, words)),
+        _ => show(alloc, of_makers(alloc, style, verb, words)),
     }
 }

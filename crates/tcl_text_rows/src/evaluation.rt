@@ -65,8 +65,8 @@ fn supply(
 /// The text of a value, once it is settled.
 fn settled(alloc: Global, value: Value, style: Integers) -> Result<String, AllocError> {
     match final_value(value, style) {
-        Ok(value) => told(alloc, &value.text(alloc)?),
-        Err(fault) => told(alloc, &fault.message(alloc)?),
+        Ok(value) => show(alloc, &value.text(alloc)?),
+        Err(fault) => show(alloc, &fault.message(alloc)?),
     }
 }
 
@@ -85,7 +85,7 @@ fn go_on(
         }
         Ok(Progress::Done(value)) => Ok(Some(settled(alloc, value, style)?)),
         Err(ApplyError::Memory) => Err(AllocError),
-        Err(ApplyError::Fault(fault)) => Ok(Some(told(alloc, &fault.message(alloc)?)?)),
+        Err(ApplyError::Fault(fault)) => Ok(Some(show(alloc, &fault.message(alloc)?)?)),
     }
 }
 
@@ -135,6 +135,6 @@ pub(crate) fn result(
     match parse_expr(alloc, text, style) {
         Ok(tree) => evaluated(alloc, &tree, style, again),
         Err(ExprError::Memory) => Err(AllocError),
-        Err(ExprError::Fault(fault)) => told(alloc, &fault.message(alloc, text)?),
+        Err(ExprError::Fault(fault)) => show(alloc, &fault.message(alloc, text)?),
     }
 }

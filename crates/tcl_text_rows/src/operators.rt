@@ -1,6 +1,6 @@
 //! Operators and functions applied to values that are at hand. An operator or a function is named
 //! as it is written, and `truth` is whether a text is true.
-use crate::answers::{no_call, text as told, whether};
+use crate::answers::{no_call, text as show, whether};
 use std::alloc::{AllocError, Global};
 use tcl_expr::operator::{BinaryOperator, Function, UnaryOperator};
 use tcl_operators::apply::{apply_binary, apply_func, apply_unary, truth_of};
@@ -50,9 +50,9 @@ fn value(text: &Text) -> Result<Value, AllocError> {
 /// The text of a result, or what is told of its fault.
 fn outcome(alloc: Global, outcome: Result<Value, ApplyError>) -> Result<String, AllocError> {
     match outcome {
-        Ok(value) => told(alloc, &value.text(alloc)?),
+        Ok(value) => show(alloc, &value.text(alloc)?),
         Err(ApplyError::Memory) => Err(AllocError),
-        Err(ApplyError::Fault(fault)) => told(alloc, &fault.message(alloc)?),
+        Err(ApplyError::Fault(fault)) => show(alloc, &fault.message(alloc)?),
     }
 }
 

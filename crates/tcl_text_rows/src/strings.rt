@@ -1,6 +1,6 @@
 //! The functions of strings. A verb that ends in `_nocase` is that of a call without the case of
 //! letters.
-use crate::answers::{answer as told, no_call, whether};
+use crate::answers::{answer as show, no_call, whether};
 use std::alloc::{AllocError, Global};
 use std::cmp::Ordering;
 use tcl_characters::classes::{Class, all_members};
@@ -32,7 +32,7 @@ fn class(name: &str) -> Option<Class> {
 /// A place.
 fn placed(alloc: Global, place: Option<usize>) -> Result<String, AllocError> {
     match place {
-        Some(place) => told(alloc, count_answer(alloc, place)),
+        Some(place) => show(alloc, count_answer(alloc, place)),
         None => String::from_str(alloc, "none"),
     }
 }

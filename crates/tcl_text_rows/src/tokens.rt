@@ -1,5 +1,5 @@
 //! The tokens that expressions begin with.
-use crate::answers::{no_call, text as told};
+use crate::answers::{no_call, text as show};
 use std::alloc::{AllocError, Global};
 use tcl_expr::fault::{ExprError, ExprFault};
 use tcl_expr::lexer::{Lexed, next_token};
@@ -107,7 +107,7 @@ pub(crate) fn first(
         Ok(Lexed::Ended) => String::from_str(alloc, "end"),
         Ok(Lexed::Read(token, rest)) => token_and_rest(alloc, &token, rest),
         Err(ExprError::Memory) => Err(AllocError),
-        Err(ExprError::Fault(fault)) => told(alloc, &fault.message(alloc, text)?),
+        Err(ExprError::Fault(fault)) => show(alloc, &fault.message(alloc, text)?),
     }
 }
 
@@ -140,7 +140,7 @@ fn fault_named(name: &str) -> Option<ExprFault> {
 /// What is told of a fault of an expression.
 pub(crate) fn message(alloc: Global, fault: &str, text: &str) -> Result<String, AllocError> {
     match fault_named(fault) {
-        Some(fault) => told(alloc, &fault.message(alloc, text)?),
+        Some(fault) => show(alloc, &fault.message(alloc, text)?),
         None => no_call(alloc),
     }
 }

@@ -63,7 +63,7 @@ pub(crate) fn steps(alloc: Global, text: &str, style: Integers) -> Result<String
     match parse_expr(alloc, text, style) {
         Ok(tree) => steps_of(alloc, &tree),
         Err(ExprError::Memory) => Err(AllocError),
-        Err(ExprError::Fault(fault)) => told(alloc, &fault.message(alloc, text)?),
+        Err(ExprError::Fault(fault)) => show(alloc, &fault.message(alloc, text)?),
     }
 }
 

@@ -1,5 +1,5 @@
 //! The words of commands: reading them, refusing them, and answering.
-use crate::answers::{answer as told, elements, no_call, refusal};
+use crate::answers::{answer as show, elements, no_call, refusal};
 use std::alloc::{AllocError, Global};
 use tcl_text::integer::Integers;
 use tcl_text::limit::MOST_BYTES;
@@ -51,7 +51,7 @@ fn last_read<'a>(alloc: Global, verb: &str, words: &'a [Text]) -> &'a str {
 /// The integer that a word says.
 fn integer(alloc: Global, style: Integers, word: &str) -> Result<String, AllocError> {
     match integer_word(alloc, style, word) {
-        Ok(number) => told(alloc, Ok(Answer::Number(number))),
+        Ok(number) => show(alloc, Ok(Answer::Number(number))),
         Err(refused) => refusal(alloc, refused),
     }
 }
@@ -88,10 +88,10 @@ fn of_word(alloc: Global, style: Integers, verb: &str, word: &str) -> Result<Str
     match verb {
         "integer_word" => integer(alloc, style, word),
         "list_word" => list(alloc, word),
-        "text_answer" => told(alloc, text_answer(alloc, word)),
+        "text_answer" => show(alloc, text_answer(alloc, word)),
         "string_answer" => {
             let string = String::from_str(alloc, word)?;
-            told(alloc, string_answer(alloc, string))
+            show(alloc, string_answer(alloc, string))
         }
         "limited" => within(alloc, word),
         _ => no_call(alloc),
@@ -120,7 +120,7 @@ fn of_count(
     words: &[Text],
 ) -> Result<String, AllocError> {
     match (verb, words) {
-        ("count_answer", []) => told(alloc, count_answer(alloc, count)),
+        ("count_answer", []) => show(alloc, count_answer(alloc, count)),
         ("index_word", [word]) => index(alloc, style, count, word.as_str()),
         _ => no_call(alloc),
     }

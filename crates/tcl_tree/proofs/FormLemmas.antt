@@ -12,8 +12,8 @@ use Rattle.tcl_tree.specs.Order.{FirstOfLimit, FirstOfDepth, FirstOfDepthLimit, 
 use Rattle.tcl_interpreter.specs.Own.{Own}
 use Rattle.tcl_tree.specs.TreeOf.{tree_of}
 use Rattle.tcl_interpreter.specs.declared.node.Node.{Node}
-use Rattle.tcl_interpreter.specs.declared.refusal.Refusal.{Refusal}
-use Rattle.tcl_interpreter.specs.declared.refusal.Refusal.TheVariants.{Memory, BadName, BadCount, NoInterpreter, Exists, InUse, Denied, NoCommand, NoHidden, TooMany, CountLimit, DepthLimit, BadDepthLimit}
+use Rattle.tcl_interpreter.specs.declared.refusal.TreeError.{TreeError}
+use Rattle.tcl_interpreter.specs.declared.refusal.TreeError.TheVariants.{Memory, BadName, BadCount, NoInterpreter, Exists, InUse, Denied, NoCommand, NoHidden, TooMany, CountLimit, DepthLimit, BadDepthLimit}
 use Rattle.tcl_tree.specs.declared.tree.Tree.{Tree}
 use Rattle.tcl_tree.proofs.HeapLemmas.{tree-at, tree-none}
 
@@ -47,7 +47,7 @@ most_of_depth t p v e =
     subst (λ (u : NodeView). u.depth_limit ≤ most_depth) s.view s.node.state.most
 
 -- what is refused where the interpreter that is to be limited was found
-pub deepen_refused : (e : Refusal) (f : Path → Option NodeView) (p down : Path) (limit : ℕ) → RefusesToDeepen e f (p ++ down) limit → RefusesDepthLimit e f p down limit
+pub deepen_refused : (e : TreeError) (f : Path → Option NodeView) (p down : Path) (limit : ℕ) → RefusesToDeepen e f (p ++ down) limit → RefusesDepthLimit e f p down limit
 deepen_refused Denied f p down limit h = inr h
 deepen_refused BadDepthLimit f p down limit h = h
 deepen_refused Memory f p down limit h = absurd h
@@ -63,29 +63,29 @@ deepen_refused (CountLimit n) f p down limit h = absurd h
 deepen_refused (DepthLimit n) f p down limit h = absurd h
 
 -- what is refused to an interpreter that isn't trusted
-pub untrusted_limit : (e : Refusal) (f : Path → Option NodeView) (p down : Path) (limit : Option ℕ) → Untrusted e f p → RefusesLimit e f p down limit
-untrusted_limit e f p down limit (inl w) = subst (λ (x : Refusal). RefusesLimit x f p down limit) (sym w.0) (inl w.1)
-untrusted_limit e f p down limit (inr w) = subst (λ (x : Refusal). RefusesLimit x f p down limit) (sym w.0) (w.1, w.2, inl w.3)
+pub untrusted_limit : (e : TreeError) (f : Path → Option NodeView) (p down : Path) (limit : Option ℕ) → Untrusted e f p → RefusesLimit e f p down limit
+untrusted_limit e f p down limit (inl w) = subst (λ (x : TreeError). RefusesLimit x f p down limit) (sym w.0) (inl w.1)
+untrusted_limit e f p down limit (inr w) = subst (λ (x : TreeError). RefusesLimit x f p down limit) (sym w.0) (w.1, w.2, inl w.3)
 
-pub untrusted_depth : (e : Refusal) (f : Path → Option NodeView) (p down : Path) (limit : ℕ) → Untrusted e f p → RefusesDepthLimit e f p down limit
-untrusted_depth e f p down limit (inl w) = subst (λ (x : Refusal). RefusesDepthLimit x f p down limit) (sym w.0) (inl w.1)
-untrusted_depth e f p down limit (inr w) = subst (λ (x : Refusal). RefusesDepthLimit x f p down limit) (sym w.0) (inl (w.1, w.2, w.3))
+pub untrusted_depth : (e : TreeError) (f : Path → Option NodeView) (p down : Path) (limit : ℕ) → Untrusted e f p → RefusesDepthLimit e f p down limit
+untrusted_depth e f p down limit (inl w) = subst (λ (x : TreeError). RefusesDepthLimit x f p down limit) (sym w.0) (inl w.1)
+untrusted_depth e f p down limit (inr w) = subst (λ (x : TreeError). RefusesDepthLimit x f p down limit) (sym w.0) (inl (w.1, w.2, w.3))
 
 -- ## What comes first
 
-pub first_limit : (e : Refusal) (f : Path → Option NodeView) (p down : Path) (limit : Option ℕ) → Untrusted e f p → FirstOfLimit e f p down limit
-first_limit e f p down limit (inl w) = subst (λ (x : Refusal). FirstOfLimit x f p down limit) (sym w.0) (inl w.1)
-first_limit e f p down limit (inr w) = subst (λ (x : Refusal). FirstOfLimit x f p down limit) (sym w.0) (inl (w.1, w.2, w.3))
+pub first_limit : (e : TreeError) (f : Path → Option NodeView) (p down : Path) (limit : Option ℕ) → Untrusted e f p → FirstOfLimit e f p down limit
+first_limit e f p down limit (inl w) = subst (λ (x : TreeError). FirstOfLimit x f p down limit) (sym w.0) (inl w.1)
+first_limit e f p down limit (inr w) = subst (λ (x : TreeError). FirstOfLimit x f p down limit) (sym w.0) (inl (w.1, w.2, w.3))
 
-pub first_depth : (e : Refusal) (f : Path → Option NodeView) (p down : Path) (limit : ℕ) → Untrusted e f p → FirstOfDepthLimit e f p down limit
-first_depth e f p down limit (inl w) = subst (λ (x : Refusal). FirstOfDepthLimit x f p down limit) (sym w.0) (inl w.1)
-first_depth e f p down limit (inr w) = subst (λ (x : Refusal). FirstOfDepthLimit x f p down limit) (sym w.0) (inl (w.1, w.2, w.3))
+pub first_depth : (e : TreeError) (f : Path → Option NodeView) (p down : Path) (limit : ℕ) → Untrusted e f p → FirstOfDepthLimit e f p down limit
+first_depth e f p down limit (inl w) = subst (λ (x : TreeError). FirstOfDepthLimit x f p down limit) (sym w.0) (inl w.1)
+first_depth e f p down limit (inr w) = subst (λ (x : TreeError). FirstOfDepthLimit x f p down limit) (sym w.0) (inl (w.1, w.2, w.3))
 
-pub first_asked : (e : Refusal) (f : Path → Option NodeView) (p down : Path) (change : Own → Named) → Untrusted e f p ⊎ (IsTrusted f p × Nowhere e f (p ++ down)) → FirstOfAsked e f p down change
+pub first_asked : (e : TreeError) (f : Path → Option NodeView) (p down : Path) (change : Own → Named) → Untrusted e f p ⊎ (IsTrusted f p × Nowhere e f (p ++ down)) → FirstOfAsked e f p down change
 first_asked e f p down change (inl w) = inl w
 first_asked e f p down change (inr w) = inr (w.0, inl w.1)
 
-pub first_deepen : (e : Refusal) (f : Path → Option NodeView) (p down : Path) (limit : ℕ) → IsTrusted f p → FirstOfDepth e f (p ++ down) limit → FirstOfDepthLimit e f p down limit
+pub first_deepen : (e : TreeError) (f : Path → Option NodeView) (p down : Path) (limit : ℕ) → IsTrusted f p → FirstOfDepth e f (p ++ down) limit → FirstOfDepthLimit e f p down limit
 first_deepen Denied f p down limit t h = inr (t, h)
 first_deepen BadDepthLimit f p down limit t h = (t, h)
 first_deepen Memory f p down limit t h = absurd h

@@ -14,7 +14,7 @@ use Rattle.tcl_tree.specs.declared.tree.Tree.{Tree}
 use Rattle.tcl_interpreter.specs.declared.naming.Naming.{Naming}
 use Rattle.tcl_interpreter.specs.declared.node.Node.{Node}
 use Rattle.tcl_interpreter.specs.declared.node.State.{State}
-use Rattle.tcl_interpreter.specs.declared.refusal.Refusal.{Refusal}
+use Rattle.tcl_interpreter.specs.declared.refusal.TreeError.{TreeError}
 pub use Rattle.tcl_interpreter.proofs.Outcomes.{if_ok_map}
 use Rattle.tcl_tree.proofs.HeapLemmas.{SamePlace}
 use Rattle.tcl_tree.proofs.StepLemmas.{tree_some, tree_write}
@@ -44,7 +44,7 @@ module _ (s : Slab Node) (root : ℕ) (sound : IsSound (slab.get s) root) (p : P
       → tree_in (slab.get (slab.with_value s k (with_state node new))) root ≡ tree_in (slab.get s) root
   unnamed_write same = view_write s root sound p k at node (with_state node new) is (state_place node new safe) (sym (same (keys node.children)))
 
-pub refused_naming : (h : Heap) (root : ℕ) (p : Path) (k : ℕ) → follow h root p ≡ Some k → (node : Node) (new : State) → h k ≡ Some node → (naming : Naming) (e : Refusal)
+pub refused_naming : (h : Heap) (root : ℕ) (p : Path) (k : ℕ) → follow h root p ≡ Some k → (node : Node) (new : State) → h k ≡ Some node → (naming : Naming) (e : TreeError)
     → StaysSo naming e node.state new → RefusesSo naming e (tree_in h root) p
 refused_naming h root p k at node new is naming e stays = λ v here.
     let v_is : v ≡ view_of node = same_Some _ _ (sym here ∙ tree_some h root p k node at is) in
@@ -73,10 +73,10 @@ standing t p k at = by (tree_of t p) refl (tree_there t p k at)
     by None e h = let x : false ≡ true = h in cc
     by (Some v) e h = (v, e)
 
-pub refuses_at : (t : Tree) (p : Path) (k : ℕ) → key_of t p ≡ Some k → (f : Own → Named) (e : Refusal) → RefusesNaming e (tree_of t) p f → RefusesAt e (tree_of t) p f
+pub refuses_at : (t : Tree) (p : Path) (k : ℕ) → key_of t p ≡ Some k → (f : Own → Named) (e : TreeError) → RefusesNaming e (tree_of t) p f → RefusesAt e (tree_of t) p f
 refuses_at t p k at f e h = let w = standing t p k at in inr (w.0, w.1, h w.0 w.1)
 
-pub refuses_there : (t : Tree) (p : Path) (k : ℕ) → key_of t p ≡ Some k → (f : Own → Named) (e : Refusal) → Refuses e (tree_of t) p f → RefusesThere e (tree_of t) p f
+pub refuses_there : (t : Tree) (p : Path) (k : ℕ) → key_of t p ≡ Some k → (f : Own → Named) (e : TreeError) → Refuses e (tree_of t) p f → RefusesThere e (tree_of t) p f
 refuses_there t p k at f e h = let w = standing t p k at in inr (w.0, w.1, h w.0 w.1)
 
 pub always_ok : {T E P : Type 0} (r : Result T E) → P → OnOk r P

@@ -1,10 +1,12 @@
 -- Copies of what stands at a key of a table and below it, in a table of their own.
-use Rattle.std.specs.Prelude.{◌≡◌, ◌⊎◌, ℕ, suc, ◌+◌, ◌-◌, ◌^◌, List, [], ◌∷◌, drop, length, take, Option, Some, None, slice_get}
+use Rattle.std.specs.Prelude.{◌≡◌, ◌⊎◌, ℕ, suc, ◌+◌, ◌-◌, ◌^◌, List, [], ◌∷◌, drop, length, take}
+use Rattle.std.specs.Prelude.{Option, Some, None, slice_get}
 use Rattle.indexmap.specs.IndexMap.{keys}
 use Rattle.slab.specs.Slab as slab
 use Rattle.slab.specs.Slab.{Slab}
 use Rattle.tcl_interpreter.specs.Paths.{Text, Path}
-use Rattle.tcl_tree.specs.Nodes.{Heap, Joined, IsSound, IsGuarded, state_view, child_in, children_in, follow, level_in, tree_in}
+use Rattle.tcl_tree.specs.Nodes.{Heap, Joined, IsSound, IsGuarded, state_view, child_in}
+use Rattle.tcl_tree.specs.Nodes.{children_in, follow, level_in, tree_in}
 use Rattle.tcl_interpreter.specs.Copying.{IsBare}
 use Rattle.tcl_tree.specs.Walking.{entries_in, sum_of, weight}
 use Rattle.tcl_interpreter.specs.declared.node.Node.{Node}
@@ -44,7 +46,8 @@ pub record Adds (h : Heap) (s t : Slab Node) (k twin c d : ℕ) : Type 0 where
 pub record IsPart (h g : Heap) (top root : ℕ) : Type 0 where
   pub sound : IsSound g root
   pub guarded : IsGuarded g
-  pub like : (p : Path) (k t : ℕ) → follow h top p ≡ Some k → follow g root p ≡ Some t → IsLike h g k t
+  pub like : (p : Path) (k t : ℕ) → follow h top p ≡ Some k → follow g root p ≡ Some t →
+      IsLike h g k t
 
 -- all of it
 pub record IsCopy (h g : Heap) (top root : ℕ) : Type 0 where
@@ -61,17 +64,20 @@ abbrev pub IsListed : List (ℕ × ℕ) → ℕ → ℕ → Type 0
 IsListed [] k t = Prim.⊥
 IsListed (x ∷ xs) k t = (x ≡ (k, t)) ⊎ IsListed xs k t
 
--- A walk has come so far: what was copied is a part, names lead to what is listed, and what isn't whole is listed.
+-- A walk has come so far: what was copied is a part, names lead to what is listed, and what isn't
+-- whole is listed.
 pub record IsWalk (h g : Heap) (top root : ℕ) (open_keys : List (ℕ × ℕ)) : Type 0 where
   pub part : IsPart h g top root
   pub pairs : (k t : ℕ) → IsListed open_keys k t → IsPair h g top root k t
-  pub each : (p : Path) (k t : ℕ) → follow h top p ≡ Some k → follow g root p ≡ Some t → IsWhole h g k t ⊎ IsListed open_keys k t
+  pub each : (p : Path) (k t : ℕ) → follow h top p ≡ Some k → follow g root p ≡ Some t →
+      IsWhole h g k t ⊎ IsListed open_keys k t
 
 -- ## How much is left to be copied
 
 -- below one: one, and what is at the children that the copy lacks and below these
 abbrev pub left_at : Heap → Heap → ℕ → ℕ → ℕ
-left_at h g k t = 1 + sum_of (weight (2 ^ 64 - suc (level_in h k)) h) (drop (children_in g t) (entries_in h k))
+left_at h g k t = 1 + sum_of (weight (2 ^ 64 - suc (level_in h k)) h)
+    (drop (children_in g t) (entries_in h k))
 
 abbrev pub left_of : Heap → Heap → List (ℕ × ℕ) → ℕ
 left_of h g [] = 0

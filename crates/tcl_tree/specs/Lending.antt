@@ -22,8 +22,10 @@ LendsFrames s r = Lends node_row frames_row s r (with_frames s.now)
 
 -- the table with these frames at the node of the key
 abbrev pub with_frames_at : Slab Node → ℕ → Chain → Slab Node
-with_frames_at s key chain = option_map_or (λ node. slab.with_value s key (with_frames node chain)) (slab.get s key) s
+with_frames_at s key chain = option_map_or
+    (λ node. slab.with_value s key (with_frames node chain)) (slab.get s key) s
 
 -- the same for the node at a key
 abbrev pub LendsFramesAt : MutBor (Slab Node) → ℕ → Option (MutBor Chain) → Fml
-LendsFramesAt s key r = LendsIf (slab_row node_row global_row ghosts) frames_row s r (with_frames_at s.now key) s.now
+LendsFramesAt s key r = LendsIf (slab_row node_row global_row ghosts) frames_row s r
+    (with_frames_at s.now key) s.now

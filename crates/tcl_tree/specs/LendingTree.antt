@@ -22,10 +22,14 @@ pub record HasFrames (old new : Tree) (p : Path) (chain : Chain) : Type 0 where
   pub keys : (q : Path) → key_of new q ≡ key_of old q
   pub marks : marks_of new ≡ marks_of old
 
--- Once the borrow ends, the interpreter at the path has the frames that were left; at `None` the tree is as it was.
+-- Once the borrow ends, the interpreter at the path has the frames that were left; at `None` the
+-- tree is as it was.
 abbrev pub LendsFramesOf : MutBor Tree → Path → Option (MutBor Chain) → Fml
-LendsFramesOf s p r = LendsSo the_row frames_row s r (λ n w. IsSome r → HasFrames s.now n p w) (λ n. IsAsBefore s.now n)
+LendsFramesOf s p r = LendsSo the_row frames_row s r (λ n w. IsSome r → HasFrames s.now n p w)
+    (λ n. IsAsBefore s.now n)
 
 -- the same at each path of a place
 abbrev pub LendsFramesIn : MutBor Tree → Place → Option (MutBor Chain) → Fml
-LendsFramesIn s place r = LendsSo the_row frames_row s r (λ n w. IsSome r → (p : Path) → Names s.now place p → HasFrames s.now n p w) (λ n. IsAsBefore s.now n)
+LendsFramesIn s place r = LendsSo the_row frames_row s r
+    (λ n w. IsSome r → (p : Path) → Names s.now place p → HasFrames s.now n p w)
+    (λ n. IsAsBefore s.now n)

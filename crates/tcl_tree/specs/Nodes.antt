@@ -1,5 +1,6 @@
 -- What a contract sees of a table of interpreters.
-use Rattle.std.specs.Prelude.{◌≡◌, ℕ, ◌+◌, ◌^◌, ◌<◌, ◌≤◌, ◌&&◌, Bool, true, false, cond, nat_lt, List, [], ◌∷◌, ◌++◌, length, Option, Some, None, IfSome}
+use Rattle.std.specs.Prelude.{◌≡◌, ℕ, ◌+◌, ◌^◌, ◌<◌, ◌≤◌, ◌&&◌, Bool, true, false, cond, nat_lt}
+use Rattle.std.specs.Prelude.{List, [], ◌∷◌, ◌++◌, length, Option, Some, None, IfSome}
 use Rattle.std.specs.Option.{option_and_then, option_map, option_map_or}
 use Rattle.std.specs.Str.{bytes_eq}
 use Rattle.indexmap.specs.IndexMap.{get, keys}
@@ -7,7 +8,10 @@ use Rattle.std.specs.Map.{keys_of}
 use Rattle.slab.specs.Slab as slab
 use Rattle.slab.specs.Slab.{Slab}
 use Rattle.tcl_interpreter.specs.Paths.{Text, Path, is_above, ancestor, with_node}
-pub use Rattle.tcl_interpreter.specs.Nodes.{NodeView, own_view, state_view, view_of, new_view, full_of, moved, with_child, without_child, Shape, shape_of, shape_at, SameTable, Attached, Joined, Detached}
+pub use Rattle.tcl_interpreter.specs.Nodes.{NodeView, own_view, state_view, view_of, new_view}
+pub use Rattle.tcl_interpreter.specs.Nodes.{full_of, moved, with_child, without_child, Shape}
+pub use Rattle.tcl_interpreter.specs.Nodes.{shape_of, shape_at, SameTable, Attached, Joined}
+pub use Rattle.tcl_interpreter.specs.Nodes.{Detached}
 use Rattle.tcl_interpreter.specs.declared.node.Node.{Node}
 
 -- what stands at each key
@@ -43,7 +47,8 @@ pub record IsSound (h : Heap) (root : ℕ) : Type 0 where
   pub down : (k : ℕ) (n : Text) (c : ℕ) → child_in h k n ≡ Some c → link_in h c ≡ Some (Some (k, n))
   pub up : (c k : ℕ) (n : Text) → link_in h c ≡ Some (Some (k, n)) → child_in h k n ≡ Some c
   pub alone : (c : ℕ) → link_in h c ≡ Some None → c ≡ root
-  pub levels : (k : ℕ) (n : Text) (c : ℕ) → child_in h k n ≡ Some c → level_in h c ≡ level_in h k + 1
+  pub levels : (k : ℕ) (n : Text) (c : ℕ) → child_in h k n ≡ Some c → level_in h c ≡ level_in
+      h k + 1
   pub fits : (k : ℕ) → level_in h k < 2 ^ 64
 
 -- whether the interpreter is safe, and how many children it has
@@ -55,7 +60,8 @@ children_in h k = option_map_or (λ node. length (keys node.children)) (h k) 0
 
 -- a child of a safe interpreter is safe, and none has more than 256 children
 pub record IsGuarded (h : Heap) : Type 0 where
-  pub safe : (k : ℕ) (n : Text) (c : ℕ) → child_in h k n ≡ Some c → safe_in h k ≡ true → safe_in h c ≡ true
+  pub safe : (k : ℕ) (n : Text) (c : ℕ) → child_in h k n ≡ Some c → safe_in h k ≡ true → safe_in
+      h c ≡ true
   pub few : (k : ℕ) → children_in h k ≤ 256
 
 abbrev pub Tree_fn : Type 0
@@ -69,7 +75,8 @@ unfoldable pub pruned : Tree_fn → Path → Text → Tree_fn
 pruned f p n = with_node (with_node f p (option_map (without_child n) (f p))) (p ++ n ∷ []) None
 
 unfoldable pub deleted : Tree_fn → Path → Text → Tree_fn
-deleted f p n q = cond (is_above (p ++ n ∷ []) q) None (with_node f p (option_map (without_child n) (f p)) q)
+deleted f p n q = cond (is_above (p ++ n ∷ []) q) None
+    (with_node f p (option_map (without_child n) (f p)) q)
 
 unfoldable pub charged : (NodeView → NodeView) → Tree_fn → Path → Tree_fn
 charged once f p q = cond (is_above q p) (option_map once (f q)) (f q)
@@ -86,10 +93,11 @@ unfoldable pub full_up : (NodeView → Bool) → Tree_fn → Path → ℕ → Bo
 full_up full f p level = option_map_or full (f (ancestor p level)) false
 
 -- the node so many levels up is full, and none below it is
-pub record IsNearestFull (full : NodeView → Bool) (f : Tree_fn) (p : Path) (level : ℕ) : Type 0 where
-  pub within : level ≤ length p
-  pub here : full_up full f p level ≡ true
-  pub below : (m : ℕ) → m < level → full_up full f p m ≡ false
+pub record IsNearestFull (full : NodeView → Bool) (f : Tree_fn) (p : Path) (level : ℕ) : Type 0
+  where
+    pub within : level ≤ length p
+    pub here : full_up full f p level ≡ true
+    pub below : (m : ℕ) → m < level → full_up full f p m ≡ false
 
 -- no node above the path is full, nor the one there
 abbrev pub NoneFull : (NodeView → Bool) → Tree_fn → Path → Type 0
@@ -97,4 +105,5 @@ NoneFull full f p = (m : ℕ) → m ≤ length p → full_up full f p m ≡ fals
 
 -- the tree in which the lowest so many nodes above the path are charged
 unfoldable pub charged_below : (NodeView → NodeView) → Tree_fn → Path → ℕ → Tree_fn
-charged_below once f p count q = cond (is_above q p && nat_lt (length p) (length q + count)) (option_map once (f q)) (f q)
+charged_below once f p count q = cond (is_above q p && nat_lt (length p) (length q + count))
+    (option_map once (f q)) (f q)

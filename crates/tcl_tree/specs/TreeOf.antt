@@ -21,7 +21,8 @@ key_of t = follow (get t.nodes) t.root
 abbrev pub Names : Tree → Place → Path → Type 0
 Names t place p = key_of t p ≡ Some place.key
 
--- The table, whose keys the tree follows: `key_of` is where its names lead from the key of the root.
+-- The table, whose keys the tree follows: `key_of` is where its names lead from the key of the
+-- root.
 abbrev pub table_of : Tree → Slab Node
 table_of t = t.nodes
 
@@ -40,4 +41,12 @@ alone n (x ∷ p) = None
 
 -- the root of a new tree
 abbrev pub new_root : NodeView
-new_root = record { own = new_own false; safe = false; root = true; count = 0; limit = None; depth = 0; depth_limit = 1000 }
+new_root = record {
+  own = new_own false;
+  safe = false;
+  root = true;
+  count = 0;
+  limit = None;
+  depth = 0;
+  depth_limit = 1000;
+}

@@ -1,5 +1,7 @@
--- Walks through two tables at once: an interpreter, what is below it, and then what comes behind it.
-use Rattle.std.specs.Prelude.{◌≡◌, ℕ, zero, suc, ◌+◌, ◌-◌, ◌^◌, ◌<◌, List, [], ◌∷◌, drop, Option, Some, slice_get}
+-- Walks through two tables at once: an interpreter, what is below it, and then what comes behind
+-- it.
+use Rattle.std.specs.Prelude.{◌≡◌, ℕ, zero, suc, ◌+◌, ◌-◌, ◌^◌, ◌<◌, List, [], ◌∷◌, drop, Option}
+use Rattle.std.specs.Prelude.{Some, slice_get}
 use Rattle.std.specs.Option.{option_and_then, option_map_or}
 use Rattle.std.specs.List.{IsDistinct}
 use Rattle.std.specs.Str.{bytes_eq}
@@ -18,11 +20,14 @@ parent_in h k = option_and_then (λ node. node.parent) (h k)
 
 -- the child that comes behind the one of this name
 abbrev pub behind_in : Heap → ℕ → Text → Option ℕ
-behind_in h k n = option_and_then (λ node. option_and_then (λ i. slice_get (values node.children) (i + 1)) (index_of bytes_eq node.children n)) (h k)
+behind_in h k n = option_and_then
+    (λ node. option_and_then (λ i. slice_get (values node.children) (i + 1))
+    (index_of bytes_eq node.children n)) (h k)
 
 -- the child of the same parent that comes behind
 abbrev pub sibling_in : Heap → ℕ → Option ℕ
-sibling_in h k = option_and_then (λ node. option_and_then (λ p. behind_in h p node.name) node.parent) (h k)
+sibling_in h k = option_and_then
+    (λ node. option_and_then (λ p. behind_in h p node.name) node.parent) (h k)
 
 -- the subtrees at two keys are equal
 abbrev pub SameBelow : Heap → Heap → ℕ → ℕ → Type 0
@@ -30,10 +35,12 @@ SameBelow h g k t = (q : Path) → tree_in h k q ≡ tree_in g t q
 
 -- so are those of the first so many children
 abbrev pub SameChildren : Heap → Heap → Node → Node → ℕ → Type 0
-SameChildren h g this that count = (i : ℕ) (n : Text) (c d : ℕ) → i < count → slice_get this.children.entries i ≡ Some (n, c)
+SameChildren h g this that count = (i : ℕ) (n : Text) (c d : ℕ) → i < count →
+    slice_get this.children.entries i ≡ Some (n, c)
     → get bytes_eq that.children n ≡ Some d → SameBelow h g c d
 
--- two interpreters that are equal by themselves have these children at the same place, and what is below the children before them is equal
+-- two interpreters that are equal by themselves have these children at the same place, and what is
+-- below the children before them is equal
 pub record Twins (h g : Heap) (k t i c d : ℕ) : Type 0 where
   pub this : Node
   pub that : Node
@@ -49,7 +56,8 @@ pub record Twins (h g : Heap) (k t i c d : ℕ) : Type 0 where
 -- A walk from two roots has come to two keys, and all that it came by is equal.
 pub data Reached (h g : Heap) (root twin : ℕ) : ℕ → ℕ → Type 0 where
   Tops : Reached h g root twin root twin
-  Children : {k t i c d : ℕ} → Reached h g root twin k t → Twins h g k t i c d → Reached h g root twin c d
+  Children : {k t i c d : ℕ} → Reached h g root twin k t → Twins h g k t i c d →
+      Reached h g root twin c d
 
 -- ## How much of a walk is left
 
@@ -58,7 +66,9 @@ entries_in h k = option_map_or (λ node. node.children.entries) (h k) []
 
 -- those behind the one of this name
 abbrev pub entries_behind : Heap → ℕ → Text → List (Text × ℕ)
-entries_behind h k n = option_map_or (λ node. option_map_or (λ i. drop (suc i) node.children.entries) (index_of bytes_eq node.children n) []) (h k) []
+entries_behind h k n = option_map_or
+    (λ node. option_map_or (λ i. drop (suc i) node.children.entries)
+    (index_of bytes_eq node.children n) []) (h k) []
 
 abbrev pub sum_of : (ℕ → ℕ) → List (Text × ℕ) → ℕ
 sum_of f [] = 0
@@ -71,12 +81,16 @@ weight (suc m) h k = 2 + sum_of (weight m h) (entries_in h k)
 
 -- the parent with the name
 abbrev pub link_above : Heap → ℕ → Option (ℕ × Text)
-link_above h k = option_and_then (λ node. option_and_then (λ p. Some (p, node.name)) node.parent) (h k)
+link_above h k = option_and_then
+    (λ node. option_and_then (λ p. Some (p, node.name)) node.parent) (h k)
 
--- what comes behind a key so many levels down, and behind those above it, where there are so many levels in all: the weights, and one for each level
+-- what comes behind a key so many levels down, and behind those above it, where there are so many
+-- levels in all: the weights, and one for each level
 unfoldable pub weight_behind : ℕ → ℕ → Heap → ℕ → ℕ
 weight_behind all zero h k = 0
-weight_behind all (suc level) h k = option_map_or (λ l. 1 + sum_of (weight (all - suc level) h) (entries_behind h l.0 l.1) + weight_behind all level h l.0) (link_above h k) 0
+weight_behind all (suc level) h k = option_map_or
+    (λ l. 1 + sum_of (weight (all - suc level) h) (entries_behind h l.0 l.1) + weight_behind all
+    level h l.0) (link_above h k) 0
 
 -- what of a walk is left behind a key, and what from there on
 abbrev pub left_behind : Heap → ℕ → ℕ

@@ -1,5 +1,6 @@
 //! The table of interpreters.
-ghost use Rattle.std.specs.Prelude.{◌≡◌, ◌++◌, ◌∷◌, List, ℕ, Bool, true, [], IfOk, IfSome, IfNone, IfErr, OnOk, OnErr, Some, None, option_map, is_some};
+ghost use Rattle.std.specs.Prelude.{◌≡◌, ◌++◌, ◌∷◌, List, ℕ, Bool, true, [], IfOk, IfSome, IfNone};
+ghost use Rattle.std.specs.Prelude.{IfErr, OnOk, OnErr, Some, None, option_map, is_some};
 ghost use Rattle.std.specs.Option.{option_copied};
 ghost use Rattle.slab.specs.Slab.{get};
 ghost use Rattle.tcl_tree.specs.Nodes.{IsSound, IsGuarded};
@@ -10,7 +11,7 @@ use slab::Slab;
 use std::alloc::{AllocError, Global};
 use std::cell::RefCell;
 use tcl_interpreter::node::{Meter, Node, State};
-use tcl_readings::readings::Readings;
+use tcl_parse_cache::readings::Readings;
 use tcl_text::integer::Integers;
 use tcl_text::text::Text;
 
@@ -34,7 +35,8 @@ pub struct Place {
 
 /// A tree of interpreters, in one table.
 ///
-/// Contracts see it as the function from paths to interpreters, `tree_of`. A path is a list of names from the root downward.
+/// Contracts see it as the function from paths to interpreters, `tree_of`. A path is a list of
+/// names from the root downward.
 pub struct Tree {
     nodes: Slab<Node>,
     root: usize,
@@ -63,7 +65,8 @@ impl Tree {
     ghost use Rattle.tcl_core.specs.Trees.{effect};
     ghost use Rattle.tcl_core.specs.Trees.What.{Charged, Nested, Unnested, Changed, Limited};
     ghost use Rattle.tcl_core.specs.Programs.{blocked, is_spent, is_deep};
-    ghost use Rattle.tcl_tree.specs.Nodes.{NoneFull, IsNearestFull, charged, full_of, moved, view_of};
+    ghost use Rattle.tcl_tree.specs.Nodes.{NoneFull, IsNearestFull, charged, full_of, moved};
+    ghost use Rattle.tcl_tree.specs.Nodes.{view_of};
     ghost use Rattle.tcl_tree.specs.TreeOf.{tree_of, key_of, marks_of, alone, new_root};
 
     /// A tree of a root alone, with the built-in commands; integer texts are read as Tcl 8 does.
@@ -72,18 +75,21 @@ impl Tree {
     /// Want of memory.
     pub fn new(alloc: Global) -> Result<Tree, AllocError>
         ensures tree { IfOk result (λ made. tree_of made ≡ alone new_root) }
-        ensures marks { IfOk result (λ made. marks_of made ≡ record { integers = Integers.Tcl8; broken = Bool.false }) }
+        ensures marks { IfOk result
+            (λ made. marks_of made ≡ record { integers = Integers.Tcl8; broken = Bool.false }) }
     {
         Tree::with_integers(alloc, Integers::Tcl8)
     }
 
-    /// A tree of a root alone, with the built-in commands, in which integer texts are read in this style.
+    /// A tree of a root alone, with the built-in commands, in which integer texts are read in this
+    /// style.
     ///
     /// # Errors
     /// Want of memory.
     pub fn with_integers(alloc: Global, integers: Integers) -> Result<Tree, AllocError>
         ensures tree { IfOk result (λ made. tree_of made ≡ alone new_root) }
-        ensures marks { IfOk result (λ made. marks_of made ≡ record { integers = integers; broken = Bool.false }) }
+        ensures marks { IfOk result
+            (λ made. marks_of made ≡ record { integers = integers; broken = Bool.false }) }
     {
         let state = State::new(alloc, false, true, MOST_DEPTH)?;
         let name = Text::new(alloc, "")?;
@@ -150,8 +156,11 @@ impl Tree {
     // How many levels up the nearest full node is.
     fn full_level(&self, key: usize, meter: Meter) -> Option<usize>
         requires { (p : List (List ℕ)) × (key_of self.now p ≡ Some key) }
-        ensures none { IfNone result ((p : List (List ℕ)) → key_of self.now p ≡ Some key → NoneFull (full_of meter) (tree_of self.now) p) }
-        ensures some { IfSome result (λ level. (p : List (List ℕ)) → key_of self.now p ≡ Some key → IsNearestFull (full_of meter) (tree_of self.now) p level) }
+        ensures none { IfNone result ((p : List (List ℕ)) → key_of self.now p ≡ Some key →
+            NoneFull (full_of meter) (tree_of self.now) p) }
+        ensures some { IfSome result
+            (λ level. (p : List (List ℕ)) → key_of self.now p ≡ Some key →
+            IsNearestFull (full_of meter) (tree_of self.now) p level) }
     {
         let mut level = 0;
         let mut at = key;
@@ -172,10 +181,12 @@ impl Tree {
 
     // Moves the meter of the node and of those above it.
     fn raise(&mut self, key: usize, meter: Meter)
-        requires { (p : List (List ℕ)) × (key_of self.old p ≡ Some key) × NoneFull (full_of meter) (tree_of self.old) p }
+        requires { (p : List (List ℕ)) × (key_of self.old p ≡ Some key) ×
+            NoneFull (full_of meter) (tree_of self.old) p }
         ensures keys { (q : List (List ℕ)) → key_of self.new q ≡ key_of self.old q }
         ensures marks { marks_of self.new ≡ marks_of self.old }
-        ensures charged { (p : List (List ℕ)) → key_of self.old p ≡ Some key → (q : List (List ℕ)) → tree_of self.new q ≡ charged (moved meter) (tree_of self.old) p q }
+        ensures charged { (p : List (List ℕ)) → key_of self.old p ≡ Some key → (q : List (List ℕ)) →
+            tree_of self.new q ≡ charged (moved meter) (tree_of self.old) p q }
     {
         let mut next = Some(key);
         'climb: while let Some(at) = next {

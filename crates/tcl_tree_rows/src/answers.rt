@@ -19,7 +19,7 @@ pub(crate) trait Told {
     ///
     /// # Errors
     /// Out of memory.
-    fn told(&self, alloc: Global) -> Result<String, AllocError>;
+    fn show(&self, alloc: Global) -> Result<String, AllocError>;
 }
 
 /// The answer of a text.
@@ -29,7 +29,7 @@ pub(crate) fn given(alloc: Global, text: &str) -> Result<Answer, AllocError> {
 
 /// The answer of a refusal.
 pub(crate) fn refused<R: Told>(alloc: Global, refusal: &R) -> Result<Answer, AllocError> {
-    Ok(Answer::Refused(refusal.told(alloc)?))
+    Ok(Answer::Refused(refusal.show(alloc)?))
 }
 
 /// The answer of a call that isn't known, which no row wants.

@@ -6,11 +6,11 @@
 use crate::answers::{
     Answer, Told, count, given, list, no_call, refused, texts_of, truth, value, written,
 };
-use crate::looks::told_command;
+use crate::looks::show_command;
 use crate::words::{place_of, style_of, value_of, values_of, words_of};
 use row_runner::World;
 use std::alloc::{AllocError, Global};
-use tcl_calls::carrying::{come_back, target_words};
+use tcl_calls::carrying::{return_to_caller, target_words};
 use tcl_calls::expressions::{holds, read_expression, settle};
 use tcl_calls::lookup::{find_command, find_hidden};
 use tcl_calls::procedures::{Binding, bind, wrong_form};
@@ -34,7 +34,7 @@ fn completed(alloc: Global, completion: &Completion) -> Result<String, AllocErro
 }
 
 impl Told for Interruption {
-    fn told(&self, alloc: Global) -> Result<String, AllocError> {
+    fn show(&self, alloc: Global) -> Result<String, AllocError> {
         match self {
             Interruption::Completed(completion) => completed(alloc, completion),
             Interruption::Stopped(stop) => format!(in alloc; "stopped {}", stop.levels_up),
@@ -58,7 +58,7 @@ pub(crate) fn ended(
 /// The answer of a command that is looked for.
 fn found(alloc: Global, command: Result<Command, Interruption>) -> Result<Answer, AllocError> {
     match command {
-        Ok(command) => told_command(alloc, Some(&command)),
+        Ok(command) => show_command(alloc, Some(&command)),
         Err(interruption) => refused(alloc, &interruption),
     }
 }
@@ -98,7 +98,7 @@ fn come_back_from(
         kind: StopKind::Count,
     });
     let down = [Text::new(alloc, "child")?];
-    Ok(come_back(tree, alloc, host, tree.root(), 0, &down, Err(stop)))
+    Ok(return_to_caller(tree, alloc, host, tree.root(), 0, &down, Err(stop)))
 }
 
 /// `back LEVELS`: how the call of a child ends at such a stop.
@@ -128,7 +128,7 @@ fn parameters(alloc: Global) -> Result<Vec<Parameter>, AllocError> {
 }
 
 /// The value of a binding, or `none`.
-fn told_binding(alloc: Global, binding: Option<&Binding>) -> Result<Answer, AllocError> {
+fn show_binding(alloc: Global, binding: Option<&Binding>) -> Result<Answer, AllocError> {
     match binding {
         Some(binding) => value(alloc, &binding.value),
         None => given(alloc, "none"),
@@ -139,7 +139,7 @@ fn told_binding(alloc: Global, binding: Option<&Binding>) -> Result<Answer, Allo
 /// or `none`.
 fn bound(alloc: Global, place: usize, args: &[Value]) -> Result<Answer, AllocError> {
     match bind(alloc, &parameters(alloc)?, args) {
-        Ok(Some(bindings)) => told_binding(alloc, bindings.get(place)),
+        Ok(Some(bindings)) => show_binding(alloc, bindings.get(place)),
         Ok(None) => given(alloc, "none"),
         Err(interruption) => refused(alloc, &interruption),
     }

@@ -19,7 +19,7 @@ use tcl_variables::fault::FrameError;
 use tcl_variables::name_map::NameMap;
 
 impl Told for FrameError {
-    fn told(&self, alloc: Global) -> Result<String, AllocError> {
+    fn show(&self, alloc: Global) -> Result<String, AllocError> {
         match self {
             FrameError::Fault(fault) => String::from_str(alloc, fault.message(alloc)?.as_str()),
             FrameError::Memory => Err(AllocError),
@@ -28,7 +28,7 @@ impl Told for FrameError {
 }
 
 /// The answer of a truth value.
-fn told_truth(alloc: Global, is_so: Result<bool, FrameError>) -> Result<Answer, AllocError> {
+fn show_truth(alloc: Global, is_so: Result<bool, FrameError>) -> Result<Answer, AllocError> {
     match is_so {
         Ok(is_so) => truth(alloc, is_so),
         Err(error) => refused(alloc, &error),
@@ -36,7 +36,7 @@ fn told_truth(alloc: Global, is_so: Result<bool, FrameError>) -> Result<Answer, 
 }
 
 /// The answer of a count.
-fn told_count(alloc: Global, counted: Result<usize, FrameError>) -> Result<Answer, AllocError> {
+fn show_count(alloc: Global, counted: Result<usize, FrameError>) -> Result<Answer, AllocError> {
     match counted {
         Ok(counted) => count(alloc, counted),
         Err(error) => refused(alloc, &error),
@@ -44,7 +44,7 @@ fn told_count(alloc: Global, counted: Result<usize, FrameError>) -> Result<Answe
 }
 
 /// The answer of a value that is lent.
-pub(crate) fn told_value(
+pub(crate) fn show_value(
     alloc: Global,
     lent: Result<&Value, FrameError>,
 ) -> Result<Answer, AllocError> {
@@ -55,7 +55,7 @@ pub(crate) fn told_value(
 }
 
 /// The answer of keys.
-fn told_keys(alloc: Global, keys: Result<Vec<Text>, FrameError>) -> Result<Answer, AllocError> {
+fn show_keys(alloc: Global, keys: Result<Vec<Text>, FrameError>) -> Result<Answer, AllocError> {
     match keys {
         Ok(keys) => list(alloc, &keys),
         Err(error) => refused(alloc, &error),
@@ -73,7 +73,7 @@ fn flat(alloc: Global, elements: &[(Text, Value)]) -> Result<Vec<Text>, AllocErr
 }
 
 /// The answer of elements.
-fn told_elements(
+fn show_elements(
     alloc: Global,
     elements: Result<Vec<(Text, Value)>, FrameError>,
 ) -> Result<Answer, AllocError> {
@@ -84,7 +84,7 @@ fn told_elements(
 }
 
 /// The keys and values of an array in turn, with a bar between any two.
-fn told_entries(alloc: Global, elements: &NameMap<Value>) -> Result<Answer, AllocError> {
+fn show_entries(alloc: Global, elements: &NameMap<Value>) -> Result<Answer, AllocError> {
     let mut all = Vec::new(alloc);
     for place in 0..elements.len() {
         if let Some((key, value)) = elements.entry(place) {
@@ -98,7 +98,7 @@ fn told_entries(alloc: Global, elements: &NameMap<Value>) -> Result<Answer, Allo
 /// `entries NAME`: those of the array that is lent, or `none` where there is none.
 fn entries(frames: &Frames, alloc: Global, name: &Text) -> Result<Answer, AllocError> {
     match frames.array(name) {
-        Ok(Some(elements)) => told_entries(alloc, elements),
+        Ok(Some(elements)) => show_entries(alloc, elements),
         Ok(None) => given(alloc, "none"),
         Err(error) => refused(alloc, &error),
     }
@@ -125,8 +125,8 @@ fn words_at(frames: &Frames, alloc: Global, level: usize) -> Result<Answer, Allo
 /// What a call answers on the names, words and elements of a chain.
 fn listed(frames: &Frames, alloc: Global, call: &str, word: &Text) -> Result<Answer, AllocError> {
     match call {
-        "keys" => told_keys(alloc, frames.element_names(alloc, word, None)),
-        "elements" => told_elements(alloc, frames.elements(alloc, word, None)),
+        "keys" => show_keys(alloc, frames.element_names(alloc, word, None)),
+        "elements" => show_elements(alloc, frames.elements(alloc, word, None)),
         "entries" => entries(frames, alloc, word),
         "names" => joined(alloc, &frames.names(alloc, scope_of(word))?),
         "count" => count(alloc, frames.names(alloc, scope_of(word))?.len()),
@@ -143,10 +143,10 @@ fn looked_at(
     name: &Text,
 ) -> Result<Answer, AllocError> {
     match call {
-        "get" => told_value(alloc, frames.get(name)),
-        "exists" => told_truth(alloc, frames.exists(name)),
-        "array" => told_truth(alloc, frames.is_array(name)),
-        "size" => told_count(alloc, frames.element_count(name)),
+        "get" => show_value(alloc, frames.get(name)),
+        "exists" => show_truth(alloc, frames.exists(name)),
+        "array" => show_truth(alloc, frames.is_array(name)),
+        "size" => show_count(alloc, frames.element_count(name)),
         _ => listed(frames, alloc, call, name),
     }
 }
@@ -188,8 +188,8 @@ fn of_two(
         "set" => done(alloc, frames.set(alloc, name, value_of(other)?)),
         "drop" => done(alloc, frames.unset_element(alloc, name, other)),
         "empty" => done(alloc, frames.unset_elements(alloc, name, Some(other))),
-        "keys" => told_keys(alloc, frames.element_names(alloc, name, Some(other))),
-        "elements" => told_elements(alloc, frames.elements(alloc, name, Some(other))),
+        "keys" => show_keys(alloc, frames.element_names(alloc, name, Some(other))),
+        "elements" => show_elements(alloc, frames.elements(alloc, name, Some(other))),
         _ => no_call(alloc),
     }
 }
@@ -275,7 +275,7 @@ fn answer(frames: &mut Frames, alloc: Global, words: &[Text]) -> Result<Answer, 
 }
 
 /// What a row tells of an answer, of a chain that was so before.
-fn told(
+fn show(
     frames: &Frames,
     before: &Frames,
     alloc: Global,
@@ -292,7 +292,7 @@ fn on_chain(frames: &mut Frames, alloc: Global, call: &str) -> Result<String, Al
     let before = frames.copy()?;
     let words = words_of(alloc, call)?;
     let answer = answer(frames, alloc, &words)?;
-    told(frames, &before, alloc, answer)
+    show(frames, &before, alloc, answer)
 }
 
 /// A chain of frames, and one that is kept.

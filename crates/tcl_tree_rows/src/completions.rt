@@ -19,7 +19,7 @@ use tcl_text::text::Text;
 use tcl_value::value::Value;
 
 impl Told for OptionsError {
-    fn told(&self, alloc: Global) -> Result<String, AllocError> {
+    fn show(&self, alloc: Global) -> Result<String, AllocError> {
         match self {
             OptionsError::Fault(fault) => String::from_str(alloc, fault.message(alloc)?.as_str()),
             OptionsError::Memory => Err(AllocError),
@@ -44,7 +44,7 @@ fn level_in(word: &Text) -> u32 {
 }
 
 /// A code, or `none`.
-fn told_code(alloc: Global, code: Option<i64>) -> Result<Answer, AllocError> {
+fn show_code(alloc: Global, code: Option<i64>) -> Result<Answer, AllocError> {
     match code {
         Some(code) => Ok(Answer::Given(format!(in alloc; "{code}")?)),
         None => given(alloc, "none"),
@@ -52,7 +52,7 @@ fn told_code(alloc: Global, code: Option<i64>) -> Result<Answer, AllocError> {
 }
 
 /// An errorcode as it is told.
-fn told_errorcode(alloc: Global, errorcode: Option<&Value>) -> Result<Text, AllocError> {
+fn show_errorcode(alloc: Global, errorcode: Option<&Value>) -> Result<Text, AllocError> {
     match errorcode {
         Some(errorcode) => errorcode.text(alloc),
         None => Text::new(alloc, "NONE"),
@@ -60,14 +60,14 @@ fn told_errorcode(alloc: Global, errorcode: Option<&Value>) -> Result<Text, Allo
 }
 
 /// Options as they are told.
-fn told_options(alloc: Global, options: &Options) -> Result<Answer, AllocError> {
-    let errorcode = told_errorcode(alloc, options.errorcode.as_ref())?;
+fn show_options(alloc: Global, options: &Options) -> Result<Answer, AllocError> {
+    let errorcode = show_errorcode(alloc, options.errorcode.as_ref())?;
     let (code, level) = (options.code, options.level);
     Ok(Answer::Given(format!(in alloc; "{code} {level} {}", errorcode.as_str())?))
 }
 
 /// A completion as it is told.
-fn told_completion(alloc: Global, made: &Completion) -> Result<Answer, AllocError> {
+fn show_completion(alloc: Global, made: &Completion) -> Result<Answer, AllocError> {
     let text = made.text.text(alloc)?;
     let (code, last, level) = (made.code, made.options.code, made.options.level);
     Ok(Answer::Given(format!(in alloc; "{code} {last} {level} {}", text.as_str())?))
@@ -76,7 +76,7 @@ fn told_completion(alloc: Global, made: &Completion) -> Result<Answer, AllocErro
 /// `options ?WORD ..?`: what options come to.
 fn read(alloc: Global, words: &[Value]) -> Result<Answer, AllocError> {
     match Options::read(alloc, Integers::Tcl8, words) {
-        Ok(options) => told_options(alloc, &options),
+        Ok(options) => show_options(alloc, &options),
         Err(error) => refused(alloc, &error),
     }
 }
@@ -84,24 +84,24 @@ fn read(alloc: Global, words: &[Value]) -> Result<Answer, AllocError> {
 /// `return ?WORD ..?`: what `return` makes.
 fn made(alloc: Global, words: &[Value]) -> Result<Answer, AllocError> {
     match return_words(alloc, Integers::Tcl9, words) {
-        Ok(made) => told_completion(alloc, &made),
+        Ok(made) => show_completion(alloc, &made),
         Err(error) => refused(alloc, &error),
     }
 }
 
 /// `code-of WORD`: the code that a word means.
-fn told_code_of(alloc: Global, mut word: Value) -> Result<Answer, AllocError> {
+fn show_code_of(alloc: Global, mut word: Value) -> Result<Answer, AllocError> {
     let code = code_of(alloc, Integers::Tcl8, &mut word)?;
-    told_code(alloc, code)
+    show_code(alloc, code)
 }
 
 /// `level-of WORD`: the level that a word means.
-fn told_level_of(alloc: Global, mut word: Value) -> Result<Answer, AllocError> {
+fn show_level_of(alloc: Global, mut word: Value) -> Result<Answer, AllocError> {
     number(alloc, level_of(Integers::Tcl8, &mut word))
 }
 
 /// `bad-option WORD` and `bad-code WORD`: what is told of a fault.
-fn told_fault(alloc: Global, fault: &OptionsFault) -> Result<Answer, AllocError> {
+fn show_fault(alloc: Global, fault: &OptionsFault) -> Result<Answer, AllocError> {
     given(alloc, fault.message(alloc)?.as_str())
 }
 
@@ -114,7 +114,7 @@ fn shown(alloc: Global, own: &Completion) -> Result<Answer, AllocError> {
 }
 
 /// `count`: what is told at the limit of commands.
-fn told_stop(alloc: Global) -> Result<Answer, AllocError> {
+fn show_stop(alloc: Global) -> Result<Answer, AllocError> {
     value(alloc, &StopKind::Count.error(alloc)?.text)
 }
 
@@ -151,13 +151,13 @@ fn plain(own: &mut Completion, code: i64, text: Value) {
 /// What a call of no words answers that looks at the completion, or tells a message.
 fn looked_at(own: &Completion, alloc: Global, call: &str) -> Result<Answer, AllocError> {
     match call {
-        "code" => told_code(alloc, Some(own.code)),
-        "last" => told_code(alloc, Some(own.options.code)),
+        "code" => show_code(alloc, Some(own.code)),
+        "last" => show_code(alloc, Some(own.options.code)),
         "level" => number(alloc, Some(own.options.level)),
         "text" => value(alloc, &own.text),
         "shown" => shown(alloc, own),
         "continue" => value(alloc, &continue_outside(alloc)?),
-        "count" => told_stop(alloc),
+        "count" => show_stop(alloc),
         _ => no_call(alloc),
     }
 }
@@ -185,10 +185,10 @@ fn of_one(
     match call {
         "error" => *own = error(value_of(word)?),
         "errorcode" => own.options.errorcode = Some(value_of(word)?),
-        "code-of" => return told_code_of(alloc, value_of(word)?),
-        "level-of" => return told_level_of(alloc, value_of(word)?),
-        "bad-option" => return told_fault(alloc, &OptionsFault::BadOption(word.clone()?)),
-        "bad-code" => return told_fault(alloc, &OptionsFault::BadCode(word.clone()?)),
+        "code-of" => return show_code_of(alloc, value_of(word)?),
+        "level-of" => return show_level_of(alloc, value_of(word)?),
+        "bad-option" => return show_fault(alloc, &OptionsFault::BadOption(word.clone()?)),
+        "bad-code" => return show_fault(alloc, &OptionsFault::BadCode(word.clone()?)),
         _ => return no_call(alloc),
     }
     given(alloc, "-")

@@ -11,12 +11,12 @@ use tcl_host::bytes::Bytes;
 use tcl_host::host::{Host, ask};
 use tcl_host::memory::MemoryHost;
 use tcl_host::open_mode::{BadMode, OpenMode};
-use tcl_host::reply::{HostError, HostReply, Refusal};
+use tcl_host::reply::{HostError, HostRefusal, HostReply};
 use tcl_host::request::Request;
 use tcl_text::text::Text;
 
 impl Told for HostError {
-    fn told(&self, alloc: Global) -> Result<String, AllocError> {
+    fn show(&self, alloc: Global) -> Result<String, AllocError> {
         match self {
             HostError::Refused(refusal) => format!(in alloc; "{refusal:?}"),
             HostError::Memory => Err(AllocError),
@@ -25,7 +25,7 @@ impl Told for HostError {
 }
 
 /// The answer of bytes, which are the bytes of a text.
-fn told_bytes(alloc: Global, bytes: &[u8]) -> Result<Answer, AllocError> {
+fn show_bytes(alloc: Global, bytes: &[u8]) -> Result<Answer, AllocError> {
     match str::from_utf8(bytes) {
         Ok(text) => given(alloc, text),
         Err(_) => given(alloc, "no text"),
@@ -33,24 +33,24 @@ fn told_bytes(alloc: Global, bytes: &[u8]) -> Result<Answer, AllocError> {
 }
 
 /// The answer of all that was left.
-fn told_rest(alloc: Global, rest: Result<Bytes, HostError>) -> Result<Answer, AllocError> {
+fn show_rest(alloc: Global, rest: Result<Bytes, HostError>) -> Result<Answer, AllocError> {
     match rest {
-        Ok(bytes) => told_bytes(alloc, bytes.as_slice()),
+        Ok(bytes) => show_bytes(alloc, bytes.as_slice()),
         Err(error) => refused(alloc, &error),
     }
 }
 
 /// The answer of a line, or `none` where none is left.
-fn told_line(alloc: Global, line: Result<Option<Bytes>, HostError>) -> Result<Answer, AllocError> {
+fn show_line(alloc: Global, line: Result<Option<Bytes>, HostError>) -> Result<Answer, AllocError> {
     match line {
-        Ok(Some(bytes)) => told_bytes(alloc, bytes.as_slice()),
+        Ok(Some(bytes)) => show_bytes(alloc, bytes.as_slice()),
         Ok(None) => given(alloc, "none"),
         Err(error) => refused(alloc, &error),
     }
 }
 
 /// The answer of whether the last read met the end.
-fn told_end(alloc: Global, is_end: Result<bool, HostError>) -> Result<Answer, AllocError> {
+fn show_end(alloc: Global, is_end: Result<bool, HostError>) -> Result<Answer, AllocError> {
     match is_end {
         Ok(is_end) => truth(alloc, is_end),
         Err(error) => refused(alloc, &error),
@@ -58,7 +58,7 @@ fn told_end(alloc: Global, is_end: Result<bool, HostError>) -> Result<Answer, Al
 }
 
 /// The answer of the name of a channel that was opened.
-fn told_channel(alloc: Global, opened: Result<Text, HostError>) -> Result<Answer, AllocError> {
+fn show_channel(alloc: Global, opened: Result<Text, HostError>) -> Result<Answer, AllocError> {
     match opened {
         Ok(channel) => given(alloc, channel.as_str()),
         Err(error) => refused(alloc, &error),
@@ -73,13 +73,13 @@ fn open(
     mode: &str,
 ) -> Result<Answer, AllocError> {
     match OpenMode::from_word(mode) {
-        Ok(mode) => told_channel(alloc, host.open(alloc, name, mode)),
+        Ok(mode) => show_channel(alloc, host.open(alloc, name, mode)),
         Err(BadMode) => no_call(alloc),
     }
 }
 
 /// `mode WORD`: the mode that a word names.
-fn told_mode(alloc: Global, word: &str) -> Result<Answer, AllocError> {
+fn show_mode(alloc: Global, word: &str) -> Result<Answer, AllocError> {
     match OpenMode::from_word(word) {
         Ok(mode) => Ok(Answer::Given(format!(in alloc; "{mode:?}")?)),
         Err(fault) => Ok(Answer::Given(format!(in alloc; "{fault:?}")?)),
@@ -89,22 +89,22 @@ fn told_mode(alloc: Global, word: &str) -> Result<Answer, AllocError> {
 /// `contents NAME`: what a file holds, or `none` where there is none.
 fn contents(host: &MemoryHost, alloc: Global, name: &str) -> Result<Answer, AllocError> {
     match host.file(name) {
-        Some(bytes) => told_bytes(alloc, bytes),
+        Some(bytes) => show_bytes(alloc, bytes),
         None => given(alloc, "none"),
     }
 }
 
 /// What a script is told of a refusal on a channel or a file of this name.
-fn message(alloc: Global, refusal: Refusal, name: &str) -> Result<Answer, AllocError> {
+fn message(alloc: Global, refusal: HostRefusal, name: &str) -> Result<Answer, AllocError> {
     given(alloc, refusal.message(alloc, name)?.as_str())
 }
 
 /// `tell REFUSAL NAME`: what a script is told of a refusal.
-fn told_message(alloc: Global, refusal: &str, name: &str) -> Result<Answer, AllocError> {
+fn show_message(alloc: Global, refusal: &str, name: &str) -> Result<Answer, AllocError> {
     match refusal {
-        "NoChannel" => message(alloc, Refusal::NoChannel, name),
-        "DeviceFault" => message(alloc, Refusal::DeviceFault, name),
-        "NotOpened" => message(alloc, Refusal::NotOpened, name),
+        "NoChannel" => message(alloc, HostRefusal::NoChannel, name),
+        "DeviceFault" => message(alloc, HostRefusal::DeviceFault, name),
+        "NotOpened" => message(alloc, HostRefusal::NotOpened, name),
         _ => given(alloc, BadMode.message(alloc, name)?.as_str()),
     }
 }
@@ -120,7 +120,7 @@ fn request_of(call: &str, name: Text) -> Request {
 }
 
 /// The answer of a reply.
-fn told_reply(alloc: Global, reply: &HostReply) -> Result<Answer, AllocError> {
+fn show_reply(alloc: Global, reply: &HostReply) -> Result<Answer, AllocError> {
     match reply {
         HostReply::Opened(channel) => {
             Ok(Answer::Given(format!(in alloc; "Opened {}", channel.as_str())?))
@@ -140,7 +140,7 @@ fn asked(
     request: &Request,
 ) -> Result<Answer, AllocError> {
     match call {
-        "ask" => told_reply(alloc, &ask(host, alloc, request)?),
+        "ask" => show_reply(alloc, &ask(host, alloc, request)?),
         "fits" => truth(alloc, ask(host, alloc, request)?.is_reply_to(request)),
         "done-fits" => truth(alloc, HostReply::Done.is_reply_to(request)),
         _ => no_call(alloc),
@@ -163,7 +163,7 @@ fn of_two(
         }
         "write" => done(alloc, host.write(name, text)),
         "open" => open(host, alloc, name, text),
-        "tell" => told_message(alloc, name, text),
+        "tell" => show_message(alloc, name, text),
         _ => asked(host, alloc, call, &request_of(name, second.clone()?)),
     }
 }
@@ -178,9 +178,9 @@ fn of_channel(
     match call {
         "flush" => done(alloc, host.flush(channel)),
         "close" => done(alloc, host.close(channel)),
-        "line" => told_line(alloc, host.read_line(alloc, channel)),
-        "read" => told_rest(alloc, host.read_all(alloc, channel)),
-        "eof" => told_end(alloc, host.eof(channel)),
+        "line" => show_line(alloc, host.read_line(alloc, channel)),
+        "read" => show_rest(alloc, host.read_all(alloc, channel)),
+        "eof" => show_end(alloc, host.eof(channel)),
         _ => no_call(alloc),
     }
 }
@@ -197,7 +197,7 @@ fn of_one(
         "input" => host.put_input(word.as_str().as_bytes())?,
         "fail" => host.fail_at(number_of(word)),
         "contents" => return contents(host, alloc, word.as_str()),
-        "mode" => return told_mode(alloc, word.as_str()),
+        "mode" => return show_mode(alloc, word.as_str()),
         _ => return of_channel(host, alloc, call, word.as_str()),
     }
     given(alloc, "-")
@@ -207,8 +207,8 @@ fn of_one(
 fn answer(host: &mut MemoryHost, alloc: Global, words: &[Text]) -> Result<Answer, AllocError> {
     match words {
         [call] => match call.as_str() {
-            "output" => told_bytes(alloc, host.output()),
-            "errors" => told_bytes(alloc, host.errors()),
+            "output" => show_bytes(alloc, host.output()),
+            "errors" => show_bytes(alloc, host.errors()),
             "failures" => number(alloc, Some(host.failures())),
             _ => no_call(alloc),
         },

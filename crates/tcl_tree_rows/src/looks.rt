@@ -7,7 +7,7 @@ use tcl_tree::command::{Command, Commands};
 use tcl_tree::tree::Tree;
 
 /// What a name stands for: a built-in command by its own name, and else what it is.
-pub(crate) fn told_command(alloc: Global, command: Option<&Command>) -> Result<Answer, AllocError> {
+pub(crate) fn show_command(alloc: Global, command: Option<&Command>) -> Result<Answer, AllocError> {
     match command {
         Some(Command::Builtin(builtin)) => given(alloc, builtin.name()),
         Some(Command::Procedure(_)) => given(alloc, "procedure"),
@@ -18,7 +18,7 @@ pub(crate) fn told_command(alloc: Global, command: Option<&Command>) -> Result<A
 }
 
 /// A truth value of an interpreter, if there is one.
-fn told_safety(alloc: Global, safe: Option<bool>) -> Result<Answer, AllocError> {
+fn show_safety(alloc: Global, safe: Option<bool>) -> Result<Answer, AllocError> {
     match safe {
         Some(safe) => truth(alloc, safe),
         None => given(alloc, "none"),
@@ -26,7 +26,7 @@ fn told_safety(alloc: Global, safe: Option<bool>) -> Result<Answer, AllocError> 
 }
 
 /// A limit of an interpreter, if there is one.
-fn told_limit(alloc: Global, limit: Option<Option<u64>>) -> Result<Answer, AllocError> {
+fn show_limit(alloc: Global, limit: Option<Option<u64>>) -> Result<Answer, AllocError> {
     match limit {
         Some(Some(limit)) => number(alloc, Some(limit)),
         Some(None) => given(alloc, "unlimited"),
@@ -121,9 +121,9 @@ pub(crate) fn of_path(
 ) -> Result<Answer, AllocError> {
     match call {
         "exists" => truth(alloc, tree.exists(path)),
-        "safe" => told_safety(alloc, tree.is_safe(path)),
+        "safe" => show_safety(alloc, tree.is_safe(path)),
         "count" => number(alloc, tree.count(path)),
-        "limit" => told_limit(alloc, tree.limit(path)),
+        "limit" => show_limit(alloc, tree.limit(path)),
         "depth" => number(alloc, tree.depth(path)),
         "depth-limit" => number(alloc, tree.depth_limit(path)),
         _ => listed(tree, alloc, call, path),
@@ -139,7 +139,7 @@ fn holds(tree: &Tree, path: &[Text], name: &Text) -> bool {
 }
 
 /// The levels and the names of the way that an alias goes.
-fn told_way(alloc: Global, up: usize, down: &[Text]) -> Result<Answer, AllocError> {
+fn show_way(alloc: Global, up: usize, down: &[Text]) -> Result<Answer, AllocError> {
     let mut shown = format!(in alloc; "{up}")?;
     'names: for name in down {
         shown.push_str(" ")?;
@@ -151,7 +151,7 @@ fn told_way(alloc: Global, up: usize, down: &[Text]) -> Result<Answer, AllocErro
 /// `way PATH NAME`: the levels and the names of the way that the alias goes.
 fn way(tree: &Tree, alloc: Global, path: &[Text], name: &Text) -> Result<Answer, AllocError> {
     match tree.command(path, name) {
-        Some(Command::Alias(alias)) => told_way(alloc, alias.up(), alias.down()),
+        Some(Command::Alias(alias)) => show_way(alloc, alias.up(), alias.down()),
         _ => given(alloc, "no alias"),
     }
 }
@@ -166,8 +166,8 @@ pub(crate) fn of_name(
     name: &Text,
 ) -> Result<Answer, AllocError> {
     match call {
-        "command" => told_command(alloc, tree.command(path, name)),
-        "hidden-command" => told_command(alloc, tree.hidden_command(path, name)),
+        "command" => show_command(alloc, tree.command(path, name)),
+        "hidden-command" => show_command(alloc, tree.hidden_command(path, name)),
         "way" => way(tree, alloc, path, name),
         "holds" => truth(alloc, holds(tree, path, name)),
         "commands-after" => names_after(alloc, tree.commands(path), place_of(name)),

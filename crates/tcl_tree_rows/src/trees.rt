@@ -18,7 +18,7 @@ use tcl_tree::refusal::Refusal;
 use tcl_tree::tree::Tree;
 
 impl Told for Refusal {
-    fn told(&self, alloc: Global) -> Result<String, AllocError> {
+    fn show(&self, alloc: Global) -> Result<String, AllocError> {
         format!(in alloc; "{self:?}")
     }
 }

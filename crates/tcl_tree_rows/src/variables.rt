@@ -4,7 +4,7 @@
 //! name behind the base is the one that a refusal tells. There is a second frame, which `keep`
 //! makes a copy of the first; `same` tells whether they are equal.
 use crate::answers::{Answer, count, done, given, no_call, truth, written};
-use crate::chains::told_value;
+use crate::chains::show_value;
 use crate::words::{value_of, values_of, words_of};
 use row_runner::World;
 use std::alloc::{AllocError, Global};
@@ -13,7 +13,7 @@ use tcl_variables::access::{Part, elements_in, holds_in, value_in};
 use tcl_variables::comparing::Same;
 use tcl_variables::frame::{Change, Frame};
 use tcl_variables::name::{Written, element_text, is_plain_name, read_name};
-use tcl_variables::variable::Place;
+use tcl_variables::variable::LinkTarget;
 
 /// What a call answers on the parts of a name.
 fn of_written(alloc: Global, call: &str, name: Written<'_>) -> Result<Answer, AllocError> {
@@ -39,14 +39,19 @@ fn element(alloc: Global, name: &Text, key: &Text) -> Result<Answer, AllocError>
 }
 
 /// `link LOCAL NAME KEY`: makes a name a link to an element at level 0.
-fn link(frame: &mut Frame, alloc: Global, local: &str, place: Place) -> Result<Answer, AllocError> {
+fn link(
+    frame: &mut Frame,
+    alloc: Global,
+    local: &str,
+    place: LinkTarget,
+) -> Result<Answer, AllocError> {
     frame.link(alloc, local, place)?;
     given(alloc, "-")
 }
 
 /// The place of an element at level 0.
-fn element_at_0(name: Text, key: Text) -> Place {
-    Place {
+fn element_at_0(name: Text, key: Text) -> LinkTarget {
+    LinkTarget {
         level: 0,
         name,
         key: Some(key),
@@ -94,7 +99,7 @@ fn of_two(
     match call {
         "holds" => truth(alloc, holds_in(variable, Part::Element(word.as_str()))),
         "element" => element(alloc, base, word),
-        "value" => told_value(alloc, value_in(variable, Part::Whole, word)),
+        "value" => show_value(alloc, value_in(variable, Part::Whole, word)),
         "make" => {
             let none = Change::SetElements(Vec::new(alloc));
             change(frame, alloc, base, word, Part::Whole, none)
@@ -112,7 +117,7 @@ fn of_three(
 ) -> Result<Answer, AllocError> {
     let part = Part::Element(word.as_str());
     match call {
-        "value" => told_value(alloc, value_in(frame.variable(base.as_str()), part, name)),
+        "value" => show_value(alloc, value_in(frame.variable(base.as_str()), part, name)),
         "unset" => change(frame, alloc, base, name, part, Change::Unset),
         "link" => {
             let place = element_at_0(name.clone()?, word.clone()?);

@@ -4,9 +4,11 @@ use Rattle.tcl_text.specs.declared.list.ListFault.{ListFault}
 use Rattle.tcl_text.specs.declared.list.ListError.{ListError}
 use Rattle.tcl_text.specs.declared.list.ListError.TheVariants.{Memory as WantsMemory, Fault}
 use Rattle.tcl_value.specs.declared.value.ValueError.{ValueError}
-use Rattle.tcl_value.specs.declared.value.ValueError.TheVariants.{Memory as NoMemory, TooLong as LongValue}
+use Rattle.tcl_value.specs.declared.value.ValueError.TheVariants.{Memory as NoMemory}
+use Rattle.tcl_value.specs.declared.value.ValueError.TheVariants.{TooLong as LongValue}
 use Rattle.tcl_value.specs.declared.value.ChangeError.{ChangeError}
-use Rattle.tcl_value.specs.declared.value.ChangeError.TheVariants.{Memory, TooLong, List as NoList, NoElement}
+use Rattle.tcl_value.specs.declared.value.ChangeError.TheVariants.{Memory, TooLong, List as NoList}
+use Rattle.tcl_value.specs.declared.value.ChangeError.TheVariants.{NoElement}
 
 -- the error of a change, by the error behind it
 abbrev pub change_of_value : ValueError → ChangeError
@@ -22,8 +24,10 @@ abbrev pub AtList : {X : Type 0} → Result X ListFault → (X → Type 0) → T
 AtList (Ok list) P = P list
 AtList (Err fault) P = ⊥
 
--- when a change is refused: where there is no list, where the text of the changed one is too long, or where there is no such place
-abbrev pub Refuses : {X : Type 0} → ChangeError → Result X ListFault → (X → Type 0) → (X → Type 0) → Type 0
+-- when a change is refused: where there is no list, where the text of the changed one is too long,
+-- or where there is no such place
+abbrev pub Refuses : {X : Type 0} → ChangeError → Result X ListFault → (X → Type 0) → (X → Type 0) →
+    Type 0
 Refuses Memory read Long Outside = Unit {0}
 Refuses TooLong read Long Outside = AtList read Long
 Refuses (NoList fault) read Long Outside = read ≡ Err fault

@@ -1,5 +1,6 @@
 -- Dicts: the entries that a list of keys and values makes, and their changes.
-use Rattle.std.specs.Prelude.{◌≡◌, ℕ, zero, suc, ◌%◌, ◌==◌, cond, List, [], ◌∷◌, length, Result, Ok, Err, Option}
+use Rattle.std.specs.Prelude.{◌≡◌, ℕ, zero, suc, ◌%◌, ◌==◌, cond, List, [], ◌∷◌, length, Result, Ok}
+use Rattle.std.specs.Prelude.{Err, Option}
 use Rattle.std.specs.Str.{bytes_eq}
 use Rattle.std.specs.Map.{lookup, remove_entry}
 use Rattle.indexmap.specs.IndexMap.{insert_entry}
@@ -16,7 +17,8 @@ use Rattle.tcl_value.specs.declared.dict_fault.DictError.TheVariants.{Memory, Fa
 abbrev pub Pairs : Type 0
 Pairs = List (List ℕ × List ℕ)
 
--- the entries after a key gets a value: a key that is there keeps its place, and a new key goes last
+-- the entries after a key gets a value: a key that is there keeps its place, and a new key goes
+-- last
 abbrev pub put : Pairs → List ℕ → List ℕ → Pairs
 put es k v = insert_entry bytes_eq es k v
 
@@ -51,7 +53,8 @@ put_all es [] = es
 put_all es (k ∷ []) = es
 put_all es (k ∷ v ∷ l) = put_all (put es k v) l
 
--- the dict of a list: of keys and values in turn, where a repeated key keeps its first place and its last value
+-- the dict of a list: of keys and values in turn, where a repeated key keeps its first place and
+-- its last value
 abbrev pub dict_of_list : List (List ℕ) → Result Pairs DictFault
 dict_of_list l = cond ((length l % 2) == 1) (Err MissingValue) (Ok (put_all [] l))
 

@@ -10,9 +10,12 @@ use Rattle.tcl_value.specs.Texts.{flat}
 use Rattle.tcl_value.specs.Reading.{int_of, list_of}
 use Rattle.tcl_value.specs.Dicts.{dict_of}
 use Rattle.tcl_value.specs.declared.value.Form.{Form}
-use Rattle.tcl_value.specs.declared.value.Form.TheVariants.{Empty, Text, Number, List as Items, Dict as Entries}
+use Rattle.tcl_value.specs.declared.value.Form.TheVariants.{Empty, Text, Number, List as Items}
+use Rattle.tcl_value.specs.declared.value.Form.TheVariants.{Dict as Entries}
 use Rattle.tcl_value.specs.declared.value.Kept.{Kept}
-use Rattle.tcl_value.specs.declared.value.Kept.TheVariants.{Nothing, Tcl8 as Int8, Tcl9 as Int9, List as Words, Dict as Pairs, Script as Commands}
+use Rattle.tcl_value.specs.declared.value.Kept.TheVariants.{Nothing, Tcl8 as Int8, Tcl9 as Int9}
+use Rattle.tcl_value.specs.declared.value.Kept.TheVariants.{List as Words, Dict as Pairs}
+use Rattle.tcl_value.specs.declared.value.Kept.TheVariants.{Script as Commands}
 
 -- the text of a form
 abbrev pub form_text : Form → List ℕ
@@ -22,7 +25,8 @@ form_text (Number n) = signed_decimal n
 form_text (Items items) = write items.value
 form_text (Entries entries) = write (flat entries.value)
 
--- what a form keeps is within the limit of a value, and a list is one that no number or single element writes
+-- what a form keeps is within the limit of a value, and a list is one that no number or single
+-- element writes
 abbrev pub IsForm : Form → Type 0
 IsForm Empty = Unit {0}
 IsForm (Text text) = IsWithin text

@@ -1,5 +1,6 @@
 -- The texts of elements, lists and dicts.
-use Rattle.std.specs.Prelude.{◌≡◌, ℕ, ◌+◌, ◌≤◌, ◌==◌, Bool, true, false, List, [], ◌∷◌, ◌++◌, length, map}
+use Rattle.std.specs.Prelude.{◌≡◌, ℕ, ◌+◌, ◌≤◌, ◌==◌, Bool, true, false, List, [], ◌∷◌, ◌++◌}
+use Rattle.std.specs.Prelude.{length, map}
 use Rattle.std.specs.Fmt.{signed_decimal}
 use Rattle.std.specs.Str.{bytes_eq}
 use Rattle.std.specs.List.{list_any}
@@ -7,7 +8,8 @@ use Rattle.std.proofs.Common.{FitsSigned, w64, Bor}
 use Rattle.tcl_value.specs.Limits.{IsWithin}
 use Rattle.tcl_value.specs.Writing.{write_element, write}
 use Rattle.tcl_value.specs.declared.element.Element.{Element}
-use Rattle.tcl_value.specs.declared.element.Element.TheVariants.{Text, Grown, Number, List as Inner, Dict}
+use Rattle.tcl_value.specs.declared.element.Element.TheVariants.{Text, Grown, Number, List as Inner}
+use Rattle.tcl_value.specs.declared.element.Element.TheVariants.{Dict}
 
 -- keys and values in turn
 abbrev pub flat : List (List ℕ × List ℕ) → List (List ℕ)
@@ -84,7 +86,8 @@ AreDistinct [] = Unit {0}
 AreDistinct (k ∷ ks) = (list_any (bytes_eq k) ks ≡ false) × AreDistinct ks
 
 -- what holds of a dict
-pub record IsEntries (kept : ℕ) (ks : List (List ℕ)) (ts : List (List ℕ)) (xs : List Element) : Type 0 where
+pub record IsEntries (kept : ℕ) (ks : List (List ℕ)) (ts : List (List ℕ)) (xs : List Element) : Type
+    0 where
   pub keys : AllWithin ks
   pub distinct : AreDistinct ks
   pub elements : AreElements xs

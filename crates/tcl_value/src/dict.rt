@@ -1,5 +1,6 @@
 //! Dicts, whose values are values.
-ghost use Rattle.std.specs.Prelude.{◌≡◌, ◌<◌, ◌≤◌, ◌==◌, ◌%◌, ◌↔◌, [], length, IfOk, OnOk, OnErr, IsErrOf, IsTrue, is_some, slice_index_or};
+ghost use Rattle.std.specs.Prelude.{◌≡◌, ◌<◌, ◌≤◌, ◌==◌, ◌%◌, ◌↔◌, [], length, IfOk, OnOk, OnErr};
+ghost use Rattle.std.specs.Prelude.{IsErrOf, IsTrue, is_some, slice_index_or};
 ghost use Rattle.tcl_value.specs.Limits.{IsWithin, IsPast};
 ghost use Rattle.tcl_value.specs.Writing.{write};
 ghost use Rattle.tcl_value.specs.Texts.{flat, element_text, IsElement};
@@ -15,7 +16,8 @@ use std::marker::Model;
 use std::rc::Rc;
 use tcl_text::text::Text;
 
-/// A dict, which contracts see as the list of its keys with their values, in the order in which the keys came first.
+/// A dict, which contracts see as the list of its keys with their values, in the order in which the
+/// keys came first.
 ///
 /// A clone shares the entries. A dict that isn't shared is changed in place.
 #[derive(Drop)]
@@ -58,10 +60,12 @@ impl Dict {
         entries
     }
 
-    /// The dict of a list of keys and values in turn: a repeated key keeps its first place and its last value.
+    /// The dict of a list of keys and values in turn: a repeated key keeps its first place and its
+    /// last value.
     ///
     /// # Errors
-    /// [`DictFault::MissingValue`] exactly where the list has an odd number of elements; want of memory.
+    /// [`DictFault::MissingValue`] exactly where the list has an odd number of elements; want of
+    /// memory.
     pub fn from_list(alloc: Global, list: &List) -> Result<Dict, DictError>
         ensures { GivesDict result (dict_of_list list.now) }
     {
@@ -145,27 +149,31 @@ impl Dict {
         Value::from_element(self.entries.value(index))
     }
 
-    /// Gives a key a value: where the key stands, or at the end; in place where the dict isn't shared.
+    /// Gives a key a value: where the key stands, or at the end; in place where the dict isn't
+    /// shared.
     pub(crate) fn set_element(&mut self, key: Text, element: Element) -> Result<(), ValueError>
         requires key { IsWithin key }
         requires element { IsElement element }
         ensures set { OnOk result (self.new ≡ put self.old key (element_text element)) }
         ensures within { OnOk result (IsWithin (write (flat self.new))) }
-        ensures refused { IsErrOf result ValueError.TooLong → IsPast (write (flat (put self.old key (element_text element)))) }
+        ensures refused { IsErrOf result ValueError.TooLong →
+            IsPast (write (flat (put self.old key (element_text element)))) }
         ensures unchanged { OnErr result (self.new ≡ self.old) }
     {
         Rc::make_mut(&mut self.entries)?.set(key, element)
     }
 
-    /// Gives a key a value: where the key stands, or at the end; in place where the dict isn't shared.
+    /// Gives a key a value: where the key stands, or at the end; in place where the dict isn't
+    /// shared.
     ///
     /// # Errors
-    /// [`ValueError::TooLong`] only where the dict's text would be too long for a value; want of memory. Either leaves the
-    /// dict as it was.
+    /// [`ValueError::TooLong`] only where the dict's text would be too long for a value; want of
+    /// memory. Either leaves the dict as it was.
     pub fn set(&mut self, alloc: Global, key: &Value, value: Value) -> Result<(), ValueError>
         ensures set { OnOk result (self.new ≡ put self.old key.now value) }
         ensures within { OnOk result (IsWithin (write (flat self.new))) }
-        ensures refused { IsErrOf result ValueError.TooLong → IsPast (write (flat (put self.old key.now value))) }
+        ensures refused { IsErrOf result ValueError.TooLong →
+            IsPast (write (flat (put self.old key.now value))) }
         ensures unchanged { OnErr result (self.new ≡ self.old) }
     {
         let key = key.key_text(alloc)?;
@@ -173,8 +181,8 @@ impl Dict {
         self.set_element(key, element)
     }
 
-    /// Gives a key a value, however long the dict's text then is: where the key stands, or at the end; in place where the
-    /// dict isn't shared.
+    /// Gives a key a value, however long the dict's text then is: where the key stands, or at the
+    /// end; in place where the dict isn't shared.
     ///
     /// # Errors
     /// Want of memory, which leaves the dict as it was.
@@ -187,7 +195,8 @@ impl Dict {
         Rc::make_mut(&mut self.entries)?.put_any(key, element)
     }
 
-    /// Removes a key, if it is there, however long the text of what is left is: in place where the dict isn't shared.
+    /// Removes a key, if it is there, however long the text of what is left is: in place where the
+    /// dict isn't shared.
     ///
     /// # Errors
     /// Want of memory, which leaves the dict as it was.
@@ -201,12 +210,13 @@ impl Dict {
     /// Removes a key, if it is there: in place where the dict isn't shared.
     ///
     /// # Errors
-    /// [`ValueError::TooLong`] only where the text of what is left would be too long for a value; want of memory. Either
-    /// leaves the dict as it was.
+    /// [`ValueError::TooLong`] only where the text of what is left would be too long for a value;
+    /// want of memory. Either leaves the dict as it was.
     pub fn remove(&mut self, key: &Text) -> Result<(), ValueError>
         ensures removed { OnOk result (self.new ≡ without self.old key.now) }
         ensures within { OnOk result (IsWithin (write (flat self.new))) }
-        ensures refused { IsErrOf result ValueError.TooLong → IsPast (write (flat (without self.old key.now))) }
+        ensures refused { IsErrOf result ValueError.TooLong →
+            IsPast (write (flat (without self.old key.now))) }
         ensures unchanged { OnErr result (self.new ≡ self.old) }
     {
         Rc::make_mut(&mut self.entries)?.remove(key)

@@ -1,13 +1,16 @@
 //! The elements of lists and the values of dicts.
-ghost use Rattle.std.specs.Prelude.{◌≡◌, ◌≢◌, ◌≤◌, ◌+◌, false, ◌++◌, ◌∷◌, ◌↔◌, [], length, OnOk, OnErr, IfOk, IsTrue, MatchOption, Bool};
+ghost use Rattle.std.specs.Prelude.{◌≡◌, ◌≢◌, ◌≤◌, ◌+◌, false, ◌++◌, ◌∷◌, ◌↔◌, [], length, OnOk};
+ghost use Rattle.std.specs.Prelude.{OnErr, IfOk, IsTrue, MatchOption, Bool};
 ghost use Rattle.std.specs.Bool.{OnTrue, OnFalse};
 ghost use Rattle.std.specs.String.{string_bytes};
 ghost use Rattle.std.specs.Fmt.{signed_decimal};
 ghost use Rattle.tcl_text.specs.Writing.{Extends};
 ghost use Rattle.tcl_value.specs.Limits.{Bytes, IsWithin};
 ghost use Rattle.tcl_value.specs.Writing.{write, write_element, placed, space};
-ghost use Rattle.tcl_value.specs.Texts.{element_text, texts, flat, AreElements, ends_in_backslash, IsElement, IsInner};
-ghost use Rattle.tcl_value.specs.Inside.{ListPut, InnerChange, DictChange, IsChange, element_put, entry_changed, changed_by};
+ghost use Rattle.tcl_value.specs.Texts.{element_text, texts, flat, AreElements, ends_in_backslash};
+ghost use Rattle.tcl_value.specs.Texts.{IsElement, IsInner};
+ghost use Rattle.tcl_value.specs.Inside.{ListPut, InnerChange, DictChange, IsChange, element_put};
+ghost use Rattle.tcl_value.specs.Inside.{entry_changed, changed_by};
 
 use crate::entries::Entries;
 use crate::items::Items;
@@ -21,11 +24,12 @@ use tcl_text::list_comparing::{is_int, is_written};
 use tcl_text::measured::Measured;
 use tcl_text::text::Text;
 
-/// How deep lists and dicts may stand in one another without a text: what writes, drops or copies them goes down as deep.
+/// How deep lists and dicts may stand in one another without a text: what writes, drops or copies
+/// them goes down as deep.
 pub(crate) const MOST_DEPTH: u32 = 100;
 
-/// An element, which may be kept as the number, the list or the dict that its text writes. A text that was added to in place is kept
-/// with what it takes to know how many bytes write it.
+/// An element, which may be kept as the number, the list or the dict that its text writes. A text
+/// that was added to in place is kept with what it takes to know how many bytes write it.
 #[cycle(element)]
 #[derive(Drop)]
 pub(crate) enum Element {
@@ -102,7 +106,8 @@ impl Element {
     #[cycle(write)]
     pub(crate) fn write_to(&self, first: bool, out: &mut String) -> Result<(), AllocError>
         requires { IsElement self.now }
-        ensures written { OnOk result (string_bytes out.new ≡ string_bytes out.old ++ write_element first (element_text self.now)) }
+        ensures written { OnOk result (string_bytes out.new
+            ≡ string_bytes out.old ++ write_element first (element_text self.now)) }
         ensures kept { Extends (string_bytes out.old) (string_bytes out.new) }
     {
         match self {
@@ -143,11 +148,14 @@ impl Element {
         }
     }
 
-    /// What stands behind it in a text where it is an element of a list, the first or another. This takes no memory.
+    /// What stands behind it in a text where it is an element of a list, the first or another. This
+    /// takes no memory.
     #[cycle(compare)]
     pub(crate) fn behind<'a>(&self, first: bool, text: &'a [u8]) -> Option<&'a [u8]>
         requires { IsElement self.now }
-        ensures { MatchOption result ((rest : Bytes) → text.now ≢ placed first (element_text self.now) ++ rest) (λ rest. text.now ≡ placed first (element_text self.now) ++ rest.now) }
+        ensures { MatchOption result
+            ((rest : Bytes) → text.now ≢ placed first (element_text self.now) ++ rest)
+            (λ rest. text.now ≡ placed first (element_text self.now) ++ rest.now) }
     {
         let text = behind_space(text, first)?;
         let (front, rest) = split_off(text, self.written_len(first))?;
@@ -201,15 +209,18 @@ impl Element {
         }
     }
 
-    /// Puts an element at a path of places in it, where it is kept as a list, and what is written of it is then longer by at most so
-    /// many bytes. What isn't shared is changed in place. Says whether it did; where it didn't, nothing is changed.
+    /// Puts an element at a path of places in it, where it is kept as a list, and what is written
+    /// of it is then longer by at most so many bytes. What isn't shared is changed in place. Says
+    /// whether it did; where it didn't, nothing is changed.
     #[cycle(put)]
     pub(crate) fn put(&mut self, path: &[usize], element: Element, room: usize) -> bool
         requires own { IsElement self.old }
         requires element { IsElement element }
         requires ends { ends_in_backslash (element_text element) ≡ false }
         requires room { length (element_text self.old) + room ≤ 16777216 }
-        ensures put { OnTrue result (InnerChange (element_put path.now (element_text element) (element_text self.old)) room (element_text self.old) (element_text self.new)) }
+        ensures put { OnTrue result (InnerChange
+            (element_put path.now (element_text element) (element_text self.old)) room
+            (element_text self.old) (element_text self.new)) }
         ensures element { IsElement self.new }
         ensures unchanged { OnFalse result (element_text self.new ≡ element_text self.old) }
     {
@@ -219,9 +230,9 @@ impl Element {
         }
     }
 
-    /// Changes it at the end of a path of keys in it, where each dict on the way is kept as one, and what is written of it is then longer
-    /// by at most so many bytes. What isn't shared is changed in place. Says whether it did; where it didn't, nothing is
-    /// changed.
+    /// Changes it at the end of a path of keys in it, where each dict on the way is kept as one,
+    /// and what is written of it is then longer by at most so many bytes. What isn't shared is
+    /// changed in place. Says whether it did; where it didn't, nothing is changed.
     #[cycle(change)]
     pub(crate) fn change(
         &mut self,
@@ -233,7 +244,8 @@ impl Element {
         requires own { IsElement self.old }
         requires change { IsChange change }
         requires room { length (element_text self.old) + room ≤ 16777216 }
-        ensures change { OnTrue result (InnerChange (entry_changed path.now change (element_text self.old)) room (element_text self.old) (element_text self.new)) }
+        ensures change { OnTrue result (InnerChange (entry_changed path.now change (element_text self.old)) room
+            (element_text self.old) (element_text self.new)) }
         ensures element { IsElement self.new }
         ensures unchanged { OnFalse result (element_text self.new ≡ element_text self.old) }
     {
@@ -243,13 +255,15 @@ impl Element {
         path.is_empty() && self.change_itself(alloc, change, room)
     }
 
-    /// Changes it, where it is kept in the form that the change asks for, and what is written of it is then longer by at most so many
-    /// bytes. What isn't shared is changed in place. Says whether it did; where it didn't, nothing is changed.
+    /// Changes it, where it is kept in the form that the change asks for, and what is written of it
+    /// is then longer by at most so many bytes. What isn't shared is changed in place. Says whether
+    /// it did; where it didn't, nothing is changed.
     fn change_itself(&mut self, alloc: Global, change: Change, room: usize) -> bool
         requires own { IsElement self.old }
         requires change { IsChange change }
         requires room { length (element_text self.old) + room ≤ 16777216 }
-        ensures change { OnTrue result (InnerChange (changed_by change (element_text self.old)) room (element_text self.old) (element_text self.new)) }
+        ensures change { OnTrue result (InnerChange (changed_by change (element_text self.old)) room
+            (element_text self.old) (element_text self.new)) }
         ensures element { IsElement self.new }
         ensures unchanged { OnFalse result (element_text self.new ≡ element_text self.old) }
     {
@@ -264,14 +278,16 @@ impl Element {
         }
     }
 
-    /// Takes a text in its place that is the same, and adds to it, where that is the change and what is written of it is then longer by
-    /// at most so many bytes. Says whether it did; where it didn't, nothing is changed.
+    /// Takes a text in its place that is the same, and adds to it, where that is the change and
+    /// what is written of it is then longer by at most so many bytes. Says whether it did; where it
+    /// didn't, nothing is changed.
     fn append_first(&mut self, grown: Rc<Measured>, change: Change, room: usize) -> bool
         requires own { IsElement self.old }
         requires same { grown.value ≡ element_text self.old }
         requires change { IsChange change }
         requires room { length (element_text self.old) + room ≤ 16777216 }
-        ensures change { OnTrue result (InnerChange (changed_by change (element_text self.old)) room (element_text self.old) (element_text self.new)) }
+        ensures change { OnTrue result (InnerChange (changed_by change (element_text self.old)) room
+            (element_text self.old) (element_text self.new)) }
         ensures element { IsElement self.new }
         ensures unchanged { OnFalse result (element_text self.new ≡ element_text self.old) }
     {
@@ -302,7 +318,8 @@ pub(crate) fn put_inner(
     requires element { IsElement element }
     requires ends { ends_in_backslash (element_text element) ≡ false }
     requires room { length (write items.old.value) + room ≤ 16777216 }
-    ensures put { OnTrue result (ListPut path.now (element_text element) room items.old.value items.new.value) }
+    ensures put { OnTrue result (ListPut path.now (element_text element) room items.old.value
+        items.new.value) }
     ensures unchanged { OnFalse result (items.new.value ≡ items.old.value) }
 {
     match Rc::make_mut(items) {
@@ -311,7 +328,8 @@ pub(crate) fn put_inner(
     }
 }
 
-/// Changes what stands at the end of a path of keys in a dict: in place where the dict isn't shared.
+/// Changes what stands at the end of a path of keys in a dict: in place where the dict isn't
+/// shared.
 #[cycle(change)]
 pub(crate) fn change_shared(
     entries: &mut Rc<Entries>,
@@ -331,13 +349,14 @@ pub(crate) fn change_shared(
     }
 }
 
-/// Adds elements to a list, where that is the change and its text is then longer by at most so many bytes: in place where it isn't
-/// shared. Says whether it did; where it didn't, nothing is changed.
+/// Adds elements to a list, where that is the change and its text is then longer by at most so many
+/// bytes: in place where it isn't shared. Says whether it did; where it didn't, nothing is changed.
 fn extend_by(items: &mut Rc<Items>, change: Change, room: usize) -> bool
     requires own { IsInner (write items.old.value) × (2 ≤ length items.old.value) }
     requires change { IsChange change }
     requires room { length (write items.old.value) + room ≤ 16777216 }
-    ensures change { OnTrue result (InnerChange (changed_by change (write items.old.value)) room (write items.old.value) (write items.new.value)) }
+    ensures change { OnTrue result (InnerChange (changed_by change (write items.old.value)) room
+        (write items.old.value) (write items.new.value)) }
     ensures inner { IsInner (write items.new.value) × (2 ≤ length items.new.value) }
     ensures unchanged { OnFalse result (write items.new.value ≡ write items.old.value) }
 {
@@ -347,11 +366,12 @@ fn extend_by(items: &mut Rc<Items>, change: Change, room: usize) -> bool
     extend_shared(items, elements, room)
 }
 
-/// Adds elements to a list, where its text is then longer by at most so many bytes: in place where it isn't shared. Says whether
-/// it did; where it didn't, nothing is changed.
+/// Adds elements to a list, where its text is then longer by at most so many bytes: in place where
+/// it isn't shared. Says whether it did; where it didn't, nothing is changed.
 fn extend_shared(items: &mut Rc<Items>, elements: Vec<Element>, room: usize) -> bool
     requires { AreElements elements.items }
-    ensures extended { OnTrue result ((items.new.value ≡ items.old.value ++ texts elements.items) × (length (write items.new.value) ≤ length (write items.old.value) + room)) }
+    ensures extended { OnTrue result ((items.new.value ≡ items.old.value ++ texts elements.items) ×
+        (length (write items.new.value) ≤ length (write items.old.value) + room)) }
     ensures unchanged { OnFalse result (items.new.value ≡ items.old.value) }
 {
     match Rc::make_mut(items) {
@@ -368,13 +388,15 @@ fn measured(alloc: Global, text: &Text) -> Result<Rc<Measured>, AllocError>
     Ok(grown)
 }
 
-/// Adds to the end of a text, where that is the change and what is written of the text is then longer by at most so many bytes: in
-/// place where it isn't shared. Says whether it did; where it didn't, nothing is changed.
+/// Adds to the end of a text, where that is the change and what is written of the text is then
+/// longer by at most so many bytes: in place where it isn't shared. Says whether it did; where it
+/// didn't, nothing is changed.
 fn append_by(grown: &mut Rc<Measured>, change: Change, room: usize) -> bool
     requires own { IsWithin grown.old.value }
     requires change { IsChange change }
     requires room { length grown.old.value + room ≤ 16777216 }
-    ensures change { OnTrue result (InnerChange (changed_by change grown.old.value) room grown.old.value grown.new.value) }
+    ensures change { OnTrue result (InnerChange (changed_by change grown.old.value) room grown.old.value
+        grown.new.value) }
     ensures within { IsWithin grown.new.value }
     ensures unchanged { OnFalse result (grown.new.value ≡ grown.old.value) }
 {
@@ -387,11 +409,13 @@ fn append_by(grown: &mut Rc<Measured>, change: Change, room: usize) -> bool
     append_shared(grown, &more, room)
 }
 
-/// Adds to the end of a text, where what is written of it is then longer by at most so many bytes: in place where it isn't shared.
-/// Says whether it did; where it didn't, nothing is changed.
+/// Adds to the end of a text, where what is written of it is then longer by at most so many bytes:
+/// in place where it isn't shared. Says whether it did; where it didn't, nothing is changed.
 fn append_shared(grown: &mut Rc<Measured>, more: &Text, room: usize) -> bool
     ensures appended { OnTrue result (grown.new.value ≡ grown.old.value ++ more.now) }
-    ensures light { OnTrue result ((first : Bool) → length (write_element first grown.new.value) ≤ length (write_element first grown.old.value) + room) }
+    ensures light { OnTrue result ((first : Bool) →
+        length (write_element first grown.new.value) ≤ length
+        (write_element first grown.old.value) + room) }
     ensures unchanged { OnFalse result (grown.new.value ≡ grown.old.value) }
 {
     match Rc::make_mut(grown) {
@@ -429,7 +453,8 @@ fn is_written_number(text: &[u8], n: i64, first: bool) -> bool
 
 /// What stands in braces, where a text is that.
 fn inside_braces(text: &[u8]) -> Option<&[u8]>
-    ensures { MatchOption result ((inside : Bytes) → text.now ≢ 123 ∷ inside ++ 125 ∷ []) (λ inside. text.now ≡ 123 ∷ inside.now ++ 125 ∷ []) }
+    ensures { MatchOption result ((inside : Bytes) → text.now ≢ 123 ∷ inside ++ 125 ∷ [])
+        (λ inside. text.now ≡ 123 ∷ inside.now ++ 125 ∷ []) }
 {
     match text {
         [b'{', rest @ ..] => before_brace(rest),
@@ -439,7 +464,8 @@ fn inside_braces(text: &[u8]) -> Option<&[u8]>
 
 /// What stands before a close brace that ends a text.
 fn before_brace(text: &[u8]) -> Option<&[u8]>
-    ensures { MatchOption result ((front : Bytes) → text.now ≢ front ++ 125 ∷ []) (λ front. text.now ≡ front.now ++ 125 ∷ []) }
+    ensures { MatchOption result ((front : Bytes) → text.now ≢ front ++ 125 ∷ [])
+        (λ front. text.now ≡ front.now ++ 125 ∷ []) }
 {
     match text {
         [front @ .., last] if *last == b'}' => Some(front),
@@ -449,7 +475,8 @@ fn before_brace(text: &[u8]) -> Option<&[u8]>
 
 /// What stands behind the space before an element that isn't the first.
 fn behind_space(text: &[u8], first: bool) -> Option<&[u8]>
-    ensures { MatchOption result ((rest : Bytes) → text.now ≢ space first ++ rest) (λ rest. text.now ≡ space first ++ rest.now) }
+    ensures { MatchOption result ((rest : Bytes) → text.now ≢ space first ++ rest)
+        (λ rest. text.now ≡ space first ++ rest.now) }
 {
     if first {
         return Some(text);
@@ -462,7 +489,9 @@ fn behind_space(text: &[u8], first: bool) -> Option<&[u8]>
 
 /// The first bytes of a text, and what is behind them.
 fn split_off(text: &[u8], len: usize) -> Option<(&[u8], &[u8])>
-    ensures { MatchOption result ((front rest : Bytes) → length front ≡ len → text.now ≢ front ++ rest) (λ parts. (length parts.0.now ≡ len) × (text.now ≡ parts.0.now ++ parts.1.now)) }
+    ensures { MatchOption result
+        ((front rest : Bytes) → length front ≡ len → text.now ≢ front ++ rest)
+        (λ parts. (length parts.0.now ≡ len) × (text.now ≡ parts.0.now ++ parts.1.now)) }
 {
     if len > text.len() {
         return None;
@@ -472,7 +501,8 @@ fn split_off(text: &[u8], len: usize) -> Option<(&[u8], &[u8])>
 
 /// What stands behind a key in a text where it is an element of a list, the first or another.
 pub(crate) fn behind_key<'a>(text: &'a [u8], key: &Text, first: bool) -> Option<&'a [u8]>
-    ensures { MatchOption result ((rest : Bytes) → text.now ≢ placed first key.now ++ rest) (λ rest. text.now ≡ placed first key.now ++ rest.now) }
+    ensures { MatchOption result ((rest : Bytes) → text.now ≢ placed first key.now ++ rest)
+        (λ rest. text.now ≡ placed first key.now ++ rest.now) }
 {
     let text = behind_space(text, first)?;
     let key = key.as_str();
@@ -486,7 +516,8 @@ pub(crate) fn behind_key<'a>(text: &'a [u8], key: &Text, first: bool) -> Option<
 
 /// Writes a number as an element of a list to the end of a string, or nothing.
 fn write_number_to(n: i64, first: bool, out: &mut String) -> Result<(), AllocError>
-    ensures written { OnOk result (string_bytes out.new ≡ string_bytes out.old ++ write_element first (signed_decimal n)) }
+    ensures written { OnOk result (string_bytes out.new
+        ≡ string_bytes out.old ++ write_element first (signed_decimal n)) }
     ensures unchanged { OnErr result (string_bytes out.new ≡ string_bytes out.old) }
 {
     let _first = first;

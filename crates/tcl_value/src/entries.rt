@@ -1,12 +1,16 @@
 //! Dicts that carry no text.
-ghost use Rattle.std.specs.Prelude.{◌≡◌, ◌≤◌, ◌<◌, ◌+◌, ◌++◌, ◌∷◌, ◌↔◌, [], length, IfOk, OnOk, OnErr, IfErr, IsErrOf, IsTrue, IfSome, MatchOption, option_map, slice_index_or};
+ghost use Rattle.std.specs.Prelude.{◌≡◌, ◌≤◌, ◌<◌, ◌+◌, ◌++◌, ◌∷◌, ◌↔◌, [], length, IfOk, OnOk};
+ghost use Rattle.std.specs.Prelude.{OnErr, IfErr, IsErrOf, IsTrue, IfSome, MatchOption, option_map};
+ghost use Rattle.std.specs.Prelude.{slice_index_or};
 ghost use Rattle.std.specs.Bool.{OnTrue, OnFalse};
 ghost use Rattle.std.specs.String.{string_bytes};
 ghost use Rattle.tcl_text.specs.Writing.{Extends};
 ghost use Rattle.tcl_value.specs.Limits.{IsWithin, IsPast};
 ghost use Rattle.tcl_value.specs.Writing.{write, write_element};
-ghost use Rattle.tcl_value.specs.Texts.{texts, flat, element_text, IsElement, IsInner, AreElements, weight, element_shown, ends_in_backslash};
-ghost use Rattle.tcl_value.specs.Dicts.{put, without, value_of, put_all, place_of, value_set, entry_dropped};
+ghost use Rattle.tcl_value.specs.Texts.{texts, flat, element_text, IsElement, IsInner, AreElements};
+ghost use Rattle.tcl_value.specs.Texts.{weight, element_shown, ends_in_backslash};
+ghost use Rattle.tcl_value.specs.Dicts.{put, without, value_of, put_all, place_of, value_set};
+ghost use Rattle.tcl_value.specs.Dicts.{entry_dropped};
 ghost use Rattle.tcl_value.specs.Inside.{DictChange, IsChange};
 
 use crate::element::{Change, Element, MOST_DEPTH, behind_key};
@@ -21,7 +25,8 @@ use tcl_text::text::Text;
 /// The weight of a dict whose text is as long as a value may be: its bytes and one more.
 pub(crate) const MOST_WEIGHT: u128 = 16_777_217;
 
-/// The entries of a dict: keys in the order in which they came, and at the same places their values.
+/// The entries of a dict: keys in the order in which they came, and at the same places their
+/// values.
 #[cycle(element)]
 #[derive(Drop)]
 pub(crate) struct Entries {
@@ -73,7 +78,8 @@ impl Entries {
 
     /// Where a key stands.
     pub(crate) fn find(&self, key: &Text) -> Option<usize>
-        ensures { MatchOption result (place_of self.now key.now ≡ length self.now) (λ i. (place_of self.now key.now ≡ i) × (i < length self.now)) }
+        ensures { MatchOption result (place_of self.now key.now ≡ length self.now)
+            (λ i. (place_of self.now key.now ≡ i) × (i < length self.now)) }
     {
         self.keys.get_index_of(key)
     }
@@ -90,7 +96,8 @@ impl Entries {
     /// The value at a place.
     pub(crate) fn value(&self, index: usize) -> &Element
         requires { index < length self.now }
-        ensures text { element_text result.now ≡ (slice_index_or self.now index ([], element_text result.now)).1 }
+        ensures text { element_text result.now ≡ (slice_index_or self.now index
+            ([], element_text result.now)).1 }
         ensures element { IsElement result.now }
     {
         &self.values[index]
@@ -113,7 +120,8 @@ impl Entries {
         requires in_bounds { index < length self.old }
         ensures set { OnOk result (self.new ≡ value_set self.old index (element_text value)) }
         ensures light { OnOk result (weight (flat self.new) ≤ most) }
-        ensures refused { IsErrOf result ValueError.TooLong ↔ (most < weight (flat (value_set self.old index (element_text value)))) }
+        ensures refused { IsErrOf result ValueError.TooLong ↔
+            (most < weight (flat (value_set self.old index (element_text value)))) }
         ensures unchanged { OnErr result (self.new ≡ self.old) }
     {
         let weight = self.weight_with_at(index, &value);
@@ -145,7 +153,8 @@ impl Entries {
         requires element { IsElement value }
         ensures added { OnOk result (self.new ≡ self.old ++ (key, element_text value) ∷ []) }
         ensures light { OnOk result (weight (flat self.new) ≤ most) }
-        ensures refused { IsErrOf result ValueError.TooLong ↔ (most < weight (flat (self.old ++ (key, element_text value) ∷ []))) }
+        ensures refused { IsErrOf result ValueError.TooLong ↔
+            (most < weight (flat (self.old ++ (key, element_text value) ∷ []))) }
         ensures unchanged { OnErr result (self.new ≡ self.old) }
     {
         let weight = self.weight_with(&key, &value);
@@ -161,7 +170,8 @@ impl Entries {
         Ok(())
     }
 
-    /// Gives a key a value, where it then weighs at most this much: where the key stands, or at the end.
+    /// Gives a key a value, where it then weighs at most this much: where the key stands, or at the
+    /// end.
     ///
     /// # Errors
     /// [`ValueError::TooLong`] exactly where it would weigh more; want of memory.
@@ -170,7 +180,8 @@ impl Entries {
         requires element { IsElement value }
         ensures put { OnOk result (self.new ≡ put self.old key (element_text value)) }
         ensures light { OnOk result (weight (flat self.new) ≤ most) }
-        ensures refused { IsErrOf result ValueError.TooLong ↔ (most < weight (flat (put self.old key (element_text value)))) }
+        ensures refused { IsErrOf result ValueError.TooLong ↔
+            (most < weight (flat (put self.old key (element_text value)))) }
         ensures unchanged { OnErr result (self.new ≡ self.old) }
     {
         match self.find(&key) {
@@ -214,7 +225,8 @@ impl Entries {
         requires { index < length self.old }
         ensures removed { OnOk result (self.new ≡ entry_dropped self.old index) }
         ensures light { OnOk result (weight (flat self.new) ≤ most) }
-        ensures refused { IsErrOf result ValueError.TooLong ↔ (most < weight (flat (entry_dropped self.old index))) }
+        ensures refused { IsErrOf result ValueError.TooLong ↔
+            (most < weight (flat (entry_dropped self.old index))) }
         ensures unchanged { OnErr result (self.new ≡ self.old) }
     {
         let weight = self.weight_without(index);
@@ -241,7 +253,8 @@ impl Entries {
         }
     }
 
-    /// The dict of keys and values in turn, where a repeated key keeps its first place and its last value.
+    /// The dict of keys and values in turn, where a repeated key keeps its first place and its last
+    /// value.
     ///
     /// # Errors
     /// Want of memory.
@@ -278,13 +291,15 @@ impl Entries {
     /// Gives a key a value: where the key stands, or at the end.
     ///
     /// # Errors
-    /// [`ValueError::TooLong`] exactly where the text would be too long for a value; want of memory.
+    /// [`ValueError::TooLong`] exactly where the text would be too long for a value; want of
+    /// memory.
     pub(crate) fn set(&mut self, key: Text, value: Element) -> Result<(), ValueError>
         requires key { IsWithin key }
         requires element { IsElement value }
         ensures set { OnOk result (self.new ≡ put self.old key (element_text value)) }
         ensures within { OnOk result (IsWithin (write (flat self.new))) }
-        ensures refused { IsErrOf result ValueError.TooLong ↔ IsPast (write (flat (put self.old key (element_text value)))) }
+        ensures refused { IsErrOf result ValueError.TooLong ↔ IsPast
+            (write (flat (put self.old key (element_text value)))) }
         ensures unchanged { OnErr result (self.new ≡ self.old) }
     {
         self.put(key, value, MOST_WEIGHT)
@@ -307,8 +322,8 @@ impl Entries {
         }
     }
 
-    /// Gives a key a value, where its text is then longer by at most so many bytes. Says whether it did; where it didn't, nothing is
-    /// changed.
+    /// Gives a key a value, where its text is then longer by at most so many bytes. Says whether it
+    /// did; where it didn't, nothing is changed.
     fn change_key(&mut self, key: Text, change: Change, room: usize) -> bool
         requires key { IsWithin key }
         requires change { IsChange change }
@@ -335,8 +350,9 @@ impl Entries {
         last > 0 && self.value(last - 1).ends_in_backslash()
     }
 
-    /// Removes a key, if it is there, where that is the change, and the text then ends in no backslash and is longer by at most so
-    /// many bytes. Says whether it did; where it didn't, nothing is changed.
+    /// Removes a key, if it is there, where that is the change, and the text then ends in no
+    /// backslash and is longer by at most so many bytes. Says whether it did; where it didn't,
+    /// nothing is changed.
     fn remove_by(&mut self, change: Change, room: usize) -> bool
         ensures change { OnTrue result (DictChange [] change room self.old self.new) }
         ensures unchanged { OnFalse result (self.new ≡ self.old) }
@@ -355,8 +371,9 @@ impl Entries {
         self.remove_at(index, most).is_ok()
     }
 
-    /// Changes what stands at the end of a path of keys in the value of a key, where the text is then longer by at most so many bytes.
-    /// Says whether it did; where it didn't, nothing is changed.
+    /// Changes what stands at the end of a path of keys in the value of a key, where the text is
+    /// then longer by at most so many bytes. Says whether it did; where it didn't, nothing is
+    /// changed.
     #[cycle(change)]
     fn change_deeper(
         &mut self,
@@ -387,9 +404,9 @@ impl Entries {
         true
     }
 
-    /// Changes what stands at the end of a path of keys in dicts that stand in one another, where each of them is kept as a dict, and
-    /// the text is then longer by at most so many bytes. What isn't shared is changed in place. Says whether it did; where it
-    /// didn't, nothing is changed.
+    /// Changes what stands at the end of a path of keys in dicts that stand in one another, where
+    /// each of them is kept as a dict, and the text is then longer by at most so many bytes. What
+    /// isn't shared is changed in place. Says whether it did; where it didn't, nothing is changed.
     #[cycle(change)]
     pub(crate) fn change(
         &mut self,

@@ -1,11 +1,14 @@
 //! Lists that carry no text.
-ghost use Rattle.std.specs.Prelude.{◌≡◌, ◌<◌, ◌≤◌, ◌++◌, ◌∷◌, ◌^◌, ◌+◌, ◌==◌, false, ◌&&◌, ◌↔◌, [], length, IfOk, OnOk, OnErr, IfErr, IsErr, IsErrOf, IsTrue, slice_index_or, slice_set};
+ghost use Rattle.std.specs.Prelude.{◌≡◌, ◌<◌, ◌≤◌, ◌++◌, ◌∷◌, ◌^◌, ◌+◌, ◌==◌, false, ◌&&◌, ◌↔◌, []};
+ghost use Rattle.std.specs.Prelude.{length, IfOk, OnOk, OnErr, IfErr, IsErr, IsErrOf, IsTrue};
+ghost use Rattle.std.specs.Prelude.{slice_index_or, slice_set};
 ghost use Rattle.std.specs.Bool.{OnTrue, OnFalse};
 ghost use Rattle.std.specs.String.{string_bytes};
 ghost use Rattle.tcl_text.specs.Writing.{Extends};
 ghost use Rattle.tcl_value.specs.Limits.{IsWithin, IsPast};
 ghost use Rattle.tcl_value.specs.Writing.{write};
-ghost use Rattle.tcl_value.specs.Texts.{element_text, texts, flat, IsElement, IsInner, AreElements, ends_in_backslash, weight, weight_from};
+ghost use Rattle.tcl_value.specs.Texts.{element_text, texts, flat, IsElement, IsInner, AreElements};
+ghost use Rattle.tcl_value.specs.Texts.{ends_in_backslash, weight, weight_from};
 ghost use Rattle.tcl_value.specs.Inside.{ListPut};
 
 use crate::element::{Element, MOST_DEPTH};
@@ -238,7 +241,8 @@ impl Items {
         requires { IsElement element }
         ensures pushed { OnOk result (self.new ≡ self.old ++ element_text element ∷ []) }
         ensures light { OnOk result (weight self.new ≤ most) }
-        ensures refused { IsErrOf result ValueError.TooLong ↔ (most < weight (self.old ++ element_text element ∷ [])) }
+        ensures refused { IsErrOf result ValueError.TooLong ↔
+            (most < weight (self.old ++ element_text element ∷ [])) }
         ensures unchanged { OnErr result (self.new ≡ self.old) }
     {
         let weight = self.weight_with(&element);
@@ -255,12 +259,14 @@ impl Items {
     /// Adds an element at the end.
     ///
     /// # Errors
-    /// [`ValueError::TooLong`] exactly where the text would be too long for a value; want of memory.
+    /// [`ValueError::TooLong`] exactly where the text would be too long for a value; want of
+    /// memory.
     pub(crate) fn push(&mut self, element: Element) -> Result<(), ValueError>
         requires { IsElement element }
         ensures pushed { OnOk result (self.new ≡ self.old ++ element_text element ∷ []) }
         ensures within { OnOk result (IsWithin (write self.new)) }
-        ensures refused { IsErrOf result ValueError.TooLong ↔ IsPast (write (self.old ++ element_text element ∷ [])) }
+        ensures refused { IsErrOf result ValueError.TooLong ↔ IsPast
+            (write (self.old ++ element_text element ∷ [])) }
         ensures unchanged { OnErr result (self.new ≡ self.old) }
     {
         self.push_light(element, MOST_WEIGHT)
@@ -292,7 +298,8 @@ impl Items {
     /// Adds elements at the end, all of them or none.
     ///
     /// # Errors
-    /// [`ValueError::TooLong`] exactly where the text would be too long for a value; want of memory.
+    /// [`ValueError::TooLong`] exactly where the text would be too long for a value; want of
+    /// memory.
     pub(crate) fn extend(&mut self, elements: Vec<Element>) -> Result<(), ValueError>
         requires { AreElements elements.items }
         ensures extended { OnOk result (self.new ≡ self.old ++ texts elements.items) }
@@ -303,11 +310,12 @@ impl Items {
         self.extend_light(elements, MOST_WEIGHT)
     }
 
-    /// Adds elements at the end, where its text is then longer by at most so many bytes. Says whether it did; where it didn't, nothing
-    /// is changed.
+    /// Adds elements at the end, where its text is then longer by at most so many bytes. Says
+    /// whether it did; where it didn't, nothing is changed.
     pub(crate) fn extend_within(&mut self, elements: Vec<Element>, room: usize) -> bool
         requires { AreElements elements.items }
-        ensures extended { OnTrue result ((self.new ≡ self.old ++ texts elements.items) × (length (write self.new) ≤ length (write self.old) + room)) }
+        ensures extended { OnTrue result ((self.new ≡ self.old ++ texts elements.items) ×
+            (length (write self.new) ≤ length (write self.old) + room)) }
         ensures unchanged { OnFalse result (self.new ≡ self.old) }
     {
         let most = self.weight + room as u128;
@@ -354,8 +362,8 @@ impl Items {
         self.set_light(index, element, MOST_WEIGHT)
     }
 
-    /// Puts an element in the place of another or behind the last, where its text is then longer by at most so many bytes.
-    /// Says whether it did; where it didn't, nothing is changed.
+    /// Puts an element in the place of another or behind the last, where its text is then longer by
+    /// at most so many bytes. Says whether it did; where it didn't, nothing is changed.
     fn put_at(&mut self, place: usize, element: Element, room: usize) -> bool
         requires element { IsElement element }
         requires ends { ends_in_backslash (element_text element) ≡ false }
@@ -372,14 +380,15 @@ impl Items {
         self.push_light(element, most).is_ok()
     }
 
-    /// Puts an element at a path of places in an element, where the text is then longer by at most so many bytes. Says whether it
-    /// did; where it didn't, nothing is changed.
+    /// Puts an element at a path of places in an element, where the text is then longer by at most
+    /// so many bytes. Says whether it did; where it didn't, nothing is changed.
     #[cycle(put)]
     fn put_deeper(&mut self, place: usize, path: &[usize], element: Element, room: usize) -> bool
         requires element { IsElement element }
         requires ends { ends_in_backslash (element_text element) ≡ false }
         requires room { length (write self.old) + room ≤ 16777216 }
-        ensures put { OnTrue result (ListPut (place ∷ path.now) (element_text element) room self.old self.new) }
+        ensures put { OnTrue result (ListPut (place ∷ path.now) (element_text element) room self.old
+            self.new) }
         ensures unchanged { OnFalse result (self.new ≡ self.old) }
     {
         if place >= self.elements.len() {
@@ -397,9 +406,9 @@ impl Items {
         true
     }
 
-    /// Puts an element at a path of places in lists that stand in one another, where each of them is kept as a list, and the
-    /// text is then longer by at most so many bytes. What isn't shared is changed in place. Says whether it did; where it
-    /// didn't, nothing is changed.
+    /// Puts an element at a path of places in lists that stand in one another, where each of them
+    /// is kept as a list, and the text is then longer by at most so many bytes. What isn't shared
+    /// is changed in place. Says whether it did; where it didn't, nothing is changed.
     #[cycle(put)]
     pub(crate) fn put(&mut self, path: &[usize], element: Element, room: usize) -> bool
         requires element { IsElement element }
@@ -428,7 +437,8 @@ fn weigh(elements: &[Element]) -> u128
     weight
 }
 
-/// What these elements add to the weight of a list, where the first of them is the list's first or not.
+/// What these elements add to the weight of a list, where the first of them is the list's first or
+/// not.
 fn weigh_from(first: bool, elements: &[Element]) -> u128
     requires { AreElements elements.now }
     ensures weight { result ≡ weight_from first (texts elements.now) }
@@ -441,7 +451,8 @@ fn weigh_from(first: bool, elements: &[Element]) -> u128
     weight
 }
 
-/// Whether the element at a place of some elements is the first of the list that they end, which they begin or not.
+/// Whether the element at a place of some elements is the first of the list that they end, which
+/// they begin or not.
 fn leads(first: bool, index: usize) -> bool
     ensures { result ≡ (first && (index == 0)) }
 {

@@ -1,5 +1,7 @@
 //! Lists, whose elements are values.
-ghost use Rattle.std.specs.Prelude.{◌≡◌, ◌<◌, ◌≤◌, Ok, ◌==◌, ◌++◌, ◌∷◌, ◌↔◌, [], length, IfOk, OnOk, OnErr, IsErr, IfErr, IsErrOf, IsTrue, slice_index_or, slice_set};
+ghost use Rattle.std.specs.Prelude.{◌≡◌, ◌<◌, ◌≤◌, Ok, ◌==◌, ◌++◌, ◌∷◌, ◌↔◌, [], length, IfOk};
+ghost use Rattle.std.specs.Prelude.{OnOk, OnErr, IsErr, IfErr, IsErrOf, IsTrue, slice_index_or};
+ghost use Rattle.std.specs.Prelude.{slice_set};
 ghost use Rattle.std.specs.Fmt.{signed_decimal};
 ghost use Rattle.std.specs.String.{string_bytes};
 ghost use Rattle.tcl_value.specs.Limits.{IsWithin, IsPast};
@@ -7,7 +9,8 @@ ghost use Rattle.tcl_value.specs.Writing.{write};
 ghost use Rattle.tcl_value.specs.Reading.{list_of};
 ghost use Rattle.tcl_text.specs.Reading.{Gives};
 ghost use Rattle.tcl_value.specs.Changes.{Refuses};
-ghost use Rattle.tcl_value.specs.Texts.{element_text, texts as texts_of, flat, IsElement, AreElements};
+ghost use Rattle.tcl_value.specs.Texts.{element_text, texts as texts_of, flat, IsElement};
+ghost use Rattle.tcl_value.specs.Texts.{AreElements};
 
 use crate::element::Element;
 use crate::entries::Entries;
@@ -143,12 +146,14 @@ impl List {
     /// Adds an element at the end: in place where the list isn't shared.
     ///
     /// # Errors
-    /// [`ValueError::TooLong`] exactly where the list's text would be too long for a value; want of memory.
+    /// [`ValueError::TooLong`] exactly where the list's text would be too long for a value; want of
+    /// memory.
     pub(crate) fn push_element(&mut self, element: Element) -> Result<(), ValueError>
         requires { IsElement element }
         ensures pushed { OnOk result (self.new ≡ self.old ++ element_text element ∷ []) }
         ensures within { OnOk result (IsWithin (write self.new)) }
-        ensures refused { IsErrOf result ValueError.TooLong → IsPast (write (self.old ++ element_text element ∷ [])) }
+        ensures refused { IsErrOf result ValueError.TooLong →
+            IsPast (write (self.old ++ element_text element ∷ [])) }
         ensures unchanged { OnErr result (self.new ≡ self.old) }
     {
         Rc::make_mut(&mut self.items)?.push(element)
@@ -159,7 +164,8 @@ impl List {
         requires { AreElements elements.items }
         ensures extended { OnOk result (self.new ≡ self.old ++ texts_of elements.items) }
         ensures within { OnOk result (IsWithin (write self.new)) }
-        ensures refused { IsErrOf result ValueError.TooLong → IsPast (write (self.old ++ texts_of elements.items)) }
+        ensures refused { IsErrOf result ValueError.TooLong →
+            IsPast (write (self.old ++ texts_of elements.items)) }
         ensures unchanged { OnErr result (self.new ≡ self.old) }
     {
         Rc::make_mut(&mut self.items)?.extend(elements)
@@ -168,11 +174,13 @@ impl List {
     /// Adds an element at the end: in place where the list isn't shared.
     ///
     /// # Errors
-    /// [`ValueError::TooLong`] only where the list's text would be too long for a value; want of memory.
+    /// [`ValueError::TooLong`] only where the list's text would be too long for a value; want of
+    /// memory.
     pub fn push(&mut self, alloc: Global, value: Value) -> Result<(), ValueError>
         ensures pushed { OnOk result (self.new ≡ self.old ++ value ∷ []) }
         ensures within { OnOk result (IsWithin (write self.new)) }
-        ensures refused { IsErrOf result ValueError.TooLong → IsPast (write (self.old ++ value ∷ [])) }
+        ensures refused { IsErrOf result ValueError.TooLong →
+            IsPast (write (self.old ++ value ∷ [])) }
         ensures unchanged { OnErr result (self.new ≡ self.old) }
     {
         let element = value.into_element(alloc)?;
@@ -182,12 +190,14 @@ impl List {
     /// Adds an element of another list at the end.
     ///
     /// # Errors
-    /// [`ValueError::TooLong`] only where the list's text would be too long for a value; want of memory.
+    /// [`ValueError::TooLong`] only where the list's text would be too long for a value; want of
+    /// memory.
     pub fn push_from(&mut self, list: &List, index: usize) -> Result<(), ValueError>
         requires { index < length list.now }
         ensures pushed { OnOk result (self.new ≡ self.old ++ slice_index_or list.now index [] ∷ []) }
         ensures within { OnOk result (IsWithin (write self.new)) }
-        ensures refused { IsErrOf result ValueError.TooLong → IsPast (write (self.old ++ slice_index_or list.now index [] ∷ [])) }
+        ensures refused { IsErrOf result ValueError.TooLong →
+            IsPast (write (self.old ++ slice_index_or list.now index [] ∷ [])) }
         ensures unchanged { OnErr result (self.new ≡ self.old) }
     {
         let element = list.items.get(index).clone()?;
@@ -197,13 +207,14 @@ impl List {
     /// Puts an element in the place of another: in place where the list isn't shared.
     ///
     /// # Errors
-    /// [`ValueError::TooLong`] only where the list's text would be too long for a value; want of memory. Either leaves the
-    /// list as it was.
+    /// [`ValueError::TooLong`] only where the list's text would be too long for a value; want of
+    /// memory. Either leaves the list as it was.
     pub fn set(&mut self, alloc: Global, index: usize, value: Value) -> Result<(), ValueError>
         requires { index < length self.old }
         ensures set { OnOk result (self.new ≡ slice_set self.old index value) }
         ensures within { OnOk result (IsWithin (write self.new)) }
-        ensures refused { IsErrOf result ValueError.TooLong → IsPast (write (slice_set self.old index value)) }
+        ensures refused { IsErrOf result ValueError.TooLong →
+            IsPast (write (slice_set self.old index value)) }
         ensures unchanged { OnErr result (self.new ≡ self.old) }
     {
         let element = value.into_element(alloc)?;
@@ -213,13 +224,17 @@ impl List {
     /// Puts an element in the place of another: in place where the list isn't shared.
     ///
     /// # Errors
-    /// [`ChangeError::NoElement`] exactly where there is no element at the place, [`ChangeError::TooLong`] where the list's
-    /// text would be too long for a value; want of memory.
+    /// [`ChangeError::NoElement`] exactly where there is no element at the place,
+    /// [`ChangeError::TooLong`] where the list's text would be too long for a value; want of
+    /// memory.
     pub(crate) fn set_element(&mut self, index: usize, element: Element) -> Result<(), ChangeError>
         requires { IsElement element }
-        ensures set { OnOk result ((index < length self.old) × (self.new ≡ slice_set self.old index (element_text element))) }
+        ensures set { OnOk result ((index < length self.old) ×
+            (self.new ≡ slice_set self.old index (element_text element))) }
         ensures within { OnOk result (IsWithin (write self.new)) }
-        ensures refused { IfErr result (λ e. Refuses e (Ok self.old) (λ list. IsPast (write (slice_set list index (element_text element)))) (λ list. length list ≤ index)) }
+        ensures refused { IfErr result
+            (λ e. Refuses e (Ok self.old) (λ list. IsPast
+            (write (slice_set list index (element_text element)))) (λ list. length list ≤ index)) }
         ensures unchanged { OnErr result (self.new ≡ self.old) }
     {
         set_shared(&mut self.items, index, element)

@@ -1,12 +1,16 @@
 //! Values, each of which is seen as its text.
-ghost use Rattle.std.specs.Prelude.{◌≡◌, ◌≤◌, ◌<◌, ◌++◌, ◌∷◌, ◌↔◌, [], length, Ok, IfOk, OnOk, OnErr, IsErrOf, IfErr, MatchResult, IfSome, Some, false, IsTrue, slice_set};
+ghost use Rattle.std.specs.Prelude.{◌≡◌, ◌≤◌, ◌<◌, ◌++◌, ◌∷◌, ◌↔◌, [], length, Ok, IfOk, OnOk};
+ghost use Rattle.std.specs.Prelude.{OnErr, IsErrOf, IfErr, MatchResult, IfSome, Some, false};
+ghost use Rattle.std.specs.Prelude.{IsTrue, slice_set};
 ghost use Rattle.std.specs.Bool.{OnTrue, OnFalse};
 ghost use Rattle.std.specs.Fmt.{signed_decimal};
 ghost use Rattle.std.specs.String.{string_bytes};
 ghost use Rattle.tcl_value.specs.Limits.{Bytes, IsWithin, IsPast};
 ghost use Rattle.tcl_value.specs.Writing.{write};
-ghost use Rattle.tcl_value.specs.Texts.{element_text, texts, flat, ends_in_backslash, IsElement, AreElements};
-ghost use Rattle.tcl_value.specs.Inside.{element_put, entry_changed, entry_made, elements_added, key_dropped, IsChange};
+ghost use Rattle.tcl_value.specs.Texts.{element_text, texts, flat, ends_in_backslash, IsElement};
+ghost use Rattle.tcl_value.specs.Texts.{AreElements};
+ghost use Rattle.tcl_value.specs.Inside.{element_put, entry_changed, entry_made, elements_added};
+ghost use Rattle.tcl_value.specs.Inside.{key_dropped, IsChange};
 ghost use Rattle.tcl_value.specs.Reading.{int_of, list_of};
 ghost use Rattle.tcl_text.specs.Reading.{Gives};
 ghost use Rattle.tcl_text.specs.Writing.{Extends};
@@ -137,11 +141,12 @@ enum Kept {
     Script(Rc<Script>),
 }
 
-/// A value of the language, which contracts see as its text: the list of its bytes in UTF-8, of which there are at most
-/// [`MOST_BYTES`].
+/// A value of the language, which contracts see as its text: the list of its bytes in UTF-8, of
+/// which there are at most [`MOST_BYTES`].
 ///
-/// A number, a list or a dict that was built carries no text until one is asked for, and a text keeps what it was last
-/// read as. A clone shares what is kept. What isn't shared is changed in place.
+/// A number, a list or a dict that was built carries no text until one is asked for, and a text
+/// keeps what it was last read as. A clone shares what is kept. What isn't shared is changed in
+/// place.
 pub struct Value {
     form: Form,
     kept: Kept,
@@ -184,7 +189,8 @@ impl Value {
     /// # Errors
     /// [`ValueError::TooLong`] exactly where the text has more than [`MOST_BYTES`].
     pub fn from_text(text: Text) -> Result<Value, ValueError>
-        ensures { MatchResult result (λ value. (value ≡ text) × IsWithin text) (λ e. (e ≡ ValueError.TooLong) × IsPast text) }
+        ensures { MatchResult result (λ value. (value ≡ text) × IsWithin text)
+            (λ e. (e ≡ ValueError.TooLong) × IsPast text) }
     {
         if text.len() > MOST_BYTES {
             return Err(ValueError::TooLong);
@@ -338,7 +344,8 @@ impl Value {
     /// The integer that its text reads as, in a style. This takes no memory.
     ///
     /// # Errors
-    /// [`IntegerFault`]: 111 where the text is no integer text, 112 where the number doesn't fit 64 bits.
+    /// [`IntegerFault`]: 111 where the text is no integer text, 112 where the number doesn't fit 64
+    /// bits.
     pub fn as_int(&mut self, style: Integers) -> Result<i64, IntegerFault>
         ensures read { result ≡ int_of style self.old }
         ensures text { self.new ≡ self.old }
@@ -359,7 +366,8 @@ impl Value {
 }
 
 impl Value {
-    /// The list that is at hand without reading its text: a list that was built, or what the text was last read as.
+    /// The list that is at hand without reading its text: a list that was built, or what the text
+    /// was last read as.
     fn list_at_hand(&self) -> Result<Option<List>, AllocError>
         ensures { IfOk result (λ found. IfSome found (λ list. list_of self.now ≡ Ok list)) }
     {
@@ -402,7 +410,8 @@ impl Value {
     /// The value of a list.
     ///
     /// # Errors
-    /// [`ValueError::TooLong`] exactly where the list's text would be longer than [`MOST_BYTES`]; want of memory.
+    /// [`ValueError::TooLong`] exactly where the list's text would be longer than [`MOST_BYTES`];
+    /// want of memory.
     pub fn from_list(alloc: Global, list: List) -> Result<Value, ValueError>
         ensures made { IfOk result (λ value. (value ≡ write list) × IsWithin (write list)) }
         ensures refused { IsErrOf result ValueError.TooLong ↔ IsPast (write list) }
@@ -446,8 +455,8 @@ impl Value {
     /// Adds to its text: in place where the text isn't shared.
     ///
     /// # Errors
-    /// [`ValueError::TooLong`] exactly where the text would be longer than [`MOST_BYTES`]; want of memory. Either leaves
-    /// the value as it was.
+    /// [`ValueError::TooLong`] exactly where the text would be longer than [`MOST_BYTES`]; want of
+    /// memory. Either leaves the value as it was.
     pub fn append(&mut self, alloc: Global, more: &str) -> Result<(), ValueError>
         ensures appended { OnOk result (self.new ≡ self.old ++ more.now) }
         ensures within { OnOk result (IsWithin (self.old ++ more.now)) }
@@ -468,14 +477,20 @@ impl Value {
         Ok(())
     }
 
-    /// Adds an element to the list that it reads as: in place where it is kept as a list that isn't shared.
+    /// Adds an element to the list that it reads as: in place where it is kept as a list that isn't
+    /// shared.
     ///
     /// # Errors
-    /// [`ChangeError::List`] exactly where the text spells no list, [`ChangeError::TooLong`] exactly where the list's text
-    /// would be longer than [`MOST_BYTES`]; want of memory. Any leaves the value as it was.
+    /// [`ChangeError::List`] exactly where the text spells no list, [`ChangeError::TooLong`]
+    /// exactly where the list's text would be longer than [`MOST_BYTES`]; want of memory. Any
+    /// leaves the value as it was.
     pub fn push(&mut self, alloc: Global, value: Value) -> Result<(), ChangeError>
-        ensures pushed { OnOk result (AtList (list_of self.old) (λ list. (self.new ≡ write (list ++ value ∷ [])) × IsWithin (write (list ++ value ∷ [])))) }
-        ensures refused { IfErr result (λ e. Refuses e (list_of self.old) (λ list. IsPast (write (list ++ value ∷ []))) (λ _. ⊥)) }
+        ensures pushed { OnOk result (AtList (list_of self.old)
+            (λ list. (self.new ≡ write (list ++ value ∷ [])) × IsWithin
+            (write (list ++ value ∷ [])))) }
+        ensures refused { IfErr result
+            (λ e. Refuses e (list_of self.old) (λ list. IsPast (write (list ++ value ∷ [])))
+            (λ _. ⊥)) }
         ensures unchanged { OnErr result (self.new ≡ self.old) }
     {
         let element = value.into_element(alloc)?;
@@ -490,15 +505,20 @@ impl Value {
         Ok(())
     }
 
-    /// Adds elements to the list that it reads as, all of them or none: in place where it is kept as a list that isn't
-    /// shared.
+    /// Adds elements to the list that it reads as, all of them or none: in place where it is kept
+    /// as a list that isn't shared.
     ///
     /// # Errors
-    /// [`ChangeError::List`] exactly where the text spells no list, [`ChangeError::TooLong`] exactly where the list's text
-    /// would be longer than [`MOST_BYTES`]; want of memory. Any leaves the value as it was.
+    /// [`ChangeError::List`] exactly where the text spells no list, [`ChangeError::TooLong`]
+    /// exactly where the list's text would be longer than [`MOST_BYTES`]; want of memory. Any
+    /// leaves the value as it was.
     pub fn extend(&mut self, alloc: Global, values: &[Value]) -> Result<(), ChangeError>
-        ensures extended { OnOk result (AtList (list_of self.old) (λ list. (self.new ≡ write (list ++ values.now)) × IsWithin (write (list ++ values.now)))) }
-        ensures refused { IfErr result (λ e. Refuses e (list_of self.old) (λ list. IsPast (write (list ++ values.now))) (λ _. ⊥)) }
+        ensures extended { OnOk result (AtList (list_of self.old)
+            (λ list. (self.new ≡ write (list ++ values.now)) × IsWithin
+            (write (list ++ values.now)))) }
+        ensures refused { IfErr result
+            (λ e. Refuses e (list_of self.old) (λ list. IsPast (write (list ++ values.now)))
+            (λ _. ⊥)) }
         ensures unchanged { OnErr result (self.new ≡ self.old) }
     {
         let elements = elements_of(alloc, values)?;
@@ -513,16 +533,21 @@ impl Value {
         Ok(())
     }
 
-    /// Puts an element in the place of another in the list that it reads as: in place where it is kept as a list that
-    /// isn't shared.
+    /// Puts an element in the place of another in the list that it reads as: in place where it is
+    /// kept as a list that isn't shared.
     ///
     /// # Errors
-    /// [`ChangeError::List`] exactly where the text spells no list, [`ChangeError::NoElement`] exactly where the list has no
-    /// element at the place, [`ChangeError::TooLong`] exactly where the list's text would be longer than [`MOST_BYTES`];
-    /// want of memory. Any leaves the value as it was.
+    /// [`ChangeError::List`] exactly where the text spells no list, [`ChangeError::NoElement`]
+    /// exactly where the list has no element at the place, [`ChangeError::TooLong`] exactly where
+    /// the list's text would be longer than [`MOST_BYTES`]; want of memory. Any leaves the value as
+    /// it was.
     pub fn set_at(&mut self, alloc: Global, index: usize, value: Value) -> Result<(), ChangeError>
-        ensures set { OnOk result (AtList (list_of self.old) (λ list. (index < length list) × (self.new ≡ write (slice_set list index value)) × IsWithin (write (slice_set list index value)))) }
-        ensures refused { IfErr result (λ e. Refuses e (list_of self.old) (λ list. IsPast (write (slice_set list index value))) (λ list. length list ≤ index)) }
+        ensures set { OnOk result (AtList (list_of self.old)
+            (λ list. (index < length list) × (self.new ≡ write (slice_set list index value)) ×
+            IsWithin (write (slice_set list index value)))) }
+        ensures refused { IfErr result
+            (λ e. Refuses e (list_of self.old) (λ list. IsPast (write (slice_set list index value)))
+            (λ list. length list ≤ index)) }
         ensures unchanged { OnErr result (self.new ≡ self.old) }
     {
         let element = value.into_element(alloc)?;
@@ -537,7 +562,8 @@ impl Value {
         Ok(())
     }
 
-    /// The dict that is at hand without reading a text or a list: a dict that was built, or what the text was last read as.
+    /// The dict that is at hand without reading a text or a list: a dict that was built, or what
+    /// the text was last read as.
     fn dict_at_hand(&self) -> Result<Option<Dict>, AllocError>
         ensures { IfOk result (λ found. IfSome found (λ dict. dict_of self.now ≡ Ok dict)) }
     {
@@ -551,12 +577,12 @@ impl Value {
         }
     }
 
-    /// The dict that its text spells, which is kept: a list of keys and values in turn, where a repeated key keeps its first
-    /// place and its last value.
+    /// The dict that its text spells, which is kept: a list of keys and values in turn, where a
+    /// repeated key keeps its first place and its last value.
     ///
     /// # Errors
-    /// [`DictError::Fault`] exactly where the text spells no list (101 to 104), or one with an odd number of elements (121);
-    /// want of memory.
+    /// [`DictError::Fault`] exactly where the text spells no list (101 to 104), or one with an odd
+    /// number of elements (121); want of memory.
     pub fn as_dict(&mut self, alloc: Global) -> Result<Dict, DictError>
         ensures read { GivesDict result (dict_of self.old) }
         ensures text { self.new ≡ self.old }
@@ -575,8 +601,10 @@ impl Value {
     /// # Errors
     /// [`ValueError::TooLong`] exactly where the dict's text would be longer than [`MOST_BYTES`].
     pub fn from_dict(dict: Dict) -> Result<Value, ValueError>
-        ensures made { IfOk result (λ value. (value ≡ write (flat dict)) × IsWithin (write (flat dict))) }
-        ensures refused { IfErr result (λ e. (e ≡ ValueError.TooLong) × IsPast (write (flat dict))) }
+        ensures made { IfOk result
+            (λ value. (value ≡ write (flat dict)) × IsWithin (write (flat dict))) }
+        ensures refused { IfErr result
+            (λ e. (e ≡ ValueError.TooLong) × IsPast (write (flat dict))) }
     {
         if !dict.is_within() {
             return Err(ValueError::TooLong);
@@ -596,14 +624,20 @@ impl Value {
         self.text(alloc)
     }
 
-    /// Gives a key a value in the dict that it reads as: in place where it is kept as a dict that isn't shared.
+    /// Gives a key a value in the dict that it reads as: in place where it is kept as a dict that
+    /// isn't shared.
     ///
     /// # Errors
-    /// [`EntryError::Fault`] exactly where the text spells no dict, [`EntryError::TooLong`] exactly where the dict's text
-    /// would be longer than [`MOST_BYTES`]; want of memory. Any leaves the value as it was.
+    /// [`EntryError::Fault`] exactly where the text spells no dict, [`EntryError::TooLong`] exactly
+    /// where the dict's text would be longer than [`MOST_BYTES`]; want of memory. Any leaves the
+    /// value as it was.
     pub fn set_key(&mut self, alloc: Global, key: &Value, value: Value) -> Result<(), EntryError>
-        ensures set { OnOk result (AtDict (dict_of self.old) (λ es. (self.new ≡ write (flat (put es key.now value))) × IsWithin (write (flat (put es key.now value))))) }
-        ensures refused { IfErr result (λ e. RefusesEntry e (dict_of self.old) (λ es. IsPast (write (flat (put es key.now value))))) }
+        ensures set { OnOk result (AtDict (dict_of self.old)
+            (λ es. (self.new ≡ write (flat (put es key.now value))) × IsWithin
+            (write (flat (put es key.now value))))) }
+        ensures refused { IfErr result
+            (λ e. RefusesEntry e (dict_of self.old)
+            (λ es. IsPast (write (flat (put es key.now value))))) }
         ensures unchanged { OnErr result (self.new ≡ self.old) }
     {
         let key = key.key_text(alloc)?;
@@ -620,14 +654,20 @@ impl Value {
         Ok(())
     }
 
-    /// Removes a key, if it is there, from the dict that it reads as: in place where it is kept as a dict that isn't shared.
+    /// Removes a key, if it is there, from the dict that it reads as: in place where it is kept as
+    /// a dict that isn't shared.
     ///
     /// # Errors
-    /// [`EntryError::Fault`] exactly where the text spells no dict, [`EntryError::TooLong`] exactly where the text of what is
-    /// left would be longer than [`MOST_BYTES`]; want of memory. Any leaves the value as it was.
+    /// [`EntryError::Fault`] exactly where the text spells no dict, [`EntryError::TooLong`] exactly
+    /// where the text of what is left would be longer than [`MOST_BYTES`]; want of memory. Any
+    /// leaves the value as it was.
     pub fn remove_key(&mut self, alloc: Global, key: &Text) -> Result<(), EntryError>
-        ensures removed { OnOk result (AtDict (dict_of self.old) (λ es. (self.new ≡ write (flat (without es key.now))) × IsWithin (write (flat (without es key.now))))) }
-        ensures refused { IfErr result (λ e. RefusesEntry e (dict_of self.old) (λ es. IsPast (write (flat (without es key.now))))) }
+        ensures removed { OnOk result (AtDict (dict_of self.old)
+            (λ es. (self.new ≡ write (flat (without es key.now))) × IsWithin
+            (write (flat (without es key.now))))) }
+        ensures refused { IfErr result
+            (λ e. RefusesEntry e (dict_of self.old)
+            (λ es. IsPast (write (flat (without es key.now))))) }
         ensures unchanged { OnErr result (self.new ≡ self.old) }
     {
         if let Form::Dict(entries) = &mut self.form {
@@ -657,7 +697,8 @@ impl Value {
         false
     }
 
-    /// Changes what stands at the end of a path of keys in it, where the dicts on the way are kept as dicts.
+    /// Changes what stands at the end of a path of keys in it, where the dicts on the way are kept
+    /// as dicts.
     fn change_entry(&mut self, alloc: Global, path: &[Value], change: Change) -> bool
         requires { IsChange change }
         ensures changed { OnTrue result (entry_changed path.now change self.old ≡ Some self.new) }
@@ -671,9 +712,9 @@ impl Value {
         false
     }
 
-    /// Puts an element at a path of places in the lists that stand in one another, where each of them is kept as a list: in place
-    /// where it isn't shared. Says whether it did; where it didn't, nothing is changed, and the change is one to be made
-    /// otherwise.
+    /// Puts an element at a path of places in the lists that stand in one another, where each of
+    /// them is kept as a list: in place where it isn't shared. Says whether it did; where it
+    /// didn't, nothing is changed, and the change is one to be made otherwise.
     pub fn put_inside(&mut self, alloc: Global, path: &[usize], value: &Value) -> bool
         ensures put { OnTrue result (element_put path.now value.now self.old ≡ Some self.new) }
         ensures unchanged { OnFalse result (self.new ≡ self.old) }
@@ -684,8 +725,9 @@ impl Value {
         }
     }
 
-    /// Gives a value to a path of keys in the dicts that stand in one another, where each of them is kept as a dict: in place where
-    /// it isn't shared. Says whether it did; where it didn't, nothing is changed, and the change is one to be made otherwise.
+    /// Gives a value to a path of keys in the dicts that stand in one another, where each of them
+    /// is kept as a dict: in place where it isn't shared. Says whether it did; where it didn't,
+    /// nothing is changed, and the change is one to be made otherwise.
     pub fn set_inside(&mut self, alloc: Global, path: &[Value], value: &Value) -> bool
         ensures set { OnTrue result (entry_made path.now (λ _. Some value.now) self.old ≡ Some self.new) }
         ensures unchanged { OnFalse result (self.new ≡ self.old) }
@@ -696,11 +738,12 @@ impl Value {
         }
     }
 
-    /// Adds to the value at the end of a path of keys, where the dicts on the way are kept as dicts and the value as a text: in place
-    /// where they aren't shared. Says whether it did; where it didn't, nothing is changed, and the change is one to be made
-    /// otherwise.
+    /// Adds to the value at the end of a path of keys, where the dicts on the way are kept as dicts
+    /// and the value as a text: in place where they aren't shared. Says whether it did; where it
+    /// didn't, nothing is changed, and the change is one to be made otherwise.
     pub fn append_inside(&mut self, alloc: Global, path: &[Value], more: Text) -> bool
-        ensures appended { OnTrue result (entry_made path.now (λ text. Some (text ++ more)) self.old ≡ Some self.new) }
+        ensures appended { OnTrue result (entry_made path.now
+            (λ text. Some (text ++ more)) self.old ≡ Some self.new) }
         ensures unchanged { OnFalse result (self.new ≡ self.old) }
     {
         if more.is_empty() || has_backslash_end(more.as_str().as_bytes()) {
@@ -709,11 +752,12 @@ impl Value {
         self.change_entry(alloc, path, Change::Text(more))
     }
 
-    /// Adds elements to the list at the end of a path of keys, where the dicts on the way are kept as dicts and the list as a list: in
-    /// place where they aren't shared. Says whether it did; where it didn't, nothing is changed, and the change is one to be
-    /// made otherwise.
+    /// Adds elements to the list at the end of a path of keys, where the dicts on the way are kept
+    /// as dicts and the list as a list: in place where they aren't shared. Says whether it did;
+    /// where it didn't, nothing is changed, and the change is one to be made otherwise.
     pub fn extend_inside(&mut self, alloc: Global, path: &[Value], values: &[Value]) -> bool
-        ensures extended { OnTrue result (entry_made path.now (elements_added values.now) self.old ≡ Some self.new) }
+        ensures extended { OnTrue result (entry_made path.now (elements_added values.now) self.old
+            ≡ Some self.new) }
         ensures unchanged { OnFalse result (self.new ≡ self.old) }
     {
         let Ok(elements) = elements_of(alloc, values) else {
@@ -725,9 +769,9 @@ impl Value {
         self.change_entry(alloc, path, Change::Elements(elements))
     }
 
-    /// Removes a key, if it is there, from the dict at the end of a path of keys, where that dict and those on the way are kept as
-    /// dicts: in place where they aren't shared. Says whether it did; where it didn't, nothing is changed, and the change is one
-    /// to be made otherwise.
+    /// Removes a key, if it is there, from the dict at the end of a path of keys, where that dict
+    /// and those on the way are kept as dicts: in place where they aren't shared. Says whether it
+    /// did; where it didn't, nothing is changed, and the change is one to be made otherwise.
     pub fn remove_inside(&mut self, alloc: Global, path: &[Value], key: &Value) -> bool
         ensures removed { OnTrue result (entry_made path.now (key_dropped key.now) self.old ≡ Some self.new) }
         ensures unchanged { OnFalse result (self.new ≡ self.old) }
@@ -760,7 +804,8 @@ impl Value {
     /// # Errors
     /// Want of memory.
     pub fn script_at_hand(&self) -> Result<Option<Rc<Script>>, AllocError>
-        ensures { IfOk result (λ found. IfSome found (λ script. script.value ≡ read_script self.now)) }
+        ensures { IfOk result (λ found. IfSome found
+            (λ script. script.value ≡ read_script self.now)) }
     {
         match &self.kept {
             Kept::Script(script) => Ok(Some(script.clone()?)),
@@ -777,7 +822,8 @@ impl Value {
     }
 }
 
-/// A value as an element that may stand so many levels deep in lists and dicts that carry no text, if it is one.
+/// A value as an element that may stand so many levels deep in lists and dicts that carry no text,
+/// if it is one.
 fn inner_element(alloc: Global, value: &Value, levels: usize) -> Option<Element>
     ensures text { IfSome result (λ element. element_text element ≡ value.now) }
     ensures element { IfSome result IsElement }
@@ -800,13 +846,15 @@ fn own_element(alloc: Global, value: &Value) -> Result<Element, AllocError>
     value.clone()?.into_element(alloc)
 }
 
-/// Whether lists and dicts aren't too deep in one another where an element stands so many levels deep.
+/// Whether lists and dicts aren't too deep in one another where an element stands so many levels
+/// deep.
 fn stands_in(element: &Element, levels: usize) -> bool {
     let most = MOST_DEPTH as usize;
     levels < most && element.depth() as usize + levels < most
 }
 
-/// Whether elements may come last in a list that stands so many levels deep in lists and dicts that carry no text.
+/// Whether elements may come last in a list that stands so many levels deep in lists and dicts that
+/// carry no text.
 fn may_come_last(elements: &[Element], levels: usize) -> bool
     requires { AreElements elements.now }
     ensures some { IsTrue result → 1 ≤ length elements.now }
@@ -851,9 +899,13 @@ pub(crate) fn set_shared(
     element: Element,
 ) -> Result<(), ChangeError>
     requires { IsElement element }
-    ensures set { OnOk result ((index < length items.old.value) × (items.new.value ≡ slice_set items.old.value index (element_text element))) }
+    ensures set { OnOk result ((index < length items.old.value) ×
+        (items.new.value ≡ slice_set items.old.value index (element_text element))) }
     ensures within { OnOk result (IsWithin (write items.new.value)) }
-    ensures refused { IfErr result (λ e. Refuses e (Ok items.old.value) (λ list. IsPast (write (slice_set list index (element_text element)))) (λ list. length list ≤ index)) }
+    ensures refused { IfErr result
+        (λ e. Refuses e (Ok items.old.value)
+        (λ list. IsPast (write (slice_set list index (element_text element))))
+        (λ list. length list ≤ index)) }
     ensures unchanged { OnErr result (items.new.value ≡ items.old.value) }
 {
     if index >= items.len() {
@@ -870,7 +922,9 @@ fn push_shared(items: &mut Rc<Items>, element: Element) -> Result<(), ChangeErro
     requires { IsElement element }
     ensures pushed { OnOk result (items.new.value ≡ items.old.value ++ element_text element ∷ []) }
     ensures within { OnOk result (IsWithin (write items.new.value)) }
-    ensures refused { IfErr result (λ e. Refuses e (Ok items.old.value) (λ list. IsPast (write (list ++ element_text element ∷ []))) (λ _. ⊥)) }
+    ensures refused { IfErr result
+        (λ e. Refuses e (Ok items.old.value)
+        (λ list. IsPast (write (list ++ element_text element ∷ []))) (λ _. ⊥)) }
     ensures unchanged { OnErr result (items.new.value ≡ items.old.value) }
 {
     match Rc::make_mut(items) {
@@ -884,7 +938,9 @@ fn extend_shared(items: &mut Rc<Items>, elements: Vec<Element>) -> Result<(), Ch
     requires { AreElements elements.items }
     ensures extended { OnOk result (items.new.value ≡ items.old.value ++ texts elements.items) }
     ensures within { OnOk result (IsWithin (write items.new.value)) }
-    ensures refused { IfErr result (λ e. Refuses e (Ok items.old.value) (λ list. IsPast (write (list ++ texts elements.items))) (λ _. ⊥)) }
+    ensures refused { IfErr result
+        (λ e. Refuses e (Ok items.old.value) (λ list. IsPast (write (list ++ texts elements.items)))
+        (λ _. ⊥)) }
     ensures unchanged { OnErr result (items.new.value ≡ items.old.value) }
 {
     match Rc::make_mut(items) {
@@ -911,7 +967,9 @@ fn put_shared(entries: &mut Rc<Entries>, key: Text, element: Element) -> Result<
     requires element { IsElement element }
     ensures set { OnOk result (entries.new.value ≡ put entries.old.value key (element_text element)) }
     ensures within { OnOk result (IsWithin (write (flat entries.new.value))) }
-    ensures refused { IfErr result (λ e. RefusesEntry e (Ok entries.old.value) (λ es. IsPast (write (flat (put es key (element_text element)))))) }
+    ensures refused { IfErr result
+        (λ e. RefusesEntry e (Ok entries.old.value)
+        (λ es. IsPast (write (flat (put es key (element_text element)))))) }
     ensures unchanged { OnErr result (entries.new.value ≡ entries.old.value) }
 {
     match Rc::make_mut(entries) {
@@ -924,7 +982,9 @@ fn put_shared(entries: &mut Rc<Entries>, key: Text, element: Element) -> Result<
 fn remove_shared(entries: &mut Rc<Entries>, key: &Text) -> Result<(), EntryError>
     ensures removed { OnOk result (entries.new.value ≡ without entries.old.value key.now) }
     ensures within { OnOk result (IsWithin (write (flat entries.new.value))) }
-    ensures refused { IfErr result (λ e. RefusesEntry e (Ok entries.old.value) (λ es. IsPast (write (flat (without es key.now))))) }
+    ensures refused { IfErr result
+        (λ e. RefusesEntry e (Ok entries.old.value)
+        (λ es. IsPast (write (flat (without es key.now))))) }
     ensures unchanged { OnErr result (entries.new.value ≡ entries.old.value) }
 {
     match Rc::make_mut(entries) {
@@ -956,7 +1016,8 @@ impl Kept {
 
     /// The integer that is kept, if it was read in this style.
     fn int(&self, style: Integers) -> Option<i64>
-        ensures { (text : Bytes) → IsKept text self.now → IfSome result (λ n. int_of style text ≡ Ok n) }
+        ensures { (text : Bytes) → IsKept text self.now → IfSome result
+            (λ n. int_of style text ≡ Ok n) }
     {
         match (self, style) {
             (Kept::Tcl8(n), Integers::Tcl8) | (Kept::Tcl9(n), Integers::Tcl9) => Some(*n),

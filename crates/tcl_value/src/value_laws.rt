@@ -1,7 +1,8 @@
 //! What the written form of lists comes to, as laws of its definition.
 ghost use Rattle.tcl_value.specs.Laws.{WrittenLength, WrittenListIsRead, WrittenDictIsRead};
 
-/// The text of a list that isn't empty has the bytes that write its elements and one between any two.
+/// The text of a list that isn't empty has the bytes that write its elements and one between any
+/// two.
 pub fn written_length()
     ensures { WrittenLength }
 {}

@@ -39,7 +39,7 @@ pub(crate) fn done<E: fmt::Debug + Drop>(alloc: Global, outcome: Result<(), E>) 
 }
 
 /// The text of a value that isn't long. It has as many bytes as are told of it, or both are shown.
-fn told_whole(alloc: Global, value: &Value, len: usize) -> Answer {
+fn show_whole(alloc: Global, value: &Value, len: usize) -> Answer {
     let whole = value.text(alloc)?;
     if whole.len() == len {
         return text(alloc, whole.as_str());
@@ -49,12 +49,12 @@ fn told_whole(alloc: Global, value: &Value, len: usize) -> Answer {
 }
 
 /// The text of a value, or how many bytes a long one has.
-pub(crate) fn told(alloc: Global, value: &Value) -> Answer {
+pub(crate) fn show(alloc: Global, value: &Value) -> Answer {
     let len = value.text_len();
     if len > MOST_TOLD {
         return Ok(format!(in alloc; "{len} bytes")?);
     }
-    told_whole(alloc, value, len)
+    show_whole(alloc, value, len)
 }
 
 /// What a value is after a change, or the name of the refusal.
@@ -64,7 +64,7 @@ pub(crate) fn changed<E: fmt::Debug + Drop>(
     own: &Value,
 ) -> Answer {
     match outcome {
-        Ok(()) => told(alloc, own),
+        Ok(()) => show(alloc, own),
         Err(error) => Ok(format!(in alloc; "{error:?}")?),
     }
 }
@@ -72,7 +72,7 @@ pub(crate) fn changed<E: fmt::Debug + Drop>(
 /// What a value is after a change inside it, or `no` where it isn't changed.
 pub(crate) fn changed_inside(alloc: Global, is_changed: bool, own: &Value) -> Answer {
     if is_changed {
-        return told(alloc, own);
+        return show(alloc, own);
     }
     text(alloc, "no")
 }
@@ -88,7 +88,7 @@ pub(crate) fn refused(alloc: Global, why: Refusal) -> Answer {
 /// What a command gives, or the message of its refusal.
 pub(crate) fn given(alloc: Global, given: Result<Value, Refusal>) -> Answer {
     match given {
-        Ok(value) => told(alloc, &value),
+        Ok(value) => show(alloc, &value),
         Err(why) => refused(alloc, why),
     }
 }

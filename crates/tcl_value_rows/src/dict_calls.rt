@@ -1,5 +1,5 @@
 //! Calls on dicts that stand by themselves.
-use crate::answers::{Answer, count, done, no_call, text, told, yes_or_no};
+use crate::answers::{Answer, count, done, no_call, show, text, yes_or_no};
 use crate::reading::number_of;
 use std::alloc::Global;
 use tcl_text::text::Text;
@@ -12,7 +12,7 @@ fn looked(alloc: Global, verb: &str, dict: &Dict) -> Answer {
         "len" => count(alloc, dict.len()),
         "is_empty" => yes_or_no(alloc, dict.is_empty()),
         "is_within" => yes_or_no(alloc, dict.is_within()),
-        "as_value" => told(alloc, &Value::from_dict(dict.clone()?)?),
+        "as_value" => show(alloc, &Value::from_dict(dict.clone()?)?),
         _ => no_call(alloc),
     }
 }
@@ -30,13 +30,13 @@ fn value(alloc: Global, dict: &Dict, index: usize) -> Answer {
     if index >= dict.len() {
         return text(alloc, "no value");
     }
-    told(alloc, &dict.value(index)?)
+    show(alloc, &dict.value(index)?)
 }
 
 /// The value of a key.
 fn value_of(alloc: Global, dict: &Dict, key: &Text) -> Answer {
     match dict.get(key)? {
-        Some(value) => told(alloc, &value),
+        Some(value) => show(alloc, &value),
         None => text(alloc, "no value"),
     }
 }

@@ -1,5 +1,5 @@
 //! Calls on lists that stand by themselves.
-use crate::answers::{Answer, count, done, no_call, text, told, yes_or_no};
+use crate::answers::{Answer, count, done, no_call, show, text, yes_or_no};
 use crate::reading::number_of;
 use std::alloc::Global;
 use tcl_value::list::List;
@@ -20,7 +20,7 @@ fn looked(alloc: Global, verb: &str, list: &List) -> Answer {
         "is_empty" => yes_or_no(alloc, list.is_empty()),
         "is_within" => yes_or_no(alloc, list.is_within()),
         "write" => written(alloc, list),
-        "as_value" => told(alloc, &Value::from_list(alloc, list.clone()?)?),
+        "as_value" => show(alloc, &Value::from_list(alloc, list.clone()?)?),
         _ => no_call(alloc),
     }
 }
@@ -30,7 +30,7 @@ fn element(alloc: Global, list: &List, index: usize) -> Answer {
     if index >= list.len() {
         return text(alloc, "no element");
     }
-    told(alloc, &list.get(index)?)
+    show(alloc, &list.get(index)?)
 }
 
 /// Puts a value in the place of an element.

@@ -1,6 +1,6 @@
 //! Calls on values, and on what is nested in them.
 use crate::answers::{
-    Answer, changed, changed_inside, count, no_call, refused, text, told, yes_or_no,
+    Answer, changed, changed_inside, count, no_call, refused, show, text, yes_or_no,
 };
 use crate::commands::changed_by_command;
 use crate::reading::{Call, Verb, number_of, path_of, places_of};
@@ -43,7 +43,7 @@ fn dict_len(alloc: Global, own: &mut Value) -> Answer {
 /// elements, keys and commands.
 fn looked(alloc: Global, style: Integers, verb: &str, own: &mut Value) -> Answer {
     match verb {
-        "text" => told(alloc, own),
+        "text" => show(alloc, own),
         "text_len" => count(alloc, own.text_len()),
         "as_int" => number(alloc, style, own),
         "as_list" => list_len(alloc, own),
@@ -163,7 +163,7 @@ fn of_method(
 /// What a value is after a command changed it, or the message of the refusal.
 fn changed_by(alloc: Global, outcome: Result<(), Refusal>, own: &Value) -> Answer {
     match outcome {
-        Ok(()) => told(alloc, own),
+        Ok(()) => show(alloc, own),
         Err(why) => refused(alloc, why),
     }
 }

@@ -1,5 +1,6 @@
 -- What is done to a part of a variable.
-use Rattle.std.specs.Prelude.{Bool, true, false, List, [], ◌∷◌, Option, Some, None, is_some, Result, Ok, Err}
+use Rattle.std.specs.Prelude.{Bool, true, false, List, [], ◌∷◌, Option, Some, None, is_some, Result}
+use Rattle.std.specs.Prelude.{Ok, Err}
 use Rattle.std.specs.Str.{bytes_eq}
 use Rattle.std.specs.Map.{lookup, remove_entry}
 use Rattle.indexmap.specs.IndexMap.{insert_entry}
@@ -10,7 +11,8 @@ use Rattle.tcl_variables.specs.declared.variable.Variable.{Variable}
 use Rattle.tcl_variables.specs.declared.variable.Variable.TheVariants.{Scalar, Array, Link}
 use Rattle.tcl_variables.specs.declared.fault.Verb.TheVariants.{Read, Set, Unset}
 use Rattle.tcl_variables.specs.declared.fault.FrameFault.{FrameFault}
-use Rattle.tcl_variables.specs.declared.fault.FrameFault.TheVariants.{NoVariable, IsArray, NotArray, NoElement}
+use Rattle.tcl_variables.specs.declared.fault.FrameFault.TheVariants.{NoVariable, IsArray, NotArray}
+use Rattle.tcl_variables.specs.declared.fault.FrameFault.TheVariants.{NoElement}
 
 abbrev pub read_element : Option Text → Text → Result Text FrameFault
 read_element None x = Err (NoElement Read x)
@@ -64,7 +66,8 @@ assigned (element k) (Some (Array es)) t x = Ok (Array (insert_entry bytes_eq es
 assigned (element k) (Some (Link q)) t x = Err (NotArray Set x)
 assigned nested v t x = Err (NotArray Set x)
 
-abbrev pub without_element : Option Text → List (Text × Text) → Text → Text → Result (Option Variable) FrameFault
+abbrev pub without_element : Option Text → List (Text × Text) → Text → Text →
+    Result (Option Variable) FrameFault
 without_element None es k x = Err (NoElement Unset x)
 without_element (Some t) es k x = Ok (Some (Array (remove_entry (bytes_eq k) es)))
 

@@ -19,7 +19,8 @@ lent_entry p = (p.0.now, p.1.now)
 
 -- an entry with this name stands at a place
 abbrev pub StandsAt : {V : Type 0} → List ℕ → List (String Global × V) → ℕ → Type 0
-StandsAt {V} x es i = (k : String Global) × (v : V) × (slice_get es i ≡ Some (k, v)) × (string_bytes k ≡ x)
+StandsAt {V} x es i = (k : String Global) × (v : V) × (slice_get es i ≡ Some (k, v)) ×
+    (string_bytes k ≡ x)
 
 -- the name stands at a place
 abbrev pub Holds : {V : Type 0} → List ℕ → List (List ℕ × V) → ℕ → Type 0

@@ -1,14 +1,14 @@
 -- Refusals.
 use Rattle.std.specs.Prelude.{◌≡◌, Result, Ok, Err}
 use Rattle.tcl_variables.specs.Names.{Text}
-use Rattle.tcl_variables.specs.declared.fault.Refusal.{Refusal}
-use Rattle.tcl_variables.specs.declared.fault.Refusal.TheVariants as refusal
+use Rattle.tcl_variables.specs.declared.fault.NameFault.{NameFault}
+use Rattle.tcl_variables.specs.declared.fault.NameFault.TheVariants as refusal
 use Rattle.tcl_variables.specs.declared.fault.FrameFault.{FrameFault}
 use Rattle.tcl_variables.specs.declared.fault.FrameFault.TheVariants as fault
 use Rattle.tcl_variables.specs.declared.fault.FrameError.{FrameError}
 use Rattle.tcl_variables.specs.declared.fault.FrameError.TheVariants.{Memory, Fault}
 
-abbrev pub fault_of : Refusal → Text → FrameFault
+abbrev pub fault_of : NameFault → Text → FrameFault
 fault_of (refusal.NoVariable v) x = fault.NoVariable v x
 fault_of (refusal.IsArray v) x = fault.IsArray v x
 fault_of (refusal.NotArray v) x = fault.NotArray v x

@@ -17,12 +17,16 @@ use Rattle.tcl_value.specs.contracts.value.Value.{the_row as value_row}
 
 -- once the borrow ends, the variable is as after a set of the value that was left
 abbrev pub LendsPart : MutBor Variable → Part → Text → Result (MutBor Text) FrameError → Fml
-LendsPart s part x r = LendsSoOk variable_row value_row s r (λ n w. assigned part (Some s.now) w x ≡ Ok n) (λ n. n ≡ s.now)
+LendsPart s part x r = LendsSoOk variable_row value_row s r
+    (λ n w. assigned part (Some s.now) w x ≡ Ok n) (λ n. n ≡ s.now)
 
 -- once the borrow ends, the variable is an array of the elements that were left
 abbrev pub LendsElements : MutBor Variable → Result (MutBor (List (Text × Text))) FrameError → Fml
-LendsElements s r = LendsSoOk variable_row (map_row value_row) s r (λ n w. n ≡ Array w) (λ n. n ≡ s.now)
+LendsElements s r = LendsSoOk variable_row (map_row value_row) s r (λ n w. n ≡ Array w)
+    (λ n. n ≡ s.now)
 
 -- the same for what a name of a frame stands for
 abbrev pub LendsNamed : MutBor Frame → Text → Part → Text → Result (MutBor Text) FrameError → Fml
-LendsNamed s b part x r = LendsSoOk frame_row value_row s r (λ n w. rebound s.now b (assigned part (lookup (bytes_eq b) s.now.variables) w x) ≡ Ok n) (λ n. n ≡ s.now)
+LendsNamed s b part x r = LendsSoOk frame_row value_row s r
+    (λ n w. rebound s.now b (assigned part (lookup (bytes_eq b) s.now.variables) w x) ≡ Ok n)
+    (λ n. n ≡ s.now)

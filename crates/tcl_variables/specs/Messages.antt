@@ -5,7 +5,9 @@ use Rattle.tcl_variables.specs.Names.{Text}
 use Rattle.tcl_variables.specs.declared.fault.Verb.{Verb}
 use Rattle.tcl_variables.specs.declared.fault.Verb.TheVariants.{Read, Set, Unset}
 use Rattle.tcl_variables.specs.declared.fault.FrameFault.{FrameFault}
-use Rattle.tcl_variables.specs.declared.fault.FrameFault.TheVariants.{NoVariable, IsArray, NotArray, NoElement, BadLevel, Exists, Itself, BadName}
+use Rattle.tcl_variables.specs.declared.fault.FrameFault.TheVariants.{NoVariable, IsArray, NotArray}
+use Rattle.tcl_variables.specs.declared.fault.FrameFault.TheVariants.{NoElement, BadLevel, Exists}
+use Rattle.tcl_variables.specs.declared.fault.FrameFault.TheVariants.{Itself, BadName}
 
 abbrev pub verb_word : Verb → Text
 verb_word Read = codes "read"

@@ -1,10 +1,12 @@
 -- The names that scripts write for variables.
-use Rattle.std.specs.Prelude.{ℕ, Bool, true, false, ◌&&◌, ◌||◌, not, ◌==◌, List, [], ◌∷◌, Option, Some, None, is_some, if◌then◌else◌}
+use Rattle.std.specs.Prelude.{ℕ, Bool, true, false, ◌&&◌, ◌||◌, not, ◌==◌, List, [], ◌∷◌, Option}
+use Rattle.std.specs.Prelude.{Some, None, is_some, if◌then◌else◌}
 
 abbrev pub Text : Type 0
 Text = List ℕ
 
--- A name that was read: of level 0 or of the level where it is written, and of an element where there is a key.
+-- A name that was read: of level 0 or of the level where it is written, and of an element where
+-- there is a key.
 pub record Name : Type 0 where
   pub is_global : Bool
   pub base : Text
@@ -33,7 +35,8 @@ abbrev pub opened_in : Option Text → Option (Text × Text)
 opened_in None = None
 opened_in (Some rest) = opened rest
 
--- the array and the key of an element's name: `a(k)`, with the first open parenthesis in it and a close parenthesis at its end
+-- the array and the key of an element's name: `a(k)`, with the first open parenthesis in it and a
+-- close parenthesis at its end
 unfoldable pub element_of : Text → Option (Text × Text)
 element_of x = opened_in (closed x)
 
@@ -60,7 +63,8 @@ unfoldable pub after_colons : Text → Option Text
 after_colons x = after_colon_in (after_colon x)
 
 abbrev pub without_colons : Bool → Text → Option Text → Option Name
-without_colons g base key = if has_colons base then None else Some (record { is_global = g; base = base; key = key })
+without_colons g base key = if has_colons base then None
+    else Some (record { is_global = g; base = base; key = key })
 
 abbrev pub of_level : Option Text → Text → Option Text → Option Name
 of_level None base key = without_colons false base key
@@ -70,11 +74,13 @@ abbrev pub name_or_element : Option (Text × Text) → Text → Option Name
 name_or_element None x = of_level (after_colons x) x None
 name_or_element (Some p) x = of_level (after_colons p.0) p.0 (Some p.1)
 
--- The name that a text is. Two leading colons make it one of level 0, and no other two may stand before its key.
+-- The name that a text is. Two leading colons make it one of level 0, and no other two may stand
+-- before its key.
 unfoldable pub name_of : Text → Option Name
 name_of x = name_or_element (element_of x) x
 
--- a name that a procedure's parameter or a link may have: neither an element's, nor with two colons in it
+-- a name that a procedure's parameter or a link may have: neither an element's, nor with two colons
+-- in it
 unfoldable pub is_plain : Text → Bool
 is_plain x = not (is_some (element_of x)) && not (has_colons x)
 

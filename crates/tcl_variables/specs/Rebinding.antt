@@ -8,7 +8,8 @@ use Rattle.tcl_variables.specs.Variables.{Frame, Part}
 use Rattle.tcl_variables.specs.Access.{assigned, left_of, elements_of}
 use Rattle.tcl_variables.specs.Arrays.{Elements, extended, unmatched}
 use Rattle.tcl_variables.specs.declared.frame.Change.{Change}
-use Rattle.tcl_variables.specs.declared.frame.Change.TheVariants.{Assign, SetElements, Unset, UnsetElements}
+use Rattle.tcl_variables.specs.declared.frame.Change.TheVariants.{Assign, SetElements, Unset}
+use Rattle.tcl_variables.specs.declared.frame.Change.TheVariants.{UnsetElements}
 use Rattle.tcl_variables.specs.declared.variable.Variable.{Variable}
 use Rattle.tcl_variables.specs.declared.variable.Variable.TheVariants.{Array}
 use Rattle.tcl_variables.specs.declared.fault.FrameFault.{FrameFault}
@@ -30,8 +31,8 @@ unbound f x (Ok None) = Ok (without_variable f x)
 unbound f x (Ok (Some v)) = Ok (with_variable f x v)
 unbound f x (Err e) = Err e
 
--- the frame after the elements that a pattern takes of what a name stands for are unset, or the array itself where there is no pattern;
--- what is no array stays
+-- the frame after the elements that a pattern takes of what a name stands for are unset, or the
+-- array itself where there is no pattern; what is no array stays
 abbrev pub emptied : Frame → Text → Option Elements → Option Text → Frame
 emptied f x None g = f
 emptied f x (Some es) None = without_variable f x
@@ -40,6 +41,8 @@ emptied f x (Some es) (Some g) = with_variable f x (Array (unmatched g es))
 -- the frame after a part of what a name stands for is changed
 abbrev pub change_frame : Change → Frame → Text → Part → Text → Result Frame FrameFault
 change_frame (Assign t) f b r x = rebound f b (assigned r (lookup (bytes_eq b) f.variables) t x)
-change_frame (SetElements ps) f b r x = rebound f b (extended r (lookup (bytes_eq b) f.variables) ps.items x)
+change_frame (SetElements ps) f b r x = rebound f b
+    (extended r (lookup (bytes_eq b) f.variables) ps.items x)
 change_frame Unset f b r x = unbound f b (left_of r (lookup (bytes_eq b) f.variables) x)
-change_frame (UnsetElements g) f b r x = Ok (emptied f b (elements_of r (lookup (bytes_eq b) f.variables)) g)
+change_frame (UnsetElements g) f b r x =
+    Ok (emptied f b (elements_of r (lookup (bytes_eq b) f.variables)) g)

@@ -12,7 +12,8 @@ pub record Frame : Type 0 where
   pub words : List Text
   pub variables : Variables
 
--- Which part of a variable is meant: all of it, an element, or an element of an element, of which there is none.
+-- Which part of a variable is meant: all of it, an element, or an element of an element, of which
+-- there is none.
 pub data Part : Type 0 where
   whole : Part
   element : Text → Part

@@ -3,7 +3,7 @@ ghost use Rattle.std.specs.Prelude.{◌≡◌, ◌↔◌, ◌<◌, IsTrue, lengt
 
 use crate::frame::Frame;
 use crate::name_map::NameMap;
-use crate::variable::{Place, Variable};
+use crate::variable::{LinkTarget, Variable};
 use tcl_text::text::Text;
 use tcl_value::value::Value;
 
@@ -81,8 +81,8 @@ impl<V: Same> Same for NameMap<V> {
     }
 }
 
-impl Same for Place {
-    fn same(&self, other: &Place) -> bool {
+impl Same for LinkTarget {
+    fn same(&self, other: &LinkTarget) -> bool {
         self.level == other.level && self.name.same(&other.name) && self.key.same(&other.key)
     }
 }

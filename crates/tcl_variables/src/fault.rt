@@ -144,7 +144,7 @@ impl<T: Drop> From<AllocFailed<T>> for FrameError {
 
 /// Which refusal a name meets.
 #[derive(Clone, Copy)]
-pub enum Refusal {
+pub enum NameFault {
     NoVariable(Verb),
     IsArray(Verb),
     NotArray(Verb),
@@ -154,21 +154,21 @@ pub enum Refusal {
 }
 
 /// The refusal with the name in it.
-fn fault(refusal: Refusal, name: Text) -> FrameFault
+fn fault(refusal: NameFault, name: Text) -> FrameFault
     ensures { result ≡ fault_of refusal name }
 {
     match refusal {
-        Refusal::NoVariable(verb) => FrameFault::NoVariable(verb, name),
-        Refusal::IsArray(verb) => FrameFault::IsArray(verb, name),
-        Refusal::NotArray(verb) => FrameFault::NotArray(verb, name),
-        Refusal::NoElement(verb) => FrameFault::NoElement(verb, name),
-        Refusal::Exists => FrameFault::Exists(name),
-        Refusal::BadName => FrameFault::BadName(name),
+        NameFault::NoVariable(verb) => FrameFault::NoVariable(verb, name),
+        NameFault::IsArray(verb) => FrameFault::IsArray(verb, name),
+        NameFault::NotArray(verb) => FrameFault::NotArray(verb, name),
+        NameFault::NoElement(verb) => FrameFault::NoElement(verb, name),
+        NameFault::Exists => FrameFault::Exists(name),
+        NameFault::BadName => FrameFault::BadName(name),
     }
 }
 
 /// The refusal of a name.
-pub fn refused(refusal: Refusal, name: &Text) -> FrameError
+pub fn refused(refusal: NameFault, name: &Text) -> FrameError
     ensures { IsRefusal result (fault_of refusal name.now) }
 {
     match name.clone() {
@@ -187,12 +187,13 @@ fn refused_element(alloc: Global, name: &Text, key: &Text) -> FrameError
     }
 }
 
-/// The refusal of setting elements of what is no array: it names the first of them, or the name where there is none.
+/// The refusal of setting elements of what is no array: it names the first of them, or the name
+/// where there is none.
 pub fn refused_elements(alloc: Global, name: &Text, elements: &[(Text, Value)]) -> FrameError
     ensures { IsRefusal result (NotArray Set (told_first name.now elements.now)) }
 {
     match elements.first() {
         Some(first) => refused_element(alloc, name, &first.0),
-        None => refused(Refusal::NotArray(Verb::Set), name),
+        None => refused(NameFault::NotArray(Verb::Set), name),
     }
 }

@@ -1,5 +1,6 @@
 //! A few names, which are looked through one by one.
-ghost use Rattle.std.specs.Prelude.{◌≡◌, ◌<◌, [], Some, None, MatchOption, IfSome, IfOk, OnOk, OnErr, length, map, not, slice_get, vec_len, false};
+ghost use Rattle.std.specs.Prelude.{◌≡◌, ◌<◌, [], Some, None, MatchOption, IfSome, IfOk, OnOk};
+ghost use Rattle.std.specs.Prelude.{OnErr, length, map, not, slice_get, vec_len, false};
 ghost use Rattle.std.specs.Borrow.{sem};
 ghost use Rattle.std.specs.List.{IsDistinct};
 ghost use Rattle.std.specs.Map.{lookup, keys_of, remove_entry};
@@ -16,7 +17,8 @@ use std::marker::Model;
 use tcl_glob::matches;
 use tcl_text::text::Text;
 
-/// Names that are looked through one by one, which contracts see as their entries in the order of insertion. No name stands twice.
+/// Names that are looked through one by one, which contracts see as their entries in the order of
+/// insertion. No name stands twice.
 #[derive(Drop)]
 pub struct FewNames<V> {
     entries: Vec<(Text, V)>,
@@ -37,7 +39,8 @@ impl<V> Model for FewNames<V> {
 
 /// The place at which a name stands, from 0.
 fn place_of<V>(entries: &[(Text, V)], name: &str) -> Option<usize>
-    ensures { MatchOption result (lookup (bytes_eq name.now) entries.now ≡ None) (λ i. Holds name.now entries.now i) }
+    ensures { MatchOption result (lookup (bytes_eq name.now) entries.now ≡ None)
+        (λ i. Holds name.now entries.now i) }
 {
     'entries: for index in 0..entries.len() {
         if entries[index].0.as_str() == name {
@@ -49,7 +52,8 @@ fn place_of<V>(entries: &[(Text, V)], name: &str) -> Option<usize>
 
 /// The same, in less time where it is this place.
 fn place_near<V>(entries: &[(Text, V)], place: usize, name: &str) -> Option<usize>
-    ensures { MatchOption result (lookup (bytes_eq name.now) entries.now ≡ None) (λ i. Holds name.now entries.now i) }
+    ensures { MatchOption result (lookup (bytes_eq name.now) entries.now ≡ None)
+        (λ i. Holds name.now entries.now i) }
 {
     if place < entries.len() && entries[place].0.as_str() == name {
         return Some(place);

@@ -1,5 +1,6 @@
 //! A frame of a chain.
-ghost use Rattle.std.specs.Prelude.{◌≡◌, Ok, Some, None, true, false, MatchOption, IfSome, IfOk, OnOk, IfErr, OnErr};
+ghost use Rattle.std.specs.Prelude.{◌≡◌, Ok, Some, None, true, false, MatchOption, IfSome, IfOk};
+ghost use Rattle.std.specs.Prelude.{OnOk, IfErr, OnErr};
 ghost use Rattle.std.specs.Map.{lookup};
 ghost use Rattle.std.specs.Option.{option_copied};
 ghost use Rattle.std.specs.Str.{bytes_eq};
@@ -9,9 +10,9 @@ ghost use Rattle.tcl_variables.specs.Faults.{Refuses};
 ghost use Rattle.tcl_variables.specs.Parts.{seen_part};
 
 use crate::access::{Part, elements_in, new_array, new_variable};
-use crate::fault::{FrameError, Refusal, Verb, refused, refused_elements};
+use crate::fault::{FrameError, NameFault, Verb, refused, refused_elements};
 use crate::name_map::NameMap;
-use crate::variable::{Place, Variable};
+use crate::variable::{LinkTarget, Variable};
 use std::alloc::{AllocError, Global};
 use std::marker::Model;
 use tcl_text::text::Text;
@@ -45,13 +46,14 @@ fn unread(part: Part<'_>, name: &Text) -> FrameError
     ensures { Refuses result (value_of (seen_part part.entry) None name.now) }
 {
     match part {
-        Part::Whole => refused(Refusal::NoVariable(Verb::Read), name),
-        Part::Element(_) => refused(Refusal::NoVariable(Verb::Read), name),
-        Part::Nested => refused(Refusal::NotArray(Verb::Read), name),
+        Part::Whole => refused(NameFault::NoVariable(Verb::Read), name),
+        Part::Element(_) => refused(NameFault::NoVariable(Verb::Read), name),
+        Part::Nested => refused(NameFault::NotArray(Verb::Read), name),
     }
 }
 
-/// Gives a name that isn't there this variable. Where the name is what is told, their text is shared.
+/// Gives a name that isn't there this variable. Where the name is what is told, their text is
+/// shared.
 fn insert_told(
     variables: &mut NameMap<Variable>,
     alloc: Global,
@@ -77,7 +79,8 @@ pub enum Change {
     SetElements(Vec<(Text, Value)>),
     /// It is unset.
     Unset,
-    /// The elements whose keys the pattern matches are unset, or the whole array where there is no pattern. What is no array stays.
+    /// The elements whose keys the pattern matches are unset, or the whole array where there is no
+    /// pattern. What is no array stays.
     UnsetElements(Option<Text>),
 }
 
@@ -86,7 +89,8 @@ impl Frame {
     ghost use Rattle.tcl_variables.specs.Variables.Part.{whole, element};
     ghost use Rattle.tcl_variables.specs.Access.{assigned, left_of, elements_of};
     ghost use Rattle.tcl_variables.specs.Arrays.{extended, thinned};
-    ghost use Rattle.tcl_variables.specs.Rebinding.{rebound, unbound, with_variable, emptied, change_frame};
+    ghost use Rattle.tcl_variables.specs.Rebinding.{rebound, unbound, with_variable, emptied};
+    ghost use Rattle.tcl_variables.specs.Rebinding.{change_frame};
     ghost use Rattle.tcl_variables.specs.declared.variable.Variable.TheVariants.{Link};
 
     /// A frame with these words and no variables, which takes no memory.
@@ -130,8 +134,13 @@ impl Frame {
         value: Value,
         name: &Text,
     ) -> Result<(), FrameError>
-        ensures ok { OnOk result (rebound self.old base.now (assigned (seen_part part.entry) (lookup (bytes_eq base.now) self.old.variables) value name.now) ≡ Ok self.new) }
-        ensures err { IfErr result (λ e. Refuses e (rebound self.old base.now (assigned (seen_part part.entry) (lookup (bytes_eq base.now) self.old.variables) value name.now))) }
+        ensures ok { OnOk result (rebound self.old base.now
+            (assigned (seen_part part.entry) (lookup (bytes_eq base.now) self.old.variables) value
+            name.now) ≡ Ok self.new) }
+        ensures err { IfErr result
+            (λ e. Refuses e (rebound self.old base.now
+            (assigned (seen_part part.entry) (lookup (bytes_eq base.now) self.old.variables) value
+            name.now))) }
         ensures unchanged { OnErr result (self.new ≡ self.old) }
     {
         if let Some(variable) = self.variables.get_mut(base) {
@@ -151,8 +160,18 @@ impl Frame {
         value: Value,
         name: &Text,
     ) -> Result<Option<Value>, FrameError>
-        ensures ok { IfOk result (λ left. MatchOption left ((is_linked (lookup (bytes_eq base.now) self.old.variables) ≡ false) × (rebound self.old base.now (assigned (seen_part part.entry) (lookup (bytes_eq base.now) self.old.variables) value name.now) ≡ Ok self.new)) (λ v. (is_linked (lookup (bytes_eq base.now) self.old.variables) ≡ true) × (v ≡ value) × (self.new ≡ self.old))) }
-        ensures err { IfErr result (λ e. (is_linked (lookup (bytes_eq base.now) self.old.variables) ≡ false) × Refuses e (rebound self.old base.now (assigned (seen_part part.entry) (lookup (bytes_eq base.now) self.old.variables) value name.now))) }
+        ensures ok { IfOk result
+            (λ left. MatchOption left ((is_linked (lookup (bytes_eq base.now) self.old.variables)
+            ≡ false) × (rebound self.old base.now
+            (assigned (seen_part part.entry) (lookup (bytes_eq base.now) self.old.variables) value
+            name.now) ≡ Ok self.new)) (λ v.
+            (is_linked (lookup (bytes_eq base.now) self.old.variables) ≡ true) × (v ≡ value) ×
+            (self.new ≡ self.old))) }
+        ensures err { IfErr result
+            (λ e. (is_linked (lookup (bytes_eq base.now) self.old.variables) ≡ false) ×
+            Refuses e (rebound self.old base.now
+            (assigned (seen_part part.entry) (lookup (bytes_eq base.now) self.old.variables) value
+            name.now))) }
         ensures unchanged { OnErr result (self.new ≡ self.old) }
     {
         if let Some(variable) = self.variables.get_mut(base) {
@@ -165,13 +184,17 @@ impl Frame {
 
     /// Unsets all of what a name stands for.
     fn unset_whole(&mut self, base: &str, name: &Text) -> Result<(), FrameError>
-        ensures ok { OnOk result (unbound self.old base.now (left_of whole (lookup (bytes_eq base.now) self.old.variables) name.now) ≡ Ok self.new) }
-        ensures err { IfErr result (λ e. Refuses e (unbound self.old base.now (left_of whole (lookup (bytes_eq base.now) self.old.variables) name.now))) }
+        ensures ok { OnOk result (unbound self.old base.now
+            (left_of whole (lookup (bytes_eq base.now) self.old.variables) name.now)
+            ≡ Ok self.new) }
+        ensures err { IfErr result
+            (λ e. Refuses e (unbound self.old base.now
+            (left_of whole (lookup (bytes_eq base.now) self.old.variables) name.now))) }
         ensures unchanged { OnErr result (self.new ≡ self.old) }
     {
         match self.variables.get(base) {
-            None => return Err(refused(Refusal::NoVariable(Verb::Unset), name)),
-            Some(Variable::Link(_)) => return Err(refused(Refusal::NotArray(Verb::Unset), name)),
+            None => return Err(refused(NameFault::NoVariable(Verb::Unset), name)),
+            Some(Variable::Link(_)) => return Err(refused(NameFault::NotArray(Verb::Unset), name)),
             Some(Variable::Scalar(_)) => {}
             Some(Variable::Array(_)) => {}
         }
@@ -181,26 +204,35 @@ impl Frame {
 
     /// Unsets an element of what a name stands for.
     fn unset_element(&mut self, base: &str, key: &str, name: &Text) -> Result<(), FrameError>
-        ensures ok { OnOk result (unbound self.old base.now (left_of (element key.now) (lookup (bytes_eq base.now) self.old.variables) name.now) ≡ Ok self.new) }
-        ensures err { IfErr result (λ e. Refuses e (unbound self.old base.now (left_of (element key.now) (lookup (bytes_eq base.now) self.old.variables) name.now))) }
+        ensures ok { OnOk result (unbound self.old base.now
+            (left_of (element key.now) (lookup (bytes_eq base.now) self.old.variables) name.now)
+            ≡ Ok self.new) }
+        ensures err { IfErr result
+            (λ e. Refuses e (unbound self.old base.now
+            (left_of (element key.now) (lookup (bytes_eq base.now) self.old.variables) name.now))) }
         ensures unchanged { OnErr result (self.new ≡ self.old) }
     {
         if let Some(variable) = self.variables.get_mut(base) {
             return variable.remove_element(key, name);
         }
-        Err(refused(Refusal::NoVariable(Verb::Unset), name))
+        Err(refused(NameFault::NoVariable(Verb::Unset), name))
     }
 
     /// Unsets a part of what a name stands for.
     fn unset(&mut self, base: &str, part: Part<'_>, name: &Text) -> Result<(), FrameError>
-        ensures ok { OnOk result (unbound self.old base.now (left_of (seen_part part.entry) (lookup (bytes_eq base.now) self.old.variables) name.now) ≡ Ok self.new) }
-        ensures err { IfErr result (λ e. Refuses e (unbound self.old base.now (left_of (seen_part part.entry) (lookup (bytes_eq base.now) self.old.variables) name.now))) }
+        ensures ok { OnOk result (unbound self.old base.now
+            (left_of (seen_part part.entry) (lookup (bytes_eq base.now) self.old.variables)
+            name.now) ≡ Ok self.new) }
+        ensures err { IfErr result
+            (λ e. Refuses e (unbound self.old base.now
+            (left_of (seen_part part.entry) (lookup (bytes_eq base.now) self.old.variables)
+            name.now))) }
         ensures unchanged { OnErr result (self.new ≡ self.old) }
     {
         match part {
             Part::Whole => self.unset_whole(base, name),
             Part::Element(key) => self.unset_element(base, key, name),
-            Part::Nested => Err(refused(Refusal::NotArray(Verb::Unset), name)),
+            Part::Nested => Err(refused(NameFault::NotArray(Verb::Unset), name)),
         }
     }
 
@@ -212,8 +244,13 @@ impl Frame {
         elements: Vec<(Text, Value)>,
         name: &Text,
     ) -> Result<(), FrameError>
-        ensures ok { OnOk result (rebound self.old base.now (extended whole (lookup (bytes_eq base.now) self.old.variables) elements.items name.now) ≡ Ok self.new) }
-        ensures err { IfErr result (λ e. Refuses e (rebound self.old base.now (extended whole (lookup (bytes_eq base.now) self.old.variables) elements.items name.now))) }
+        ensures ok { OnOk result (rebound self.old base.now
+            (extended whole (lookup (bytes_eq base.now) self.old.variables) elements.items name.now)
+            ≡ Ok self.new) }
+        ensures err { IfErr result
+            (λ e. Refuses e (rebound self.old base.now
+            (extended whole (lookup (bytes_eq base.now) self.old.variables) elements.items
+            name.now))) }
         ensures unchanged { OnErr result (self.new ≡ self.old) }
     {
         if let Some(variable) = self.variables.get_mut(base) {
@@ -233,8 +270,13 @@ impl Frame {
         elements: Vec<(Text, Value)>,
         name: &Text,
     ) -> Result<(), FrameError>
-        ensures ok { OnOk result (rebound self.old base.now (extended (seen_part part.entry) (lookup (bytes_eq base.now) self.old.variables) elements.items name.now) ≡ Ok self.new) }
-        ensures err { IfErr result (λ e. Refuses e (rebound self.old base.now (extended (seen_part part.entry) (lookup (bytes_eq base.now) self.old.variables) elements.items name.now))) }
+        ensures ok { OnOk result (rebound self.old base.now
+            (extended (seen_part part.entry) (lookup (bytes_eq base.now) self.old.variables)
+            elements.items name.now) ≡ Ok self.new) }
+        ensures err { IfErr result
+            (λ e. Refuses e (rebound self.old base.now
+            (extended (seen_part part.entry) (lookup (bytes_eq base.now) self.old.variables)
+            elements.items name.now))) }
         ensures unchanged { OnErr result (self.new ≡ self.old) }
     {
         match part {
@@ -246,7 +288,8 @@ impl Frame {
 
     /// Takes the elements out of an array whose keys a pattern matches.
     fn thin(&mut self, base: &str, pattern: &str)
-        ensures { MatchOption (lookup (bytes_eq base.now) self.old.variables) (self.new ≡ self.old) (λ v. self.new ≡ with_variable self.old base.now (thinned pattern.now v)) }
+        ensures { MatchOption (lookup (bytes_eq base.now) self.old.variables) (self.new ≡ self.old)
+            (λ v. self.new ≡ with_variable self.old base.now (thinned pattern.now v)) }
     {
         if let Some(variable) = self.variables.get_mut(base) {
             variable.remove_matching(pattern);
@@ -255,7 +298,9 @@ impl Frame {
 
     /// Unsets elements of what a name stands for, or all of it, where it is an array.
     fn unset_elements(&mut self, base: &str, part: Part<'_>, pattern: Option<Text>)
-        ensures { self.new ≡ emptied self.old base.now (elements_of (seen_part part.entry) (lookup (bytes_eq base.now) self.old.variables)) pattern }
+        ensures { self.new
+            ≡ emptied self.old base.now (elements_of (seen_part part.entry)
+            (lookup (bytes_eq base.now) self.old.variables)) pattern }
     {
         if elements_in(self.variables.get(base), part).is_none() {
             return;
@@ -275,8 +320,11 @@ impl Frame {
         change: Change,
         name: &Text,
     ) -> Result<(), FrameError>
-        ensures ok { OnOk result (change_frame change self.old base.now (seen_part part.entry) name.now ≡ Ok self.new) }
-        ensures err { IfErr result (λ e. Refuses e (change_frame change self.old base.now (seen_part part.entry) name.now)) }
+        ensures ok { OnOk result (change_frame change self.old base.now (seen_part part.entry) name.now
+            ≡ Ok self.new) }
+        ensures err { IfErr result
+            (λ e. Refuses e (change_frame change self.old base.now (seen_part part.entry)
+            name.now)) }
         ensures unchanged { OnErr result (self.new ≡ self.old) }
     {
         match change {
@@ -309,8 +357,14 @@ impl Frame {
         change: Change,
         name: &Text,
     ) -> Result<Option<Change>, FrameError>
-        ensures ok { IfOk result (λ left. MatchOption left ((is_linked (lookup (bytes_eq base.now) self.old.variables) ≡ false) × (change_frame change self.old base.now (seen_part part.entry) name.now ≡ Ok self.new)) (λ c. (is_linked (lookup (bytes_eq base.now) self.old.variables) ≡ true) × (c ≡ change) × (self.new ≡ self.old))) }
-        ensures err { IfErr result (λ e. (is_linked (lookup (bytes_eq base.now) self.old.variables) ≡ false) × Refuses e (change_frame change self.old base.now (seen_part part.entry) name.now)) }
+        ensures ok { IfOk result
+            (λ left. MatchOption left ((is_linked (lookup (bytes_eq base.now) self.old.variables)
+            ≡ false) × (change_frame change self.old base.now (seen_part part.entry) name.now
+            ≡ Ok self.new)) (λ c. (is_linked (lookup (bytes_eq base.now) self.old.variables) ≡ true)
+            × (c ≡ change) × (self.new ≡ self.old))) }
+        ensures err { IfErr result
+            (λ e. (is_linked (lookup (bytes_eq base.now) self.old.variables) ≡ false) ×
+            Refuses e (change_frame change self.old base.now (seen_part part.entry) name.now)) }
         ensures unchanged { OnErr result (self.new ≡ self.old) }
     {
         if let Change::Assign(value) = change {
@@ -330,7 +384,7 @@ impl Frame {
     }
 
     /// Makes a name a link.
-    pub fn link(&mut self, alloc: Global, local: &str, place: Place) -> Result<(), AllocError>
+    pub fn link(&mut self, alloc: Global, local: &str, place: LinkTarget) -> Result<(), AllocError>
         ensures ok { OnOk result (self.new ≡ with_variable self.old local.now (Link place)) }
         ensures unchanged { OnErr result (self.new ≡ self.old) }
     {
@@ -342,7 +396,8 @@ impl Frame {
     ghost use Rattle.std.specs.Borrow.{sem};
     ghost use Rattle.tcl_variables.specs.LendingParts.{LendsNamed};
 
-    /// What a part of what a name stands for holds, to write. Of memory it takes none but for a refusal.
+    /// What a part of what a name stands for holds, to write. Of memory it takes none but for a
+    /// refusal.
     pub fn value_mut(
         &mut self,
         base: &str,
@@ -350,8 +405,12 @@ impl Frame {
         name: &Text,
     ) -> Result<&mut Value, FrameError>
         ensures* writes_back { sem 𝓛 (LendsNamed self.entry base.now (seen_part part.entry) name.now result) }
-        ensures ok { IfOk result (λ v. value_of (seen_part part.entry) (lookup (bytes_eq base.now) self.old.variables) name.now ≡ Ok v.now) }
-        ensures err { IfErr result (λ e. Refuses e (value_of (seen_part part.entry) (lookup (bytes_eq base.now) self.old.variables) name.now)) }
+        ensures ok { IfOk result
+            (λ v. value_of (seen_part part.entry) (lookup (bytes_eq base.now) self.old.variables)
+            name.now ≡ Ok v.now) }
+        ensures err { IfErr result
+            (λ e. Refuses e (value_of (seen_part part.entry)
+            (lookup (bytes_eq base.now) self.old.variables) name.now)) }
     {
         match self.variables.get_mut(base) {
             Some(variable) => variable.value_mut(part, name),
@@ -361,7 +420,8 @@ impl Frame {
 
     /// The place at which a name stands, where it is no link.
     pub fn unlinked_place(&self, base: &str) -> Option<usize>
-        ensures { IfSome result (λ _. is_linked (lookup (bytes_eq base.now) self.now.variables) ≡ false) }
+        ensures { IfSome result (λ _. is_linked (lookup (bytes_eq base.now) self.now.variables)
+            ≡ false) }
     {
         match self.variables.find(base) {
             Some((place, variable)) => {
@@ -374,8 +434,8 @@ impl Frame {
         }
     }
 
-    /// What a part of what a name stands for holds, to write, in less time where the name stands at this place. Of memory it takes none
-    /// but for a refusal.
+    /// What a part of what a name stands for holds, to write, in less time where the name stands at
+    /// this place. Of memory it takes none but for a refusal.
     pub fn value_mut_near(
         &mut self,
         place: usize,
@@ -384,8 +444,12 @@ impl Frame {
         name: &Text,
     ) -> Result<&mut Value, FrameError>
         ensures* writes_back { sem 𝓛 (LendsNamed self.entry base.now (seen_part part.entry) name.now result) }
-        ensures ok { IfOk result (λ v. value_of (seen_part part.entry) (lookup (bytes_eq base.now) self.old.variables) name.now ≡ Ok v.now) }
-        ensures err { IfErr result (λ e. Refuses e (value_of (seen_part part.entry) (lookup (bytes_eq base.now) self.old.variables) name.now)) }
+        ensures ok { IfOk result
+            (λ v. value_of (seen_part part.entry) (lookup (bytes_eq base.now) self.old.variables)
+            name.now ≡ Ok v.now) }
+        ensures err { IfErr result
+            (λ e. Refuses e (value_of (seen_part part.entry)
+            (lookup (bytes_eq base.now) self.old.variables) name.now)) }
     {
         match self.variables.get_mut_near(place, base) {
             Some(found) => found.value_mut(part, name),

@@ -1,5 +1,6 @@
 //! Many names, which are found by their hashes.
-ghost use Rattle.std.specs.Prelude.{◌≡◌, ◌≤◌, ◌+◌, [], Some, None, false, not, length, reverse, slice_get, vec_len, map, IfSome, IfOk, OnOk, OnErr, IsTrue};
+ghost use Rattle.std.specs.Prelude.{◌≡◌, ◌≤◌, ◌+◌, [], Some, None, false, not, length, reverse};
+ghost use Rattle.std.specs.Prelude.{slice_get, vec_len, map, IfSome, IfOk, OnOk, OnErr, IsTrue};
 ghost use Rattle.std.specs.Borrow.{sem};
 ghost use Rattle.std.specs.Map.{lookup, keys_of, remove_entry};
 ghost use Rattle.std.specs.Option.{option_map, option_copied, option_copied_mut};
@@ -19,7 +20,8 @@ use std::mem::replace;
 use tcl_glob::matches;
 use tcl_text::text::Text;
 
-/// Names that are found by their hashes, which contracts see as their entries in the order of insertion.
+/// Names that are found by their hashes, which contracts see as their entries in the order of
+/// insertion.
 #[derive(Drop)]
 pub struct ManyNames<V> {
     entries: IndexMap<String, V>,
@@ -83,7 +85,8 @@ impl<V> ManyNames<V> {
 impl<V> ManyNames<V> {
     ghost use Rattle.tcl_variables.specs.Lending.{lends_many};
 
-    /// The place of a name in the order of insertion, from 0, and what it has. This takes no memory.
+    /// The place of a name in the order of insertion, from 0, and what it has. This takes no
+    /// memory.
     pub fn find(&self, name: &str) -> Option<(usize, &V)>
         ensures place { IfSome result (λ p. slice_get self.now p.0 ≡ Some (name.now, p.1.now)) }
         ensures value { option_map (λ p. p.1.now) result ≡ lookup (bytes_eq name.now) self.now }
@@ -94,7 +97,8 @@ impl<V> ManyNames<V> {
         }
     }
 
-    /// What a name has, to write, in less time where the name stands at this place. This takes no memory.
+    /// What a name has, to write, in less time where the name stands at this place. This takes no
+    /// memory.
     pub fn get_mut_near(&mut self, place: usize, name: &str) -> Option<&mut V>
         ensures* writes_back { sem 𝓛 (lends_many V.row self.entry name.now result) }
         ensures value { option_copied_mut result ≡ lookup (bytes_eq name.now) self.old }
@@ -121,7 +125,8 @@ fn keyed<V: Drop>(alloc: Global, entries: Vec<(Text, V)>) -> Result<Vec<(String,
 /// Inserts entries, the last of them first, where there is room for them.
 fn insert_reserved<V: Drop>(entries: &mut IndexMap<String, V>, keyed: Vec<(String, V)>)
     requires { vec_len keyed ≤ spare entries.old }
-    ensures { named entries.new.entries ≡ insert_all bytes_eq (named entries.old.entries) (reverse (named keyed.items)) }
+    ensures { named entries.new.entries
+        ≡ insert_all bytes_eq (named entries.old.entries) (reverse (named keyed.items)) }
 {
     let mut left = keyed;
     'entries: while let Some((name, value)) = left.pop() {
@@ -215,13 +220,15 @@ impl<V: Drop> ManyNames<V> {
         Ok(())
     }
 
-    /// Takes the names out that a pattern matches, in time linear in their number. This takes no memory.
+    /// Takes the names out that a pattern matches, in time linear in their number. This takes no
+    /// memory.
     pub fn remove_matching(&mut self, pattern: &str)
         ensures { self.new ≡ unmatched pattern.now self.old }
     {
         self.entries.retain(
             |name: &String, value: &mut V| -> bool
-                ensures { (result ≡ not (is_match false pattern.entry.now (string_bytes name.now))) × (value.new ≡ value.old) }
+                ensures { (result ≡ not (is_match false pattern.entry.now (string_bytes name.now)))
+                    × (value.new ≡ value.old) }
             { !matches(pattern, name.as_str(), false) },
         );
     }

@@ -2,7 +2,8 @@
 ghost use Rattle.std.specs.Prelude.{◌≡◌, IfOk};
 ghost use Rattle.std.specs.Option.{option_map, option_copied};
 ghost use Rattle.tcl_variables.specs.Arrays.{element_name};
-ghost use Rattle.tcl_variables.specs.Names.{element_of, has_colons, after_colons, without_colons, of_level, is_plain, is_simple, name_of};
+ghost use Rattle.tcl_variables.specs.Names.{element_of, has_colons, after_colons, without_colons};
+ghost use Rattle.tcl_variables.specs.Names.{of_level, is_plain, is_simple, name_of};
 ghost use Rattle.tcl_variables.specs.Written.{seen, seen_pair};
 
 use std::alloc::{AllocError, Global};
@@ -61,7 +62,8 @@ fn without_colons<'a>(is_global: bool, base: &'a str, key: Option<&'a str>) -> O
 
 /// The name with this base, before which two colons may stand.
 fn of_level<'a>(base: &'a str, key: Option<&'a str>) -> Option<Written<'a>>
-    ensures { option_map seen result ≡ of_level (after_colons base.now) base.now (option_copied key.entry) }
+    ensures { option_map seen result
+        ≡ of_level (after_colons base.now) base.now (option_copied key.entry) }
 {
     match after_leading(base) {
         Some(rest) => without_colons(true, rest, key),

@@ -84,7 +84,8 @@ impl<V> NameMap<V> {
         }
     }
 
-    /// The place of a name in the order of insertion, from 0, and what it has. This takes no memory.
+    /// The place of a name in the order of insertion, from 0, and what it has. This takes no
+    /// memory.
     pub fn find(&self, name: &str) -> Option<(usize, &V)>
         ensures place { IfSome result (λ p. slice_get self.now p.0 ≡ Some (name.now, p.1.now)) }
         ensures value { option_map (λ p. p.1.now) result ≡ lookup (bytes_eq name.now) self.now }
@@ -110,7 +111,8 @@ impl<V> NameMap<V> {
         }
     }
 
-    /// What a name has, to write, in less time where the name stands at this place. This takes no memory.
+    /// What a name has, to write, in less time where the name stands at this place. This takes no
+    /// memory.
     pub fn get_mut_near(&mut self, place: usize, name: &str) -> Option<&mut V>
         ensures* writes_back { sem 𝓛 (lends_named V.row self.entry name.now result) }
         ensures value { option_copied_mut result ≡ lookup (bytes_eq name.now) self.old }
@@ -170,7 +172,8 @@ impl<V: Drop> NameMap<V> {
         }
     }
 
-    /// The same for a name whose text is shared where there are few names, so that its bytes aren't copied.
+    /// The same for a name whose text is shared where there are few names, so that its bytes aren't
+    /// copied.
     ///
     /// # Errors
     /// Want of memory, which leaves the map as it was.
@@ -204,7 +207,8 @@ impl<V: Drop> NameMap<V> {
         }
     }
 
-    /// Takes the names out that a pattern matches, in time linear in their number. This takes no memory.
+    /// Takes the names out that a pattern matches, in time linear in their number. This takes no
+    /// memory.
     pub fn remove_matching(&mut self, pattern: &str)
         ensures { self.new ≡ unmatched pattern.now self.old }
     {

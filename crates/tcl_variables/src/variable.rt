@@ -9,7 +9,7 @@ use tcl_value::value::Value;
 
 /// A place: a name at a level, or an element of the array there.
 #[derive(Drop)]
-pub struct Place {
+pub struct LinkTarget {
     pub level: usize,
     pub name: Text,
     pub key: Option<Text>,
@@ -23,7 +23,7 @@ pub enum Variable {
     /// Elements, by their keys.
     Array(NameMap<Value>),
     /// Another place.
-    Link(Place),
+    Link(LinkTarget),
 }
 
 impl Variable {
@@ -39,13 +39,13 @@ impl Variable {
     }
 }
 
-impl Clone for Place {
+impl Clone for LinkTarget {
     ghost is_clone = { λ x y. y ≡ x };
 
-    fn clone(&self) -> Result<Place, AllocError> {
+    fn clone(&self) -> Result<LinkTarget, AllocError> {
         let name = self.name.clone()?;
         let key = self.key.clone()?;
-        Ok(Place {
+        Ok(LinkTarget {
             level: self.level,
             name,
             key,

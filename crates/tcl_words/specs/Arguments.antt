@@ -23,12 +23,14 @@ one_or_two_words form (a ∷ []) = Ok (a, None)
 one_or_two_words form (a ∷ b ∷ []) = Ok (a, Some b)
 one_or_two_words form words = Err (wrong_arguments form)
 
-abbrev pub two_or_three_words : List ℕ → List (List ℕ) → Result (List ℕ × List ℕ × Option (List ℕ)) (List ℕ)
+abbrev pub two_or_three_words : List ℕ → List (List ℕ) →
+    Result (List ℕ × List ℕ × Option (List ℕ)) (List ℕ)
 two_or_three_words form (a ∷ b ∷ []) = Ok (a, b, None)
 two_or_three_words form (a ∷ b ∷ c ∷ []) = Ok (a, b, Some c)
 two_or_three_words form words = Err (wrong_arguments form)
 
-abbrev pub three_or_four_words : List ℕ → List (List ℕ) → Result (List ℕ × List ℕ × List ℕ × Option (List ℕ)) (List ℕ)
+abbrev pub three_or_four_words : List ℕ → List (List ℕ) →
+    Result (List ℕ × List ℕ × List ℕ × Option (List ℕ)) (List ℕ)
 three_or_four_words form (a ∷ b ∷ c ∷ []) = Ok (a, b, c, None)
 three_or_four_words form (a ∷ b ∷ c ∷ d ∷ []) = Ok (a, b, c, Some d)
 three_or_four_words form words = Err (wrong_arguments form)

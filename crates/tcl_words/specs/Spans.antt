@@ -1,4 +1,5 @@
--- Parts of a list between two places. A place before the first or behind the last is brought to that end.
+-- Parts of a list between two places. A place before the first or behind the last is brought to
+-- that end.
 use Rattle.std.specs.Prelude.{ℕ, ◌+◌, List, [], take, drop}
 use Rattle.tcl_text.specs.declared.index.Index.{Index}
 use Rattle.tcl_text.specs.declared.index.Index.TheVariants.{Before, At, Beyond}

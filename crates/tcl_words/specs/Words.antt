@@ -26,10 +26,11 @@ abbrev pub index_or : List ℕ → Option ℤ → Result Index (List ℕ)
 index_or text (Some n) = Ok (place n)
 index_or text None = Err (bad_index text)
 
--- the place to which an index word points in a list of so many elements, `end` being the last; 114, or 122 where no value
--- has so many
+-- the place to which an index word points in a list of so many elements, `end` being the last; 114,
+-- or 122 where no value has so many
 abbrev pub index_word : Integers → ℕ → List ℕ → Result Index (List ℕ)
-index_word style count text = if nat_le count 16777216 then index_or text (index_of style (pos count -ℤ pos 1) text) else Err too_long
+index_word style count text = if nat_le count 16777216 then index_or text
+    (index_of style (pos count -ℤ pos 1) text) else Err too_long
 
 abbrev pub list_or : Result (List (List ℕ)) ListFault → Result (List (List ℕ)) (List ℕ)
 list_or (Ok list) = Ok list

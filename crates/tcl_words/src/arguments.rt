@@ -2,7 +2,8 @@
 ghost use Rattle.std.specs.Prelude.{◌≡◌};
 ghost use Rattle.std.specs.Option.{option_copied};
 ghost use Rattle.tcl_words.specs.Outcomes.{Gives};
-ghost use Rattle.tcl_words.specs.Arguments.{one_word, two_words, three_words, one_or_two_words, two_or_three_words, three_or_four_words};
+ghost use Rattle.tcl_words.specs.Arguments.{one_word, two_words, three_words, one_or_two_words};
+ghost use Rattle.tcl_words.specs.Arguments.{two_or_three_words, three_or_four_words};
 
 use crate::refusal::{Refusal, wrong_arguments};
 use std::alloc::Global;
@@ -64,7 +65,8 @@ pub fn one_or_two_words<'a>(
     words: &'a [Text],
     form: &str,
 ) -> Result<(&'a Text, Option<&'a Text>), Refusal>
-    ensures { Gives (λ p. (p.0.now, option_copied p.1)) result (one_or_two_words form.now words.now) }
+    ensures { Gives (λ p. (p.0.now, option_copied p.1)) result
+        (one_or_two_words form.now words.now) }
 {
     match words {
         [a] => Ok((a, None)),
@@ -82,7 +84,8 @@ pub fn two_or_three_words<'a>(
     words: &'a [Text],
     form: &str,
 ) -> Result<(&'a Text, &'a Text, Option<&'a Text>), Refusal>
-    ensures { Gives (λ p. (p.0.now, p.1.now, option_copied p.2)) result (two_or_three_words form.now words.now) }
+    ensures { Gives (λ p. (p.0.now, p.1.now, option_copied p.2)) result
+        (two_or_three_words form.now words.now) }
 {
     match words {
         [a, b] => Ok((a, b, None)),
@@ -100,7 +103,8 @@ pub fn three_or_four_words<'a>(
     words: &'a [Text],
     form: &str,
 ) -> Result<(&'a Text, &'a Text, &'a Text, Option<&'a Text>), Refusal>
-    ensures { Gives (λ p. (p.0.now, p.1.now, p.2.now, option_copied p.3)) result (three_or_four_words form.now words.now) }
+    ensures { Gives (λ p. (p.0.now, p.1.now, p.2.now, option_copied p.3)) result
+        (three_or_four_words form.now words.now) }
 {
     match words {
         [a, b, c] => Ok((a, b, c, None)),

@@ -37,7 +37,8 @@ pub fn text_answer(alloc: Global, text: &str) -> Result<Answer, Refusal>
     Ok(Answer::Text(Text::new(alloc, text)?))
 }
 
-/// A string as the answer of a command, whose bytes aren't copied, where it is one that a value may have.
+/// A string as the answer of a command, whose bytes aren't copied, where it is one that a value may
+/// have.
 ///
 /// # Errors
 /// 122 where it is longer than [`MOST_BYTES`]; want of memory.

@@ -3,7 +3,7 @@ ghost use Rattle.std.specs.Prelude.{◌≡◌, ◌≤◌, pos, ◌-ℤ◌};
 ghost use Rattle.tcl_words.specs.Outcomes.{Gives};
 ghost use Rattle.tcl_words.specs.Words.{integer_word, index_word, list_word};
 
-use crate::refusal::{Refusal, told, too_long};
+use crate::refusal::{Refusal, fault_with, too_long};
 use std::alloc::Global;
 use tcl_text::index::{Index, bad_index_message, read_index};
 use tcl_text::integer::{IntegerFault, Integers, not_integer_message, read_int, too_large_message};
@@ -20,8 +20,8 @@ pub fn integer_word(alloc: Global, style: Integers, word: &str) -> Result<i64, R
 {
     match read_int(word, style) {
         Ok(n) => Ok(n),
-        Err(IntegerFault::NotInteger) => Err(told(not_integer_message(alloc, word))),
-        Err(IntegerFault::TooLarge) => Err(told(too_large_message(alloc))),
+        Err(IntegerFault::NotInteger) => Err(fault_with(not_integer_message(alloc, word))),
+        Err(IntegerFault::TooLarge) => Err(fault_with(too_large_message(alloc))),
     }
 }
 
@@ -33,7 +33,8 @@ fn last_place(count: usize) -> i64
     count as i64 - 1
 }
 
-/// The place to which an index word points in a text or list of so many elements, of which `end` is the last.
+/// The place to which an index word points in a text or list of so many elements, of which `end` is
+/// the last.
 ///
 /// # Errors
 /// 114 where it is no index text, 122 where no value has so many elements; want of memory.
@@ -50,7 +51,7 @@ pub fn index_word(
     }
     match read_index(word, style, last_place(count)) {
         Ok(place) => Ok(place),
-        Err(_) => Err(told(bad_index_message(alloc, word))),
+        Err(_) => Err(fault_with(bad_index_message(alloc, word))),
     }
 }
 
@@ -63,7 +64,7 @@ pub fn list_word(alloc: Global, word: &str) -> Result<Vec<Text>, Refusal>
 {
     match read_list(alloc, word) {
         Ok(list) => Ok(list),
-        Err(ListError::Fault(fault)) => Err(told(fault.message(alloc))),
+        Err(ListError::Fault(fault)) => Err(fault_with(fault.message(alloc))),
         Err(ListError::Memory) => Err(Refusal::Memory),
     }
 }

@@ -2,7 +2,8 @@
 ghost use Rattle.std.specs.Prelude.{◌≡◌, ◌++◌, codes, Err, IfOk};
 ghost use Rattle.std.specs.Prelude.{List, ℕ};
 ghost use Rattle.tcl_words.specs.Outcomes.{Refuses};
-ghost use Rattle.tcl_words.specs.Faults.{wrong_arguments, bad_option, bad_count, unknown_subcommand, missing_value, too_long};
+ghost use Rattle.tcl_words.specs.Faults.{wrong_arguments, bad_option, bad_count};
+ghost use Rattle.tcl_words.specs.Faults.{unknown_subcommand, missing_value, too_long};
 
 use std::alloc::{AllocError, AllocFailed, Global};
 use tcl_text::messages::{BAD_OPTION, MISSING_VALUE, TOO_LONG, quoting};
@@ -38,8 +39,9 @@ impl<T: Drop> From<AllocFailed<T>> for Refusal {
 }
 
 /// The refusal with a text that was made, or want of memory.
-pub(crate) fn told(message: Result<Text, AllocError>) -> Refusal
-    ensures { (text : List ℕ) → IfOk message (λ made. made ≡ text) → Refuses {X = List ℕ} result (Err text) }
+pub(crate) fn fault_with(message: Result<Text, AllocError>) -> Refusal
+    ensures { (text : List ℕ) → IfOk message (λ made. made ≡ text) →
+        Refuses {X = List ℕ} result (Err text) }
 {
     match message {
         Ok(text) => Refusal::Fault(text),
@@ -51,40 +53,40 @@ pub(crate) fn told(message: Result<Text, AllocError>) -> Refusal
 pub fn wrong_arguments(alloc: Global, form: &str) -> Refusal
     ensures { Refuses {X = List ℕ} result (Err (wrong_arguments form.now)) }
 {
-    told(quoting(alloc, "wrong # args: should be \"", form))
+    fault_with(quoting(alloc, "wrong # args: should be \"", form))
 }
 
 /// What is told of a word that is no option (221).
 pub fn bad_option(alloc: Global, word: &str) -> Refusal
     ensures { Refuses {X = List ℕ} result (Err (bad_option word.now)) }
 {
-    told(quoting(alloc, BAD_OPTION, word))
+    fault_with(quoting(alloc, BAD_OPTION, word))
 }
 
 /// What is told of a count below 0 (245).
 pub fn bad_count(alloc: Global, word: &str) -> Refusal
     ensures { Refuses {X = List ℕ} result (Err (bad_count word.now)) }
 {
-    told(quoting(alloc, "bad count \"", word))
+    fault_with(quoting(alloc, "bad count \"", word))
 }
 
 /// What is told of a word that is no subcommand (244).
 pub fn unknown_subcommand(alloc: Global, word: &str) -> Refusal
     ensures { Refuses {X = List ℕ} result (Err (unknown_subcommand word.now)) }
 {
-    told(quoting(alloc, "unknown subcommand \"", word))
+    fault_with(quoting(alloc, "unknown subcommand \"", word))
 }
 
 /// What is told of a key without a value (121).
 pub fn missing_value(alloc: Global) -> Refusal
     ensures { Refuses {X = List ℕ} result (Err missing_value) }
 {
-    told(Text::new(alloc, MISSING_VALUE))
+    fault_with(Text::new(alloc, MISSING_VALUE))
 }
 
 /// What is told of a value that would be too long (122).
 pub fn too_long(alloc: Global) -> Refusal
     ensures { Refuses {X = List ℕ} result (Err too_long) }
 {
-    told(Text::new(alloc, TOO_LONG))
+    fault_with(Text::new(alloc, TOO_LONG))
 }

@@ -2011,8 +2011,8 @@ crossing::call_past_top-returns-clause-runs g t c =
     (λ q at e. c.in_ok-passes_top.ensures.told q at e) c.requires.above c.in-Completed.value
     (subst (SaysOn (ways g.O.Outside.goes g.O.Outside.loses) c.args.tree.now c.passes_top.new.self c.args.caller (Some c.args.up) (whole_entry c.args.entry) c.wait.new.tree c.wait.new.outside) c.in-Completed.is c.in_ok-value.ensures.runs)
 
-pub crossing::call_there-come_back-requires : goal.crossing::call_there-come_back-requires
-crossing::call_there-come_back-requires g t c =
+pub crossing::call_there-return_to_caller-requires : goal.crossing::call_there-return_to_caller-requires
+crossing::call_there-return_to_caller-requires g t c =
     let p = c.requires.running.0 in
     (p, c.serve_entry-ended.ensures.steady.keys p _ c.requires.running.1 c.requires.running.2)
 
@@ -2023,9 +2023,9 @@ crossing::call_there-returns-in_err-enters-clause-runs g t c =
 
 pub crossing::call_there-returns-clause-runs : goal.crossing::call_there-returns-clause-runs
 crossing::call_there-returns-clause-runs g t c =
-    calls_there (ways g.O.Outside.goes g.O.Outside.loses) c.args.tree.now c.serve_entry-ended.new.tree c.args.outside.now c.args.caller c.args.up c.args.down.now (whole_entry c.args.entry) c.come_back.result
-    c.enters.new.self c.serve_entry-ended.new.outside c.come_back.new.outside c.args.target c.serve_entry-ended.result c.requires.leads (λ p a at e. c.in_ok-enters.ensures.told p a at e)
-    c.serve_entry-ended.ensures.runs c.come_back.ensures.comes c.come_back.ensures.lost c.serve_entry-ended.ensures.steady
+    calls_there (ways g.O.Outside.goes g.O.Outside.loses) c.args.tree.now c.serve_entry-ended.new.tree c.args.outside.now c.args.caller c.args.up c.args.down.now (whole_entry c.args.entry) c.return_to_caller.result
+    c.enters.new.self c.serve_entry-ended.new.outside c.return_to_caller.new.outside c.args.target c.serve_entry-ended.result c.requires.leads (λ p a at e. c.in_ok-enters.ensures.told p a at e)
+    c.serve_entry-ended.ensures.runs c.return_to_caller.ensures.comes c.return_to_caller.ensures.lost c.serve_entry-ended.ensures.steady
 
 pub crossing::serve_entry-returns-in-Own-clause-runs : goal.crossing::serve_entry-returns-in-Own-clause-runs
 crossing::serve_entry-returns-in-Own-clause-runs g t c =

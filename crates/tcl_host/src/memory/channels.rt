@@ -64,8 +64,10 @@ impl Channels {
     /// Takes note of a read of so many bytes.
     pub fn advance(&mut self, name: &str, count: usize, ended: bool)
         requires there { IsSome (map.get self.old name.now) }
-        requires fits { ForSome (map.get self.old name.now) (λ channel. channel.place + count < 2 ^ 64) }
-        ensures { IfSome (map.get self.old name.now) (λ channel. self.new ≡ map.insert self.old name.now (advanced channel count ended)) }
+        requires fits { ForSome (map.get self.old name.now)
+            (λ channel. channel.place + count < 2 ^ 64) }
+        ensures { IfSome (map.get self.old name.now)
+            (λ channel. self.new ≡ map.insert self.old name.now (advanced channel count ended)) }
     {
         let Some(channel) = self.entries.get_mut(name) else {
             unreachable!()

@@ -74,7 +74,8 @@ impl Files {
     /// # Errors
     /// Want of memory, which leaves the files as they were.
     pub fn make(&mut self, alloc: Global, name: &str) -> Result<bool, AllocError>
-        ensures missing { IfOk result (λ was_missing. was_missing ≡ not (map.contains_key self.old name.now)) }
+        ensures missing { IfOk result
+            (λ was_missing. was_missing ≡ not (map.contains_key self.old name.now)) }
         ensures made { OnOk result (self.new ≡ made self.old name.now) }
         ensures unchanged { OnErr result (self.new ≡ self.old) }
     {

@@ -1,11 +1,14 @@
 //! Files, channels and standard streams in memory, and what each request does to them.
-ghost use Rattle.std.specs.Prelude.{◌≡◌, ◌+◌, ◌-◌, ◌^◌, ◌<◌, [], length, Some, IfOk, IfSome, OnOk, OnErr};
+ghost use Rattle.std.specs.Prelude.{◌≡◌, ◌+◌, ◌-◌, ◌^◌, ◌<◌, [], length, Some, IfOk, IfSome, OnOk};
+ghost use Rattle.std.specs.Prelude.{OnErr};
 ghost use Rattle.std.specs.Option.{option_map, ForSome};
 ghost use Rattle.std.specs.FinMap as map;
 ghost use Rattle.tcl_host.specs.declared.reply.HostReply.{HostReply};
 ghost use Rattle.tcl_host.specs.declared.request.Request.{Request};
 ghost use Rattle.tcl_host.specs.Hosts.{line_reply, done_reply};
-ghost use Rattle.tcl_host.specs.Stores.{serve, reply_by, content, rest_of, with_channel, channel_name, new_channel, new_store, standard_channels, opened};
+ghost use Rattle.tcl_host.specs.Stores.{serve, reply_by, content, rest_of, with_channel};
+ghost use Rattle.tcl_host.specs.Stores.{channel_name, new_channel, new_store, standard_channels};
+ghost use Rattle.tcl_host.specs.Stores.{opened};
 
 use crate::bytes::Bytes;
 use crate::memory::channel::{Channel, Stream};
@@ -13,7 +16,7 @@ use crate::memory::channels::Channels;
 use crate::memory::files::Files;
 use crate::memory::taken::{take_all, take_line};
 use crate::open_mode::OpenMode;
-use crate::reply::Refusal;
+use crate::reply::HostRefusal;
 use std::alloc::{AllocError, Global};
 use tcl_text::text::Text;
 
@@ -35,7 +38,7 @@ pub struct Store {
 }
 
 /// An answer or a refusal, or want of memory.
-pub type Served<T> = Result<Result<T, Refusal>, AllocError>;
+pub type Served<T> = Result<Result<T, HostRefusal>, AllocError>;
 
 /// A channel to a stream of which nothing was read.
 fn new_channel(stream: Stream) -> Channel
@@ -103,7 +106,9 @@ impl Store {
     /// What is left to be read on a channel that is open for reading.
     fn rest(&self, channel: &str) -> Option<&[u8]>
         ensures rest { option_map (λ bytes. bytes.now) result ≡ rest_of self.now channel.now }
-        ensures fits { IfSome result (λ bytes. ForSome (map.get self.now.channels channel.now) (λ found. found.place + length bytes.now < 2 ^ 64)) }
+        ensures fits { IfSome result
+            (λ bytes. ForSome (map.get self.now.channels channel.now)
+            (λ found. found.place + length bytes.now < 2 ^ 64)) }
     {
         let channel = self.channels.get(channel)?;
         let bytes = self.content(&channel.stream)?;
@@ -176,16 +181,18 @@ impl Store {
     /// # Errors
     /// Want of memory, which leaves all as it was.
     pub fn open(&mut self, alloc: Global, name: &str, mode: OpenMode) -> Served<Text>
-        ensures served { IfOk result (λ answer. (reply_by HostReply.Opened answer, self.new) ≡ serve self.old (Request.Open name.now mode)) }
+        ensures served { IfOk result
+            (λ answer. (reply_by HostReply.Opened answer, self.new)
+            ≡ serve self.old (Request.Open name.now mode)) }
         ensures unchanged { OnErr result (self.new ≡ self.old) }
     {
         if self.next == u64::MAX {
-            return Ok(Err(Refusal::NotOpened));
+            return Ok(Err(HostRefusal::NotOpened));
         }
         match mode {
             OpenMode::Read => {
                 if self.files.get(name).is_none() {
-                    return Ok(Err(Refusal::NotOpened));
+                    return Ok(Err(HostRefusal::NotOpened));
                 }
                 Ok(Ok(self.open_to_read(alloc, name)?))
             }
@@ -199,11 +206,13 @@ impl Store {
     /// # Errors
     /// Want of memory, which leaves all as it was.
     pub fn read_line(&mut self, alloc: Global, channel: &str) -> Served<Option<Bytes>>
-        ensures served { IfOk result (λ answer. (reply_by line_reply answer, self.new) ≡ serve self.old (Request.ReadLine channel.now)) }
+        ensures served { IfOk result
+            (λ answer. (reply_by line_reply answer, self.new)
+            ≡ serve self.old (Request.ReadLine channel.now)) }
         ensures unchanged { OnErr result (self.new ≡ self.old) }
     {
         let Some(rest) = self.rest(channel) else {
-            return Ok(Err(Refusal::NoChannel));
+            return Ok(Err(HostRefusal::NoChannel));
         };
         let taken = take_line(alloc, rest)?;
         self.channels.advance(channel, taken.count, taken.ended);
@@ -215,11 +224,13 @@ impl Store {
     /// # Errors
     /// Want of memory, which leaves all as it was.
     pub fn read_all(&mut self, alloc: Global, channel: &str) -> Served<Bytes>
-        ensures served { IfOk result (λ answer. (reply_by HostReply.Rest answer, self.new) ≡ serve self.old (Request.ReadAll channel.now)) }
+        ensures served { IfOk result
+            (λ answer. (reply_by HostReply.Rest answer, self.new)
+            ≡ serve self.old (Request.ReadAll channel.now)) }
         ensures unchanged { OnErr result (self.new ≡ self.old) }
     {
         let Some(rest) = self.rest(channel) else {
-            return Ok(Err(Refusal::NoChannel));
+            return Ok(Err(HostRefusal::NoChannel));
         };
         let taken = take_all(alloc, rest)?;
         self.channels.advance(channel, taken.count, taken.ended);
@@ -231,51 +242,56 @@ impl Store {
     /// # Errors
     /// Want of memory, which leaves all as it was.
     pub fn write(&mut self, channel: &str, text: &str) -> Served<()>
-        ensures served { IfOk result (λ answer. (reply_by done_reply answer, self.new) ≡ serve self.old (Request.Write channel.now text.now)) }
+        ensures served { IfOk result
+            (λ answer. (reply_by done_reply answer, self.new)
+            ≡ serve self.old (Request.Write channel.now text.now)) }
         ensures unchanged { OnErr result (self.new ≡ self.old) }
     {
         let Some(channel) = self.channels.get(channel) else {
-            return Ok(Err(Refusal::NoChannel));
+            return Ok(Err(HostRefusal::NoChannel));
         };
         match &channel.stream {
             Stream::Output => self.output.append(text.as_bytes())?,
             Stream::Errors => self.errors.append(text.as_bytes())?,
             Stream::WriteFile(name) => self.files.append(name.as_str(), text.as_bytes())?,
-            Stream::Input | Stream::ReadFile(_) => return Ok(Err(Refusal::NoChannel)),
+            Stream::Input | Stream::ReadFile(_) => return Ok(Err(HostRefusal::NoChannel)),
         }
         Ok(Ok(()))
     }
 
     /// Whether a channel is open for writing.
-    pub fn flush(&self, channel: &str) -> Result<(), Refusal>
-        ensures { (reply_by done_reply result, self.now) ≡ serve self.now (Request.Flush channel.now) }
+    pub fn flush(&self, channel: &str) -> Result<(), HostRefusal>
+        ensures { (reply_by done_reply result, self.now)
+            ≡ serve self.now (Request.Flush channel.now) }
     {
-        let channel = self.channels.get(channel).ok_or(Refusal::NoChannel)?;
+        let channel = self.channels.get(channel).ok_or(HostRefusal::NoChannel)?;
         match channel.stream {
             Stream::Output | Stream::Errors | Stream::WriteFile(_) => Ok(()),
-            Stream::Input | Stream::ReadFile(_) => Err(Refusal::NoChannel),
+            Stream::Input | Stream::ReadFile(_) => Err(HostRefusal::NoChannel),
         }
     }
 
     /// Closes a channel.
-    pub fn close(&mut self, channel: &str) -> Result<(), Refusal>
-        ensures { (reply_by done_reply result, self.new) ≡ serve self.old (Request.Close channel.now) }
+    pub fn close(&mut self, channel: &str) -> Result<(), HostRefusal>
+        ensures { (reply_by done_reply result, self.new)
+            ≡ serve self.old (Request.Close channel.now) }
     {
         if self.channels.remove(channel) {
             Ok(())
         } else {
-            Err(Refusal::NoChannel)
+            Err(HostRefusal::NoChannel)
         }
     }
 
     /// Whether the last read met the end.
-    pub fn eof(&self, channel: &str) -> Result<bool, Refusal>
-        ensures { (reply_by HostReply.AtEnd result, self.now) ≡ serve self.now (Request.Eof channel.now) }
+    pub fn eof(&self, channel: &str) -> Result<bool, HostRefusal>
+        ensures { (reply_by HostReply.AtEnd result, self.now)
+            ≡ serve self.now (Request.Eof channel.now) }
     {
-        let channel = self.channels.get(channel).ok_or(Refusal::NoChannel)?;
+        let channel = self.channels.get(channel).ok_or(HostRefusal::NoChannel)?;
         match channel.stream {
             Stream::Input | Stream::ReadFile(_) => Ok(channel.ended),
-            Stream::Output | Stream::Errors | Stream::WriteFile(_) => Err(Refusal::NoChannel),
+            Stream::Output | Stream::Errors | Stream::WriteFile(_) => Err(HostRefusal::NoChannel),
         }
     }
 }

@@ -17,7 +17,8 @@ pub struct Taken<T> {
     pub ended: bool,
 }
 
-/// Takes a line with its newline, which the answer leaves out, or all where there is no newline; no line where nothing is left.
+/// Takes a line with its newline, which the answer leaves out, or all where there is no newline; no
+/// line where nothing is left.
 ///
 /// # Errors
 /// Want of memory.

@@ -1,9 +1,10 @@
 //! Children: interpreters that are made and deleted.
-ghost use Rattle.std.specs.Prelude.{◌≡◌, ◌≢◌, ◌+◌, List, ℕ, Bool, true, false, [], ◌∷◌, ◌++◌, IfOk, IfErr, OnOk, OnErr, Some, None, IsSome};
+ghost use Rattle.std.specs.Prelude.{◌≡◌, ◌≢◌, ◌+◌, List, ℕ, Bool, true, false, [], ◌∷◌, ◌++◌, IfOk};
+ghost use Rattle.std.specs.Prelude.{IfErr, OnOk, OnErr, Some, None, IsSome};
 ghost use Rattle.slab.specs.Slab.{slab_len};
 ghost use Rattle.tcl_core.specs.Programs.{either};
 ghost use Rattle.tcl_tree.specs.Changes.{interp_name, IsFirstFree, RefusesName};
-ghost use Rattle.tcl_interpreter.specs.declared.refusal.Refusal.TheVariants.{Memory};
+ghost use Rattle.tcl_interpreter.specs.declared.refusal.TreeError.TheVariants.{Memory};
 
 use crate::tree::{Place, Tree};
 use indexmap::IndexMap;
@@ -11,7 +12,7 @@ use std::alloc::{AllocError, Global};
 use tcl_interpreter::command::Commands;
 use tcl_interpreter::name::is_name;
 use tcl_interpreter::node::{Node, State};
-use tcl_interpreter::refusal::Refusal;
+use tcl_interpreter::refusal::TreeError;
 use tcl_interpreter::steps::{attach, detach, make_room};
 use tcl_text::text::Text;
 
@@ -55,19 +56,21 @@ impl Tree {
     ghost use Rattle.tcl_tree.specs.Changes.{MayMake, Makes, RefusesMake, Drops, RefusesDrop};
     ghost use Rattle.tcl_tree.specs.TreeOf.{tree_of, key_of, marks_of, Names};
 
-    /// The name that a child of the interpreter at the path gets where none is given: `interp` and the least number with which it is no
-    /// command there.
+    /// The name that a child of the interpreter at the path gets where none is given: `interp` and
+    /// the least number with which it is no command there.
     ///
     /// # Errors
-    /// Refusal 301. Want of memory.
-    pub fn free_name(&self, alloc: Global, path: &[Text]) -> Result<Text, Refusal>
-        ensures free { IfOk result (λ name. (v : NodeView) → tree_of self.now path.now ≡ Some v → IsFirstFree v.own.commands name) }
+    /// TreeError 301. Want of memory.
+    pub fn free_name(&self, alloc: Global, path: &[Text]) -> Result<Text, TreeError>
+        ensures free { IfOk result
+            (λ name. (v : NodeView) → tree_of self.now path.now ≡ Some v →
+            IsFirstFree v.own.commands name) }
         ensures there { OnOk result (IsSome (tree_of self.now path.now)) }
         ensures refused { IfErr result (λ e. RefusesName e (tree_of self.now) path.now) }
     {
         match self.commands(path) {
             Some(commands) => Ok(first_free(alloc, commands)?),
-            None => Err(Refusal::NoInterpreter),
+            None => Err(TreeError::NoInterpreter),
         }
     }
 
@@ -77,7 +80,9 @@ impl Tree {
     /// Want of memory.
     pub fn free_name_at(&self, alloc: Global, place: Place) -> Result<Text, AllocError>
         requires { (p : List (List ℕ)) × Names self.now place p }
-        ensures free { IfOk result (λ name. (p : List (List ℕ)) (v : NodeView) → Names self.now place p → tree_of self.now p ≡ Some v → IsFirstFree v.own.commands name) }
+        ensures free { IfOk result
+            (λ name. (p : List (List ℕ)) (v : NodeView) → Names self.now place p →
+            tree_of self.now p ≡ Some v → IsFirstFree v.own.commands name) }
     {
         match self.nodes.get(place.key) {
             Some(node) => first_free(alloc, &node.state.commands),
@@ -85,31 +90,35 @@ impl Tree {
         }
     }
 
-    /// Makes a child of this name in the interpreter at the path: safe where that is asked for or the parent is safe.
+    /// Makes a child of this name in the interpreter at the path: safe where that is asked for or
+    /// the parent is safe.
     ///
     /// # Errors
-    /// Refusals, in this order: 301 of the path; 238 of the name; 302 where it is a command; 307. Want of memory.
+    /// Refusals, in this order: 301 of the path; 238 of the name; 302 where it is a command; 307.
+    /// Want of memory.
     pub fn create(
         &mut self,
         alloc: Global,
         path: &[Text],
         name: &Text,
         safe: bool,
-    ) -> Result<(), Refusal>
+    ) -> Result<(), TreeError>
         ensures may { OnOk result (MayMake (tree_of self.old) path.now name.now) }
         ensures made { OnOk result (Makes (tree_of self.old) (tree_of self.new) path.now name.now safe) }
         ensures refused { IfErr result (λ e. RefusesMake e (tree_of self.old) path.now name.now) }
         ensures unchanged { OnErr result (tree_of self.new ≡ tree_of self.old) }
-        ensures keys { (q : List (List ℕ)) (k : ℕ) → key_of self.old q ≡ Some k → key_of self.new q ≡ Some k }
+        ensures keys { (q : List (List ℕ)) (k : ℕ) → key_of self.old q ≡ Some k →
+            key_of self.new q ≡ Some k }
         ensures marks { marks_of self.new ≡ marks_of self.old }
     {
         let Some(place) = self.place(path) else {
-            return Err(Refusal::NoInterpreter);
+            return Err(TreeError::NoInterpreter);
         };
         self.create_at(alloc, place, name, safe)
     }
 
-    /// Makes a child of this name in the interpreter that the place names: safe where that is asked for or the parent is safe.
+    /// Makes a child of this name in the interpreter that the place names: safe where that is asked
+    /// for or the parent is safe.
     ///
     /// # Errors
     /// Refusals, in this order: 238 of the name; 302 where it is a command; 307. Want of memory.
@@ -119,13 +128,18 @@ impl Tree {
         place: Place,
         name: &Text,
         safe: bool,
-    ) -> Result<(), Refusal>
+    ) -> Result<(), TreeError>
         requires { (p : List (List ℕ)) × Names self.old place p }
-        ensures may { OnOk result ((p : List (List ℕ)) → Names self.old place p → MayMake (tree_of self.old) p name.now) }
-        ensures made { OnOk result ((p : List (List ℕ)) → Names self.old place p → Makes (tree_of self.old) (tree_of self.new) p name.now safe) }
-        ensures refused { IfErr result (λ e. (p : List (List ℕ)) → Names self.old place p → RefusesMake e (tree_of self.old) p name.now) }
+        ensures may { OnOk result ((p : List (List ℕ)) → Names self.old place p →
+            MayMake (tree_of self.old) p name.now) }
+        ensures made { OnOk result ((p : List (List ℕ)) → Names self.old place p →
+            Makes (tree_of self.old) (tree_of self.new) p name.now safe) }
+        ensures refused { IfErr result
+            (λ e. (p : List (List ℕ)) → Names self.old place p →
+            RefusesMake e (tree_of self.old) p name.now) }
         ensures unchanged { OnErr result (tree_of self.new ≡ tree_of self.old) }
-        ensures keys { (q : List (List ℕ)) (k : ℕ) → key_of self.old q ≡ Some k → key_of self.new q ≡ Some k }
+        ensures keys { (q : List (List ℕ)) (k : ℕ) → key_of self.old q ≡ Some k →
+            key_of self.new q ≡ Some k }
         ensures marks { marks_of self.new ≡ marks_of self.old }
     {
         let parent = place.key;
@@ -133,20 +147,20 @@ impl Tree {
             unreachable!();
         };
         if !is_name(name) {
-            return Err(Refusal::BadName);
+            return Err(TreeError::BadName);
         }
         if up.state.commands.contains_key(name) {
-            return Err(Refusal::Exists);
+            return Err(TreeError::Exists);
         }
         if up.children.contains_key(name) {
-            return Err(Refusal::Exists);
+            return Err(TreeError::Exists);
         }
         if up.children.len() >= MOST_CHILDREN {
-            return Err(Refusal::TooMany);
+            return Err(TreeError::TooMany);
         }
         // So deep a chain of interpreters fits no memory.
         let Some(level) = up.level.checked_add(1) else {
-            return Err(Refusal::Memory);
+            return Err(TreeError::Memory);
         };
         let safe = is_child_safe(safe, up.state.safe);
         let state = State::new(alloc, safe, false, CHILD_DEPTH)?;
@@ -168,7 +182,8 @@ impl Tree {
     // A node below this one, or this one, that has no children.
     fn deepest(&self, key: usize) -> usize
         requires { (p : List (List ℕ)) × (key_of self.now p ≡ Some key) }
-        ensures leads { (p : List (List ℕ)) → key_of self.now p ≡ Some key → (rest : List (List ℕ)) × (key_of self.now (p ++ rest) ≡ Some result) }
+        ensures leads { (p : List (List ℕ)) → key_of self.now p ≡ Some key →
+            (rest : List (List ℕ)) × (key_of self.now (p ++ rest) ≡ Some result) }
         ensures leaf { IsLeaf self.now.nodes result }
     {
         let mut at = key;
@@ -184,13 +199,18 @@ impl Tree {
         }
     }
 
-    // Removes a node that has no children and is not the root, and answers with the key of its parent.
+    // Removes a node that has no children and is not the root, and answers with the key of its
+    // parent.
     fn prune(&mut self, key: usize) -> usize
-        requires there { (p : List (List ℕ)) × (n : List ℕ) × (key_of self.old (p ++ n ∷ []) ≡ Some key) }
+        requires there { (p : List (List ℕ)) × (n : List ℕ) ×
+            (key_of self.old (p ++ n ∷ []) ≡ Some key) }
         requires leaf { IsLeaf self.old.nodes key }
-        ensures tree { (p : List (List ℕ)) (n : List ℕ) → key_of self.old (p ++ n ∷ []) ≡ Some key → (q : List (List ℕ)) → tree_of self.new q ≡ pruned (tree_of self.old) p n q }
-        ensures parent { (p : List (List ℕ)) (n : List ℕ) → key_of self.old (p ++ n ∷ []) ≡ Some key → key_of self.new p ≡ Some result }
-        ensures keys { (q : List (List ℕ)) (k : ℕ) → key_of self.old q ≡ Some k → k ≢ key → key_of self.new q ≡ Some k }
+        ensures tree { (p : List (List ℕ)) (n : List ℕ) → key_of self.old (p ++ n ∷ []) ≡ Some key →
+            (q : List (List ℕ)) → tree_of self.new q ≡ pruned (tree_of self.old) p n q }
+        ensures parent { (p : List (List ℕ)) (n : List ℕ) →
+            key_of self.old (p ++ n ∷ []) ≡ Some key → key_of self.new p ≡ Some result }
+        ensures keys { (q : List (List ℕ)) (k : ℕ) → key_of self.old q ≡ Some k → k ≢ key →
+            key_of self.new q ≡ Some k }
         ensures marks { marks_of self.new ≡ marks_of self.old }
         ensures len { slab_len self.new.nodes + 1 ≡ slab_len self.old.nodes }
     {
@@ -207,8 +227,12 @@ impl Tree {
     // Removes a node that is not the root, with all below it.
     fn fell(&mut self, top: usize)
         requires { (p : List (List ℕ)) × (n : List ℕ) × (key_of self.old (p ++ n ∷ []) ≡ Some top) }
-        ensures dropped { (p : List (List ℕ)) (n : List ℕ) → key_of self.old (p ++ n ∷ []) ≡ Some top → Drops (tree_of self.old) (tree_of self.new) p n }
-        ensures keys { (p : List (List ℕ)) (n : List ℕ) → key_of self.old (p ++ n ∷ []) ≡ Some top → (q : List (List ℕ)) (k : ℕ) → is_above (p ++ n ∷ []) q ≡ false → key_of self.old q ≡ Some k → key_of self.new q ≡ Some k }
+        ensures dropped { (p : List (List ℕ)) (n : List ℕ) →
+            key_of self.old (p ++ n ∷ []) ≡ Some top →
+            Drops (tree_of self.old) (tree_of self.new) p n }
+        ensures keys { (p : List (List ℕ)) (n : List ℕ) → key_of self.old (p ++ n ∷ []) ≡ Some top →
+            (q : List (List ℕ)) (k : ℕ) → is_above (p ++ n ∷ []) q ≡ false →
+            key_of self.old q ≡ Some k → key_of self.new q ≡ Some k }
         ensures marks { marks_of self.new ≡ marks_of self.old }
     {
         let mut at = top;
@@ -221,53 +245,65 @@ impl Tree {
         }
     }
 
-    /// Deletes the child of this name of the interpreter at the path, with all below it. This takes no memory.
+    /// Deletes the child of this name of the interpreter at the path, with all below it. This takes
+    /// no memory.
     ///
     /// # Errors
-    /// Refusal 301 where there is none, and 303 where an evaluation is in progress in it.
-    pub fn delete(&mut self, path: &[Text], name: &Text) -> Result<(), Refusal>
+    /// TreeError 301 where there is none, and 303 where an evaluation is in progress in it.
+    pub fn delete(&mut self, path: &[Text], name: &Text) -> Result<(), TreeError>
         ensures there { OnOk result (IsSome (tree_of self.old (path.now ++ name.now ∷ []))) }
-        ensures idle { OnOk result ((v : NodeView) → tree_of self.old (path.now ++ name.now ∷ []) ≡ Some v → v.depth ≡ 0) }
+        ensures idle { OnOk result ((v : NodeView) → tree_of self.old (path.now ++ name.now ∷ []) ≡ Some v →
+            v.depth ≡ 0) }
         ensures dropped { OnOk result (Drops (tree_of self.old) (tree_of self.new) path.now name.now) }
         ensures refused { IfErr result (λ e. RefusesDrop e (tree_of self.old) path.now name.now) }
         ensures unchanged { OnErr result (tree_of self.new ≡ tree_of self.old) }
         ensures kept { OnErr result ((q : List (List ℕ)) → key_of self.new q ≡ key_of self.old q) }
-        ensures keys { (q : List (List ℕ)) (k : ℕ) → is_above (path.now ++ name.now ∷ []) q ≡ false → key_of self.old q ≡ Some k → key_of self.new q ≡ Some k }
+        ensures keys { (q : List (List ℕ)) (k : ℕ) →
+            is_above (path.now ++ name.now ∷ []) q ≡ false → key_of self.old q ≡ Some k →
+            key_of self.new q ≡ Some k }
         ensures marks { marks_of self.new ≡ marks_of self.old }
     {
         let Some(key) = self.find(path) else {
-            return Err(Refusal::NoInterpreter);
+            return Err(TreeError::NoInterpreter);
         };
         self.delete_at(Place { key }, name)
     }
 
-    /// Deletes the child of this name of the interpreter that the place names, with all below it. This takes no memory.
+    /// Deletes the child of this name of the interpreter that the place names, with all below it.
+    /// This takes no memory.
     ///
     /// # Errors
-    /// Refusal 301 where there is none, and 303 where an evaluation is in progress in it.
-    pub fn delete_at(&mut self, place: Place, name: &Text) -> Result<(), Refusal>
+    /// TreeError 301 where there is none, and 303 where an evaluation is in progress in it.
+    pub fn delete_at(&mut self, place: Place, name: &Text) -> Result<(), TreeError>
         requires { (p : List (List ℕ)) × Names self.old place p }
-        ensures there { OnOk result ((p : List (List ℕ)) → Names self.old place p → IsSome (tree_of self.old (p ++ name.now ∷ []))) }
-        ensures idle { OnOk result ((p : List (List ℕ)) → Names self.old place p → (v : NodeView) → tree_of self.old (p ++ name.now ∷ []) ≡ Some v → v.depth ≡ 0) }
-        ensures dropped { OnOk result ((p : List (List ℕ)) → Names self.old place p → Drops (tree_of self.old) (tree_of self.new) p name.now) }
-        ensures refused { IfErr result (λ e. (p : List (List ℕ)) → Names self.old place p → RefusesDrop e (tree_of self.old) p name.now) }
+        ensures there { OnOk result ((p : List (List ℕ)) → Names self.old place p →
+            IsSome (tree_of self.old (p ++ name.now ∷ []))) }
+        ensures idle { OnOk result ((p : List (List ℕ)) → Names self.old place p → (v : NodeView) →
+            tree_of self.old (p ++ name.now ∷ []) ≡ Some v → v.depth ≡ 0) }
+        ensures dropped { OnOk result ((p : List (List ℕ)) → Names self.old place p →
+            Drops (tree_of self.old) (tree_of self.new) p name.now) }
+        ensures refused { IfErr result
+            (λ e. (p : List (List ℕ)) → Names self.old place p →
+            RefusesDrop e (tree_of self.old) p name.now) }
         ensures unchanged { OnErr result (tree_of self.new ≡ tree_of self.old) }
         ensures kept { OnErr result ((q : List (List ℕ)) → key_of self.new q ≡ key_of self.old q) }
-        ensures keys { (p : List (List ℕ)) → Names self.old place p → (q : List (List ℕ)) (k : ℕ) → is_above (p ++ name.now ∷ []) q ≡ false → key_of self.old q ≡ Some k → key_of self.new q ≡ Some k }
+        ensures keys { (p : List (List ℕ)) → Names self.old place p → (q : List (List ℕ)) (k : ℕ) →
+            is_above (p ++ name.now ∷ []) q ≡ false → key_of self.old q ≡ Some k →
+            key_of self.new q ≡ Some k }
         ensures marks { marks_of self.new ≡ marks_of self.old }
     {
         let Some(up) = self.nodes.get(place.key) else {
             unreachable!();
         };
         let Some(child) = up.children.get(name) else {
-            return Err(Refusal::NoInterpreter);
+            return Err(TreeError::NoInterpreter);
         };
         let top = *child;
         let Some(node) = self.nodes.get(top) else {
-            return Err(Refusal::NoInterpreter);
+            return Err(TreeError::NoInterpreter);
         };
         if node.state.depth > 0 {
-            return Err(Refusal::InUse);
+            return Err(TreeError::InUse);
         }
         self.fell(top);
         Ok(())

@@ -13,12 +13,14 @@ use tcl_interpreter::comparing::same_names;
 impl Tree {
     ghost use Rattle.tcl_tree.specs.Nodes.{view_of};
     ghost use Rattle.tcl_tree.specs.TreeOf.{tree_of, marks_of};
-    ghost use Rattle.tcl_tree.specs.Walking.{first_in, parent_in, sibling_in, Reached, SameBelow, left, left_behind};
+    ghost use Rattle.tcl_tree.specs.Walking.{first_in, parent_in, sibling_in, Reached, SameBelow};
+    ghost use Rattle.tcl_tree.specs.Walking.{left, left_behind};
 
     // The first child of the interpreter at a key.
     fn first_child(&self, key: usize) -> Option<usize>
         ensures first { result ≡ first_in (get self.now.nodes) key }
-        ensures distinct { (node : NodeRecord) → get self.now.nodes key ≡ Some node → IsDistinct bytes_eq (keys node.children) }
+        ensures distinct { (node : NodeRecord) → get self.now.nodes key ≡ Some node →
+            IsDistinct bytes_eq (keys node.children) }
     {
         let node = self.nodes.get(key)?;
         let (_, child) = node.children.as_slice().get_index(0)?;
@@ -45,9 +47,12 @@ impl Tree {
         self.nodes.get(key)?.parent
     }
 
-    // Whether the interpreter at a key is equal to the one at a key of another tree, names of children included.
+    // Whether the interpreter at a key is equal to the one at a key of another tree, names of
+    // children included.
     fn is_like(&self, key: usize, other: &Tree, twin: usize) -> bool
-        ensures { IsTrue result ↔ (option_map view_of (get self.now.nodes key) ≡ option_map view_of (get other.now.nodes twin)) }
+        ensures { IsTrue result ↔
+            (option_map view_of (get self.now.nodes key)
+            ≡ option_map view_of (get other.now.nodes twin)) }
     {
         let Some(this) = self.nodes.get(key) else {
             return other.nodes.get(twin).is_none();
@@ -63,11 +68,16 @@ impl Tree {
 
     // The two keys to which a walk comes behind two equal subtrees.
     fn pair_behind(&self, key: usize, other: &Tree, twin: usize) -> Option<(usize, usize)>
-        requires reached { Reached (get self.now.nodes) (get other.now.nodes) self.now.root other.now.root key twin }
+        requires reached { Reached (get self.now.nodes) (get other.now.nodes) self.now.root other.now.root key
+            twin }
         requires same { SameBelow (get self.now.nodes) (get other.now.nodes) key twin }
-        ensures some { IfSome result (λ p. Reached (get self.now.nodes) (get other.now.nodes) self.now.root other.now.root p.0 p.1) }
-        ensures less { IfSome result (λ p. left (get self.now.nodes) p.0 ≤ left_behind (get self.now.nodes) key) }
-        ensures none { IfNone result (SameBelow (get self.now.nodes) (get other.now.nodes) self.now.root other.now.root) }
+        ensures some { IfSome result
+            (λ p. Reached (get self.now.nodes) (get other.now.nodes) self.now.root other.now.root
+            p.0 p.1) }
+        ensures less { IfSome result
+            (λ p. left (get self.now.nodes) p.0 ≤ left_behind (get self.now.nodes) key) }
+        ensures none { IfNone result (SameBelow (get self.now.nodes) (get other.now.nodes) self.now.root
+            other.now.root) }
     {
         let mut at = key;
         let mut twin_at = twin;
@@ -84,11 +94,17 @@ impl Tree {
 
     // The two keys to which a walk comes next, from two interpreters that are equal by themselves.
     fn next_pair(&self, key: usize, other: &Tree, twin: usize) -> Option<(usize, usize)>
-        requires reached { Reached (get self.now.nodes) (get other.now.nodes) self.now.root other.now.root key twin }
-        requires like { option_map view_of (get self.now.nodes key) ≡ option_map view_of (get other.now.nodes twin) }
-        ensures some { IfSome result (λ p. Reached (get self.now.nodes) (get other.now.nodes) self.now.root other.now.root p.0 p.1) }
-        ensures less { IfSome result (λ p. left (get self.now.nodes) p.0 < left (get self.now.nodes) key) }
-        ensures none { IfNone result (SameBelow (get self.now.nodes) (get other.now.nodes) self.now.root other.now.root) }
+        requires reached { Reached (get self.now.nodes) (get other.now.nodes) self.now.root other.now.root key
+            twin }
+        requires like { option_map view_of (get self.now.nodes key)
+            ≡ option_map view_of (get other.now.nodes twin) }
+        ensures some { IfSome result
+            (λ p. Reached (get self.now.nodes) (get other.now.nodes) self.now.root other.now.root
+            p.0 p.1) }
+        ensures less { IfSome result
+            (λ p. left (get self.now.nodes) p.0 < left (get self.now.nodes) key) }
+        ensures none { IfNone result (SameBelow (get self.now.nodes) (get other.now.nodes) self.now.root
+            other.now.root) }
     {
         let children = self.first_child(key).zip(other.first_child(twin));
         if let Some((child, twin_child)) = children {
@@ -97,10 +113,13 @@ impl Tree {
         self.pair_behind(key, other, twin)
     }
 
-    /// Whether another tree has equal interpreters, all that they have and all orders of names included, and reads integer texts in the same
-    /// style. Whether they are broken isn't looked at. This takes no memory, and no more stack for more levels of interpreters.
+    /// Whether another tree has equal interpreters, all that they have and all orders of names
+    /// included, and reads integer texts in the same style. Whether they are broken isn't looked
+    /// at. This takes no memory, and no more stack for more levels of interpreters.
     pub fn same(&self, other: &Tree) -> bool
-        ensures { IsTrue result ↔ ((tree_of self.now ≡ tree_of other.now) × ((marks_of self.now).integers ≡ (marks_of other.now).integers)) }
+        ensures { IsTrue result ↔
+            ((tree_of self.now ≡ tree_of other.now) ×
+            ((marks_of self.now).integers ≡ (marks_of other.now).integers)) }
     {
         if self.integers != other.integers {
             return false;

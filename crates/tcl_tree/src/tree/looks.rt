@@ -35,7 +35,8 @@ impl Tree {
         }
     }
 
-    /// How many steps were counted in the interpreter at the path, if there is one. This takes no memory.
+    /// How many steps were counted in the interpreter at the path, if there is one. This takes no
+    /// memory.
     pub fn count(&self, path: &[Text]) -> Option<u64>
         ensures { result ≡ option_map (λ n. n.count) (tree_of self.now path.now) }
     {
@@ -55,7 +56,8 @@ impl Tree {
         }
     }
 
-    /// How many evaluations are in progress in the interpreter at the path and below it, if there is one. This takes no memory.
+    /// How many evaluations are in progress in the interpreter at the path and below it, if there
+    /// is one. This takes no memory.
     pub fn depth(&self, path: &[Text]) -> Option<u64>
         ensures { result ≡ option_map (λ n. n.depth) (tree_of self.now path.now) }
     {
@@ -75,7 +77,8 @@ impl Tree {
         }
     }
 
-    /// The names of the children of the interpreter at the path, in order, if there is one. This takes no memory.
+    /// The names of the children of the interpreter at the path, in order, if there is one. This
+    /// takes no memory.
     pub fn children(&self, path: &[Text]) -> Option<Keys<'_, Text, usize>>
         ensures { result ≡ option_map (λ n. n.own.children) (tree_of self.now path.now) }
     {
@@ -87,7 +90,8 @@ impl Tree {
 
     /// The commands of the interpreter at the path, if there is one. This takes no memory.
     pub fn commands(&self, path: &[Text]) -> Option<&Commands>
-        ensures { option_map (λ m. m.entries) (option_copied result) ≡ option_map (λ n. n.own.commands) (tree_of self.now path.now) }
+        ensures { option_map (λ m. m.entries) (option_copied result) ≡ option_map
+            (λ n. n.own.commands) (tree_of self.now path.now) }
     {
         match self.node(path) {
             Some(node) => Some(&node.state.commands),
@@ -97,7 +101,8 @@ impl Tree {
 
     /// The hidden commands of the interpreter at the path, if there is one. This takes no memory.
     pub fn hidden_commands(&self, path: &[Text]) -> Option<&Commands>
-        ensures { option_map (λ m. m.entries) (option_copied result) ≡ option_map (λ n. n.own.hidden) (tree_of self.now path.now) }
+        ensures { option_map (λ m. m.entries) (option_copied result) ≡ option_map
+            (λ n. n.own.hidden) (tree_of self.now path.now) }
     {
         match self.node(path) {
             Some(node) => Some(&node.state.hidden),
@@ -105,7 +110,8 @@ impl Tree {
         }
     }
 
-    /// The table: each interpreter with its parent's key, and its children's names and keys in order. This takes no memory.
+    /// The table: each interpreter with its parent's key, and its children's names and keys in
+    /// order. This takes no memory.
     pub fn table(&self) -> &Slab<Node>
         ensures { result.now ≡ table_of self.now }
     {

@@ -42,15 +42,19 @@ impl Tree {
 
     /// The interpreter that the place names. This takes no memory.
     pub fn node_at(&self, place: Place) -> Option<&Node>
-        ensures { (p : List (List ℕ)) → Names self.now place p → option_map view_of (option_copied result) ≡ tree_of self.now p }
+        ensures { (p : List (List ℕ)) → Names self.now place p →
+            option_map view_of (option_copied result) ≡ tree_of self.now p }
     {
         self.nodes.get(place.key)
     }
 
     /// The place of a child, by its name, if there is one. This takes no memory.
     pub fn child_at(&self, place: Place, name: &Text) -> Option<Place>
-        ensures there { IfSome result (λ child. (p : List (List ℕ)) → Names self.now place p → Names self.now child (p ++ name.now ∷ [])) }
-        ensures missing { IfNone result ((p : List (List ℕ)) → Names self.now place p → tree_of self.now (p ++ name.now ∷ []) ≡ None) }
+        ensures there { IfSome result
+            (λ child. (p : List (List ℕ)) → Names self.now place p →
+            Names self.now child (p ++ name.now ∷ [])) }
+        ensures missing { IfNone result ((p : List (List ℕ)) → Names self.now place p →
+            tree_of self.now (p ++ name.now ∷ []) ≡ None) }
     {
         let node = self.nodes.get(place.key)?;
         let key = *node.children.get(name)?;
@@ -60,7 +64,9 @@ impl Tree {
     // The key of the interpreter so many levels up, where that doesn't pass the root.
     fn rise(&self, key: usize, up: usize) -> Option<usize>
         requires { (p : List (List ℕ)) × (key_of self.now p ≡ Some key) }
-        ensures there { IfSome result (λ top. (p : List (List ℕ)) → key_of self.now p ≡ Some key → (a : List (List ℕ)) × (rise up p ≡ Some a) × (key_of self.now a ≡ Some top)) }
+        ensures there { IfSome result
+            (λ top. (p : List (List ℕ)) → key_of self.now p ≡ Some key → (a : List (List ℕ)) ×
+            (rise up p ≡ Some a) × (key_of self.now a ≡ Some top)) }
         ensures outside { IfNone result ((p : List (List ℕ)) → key_of self.now p ≡ Some key → rise up p ≡ None) }
     {
         let mut at = key;
@@ -83,7 +89,8 @@ impl Tree {
         place: Place,
         most: usize,
     ) -> Result<Vec<Text>, AllocError>
-        ensures { IfOk result (λ names. (p : List (List ℕ)) → Names self.now place p → names.items ≡ falls most p) }
+        ensures { IfOk result (λ names. (p : List (List ℕ)) → Names self.now place p →
+            names.items ≡ falls most p) }
     {
         let mut names = Vec::new(alloc);
         let mut at = place.key;
@@ -101,10 +108,12 @@ impl Tree {
         Ok(names)
     }
 
-    /// Where the way of so many levels up and then these names down leads, as that of an alias to its target does. This takes no memory.
+    /// Where the way of so many levels up and then these names down leads, as that of an alias to
+    /// its target does. This takes no memory.
     pub fn reach(&self, place: Place, up: usize, down: &[Text]) -> Reach
         requires { (p : List (List ℕ)) × Names self.now place p }
-        ensures { (p : List (List ℕ)) → Names self.now place p → Leads self.now p up down.now result }
+        ensures { (p : List (List ℕ)) → Names self.now place p →
+            Leads self.now p up down.now result }
     {
         let Some(top) = self.rise(place.key, up) else {
             return Reach::Outside;

@@ -2,7 +2,7 @@
 ghost use Rattle.std.specs.Prelude.{◌≡◌, Err, IfOk};
 ghost use Rattle.tcl_expr.specs.Expressions.{expression_of};
 ghost use Rattle.tcl_parser.specs.Reading.{read_script};
-ghost use Rattle.tcl_readings.specs.Kept.{Gives};
+ghost use Rattle.tcl_parse_cache.specs.Kept.{Gives};
 ghost use Rattle.tcl_value.specs.Limits.{IsWithin, IsPast};
 
 use crate::tree::Tree;
@@ -10,14 +10,15 @@ use std::alloc::{AllocError, Global};
 use std::rc::Rc;
 use tcl_expr::fault::{ExprError, ExprFault};
 use tcl_expr::tree::ExprTree;
+use tcl_parse_cache::readings::Readings;
 use tcl_parser::script::Script;
-use tcl_readings::readings::Readings;
 use tcl_text::integer::Integers;
 use tcl_text::text::Text;
 use tcl_value::value::Value;
 
 impl Tree {
-    /// The script that a value is, read anew only where it wasn't read before. Faults of its text are part of it. The value keeps it.
+    /// The script that a value is, read anew only where it wasn't read before. Faults of its text
+    /// are part of it. The value keeps it.
     ///
     /// # Errors
     /// Want of memory.
@@ -31,7 +32,8 @@ impl Tree {
         }
     }
 
-    /// The script that a text is, read anew only where it wasn't read before. Faults of the text are part of it.
+    /// The script that a text is, read anew only where it wasn't read before. Faults of the text
+    /// are part of it.
     ///
     /// # Errors
     /// Want of memory.
@@ -44,10 +46,12 @@ impl Tree {
         }
     }
 
-    /// The expression that a text is in a style of integers, read anew only where it wasn't read before.
+    /// The expression that a text is in a style of integers, read anew only where it wasn't read
+    /// before.
     ///
     /// # Errors
-    /// Why the text is none, and 122 exactly where it is longer than a value may be; want of memory.
+    /// Why the text is none, and 122 exactly where it is longer than a value may be; want of
+    /// memory.
     pub fn expression(
         &self,
         alloc: Global,

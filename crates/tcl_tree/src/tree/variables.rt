@@ -23,7 +23,8 @@ fn frames_in(node: &mut Node) -> &mut Frames
 // The frames of the node at a key, to write.
 fn frames_at(nodes: &mut Slab<Node>, key: usize) -> Option<&mut Frames>
     ensures* writes_back { sem 𝓛 (LendsFramesAt nodes.entry key result) }
-    ensures value { option_copied_mut result ≡ option_map (λ node. node.state.frames) (get nodes.old key) }
+    ensures value { option_copied_mut result ≡ option_map
+        (λ node. node.state.frames) (get nodes.old key) }
 {
     match nodes.get_mut(key) {
         Some(node) => Some(frames_in(node)),
@@ -48,7 +49,8 @@ impl Tree {
     /// The frames of the interpreter at the path, if there is one, to write. This takes no memory.
     pub fn frames_mut(&mut self, path: &[Text]) -> Option<&mut Frames>
         ensures* writes_back { sem 𝓛 (LendsFramesOf self.entry path.now result) }
-        ensures value { option_copied_mut result ≡ option_map (λ n. n.own.chain) (tree_of self.old path.now) }
+        ensures value { option_copied_mut result ≡ option_map
+            (λ n. n.own.chain) (tree_of self.old path.now) }
     {
         let Some(key) = self.find(path) else {
             return None;
@@ -60,7 +62,8 @@ impl Tree {
     pub fn frames_of(&mut self, place: Place) -> Option<&mut Frames>
         requires { (p : List (List ℕ)) × Names self.old place p }
         ensures* writes_back { sem 𝓛 (LendsFramesIn self.entry place result) }
-        ensures value { (p : List (List ℕ)) → Names self.old place p → option_copied_mut result ≡ option_map (λ n. n.own.chain) (tree_of self.old p) }
+        ensures value { (p : List (List ℕ)) → Names self.old place p →
+            option_copied_mut result ≡ option_map (λ n. n.own.chain) (tree_of self.old p) }
     {
         frames_at(&mut self.nodes, place.key)
     }

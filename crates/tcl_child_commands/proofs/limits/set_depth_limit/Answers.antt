@@ -15,7 +15,7 @@ returns-in_err-permit-clause-evaluates g c = (let p = err_from_is_err_and c.from
     (Interrupts-more c.in_err-permit.field-0.0 _ (GetsToEnd c.args.tree.now c.args.place (λ style. interpreters.permitted (deepens_to style (c.args.name.now ∷ []) c.args.value.now))) (λ e f. f (λ style. deepens_to style (c.args.name.now ∷ []) c.args.value.now)) c.in_err-permit.ensures))
 
 pub returns-clause-evaluates : goal.returns-clause-evaluates
-returns-clause-evaluates g c = gets_evaluates g.O.Outside.goes c.args.tree.now c.args.outside.now c.args.place (λ style. interpreters.permitted (deepens_to style (c.args.name.now ∷ []) c.args.value.now)) (λ style. deepens_to style (c.args.name.now ∷ []) c.args.value.now) c.deepen_to.new.tree c.deepen_to.new.outside c.deepen_to.result (c.in_ok-permit.ensures (λ style. deepens_to style (c.args.name.now ∷ []) c.args.value.now))
-    (evaluates_as g.O.Outside.goes c.args.tree.now c.deepen_to.new.tree c.args.outside.now c.deepen_to.new.outside c.args.place (λ style. deepens_to style (c.args.name.now ∷ []) c.args.value.now)
-    (λ style. deepens_to style c.from_ref.result.now c.args.value.now) c.deepen_to.result
-    (λ style. ap (λ (x : Path). deepens_to style x c.args.value.now) (sym c.from_ref.ensures.value)) c.deepen_to.ensures.evaluates)
+returns-clause-evaluates g c = gets_evaluates g.O.Outside.goes c.args.tree.now c.args.outside.now c.args.place (λ style. interpreters.permitted (deepens_to style (c.args.name.now ∷ []) c.args.value.now)) (λ style. deepens_to style (c.args.name.now ∷ []) c.args.value.now) c.set_depth_limit_at.new.tree c.set_depth_limit_at.new.outside c.set_depth_limit_at.result (c.in_ok-permit.ensures (λ style. deepens_to style (c.args.name.now ∷ []) c.args.value.now))
+    (evaluates_as g.O.Outside.goes c.args.tree.now c.set_depth_limit_at.new.tree c.args.outside.now c.set_depth_limit_at.new.outside c.args.place (λ style. deepens_to style (c.args.name.now ∷ []) c.args.value.now)
+    (λ style. deepens_to style c.from_ref.result.now c.args.value.now) c.set_depth_limit_at.result
+    (λ style. ap (λ (x : Path). deepens_to style x c.args.value.now) (sym c.from_ref.ensures.value)) c.set_depth_limit_at.ensures.evaluates)

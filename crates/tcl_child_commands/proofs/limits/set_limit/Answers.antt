@@ -15,7 +15,7 @@ returns-in_err-permit-clause-evaluates g c = (let p = err_from_is_err_and c.from
     (Interrupts-more c.in_err-permit.field-0.0 _ (GetsToEnd c.args.tree.now c.args.place (λ style. interpreters.permitted (limits_to style (c.args.name.now ∷ []) c.args.value.now))) (λ e f. f (λ style. limits_to style (c.args.name.now ∷ []) c.args.value.now)) c.in_err-permit.ensures))
 
 pub returns-clause-evaluates : goal.returns-clause-evaluates
-returns-clause-evaluates g c = gets_evaluates g.O.Outside.goes c.args.tree.now c.args.outside.now c.args.place (λ style. interpreters.permitted (limits_to style (c.args.name.now ∷ []) c.args.value.now)) (λ style. limits_to style (c.args.name.now ∷ []) c.args.value.now) c.limit_to.new.tree c.limit_to.new.outside c.limit_to.result (c.in_ok-permit.ensures (λ style. limits_to style (c.args.name.now ∷ []) c.args.value.now))
-    (evaluates_as g.O.Outside.goes c.args.tree.now c.limit_to.new.tree c.args.outside.now c.limit_to.new.outside c.args.place (λ style. limits_to style (c.args.name.now ∷ []) c.args.value.now)
-    (λ style. limits_to style c.from_ref.result.now c.args.value.now) c.limit_to.result
-    (λ style. ap (λ (x : Path). limits_to style x c.args.value.now) (sym c.from_ref.ensures.value)) c.limit_to.ensures.evaluates)
+returns-clause-evaluates g c = gets_evaluates g.O.Outside.goes c.args.tree.now c.args.outside.now c.args.place (λ style. interpreters.permitted (limits_to style (c.args.name.now ∷ []) c.args.value.now)) (λ style. limits_to style (c.args.name.now ∷ []) c.args.value.now) c.set_count_limit_at.new.tree c.set_count_limit_at.new.outside c.set_count_limit_at.result (c.in_ok-permit.ensures (λ style. limits_to style (c.args.name.now ∷ []) c.args.value.now))
+    (evaluates_as g.O.Outside.goes c.args.tree.now c.set_count_limit_at.new.tree c.args.outside.now c.set_count_limit_at.new.outside c.args.place (λ style. limits_to style (c.args.name.now ∷ []) c.args.value.now)
+    (λ style. limits_to style c.from_ref.result.now c.args.value.now) c.set_count_limit_at.result
+    (λ style. ap (λ (x : Path). limits_to style x c.args.value.now) (sym c.from_ref.ensures.value)) c.set_count_limit_at.ensures.evaluates)

@@ -31,5 +31,5 @@ returns-in-Ok-clause-level c =
 pub returns-in-Err-clause-acts : goal.returns-in-Err-clause-acts
 returns-in-Err-clause-acts c =
     renaming_refused c.args.tree.now c.set_proc_at.new.self c.args.place (λ own. language.named own c.args.name.now (command.Procedure c.args.procedure)) (λ own. tree.named own c.in_ok-kept.kept (command.Procedure c.args.procedure))
-    c.in-Err.refusal c.args.name.now c.told.result c.in-Err.ensures.unchanged c.told.ensures c.in-Err.ensures.refused
+    c.in-Err.refusal c.args.name.now c.naming_failure.result c.in-Err.ensures.unchanged c.naming_failure.ensures c.in-Err.ensures.refused
     (λ p n at there. named_so n.own c.args.name.now c.in_ok-kept.kept c.in_ok-kept.ensures.kept (command.Procedure c.args.procedure))

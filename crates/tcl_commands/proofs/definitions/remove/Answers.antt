@@ -28,5 +28,5 @@ returns-in-Ok-clause-level c =
 pub returns-clause-acts : goal.returns-clause-acts
 returns-clause-acts c =
     renaming_refused c.args.tree.now c.remove_at.new.self c.args.place (λ own. language.removed own c.args.name.now) (λ own. tree.removed own c.in_ok-kept.kept)
-    c.in-Err.refusal c.args.name.now c.told.result c.in-Err.ensures.unchanged c.told.ensures (λ p at v there. inr (c.in-Err.ensures.refused p at v there))
+    c.in-Err.refusal c.args.name.now c.naming_failure.result c.in-Err.ensures.unchanged c.naming_failure.ensures (λ p at v there. inr (c.in-Err.ensures.refused p at v there))
     (λ p n at there. removed_so n.own c.args.name.now c.in_ok-kept.kept c.in_ok-kept.ensures.kept)

@@ -41,5 +41,5 @@ returns-in-Ok-clause-level c =
 pub returns-clause-acts : goal.returns-clause-acts
 returns-clause-acts c =
     renaming_refused c.args.tree.now c.rename_at.new.self c.args.place (λ own. language.renamed own c.args.old.now c.args.new.now) (λ own. tree.renamed own c.in_ok-name.name c.in_ok-new_name.new_name)
-    c.in-Err.refusal c.args.new.now c.told.result c.in-Err.ensures.unchanged c.told.ensures c.in-Err.ensures.refused
+    c.in-Err.refusal c.args.new.now c.naming_failure.result c.in-Err.ensures.unchanged c.naming_failure.ensures c.in-Err.ensures.refused
     (λ p n at there. renamed_so n.own c.args.old.now c.in_ok-name.name c.args.new.now c.in_ok-new_name.new_name c.in_ok-name.ensures.kept c.in_ok-new_name.ensures.kept (c.in_ok-own_command.ensures.there p n at there))

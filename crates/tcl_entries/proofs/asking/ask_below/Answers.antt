@@ -10,19 +10,19 @@ use Rattle.tcl_entries.proofs.asking.ask_below.Goals as goal
 pub unreachable-requires : goal.unreachable-requires
 unreachable-requires g c = never_outside c.args.tree.now c.args.place c.args.path.now (λ p at. c.in-Outside.ensures p at) c.requires.running.0 c.requires.running.1
 
-pub come_back-requires : goal.come_back-requires
-come_back-requires g c = (c.requires.running.0, c.serve_own-ended.ensures.steady.keys c.requires.running.0 c.args.place.key c.requires.running.1 c.requires.running.2)
+pub return_to_caller-requires : goal.return_to_caller-requires
+return_to_caller-requires g c = (c.requires.running.0, c.serve_own-ended.ensures.steady.keys c.requires.running.0 c.args.place.key c.requires.running.1 c.requires.running.2)
 
 pub returns-in-There-clause-calls : goal.returns-in-There-clause-calls
-returns-in-There-clause-calls g c = asks_there g.O.Outside.goes c.args.tree.now c.serve_own-ended.new.tree c.args.outside.now c.args.place c.args.path.now (whole_entry c.args.entry) c.come_back.result
-    c.enters.new.self c.serve_own-ended.new.outside c.come_back.new.outside c.in-There.there c.serve_own-ended.result (λ p at. c.in-There.ensures p at) c.in_ok-enters-in-There.ensures.told
+returns-in-There-clause-calls g c = asks_there g.O.Outside.goes c.args.tree.now c.serve_own-ended.new.tree c.args.outside.now c.args.place c.args.path.now (whole_entry c.args.entry) c.return_to_caller.result
+    c.enters.new.self c.serve_own-ended.new.outside c.return_to_caller.new.outside c.in-There.there c.serve_own-ended.result (λ p at. c.in-There.ensures p at) c.in_ok-enters-in-There.ensures.told
     c.serve_own-ended.ensures.runs
-    c.come_back.ensures.comes c.serve_own-ended.ensures.steady
+    c.return_to_caller.ensures.comes c.serve_own-ended.ensures.steady
 
 pub returns-in-There-clause-lost : goal.returns-in-There-clause-lost
 returns-in-There-clause-lost g c =
     let told : IsLoss g.O.Outside.loses c.args.outside.now c.enters.new.self = lost_once c.enters.ensures.lost in
-    lost_twice (lost_twice told c.serve_own-ended.ensures.lost) c.come_back.ensures.lost
+    lost_twice (lost_twice told c.serve_own-ended.ensures.lost) c.return_to_caller.ensures.lost
 
 pub returns-in-Missing-clause-calls : goal.returns-in-Missing-clause-calls
 returns-in-Missing-clause-calls g c = asks_nobody g.O.Outside.goes c.args.tree.now c.args.tree.now c.args.outside.now c.args.place c.args.path.now (whole_entry c.args.entry) (Err c.no_interpreter.result)

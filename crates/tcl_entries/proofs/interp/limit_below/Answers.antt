@@ -19,6 +19,6 @@ returns-in_err-stands-clause-evaluates g c = gets_evaluates g.O.Outside.goes c.a
     (Interrupts-more c.in_err-stands.field-0.0 _ (GetsToEnd c.args.tree.now c.args.place (λ style. act Look (λ T. interpreters.where_it_stands c.args.word.now (λ n. limits_to style c.args.names.now c.args.value.now) (T c.args.names.now)))) (λ e f. f (λ style. limits_to style c.args.names.now c.args.value.now)) c.in_err-stands.ensures))
 
 pub returns-clause-evaluates : goal.returns-clause-evaluates
-returns-clause-evaluates g c = gets_evaluates g.O.Outside.goes c.args.tree.now c.args.outside.now c.args.place (λ style. limits_below style c.args.word.now c.args.names.now c.args.value.now) (λ style. act Look (λ T. interpreters.where_it_stands c.args.word.now (λ n. limits_to style c.args.names.now c.args.value.now) (T c.args.names.now))) c.limit_to.new.tree c.limit_to.new.outside c.limit_to.result (c.in_ok-below_itself.ensures (λ style. act Look (λ T. interpreters.where_it_stands c.args.word.now (λ n. limits_to style c.args.names.now c.args.value.now) (T c.args.names.now))))
-    (gets_evaluates g.O.Outside.goes c.args.tree.now c.args.outside.now c.args.place (λ style. act Look (λ T. interpreters.where_it_stands c.args.word.now (λ n. limits_to style c.args.names.now c.args.value.now) (T c.args.names.now))) (λ style. limits_to style c.args.names.now c.args.value.now) c.limit_to.new.tree c.limit_to.new.outside c.limit_to.result (c.in_ok-stands.ensures (λ style. limits_to style c.args.names.now c.args.value.now))
-    (c.limit_to.ensures.evaluates))
+returns-clause-evaluates g c = gets_evaluates g.O.Outside.goes c.args.tree.now c.args.outside.now c.args.place (λ style. limits_below style c.args.word.now c.args.names.now c.args.value.now) (λ style. act Look (λ T. interpreters.where_it_stands c.args.word.now (λ n. limits_to style c.args.names.now c.args.value.now) (T c.args.names.now))) c.set_count_limit_at.new.tree c.set_count_limit_at.new.outside c.set_count_limit_at.result (c.in_ok-below_itself.ensures (λ style. act Look (λ T. interpreters.where_it_stands c.args.word.now (λ n. limits_to style c.args.names.now c.args.value.now) (T c.args.names.now))))
+    (gets_evaluates g.O.Outside.goes c.args.tree.now c.args.outside.now c.args.place (λ style. act Look (λ T. interpreters.where_it_stands c.args.word.now (λ n. limits_to style c.args.names.now c.args.value.now) (T c.args.names.now))) (λ style. limits_to style c.args.names.now c.args.value.now) c.set_count_limit_at.new.tree c.set_count_limit_at.new.outside c.set_count_limit_at.result (c.in_ok-stands.ensures (λ style. limits_to style c.args.names.now c.args.value.now))
+    (c.set_count_limit_at.ensures.evaluates))

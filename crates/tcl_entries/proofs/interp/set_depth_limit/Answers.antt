@@ -23,6 +23,6 @@ returns-in_err-names-clause-evaluates g c = gets_evaluates g.O.Outside.goes c.ar
     (Interrupts-more c.in_err-names.field-0.0 _ (GetsToEnd c.args.tree.now c.args.place (λ style. or_fails fault_message (list_of c.args.word.now) (λ names. deepens_there style c.args.word.now names c.args.value.now))) (λ e f. f (λ names style. deepens_there style c.args.word.now names c.args.value.now)) c.in_err-names.ensures))
 
 pub returns-clause-evaluates : goal.returns-clause-evaluates
-returns-clause-evaluates g c = gets_evaluates g.O.Outside.goes c.args.tree.now c.args.outside.now c.args.place (λ style. interpreters.sets_depth_limit style c.args.word.now c.args.value.now) (λ style. or_fails fault_message (list_of c.args.word.now) (λ names. deepens_there style c.args.word.now names c.args.value.now)) c.deepen_there.new.tree c.deepen_there.new.outside c.deepen_there.result (c.in_ok-permit.ensures (λ style. or_fails fault_message (list_of c.args.word.now) (λ names. deepens_there style c.args.word.now names c.args.value.now)))
-    (gets_evaluates g.O.Outside.goes c.args.tree.now c.args.outside.now c.args.place (λ style. or_fails fault_message (list_of c.args.word.now) (λ names. deepens_there style c.args.word.now names c.args.value.now)) (λ style. deepens_there style c.args.word.now c.in_ok-names.names.items c.args.value.now) c.deepen_there.new.tree c.deepen_there.new.outside c.deepen_there.result (c.in_ok-names.ensures (λ names style. deepens_there style c.args.word.now names c.args.value.now))
-    (subst (λ (x : Path). Evaluates g.O.Outside.goes c.args.tree.now c.args.outside.now c.args.place (λ style. deepens_there style c.args.word.now x c.args.value.now) c.deepen_there.new.tree c.deepen_there.new.outside c.deepen_there.result) c.as_slice.ensures.value c.deepen_there.ensures.evaluates))
+returns-clause-evaluates g c = gets_evaluates g.O.Outside.goes c.args.tree.now c.args.outside.now c.args.place (λ style. interpreters.sets_depth_limit style c.args.word.now c.args.value.now) (λ style. or_fails fault_message (list_of c.args.word.now) (λ names. deepens_there style c.args.word.now names c.args.value.now)) c.set_depth_limit_where_it_stands.new.tree c.set_depth_limit_where_it_stands.new.outside c.set_depth_limit_where_it_stands.result (c.in_ok-permit.ensures (λ style. or_fails fault_message (list_of c.args.word.now) (λ names. deepens_there style c.args.word.now names c.args.value.now)))
+    (gets_evaluates g.O.Outside.goes c.args.tree.now c.args.outside.now c.args.place (λ style. or_fails fault_message (list_of c.args.word.now) (λ names. deepens_there style c.args.word.now names c.args.value.now)) (λ style. deepens_there style c.args.word.now c.in_ok-names.names.items c.args.value.now) c.set_depth_limit_where_it_stands.new.tree c.set_depth_limit_where_it_stands.new.outside c.set_depth_limit_where_it_stands.result (c.in_ok-names.ensures (λ names style. deepens_there style c.args.word.now names c.args.value.now))
+    (subst (λ (x : Path). Evaluates g.O.Outside.goes c.args.tree.now c.args.outside.now c.args.place (λ style. deepens_there style c.args.word.now x c.args.value.now) c.set_depth_limit_where_it_stands.new.tree c.set_depth_limit_where_it_stands.new.outside c.set_depth_limit_where_it_stands.result) c.as_slice.ensures.value c.set_depth_limit_where_it_stands.ensures.evaluates))

@@ -9,7 +9,7 @@ use Rattle.tcl_tree.specs.Naming as tree
 use Rattle.tcl_entries.specs.Naming.{Tells}
 use Rattle.tcl_language.specs.Faults.{invalid_hidden}
 use Rattle.tcl_language.specs.Naming.{with_word}
-use Rattle.tcl_interpreter.specs.declared.refusal.Refusal.TheVariants as refusal
+use Rattle.tcl_interpreter.specs.declared.refusal.TreeError.TheVariants as refusal
 use Rattle.tcl_entries.proofs.Changing.{exposed_is, bad_exposed, unhidden_stays}
 use Rattle.tcl_entries.proofs.Served.{passed_acts, renaming_bad, renaming_done, renaming_fails, renaming_refused}
 use Rattle.tcl_entries.proofs.Standing.{named_level}

@@ -8,7 +8,7 @@ use Rattle.tcl_run.specs.Ends.{Interrupts, failing}
 use Rattle.tcl_tree.specs.Naming as tree
 use Rattle.tcl_entries.specs.Naming.{Tells}
 use Rattle.tcl_language.specs.Interpreters.{already_exists}
-use Rattle.tcl_interpreter.specs.declared.refusal.Refusal.TheVariants as refusal
+use Rattle.tcl_interpreter.specs.declared.refusal.TreeError.TheVariants as refusal
 use Rattle.tcl_entries.specs.Naming.{hiding_text}
 use Rattle.tcl_entries.proofs.Changing.{hidden_is, child_stays, bad_hidden, with_words, words_err, hiding_word, hiding_same}
 use Rattle.tcl_entries.proofs.Served.{passed_acts, renaming_bad, renaming_done, renaming_fails, renaming_refused}

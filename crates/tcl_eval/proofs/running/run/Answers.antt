@@ -3,7 +3,7 @@ use Rattle.tcl_core.specs.Endings.{Reply}
 use Rattle.tcl_core.specs.Entries.Entry.{Eval}
 use Rattle.tcl_core.specs.Paths.{Text}
 use Rattle.tcl_core.specs.Runs.{Ending}
-use Rattle.tcl_core.specs.Threads.{event}
+use Rattle.tcl_core.specs.Execution.{event}
 use Rattle.tcl_core.specs.Trees.{effect}
 use Rattle.tcl_core.specs.Trees.What.{Done, Limited}
 use Rattle.tcl_language.specs.Table.{serve}

@@ -1,5 +1,5 @@
 use Rattle.std.proofs.Common.{[], None, refl}
-use Rattle.tcl_core.specs.Threads.{before}
+use Rattle.tcl_core.specs.Execution.{before}
 use Rattle.tcl_core.proofs.Outside.{quiet_outside}
 use Rattle.tcl_isolation.specs.Visits.{visit}
 use Rattle.tcl_isolation.proofs.Hosts.{host_between}

@@ -1,4 +1,4 @@
-use Rattle.tcl_playing.specs.Players.{player_of}
+use Rattle.tcl_player.specs.Players.{player_of}
 use Rattle.tcl_tree.specs.TreeOf.{tree_of}
 use Rattle.tcl_replay.proofs.Serving.{reacts}
 use Rattle.tcl_replay.proofs.replaying.play.Goals as goal

@@ -1,6 +1,6 @@
 use Rattle.std.proofs.Common.{refl, sym, ◌∙◌, ap, subst}
 use Rattle.tcl_language_laws.specs.Language.{language}
-use Rattle.tcl_playing.specs.Players.{Begins, IsAtEnd, player_of}
+use Rattle.tcl_player.specs.Players.{Begins, IsAtEnd, player_of}
 use Rattle.tcl_reactions.specs.Playing.{Lived}
 use Rattle.tcl_reactions.specs.Playing.Lived.{begun}
 use Rattle.tcl_run.specs.Entering.{whole_entry}

@@ -2,8 +2,8 @@ use Rattle.std.proofs.Common.{subst, ◌+◌}
 use Rattle.std.specs.Prelude.{IfOk}
 use Rattle.tcl_eval.specs.Running.{IsOpenRun, root_count}
 use Rattle.tcl_run.specs.Outsides.{hosted}
-use Rattle.tcl_watching.specs.Recording.{recorded}
-use Rattle.tcl_watching.specs.declared.recorder.Recorder.{Recorder}
+use Rattle.tcl_recorder.specs.Recording.{recorded}
+use Rattle.tcl_recorder.specs.declared.recorder.Recorder.{Recorder}
 use Rattle.tcl_replay.proofs.Entered.{if_entry}
 use Rattle.tcl_replay.proofs.watching.run.Goals as goal
 

@@ -1,0 +1,156 @@
+-- What a player's calls come to.
+use Rattle.std.proofs.Common.{◌≡◌, ℕ, ℤ, Bool, true, false, List, ◌∷◌, ◌++◌, length, Option, Some, None, refl, sym, ap, subst, ◌∙◌}
+use Rattle.std.specs.Option.{option_map}
+use Rattle.std.specs.Prelude.{is_some, IfNone, IfSome, Result, Ok, Err}
+use Rattle.tcl_core.specs.Endings.{Reply}
+use Rattle.tcl_core.specs.Endings.Cause.{Over}
+use Rattle.tcl_core.specs.Endings.Reply.{Completed, Stop, Exit, Cut}
+use Rattle.tcl_core.specs.Entries.{Answer, Entry}
+use Rattle.tcl_core.specs.Entries.Answer.{Replied, Heard}
+use Rattle.tcl_core.specs.Lives.{Outcome, ending_of}
+use Rattle.tcl_core.specs.Lives.Outcome.{Exited}
+use Rattle.tcl_core.specs.Paths.{Path, Place, Height, rise, rise_to}
+use Rattle.tcl_core.specs.Runs.{is_own}
+use Rattle.tcl_core.specs.Trees.{Event, Move, Tree}
+use Rattle.tcl_core.specs.Trees.Move.{Enter, Come, Born, Fall}
+use Rattle.tcl_core.proofs.PathLaws.{rise_back}
+use Rattle.tcl_reactions.specs.Playing.{Answers, IsCut, IsNoCut, Player, last_end, past, reading, stopping, suits, telling, Tells}
+use Rattle.tcl_reactions.specs.Playing.Answers.{reads, ends, unfits, passes}
+use Rattle.tcl_reactions.specs.Playing.Fate.{Unfits, EndsAbove}
+use Rattle.tcl_reactions.proofs.Free.{same_exit, own_exit}
+use Rattle.tcl_run.specs.Outsides as outsides
+use Rattle.tcl_run.specs.Outsides.{ComesNext, Enters, Misses, Returns}
+use Rattle.tcl_run.specs.declared.interruption.Interruption.{Interruption}
+use Rattle.tcl_run.specs.declared.interruption.Interruption.TheVariants as interruption
+use Rattle.tcl_run.specs.declared.outside.Turn.{Turn}
+use Rattle.tcl_run.specs.declared.outside.Turn.TheVariants as turn
+use Rattle.tcl_tree.specs.Own.{Own}
+use Rattle.tcl_recorder.specs.Crossings.{answer_of}
+use Rattle.tcl_recorder.specs.declared.crossing.Answer as crossing_answer
+use Rattle.tcl_player.specs.Answering.{IsExitOf, IsTold, cuts_off, is_cut, last_outcome}
+use Rattle.tcl_player.specs.Moves.{move_of}
+use Rattle.tcl_player.specs.Players.{GoesOn, IsOverBy, fate_of, played, player_of}
+use Rattle.tcl_player.specs.declared.moves.Move as kept
+use Rattle.tcl_player.specs.declared.moves.Move.TheVariants as moving
+use Rattle.tcl_player.specs.declared.player.Fate as kept_fate
+use Rattle.tcl_player.specs.declared.player.Player as declared
+
+-- ## What is between two interpreters of the tree
+
+within : (o : Player Own) (t : Type 0) (l : Option Place) (b : Place) → l ≡ Some b → past l o o t
+within o t l b e = subst (λ x. past x o o t) (sym e) refl
+
+pub enters_unheard : (T : Tree Own) (o : declared.Player) (p : Place) (n : ℕ) (a : Place) (down : Path) (i : Entry) → rise n p ≡ Some a → Enters played T o p n a down i o
+enters_unheard T o p n a down i e = record { between = o; leaves = within (player_of o) _ (rise n p) a e; enters = within (player_of o) _ (rise (length down) (a ++ down)) a (rise_back a down) }
+
+pub returns_unheard : (T : Tree Own) (o : declared.Player) (p : Place) (n : ℕ) (a : Place) (down : Path) (s r : Reply) → rise n p ≡ Some a → Returns played T o p n a down s r o
+returns_unheard T o p n a down s r e = record { between = o; leaves = within (player_of o) _ (rise (length down) (a ++ down)) a (rise_back a down); returns = within (player_of o) _ (rise n p) a e }
+
+pub misses_unheard : (T : Tree Own) (o : declared.Player) (p : Place) (n : ℕ) (a : Place) (down : Path) (i : Entry) (r : Reply) → rise n p ≡ Some a → Misses played T o p n down i r o
+misses_unheard T o p n a down i r e = record { between = o; leaves = within (player_of o) _ (rise n p) a e; returns = within (player_of o) _ (rise n p) a e }
+
+-- ## What passes the top
+
+pub outer : (l : Option Place) (o z : Player Own) (t : Type 0) → l ≡ None → t → past l o z t
+outer l o z t e g = subst (λ k. past k o z t) (sym e) g
+
+-- the playing goes on
+pub goes_still : (f : Option kept_fate.Fate) → is_some f ≡ false → option_map fate_of f ≡ None
+goes_still None e = refl
+goes_still (Some x) e = let clash : true ≡ false = e in absurd cc
+
+-- it is over already
+pub over_already : (T : Tree Own) (o : declared.Player) (h : Height) (i : Entry) → is_some o.fate ≡ true → IsOverBy T (player_of o) h i (player_of o)
+over_already T o h i e a x = by o.fate refl e
+  where
+    by : (f : Option kept_fate.Fate) → o.fate ≡ f → is_some f ≡ true → Answers T (player_of o) (Some (h, i)) a (player_of o)
+    by None g y = let clash : false ≡ true = y in absurd cc
+    by (Some f) g y = passes (fate_of f) (ap (option_map fate_of) g) x refl
+
+cut_is : (m : Move Own) → cuts_off m ≡ true → (b : Answer) × (m ≡ Come b) × IsCut b
+cut_is (Come (Replied (Cut c))) e = (Replied (Cut c), refl, tt)
+cut_is (Come (Replied (Completed c))) e = let clash : false ≡ true = e in absurd cc
+cut_is (Come (Replied (Stop n m))) e = let clash : false ≡ true = e in absurd cc
+cut_is (Come (Replied (Exit n))) e = let clash : false ≡ true = e in absurd cc
+cut_is (Come (Heard a)) e = let clash : false ≡ true = e in absurd cc
+cut_is (Enter t i) e = let clash : false ≡ true = e in absurd cc
+cut_is (Born o b) e = let clash : false ≡ true = e in absurd cc
+cut_is Fall e = let clash : false ≡ true = e in absurd cc
+
+no_cut : (a : Answer) → is_cut a ≡ false → IsNoCut a
+no_cut (Replied (Cut c)) e = let clash : true ≡ false = e in absurd cc
+no_cut (Replied (Completed c)) e = tt
+no_cut (Replied (Stop n m)) e = tt
+no_cut (Replied (Exit n)) e = tt
+no_cut (Heard a) e = tt
+
+own_cut : (h : Height) (i : Entry) → is_own h i (Replied (Cut Over)) ≡ true
+own_cut (Some h) i = refl
+own_cut None i = refl
+
+-- what suits is an answer of the call's own
+own : (x : Outcome) (h : Height) (i : Entry) (a : Answer) → suits {O = Own} x (Some (h, i)) (Come a) ≡ true → is_own h i a ≡ true
+own (Exited n) h i a e = subst (λ y. is_own h i y ≡ true) (sym (same_exit n a e)) (own_exit h i n)
+own x h i a e = e
+
+module _ (T : Tree Own) (o : Player Own) (h : Height) (i : Entry) (x : Outcome) (ms : List (Move Own)) (on : o.fate ≡ None) (last : last_end o ≡ x) where
+  suits_so : (m : Move Own) (b : Bool) → suits x (Some (h, i)) m ≡ b → suits (last_end o) (Some (h, i)) m ≡ b
+  suits_so m b e = ap (λ y. suits y (Some (h, i)) m) last ∙ e
+
+  -- the next move doesn't suit
+  pub is_unfit : (m : Move Own) → o.left ≡ m ∷ ms → suits x (Some (h, i)) m ≡ false → IsOverBy T o h i (stopping o Unfits)
+  is_unfit m e f a y = unfits m ms on e (suits_so m false f) y refl
+
+  -- it is an end from outside
+  pub is_ended : (m : Move Own) → o.left ≡ m ∷ ms → suits x (Some (h, i)) m ≡ true → cuts_off m ≡ true → IsOverBy T o h i (stopping (reading o ms) EndsAbove)
+  is_ended m e f c a y =
+      let d = cut_is m c in
+      ends d.0 ms on (e ∙ ap (λ n. n ∷ ms) d.1) (subst (λ n. suits (last_end o) (Some (h, i)) n ≡ true) d.1 (suits_so m true f)) d.2 y refl
+
+  -- it is read
+  pub is_read : (m : kept.Move) → o.left ≡ move_of m ∷ ms → suits x (Some (h, i)) (move_of m) ≡ true → cuts_off (move_of m) ≡ false → GoesOn T o h i (move_of m) (reading o ms)
+  is_read (moving.Enter target entry) e f c = (on, e, refl)
+  is_read (moving.Come answer) e f c = (reads ms on e (suits_so (Come (answer_of answer)) true f) (no_cut (answer_of answer) c) refl, own x h i (answer_of answer) f)
+
+-- how the last entry ended
+pub ends_by : (r : Reply) (e : Option ℤ) → IsExitOf r e → ending_of r ≡ last_outcome e
+ends_by (Exit n) e g = sym (ap last_outcome g)
+ends_by (Completed c) e g = sym (ap last_outcome g)
+ends_by (Stop n m) e g = sym (ap last_outcome g)
+ends_by (Cut c) e g = sym (ap last_outcome g)
+
+-- ## What comes next to an open call
+
+module _ (T : Tree Own) (o z : declared.Player) (p : Path) (h : Height) (i : Entry) (top : rise_to h p ≡ None) where
+  comes_by : (a : Answer) → Answers T (player_of o) (Some (h, i)) a (player_of z) → is_own h i a ≡ true → outsides.Answers played T o p h i z a
+  comes_by a g own = (outer (rise_to h p) (player_of o) (player_of z) _ top g, own)
+
+  pub is_told : (a : Answer) (t : Result Turn Interruption) → IsTold a t → Answers T (player_of o) (Some (h, i)) a (player_of z) → is_own h i a ≡ true → ComesNext played (Unit {0}) T o p h i z t
+  is_told a (Ok (turn.Entry target entry)) x g own = absurd x
+  is_told a (Ok (turn.Completed text)) x g own = subst (outsides.Answers played T o p h i z) x (comes_by a g own)
+  is_told a (Ok (turn.Heard reply)) x g own = subst (outsides.Answers played T o p h i z) x (comes_by a g own)
+  is_told a (Err interruption.Memory) x g own = tt
+  is_told a (Err (interruption.Completed c)) x g own = subst (outsides.Answers played T o p h i z) x (comes_by a g own)
+  is_told a (Err (interruption.Stopped s)) x g own = subst (outsides.Answers played T o p h i z) x (comes_by a g own)
+  is_told a (Err (interruption.Exited n)) x g own = subst (outsides.Answers played T o p h i z) x (comes_by a g own)
+  is_told a (Err (interruption.Cut c)) x g own = subst (outsides.Answers played T o p h i z) x (comes_by a g own)
+
+  pub is_over : IsOverBy T (player_of o) h i (player_of z) → outsides.Answers played T o p h i z (Replied (Cut Over))
+  is_over over = comes_by (Replied (Cut Over)) (over (Replied (Cut Over)) tt) (own_cut h i)
+
+-- ## What was read for an open call
+
+pub over_at : {A : Type 0} (r : Option A) (P : Type 0) → r ≡ None → IfNone r P → P
+over_at r P e g = subst (λ x. IfNone x P) e g
+
+pub read_at : {A : Type 0} (r : Option A) (x : A) (P : A → Type 0) → r ≡ Some x → IfSome r P → P x
+read_at r x P e g = subst (λ y. IfSome y P) e g
+
+-- an answer
+pub answered : (T : Tree Own) (o z : Player Own) (h : Height) (i : Entry) (m : kept.Move) (answer : crossing_answer.Answer) → m ≡ moving.Come answer → GoesOn T o h i (move_of m) z →
+    Answers T o (Some (h, i)) (answer_of answer) z × (is_own h i (answer_of answer) ≡ true)
+answered T o z h i m answer e g = subst (λ n. GoesOn T o h i (move_of n) z) e g
+
+pub told_on : (f : Option kept_fate.Fate) (o z : Player Own) (ev : Event Own) → is_some f ≡ false → z ≡ telling o ev → Tells (option_map fate_of f) o ev z
+told_on None o z ev e g = g
+told_on (Some x) o z ev e g = let clash : true ≡ false = e in absurd cc

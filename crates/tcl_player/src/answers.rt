@@ -1,0 +1,96 @@
+//! Answers to calls that left the tree: which a call can have, and how it ends by them.
+ghost use Rattle.std.specs.Prelude.{◌≡◌, Some, IfOk};
+ghost use Rattle.tcl_core.specs.Entries.{answers};
+ghost use Rattle.tcl_core.specs.Runs.{is_exit, is_own};
+ghost use Rattle.tcl_player.specs.Answering.{IsTold, is_cut};
+ghost use Rattle.tcl_run.specs.Entering.{request_of, whole_entry};
+ghost use Rattle.tcl_run.specs.Outsides.{reply_of};
+ghost use Rattle.tcl_recorder.specs.Crossings.{answer_of};
+
+use std::alloc::Global;
+use tcl_host::reply::HostReply;
+use tcl_host::request::Request;
+use tcl_recorder::crossing::{Answer, Reply, copy_completion, copy_heard};
+use tcl_run::entry::Entry;
+use tcl_run::interruption::{Cause, Interruption};
+use tcl_run::outside::Turn;
+
+/// Whether a host may say this to a request.
+fn answers(request: &Request, reply: &HostReply) -> bool
+    ensures { result ≡ answers (request_of request.now) (reply_of reply.now) }
+{
+    match request {
+        Request::Open(_, _) => matches!(reply, HostReply::Opened(_) | HostReply::Refused(_)),
+        Request::ReadLine(_) => matches!(
+            reply,
+            HostReply::Line(_) | HostReply::Rest(_) | HostReply::End | HostReply::Refused(_)
+        ),
+        Request::ReadAll(_) => matches!(
+            reply,
+            HostReply::Line(_) | HostReply::Rest(_) | HostReply::Refused(_)
+        ),
+        Request::Write(_, _) | Request::Flush(_) | Request::Close(_) => {
+            matches!(reply, HostReply::Done | HostReply::Refused(_))
+        }
+        Request::Eof(_) => matches!(reply, HostReply::AtEnd(_) | HostReply::Refused(_)),
+    }
+}
+
+/// Whether a request may be answered so.
+fn answers_request(entry: &Entry, answer: &Answer) -> bool
+    ensures { result ≡ is_own None (whole_entry entry.now) (answer_of answer.now) }
+{
+    match answer {
+        Answer::Replied(Reply::Exited(_)) | Answer::Replied(Reply::Ended) => true,
+        Answer::Replied(_) => false,
+        Answer::Heard(reply) => match entry {
+            Entry::AskHost(request) => answers(request, reply),
+            _ => false,
+        },
+    }
+}
+
+/// Whether the call that goes so many levels up, or to the host, may be answered so.
+pub(crate) fn answers_call(up: Option<usize>, entry: &Entry, answer: &Answer) -> bool
+    ensures { result ≡ is_own up (whole_entry entry.now) (answer_of answer.now) }
+{
+    match up {
+        Some(_) => matches!(answer, Answer::Replied(_)),
+        None => answers_request(entry, answer),
+    }
+}
+
+/// Whether it is the exit with this status.
+pub(crate) fn exits(status: i64, answer: &Answer) -> bool
+    ensures { result ≡ is_exit status (answer_of answer.now) }
+{
+    match answer {
+        Answer::Replied(Reply::Exited(other)) => *other == status,
+        _ => false,
+    }
+}
+
+/// Whether it is an end from outside.
+pub(crate) fn cuts(answer: &Answer) -> bool
+    ensures { result ≡ is_cut (answer_of answer.now) }
+{
+    matches!(answer, Answer::Replied(Reply::Ended))
+}
+
+/// How a call ends that is answered so.
+///
+/// # Errors
+/// The end, where it is no word of a host; want of memory.
+pub(crate) fn turn_of(alloc: Global, answer: &Answer) -> Result<Turn, Interruption>
+    ensures { IsTold (answer_of answer.now) result }
+{
+    match answer {
+        Answer::Heard(reply) => Ok(Turn::Heard(copy_heard(reply)?)),
+        Answer::Replied(Reply::Completed(completion)) => {
+            Err(Interruption::of_completion(alloc, copy_completion(completion)?))
+        }
+        Answer::Replied(Reply::Stopped(stop)) => Err(Interruption::Stopped(*stop)),
+        Answer::Replied(Reply::Exited(status)) => Err(Interruption::Exited(*status)),
+        Answer::Replied(Reply::Ended) => Err(Interruption::Cut(Cause::Above)),
+    }
+}

@@ -1,8 +1,0 @@
-use Rattle.std.proofs.Common.{◌≡◌, take}
-use Rattle.tcl_core.specs.Views as views
-use Rattle.tcl_playing.specs.Moves.{moves_in}
-use Rattle.tcl_watching.specs.Crossings.{events_of}
-use Rattle.tcl_playing.proofs.moves.moves_of.Given as goal
-
-abbrev pub invariant-loop-crossing : goal.invariant-loop-crossing
-invariant-loop-crossing l = moves_in l.moves.items ≡ views.moves_of (events_of (take l.crossing-index l.fn.crossings))

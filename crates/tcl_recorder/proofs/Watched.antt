@@ -1,0 +1,100 @@
+-- What is recorded of a run.
+use Rattle.std.proofs.Common.{◌≡◌, false, List, [], ◌∷◌, ◌++◌, None, refl, sym, ◌∙◌, ap, append-nil, append_assoc}
+use Rattle.tcl_core.specs.Endings.{Reply}
+use Rattle.tcl_core.specs.Paths.{Place}
+use Rattle.tcl_core.specs.Programs.{Prog, Table, Wait, either}
+use Rattle.tcl_core.specs.Execution.{Chain, Crossings, Executes, event, hears, more, none}
+use Rattle.tcl_core.specs.Execution.Executes.{completed, exited, acted, refused, went, passed, wrapped, wrapped_passed, too_deep, shut, called, called_passed, unreached, called_out, answered, heard, answered_passed, entered, entered_exiting}
+use Rattle.tcl_core.specs.Trees.{Event, Tree, What, effect}
+use Rattle.tcl_core.specs.Trees.What.{Charged, Refused, Dropped, Out, In, Done, Back}
+use Rattle.tcl_core.proofs.Following.{makes}
+use Rattle.tcl_run.specs.Outsides.{Going}
+use Rattle.tcl_tree.specs.Own.{Own}
+use Rattle.tcl_recorder.specs.Laws.{IsNoCrossing, IsWatched, WatchedRun}
+use Rattle.tcl_recorder.specs.Boundary.{boundary}
+use Rattle.tcl_recorder.specs.Records.{RecordView}
+use Rattle.tcl_recorder.specs.Recording.{after, crossed, fallen_after, falls, recorded}
+use Rattle.tcl_recorder.specs.declared.recorder.Recorder.{Recorder}
+use Rattle.tcl_recorder.proofs.BoundaryLaws.{boundary_append}
+use Rattle.tcl_recorder.proofs.Notes.{unchanged}
+
+after_none : (r : RecordView) → r ≡ after r []
+after_none r = ap (λ (xs : List (Event Own)). record { watched = r.watched; crossings = xs }) (sym (append-nil r.crossings))
+
+pub after_one : (r : RecordView) (ev : Event Own) (τ : List (Event Own)) → after (crossed r ev) τ ≡ after r (ev ∷ τ)
+after_one r ev τ = ap (λ (xs : List (Event Own)). record { watched = r.watched; crossings = xs })
+    (append_assoc r.crossings (boundary r.watched (ev ∷ [])) (boundary r.watched τ) ∙ ap (λ xs. r.crossings ++ xs) (sym (boundary_append r.watched (ev ∷ []) τ)))
+
+module _ {S : Type 0} (goes : Going S) where
+  pub record IsStep (T : Tree Own) (o : Recorder S) (s : Wait) (ev : Event Own) (u : Recorder S) : Type 0 where
+    pub outside : Crossings goes T o.outside s ev u.outside
+    pub kept : u.kept ≡ crossed o.kept ev
+    pub fate : u.deleted ≡ either (falls o.kept.watched ev) o.deleted
+
+  still : (T : Tree Own) (o : Recorder S) (s : Wait) (ev : Event Own) (u : Recorder S) → IsNoCrossing ev.what → falls o.kept.watched ev ≡ false → hears goes T o.outside s ev.place ev.what u.outside → u ≡ o → IsStep T o s ev u
+  still T o s ev u f stands h e = record {
+    outside = record { told = h };
+    kept = ap (λ (r : Recorder S). r.kept) e ∙ unchanged o.kept ev f;
+    fate = ap (λ (r : Recorder S). r.deleted) e ∙ sym (ap (λ b. either b o.deleted) stands);
+  }
+
+  one : (T : Tree Own) (o : Recorder S) (s : Wait) (p : Place) (x : What Own) (u : Recorder S) → hears (recorded goes) T o s p x u → IsStep T o s (event p x) u
+  one T o s p (Out h down i) u t = record { outside = record { told = t.outside }; kept = t.kept; fate = t.fate }
+  one T o s p (Back h a) u t = record { outside = record { told = t.outside }; kept = t.kept; fate = t.fate }
+  one T o s p (In h i) u t = record { outside = record { told = t.outside }; kept = t.kept; fate = t.fate }
+  one T o s p (Done h r) u t = record { outside = record { told = t.outside }; kept = t.kept; fate = t.fate }
+  one T o s p Charged u t = record { outside = record { told = t.outside }; kept = t.kept; fate = t.fate }
+  one T o s p (Refused m None) u t = record { outside = record { told = t.outside }; kept = t.kept; fate = t.fate }
+  one T o s p Dropped u t = record { outside = record { told = t.outside }; kept = t.kept; fate = t.fate }
+  one T o s p x u t = still T o s (event p x) u tt refl (ap (λ (r : Recorder S). r.outside) t) t
+
+  pub step : (T : Tree Own) (o : Recorder S) (s : Wait) (ev : Event Own) (u : Recorder S) → Crossings (recorded goes) T o s ev u → IsStep T o s ev u
+  step T o s ev u t = one T o s ev.place ev.what u t.told
+
+  pub watched : (T V : Tree Own) (o z : Recorder S) (τ : List (Event Own)) → Chain (Crossings (recorded goes)) T o τ V z → IsWatched goes T o τ V z
+  watched T V o z [] none = record { outside = none; kept = after_none o.kept; fate = refl }
+  watched T V o z (ev ∷ τ) (more {u = u} {s = s} a rest) =
+      let first = step T o s ev u a in
+      let later = watched (effect ev.place ev.what T) V u z τ rest in
+      record {
+        outside = more first.outside later.outside;
+        kept = later.kept ∙ ap (λ r. after r τ) first.kept ∙ after_one o.kept ev τ;
+        fate = later.fate ∙ ap (λ (r : RecordView). fallen_after u.deleted r.watched τ) first.kept ∙ ap (λ b. fallen_after b o.kept.watched τ) first.fate;
+      }
+
+  pub watched_run : {I : Type 0} (prog : Table Own I) (T V : Tree Own) (o z : Recorder S) (p : Place) (x : Prog Own I) (r : Reply) →
+      Executes (Crossings (recorded goes)) prog T o p x V z r → WatchedRun goes prog T o p x V z r
+  watched_run prog T V o z p x r t =
+      let made = makes (Crossings (recorded goes)) prog t in
+      let all = watched T V o z made.events made.chain in
+      record { events = made.events; runs = made.runs; outside = all.outside; kept = all.kept; fate = all.fate }
+
+-- ## Another outside
+
+-- what comes with one outside comes with another one that goes along with it
+module _ {O I S R : Type 0} (step : Tree O → S → Wait → Event O → S → Type 0) (goes : Tree O → R → Wait → Event O → R → Type 0) (f : S → R)
+    (along : (T : Tree O) (o : S) (s : Wait) (ev : Event O) (u : S) → step T o s ev u → goes T (f o) s ev (f u)) (prog : Table O I) where
+  pub comes_along : {T V : Tree O} {o z : S} {p : Place} {x : Prog O I} {r : Reply} → Executes step prog T o p x V z r → Executes goes prog T (f o) p x V (f z) r
+  comes_along completed = completed
+  comes_along exited = exited
+  comes_along (acted x d on s t) = acted x d on (along _ _ _ _ _ s) (comes_along t)
+  comes_along (refused x d off s) = refused x d off (along _ _ _ _ _ s)
+  comes_along (went a b) = went (comes_along a) (comes_along b)
+  comes_along (passed q a) = passed q (comes_along a)
+  comes_along (wrapped x d on s a e b) = wrapped x d on (along _ _ _ _ _ s) (comes_along a) (along _ _ _ _ _ e) (comes_along b)
+  comes_along (wrapped_passed x q d on s a e) = wrapped_passed x q d on (along _ _ _ _ _ s) (comes_along a) (along _ _ _ _ _ e)
+  comes_along (too_deep x d deep s t) = too_deep x d deep (along _ _ _ _ _ s) (comes_along t)
+  comes_along (shut x d off s) = shut x d off (along _ _ _ _ _ s)
+  comes_along (called a t up at s1 s2 run s3 is s4 rest) = called a t up at (along _ _ _ _ _ s1) (along _ _ _ _ _ s2) (comes_along run) (along _ _ _ _ _ s3) is (along _ _ _ _ _ s4) (comes_along rest)
+  comes_along (called_passed a t up at s1 s2 run s3 is q s4) = called_passed a t up at (along _ _ _ _ _ s1) (along _ _ _ _ _ s2) (comes_along run) (along _ _ _ _ _ s3) is q (along _ _ _ _ _ s4)
+  comes_along (unreached a up gone s1 s2 rest) = unreached a up gone (along _ _ _ _ _ s1) (along _ _ _ _ _ s2) (comes_along rest)
+  comes_along (called_out up s t) = called_out up (along _ _ _ _ _ s) (comes_along t)
+  comes_along (answered up fit s t) = answered up fit (along _ _ _ _ _ s) (comes_along t)
+  comes_along (heard up fit s t) = heard up fit (along _ _ _ _ _ s) (comes_along t)
+  comes_along (answered_passed q up fit s) = answered_passed q up fit (along _ _ _ _ _ s)
+  comes_along (entered t i up s1 run s2 stays rest) = entered t i up (along _ _ _ _ _ s1) (comes_along run) (along _ _ _ _ _ s2) stays (comes_along rest)
+  comes_along (entered_exiting t i up s1 run s2 s3) = entered_exiting t i up (along _ _ _ _ _ s1) (comes_along run) (along _ _ _ _ _ s2) (along _ _ _ _ _ s3)
+
+pub unwatched : {I S : Type 0} (goes : Going S) (prog : Table Own I) (T V : Tree Own) (o z : Recorder S) (p : Place) (x : Prog Own I) (r : Reply) →
+    Executes (Crossings (recorded goes)) prog T o p x V z r → Executes (Crossings goes) prog T o.outside p x V z.outside r
+unwatched {S = S} goes prog T V o z p x r t = comes_along (Crossings (recorded goes)) (Crossings goes) (λ (w : Recorder S). w.outside) (λ T a s ev u g. (step goes T a s ev u g).outside) prog t

@@ -1,5 +1,0 @@
-use Rattle.tcl_watching.proofs.BoundaryLaws.{boundary_moves}
-use Rattle.tcl_watching.proofs.laws.boundary_moves.Goals as goal
-
-pub returns : goal.returns
-returns g c d τ = boundary_moves d τ

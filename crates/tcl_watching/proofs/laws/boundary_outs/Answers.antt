@@ -1,5 +1,0 @@
-use Rattle.tcl_watching.proofs.BoundaryLaws.{boundary_outs}
-use Rattle.tcl_watching.proofs.laws.boundary_outs.Goals as goal
-
-pub returns : goal.returns
-returns g c d τ = boundary_outs d τ

@@ -1,5 +1,0 @@
-use Rattle.tcl_watching.proofs.Fates.{spared, stands}
-use Rattle.tcl_watching.proofs.laws.fates_are_told.Goals as goal
-
-pub returns : goal.returns
-returns c d τ = (spared d τ, stands d τ)

@@ -1,5 +1,0 @@
-use Rattle.tcl_watching.proofs.BoundaryLaws.{ends}
-use Rattle.tcl_watching.proofs.laws.one_end.Goals as goal
-
-pub returns : goal.returns
-returns g c = ends g.row.O.Denot

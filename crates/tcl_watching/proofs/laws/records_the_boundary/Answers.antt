@@ -1,5 +1,0 @@
-use Rattle.tcl_watching.proofs.Watched.{watched}
-use Rattle.tcl_watching.proofs.laws.records_the_boundary.Goals as goal
-
-pub returns : goal.returns
-returns g c T V o z τ t = watched g.O.Outside.goes T V o z τ t

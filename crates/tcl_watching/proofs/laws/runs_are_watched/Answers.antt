@@ -1,5 +1,0 @@
-use Rattle.tcl_watching.proofs.Watched.{watched_run}
-use Rattle.tcl_watching.proofs.laws.runs_are_watched.Goals as goal
-
-pub returns : goal.returns
-returns g c prog T V o z p x r t = watched_run g.O.Outside.goes prog T V o z p x r t

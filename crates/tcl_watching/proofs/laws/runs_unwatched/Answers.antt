@@ -1,5 +1,0 @@
-use Rattle.tcl_watching.proofs.Watched.{unwatched}
-use Rattle.tcl_watching.proofs.laws.runs_unwatched.Goals as goal
-
-pub returns : goal.returns
-returns g c prog T V o z p x r t = unwatched g.O.Outside.goes prog T V o z p x r t
