@@ -65,6 +65,12 @@ nobody t path script limit watched e f = nobody_so (marks_of t).broken (is_some 
 
 -- ## The answer
 
+-- what holds whatever the end is, where the run came to one
+pub ends_so : (ended : Result End Refused) (kept : RecordView) (deleted : Bool) (P : Type 0) → IfOk ended (λ _. P) → IfEnds (answer_of ended kept deleted) (λ _. P)
+ends_so (Ok e) kept true P p = p
+ends_so (Ok e) kept false P p = p
+ends_so (Err f) kept deleted P p = tt
+
 module _ {S : Type 0} (step : S → Request → HostReply → S → Type 0) (old : Table) (o : S) (path : Path) (script : Text) (limit : ℕ) (watched : Path) (new : Table) (z : S) where
   abbrev ended_with : RecordView → Bool → Recorder S
   ended_with kept deleted = record { outside = z; kept = kept; deleted = deleted }

@@ -61,6 +61,7 @@ pub fn eval_watched<H: Host>(
     ensures begun { IfNone (unwatchable tree.old path.now script.now limit watched.now)
         (IfRefused result.1 (λ e. e ≡ Memory)) }
     ensures broken { IfRefused result.1 (λ e. e ≡ Memory → (marks_of tree.new).broken ≡ true) }
+    ensures marks { IfEnds result.1 (λ _. marks_of tree.new ≡ marks_of tree.old) }
     ensures runs { IfEnds result.1
         (λ end. IsRun (hosted H.step) tree.old host path.now script.now
         (root_count tree.old + limit) tree.new result.0 end) }
@@ -135,8 +136,9 @@ fn watch<H: Host>(
     watched: &[Text],
 ) -> (H, Result<(End, Record), Unwatched>)
     requires fit { unfit tree.old path.now script.now limit ≡ None }
-    ensures { Watches H.step tree.old host path.now script.now limit watched.now tree.new result.0
+    ensures watches { Watches H.step tree.old host path.now script.now limit watched.now tree.new result.0
         result.1 }
+    ensures marks { IfEnds result.1 (λ _. marks_of tree.new ≡ marks_of tree.old) }
 {
     let names = match Vec::from_clones(alloc, watched) {
         Ok(names) => names,
@@ -163,6 +165,7 @@ fn run<H: Host>(
     requires fit { unfit tree.old path.now script.now limit ≡ None }
     ensures memory { IfErr result (λ e. e ≡ Memory) }
     ensures broken { IsErrOf result Memory → (marks_of tree.new).broken ≡ true }
+    ensures marks { IfOk result (λ _. marks_of tree.new ≡ marks_of tree.old) }
     ensures runs { IfOk result
         (λ end. IsEntryRun H.step tree.old recorder.old path.now script.now limit tree.new
         recorder.new end) }
