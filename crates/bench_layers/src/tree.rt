@@ -8,7 +8,7 @@ use std::alloc::Global;
 use std::io;
 use std::time::Instant;
 use tcl_text::text::Text;
-use tcl_tree::refusal::Refusal;
+use tcl_tree::refusal::TreeError;
 use tcl_tree::tree::{Place, Tree};
 
 /// How often a step is counted.
@@ -44,7 +44,7 @@ fn charge_along(tree: &mut Tree, path: &[Text]) -> u32 {
 }
 
 /// Makes an interpreter three levels below the root, and gives its path.
-fn nest_three(alloc: Global, tree: &mut Tree) -> Result<Vec<Text>, Refusal> {
+fn nest_three(alloc: Global, tree: &mut Tree) -> Result<Vec<Text>, TreeError> {
     let mut path = Vec::new(alloc);
     'names: for name in ["a", "b", "c"] {
         let name = Text::new(alloc, name)?;
@@ -55,7 +55,7 @@ fn nest_three(alloc: Global, tree: &mut Tree) -> Result<Vec<Text>, Refusal> {
 }
 
 /// Counts steps in an interpreter three levels below the root, by its place or along its path.
-fn count_in(alloc: Global, tree: &mut Tree, placed: bool) -> Result<u32, Refusal> {
+fn count_in(alloc: Global, tree: &mut Tree, placed: bool) -> Result<u32, TreeError> {
     let path = nest_three(alloc, tree)?;
     if !placed {
         return Ok(charge_along(tree, path.as_slice()));
@@ -65,7 +65,7 @@ fn count_in(alloc: Global, tree: &mut Tree, placed: bool) -> Result<u32, Refusal
 }
 
 /// The same in a tree of its own.
-fn count(alloc: Global, placed: bool) -> Result<u32, Refusal> {
+fn count(alloc: Global, placed: bool) -> Result<u32, TreeError> {
     let mut tree = Tree::new(alloc)?;
     count_in(alloc, &mut tree, placed)
 }
@@ -87,7 +87,7 @@ fn create_numbered(
     alloc: Global,
     path: &[Text],
     number: u32,
-) -> Result<Text, Refusal> {
+) -> Result<Text, TreeError> {
     let name = Text::from_string(alloc, format!(in alloc; "n{number}")?)?;
     tree.create(alloc, path, &name, false)?;
     Ok(name)
@@ -99,7 +99,7 @@ fn create_parent(
     alloc: Global,
     number: u32,
     children: u32,
-) -> Result<(), Refusal> {
+) -> Result<(), TreeError> {
     let path = [create_numbered(tree, alloc, &[], number)?];
     'children: for child in 0..children {
         let _name = create_numbered(tree, alloc, &path, child)?;
@@ -108,7 +108,7 @@ fn create_parent(
 }
 
 /// Makes a child of the root with two children, and so many others with 101.
-fn widen(tree: &mut Tree, alloc: Global, others: u32) -> Result<(), Refusal> {
+fn widen(tree: &mut Tree, alloc: Global, others: u32) -> Result<(), TreeError> {
     create_parent(tree, alloc, 0, 2)?;
     'others: for number in 0..others {
         create_parent(tree, alloc, number.wrapping_add(1), 101)?;
@@ -118,7 +118,7 @@ fn widen(tree: &mut Tree, alloc: Global, others: u32) -> Result<(), Refusal> {
 
 /// Copies the interpreter at the path, with all below it, so often, and says how many interpreters
 /// the copies have together.
-fn copy_often(tree: &Tree, path: &[Text]) -> Result<usize, Refusal> {
+fn copy_often(tree: &Tree, path: &[Text]) -> Result<usize, TreeError> {
     let mut copied = 0usize;
     'copies: for _ in 0..COPIES {
         let copy = tree.copy_at(path)?;

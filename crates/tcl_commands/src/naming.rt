@@ -14,7 +14,7 @@ use tcl_run::failure::{already_exists, bad_name, denied, invalid_command, invali
 use tcl_run::interruption::Interruption;
 use tcl_text::text::Text;
 use tcl_tree::command::Command;
-use tcl_tree::refusal::Refusal;
+use tcl_tree::refusal::TreeError;
 use tcl_tree::tree::{Place, Tree};
 use tcl_value::value::Value;
 use tcl_variables::name::{after_leading, with_colons};
@@ -57,26 +57,26 @@ pub(crate) fn kept_name(alloc: Global, word: &Value) -> Result<Text, Interruptio
 }
 
 /// What is told of a refusal to name a command, with the word that is wrong.
-pub(crate) fn naming_failure(alloc: Global, refusal: Refusal, word: &Value) -> Interruption
+pub(crate) fn naming_failure(alloc: Global, refusal: TreeError, word: &Value) -> Interruption
     ensures { TellsRefusal refusal word.now result }
 {
     let Ok(text) = word.text(alloc) else {
         return Interruption::Memory;
     };
     match refusal {
-        Refusal::Memory => Interruption::Memory,
-        Refusal::BadName => bad_name(alloc, text.as_str()),
-        Refusal::Exists => already_exists(alloc, text.as_str()),
-        Refusal::NoCommand => invalid_command(alloc, text.as_str()),
-        Refusal::NoHidden => invalid_hidden(alloc, text.as_str()),
-        Refusal::BadCount => denied(alloc),
-        Refusal::NoInterpreter => denied(alloc),
-        Refusal::InUse => denied(alloc),
-        Refusal::Denied => denied(alloc),
-        Refusal::TooMany => denied(alloc),
-        Refusal::CountLimit(_) => denied(alloc),
-        Refusal::DepthLimit(_) => denied(alloc),
-        Refusal::BadDepthLimit => denied(alloc),
+        TreeError::Memory => Interruption::Memory,
+        TreeError::BadName => bad_name(alloc, text.as_str()),
+        TreeError::Exists => already_exists(alloc, text.as_str()),
+        TreeError::NoCommand => invalid_command(alloc, text.as_str()),
+        TreeError::NoHidden => invalid_hidden(alloc, text.as_str()),
+        TreeError::BadCount => denied(alloc),
+        TreeError::NoInterpreter => denied(alloc),
+        TreeError::InUse => denied(alloc),
+        TreeError::Denied => denied(alloc),
+        TreeError::TooMany => denied(alloc),
+        TreeError::CountLimit(_) => denied(alloc),
+        TreeError::DepthLimit(_) => denied(alloc),
+        TreeError::BadDepthLimit => denied(alloc),
     }
 }
 
@@ -98,7 +98,7 @@ pub(crate) fn own_command(
         tree_of tree.now p ≡ Some n → IsNoOwnCommand word.now (command_in n.own name.now) e)) }
 {
     match tree.command_at(place, name) {
-        None => Err(naming_failure(alloc, Refusal::NoCommand, word)),
+        None => Err(naming_failure(alloc, TreeError::NoCommand, word)),
         Some(command) => not_child(alloc, command, word),
     }
 }
@@ -110,7 +110,7 @@ fn not_child(alloc: Global, command: &Command, word: &Value) -> Result<(), Inter
         (λ i. Interrupts i (IsNoOwnCommand word.now (Some command.now))) }
 {
     match command {
-        Command::Child => Err(naming_failure(alloc, Refusal::Exists, word)),
+        Command::Child => Err(naming_failure(alloc, TreeError::Exists, word)),
         Command::Builtin(_) => Ok(()),
         Command::Procedure(_) => Ok(()),
         Command::Alias(_) => Ok(()),

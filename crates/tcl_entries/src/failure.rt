@@ -13,35 +13,35 @@ use tcl_run::failure::{
 };
 use tcl_run::interruption::Interruption;
 use tcl_text::messages::{BAD_DEPTH_LIMIT, TOO_MANY};
-use tcl_tree::refusal::Refusal;
+use tcl_tree::refusal::TreeError;
 
 /// The error that a refusal to name a command is, with the word that is wrong.
-pub fn refusal_failure(alloc: Global, refusal: Refusal, word: &str) -> Interruption
+pub fn refusal_failure(alloc: Global, refusal: TreeError, word: &str) -> Interruption
     ensures { Tells refusal (interpreters.refusal_text refusal word.now) result }
 {
     match refusal {
-        Refusal::Memory => Interruption::Memory,
-        Refusal::BadName => bad_name(alloc, word),
-        Refusal::Exists => already_exists(alloc, word),
-        Refusal::NoCommand => invalid_command(alloc, word),
-        Refusal::NoHidden => invalid_hidden(alloc, word),
-        Refusal::BadCount
-        | Refusal::NoInterpreter
-        | Refusal::InUse
-        | Refusal::Denied
-        | Refusal::TooMany
-        | Refusal::CountLimit(_)
-        | Refusal::DepthLimit(_)
-        | Refusal::BadDepthLimit => denied(alloc),
+        TreeError::Memory => Interruption::Memory,
+        TreeError::BadName => bad_name(alloc, word),
+        TreeError::Exists => already_exists(alloc, word),
+        TreeError::NoCommand => invalid_command(alloc, word),
+        TreeError::NoHidden => invalid_hidden(alloc, word),
+        TreeError::BadCount
+        | TreeError::NoInterpreter
+        | TreeError::InUse
+        | TreeError::Denied
+        | TreeError::TooMany
+        | TreeError::CountLimit(_)
+        | TreeError::DepthLimit(_)
+        | TreeError::BadDepthLimit => denied(alloc),
     }
 }
 
 /// The error that a refusal to hide a command is: no such command, or a name that can't be given.
-pub fn hiding_failure(alloc: Global, refusal: Refusal, name: &str, hidden: &str) -> Interruption
+pub fn hiding_failure(alloc: Global, refusal: TreeError, name: &str, hidden: &str) -> Interruption
     ensures { Tells refusal (hiding_text refusal name.now hidden.now) result }
 {
     match refusal {
-        Refusal::NoCommand => invalid_command(alloc, name),
+        TreeError::NoCommand => invalid_command(alloc, name),
         other => refusal_failure(alloc, other, hidden),
     }
 }

@@ -26,7 +26,7 @@ use tcl_run::outside::Outside;
 use tcl_text::list::write_element;
 use tcl_text::text::Text;
 use tcl_tree::alias::Alias;
-use tcl_tree::refusal::Refusal;
+use tcl_tree::refusal::TreeError;
 use tcl_tree::tree::{Place, Tree};
 use tcl_value::value::Value;
 
@@ -174,11 +174,11 @@ pub fn limit_depth(
 }
 
 /// The error that a refusal to make a child is.
-fn making_failure(alloc: Global, refusal: Refusal, name: &str) -> Interruption
+fn making_failure(alloc: Global, refusal: TreeError, name: &str) -> Interruption
     ensures { Tells refusal (making_text refusal name.now) result }
 {
     match refusal {
-        Refusal::TooMany => too_many(alloc),
+        TreeError::TooMany => too_many(alloc),
         other => refusal_failure(alloc, other, name),
     }
 }
@@ -243,11 +243,11 @@ pub fn path_text(alloc: Global, name: &Text) -> Result<Text, AllocError>
 }
 
 /// The error that a refusal to delete a child is.
-fn deleting_failure(alloc: Global, refusal: Refusal, name: &Text) -> Interruption
+fn deleting_failure(alloc: Global, refusal: TreeError, name: &Text) -> Interruption
     ensures { Interrupts result (λ e. e ≡ Completed (failing (deleting_text refusal name.now))) }
 {
     match refusal {
-        Refusal::InUse => in_use(alloc, ""),
+        TreeError::InUse => in_use(alloc, ""),
         _ => no_child(alloc, name),
     }
 }

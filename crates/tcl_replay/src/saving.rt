@@ -7,7 +7,7 @@ ghost use Rattle.tcl_replay.specs.Saved.{saved_of, unsavable};
 
 use tcl_eval::running::Refused;
 use tcl_text::text::Text;
-use tcl_tree::refusal::Refusal;
+use tcl_tree::refusal::TreeError;
 use tcl_tree::tree::Tree;
 
 /// An interpreter with all below it by itself, as it stood when it was saved.

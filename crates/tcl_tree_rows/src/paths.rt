@@ -5,12 +5,12 @@ use crate::places::{alias_up, at_place, nothing};
 use crate::words::{number_of, place_of, words_of};
 use std::alloc::{AllocError, Global};
 use tcl_text::text::Text;
-use tcl_tree::refusal::Refusal;
+use tcl_tree::refusal::TreeError;
 use tcl_tree::tree::Tree;
 use tcl_value::value::Value;
 
 /// `nest PATH`: begins an evaluation.
-fn nest(tree: &mut Tree, path: &[Text]) -> Result<(), Refusal> {
+fn nest(tree: &mut Tree, path: &[Text]) -> Result<(), TreeError> {
     match tree.nest(path) {
         Ok(_) => Ok(()),
         Err(refusal) => Err(refusal),
@@ -30,7 +30,7 @@ fn of_one(tree: &mut Tree, alloc: Global, call: &str, path: &[Text]) -> Result<A
 fn set(tree: &mut Tree, alloc: Global, path: &[Text], name: &Text) -> Result<Answer, AllocError> {
     match tree.frames_mut(path) {
         Some(frames) => done(alloc, frames.set(alloc, name, Value::empty())),
-        None => refused(alloc, &Refusal::NoInterpreter),
+        None => refused(alloc, &TreeError::NoInterpreter),
     }
 }
 
@@ -126,7 +126,7 @@ fn of_below(
 fn at(tree: &mut Tree, alloc: Global, path: &[Text], words: &[Text]) -> Result<Answer, AllocError> {
     match tree.place(path) {
         Some(place) => at_place(tree, alloc, place, words),
-        None => refused(alloc, &Refusal::NoInterpreter),
+        None => refused(alloc, &TreeError::NoInterpreter),
     }
 }
 

@@ -14,24 +14,24 @@ use row_runner::World;
 use std::alloc::{AllocError, Global};
 use std::mem::swap;
 use tcl_text::text::Text;
-use tcl_tree::refusal::Refusal;
+use tcl_tree::refusal::TreeError;
 use tcl_tree::tree::Tree;
 
-impl Told for Refusal {
+impl Told for TreeError {
     fn show(&self, alloc: Global) -> Result<String, AllocError> {
         format!(in alloc; "{self:?}")
     }
 }
 
 /// A root with so many interpreters below it, each named `c`, one below the other.
-fn chain(alloc: Global, count: usize) -> Result<Tree, Refusal> {
+fn chain(alloc: Global, count: usize) -> Result<Tree, TreeError> {
     let c = Text::new(alloc, "c")?;
     let mut tree = Tree::new(alloc)?;
     let mut place = tree.root();
     'levels: for _ in 0..count {
         tree.create_at(alloc, place, &c, false)?;
         let Some(child) = tree.child_at(place, &c) else {
-            return Err(Refusal::NoInterpreter);
+            return Err(TreeError::NoInterpreter);
         };
         place = child;
     }
@@ -39,7 +39,7 @@ fn chain(alloc: Global, count: usize) -> Result<Tree, Refusal> {
 }
 
 /// `others COUNT`: makes so many children of the root, `n0`, `n1` and so on, each with a child `c`.
-fn make_others(tree: &mut Tree, alloc: Global, count: u64) -> Result<(), Refusal> {
+fn make_others(tree: &mut Tree, alloc: Global, count: u64) -> Result<(), TreeError> {
     let c = Text::new(alloc, "c")?;
     'others: for number in 0..count {
         let name = Text::from_string(alloc, format!(in alloc; "n{number}")?)?;
@@ -50,7 +50,7 @@ fn make_others(tree: &mut Tree, alloc: Global, count: u64) -> Result<(), Refusal
 }
 
 /// `fill COUNT`: makes so many children of the root, with names that are free.
-fn fill(tree: &mut Tree, alloc: Global, count: u64) -> Result<(), Refusal> {
+fn fill(tree: &mut Tree, alloc: Global, count: u64) -> Result<(), TreeError> {
     'children: for _ in 0..count {
         let name = tree.free_name(alloc, &[])?;
         tree.create(alloc, &[], &name, false)?;
@@ -123,7 +123,7 @@ fn on_tree(tree: &mut Tree, alloc: Global, words: &[Text]) -> Result<Answer, All
 }
 
 /// A new tree.
-fn new(alloc: Global) -> Result<Tree, Refusal> {
+fn new(alloc: Global) -> Result<Tree, TreeError> {
     Ok(Tree::new(alloc)?)
 }
 
@@ -131,7 +131,7 @@ fn new(alloc: Global) -> Result<Tree, Refusal> {
 fn replace(
     alloc: Global,
     old: &mut Tree,
-    made: Result<Tree, Refusal>,
+    made: Result<Tree, TreeError>,
 ) -> Result<Answer, AllocError> {
     match made {
         Ok(tree) => {
