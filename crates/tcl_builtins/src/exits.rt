@@ -10,10 +10,9 @@ ghost use Rattle.tcl_text.specs.Messages as messages;
 
 use std::alloc::Global;
 use tcl_commands::steps::word_integer;
-use tcl_run::failure::{failure, wrong_args};
+use tcl_run::failure::{plain_failure, wrong_args};
 use tcl_run::interruption::Interruption;
 use tcl_text::messages::BAD_STATUS;
-use tcl_text::text::Text;
 use tcl_tree::tree::{Place, Tree};
 use tcl_value::value::Value;
 
@@ -21,10 +20,7 @@ use tcl_value::value::Value;
 fn bad_status(alloc: Global) -> Interruption
     ensures { Interrupts result (λ e. e ≡ Completed (failing messages.bad_status)) }
 {
-    match Text::new(alloc, BAD_STATUS) {
-        Ok(message) => failure(alloc, message),
-        Err(_) => Interruption::Memory,
-    }
+    plain_failure(alloc, BAD_STATUS)
 }
 
 /// The end of the run with a status, or the error that none has it.

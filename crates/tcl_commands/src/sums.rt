@@ -9,21 +9,17 @@ ghost use Rattle.tcl_commands.specs.Sums.{Reads, increment, raised, sum_text};
 
 use crate::steps::integer;
 use std::alloc::Global;
-use tcl_run::failure::failure;
+use tcl_run::failure::plain_failure;
 use tcl_run::interruption::Interruption;
 use tcl_text::integer::Integers;
 use tcl_text::messages::OVERFLOW;
-use tcl_text::text::Text;
 use tcl_value::value::Value;
 
 /// The error of a sum that takes more than 64 bits.
 fn overflow(alloc: Global) -> Interruption
     ensures { Interrupts result (λ e. e ≡ Completed (failing variables.overflow)) }
 {
-    match Text::new(alloc, OVERFLOW) {
-        Ok(message) => failure(alloc, message),
-        Err(_) => Interruption::Memory,
-    }
+    plain_failure(alloc, OVERFLOW)
 }
 
 /// What is added: 1, or the integer of the first word.

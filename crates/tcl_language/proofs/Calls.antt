@@ -1,5 +1,4 @@
 -- The programs of the commands call, and never wait without a call: the demands are none.
-use Rattle.std.specs.Prelude.{List, []}
 use Rattle.tcl_core.specs.Entries.{Entry}
 use Rattle.tcl_core.specs.Entries.Entry.{Expose}
 use Rattle.tcl_core.specs.Programs.{Calls_only}

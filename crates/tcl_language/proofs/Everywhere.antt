@@ -1,5 +1,5 @@
 -- What holds all through a program, whatever it is told on its way.
-use Rattle.std.specs.Prelude.{◌≡◌, [], Option, Some}
+use Rattle.std.specs.Prelude.{◌≡◌, [], Some}
 use Rattle.tcl_core.specs.Endings.{Completion}
 use Rattle.tcl_core.specs.Entries.{Entry, Said}
 use Rattle.tcl_core.specs.Paths.{Height, Path}
@@ -14,12 +14,14 @@ use Rattle.tcl_tree.specs.Own.{Own}
 
 -- What is wanted all through a program, and what it can count on.
 pub record Demands : Type 1 where
-  -- it can count on this of the interpreter where it runs
+  -- what it can count on of the interpreter where it runs
   pub stands : Node Own → Type 0
-  -- wanted: of each own part that it makes; where it sets its interpreter's limit of steps, and the one of depth; where it calls hidden commands
+  -- what is wanted of each own part that it makes
   pub own : Own → Type 0
+  -- where it sets its interpreter's limit of steps, and the one of depth
   pub steps : Type 0
   pub depth : Type 0
+  -- where it calls hidden commands
   pub hidden : Type 0
   -- of what its interpreter asks of itself, and of what it asks of another one or of the host
   pub serves : Entry → Type 0

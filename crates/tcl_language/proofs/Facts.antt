@@ -1,9 +1,9 @@
 -- What the commands need of demands so that these hold all through their programs.
-use Rattle.std.specs.Prelude.{◌≡◌, ℕ, Bool, true, false, not, ◌&&◌, ◌||◌, List, [], ◌∷◌, Option, Some, None, Ok, Err}
+use Rattle.std.specs.Prelude.{◌≡◌, ℕ, Bool, true, false, not, ◌&&◌, ◌||◌, [], ◌∷◌, Some, None, Ok, Err}
 use Rattle.std.specs.Map.{lookup}
 use Rattle.std.specs.Str.{bytes_eq}
 use Rattle.tcl_core.specs.Entries.{Entry, Request}
-use Rattle.tcl_core.specs.Entries.Entry.{AskHost, CallWords, Expose, InvokeHidden, SetCountLimit, SetDepthLimit}
+use Rattle.tcl_core.specs.Entries.Entry.{AskHost, Expose, InvokeHidden, SetCountLimit, SetDepthLimit}
 use Rattle.tcl_core.specs.Paths.{Path, Text}
 use Rattle.tcl_core.specs.Tables.{exposes, sets_limit}
 use Rattle.tcl_core.specs.Trees.{Node}
@@ -27,7 +27,7 @@ module _ (P : Demands) where
   Names (Ok own) = P.own own
   Names (Err refusal) = Unit {0}
 
-  -- what is wanted where an interpreter does what it is asked for
+  -- what is wanted so that an interpreter does what it is asked for
   abbrev pub Served : Entry → Type 0
   Served (InvokeHidden is_global words) = P.hidden
   Served (Expose hidden name) = (own : Own) → P.own own → Names (exposed_as own hidden name)
@@ -57,9 +57,11 @@ module _ (P : Demands) where
     pub renamed : (own : Own) (x y : Text) → P.own own → Names (renamed own x y)
 
   pub record Facts : Type 0 where
+    -- the own part of the interpreter, and of a child that it makes
     pub owns : OwnFacts
     pub own : (n : Node Own) → P.stands n → P.own n.own
     pub made : (n : Node Own) (safe : Bool) → P.stands n → P.own (new_own (safe || n.safe))
+    -- what is asked for, and that what is asked of the interpreter itself may be done
     pub serves : (entry : Entry) → is_open entry ≡ true → P.serves entry
     pub calls : (up : ℕ) (down : Path) (entry : Entry) → is_open entry ≡ true → P.calls (Some up) down entry
     pub trusted : (n : Node Own) → P.stands n → n.safe ≡ false → Trusted
