@@ -14,7 +14,7 @@ use Rattle.tcl_core.specs.Execution.{before, event}
 use Rattle.tcl_core.specs.Trees.{Event, Node, Tree, What, seen_what}
 use Rattle.tcl_core.specs.Trees.What.{Out, In, Done, Back, Dropped}
 use Rattle.tcl_core.specs.Views.{from_above, kept, view}
-use Rattle.tcl_core.proofs.Inward.{untouched, goes_to}
+use Rattle.tcl_core.proofs.Inward.{untouched, goes_to, past as out_of}
 use Rattle.tcl_core.proofs.PathLaws.{not_both, rise_back, strip_own}
 use Rattle.tcl_core.proofs.Plain.{IsPlain, closes_plain, decide_plain, opens_plain}
 use Rattle.tcl_core.proofs.RuleLaws.{runs_derived}

@@ -2,15 +2,12 @@
 use Rattle.std.proofs.Common.{arith, ℕ, zero, suc, ◌≤◌, Bool, true, false, List, [], ◌∷◌, length, length-append}
 use Rattle.std.specs.Prelude.{if◌then◌else◌}
 use Rattle.std.specs.Str.{bytes_eq}
-use Rattle.tcl_text.specs.Writing.{form_of, is_comment, written}
+use Rattle.tcl_text.specs.Writing.{written}
 use Rattle.tcl_value.specs.Writing.{write_rest, write}
 use Rattle.tcl_value.specs.Texts.{flat}
 use Rattle.tcl_value.specs.Dicts.{Pairs, put}
 use Rattle.tcl_value.proofs.Longer.{written_longer}
 use Rattle.tcl_nested.specs.Nested.{Texts, with_element}
-
-unfolding written
-written_longer first x = form_longer (form_of first x) (is_comment first x) x
 
 -- the first of the elements that aren't the first of their list
 head_longer : (x : List ℕ) (l : Texts) → length x ≤ length (write_rest (x ∷ l))
