@@ -60,7 +60,11 @@ fn quoted(alloc: Global, word: &str, behind: &str) -> Result<String, AllocError>
     ensures { IfOk result (λ text.
         string_bytes text ≡ codes "\"" ++ word.now ++ codes "\"" ++ behind.now) }
 {
-    format!(in alloc; "\"{word}\"{behind}")
+    let mut text = String::from_str(alloc, "\"")?;
+    text.push_str(word)?;
+    text.push_str("\"")?;
+    text.push_str(behind)?;
+    Ok(text)
 }
 
 impl TreeError {
