@@ -65,8 +65,6 @@ asked_below a [] i f e = f
 asked_below [] (x ∷ down) i f e = cc
 asked_below (y ∷ a) (x ∷ down) i f e = cc
 
-module _ {O I : Type 0} where
-
 module _ {O I : Type 0} (fine : I → Bool) where
   -- what sets no limit may set one
   weaken : (x : Prog O I) → LimitsBelow fine false x → LimitsBelow fine true x

@@ -26,8 +26,6 @@ use Rattle.tcl_run_laws.proofs.Nearness.{Inside}
 use Rattle.tcl_run_laws.proofs.Placed.{Placed, decides_placed, opens_placed, closes_placed}
 use Rattle.tcl_run_laws.proofs.UnfinishedHolding.{Goes, keeps_call, within, asks, hears, misses}
 
-module _ {O I : Type 0} where
-
 module _ {I S : Type 0} (step : S → TheirRequest → TheirReply → S → Type 0) (prog : Table Own I) where
   -- how the host goes, who is told of all crossings
   abbrev pub Goes_so : Tree Own → S → Wait → Event Own → S → Type 0
