@@ -17,7 +17,7 @@ use Rattle.tcl_run.specs.Plain.{Acts}
 use Rattle.tcl_run.specs.declared.interruption.Interruption.{Interruption}
 use Rattle.tcl_text.specs.declared.integer.Integers.{Integers}
 use Rattle.tcl_text.specs.Numbers.{fits_64, in_64_bits, integer_of}
-use Rattle.tcl_text.proofs.Fitting.{read_fits, handed}
+use Rattle.tcl_text.proofs.Fitting.{read_fits}
 use Rattle.tcl_tree.specs.Own.{Own}
 use Rattle.tcl_tree.specs.TreeOf.{tree_of, marks_of, Names}
 use Rattle.tcl_tree.proofs.PathLemmas.{text_cases}
