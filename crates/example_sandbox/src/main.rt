@@ -1,0 +1,45 @@
+//! A script that nobody trusts, in a safe child with a limit of steps and one door.
+#![tactic(auto)]
+
+use std::alloc::{AllocError, Global};
+use std::io;
+use tcl_eval::running::{End, eval};
+use tcl_host::memory::MemoryHost;
+use tcl_text::text::Text;
+use tcl_tree::tree::Tree;
+
+/// The child `guest` may make 1,000 steps, and call one command of ours.
+const SETUP: &str = "interp create -safe guest
+guest limit commands -value 1000
+proc price {name} {list $name costs 7}
+interp alias guest price {} price";
+
+/// Says how a script in the interpreter at the path ends, which may make 10,000 steps.
+fn ending(
+    alloc: Global,
+    tree: &mut Tree,
+    path: &[Text],
+    script: &str,
+) -> Result<String, AllocError> {
+    let mut host = MemoryHost::new(alloc)?;
+    match eval(tree, alloc, &mut host, path, script, 10_000) {
+        Ok(End::Done(completion)) => {
+            let text = completion.text.text(alloc)?;
+            format!(in alloc; "code {}: {}", completion.code, text.as_str())
+        }
+        Ok(End::Stopped(_)) => String::from_str(alloc, "a limit of the root"),
+        Ok(End::Exit(status)) => format!(in alloc; "exit {status}"),
+        Err(refused) => format!(in alloc; "refused: {refused:?}"),
+    }
+}
+
+fn main(rt: HostRuntime) -> io::Result<()> {
+    let alloc = rt.alloc();
+    let mut tree = Tree::new(alloc)?;
+    let guest = [Text::new(alloc, "guest")?];
+    println!(rt; "{}", ending(alloc, &mut tree, &[], SETUP)?)?;
+    'scripts: for script in ["price tea", "exit", "while 1 {}", "price tea"] {
+        println!(rt; "{}", ending(alloc, &mut tree, &guest, script)?)?;
+    }
+    Ok(())
+}
