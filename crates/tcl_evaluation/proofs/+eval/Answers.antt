@@ -141,6 +141,7 @@ use Rattle.tcl_evaluation.specs.Waiting.{IsWritten, SaysOn}
 use Rattle.tcl_evaluation.proofs.+eval.Goals.{hosting::puts-in_default-via-then-args-lt1, hosting::puts-in_default-via-else-args-lt1+else-args-lt2+else-args-lt3+else-args-lt4}
 -- (of what is given up)
 use Rattle.tcl_run.proofs.Endings.{ran, ran_text}
+use Rattle.tcl_text.proofs.Emptiness.{some_is, zero_is}
 use Rattle.tcl_evaluation.proofs.+eval.Goals as goal
 
 -- the words of a command
@@ -184,13 +185,13 @@ evaluation::eval_command-words-preserved g t c =
 pub evaluation::eval_command-returns-then-is_empty-clause-runs : goal.evaluation::eval_command-returns-then-is_empty-clause-runs
 evaluation::eval_command-returns-then-is_empty-clause-runs g t c = λ q style at.
     let none = none_on c.deref-word-items.result.now c.words.word-index c.words-test.false in
-    let zero = Steps.zero_is (vec_len c.words.words) c.is_empty.result c.is_empty.ensures c.if-is_empty.true in
+    let zero = zero_is (vec_len c.words.words) c.is_empty.result c.is_empty.ensures c.if-is_empty.true in
     let empty : c.words.words.items ≡ [] = no_item c.words.words.items (omega (arith, zero, c.words.words.ok.0)) in
     c.words.invariant.leads q style at _ _ _ (at_prog (ap (λ (ws : List WordRead). words ws c.words.words.items) none) (Steps.no_words style c.words.words.items empty (ap (λ (x : List ℕ). Completed (ok x)) c.empty.ensures)))
 
 pub evaluation::eval_command-returns-in_err-charge-clause-runs : goal.evaluation::eval_command-returns-in_err-charge-clause-runs
 evaluation::eval_command-returns-in_err-charge-clause-runs g t c =
-    let more = Steps.some_is (vec_len c.words.words) c.is_empty.result c.is_empty.ensures c.if-is_empty.false in
+    let more = some_is (vec_len c.words.words) c.is_empty.result c.is_empty.ensures c.if-is_empty.false in
     let some : 1 ≤ length c.words.words.items = omega (arith, more, c.words.words.ok.0) in
     let none = none_on c.deref-word-items.result.now c.words.word-index c.words-test.false in
     let p = err_from_is_err_and c.from_residual-in_err-charge.result c.from_residual-in_err-charge.ensures.1 in
@@ -200,7 +201,7 @@ evaluation::eval_command-returns-in_err-charge-clause-runs g t c =
 
 pub evaluation::eval_command-returns-clause-runs : goal.evaluation::eval_command-returns-clause-runs
 evaluation::eval_command-returns-clause-runs g t c =
-    let more = Steps.some_is (vec_len c.words.words) c.is_empty.result c.is_empty.ensures c.if-is_empty.false in
+    let more = some_is (vec_len c.words.words) c.is_empty.result c.is_empty.ensures c.if-is_empty.false in
     let some : 1 ≤ length c.words.words.items = omega (arith, more, c.words.words.ok.0) in
     let none = none_on c.deref-word-items.result.now c.words.word-index c.words-test.false in
     IfRan-more c.call.result (EndsFrom (ways g.O.Outside.goes g.O.Outside.loses) c.charge.new.tree c.charge.new.outside c.args.place (λ style. called style c.as_slice.result.now) c.call.new.tree c.call.new.outside)
@@ -598,19 +599,19 @@ control::catch-returns-clause-steady g t c = steady-trans _ _ _ c.eval_value.ens
 
 pub control::eval-returns-then-is_empty-clause-runs : goal.control::eval-returns-then-is_empty-clause-runs
 control::eval-returns-then-is_empty-clause-runs g t c =
-    let none = Steps.zero_is (length c.args.args.now) c.is_empty.result c.is_empty.ensures c.if-is_empty.true in
+    let none = zero_is (length c.args.args.now) c.is_empty.result c.is_empty.ensures c.if-is_empty.true in
     breaks c.wrong_args.result _ _ (λ e h q style at. eval_none style c.args.args.now (omega (arith, none)) h) (λ q style at. stopped) c.wrong_args.ensures
 
 pub control::eval-returns-in_err-script-clause-runs : goal.control::eval-returns-in_err-script-clause-runs
 control::eval-returns-in_err-script-clause-runs g t c =
-    let some = Steps.some_is (length c.args.args.now) c.is_empty.result c.is_empty.ensures c.if-is_empty.false in
+    let some = some_is (length c.args.args.now) c.is_empty.result c.is_empty.ensures c.if-is_empty.false in
     let p = err_from_is_err_and c.from_residual.result c.from_residual.ensures.1 in
     fails_err c.from_residual.result c.in_err-script.field-0.0 p.0 _ _ _ p.1 p.2 c.in_err-script.ensures.refused
     (λ e h q style at. eval_long style c.args.args.now some h.0 h.1) (λ q style at. stopped)
 
 pub control::eval-returns-clause-runs : goal.control::eval-returns-clause-runs
 control::eval-returns-clause-runs g t c =
-    let some = Steps.some_is (length c.args.args.now) c.is_empty.result c.is_empty.ensures c.if-is_empty.false in
+    let some = some_is (length c.args.args.now) c.is_empty.result c.is_empty.ensures c.if-is_empty.false in
     IfRan-more c.eval_value.result
     (EndsAt (ways g.O.Outside.goes g.O.Outside.loses) c.args.tree.now c.args.outside.now c.args.place (λ style. script c.in_ok-script.script) c.eval_value.new.tree c.eval_value.new.outside)
     (EndsFrom (ways g.O.Outside.goes g.O.Outside.loses) c.args.tree.now c.args.outside.now c.args.place (λ style. control_eval c.args.args.now) c.eval_value.new.tree c.eval_value.new.outside)
@@ -852,14 +853,14 @@ interpreters::interp_eval-returns-in_default-clause-runs g t c =
 
 pub interpreters::interp_eval-returns-then-is_empty-clause-runs : goal.interpreters::interp_eval-returns-then-is_empty-clause-runs
 interpreters::interp_eval-returns-then-is_empty-clause-runs g t c =
-    let none = Steps.zero_is (length (take (length c.args.args.now - 1) (drop 1 c.args.args.now))) c.is_empty.result c.is_empty.ensures c.if-is_empty.true in
+    let none = zero_is (length (take (length c.args.args.now - 1) (drop 1 c.args.args.now))) c.is_empty.result c.is_empty.ensures c.if-is_empty.true in
     let one = ap length (split_first c.args.args.now c.path-item.result c.in-len1-up.len_at_least c.path-item.is) in
     breaks c.wrong_args-then-is_empty.result _ _ (λ e h q style at. at_prog (eval_few c.args.args.now (omega (arith, none, one))) (at_reply h completed)) (λ q style at. stopped) c.wrong_args-then-is_empty.ensures
 
 pub interpreters::interp_eval-returns-in_err-found-clause-runs : goal.interpreters::interp_eval-returns-in_err-found-clause-runs
 interpreters::interp_eval-returns-in_err-found-clause-runs g t c =
     let words = take (length c.args.args.now - 1) (drop 1 c.args.args.now) in
-    let some = Steps.some_is (length words) c.is_empty.result c.is_empty.ensures c.if-is_empty.false in
+    let some = some_is (length words) c.is_empty.result c.is_empty.ensures c.if-is_empty.false in
     let is = eval_is c.args.args.now c.path-item.result words (split_first c.args.args.now c.path-item.result c.in-len1-up.len_at_least c.path-item.is) some in
     let p = err_from_is_err_and c.from_residual.result c.from_residual.ensures.1 in
     proceeds_as (ways g.O.Outside.goes g.O.Outside.loses) c.args.tree.now c.args.tree.now c.args.outside.now c.args.outside.now c.args.place (λ style. interp_evals c.args.args.now) (λ style. at_path c.path-item.result (λ q n. evals words q style)) c.from_residual.result (λ style. is)
@@ -869,7 +870,7 @@ interpreters::interp_eval-returns-in_err-found-clause-runs g t c =
 pub interpreters::interp_eval-returns-in_err-script-clause-runs : goal.interpreters::interp_eval-returns-in_err-script-clause-runs
 interpreters::interp_eval-returns-in_err-script-clause-runs g t c =
     let words = take (length c.args.args.now - 1) (drop 1 c.args.args.now) in
-    let some = Steps.some_is (length words) c.is_empty.result c.is_empty.ensures c.if-is_empty.false in
+    let some = some_is (length words) c.is_empty.result c.is_empty.ensures c.if-is_empty.false in
     let is = eval_is c.args.args.now c.path-item.result words (split_first c.args.args.now c.path-item.result c.in-len1-up.len_at_least c.path-item.is) some in
     let p = err_from_is_err_and c.from_residual-in_err-script.result c.from_residual-in_err-script.ensures.1 in
     fails_err c.from_residual-in_err-script.result c.in_err-script.field-0.0 p.0 _ _ _ p.1 p.2 c.in_err-script.ensures.refused
@@ -879,7 +880,7 @@ interpreters::interp_eval-returns-in_err-script-clause-runs g t c =
 pub interpreters::interp_eval-returns-clause-runs : goal.interpreters::interp_eval-returns-clause-runs
 interpreters::interp_eval-returns-clause-runs g t c =
     let words = take (length c.args.args.now - 1) (drop 1 c.args.args.now) in
-    let some = Steps.some_is (length words) c.is_empty.result c.is_empty.ensures c.if-is_empty.false in
+    let some = some_is (length words) c.is_empty.result c.is_empty.ensures c.if-is_empty.false in
     let is = eval_is c.args.args.now c.path-item.result words (split_first c.args.args.now c.path-item.result c.in-len1-up.len_at_least c.path-item.is) some in
     IfRan-more c.ask_entry.result
     (λ e. (p : Path) (style : Integers) → IsAt c.args.tree.now c.args.place p style → GoesOn (ways g.O.Outside.goes g.O.Outside.loses) style (tree_of c.args.tree.now) c.args.outside.now p (asks_at c.as_slice.result.now (Eval c.in_ok-script.script)) (tree_of c.ask_entry.new.tree) c.ask_entry.new.outside e)
@@ -979,12 +980,12 @@ expressions::condition-returns-clause-runs g t c =
 
 pub expressions::expr-returns-then-is_empty-clause-runs : goal.expressions::expr-returns-then-is_empty-clause-runs
 expressions::expr-returns-then-is_empty-clause-runs g t c =
-    let none = Steps.zero_is (length c.args.args.now) c.is_empty.result c.is_empty.ensures c.if-is_empty.true in
+    let none = zero_is (length c.args.args.now) c.is_empty.result c.is_empty.ensures c.if-is_empty.true in
     breaks c.wrong_args.result _ _ (λ e h q style at. Conditions.expr_none style c.args.args.now (omega (arith, none)) h) (λ q style at. stopped) c.wrong_args.ensures
 
 pub expressions::expr-returns-in_err-text-clause-runs : goal.expressions::expr-returns-in_err-text-clause-runs
 expressions::expr-returns-in_err-text-clause-runs g t c =
-    let some = Steps.some_is (length c.args.args.now) c.is_empty.result c.is_empty.ensures c.if-is_empty.false in
+    let some = some_is (length c.args.args.now) c.is_empty.result c.is_empty.ensures c.if-is_empty.false in
     let p = err_from_is_err_and c.from_residual.result c.from_residual.ensures.1 in
     fails_err c.from_residual.result c.in_err-text.field-0.0 p.0 _ _ _ p.1 p.2 c.in_err-text.ensures.refused
     (λ e h q style at. Conditions.expr_long style c.args.args.now some h.0 h.1)
@@ -992,7 +993,7 @@ expressions::expr-returns-in_err-text-clause-runs g t c =
 
 pub expressions::expr-returns-in_err-kept-clause-runs : goal.expressions::expr-returns-in_err-kept-clause-runs
 expressions::expr-returns-in_err-kept-clause-runs g t c =
-    let some = Steps.some_is (length c.args.args.now) c.is_empty.result c.is_empty.ensures c.if-is_empty.false in
+    let some = some_is (length c.args.args.now) c.is_empty.result c.is_empty.ensures c.if-is_empty.false in
     let p = err_from_is_err_and c.from_residual-in_err-kept.result c.from_residual-in_err-kept.ensures.1 in
     fails_err c.from_residual-in_err-kept.result c.in_err-kept.field-0.0 p.0 _ _ _ p.1 p.2 c.in_err-kept.ensures.refused
     (λ e h q style at.
@@ -1003,7 +1004,7 @@ expressions::expr-returns-in_err-kept-clause-runs g t c =
 
 pub expressions::expr-returns-clause-runs : goal.expressions::expr-returns-clause-runs
 expressions::expr-returns-clause-runs g t c =
-    let some = Steps.some_is (length c.args.args.now) c.is_empty.result c.is_empty.ensures c.if-is_empty.false in
+    let some = some_is (length c.args.args.now) c.is_empty.result c.is_empty.ensures c.if-is_empty.false in
     IfRan-more c.expression.result (ComputesTo (ways g.O.Outside.goes g.O.Outside.loses) c.args.tree.now c.args.outside.now c.args.place c.deref.result.now c.expression.new.tree c.expression.new.outside)
     (EndsFrom (ways g.O.Outside.goes g.O.Outside.loses) c.args.tree.now c.args.outside.now c.args.place (λ style. expr c.args.args.now) c.expression.new.tree c.expression.new.outside)
     (λ e h q style at.
@@ -1725,19 +1726,19 @@ children::call_subcommand-returns-in_default-clause-runs g t c =
 
 pub children::child_eval-returns-then-is_empty-clause-runs : goal.children::child_eval-returns-then-is_empty-clause-runs
 children::child_eval-returns-then-is_empty-clause-runs g t c =
-    let none = Steps.zero_is (length c.args.args.now) c.is_empty.result c.is_empty.ensures c.if-is_empty.true in
+    let none = zero_is (length c.args.args.now) c.is_empty.result c.is_empty.ensures c.if-is_empty.true in
     breaks c.wrong_child_args.result _ _ (λ e h q style at. at_prog (child_eval_none c.args.name.now c.args.args.now (omega (arith, none))) (at_reply h completed)) (λ q style at. stopped) c.wrong_child_args.ensures
 
 pub children::child_eval-returns-in_err-script-clause-runs : goal.children::child_eval-returns-in_err-script-clause-runs
 children::child_eval-returns-in_err-script-clause-runs g t c =
-    let some = Steps.some_is (length c.args.args.now) c.is_empty.result c.is_empty.ensures c.if-is_empty.false in
+    let some = some_is (length c.args.args.now) c.is_empty.result c.is_empty.ensures c.if-is_empty.false in
     let p = err_from_is_err_and c.from_residual.result c.from_residual.ensures.1 in
     fails_err c.from_residual.result c.in_err-script.field-0.0 p.0 _ _ _ p.1 p.2 c.in_err-script.ensures.refused
     (λ e h q style at. at_prog (child_eval_some c.args.name.now c.args.args.now some) (outgrows (concat c.args.args.now) (λ script. asks_at (c.args.name.now ∷ []) (Eval script) done) h.0 h.1)) (λ q style at. stopped)
 
 pub children::child_eval-returns-clause-runs : goal.children::child_eval-returns-clause-runs
 children::child_eval-returns-clause-runs g t c =
-    let some = Steps.some_is (length c.args.args.now) c.is_empty.result c.is_empty.ensures c.if-is_empty.false in
+    let some = some_is (length c.args.args.now) c.is_empty.result c.is_empty.ensures c.if-is_empty.false in
     IfRan-more c.ask_entry.result (EndsFrom (ways g.O.Outside.goes g.O.Outside.loses) c.args.tree.now c.args.outside.now c.args.place (λ style. asks_at (c.args.name.now ∷ []) (Eval c.in_ok-script.script) done) c.ask_entry.new.tree c.ask_entry.new.outside)
     (EndsFrom (ways g.O.Outside.goes g.O.Outside.loses) c.args.tree.now c.args.outside.now c.args.place (λ style. child_evals c.args.name.now c.args.args.now) c.ask_entry.new.tree c.ask_entry.new.outside)
     (λ e h q style at. at_prog (child_eval_some c.args.name.now c.args.args.now some) (grows (concat c.args.args.now) (λ script. asks_at (c.args.name.now ∷ []) (Eval script) done) c.in_ok-script.ensures.whole.1
@@ -1953,13 +1954,13 @@ crossing::ask_below-returns-in-Missing-clause-asks g t c =
 
 pub crossing::ask_entry-returns-then-is_empty-clause-asks : goal.crossing::ask_entry-returns-then-is_empty-clause-asks
 crossing::ask_entry-returns-then-is_empty-clause-asks g t c =
-    let zero = Steps.zero_is (length c.args.path.now) c.is_empty.result c.is_empty.ensures c.if-is_empty.true in
+    let zero = zero_is (length c.args.path.now) c.is_empty.result c.is_empty.ensures c.if-is_empty.true in
     asks_here (ways g.O.Outside.goes g.O.Outside.loses) c.args.tree.now c.serve_entry.new.tree c.args.outside.now c.serve_entry.new.outside c.args.place c.args.path.now (whole_entry c.args.entry) c.serve_entry.result
     (no_item c.args.path.now (omega (arith, zero))) c.serve_entry.ensures.runs
 
 pub crossing::ask_entry-returns-clause-asks : goal.crossing::ask_entry-returns-clause-asks
 crossing::ask_entry-returns-clause-asks g t c =
-    let some = Steps.some_is (length c.args.path.now) c.is_empty.result c.is_empty.ensures c.if-is_empty.false in
+    let some = some_is (length c.args.path.now) c.is_empty.result c.is_empty.ensures c.if-is_empty.false in
     asks_another (ways g.O.Outside.goes g.O.Outside.loses) c.args.tree.now c.ask_below.new.tree c.args.outside.now c.ask_below.new.outside c.args.place c.args.path.now (whole_entry c.args.entry) c.ask_below.result some c.ask_below.ensures.asks
 
 pub crossing::call_alias-returns-in_err-target_words-clause-runs : goal.crossing::call_alias-returns-in_err-target_words-clause-runs
