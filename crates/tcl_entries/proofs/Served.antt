@@ -26,7 +26,7 @@ use Rattle.tcl_language.specs.Naming as language
 use Rattle.tcl_language.specs.Naming.{command_name}
 use Rattle.tcl_language.specs.Faults.{bad_name}
 use Rattle.tcl_language.specs.Names.{is_name}
-use Rattle.tcl_run.specs.Ends.{Interrupts, IsFailure, failing}
+use Rattle.tcl_run.specs.Ends.{Interrupts, IsFailure, failing, itself}
 use Rattle.tcl_run.specs.Plain.{Does, Acts}
 use Rattle.tcl_run.specs.Outsides.{Going}
 use Rattle.tcl_run.specs.Runs.{Comes, EvaluatesAt, IsThere}
@@ -378,17 +378,27 @@ create_unnamed t u place name safe r named acts = IfEnded-more r (EndsAt t place
 
 -- ## Questions
 
-pub answered : (t : Table) (place : TablePlace) (q : Question) (text : Text) (r : Result Text Interruption) → ((p : Path) (n : Node Own) → Names t place p → tree_of t p ≡ Some n → text ≡ interpreters.answer q n) →
+pub answered : (t : Table) (place : TablePlace) (q : Question) (text : Text) (r : Result Text Interruption) → ((p : Path) (n : Node Own) → Names t place p → tree_of t p ≡ Some n → interpreters.answer q n ≡ Ok text) →
     IfOk r (λ v. (v ≡ text) × (fits text ≡ true)) → IfErr r (λ i. Interrupts i (λ e. (fits text ≡ false) × (e ≡ Completed too_long))) → Acts t place (λ style. interpreters.answers q) t r
 answered t place q text (Ok v) is whole refused = λ p style at.
     let n = there t place p at.names in
-    does_look (tree_of t) (tree_of t) p (Completed (ok v)) n.0 (λ m. gives (interpreters.answer q m)) n.1 (
+    does_look (tree_of t) (tree_of t) p (Completed (ok v)) n.0 (λ m. or_fails itself (interpreters.answer q m) gives) n.1
+    (does_read (tree_of t) (tree_of t) p (Completed (ok v)) itself (interpreters.answer q n.0) text gives (is p n.0 at.names n.1) (
       refl,
-      ap (λ (x : Text). Completed (ok x)) whole.0 ∙ sym (ap (λ (b : Bool). Completed (either b (ok text) too_long)) whole.1) ∙ ap (λ (x : Text). Completed (either (fits x) (ok x) too_long)) (is p n.0 at.names n.1),
-    )
+      ap (λ (x : Text). Completed (ok x)) whole.0 ∙ sym (ap (λ (b : Bool). Completed (either b (ok text) too_long)) whole.1),
+    ))
 answered t place q text (Err i) is whole refused = Interrupts-more i (λ e. (fits text ≡ false) × (e ≡ Completed too_long)) (EndsAt t place (interpreters.answers q) (tree_of t)) (λ e h p style at.
     let n = there t place p at.names in
-    does_look (tree_of t) (tree_of t) p e n.0 (λ m. gives (interpreters.answer q m)) n.1 (
+    does_look (tree_of t) (tree_of t) p e n.0 (λ m. or_fails itself (interpreters.answer q m) gives) n.1
+    (does_read (tree_of t) (tree_of t) p e itself (interpreters.answer q n.0) text gives (is p n.0 at.names n.1) (
       refl,
-      h.1 ∙ sym (ap (λ (b : Bool). Completed (either b (ok text) too_long)) h.0) ∙ ap (λ (x : Text). Completed (either (fits x) (ok x) too_long)) (is p n.0 at.names n.1),
-    )) refused
+      h.1 ∙ sym (ap (λ (b : Bool). Completed (either b (ok text) too_long)) h.0),
+    ))) refused
+
+-- a question that is refused
+pub unanswered : (t : Table) (place : TablePlace) (q : Question) (view : Node Own) (r : Result Text Interruption) (i y : Interruption) → r ≡ Err y → y ≡ i → ((p : Path) (n : Node Own) → Names t place p → tree_of t p ≡ Some n → view ≡ n) →
+    Interrupts i (IsFailure itself (interpreters.answer q view)) → Acts t place (λ style. interpreters.answers q) t r
+unanswered t place q view r i y e same is h = passed_acts t t place (interpreters.answers q) r i y e same (Interrupts-more i (IsFailure itself (interpreters.answer q view)) (EndsAt t place (interpreters.answers q) (tree_of t)) (λ e f p style at.
+    let n = there t place p at.names in
+    does_look (tree_of t) (tree_of t) p e n.0 (λ m. or_fails itself (interpreters.answer q m) gives) n.1
+    (does_fail (tree_of t) p itself (interpreters.answer q n.0) gives e (subst (λ (v : Node Own). IsFailure itself (interpreters.answer q v) e) (is p n.0 at.names n.1) f))) h)

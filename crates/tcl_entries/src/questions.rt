@@ -6,6 +6,8 @@ ghost use Rattle.std.specs.Option.{option_copied};
 ghost use Rattle.tcl_core.specs.Paths.{Path};
 ghost use Rattle.tcl_core.specs.Trees as core;
 ghost use Rattle.tcl_language.specs.Interpreters as interpreters;
+ghost use Rattle.tcl_language.specs.Naming.{command_name};
+ghost use Rattle.tcl_run.specs.Ends.{Gave, itself};
 ghost use Rattle.tcl_run.specs.Plain.{Acts};
 ghost use Rattle.tcl_text.specs.Writing.{written_list};
 ghost use Rattle.tcl_tree.specs.Nodes.{view_of};
@@ -14,6 +16,7 @@ ghost use Rattle.tcl_tree.specs.TreeOf.{tree_of, Names};
 ghost use Rattle.tcl_run.specs.Entering.{question_of};
 ghost use Rattle.tcl_entries.specs.Listing.{first_of};
 
+use crate::naming::kept_name;
 use indexmap::IndexMap;
 use std::alloc::{AllocError, Global};
 use tcl_calls::words::within;
@@ -190,32 +193,51 @@ fn limit_list(alloc: Global, limit: Option<u64>) -> Result<Text, AllocError>
     list_text(alloc, list.as_slice())
 }
 
+/// The list of the words of the alias that a name is, read as calls read it.
+///
+/// # Errors
+/// 238; want of memory.
+fn alias_text(alloc: Global, node: &Node, name: &Text) -> Result<Text, Interruption>
+    ensures { Gave itself (interpreters.alias_kept
+        (command_name name.now) name.now (view_of node.now).own) result }
+{
+    let kept = kept_name(alloc, name)?;
+    let words = words_of(alloc, node.state.commands.get(&kept))?;
+    Ok(list_text(alloc, words.as_slice())?)
+}
+
 /// What an interpreter answers to a question.
-fn answer_text(alloc: Global, node: &Node, question: &Question) -> Result<Text, AllocError>
-    ensures { IfOk result (λ text. text
-        ≡ interpreters.answer (question_of question.now) (view_of node.now)) }
+///
+/// # Errors
+/// 238 of the name of an alias; want of memory.
+fn answer_text(alloc: Global, node: &Node, question: &Question) -> Result<Text, Interruption>
+    ensures { Gave itself (interpreters.answer (question_of question.now) (view_of node.now)) result }
 {
     match question {
-        Question::Exists => truth_text(alloc, true),
-        Question::IsSafe => truth_text(alloc, node.state.safe),
-        Question::Aliases => list_text(alloc, alias_names(alloc, &node.state.commands)?.as_slice()),
-        Question::AliasOf(name) => {
-            list_text(
-                alloc,
-                words_of(alloc, node.state.commands.get(name))?.as_slice(),
-            )
+        Question::Exists => Ok(truth_text(alloc, true)?),
+        Question::IsSafe => Ok(truth_text(alloc, node.state.safe)?),
+        Question::Aliases => {
+            let names = alias_names(alloc, &node.state.commands)?;
+            Ok(list_text(alloc, names.as_slice())?)
         }
-        Question::Hidden => list_text(alloc, keys_of(alloc, &node.state.hidden)?.as_slice()),
-        Question::Slaves => list_text(alloc, keys_of(alloc, &node.children)?.as_slice()),
-        Question::CountLimitOf => limit_list(alloc, node.state.limit),
-        Question::DepthLimitOf => number_text(alloc, node.state.depth_limit),
+        Question::AliasOf(name) => alias_text(alloc, node, name),
+        Question::Hidden => {
+            let names = keys_of(alloc, &node.state.hidden)?;
+            Ok(list_text(alloc, names.as_slice())?)
+        }
+        Question::Slaves => {
+            let names = keys_of(alloc, &node.children)?;
+            Ok(list_text(alloc, names.as_slice())?)
+        }
+        Question::CountLimitOf => Ok(limit_list(alloc, node.state.limit)?),
+        Question::DepthLimitOf => Ok(number_text(alloc, node.state.depth_limit)?),
     }
 }
 
 /// What the interpreter that the place names answers to a question.
 ///
 /// # Errors
-/// 122; want of memory.
+/// 238 of the name of an alias; 122; want of memory.
 pub fn answer(
     tree: &Tree,
     alloc: Global,

@@ -51,6 +51,13 @@ digits_in Octal n = digits 8 false n
 digits_in Hexadecimal n = digits 16 false n
 digits_in UpperHexadecimal n = digits 16 true n
 
+-- A sign and digits. A precision asks for at least so many digits, with zeros in front of them, and
+-- leaves the flag 0 out of account.
+abbrev pub numbered : Option ℕ → Specifier → List ℕ → List ℕ → List ℕ
+numbered None s sign digits = padded s true sign digits
+numbered (Some least) s sign digits = padded s false sign
+    (copies (least - length digits) (48 ∷ []) ++ digits)
+
 -- ---- characters
 
 abbrev pub is_scalar : ℕ → Bool
@@ -80,9 +87,9 @@ cut (Some n) text = text_of (take n (chars text))
 
 abbrev pub piece : Integers → Specifier → List ℕ → Kind → List ℕ → Outcome
 piece style s cs Decimal value = next (integer_word style value)
-    (λ n. Ok (padded s true (sign_of s.flags.plus n) (decimal (unsigned_abs n))))
+    (λ n. Ok (numbered s.precision s (sign_of s.flags.plus n) (decimal (unsigned_abs n))))
 piece style s cs (Pattern radix) value = next (integer_word style value)
-    (λ n. Ok (padded s true [] (digits_in radix (pattern n))))
+    (λ n. Ok (numbered s.precision s [] (digits_in radix (pattern n))))
 piece style s cs Character value = next (integer_word style value)
     (λ n. character_or s cs (scalar_of n))
 piece style s cs Text value = Ok (padded s false [] (cut s.precision value))

@@ -1,5 +1,5 @@
 //! What a specifier makes of a value.
-ghost use Rattle.std.specs.Prelude.{◌≡◌, ◌≤◌, ◌++◌, length, IfOk, OnOk, [], unsigned_abs};
+ghost use Rattle.std.specs.Prelude.{◌≡◌, ◌≤◌, ◌-◌, ◌++◌, ◌∷◌, length, IfOk, OnOk, [], unsigned_abs};
 ghost use Rattle.std.specs.Char.{encode_utf8};
 ghost use Rattle.std.specs.Fmt.{decimal};
 ghost use Rattle.std.specs.Str.{chars};
@@ -7,8 +7,9 @@ ghost use Rattle.std.specs.String.{string_bytes};
 ghost use Rattle.tcl_words.specs.Outcomes.{Gives, next};
 ghost use Rattle.tcl_words.specs.Limits.{limited};
 ghost use Rattle.tcl_format.specs.Specifiers.{shown};
-ghost use Rattle.tcl_format.specs.Pieces.{padded, sign_of, pattern, digits_in, scalar_of, cut};
-ghost use Rattle.tcl_format.specs.Pieces.{piece};
+ghost use Rattle.tcl_characters.specs.Texts.{copies};
+ghost use Rattle.tcl_format.specs.Pieces.{padded, numbered, sign_of, pattern, digits_in, scalar_of};
+ghost use Rattle.tcl_format.specs.Pieces.{cut, piece};
 
 use crate::refusal::bad_format;
 use crate::specifier::{Kind, Radix, Specifier};
@@ -103,6 +104,40 @@ pub(crate) fn add_padded(
     }
 }
 
+/// Digits with zeros in front of them, where there are less than so many.
+fn with_zeros(alloc: Global, digits: &str, least: usize) -> Result<String, AllocError>
+    ensures { IfOk result (λ made. string_bytes made
+        ≡ copies (least - length digits.now) (48 ∷ []) ++ digits.now) }
+{
+    let mut made = repeat(alloc, "0", least.saturating_sub(digits.len()))?;
+    made.push_str(digits)?;
+    Ok(made)
+}
+
+/// Adds a number: its sign and its digits, of which a precision asks for so many.
+fn add_number(
+    alloc: Global,
+    made: &mut String,
+    specifier: Specifier,
+    sign: &str,
+    digits: &str,
+) -> Result<(), Refusal>
+    requires { length (string_bytes made.old) ≤ 16777216 }
+    ensures added { Gives
+        (λ _. string_bytes made.new) result
+        (limited (string_bytes made.old
+        ++ numbered specifier.precision specifier sign.now digits.now)) }
+    ensures within { OnOk result (length (string_bytes made.new) ≤ 16777216) }
+{
+    match specifier.precision {
+        None => add_padded(alloc, made, specifier, true, sign, digits),
+        Some(least) => {
+            let body = with_zeros(alloc, digits, least)?;
+            add_padded(alloc, made, specifier, false, sign, body.as_str())
+        }
+    }
+}
+
 /// The sign of a number.
 fn sign_of(plus: bool, number: i64) -> &'static str
     ensures { result.now ≡ sign_of plus number }
@@ -191,12 +226,12 @@ pub(crate) fn add_piece(
             let mut buffer = Buffer::new();
             let digits = buffer.format(number.unsigned_abs());
             let sign = sign_of(specifier.flags.plus, number);
-            add_padded(alloc, made, specifier, true, sign, digits)
+            add_number(alloc, made, specifier, sign, digits)
         }
         Kind::Pattern(radix) => {
             let number = integer_word(alloc, style, value)?;
             let digits = digits_in(alloc, radix, pattern(number))?;
-            add_padded(alloc, made, specifier, true, "", digits.as_str())
+            add_number(alloc, made, specifier, "", digits.as_str())
         }
         Kind::Character => {
             let number = integer_word(alloc, style, value)?;

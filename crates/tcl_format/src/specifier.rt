@@ -62,7 +62,7 @@ pub struct Specifier {
     pub flags: Flags,
     /// In characters, at most [`MOST_WIDTH`].
     pub width: usize,
-    /// The most characters of a text.
+    /// The most characters of a text, or the least digits of a number.
     pub precision: Option<usize>,
     pub conversion: Conversion,
 }

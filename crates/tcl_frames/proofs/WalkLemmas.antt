@@ -1,6 +1,6 @@
 -- Walks of at most so many steps.
 use Rattle.std.proofs.Common.{◌≡◌, ℕ, zero, suc, ◌+◌, ◌-◌, ◌<◌, ◌≤◌, ◌⊎◌, inl, inr, Bool, true, false, Option, Some, None, refl, sym, ◌∙◌, ap, subst, arith, true≢false}
-use Rattle.tcl_frames.specs.Places.{onward, walk, or_onward, passes}
+use Rattle.tcl_frames.specs.Places.{onward, walk}
 use Rattle.tcl_frames.specs.Sound.{Ends}
 
 pub test_of : (b : Bool) → (b ≡ true) ⊎ (b ≡ false)
@@ -166,70 +166,3 @@ module _ {A : Type 0} where
             | inr s ↦ ends_step n g p s.0 (same p is ∙ s.1) (ends_again was n s.0 (ends_back n f p s.0 s.1 h))
           ]
         ]
-
-  -- a test that no place on the way passes, the last one doesn't
-  or_false : (b : Bool) (o : Option A) (g : A → Bool) → or_onward b o g ≡ false → b ≡ false
-  or_false true o g h = h
-  or_false false o g h = refl
-
-  or_later : (b : Bool) (o : Option A) (g : A → Bool) (q : A) → o ≡ Some q → or_onward b o g ≡ false → g q ≡ false
-  or_later b o g q e h = on b (sym (ap (λ r. or_onward b r g) e) ∙ h)
-    where
-      on : (b : Bool) → or_onward b (Some q) g ≡ false → g q ≡ false
-      on true h = absurd (true≢false h)
-      on false h = h
-
-  passes_zero : (f : A → Option A) (t : A → Bool) (p : A) → passes 0 f t p ≡ t p
-  unfolding passes
-  passes_zero f t p = refl
-
-  passes_suc : (n : ℕ) (f : A → Option A) (t : A → Bool) (p : A) → passes (suc n) f t p ≡ or_onward (t p) (f p) (passes n f t)
-  unfolding passes
-  passes_suc n f t p = refl
-
-  pub passes_here : (n : ℕ) (f : A → Option A) (t : A → Bool) (p : A) → passes n f t p ≡ false → t p ≡ false
-  passes_here zero f t p h = sym (passes_zero f t p) ∙ h
-  passes_here (suc n) f t p h = or_false (t p) (f p) (passes n f t) (sym (passes_suc n f t p) ∙ h)
-
-  pub passes_end : (n : ℕ) (f : A → Option A) (t : A → Bool) (p : A) → passes n f t p ≡ false → t (walk n f p) ≡ false
-  passes_end zero f t p h = ap t (walk_zero f p) ∙ sym (passes_zero f t p) ∙ h
-  passes_end (suc n) f t p h =
-      elim (step_of f p) [
-        | inl e ↦ ap t (walk_none (suc n) f p e) ∙ passes_here (suc n) f t p h
-        | inr s ↦ ap t (walk_some n f p s.0 s.1) ∙ passes_end n f t s.0 (or_later (t p) (f p) (passes n f t) s.0 s.1 (sym (passes_suc n f t p) ∙ h))
-      ]
-
-  or_none : (b : Bool) (o : Option A) (g : A → Bool) → o ≡ None → or_onward b o g ≡ b
-  or_none true o g e = refl
-  or_none false o g e = ap (λ r. or_onward false r g) e
-
-  pub passes_stop : (n : ℕ) (f : A → Option A) (t : A → Bool) (p : A) → f p ≡ None → passes n f t p ≡ t p
-  passes_stop zero f t p e = passes_zero f t p
-  passes_stop (suc n) f t p e = passes_suc n f t p ∙ or_none (t p) (f p) (passes n f t) e
-
-  or_step : (b : Bool) (o : Option A) (g : A → Bool) (q : A) → o ≡ Some q → b ≡ false → or_onward b o g ≡ g q
-  or_step b o g q e h = ap (λ c. or_onward c o g) h ∙ ap (λ r. or_onward false r g) e
-
-  or_yes : (b : Bool) (o : Option A) (g : A → Bool) → b ≡ true → or_onward b o g ≡ true
-  or_yes b o g h = ap (λ c. or_onward c o g) h
-
-  pub passes_yes : (n : ℕ) (f : A → Option A) (t : A → Bool) (p : A) → t p ≡ true → passes n f t p ≡ true
-  passes_yes zero f t p h = passes_zero f t p ∙ h
-  passes_yes (suc n) f t p h = passes_suc n f t p ∙ or_yes (t p) (f p) (passes n f t) h
-
-  pub passes_more : (n : ℕ) (f : A → Option A) (t : A → Bool) (p : A) → Ends n f p → passes (suc n) f t p ≡ passes n f t p
-  passes_more zero f t p h = let e : f p ≡ None = ap f (sym (walk_zero f p)) ∙ h in passes_stop 1 f t p e ∙ sym (passes_stop 0 f t p e)
-  passes_more (suc n) f t p h =
-      elim (step_of f p) [
-        | inl e ↦ passes_stop (suc (suc n)) f t p e ∙ sym (passes_stop (suc n) f t p e)
-        | inr s ↦
-            let later = passes_more n f t s.0 (ends_back n f p s.0 s.1 h) in
-            elim (test_of (t p)) [
-              | inl y ↦ passes_yes (suc (suc n)) f t p y ∙ sym (passes_yes (suc n) f t p y)
-              | inr z ↦ passes_suc (suc n) f t p ∙ or_step (t p) (f p) (passes (suc n) f t) s.0 s.1 z ∙ later ∙ sym (passes_suc n f t p ∙ or_step (t p) (f p) (passes n f t) s.0 s.1 z)
-            ]
-      ]
-
-  pub passes_on : (n : ℕ) (f : A → Option A) (t : A → Bool) (p q : A) → f p ≡ Some q → t p ≡ false → Ends n f p → passes n f t p ≡ passes n f t q
-  passes_on zero f t p q e z h = absurd (ends_not_zero f p q e h)
-  passes_on (suc n) f t p q e z h = passes_suc n f t p ∙ or_step (t p) (f p) (passes n f t) q e z ∙ sym (passes_more n f t q (ends_back n f p q e h))

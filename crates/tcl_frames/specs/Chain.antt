@@ -9,8 +9,7 @@ use Rattle.tcl_variables.specs.Names.{Text, Name, name_of, is_plain}
 use Rattle.tcl_variables.specs.Variables.{Frame, Part, Variables}
 use Rattle.tcl_variables.specs.Access.{value_of, is_held, elements_of, assigned, left_of}
 use Rattle.tcl_variables.specs.Arrays.{extended}
-use Rattle.tcl_frames.specs.Places.{Spot, Levels, current, bound, spot_of, next, passes, links}
-use Rattle.tcl_frames.specs.Places.{end_of, is_at}
+use Rattle.tcl_frames.specs.Places.{Spot, Levels, current, bound, spot_of, end_of, is_at}
 use Rattle.tcl_variables.specs.Variables.Part.{whole, element, nested}
 use Rattle.tcl_variables.specs.declared.variable.LinkTarget.{LinkTarget}
 use Rattle.tcl_variables.specs.declared.variable.Variable.{Variable}
@@ -122,6 +121,7 @@ link_to_end fs other local n x (element k) = link_over fs (bound fs (current fs)
     (record { level = n; name = x; key = Some k })
 link_to_end fs other local n x nested = Err (NotArray Read other)
 
+-- a link leads to where the links from the other name end; that isn't the local name's own place
 abbrev pub link_from : Levels → Bool → Text → Text → Spot → Result Levels FrameFault
 link_from fs true other local p = Err Itself
 link_from fs false other local p = link_to_end fs other local p.level p.name p.part
@@ -130,8 +130,8 @@ abbrev pub link_by_name : Levels → ℕ → Option Name → Bool → Text → T
 link_by_name fs n None plain other local = Err (BadName other)
 link_by_name fs n (Some name) false other local = Err (BadName local)
 link_by_name fs n (Some name) true other local =
-    link_from fs (passes (links fs) (next fs) (is_at (current fs) local) (spot_of n name)) other
-    local (end_of fs (spot_of n name))
+    link_from fs (is_at (current fs) local (end_of fs (spot_of n name))) other local
+    (end_of fs (spot_of n name))
 
 -- the frames after the local name of the current level is made a link to what the other name is at
 -- a level

@@ -62,16 +62,6 @@ unfoldable pub walk : {A : Type 0} → ℕ → (A → Option A) → A → A
 walk zero f p = p
 walk (suc n) f p = onward (f p) p (walk n f)
 
-abbrev pub or_onward : {A : Type 0} → Bool → Option A → (A → Bool) → Bool
-or_onward true q f = true
-or_onward false None f = false
-or_onward false (Some q) f = f q
-
--- whether one of the places that at most so many steps lead to passes a test
-unfoldable pub passes : {A : Type 0} → ℕ → (A → Option A) → (A → Bool) → A → Bool
-passes zero f t p = t p
-passes (suc n) f t p = or_onward (t p) (f p) (passes n f t)
-
 abbrev pub plus_link : Variable → ℕ → ℕ
 plus_link (Scalar t) n = n
 plus_link (Array es) n = n

@@ -3,14 +3,14 @@ ghost use Rattle.std.specs.Prelude.{◌≡◌, ◌<◌, Ok, length, IfOk, OnOk, 
 ghost use Rattle.std.specs.Option.{option_copied};
 ghost use Rattle.tcl_frames.specs.Chain.{link_over, linked};
 ghost use Rattle.tcl_variables.specs.Faults.{Refuses};
-ghost use Rattle.tcl_frames.specs.Places.{bound, under, end_of, current, links, next, passes};
-ghost use Rattle.tcl_frames.specs.Places.{is_at};
-ghost use Rattle.tcl_variables.specs.Variables.{part_of};
+ghost use Rattle.tcl_frames.specs.Places.{bound, under, current, is_at};
+ghost use Rattle.tcl_frames.specs.Targets.{target_or};
+ghost use Rattle.tcl_variables.specs.Variables.{Part, part_of};
 ghost use Rattle.tcl_variables.specs.Variables.Part.{whole, nested};
 ghost use Rattle.tcl_frames.specs.Reached.{start, over, may_link};
 ghost use Rattle.tcl_frames.specs.Sound.{AreFit};
 
-use crate::steps::{find_target, level_for, link_at, link_in, variable_at};
+use crate::steps::{Target, find_target, level_for, variable_at};
 use std::alloc::{AllocError, Global};
 use tcl_text::text::Text;
 use tcl_variables::fault::{FrameError, FrameFault, NameFault, Verb, refused};
@@ -18,52 +18,15 @@ use tcl_variables::frame::Frame;
 use tcl_variables::name::{is_plain_name, read_name};
 use tcl_variables::variable::{LinkTarget, Variable};
 
-/// Whether a name at a level is that of another.
-fn is_name_at(level: usize, base: &str, here: usize, local: &Text) -> bool
-    ensures { result ≡ is_at here local.now (start level base.now) }
+/// Whether the links from a name at a level, which lead to this target, end at a local name or at an
+/// element of it. Where there is no target, they end where they begin.
+fn ends_at(target: &Option<Target>, level: usize, base: &str, here: usize, local: &Text) -> bool
+    ensures { (part : Part) → result
+        ≡ is_at here local.now (target_or (start level base.now) part target.now) }
 {
-    level == here && local.as_str() == base
-}
-
-/// Whether a place is a name at a level, or an element of it.
-fn is_place_at(place: &LinkTarget, here: usize, local: &Text) -> bool
-    ensures { result ≡ is_at here local.now (under place.now whole) }
-{
-    place.level == here && *local == place.name
-}
-
-/// Whether a link or one that it leads to passes a name at a level.
-fn link_passes(frames: &[Frame], link: &LinkTarget, here: usize, local: &Text) -> bool
-    requires { AreFit 0 frames.now }
-    ensures { result
-        ≡ passes (links frames.now) (next frames.now) (is_at here local.now)
-        (under link.now whole) }
-{
-    let mut place = link;
-    'links: loop {
-        if is_place_at(place, here, local) {
-            return true;
-        }
-        match link_at(frames, place.level, &place.name) {
-            Some(next) => place = next,
-            None => return false,
-        }
-    }
-}
-
-/// Whether following a name at a level passes a name at another.
-fn name_passes(frames: &[Frame], level: usize, base: &str, here: usize, local: &Text) -> bool
-    requires { AreFit 0 frames.now }
-    ensures { result
-        ≡ passes (links frames.now) (next frames.now) (is_at here local.now)
-        (start level base.now) }
-{
-    if is_name_at(level, base, here, local) {
-        return true;
-    }
-    match link_in(variable_at(frames, level, base)) {
-        Some(link) => link_passes(frames, link, here, local),
-        None => false,
+    match target {
+        None => level == here && local.as_str() == base,
+        Some(end) => end.level == here && *local == end.name,
     }
 }
 
@@ -77,22 +40,21 @@ fn owned_key(alloc: Global, key: Option<&str>) -> Result<Option<Text>, AllocErro
     }
 }
 
-/// The place where the links from a name at a level end, or none where that is an element of an
-/// element.
+/// The place where the links from a name at a level end, which lead to this target, or none where
+/// that is an element of an element.
 fn end_place(
-    frames: &[Frame],
     alloc: Global,
+    target: Option<Target>,
     level: usize,
     base: &str,
     key: Option<&str>,
 ) -> Result<Option<LinkTarget>, AllocError>
-    requires { AreFit 0 frames.now }
     ensures { IfOk result (λ place. MatchOption place
-        ((end_of frames.now (over (start level base.now) (part_of (option_copied key.entry)))).part
-        ≡ nested) (λ q. end_of frames.now
-        (over (start level base.now) (part_of (option_copied key.entry))) ≡ under q whole)) }
+        ((target_or (start level base.now) (part_of (option_copied key.entry)) target).part
+        ≡ nested) (λ q. target_or (start level base.now) (part_of (option_copied key.entry)) target
+        ≡ under q whole)) }
 {
-    match find_target(frames, alloc, level, base, key)? {
+    match target {
         None => {
             let name = Text::new(alloc, base)?;
             let key = owned_key(alloc, key)?;
@@ -163,10 +125,11 @@ pub(crate) fn link_frames(
                 return Err(refused(NameFault::BadName, local));
             }
             let from = level_for(written.is_global, level);
-            if name_passes(frames, from, written.base, here, local) {
+            let target = find_target(frames, alloc, from, written.base, written.key)?;
+            if ends_at(&target, from, written.base, here, local) {
                 return Err(FrameError::Fault(FrameFault::Itself));
             }
-            match end_place(frames, alloc, from, written.base, written.key)? {
+            match end_place(alloc, target, from, written.base, written.key)? {
                 None => Err(refused(NameFault::NotArray(Verb::Read), other)),
                 Some(place) => link_here(frames, alloc, local, place),
             }

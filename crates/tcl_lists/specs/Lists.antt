@@ -141,13 +141,23 @@ indexes_of (w ∷ ws) =
     next (list_word w) (λ is.
     next (indexes_of ws) (λ rest. Ok (is ++ rest)))
 
--- Words behind a list: where there are any, the list is read first, then each word as a list of
--- indexes, and then one index after the other.
+-- The list is read first, then each word as a list of indexes, and then one index after the other.
+abbrev pub read_at : Integers → List ℕ → Texts → Outcome
+read_at style text words =
+    next (list_word text) (λ _.
+    next (indexes_of words) (λ is. at_indexes style text is))
+
+-- one word, and how it reads as a list: an empty one leaves the value as it is
+abbrev pub at_word : Integers → List ℕ → List ℕ → Result Texts (List ℕ) → Outcome
+at_word style text word (Ok []) = Ok text
+at_word style text word (Ok (i ∷ is)) = read_at style text (word ∷ [])
+at_word style text word (Err message) = read_at style text (word ∷ [])
+
+-- the words behind a list
 abbrev pub at_words : Integers → List ℕ → Texts → Outcome
 at_words style text [] = Ok text
-at_words style text (w ∷ ws) =
-    next (list_word text) (λ _.
-    next (indexes_of (w ∷ ws)) (λ is. at_indexes style text is))
+at_words style text (word ∷ []) = at_word style text word (list_word word)
+at_words style text (word ∷ other ∷ words) = read_at style text (word ∷ other ∷ words)
 
 abbrev pub lindex_of : Integers → Texts → Outcome
 lindex_of style words =

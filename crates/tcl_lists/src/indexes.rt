@@ -1,8 +1,9 @@
 //! The command that reads by indexes.
-ghost use Rattle.std.specs.Prelude.{◌≡◌, ◌++◌, OnOk, IfOk};
-ghost use Rattle.tcl_words.specs.Outcomes.{Gives};
-ghost use Rattle.tcl_lists.specs.Lists.{element, at_index, at_indexes, indexes_of, at_words};
-ghost use Rattle.tcl_lists.specs.Lists.{lindex_of};
+ghost use Rattle.std.specs.Prelude.{◌≡◌, ◌++◌, ◌∷◌, [], ℕ, List as Lists, OnOk, IfOk};
+ghost use Rattle.tcl_words.specs.Outcomes.{Gives, Refuses, next};
+ghost use Rattle.tcl_words.specs.Words.{list_word};
+ghost use Rattle.tcl_lists.specs.Lists.{element, at_index, at_indexes, indexes_of, read_at};
+ghost use Rattle.tcl_lists.specs.Lists.{Texts, at_words, lindex_of};
 
 use crate::reading::{first_and_rest, index_word, list_word, own_list};
 use std::alloc::{AllocError, Global};
@@ -87,6 +88,58 @@ pub fn indexes_of(alloc: Global, words: &[Value]) -> Result<Vec<Value>, Refusal>
     Ok(made)
 }
 
+/// What stands in a value at the indexes of words, the value being read first.
+fn read_at(alloc: Global, style: Integers, value: &Value, words: &[Value]) -> Result<Value, Refusal>
+    ensures { Gives (λ value. value) result (read_at style value.now words.now) }
+{
+    let mut own = value.clone()?;
+    let _list = own_list(alloc, &mut own)?;
+    let indexes = indexes_of(alloc, words)?;
+    at_indexes(alloc, style, own, &indexes)
+}
+
+/// What stands in a list at indexes, which one word was read as.
+fn at_list(alloc: Global, style: Integers, value: &Value, indexes: &List) -> Result<Value, Refusal>
+    ensures { Gives (λ value. value) result
+        (next (list_word value.now) (λ _. at_indexes style value.now indexes.now)) }
+{
+    let mut own = value.clone()?;
+    let _list = own_list(alloc, &mut own)?;
+    let indexes = elements_of(alloc, indexes)?;
+    at_indexes(alloc, style, own, &indexes)
+}
+
+/// How a word is refused that reads as no list: behind the value, where that is none either.
+fn refuse_word(alloc: Global, value: &Value, word: &Value, refusal: Refusal) -> Refusal
+    requires { Refuses {X = Texts} refusal (list_word word.now) }
+    ensures { (style : Integers) → Refuses {X = Lists ℕ} result
+        (at_words style value.now (word.now ∷ [])) }
+{
+    let _word = word;
+    match refusal {
+        Refusal::Memory => Refusal::Memory,
+        Refusal::Fault(message) => match list_word(alloc, value) {
+            Ok(_) => Refusal::Fault(message),
+            Err(earlier) => earlier,
+        },
+    }
+}
+
+/// What stands in a value at the indexes of one word; without any the value itself.
+fn at_word(alloc: Global, style: Integers, value: &Value, word: &Value) -> Result<Value, Refusal>
+    ensures { Gives (λ value. value) result (at_words style value.now (word.now ∷ [])) }
+{
+    match list_word(alloc, word) {
+        Ok(indexes) => {
+            if indexes.is_empty() {
+                return Ok(value.clone()?);
+            }
+            at_list(alloc, style, value, &indexes)
+        }
+        Err(refusal) => Err(refuse_word(alloc, value, word, refusal)),
+    }
+}
+
 /// What stands in a value at the indexes of words.
 fn at_words(
     alloc: Global,
@@ -96,19 +149,18 @@ fn at_words(
 ) -> Result<Value, Refusal>
     ensures { Gives (λ value. value) result (at_words style value.now words.now) }
 {
-    let mut own = value.clone()?;
-    if words.is_empty() {
-        return Ok(own);
+    match words {
+        [] => Ok(value.clone()?),
+        [word] => at_word(alloc, style, value, word),
+        _ => read_at(alloc, style, value, words),
     }
-    let _list = own_list(alloc, &mut own)?;
-    let indexes = indexes_of(alloc, words)?;
-    at_indexes(alloc, style, own, &indexes)
 }
 
 /// `lindex list ?index ...?`: what stands at the first index of the list, at the second index of
 /// that, and so on; nothing where there is none. Each word may be a list of indexes. The list is
-/// read first, then each of the other words as a list, and then one index after the other; without
-/// them the first word is given as it is.
+/// read first, then each of the other words as a list, and then one index after the other. Without
+/// other words, and with one that is an empty list, the first is given as it is, also where it is
+/// no list. (lindex(n))
 ///
 /// # Errors
 /// 241, 101 to 104, 114; want of memory.

@@ -17,6 +17,7 @@ use tcl_text::messages::{ALREADY_EXISTS, DENIED, TOO_LONG};
 use tcl_text::text::Text;
 use tcl_value::value::Value;
 use tcl_variables::fault::quoted;
+use tcl_variables::name::with_colons;
 use tcl_words::refusal::Refusal;
 
 /// The error of a message within the limit of a value.
@@ -129,10 +130,13 @@ pub fn invalid_command(alloc: Global, name: &str) -> Interruption
     failure_about(alloc, "invalid command name ", name)
 }
 
-/// There is no such hidden command.
+/// There is no such hidden command, or there can be none, since the name holds two colons.
 pub fn invalid_hidden(alloc: Global, name: &str) -> Interruption
     ensures { Interrupts result (λ e. e ≡ Completed (failing (faults.invalid_hidden name.now))) }
 {
+    if with_colons(name) {
+        return bad_name(alloc, name);
+    }
     failure_about(alloc, "invalid hidden command name ", name)
 }
 
@@ -155,6 +159,13 @@ pub fn bad_name(alloc: Global, name: &str) -> Interruption
     ensures { Interrupts result (λ e. e ≡ Completed (failing (faults.bad_name name.now))) }
 {
     failure_about(alloc, "bad name ", name)
+}
+
+/// There is no such procedure.
+pub fn no_procedure(alloc: Global, name: &str) -> Interruption
+    ensures { Interrupts result (λ e. e ≡ Completed (failing (faults.no_procedure name.now))) }
+{
+    failure_quoting(alloc, "", name, " isn't a procedure")
 }
 
 /// There is no such level.

@@ -3,9 +3,9 @@ use Rattle.std.specs.Prelude.{OnOk, IfErr}
 use Rattle.std.proofs.lemmas.Option.{MatchOption-at_some, MatchOption-at_none}
 use Rattle.tcl_variables.specs.Faults.{Refuses}
 use Rattle.tcl_variables.specs.Names.{is_plain}
-use Rattle.tcl_frames.specs.Places.{end_of}
+use Rattle.tcl_frames.specs.Targets.{target_or}
 use Rattle.tcl_variables.specs.Variables.{part_of}
-use Rattle.tcl_frames.specs.Reached.{start, over}
+use Rattle.tcl_frames.specs.Reached.{start}
 use Rattle.tcl_variables.specs.Written.{seen}
 use Rattle.tcl_frames.proofs.StepLemmas.{read_none, read_some}
 use Rattle.tcl_frames.proofs.LinkLemmas.{refuses_past, refuses_itself, good_from, linked_bad_other, linked_bad_local, from_nested, from_place, less_one}
@@ -25,15 +25,15 @@ returns-then-not-is_plain_name-clause-err c =
     let plain : is_plain c.args.local.now ≡ false = ap is_plain (sym c.as_str-in-Some.ensures) ∙ sym c.is_plain_name.ensures ∙ c.if-not-is_plain_name.true in
     subst (Refuses c.refused-then-not-is_plain_name.result) (sym (linked_bad_local c.args.frames.now c.args.level c.args.other.now c.args.local.now (seen c.in-Some.written) (omega arith) good plain)) c.refused-then-not-is_plain_name.ensures
 
-pub returns-then-name_passes-clause-err : goal.returns-then-name_passes-clause-err
-returns-then-name_passes-clause-err c =
+pub returns-then-ends_at-clause-err : goal.returns-then-ends_at-clause-err
+returns-then-ends_at-clause-err c =
     let fs = c.args.frames.now in
     let w = seen c.in-Some.written in
     let good = read_some c.read_name.result c.as_str.result.now c.args.other.now c.in-Some.written c.read_name.ensures c.as_str.ensures c.in-Some.is in
     let plain : is_plain c.args.local.now ≡ true = ap is_plain (sym c.as_str-in-Some.ensures) ∙ sym c.is_plain_name.ensures ∙ c.if-not-is_plain_name.false in
-    let e = good_from fs c.args.level c.args.other.now c.args.local.now w c.name_passes.result c.level_for-from.result (length fs - 1) (omega arith) good plain (less_one (length fs)) c.level_for-from.ensures c.name_passes.ensures in
-    let p = end_of fs (over (start c.level_for-from.result w.base) (part_of w.key)) in
-    refuses_itself fs c.args.level c.args.other.now c.args.local.now c.name_passes.result p e c.if-name_passes.true
+    let p = target_or (start c.level_for-from.result w.base) (part_of w.key) c.in_ok-target-in-Some.target in
+    let e = good_from fs c.args.level c.args.other.now c.args.local.now w c.ends_at.result c.level_for-from.result (length fs - 1) p (omega arith) good plain (less_one (length fs)) c.level_for-from.ensures c.in_ok-target-in-Some.ensures (c.ends_at.ensures (part_of w.key)) in
+    refuses_itself fs c.args.level c.args.other.now c.args.local.now c.ends_at.result p e c.if-ends_at.true
 
 pub returns-in-None-2-clause-err : goal.returns-in-None-2-clause-err
 returns-in-None-2-clause-err c =
@@ -41,10 +41,10 @@ returns-in-None-2-clause-err c =
     let w = seen c.in-Some.written in
     let good = read_some c.read_name.result c.as_str.result.now c.args.other.now c.in-Some.written c.read_name.ensures c.as_str.ensures c.in-Some.is in
     let plain : is_plain c.args.local.now ≡ true = ap is_plain (sym c.as_str-in-Some.ensures) ∙ sym c.is_plain_name.ensures ∙ c.if-not-is_plain_name.false in
-    let e = good_from fs c.args.level c.args.other.now c.args.local.now w c.name_passes.result c.level_for-from.result (length fs - 1) (omega arith) good plain (less_one (length fs)) c.level_for-from.ensures c.name_passes.ensures in
-    let p = end_of fs (over (start c.level_for-from.result w.base) (part_of w.key)) in
+    let p = target_or (start c.level_for-from.result w.base) (part_of w.key) c.in_ok-target-in-Some.target in
+    let e = good_from fs c.args.level c.args.other.now c.args.local.now w c.ends_at.result c.level_for-from.result (length fs - 1) p (omega arith) good plain (less_one (length fs)) c.level_for-from.ensures c.in_ok-target-in-Some.ensures (c.ends_at.ensures (part_of w.key)) in
     let nested_is = MatchOption-at_none _ _ c.in-None-2.is c.in_ok-end_place-in-Some.ensures in
-    subst (Refuses c.refused-in-None-2.result) (sym (e ∙ from_nested fs c.name_passes.result c.args.other.now c.args.local.now p c.if-name_passes.false nested_is)) c.refused-in-None-2.ensures
+    subst (Refuses c.refused-in-None-2.result) (sym (e ∙ from_nested fs c.ends_at.result c.args.other.now c.args.local.now p c.if-ends_at.false nested_is)) c.refused-in-None-2.ensures
 
 pub returns-in-Some-2-clause-ok : goal.returns-in-Some-2-clause-ok
 returns-in-Some-2-clause-ok c =
@@ -52,10 +52,10 @@ returns-in-Some-2-clause-ok c =
     let w = seen c.in-Some.written in
     let good = read_some c.read_name.result c.as_str.result.now c.args.other.now c.in-Some.written c.read_name.ensures c.as_str.ensures c.in-Some.is in
     let plain : is_plain c.args.local.now ≡ true = ap is_plain (sym c.as_str-in-Some.ensures) ∙ sym c.is_plain_name.ensures ∙ c.if-not-is_plain_name.false in
-    let e = good_from fs c.args.level c.args.other.now c.args.local.now w c.name_passes.result c.level_for-from.result (length fs - 1) (omega arith) good plain (less_one (length fs)) c.level_for-from.ensures c.name_passes.ensures in
-    let p = end_of fs (over (start c.level_for-from.result w.base) (part_of w.key)) in
+    let p = target_or (start c.level_for-from.result w.base) (part_of w.key) c.in_ok-target-in-Some.target in
+    let e = good_from fs c.args.level c.args.other.now c.args.local.now w c.ends_at.result c.level_for-from.result (length fs - 1) p (omega arith) good plain (less_one (length fs)) c.level_for-from.ensures c.in_ok-target-in-Some.ensures (c.ends_at.ensures (part_of w.key)) in
     let place_is = MatchOption-at_some _ _ c.in-Some-2.place c.in-Some-2.is c.in_ok-end_place-in-Some.ensures in
-    subst (λ z. OnOk c.link_here.result (z ≡ Ok c.link_here.new.frames)) (sym (e ∙ from_place fs c.name_passes.result c.args.other.now c.args.local.now p c.in-Some-2.place c.if-name_passes.false place_is)) c.link_here.ensures.ok
+    subst (λ z. OnOk c.link_here.result (z ≡ Ok c.link_here.new.frames)) (sym (e ∙ from_place fs c.ends_at.result c.args.other.now c.args.local.now p c.in-Some-2.place c.if-ends_at.false place_is)) c.link_here.ensures.ok
 
 pub returns-in-Some-2-clause-err : goal.returns-in-Some-2-clause-err
 returns-in-Some-2-clause-err c =
@@ -63,7 +63,7 @@ returns-in-Some-2-clause-err c =
     let w = seen c.in-Some.written in
     let good = read_some c.read_name.result c.as_str.result.now c.args.other.now c.in-Some.written c.read_name.ensures c.as_str.ensures c.in-Some.is in
     let plain : is_plain c.args.local.now ≡ true = ap is_plain (sym c.as_str-in-Some.ensures) ∙ sym c.is_plain_name.ensures ∙ c.if-not-is_plain_name.false in
-    let e = good_from fs c.args.level c.args.other.now c.args.local.now w c.name_passes.result c.level_for-from.result (length fs - 1) (omega arith) good plain (less_one (length fs)) c.level_for-from.ensures c.name_passes.ensures in
-    let p = end_of fs (over (start c.level_for-from.result w.base) (part_of w.key)) in
+    let p = target_or (start c.level_for-from.result w.base) (part_of w.key) c.in_ok-target-in-Some.target in
+    let e = good_from fs c.args.level c.args.other.now c.args.local.now w c.ends_at.result c.level_for-from.result (length fs - 1) p (omega arith) good plain (less_one (length fs)) c.level_for-from.ensures c.in_ok-target-in-Some.ensures (c.ends_at.ensures (part_of w.key)) in
     let place_is = MatchOption-at_some _ _ c.in-Some-2.place c.in-Some-2.is c.in_ok-end_place-in-Some.ensures in
-    subst (λ z. IfErr c.link_here.result (λ e. Refuses e z)) (sym (e ∙ from_place fs c.name_passes.result c.args.other.now c.args.local.now p c.in-Some-2.place c.if-name_passes.false place_is)) c.link_here.ensures.err
+    subst (λ z. IfErr c.link_here.result (λ e. Refuses e z)) (sym (e ∙ from_place fs c.ends_at.result c.args.other.now c.args.local.now p c.in-Some-2.place c.if-ends_at.false place_is)) c.link_here.ensures.err
