@@ -1,7 +1,7 @@
 -- What holds all through the program of each command: one case for each, of whatever demands have the facts that the commands need.
 use Rattle.std.proofs.Common.{◌≡◌, refl, ℕ, zero, suc, ℤ, pos, negsuc, Bool, true, false, not, ◌&&◌, ◌||◌, List, [], ◌∷◌, ◌++◌, Option, Some, None, is_some, Result, Ok, Err, codes, ◌==◌, ◌+ℤ◌, nat_le, length}
 use Rattle.std.specs.Fmt.{decimal}
-use Rattle.std.specs.Map.{lookup}
+use Rattle.std.specs.Map.{keys_of, lookup}
 use Rattle.std.specs.Str.{bytes_eq}
 use Rattle.tcl_core.specs.Endings.{Completion, ok}
 use Rattle.tcl_core.specs.Entries.{Entry, HostReply, Question, Said}
@@ -22,12 +22,15 @@ use Rattle.tcl_expression_evaluation.specs.Computations.{Computation, computatio
 use Rattle.tcl_flow.specs.OptionReading.{return_of}
 use Rattle.tcl_flow.specs.Returning.{options_message}
 use Rattle.tcl_format.specs.Filling.{format_of}
-use Rattle.tcl_frames.specs.Chain.{Chain, after_link, after_set, after_unset, exists_at, read, words_at}
-use Rattle.tcl_frames.specs.Places.{current}
+use Rattle.tcl_frames.specs.Arrays.{after_set_elements, after_unset_elements, is_found, of_elements}
+use Rattle.tcl_frames.specs.Chain.{Chain, array_at, after_link, after_set, after_unset, exists_at, read, words_at}
+use Rattle.tcl_frames.specs.Places.{Levels, current}
 use Rattle.tcl_frames.specs.declared.scope.Scope.{Scope}
 use Rattle.tcl_frames.specs.declared.scope.Scope.TheVariants.{Global, Local, Visible}
 use Rattle.tcl_language.proofs.Everywhere.{Demands, Everywhere, Goes}
 use Rattle.tcl_language.proofs.Facts.{AsksHost, Facts, Names, Served, Trusted, is_open}
+use Rattle.tcl_language.specs.Changes as changes
+use Rattle.tcl_language.specs.Arrays as arrays
 use Rattle.tcl_language.specs.Control as control
 use Rattle.tcl_language.specs.Data as collections
 use Rattle.tcl_language.specs.Definitions as definitions
@@ -36,11 +39,12 @@ use Rattle.tcl_language.specs.Expressions.{Branches}
 use Rattle.tcl_language.specs.Faults.{bad_name, frame_message, integer_message, invalid_command, invalid_hidden}
 use Rattle.tcl_language.specs.Hosting as hosting
 use Rattle.tcl_language.specs.Inspection as inspection
-use Rattle.tcl_language.specs.Instructions.{Instr, Open, Program, Walk, at_node, change, either, fails, fits, grown, look, on_code, on_ok, or_fails}
+use Rattle.tcl_language.specs.Instructions.{Instr, Open, Program, Walk, at_node, change, either, fails, fits, gives, grown, look, on_code, on_ok, or_fails}
 use Rattle.tcl_language.specs.Instructions.Instr.{Call, Commands, Expression, For, Foreach, Hidden, Invoke, Parts, Script, Serve, Target, While, Words}
 use Rattle.tcl_language.specs.Interpreters as interpreters
 use Rattle.tcl_language.specs.Names.{is_name}
-use Rattle.tcl_language.specs.Naming.{Named, command_name, removed, renamed}
+use Rattle.tcl_language.specs.Naming.{Named, command_name, definable, removed, renamed}
+use Rattle.tcl_language.specs.Procedures as procedures
 use Rattle.tcl_language.specs.Safety.{is_host}
 use Rattle.tcl_language.specs.Scripts as scripts
 use Rattle.tcl_language.specs.Table as table
@@ -48,13 +52,17 @@ use Rattle.tcl_language.specs.Variables as variables
 use Rattle.tcl_language.specs.Words.{concat, is_level}
 use Rattle.tcl_list_texts.specs.Joining.{concat_of, join_of}
 use Rattle.tcl_list_texts.specs.Splitting.{split_of}
-use Rattle.tcl_lists.specs.Lists.{lappend_of, lassign_rest, lindex_of, linsert_of, llength_of, lrange_of, lrepeat_of, lreplace_of, lreverse_of}
+use Rattle.tcl_dicts.specs.Changing as dict_changing
+use Rattle.tcl_lists.specs.Changing.{lset_of}
+use Rattle.tcl_lists.specs.Lists.{first_middle_last, two_and_rest, lappend_of, lassign_rest, lindex_of, linsert_of, llength_of, lrange_of, lrepeat_of, lreplace_of, lreverse_of}
 use Rattle.tcl_operators.specs.Apply.{truth}
 use Rattle.tcl_operators.specs.Messages as operators
 use Rattle.tcl_parser.specs.Words.{WordRead}
 use Rattle.tcl_parser.specs.declared.fault.Fault.{Fault}
 use Rattle.tcl_parser.specs.declared.script.Part.{Part}
 use Rattle.tcl_parser.specs.declared.script.Part.TheVariants as part
+use Rattle.tcl_search_and_sort.specs.Searching.{lsearch_of}
+use Rattle.tcl_search_and_sort.specs.Computed.{lsort_of}
 use Rattle.tcl_strings.specs.Subcommands.{string_of}
 use Rattle.tcl_text.specs.Lists.{list_of}
 use Rattle.tcl_text.specs.Numbers.{fits_64, in_64_bits, integer_of}
@@ -67,9 +75,11 @@ use Rattle.tcl_interpreter.specs.declared.builtin.Builtin.TheVariants as name
 use Rattle.tcl_interpreter.specs.declared.command.Command.{Command}
 use Rattle.tcl_interpreter.specs.declared.command.Command.TheVariants as command
 use Rattle.tcl_interpreter.specs.declared.parameter.Parameter.{Parameter}
+use Rattle.tcl_variables.specs.Arrays.{taken}
 use Rattle.tcl_variables.specs.Names.{is_plain, name_of}
 use Rattle.tcl_variables.specs.declared.fault.FrameFault.{FrameFault}
 use Rattle.tcl_variables.specs.declared.fault.FrameFault.TheVariants as frame_fault
+use Rattle.tcl_words.specs.Arguments.{two_or_three_words}
 use Rattle.tcl_words.specs.Outcomes.{Outcome}
 
 module _ (P : Demands) (F : Facts P) where
@@ -271,6 +281,10 @@ module _ (P : Demands) (F : Facts P) where
   error_ends (a ∷ b ∷ c ∷ []) = tt
   error_ends _ = tt
 
+  throw : (args : List Text) → Holds (control.throw args)
+  throw (kind ∷ message ∷ []) = tt
+  throw _ = tt
+
   returns : (style : Integers) (words : List Text) → Holds (control.returns style words)
   returns style words = by_result options_message (return_of style words) _ (λ c. tt)
 
@@ -417,6 +431,44 @@ module _ (P : Demands) (F : Facts P) where
   by_word : (word other : Text) (x y : Program) → Holds x → Holds y → Holds (either (bytes_eq word other) x y)
   by_word word other x y f g = by_either (bytes_eq word other) x y f g
 
+  by_procedure : (word : Text) (k : ProcedureView → Program) → ((p : ProcedureView) → Holds (k p)) → Holds (procedures.with_procedure word k)
+  by_procedure word k f = by_look _ (λ n o. by_result (λ message. message) (procedures.procedure_of n.own word) k f)
+
+  info_args : (args : List Text) → Holds (procedures.args_of args)
+  info_args (name ∷ []) = by_procedure name _ (λ p. tt)
+  info_args _ = tt
+
+  info_body : (args : List Text) → Holds (procedures.body_of args)
+  info_body (name ∷ []) = by_procedure name _ (λ p. tt)
+  info_body _ = tt
+
+  tells_default : (name variable : Text) (o : Option (Option Text)) → Holds (procedures.tells_default name variable o)
+  tells_default name variable None = tt
+  tells_default name variable (Some None) = by_sets variable [] _ tt
+  tells_default name variable (Some (Some text)) = by_sets variable text _ tt
+
+  info_default : (args : List Text) → Holds (procedures.default_of args)
+  info_default (name ∷ parameter ∷ variable ∷ []) = by_procedure name _ (λ p. tells_default parameter variable (procedures.default_in parameter p.parameters))
+  info_default _ = tt
+
+  command_names : (b : Bool) (form : Text) (args : List Text) → Holds (procedures.names b form args)
+  command_names b form [] = by_look _ (λ n o. tt)
+  command_names b form (pattern ∷ []) = by_look _ (λ n o. tt)
+  command_names b form _ = tt
+
+  info_complete : (args : List Text) → Holds (procedures.complete args)
+  info_complete (text ∷ []) = tt
+  info_complete _ = tt
+
+  told_of_commands : (word : Text) (args : List Text) → Holds (procedures.chosen word args)
+  told_of_commands word args =
+      by_word word (codes "args") _ _ (info_args args)
+      (by_word word (codes "body") _ _ (info_body args)
+      (by_word word (codes "default") _ _ (info_default args)
+      (by_word word (codes "commands") _ _ (command_names false (codes "info commands ?pattern?") args)
+      (by_word word (codes "procs") _ _ (command_names true (codes "info procs ?pattern?") args)
+      (by_word word (codes "complete") _ _ (info_complete args) tt)))))
+
   info : (style : Integers) (args : List Text) → Holds (inspection.info style args)
   info style [] = tt
   info style (word ∷ args) =
@@ -425,7 +477,87 @@ module _ (P : Demands) (F : Facts P) where
       (by_word word (codes "vars") _ _ (names Visible (codes "info vars ?pattern?") args)
       (by_word word (codes "globals") _ _ (names Global (codes "info globals ?pattern?") args)
       (by_word word (codes "locals") _ _ (names Local (codes "info locals ?pattern?") args)
-      (by_word word (codes "level") _ _ (info_level style args) tt)))))
+      (by_word word (codes "level") _ _ (info_level style args) (told_of_commands word args))))))
+
+  -- ## Arrays
+
+  by_variables : {A : Type 0} (read : Levels → Result A FrameFault) (k : A → Program) → ((a : A) → Holds (k a)) → Holds (arrays.reads read k)
+  by_variables read k f = by_look _ (λ n o. by_result frame_message (read n.own.chain.frames) k f)
+
+  by_pattern : (form : Text) (o : Option (Text × Option Text)) (k : Text → Option Text → Program) → ((name : Text) (pattern : Option Text) → Holds (k name pattern)) → Holds (arrays.with_words form o k)
+  by_pattern form None k f = tt
+  by_pattern form (Some ws) k f = f ws.0 ws.1
+
+  array_exists : (args : List Text) → Holds (arrays.exists args)
+  array_exists (name ∷ []) = by_variables (λ fs. is_found (array_at fs name)) inspection.answer (λ b. tt)
+  array_exists _ = tt
+
+  array_size : (args : List Text) → Holds (arrays.size args)
+  array_size (name ∷ []) = by_variables (λ fs. of_elements length (array_at fs name)) _ (λ count. tt)
+  array_size _ = tt
+
+  array_get : (args : List Text) → Holds (arrays.get args)
+  array_get args = by_pattern (codes "array get arrayName ?pattern?") (arrays.name_and_pattern args) arrays.pairs_listed
+      (λ name pattern. by_variables (λ fs. of_elements (taken pattern) (array_at fs name)) (λ es. gives (written_list (arrays.in_turn es))) (λ es. tt))
+
+  array_names : (args : List Text) → Holds (arrays.names args)
+  array_names args = by_pattern (codes "array names arrayName ?pattern?") (arrays.name_and_pattern args) arrays.keys_listed
+      (λ name pattern. by_variables (λ fs. of_elements (λ es. keys_of (taken pattern es)) (array_at fs name)) (λ keys. gives (written_list keys)) (λ keys. tt))
+
+  array_unset : (args : List Text) → Holds (arrays.unset args)
+  array_unset args = by_pattern (codes "array unset arrayName ?pattern?") (arrays.name_and_pattern args) arrays.unsets (λ name pattern. by_look _ (λ n o. by_chain n.own (after_unset_elements n.own.chain name pattern) _ o tt))
+
+  sets_list : (name list : Text) → Holds (arrays.sets_list name list)
+  sets_list name list = by_result fault_message (list_of list) _ (λ ws. by_either (variables.is_odd ws) _ _ tt (by_look _ (λ n o. by_chain n.own (after_set_elements n.own.chain name (arrays.in_pairs ws)) _ o tt)))
+
+  array_set : (args : List Text) → Holds (arrays.set args)
+  array_set (name ∷ list ∷ []) = by_variables (λ fs. is_found (array_at fs name)) _ (λ found. sets_list name list)
+  array_set _ = tt
+
+  array : (args : List Text) → Holds (arrays.array args)
+  array [] = tt
+  array (word ∷ args) =
+      by_word word (codes "exists") _ _ (array_exists args)
+      (by_word word (codes "get") _ _ (array_get args)
+      (by_word word (codes "names") _ _ (array_names args)
+      (by_word word (codes "set") _ _ (array_set args)
+      (by_word word (codes "size") _ _ (array_size args)
+      (by_word word (codes "unset") _ _ (array_unset args) tt)))))
+
+  -- ## Changes
+
+  by_change : (makes : Bool) (name : Text) (change : Text → Outcome) → Holds (changes.changes makes name change)
+  by_change makes name change = by_look _ (λ n o. by_result frame_message (changes.or_empty makes (read n.own.chain.frames name)) _ (λ old. by_given (change old) _ (λ new. by_sets name new _ tt)))
+
+  by_args : {A : Type 0} (r : Result A Text) (k : A → Program) → ((a : A) → Holds (k a)) → Holds (changes.with_words r k)
+  by_args r k f = by_result (λ message. message) r k f
+
+  lset : (style : Integers) (args : List Text) → Holds (changes.lset style args)
+  lset style args = by_args (first_middle_last (codes "lset varName ?index ...? newValue") args) _ (λ p. by_change false p.0 (λ old. lset_of style old p.1 p.2))
+
+  dict_set : (style : Integers) (args : List Text) → Holds (changes.dict_set style args)
+  dict_set style args = by_args (dict_changing.set_words_of args) _ (λ p. by_change true p.0 (λ old. dict_changing.set_of old p.1 p.2))
+
+  dict_unset : (style : Integers) (args : List Text) → Holds (changes.dict_unset style args)
+  dict_unset style args = by_args (first_middle_last (codes "dict unset varName key ?key ...?") args) _ (λ p. by_change true p.0 (λ old. dict_changing.unset_of old p.1 p.2))
+
+  dict_incr : (style : Integers) (args : List Text) → Holds (changes.dict_incr style args)
+  dict_incr style args = by_args (two_or_three_words (codes "dict incr varName key ?increment?") args) _ (λ p. by_change true p.0 (λ old. dict_changing.incr_of style old p.1 p.2))
+
+  dict_append : (style : Integers) (args : List Text) → Holds (changes.dict_append style args)
+  dict_append style args = by_args (two_and_rest (codes "dict append varName key ?string ...?") args) _ (λ p. by_change true p.0 (λ old. dict_changing.append_of old p.1 p.2))
+
+  dict_lappend : (style : Integers) (args : List Text) → Holds (changes.dict_lappend style args)
+  dict_lappend style args = by_args (two_and_rest (codes "dict lappend varName key ?value ...?") args) _ (λ p. by_change true p.0 (λ old. dict_changing.lappend_of old p.1 p.2))
+
+  dict_or_change : (style : Integers) (args : List Text) → Holds (changes.dict style args)
+  dict_or_change style [] = dict []
+  dict_or_change style (word ∷ args) =
+      by_word word (codes "set") _ _ (dict_set style args)
+      (by_word word (codes "unset") _ _ (dict_unset style args)
+      (by_word word (codes "incr") _ _ (dict_incr style args)
+      (by_word word (codes "append") _ _ (dict_append style args)
+      (by_word word (codes "lappend") _ _ (dict_lappend style args) (dict (word ∷ args))))))
 
   -- ## The host
 
@@ -539,7 +671,7 @@ module _ (P : Demands) (F : Facts P) where
       (by_either (interpreters.is_depth_limit limit) (act (LimitDepth limit) (λ T. done (ok (decimal limit)))) (fails (codes "recursion limit must be between 1 and 1000")) (f, λ T s. tt) tt))
 
   answers : (q : Question) → Holds (interpreters.answers q)
-  answers q = by_look _ (λ n o. tt)
+  answers q = by_look _ (λ n o. by_result (λ message. message) (interpreters.answer q n) _ (λ text. tt))
 
   by_renaming : (k : Program) (f : Own → Named) → ((own : Own) → P.own own → Names P (f own)) → Holds k → Holds (interpreters.renaming k f)
   by_renaming k f h g = by_look (λ n. or_fails interpreters.refused_text (f n.own) (λ own. change own k)) (λ n o. by_named (f n.own) (h n.own o))
@@ -790,7 +922,8 @@ module _ (P : Demands) (F : Facts P) where
   by_parameters (text ∷ texts) before k f = by_result fault_message (list_of text) _ (λ ws. by_parameter text ws before _ (λ more. by_parameters texts more k f))
 
   proc : (args : List Text) → Holds (definitions.proc args)
-  proc (name ∷ args ∷ body ∷ []) = by_result fault_message (list_of args) _ (λ texts. by_parameters texts [] _ (λ ps. by_renaming interpreters.done_so _ (λ own o. F.owns.procedure own name _ o) tt))
+  proc (name ∷ args ∷ body ∷ []) = by_look _ (λ n o. by_result interpreters.refused_text (definable n.own name) _ (λ plain.
+      by_result fault_message (list_of args) _ (λ texts. by_parameters texts [] _ (λ ps. by_renaming interpreters.done_so _ (λ own o. F.owns.procedure own name _ o) tt))))
   proc _ = tt
 
   deletes_child : (o : Option Text) → Holds (definitions.deletes_child o)
@@ -814,6 +947,7 @@ module _ (P : Demands) (F : Facts P) where
   builtin style name.Unset word args h = unset args
   builtin style name.Incr word args h = incr style args
   builtin style name.Append word args h = append args
+  builtin style name.Array word args h = array args
   builtin style name.Global word args h = global args
   builtin style name.Upvar word args h = upvar style args
   builtin style name.Uplevel word args h = uplevel style args
@@ -843,7 +977,11 @@ module _ (P : Demands) (F : Facts P) where
   builtin style name.Format word args h = by_answer (format_of style args)
   builtin style name.Lappend word args h = lappend args
   builtin style name.Lassign word args h = lassign args
-  builtin style name.Dict word args h = dict args
+  builtin style name.Dict word args h = dict_or_change style args
+  builtin style name.Lset word args h = lset style args
+  builtin style name.Lsearch word args h = by_answer (lsearch_of args)
+  builtin style name.Lsort word args h = by_answer (lsort_of style args)
+  builtin style name.Throw word args h = throw args
   builtin style name.Info word args h = info style args
   builtin style name.Proc word args h = proc args
   builtin style name.Rename word args h = rename args

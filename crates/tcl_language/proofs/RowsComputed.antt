@@ -3,9 +3,10 @@ use Rattle.std.proofs.Common.{refl}
 use Rattle.std.specs.Char.{encode_utf8}
 use Rattle.std.specs.Fmt.{digits}
 use Rattle.std.specs.Str.{chars}
+use Rattle.tcl_frames.specs.Arrays.{elements_set, elements_unset}
 use Rattle.tcl_frames.specs.Chain.{place_named, read, exists_at, bind, unbind, written, made_array, removed, linked, names_held, names_own, variables_at, names_of, array_at, words_at, popped, set_aside, brought_back}
 use Rattle.tcl_variables.specs.Names.{closed, opened, element_of, colons_after, after_colon, after_colons, name_of, is_plain}
-use Rattle.tcl_frames.specs.Places.{bound, next, walk, passes, links_in, links, end_of}
+use Rattle.tcl_frames.specs.Places.{bound, next, walk, links_in, links, end_of}
 use Rattle.tcl_parser.specs.Reading.{joined, after_white, after_gap, in_braces, after_name, read_parts, read_words, read_commands, after_script}
 use Rattle.tcl_parser.specs.Several.{several}
 use Rattle.tcl_text.specs.Backslash.{number_len, escape}
@@ -20,7 +21,7 @@ use Rattle.tcl_language.specs.Language.{ProgramsCall, language_with}
 use Rattle.tcl_language.specs.Rows.{AreRows}
 
 pub rows : (calls : ProgramsCall) → AreRows (language_with calls)
-unfolding encode_utf8 digits chars place_named read exists_at bind unbind written made_array removed linked names_held names_own variables_at names_of array_at words_at popped set_aside brought_back closed opened element_of colons_after after_colon after_colons name_of is_plain bound next walk passes links_in links end_of joined after_white after_gap in_braces after_name read_parts read_words read_commands after_script several number_len escape count_all close_brace units element_at elements writing.written power after_word after_parts tokens_from grammar.depth grammar.settle grammar.step grammar.run computes arguments
+unfolding encode_utf8 digits chars place_named read exists_at bind unbind written made_array removed linked names_held names_own variables_at names_of array_at words_at popped set_aside brought_back closed opened element_of colons_after after_colon after_colons name_of is_plain bound next walk links_in links end_of joined after_white after_gap in_braces after_name read_parts read_words read_commands after_script several number_len escape count_all close_brace units element_at elements writing.written power after_word after_parts tokens_from grammar.depth grammar.settle grammar.step grammar.run computes arguments elements_set elements_unset
 rows calls = record {
   empty = refl;
   list = refl;
@@ -133,5 +134,26 @@ rows calls = record {
   dict_built = refl;
   missing_key = refl;
   other_subcommand = refl;
+  lset = refl;
+  lset_refused = refl;
+  dict_changed = refl;
+  dict_summed = refl;
+  dict_grown = refl;
+  lsort = refl;
+  lsearch = refl;
+  thrown = refl;
+  lsort_by_style = refl;
   decimal_ten = refl;
+  array = refl;
+  array_patterns = refl;
+  no_array = refl;
+  empty_array = refl;
+  odd_elements = refl;
+  no_elements = refl;
+  info_args = refl;
+  info_default = refl;
+  no_default = refl;
+  no_procedure = refl;
+  info_commands = refl;
+  info_complete = refl;
 }

@@ -110,6 +110,11 @@ error (message ∷ info ∷ []) = error_with message (codes "NONE")
 error (message ∷ info ∷ errorcode ∷ []) = error_with message errorcode
 error _ = fails (wrong_args (codes "error message ?errorInfo? ?errorCode?"))
 
+-- `throw type message`: an error of this kind, which is not looked at
+abbrev pub throw : List Text → Program
+throw (kind ∷ message ∷ []) = error_with message kind
+throw _ = fails (wrong_args (codes "throw type message"))
+
 -- `return ?option value ...? ?result?`
 abbrev pub returns : Integers → List Text → Program
 returns style words = or_fails options_message (return_of style words) done

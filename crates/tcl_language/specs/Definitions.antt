@@ -8,13 +8,13 @@ use Rattle.tcl_variables.specs.Names.{is_plain}
 use Rattle.tcl_text.specs.Lists.{list_of}
 use Rattle.tcl_text.specs.Writing.{written_list, fault_message}
 use Rattle.tcl_tree.specs.Changes.{is_child}
-use Rattle.tcl_language.specs.Naming.{command_name, named, renamed, removed}
+use Rattle.tcl_language.specs.Naming.{command_name, definable, named, renamed, removed}
 use Rattle.tcl_tree.specs.Own.{Own, command_in}
 use Rattle.tcl_interpreter.specs.declared.command.Command.TheVariants as command
 use Rattle.tcl_interpreter.specs.declared.parameter.Parameter.{Parameter}
 use Rattle.tcl_language.specs.Instructions.{Program, either, fails, or_fails, look}
 use Rattle.tcl_language.specs.Faults.{wrong_args, bad_name}
-use Rattle.tcl_language.specs.Interpreters.{renaming, done_so, delete}
+use Rattle.tcl_language.specs.Interpreters.{refused_text, renaming, done_so, delete}
 
 -- whether a parameter has the name
 abbrev pub has_name : Text → List Parameter → Bool
@@ -41,12 +41,13 @@ parameters [] before k = k before
 parameters (text ∷ texts) before k = or_fails fault_message (list_of text)
     (λ words. parameter text words before (λ more. parameters texts more k))
 
--- `proc name args body`
+-- `proc name args body`: the name is looked at before the parameters
 abbrev pub proc : List Text → Program
-proc (name ∷ args ∷ body ∷ []) = or_fails fault_message (list_of args)
-    (λ texts. parameters texts [] (λ ps.
+proc (name ∷ args ∷ body ∷ []) = look (λ n. or_fails refused_text (definable n.own name) (λ plain.
+    or_fails fault_message (list_of args) (λ texts.
+    parameters texts [] (λ ps.
     renaming done_so (λ own. named own name
-    (command.Procedure (record { parameters = ps; body = body })))))
+    (command.Procedure (record { parameters = ps; body = body })))))))
 proc _ = fails (wrong_args (codes "proc name args body"))
 
 abbrev pub child_named : Own → Option Text → Bool

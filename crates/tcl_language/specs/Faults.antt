@@ -1,7 +1,8 @@
 -- The texts of errors.
-use Rattle.std.specs.Prelude.{[], codes}
+use Rattle.std.specs.Prelude.{[], codes, cond}
 use Rattle.tcl_core.specs.Paths.{Text}
 use Rattle.tcl_variables.specs.Messages.{message, quoted}
+use Rattle.tcl_variables.specs.Names.{has_colons}
 use Rattle.tcl_variables.specs.declared.fault.FrameFault.{FrameFault}
 use Rattle.tcl_text.specs.declared.integer.IntegerFault.{IntegerFault}
 use Rattle.tcl_text.specs.declared.integer.IntegerFault.TheVariants.{NotInteger, TooLarge}
@@ -15,11 +16,16 @@ bad_name x = quoted (codes "bad name ") x []
 abbrev pub invalid_command : Text → Text
 invalid_command x = quoted (codes "invalid command name ") x []
 
+-- no hidden command has the name; one that holds two colons can't be such a name
 abbrev pub invalid_hidden : Text → Text
-invalid_hidden x = quoted (codes "invalid hidden command name ") x []
+invalid_hidden x = cond (has_colons x) (bad_name x)
+    (quoted (codes "invalid hidden command name ") x [])
 
 abbrev pub lost_alias : Text → Text
 lost_alias x = quoted (codes "could not find the target of alias ") x []
+
+abbrev pub no_procedure : Text → Text
+no_procedure x = quoted [] x (codes " isn't a procedure")
 
 abbrev pub wrong_args : Text → Text
 wrong_args form = quoted (codes "wrong # args: should be ") form []

@@ -16,7 +16,8 @@ use Rattle.tcl_text.specs.declared.integer.Integers.{Integers}
 use Rattle.tcl_text.specs.Writing.{written_list}
 use Rattle.tcl_tree.specs.Own.{Own}
 use Rattle.tcl_language.specs.Instructions.{Program, either, fails, gives, or_fails, look}
-use Rattle.tcl_language.specs.Faults.{frame_message, wrong_args, unknown_subcommand, bad_level}
+use Rattle.tcl_language.specs.Faults.{frame_message, wrong_args, bad_level}
+use Rattle.tcl_language.specs.Procedures as procedures
 use Rattle.tcl_language.specs.Variables.{integer}
 
 -- the names that have the form of a pattern
@@ -76,7 +77,7 @@ chosen style word args =
     (either (bytes_eq word (codes "globals")) (names Global (codes "info globals ?pattern?") args)
     (either (bytes_eq word (codes "locals")) (names Local (codes "info locals ?pattern?") args)
     (either (bytes_eq word (codes "level")) (level style args)
-    (fails (unknown_subcommand word)))))))
+    (procedures.chosen word args))))))
 
 -- `info subcommand ?arg ...?`
 abbrev pub info : Integers → List Text → Program

@@ -2,7 +2,7 @@
 -- names downward from the one that asks.
 use Rattle.std.specs.Prelude.{ℕ, zero, suc, ℤ, pos, negsuc, Bool, true, false, ◌&&◌, ◌||◌, List, []}
 use Rattle.std.specs.Prelude.{◌∷◌, ◌++◌, Option, Some, None, is_some, not, codes, ◌-◌, ◌==◌, nat_le}
-use Rattle.std.specs.Prelude.{length, drop}
+use Rattle.std.specs.Prelude.{length, drop, Result, Ok, Err}
 use Rattle.std.specs.Fmt.{decimal}
 use Rattle.std.specs.Str.{bytes_eq}
 use Rattle.std.specs.Map.{lookup}
@@ -21,9 +21,10 @@ use Rattle.tcl_text.specs.declared.integer.Integers.{Integers}
 use Rattle.tcl_text.specs.Lists.{list_of}
 use Rattle.tcl_text.specs.Writing.{written_list, fault_message}
 use Rattle.tcl_text.specs.Messages as messages
-use Rattle.tcl_tree.specs.Own.{Own, CommandMap, new_own, with_new_child, without_old_child}
+use Rattle.tcl_tree.specs.Own.{Own, CommandMap, command_in, new_own, with_new_child}
+use Rattle.tcl_tree.specs.Own.{without_old_child}
 use Rattle.tcl_tree.specs.Commands.{AliasView}
-use Rattle.tcl_language.specs.Naming.{Named, named, cleared, hidden_as, exposed_as}
+use Rattle.tcl_language.specs.Naming.{Named, command_name, named, cleared, hidden_as, exposed_as}
 use Rattle.tcl_interpreter.specs.declared.refusal.TreeError.{TreeError}
 use Rattle.tcl_interpreter.specs.declared.refusal.TreeError.TheVariants as refusal
 use Rattle.tcl_interpreter.specs.declared.command.Command.{Command}
@@ -182,18 +183,24 @@ abbrev pub bit : Bool → Text
 bit true = codes "1"
 bit false = codes "0"
 
-abbrev pub answer : Question → Node Own → Text
-answer Exists n = bit true
-answer IsSafe n = bit n.safe
-answer Aliases n = written_list (aliases_in n.own.commands)
-answer (AliasOf name) n = written_list (alias_words (lookup (bytes_eq name) n.own.commands))
-answer HiddenNames n = written_list (names_in n.own.hidden)
-answer Slaves n = written_list n.own.children
-answer CountLimitOf n = written_list (codes "-value" ∷ limit_text n.limit ∷ [])
-answer DepthLimitOf n = decimal n.depth_limit
+-- the words of the alias that is kept by a name, or the error that no command has such a name
+abbrev pub alias_kept : Option Text → Text → Own → Result Text Text
+alias_kept None word own = Err (bad_name word)
+alias_kept (Some plain) word own = Ok (written_list (alias_words (command_in own plain)))
+
+-- what is answered to a question, or the error that it is
+abbrev pub answer : Question → Node Own → Result Text Text
+answer Exists n = Ok (bit true)
+answer IsSafe n = Ok (bit n.safe)
+answer Aliases n = Ok (written_list (aliases_in n.own.commands))
+answer (AliasOf name) n = alias_kept (command_name name) name n.own
+answer HiddenNames n = Ok (written_list (names_in n.own.hidden))
+answer Slaves n = Ok (written_list n.own.children)
+answer CountLimitOf n = Ok (written_list (codes "-value" ∷ limit_text n.limit ∷ []))
+answer DepthLimitOf n = Ok (decimal n.depth_limit)
 
 abbrev pub answers : Question → Program
-answers question = look (λ n. gives (answer question n))
+answers question = look (λ n. or_fails (λ message. message) (answer question n) gives)
 
 -- ## What is done to an interpreter's commands
 

@@ -1,4 +1,6 @@
+pub mod Arrays
 pub mod Branching
+pub mod Changes
 pub mod Control
 pub mod Data
 pub mod Definitions
@@ -12,6 +14,7 @@ pub mod Language
 pub mod Names
 pub mod Naming
 pub mod Playing
+pub mod Procedures
 pub mod Rows
 pub mod Safety
 pub mod Scripts

@@ -50,6 +50,14 @@ abbrev pub named : Own → Text → Command → Named
 named own x c = by_name (command_name x) x
     (λ plain. keeps_child (command_in own plain) x (Ok (with_command plain c own)))
 
+-- the name by which a procedure may be kept: one of a command, and no child's
+abbrev pub definable_as : Own → Text → Option Text → Result Text (TreeError × Text)
+definable_as own x None = Err (BadName, x)
+definable_as own x (Some plain) = cond (is_child (command_in own plain)) (Err (Exists, x)) (Ok plain)
+
+abbrev pub definable : Own → Text → Result Text (TreeError × Text)
+definable own x = definable_as own x (command_name x)
+
 abbrev pub clears : Own → Text → Text → Option Command → Named
 clears own plain x (Some (command.Alias a)) = Ok (without_command plain own)
 clears own plain x o = Err (NoCommand, x)

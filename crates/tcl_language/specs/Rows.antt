@@ -224,6 +224,53 @@ module _ (language : Integers → Table Own Instr) where
     pub dict_built : Gives (codes "set d [dict create a 1 b 2 a 3]; list $d [dict exists $d b] [dict exists $d c] [dict replace $d c 4] [dict remove $d a]") (codes "{a 3 b 2} 1 0 {a 3 b 2 c 4} {b 2}")
     pub missing_key : Fails (codes "dict get {a 1} b") (codes "key \"b\" not known in dictionary")
     pub other_subcommand : Fails (codes "dict nosuch") (codes "unknown subcommand \"nosuch\"")
+    pub lset : Gives (codes "set l {a {b c}}; lset l 1 0 z; set l") (codes "a {z c}")
+    pub lset_refused : Gives (codes
+        "set l {a b}; list [lset l 2 c] [catch {lset l 4 x} m] $m $l [catch {lset n 0 x} m] $m")
+        (codes "{a b c} 1 {list index out of range} {a b c} 1 {can't read \"n\": no such variable}")
+    pub dict_changed : Gives (codes
+        "set d [dict create a 1 b 2 a 3]; dict set d c 4; dict unset d a; set d")
+        (codes "b 2 c 4")
+    pub dict_summed : Gives (codes
+        "list [dict incr d k] [dict incr d k 4] [catch {dict incr d k x} m] $d")
+        (codes "{k 1} {k 5} 1 {k 5}")
+    pub dict_grown : Gives (codes "dict append d a x y; dict lappend d l p {q r}; set d")
+        (codes "a xy l {p {q r}}")
+    pub lsort : Gives (codes "list [lsort -integer -unique {3 0x3 1 03 2}] [lsort -decreasing {b a B}]")
+        (codes "{1 2 03} {b a B}")
+    pub lsearch : Gives (codes "list [lsearch -all -inline {ab b ac} a*] [lsearch {a b} c]")
+        (codes "{ab ac} -1")
+    pub thrown : Gives (codes "list [catch {throw {A B} msg} m o] $m $o")
+        (codes "1 msg {-code 1 -level 0 -errorcode {A B}}")
+    pub lsort_by_style : Gives9 (codes "lsort -integer {010 9 0o11}") (codes "9 0o11 010")
     pub decimal_ten : Gives9 (codes
         "list [expr {010 + 1}] [expr {08 + 1}] [expr {0o10 + 1}] [lindex {a b c} 01]")
         (codes "11 9 9 b")
+    pub array : Gives (codes
+        "array set t {x 1 y 2}; set t(z) 3; unset t(x); set t(x) 4; array get t")
+        (codes "y 2 z 3 x 4")
+    pub array_patterns : Gives (codes "array set t {ab 1 c 2 ad 3}; list [array names t] [array names t a*] [array get t c] [array unset t a?] [array size t]") (codes "{ab c ad} {ab ad} {c 2} {} 1")
+    pub no_array : Gives (codes
+        "set s 1; list [array exists s] [array get s] [array names s] [array size s] $s")
+        (codes "0 {} {} 0 1")
+    pub empty_array : Gives (codes
+        "array set e {}; list [array exists e] [array size e] [array unset e] [array exists e]")
+        (codes "1 0 {} 0")
+    pub odd_elements : Gives (codes
+        "list [catch {array set t {a 1 b}} m] $m [array exists t]")
+        (codes "1 {missing value to go with key} 0")
+    pub no_elements : Gives (codes
+        "set s 1; list [catch {array set s {k 2}} m] $m [catch {array set s {}} m] $m")
+        (codes "1 {can't set \"s(k)\": variable isn't array} 1 {can't set \"s\": variable isn't array}")
+    pub info_args : Gives (codes
+        "proc f {a {b 2} args} {list $a $b}; list [info args f] [info body f]")
+        (codes "{a b args} {list $a $b}")
+    pub info_default : Gives (codes
+        "proc f {a {b 2}} {}; list [info default f b x] $x [info default ::f a x] $x")
+        (codes "1 2 0 {}")
+    pub no_default : Fails (codes "proc f a {}; info default f b x") (codes "bad name \"b\"")
+    pub no_procedure : Fails (codes "info args set") (codes "\"set\" isn't a procedure")
+    pub info_commands : Gives (codes "interp hide {} lset; proc lf {} {}; list [info commands l*] [info procs]") (codes "{lappend lmap list llength lindex lrange linsert lreplace lassign lrepeat lreverse lsearch lsort lf} lf")
+    pub info_complete : Gives (codes
+        "list [info complete {list a}] [info complete \\{] [info complete \"{a}b\"]")
+        (codes "1 0 1")

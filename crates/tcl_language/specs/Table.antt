@@ -26,10 +26,14 @@ use Rattle.tcl_lists.specs.Lists.{lindex_of, linsert_of, llength_of, lrange_of, 
 use Rattle.tcl_lists.specs.Lists.{lreplace_of, lreverse_of}
 use Rattle.tcl_list_texts.specs.Joining.{concat_of, join_of}
 use Rattle.tcl_list_texts.specs.Splitting.{split_of}
+use Rattle.tcl_search_and_sort.specs.Searching.{lsearch_of}
+use Rattle.tcl_search_and_sort.specs.Computed.{lsort_of}
 use Rattle.tcl_strings.specs.Subcommands.{string_of}
 use Rattle.tcl_format.specs.Filling.{format_of}
+use Rattle.tcl_language.specs.Arrays as arrays
 use Rattle.tcl_language.specs.Scripts as scripts
 use Rattle.tcl_language.specs.Data as collections
+use Rattle.tcl_language.specs.Changes as changes
 use Rattle.tcl_language.specs.Variables as variables
 use Rattle.tcl_language.specs.Control as control
 use Rattle.tcl_language.specs.Definitions as definitions
@@ -47,6 +51,7 @@ builtin style name.Set word args = variables.set args
 builtin style name.Unset word args = variables.unset args
 builtin style name.Incr word args = variables.incr style args
 builtin style name.Append word args = variables.append args
+builtin style name.Array word args = arrays.array args
 builtin style name.Global word args = variables.global args
 builtin style name.Upvar word args = variables.upvar style args
 builtin style name.Uplevel word args = control.uplevel style args
@@ -76,7 +81,11 @@ builtin style name.String word args = collections.answered (string_of style args
 builtin style name.Format word args = collections.answered (format_of style args)
 builtin style name.Lappend word args = collections.lappend args
 builtin style name.Lassign word args = collections.lassign args
-builtin style name.Dict word args = collections.dict args
+builtin style name.Dict word args = changes.dict style args
+builtin style name.Lset word args = changes.lset style args
+builtin style name.Lsearch word args = collections.answered (lsearch_of args)
+builtin style name.Lsort word args = collections.answered (lsort_of style args)
+builtin style name.Throw word args = control.throw args
 builtin style name.Info word args = inspection.info style args
 builtin style name.Proc word args = definitions.proc args
 builtin style name.Rename word args = definitions.rename args

@@ -159,10 +159,14 @@ abbrev pub upvar : Integers → List Text → Program
 upvar style (a ∷ b ∷ rest) = upvar_words style (is_odd rest) (a ∷ b ∷ rest)
 upvar style _ = fails (wrong_args (codes "upvar ?level? otherVar localVar ?otherVar localVar ...?"))
 
--- the local name of a global variable
+-- the local name of a global variable; the name of an element, as it is written, can be none
+abbrev pub local_of : Option Text → Text → Text → Text
+local_of None name base = base
+local_of (Some key) name base = name
+
 abbrev pub local_name : Text → Option Name → Text
 local_name name None = name
-local_name name (Some x) = x.base
+local_name name (Some x) = local_of x.key name x.base
 
 abbrev pub global_all : List Text → Program
 global_all [] = done (ok [])

@@ -2,3 +2,4 @@ pub mod Searching
 pub mod SearchOptions
 pub mod Sorting
 pub mod SortCommand
+pub mod Computed

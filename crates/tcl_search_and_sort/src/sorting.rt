@@ -1,5 +1,7 @@
 //! The command that puts a list in order.
+ghost use Rattle.tcl_words.specs.Outcomes.{Gives};
 ghost use Rattle.tcl_words.specs.Words.{list_word};
+ghost use Rattle.tcl_search_and_sort.specs.Computed.{lsort_of};
 ghost use Rattle.tcl_search_and_sort.specs.Sorting.{After, GivesSome};
 ghost use Rattle.tcl_search_and_sort.specs.SortCommand.{plain, with_options, IsSortedAs};
 ghost use Rattle.tcl_search_and_sort.specs.SortCommand.{IsSortedWord, IsLsort};
@@ -53,6 +55,14 @@ fn sorted_by_options(
     sorted_word(alloc, style, sorting, word)
 }
 
+/// The list of the last word in the order that the words before it name.
+fn sorted_by_words(alloc: Global, style: Integers, words: &[Value]) -> Result<Value, Refusal>
+    ensures { GivesSome result (IsLsort style words.now) }
+{
+    let (options, word) = all_and_last(alloc, words, "lsort ?option ...? list")?;
+    sorted_by_options(alloc, style, options, word)
+}
+
 /// `lsort ?option ...? list`: the elements in the order of their texts, by the numbers of their
 /// characters, or with `-integer` in the order of their integers; with `-decreasing` from the
 /// greatest to the least. Equal elements stay as they stood; with `-unique` the last of them alone
@@ -61,8 +71,8 @@ fn sorted_by_options(
 /// # Errors
 /// 241, 221, 101 to 104, 111, 112, 122; want of memory.
 pub fn lsort(alloc: Global, style: Integers, words: &[Value]) -> Result<Value, Refusal>
-    ensures { GivesSome result (IsLsort style words.now) }
+    ensures sorted { GivesSome result (IsLsort style words.now) }
+    ensures computed { Gives (λ value. value) result (lsort_of style words.now) }
 {
-    let (options, word) = all_and_last(alloc, words, "lsort ?option ...? list")?;
-    sorted_by_options(alloc, style, options, word)
+    sorted_by_words(alloc, style, words)
 }
