@@ -1,3 +1,4 @@
+pub mod Changes
 pub mod Exiting
 pub mod Kinds
 pub mod Subcommands

@@ -1,11 +1,15 @@
 //! `dict`.
 ghost use Rattle.std.specs.Prelude.{◌≡◌};
+ghost use Rattle.tcl_core.specs.Paths.{Path};
+ghost use Rattle.tcl_language.specs.Changes as changes;
 ghost use Rattle.tcl_language.specs.Data as collections;
 ghost use Rattle.tcl_run.specs.Plain.{Acts};
 ghost use Rattle.tcl_run.specs.Runs.{IsLevel};
+ghost use Rattle.tcl_tree.specs.TreeOf.{Names};
 ghost use Rattle.tcl_words.specs.Outcomes.{Gives};
 ghost use Rattle.tcl_builtins.specs.Subcommands.{outcome_of};
 
+use crate::changes::{Change, make_change};
 use crate::subcommand::Subcommand;
 use std::alloc::Global;
 use tcl_commands::answers::answered;
@@ -35,12 +39,13 @@ fn value_of(alloc: Global, subcommand: Subcommand, words: &[Value]) -> Result<Va
     }
 }
 
-/// `dict subcommand ?arg ...?`: what a subcommand makes of dicts, keys and values.
+/// `dict subcommand ?arg ...?`, where the subcommand makes something of dicts, keys and values, and
+/// changes no variable.
 ///
 /// # Errors
 /// 241; 244 of the subcommand; 101 to 104 and 121 where a word is no dict; 242 of `get`; 122; want
 /// of memory.
-pub fn dict(
+fn dict_of_words(
     tree: &mut Tree,
     alloc: Global,
     place: Place,
@@ -56,6 +61,34 @@ pub fn dict(
             match Subcommand::named(word.as_str()) {
                 Some(subcommand) => answered(alloc, value_of(alloc, subcommand, words)),
                 None => Err(unknown_subcommand(alloc, word.as_str())),
+            }
+        }
+    }
+}
+
+/// `dict subcommand ?arg ...?`: what a subcommand makes of a variable's dict, or of dicts, keys and
+/// values.
+///
+/// # Errors
+/// 241; 244 of the subcommand; 232 to 234 and 238 of the variable; 101 to 104 and 121 where there
+/// is no dict; 242 of `get` and `unset`; 111, 112 and 212 of `incr`; 122; want of memory.
+pub fn dict(
+    tree: &mut Tree,
+    alloc: Global,
+    place: Place,
+    args: &[Value],
+) -> Result<Value, Interruption>
+    requires { (p : Path) × Names tree.old place p }
+    ensures acts { Acts tree.old place (λ style. changes.dict style args.now) tree.new result }
+    ensures level { IsLevel tree.old tree.new }
+{
+    match args {
+        [] => dict_of_words(tree, alloc, place, args),
+        [word, words @ ..] => {
+            let word = word.text(alloc)?;
+            match Change::named(word.as_str()) {
+                Some(change) => make_change(tree, alloc, place, change, words),
+                None => dict_of_words(tree, alloc, place, args),
             }
         }
     }

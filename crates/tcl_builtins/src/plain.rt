@@ -10,14 +10,17 @@ ghost use Rattle.tcl_builtins.specs.Kinds.{is_effectful, is_plain};
 use crate::dicts::dict;
 use crate::exits::exit;
 use std::alloc::Global;
+use tcl_commands::arrays::array;
 use tcl_commands::assigning::lassign;
+use tcl_commands::changing::lset;
 use tcl_commands::definitions::proc;
-use tcl_commands::ends::{breaks, continues, error, returns};
+use tcl_commands::ends::{breaks, continues, error, returns, throw};
 use tcl_commands::growing::{append, lappend};
 use tcl_commands::inspection::info;
 use tcl_commands::links::{global, upvar};
 use tcl_commands::lists::{
-    concat, join, lindex, linsert, list, llength, lrange, lrepeat, lreplace, lreverse, split,
+    concat, join, lindex, linsert, list, llength, lrange, lrepeat, lreplace, lreverse, lsearch,
+    lsort, split,
 };
 use tcl_commands::texts::{format, string};
 use tcl_commands::unsetting::unset;
@@ -54,6 +57,9 @@ pub fn call_plain(
         Builtin::Append => append(tree, alloc, place, args),
         Builtin::Lappend => lappend(tree, alloc, place, args),
         Builtin::Lassign => lassign(tree, alloc, place, args),
+        Builtin::Lset => lset(tree, alloc, place, args),
+        Builtin::Dict => dict(tree, alloc, place, args),
+        Builtin::Array => array(tree, alloc, place, args),
         Builtin::Global => global(tree, alloc, place, args),
         Builtin::Upvar => upvar(tree, alloc, place, args),
         Builtin::Proc => proc(tree, alloc, place, args),
@@ -61,6 +67,7 @@ pub fn call_plain(
         Builtin::Break => breaks(tree, alloc, place, args),
         Builtin::Continue => continues(tree, alloc, place, args),
         Builtin::Error => error(tree, alloc, place, args),
+        Builtin::Throw => throw(tree, alloc, place, args),
         Builtin::Return => returns(tree, alloc, place, args),
         Builtin::Exit => exit(tree, alloc, place, args),
         other => call_pure(tree, alloc, place, other, word, args),
@@ -95,7 +102,8 @@ fn call_pure(
         Builtin::Concat => concat(tree, alloc, place, args),
         Builtin::Join => join(tree, alloc, place, args),
         Builtin::Split => split(tree, alloc, place, args),
-        Builtin::Dict => dict(tree, alloc, place, args),
+        Builtin::Lsearch => lsearch(tree, alloc, place, args),
+        Builtin::Lsort => lsort(tree, alloc, place, args),
         Builtin::String => string(tree, alloc, place, args),
         Builtin::Format => format(tree, alloc, place, args),
         _ => {

@@ -1,15 +1,16 @@
 -- What the parameters of a procedure come to.
 use Rattle.std.proofs.Common.{◌≡◌, ℕ, ◌≤◌, ◌<◌, List, [], ◌∷◌, ◌++◌, Some, None, length, get_or, refl, sym, ap, subst, ◌∙◌, arith}
-use Rattle.std.specs.Prelude.{Result, Ok, Err, IfOk, IfErr}
+use Rattle.std.specs.Prelude.{Result, Ok, Err, IfOk, IfErr, MatchResult}
 use Rattle.tcl_core.specs.Endings.{Reply}
 use Rattle.tcl_core.specs.Endings.Reply.{Completed}
-use Rattle.tcl_core.specs.Paths.{Text}
+use Rattle.tcl_core.specs.Paths.{Text, Path}
+use Rattle.tcl_core.specs.Trees.{Node}
 use Rattle.tcl_language.specs.Definitions.{parameter, parameters, proc, with_parameter}
 use Rattle.tcl_language.specs.Faults.{bad_name}
-use Rattle.tcl_language.specs.Instructions.{Program, fails, or_fails}
-use Rattle.tcl_language.specs.Interpreters.{done_so, renaming}
-use Rattle.tcl_language.specs.Naming.{named}
-use Rattle.tcl_run.specs.Ends.{Interrupts, failing}
+use Rattle.tcl_language.specs.Instructions.{Program, fails, look, or_fails}
+use Rattle.tcl_language.specs.Interpreters.{done_so, refused_text, renaming}
+use Rattle.tcl_language.specs.Naming.{definable, named}
+use Rattle.tcl_run.specs.Ends.{Gave, Interrupts, failing}
 use Rattle.tcl_run.specs.Plain.{Does, Acts}
 use Rattle.tcl_run.specs.declared.interruption.Interruption.{Interruption}
 use Rattle.tcl_run.proofs.Endings.{Interrupts-more}
@@ -18,14 +19,16 @@ use Rattle.tcl_text.specs.Writing.{fault_message}
 use Rattle.tcl_text.specs.declared.list.ListFault.{ListFault}
 use Rattle.tcl_text.proofs.Items.{three_items}
 use Rattle.tcl_tree.specs.Commands.{ProcedureView}
-use Rattle.tcl_tree.specs.TreeOf.{tree_of}
+use Rattle.tcl_tree.specs.Own.{Own}
+use Rattle.tcl_tree.specs.TreeOf.{tree_of, Names}
 use Rattle.tcl_interpreter.specs.declared.command.Command.TheVariants as command
 use Rattle.tcl_interpreter.specs.declared.parameter.Parameter.{Parameter}
 use Rattle.tcl_tree.specs.declared.tree.Tree.{Tree as Table}
 use Rattle.tcl_tree.specs.declared.tree.Place.{Place as TablePlace}
 use Rattle.tcl_commands.specs.Ending.{EndsSo}
 use Rattle.tcl_commands.specs.Parameters.{parameters_from, reads_parameter}
-use Rattle.tcl_commands.proofs.Going.{acts_as, passed_acts}
+use Rattle.tcl_commands.specs.Steps.{Styled, EndsAt, Leads, Finds}
+use Rattle.tcl_commands.proofs.Going.{acts_as, found_by_look, goes_acts, passed_acts}
 use Rattle.tcl_commands.proofs.Turns.{ends_as}
 
 abbrev Then : Type 0
@@ -106,19 +109,42 @@ module _ (t : Table) (place : TablePlace) (args : List Text) (name text body : T
   defines : List Parameter → Program
   defines ps = renaming done_so (λ own. named own name (command.Procedure (record { parameters = ps; body = body })))
 
-  proc_is : proc args ≡ parameters_from text defines
+  proc_is : proc args ≡ look (λ n. or_fails refused_text (definable n.own name) (λ plain. parameters_from text defines))
   unfolding defines
   proc_is = ap proc (three_items args name text body many few a b c)
 
-  pub proc_acts : (u : Table) (made : List Parameter) (procedure : ProcedureView) (given : Text) (result : Result Text Interruption) → ((k : Then) → parameters_from text k ≡ k made) → given ≡ body → procedure ≡ record { parameters = made; body = given } →
+  pub named_finds : (result : Result Text Interruption) → ((p : Path) (n : Node Own) → Names t place p → tree_of t p ≡ Some n → Gave refused_text (definable n.own name) result) →
+      Finds t place (λ rest style. look (λ n. or_fails refused_text (definable n.own name) (λ plain. rest plain style))) t result
+  named_finds result given = found_by_look t place refused_text (λ n. definable n.own name) result given
+
+  pub proc_acts : (u : Table) (found : Result Text Interruption) (plain : Text) (made : List Parameter) (procedure : ProcedureView) (given : Text) (result : Result Text Interruption) → found ≡ Ok plain →
+      ((p : Path) (n : Node Own) → Names t place p → tree_of t p ≡ Some n → Gave refused_text (definable n.own name) found) → ((k : Then) → parameters_from text k ≡ k made) → given ≡ body → procedure ≡ record { parameters = made; body = given } →
       Acts t place (λ style. renaming done_so (λ own. named own name (command.Procedure procedure))) u result → Acts t place (λ style. proc args) u result
   unfolding defines
-  proc_acts u made procedure given result read same is acts =
-      acts_as t u place (λ style. proc args) (λ style. renaming done_so (λ own. named own name (command.Procedure procedure))) result
-      (λ style. proc_is ∙ read defines ∙ ap (λ (x : Text). renaming done_so (λ own. named own name (command.Procedure (record { parameters = made; body = x })))) (sym same)
-      ∙ ap (λ (p : ProcedureView). renaming done_so (λ own. named own name (command.Procedure p))) (sym is)) acts
+  proc_acts u found plain made procedure given result there allowed read same is acts =
+      let leads = subst (λ (r : Result Text Interruption). (rest : Text → Styled) → MatchResult r (λ a. Leads t place (λ style. look (λ n. or_fails refused_text (definable n.own name) (λ x. rest x style))) t (rest a)) (λ i. Interrupts i (EndsAt t place (λ style. look (λ n. or_fails refused_text (definable n.own name) (λ x. rest x style))) (tree_of t)))) there (named_finds found allowed) (λ x style. parameters_from text defines) in
+      acts_as t u place (λ style. proc args) (λ style. look (λ n. or_fails refused_text (definable n.own name) (λ x. parameters_from text defines))) result (λ style. proc_is)
+      (goes_acts t t u place (λ style. look (λ n. or_fails refused_text (definable n.own name) (λ x. parameters_from text defines))) (λ style. parameters_from text defines) result leads
+      (acts_as t u place (λ style. parameters_from text defines) (λ style. renaming done_so (λ own. named own name (command.Procedure procedure))) result
+      (λ style. read defines ∙ ap (λ (x : Text). renaming done_so (λ own. named own name (command.Procedure (record { parameters = made; body = x })))) (sym same)
+      ∙ ap (λ (p : ProcedureView). renaming done_so (λ own. named own name (command.Procedure p))) (sym is)) acts))
 
-  pub proc_fails : (i y : Interruption) (result : Result Text Interruption) → result ≡ Err y → y ≡ i → Interrupts i (λ r. (k : Then) → EndsSo (parameters_from text k) r) → Acts t place (λ style. proc args) t result
-  proc_fails i y result e same h = passed_acts t t place (λ style. proc args) i y result e same (Interrupts-more i _ _ (λ r g p style at.
-      let over = ends_as (proc args) (parameters_from text defines) r proc_is (g defines) in
-      subst (λ (x : Program). Does x (tree_of t) p (tree_of t) r) (sym over.is_over) (refl, over.ends)) h)
+  -- the name is refused
+  pub proc_unnamed : (i y : Interruption) (found : Result Text Interruption) (result : Result Text Interruption) → found ≡ Err i → ((p : Path) (n : Node Own) → Names t place p → tree_of t p ≡ Some n → Gave refused_text (definable n.own name) found) →
+      result ≡ Err y → y ≡ i → Acts t place (λ style. proc args) t result
+  unfolding defines
+  proc_unnamed i y found result there given e same =
+      let ends = subst (λ (r : Result Text Interruption). (rest : Text → Styled) → MatchResult r (λ a. Leads t place (λ style. look (λ n. or_fails refused_text (definable n.own name) (λ x. rest x style))) t (rest a)) (λ i. Interrupts i (EndsAt t place (λ style. look (λ n. or_fails refused_text (definable n.own name) (λ x. rest x style))) (tree_of t)))) there (named_finds found given) (λ x style. parameters_from text defines) in
+      acts_as t t place (λ style. proc args) (λ style. look (λ n. or_fails refused_text (definable n.own name) (λ x. parameters_from text defines))) result (λ style. proc_is)
+      (passed_acts t t place (λ style. look (λ n. or_fails refused_text (definable n.own name) (λ x. parameters_from text defines))) i y result e same ends)
+
+  pub proc_fails : (i y : Interruption) (found : Result Text Interruption) (plain : Text) (result : Result Text Interruption) → found ≡ Ok plain → ((p : Path) (n : Node Own) → Names t place p → tree_of t p ≡ Some n → Gave refused_text (definable n.own name) found) →
+      result ≡ Err y → y ≡ i → Interrupts i (λ r. (k : Then) → EndsSo (parameters_from text k) r) → Acts t place (λ style. proc args) t result
+  unfolding defines
+  proc_fails i y found plain result there allowed e same h =
+      let leads = subst (λ (r : Result Text Interruption). (rest : Text → Styled) → MatchResult r (λ a. Leads t place (λ style. look (λ n. or_fails refused_text (definable n.own name) (λ x. rest x style))) t (rest a)) (λ i. Interrupts i (EndsAt t place (λ style. look (λ n. or_fails refused_text (definable n.own name) (λ x. rest x style))) (tree_of t)))) there (named_finds found allowed) (λ x style. parameters_from text defines) in
+      acts_as t t place (λ style. proc args) (λ style. look (λ n. or_fails refused_text (definable n.own name) (λ x. parameters_from text defines))) result (λ style. proc_is)
+      (goes_acts t t t place (λ style. look (λ n. or_fails refused_text (definable n.own name) (λ x. parameters_from text defines))) (λ style. parameters_from text defines) result leads
+      (passed_acts t t place (λ style. parameters_from text defines) i y result e same (Interrupts-more i _ _ (λ r g p style at.
+      let over = g defines in
+      subst (λ (x : Program). Does x (tree_of t) p (tree_of t) r) (sym over.is_over) (refl, over.ends)) h)))

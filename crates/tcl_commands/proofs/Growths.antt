@@ -59,7 +59,7 @@ module _ (T V : Tree Own) (p : Path) (n : Node Own) (r : Reply) (name : Text) (t
   does_growth (Ok new) d = does_look T V p r n (λ m. variables.chain_becomes m.own (after_set m.own.chain name new) (done (ok new))) there (does_set new (after_set n.own.chain name new) d)
   does_growth (Err c) d = d
 
-  does_from : (grow : Text → Growth) (step : Text → (Text → Program) → Program) → ((old : Text) (k : Text → Program) → step old k ≡ on_growth (grow old) k) → (found : Result Text FrameFault) →
+  pub does_from : (grow : Text → Growth) (step : Text → (Text → Program) → Program) → ((old : Text) (k : Text → Program) → step old k ≡ on_growth (grow old) k) → (found : Result Text FrameFault) →
       Does (finishes n.own (grown_from n.own.chain name grow found)) T p V r → Does (or_fails frame_message found (λ old. step old (λ new. variables.sets name new (done (ok new))))) T p V r
   does_from grow step same (Ok old) d = subst (λ (x : Program). Does x T p V r) (sym (same old (λ new. variables.sets name new (done (ok new))))) (does_growth (grow old) d)
   does_from grow step same (Err f) d = d
@@ -75,7 +75,7 @@ append_step : (b : Bool) (text : Text) (k : Text → Program) → either b (k te
 append_step true text k = refl
 append_step false text k = refl
 
-lappend_step : (outcome : Outcome) (k : Text → Program) → collections.given outcome k ≡ on_growth (growth_of outcome) k
+pub lappend_step : (outcome : Outcome) (k : Text → Program) → collections.given outcome k ≡ on_growth (growth_of outcome) k
 lappend_step (Ok text) k = refl
 lappend_step (Err message) k = refl
 

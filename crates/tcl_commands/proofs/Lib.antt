@@ -16,3 +16,7 @@ pub mod Telling
 pub mod Turns
 pub mod Defining
 pub mod Elements
+pub mod Alterations
+pub mod ArrayEnds
+pub mod Otherwise
+pub mod SubcommandNames

@@ -33,7 +33,7 @@ use Rattle.tcl_commands.proofs.Setting.{integer_finds}
 use Rattle.tcl_lists.specs.Lists.{list_of}
 
 -- the chain of the interpreter that the place names
-abbrev Seen : Table → TablePlace → Chain → Type 0
+abbrev pub Seen : Table → TablePlace → Chain → Type 0
 Seen t place chain = (p : Path) (n : Node Own) → Names t place p → tree_of t p ≡ Some n → chain ≡ n.own.chain
 
 module _ (t : Table) (place : TablePlace) where
@@ -133,5 +133,5 @@ module _ (t : Table) (place : TablePlace) where
       Acts t place (λ style. inspection.chosen style word args) t result
   chosen_as word name args y result is same acts = acts_as t t place (λ style. inspection.chosen style word args) y result (λ style. ap (λ (w : Text). inspection.chosen style w args) is ∙ same style) acts
 
-  pub info_acts : (args : List Text) (word : Text) (rest : List Text) (result : Result Text Interruption) → args ≡ word ∷ rest → Acts t place (λ style. inspection.chosen style word rest) t result → Acts t place (λ style. inspection.info style args) t result
-  info_acts args word rest result e acts = subst (λ (xs : List Text). Acts t place (λ style. inspection.info style xs) t result) (sym e) acts
+  pub info_acts : (u : Table) (args : List Text) (word : Text) (rest : List Text) (result : Result Text Interruption) → args ≡ word ∷ rest → Acts t place (λ style. inspection.chosen style word rest) u result → Acts t place (λ style. inspection.info style args) u result
+  info_acts u args word rest result e acts = subst (λ (xs : List Text). Acts t place (λ style. inspection.info style xs) u result) (sym e) acts

@@ -10,3 +10,4 @@ pub mod Ending
 pub mod Parameters
 pub mod Renaming
 pub mod Reaching
+pub mod Changed

@@ -3,11 +3,11 @@ ghost use Rattle.std.specs.Prelude.{◌≡◌, ◌++◌, ◌∷◌, [], List, If
 ghost use Rattle.tcl_core.specs.Paths.{Path};
 ghost use Rattle.tcl_language.specs.Definitions as definitions;
 ghost use Rattle.tcl_language.specs.Instructions.{Program};
-ghost use Rattle.tcl_language.specs.Interpreters.{renaming, done_so};
+ghost use Rattle.tcl_language.specs.Interpreters.{refused_text, renaming, done_so};
 ghost use Rattle.std.specs.Option.{option_copied};
-ghost use Rattle.tcl_language.specs.Naming.{command_name, named, renamed, removed};
+ghost use Rattle.tcl_language.specs.Naming.{command_name, definable, named, renamed, removed};
 ghost use Rattle.tcl_tree.specs.Changes.{is_child};
-ghost use Rattle.tcl_run.specs.Ends.{Interrupts};
+ghost use Rattle.tcl_run.specs.Ends.{Gave, Interrupts};
 ghost use Rattle.tcl_run.specs.Plain.{Acts};
 ghost use Rattle.tcl_run.specs.Runs.{IsLevel};
 ghost use Rattle.tcl_tree.specs.TreeOf.{tree_of, Names};
@@ -27,6 +27,7 @@ use tcl_text::text::Text;
 use tcl_tree::command::Command;
 use tcl_tree::parameter::Parameter;
 use tcl_tree::procedure::Procedure;
+use tcl_tree::refusal::TreeError;
 use tcl_tree::tree::{Place, Tree};
 use tcl_value::value::Value;
 use tcl_variables::name::is_plain_name;
@@ -108,6 +109,26 @@ fn read_parameters(alloc: Global, text: &Value) -> Result<Vec<Parameter>, Interr
     Ok(made)
 }
 
+/// The name by which a procedure may be kept: one of a command, and no child's.
+///
+/// # Errors
+/// 238 and 302 of the name; want of memory.
+fn procedure_name(
+    tree: &Tree,
+    alloc: Global,
+    place: Place,
+    name: &Value,
+) -> Result<Text, Interruption>
+    ensures { (p : Path) (n : core.Node Own) → Names tree.now place p →
+        tree_of tree.now p ≡ Some n → Gave refused_text (definable n.own name.now) result }
+{
+    let kept = kept_name(alloc, name)?;
+    if is_child(tree.command_at(place, &kept)) {
+        return Err(naming_failure(alloc, TreeError::Exists, name));
+    }
+    Ok(kept)
+}
+
 /// Makes a name a procedure.
 fn define(
     tree: &mut Tree,
@@ -141,7 +162,7 @@ fn read_body(alloc: Global, body: &Value) -> Result<Value, AllocError>
 /// `proc name args body`: makes a name a procedure, whose parameters are read from a list.
 ///
 /// # Errors
-/// 241; 101 to 104 and 238 of the parameters; 238 and 302 of the name; want of memory.
+/// 241; 238 and 302 of the name; 101 to 104 and 238 of the parameters; want of memory.
 pub fn proc(
     tree: &mut Tree,
     alloc: Global,
@@ -154,6 +175,7 @@ pub fn proc(
 {
     match args {
         [name, parameters, body] => {
+            let _kept = procedure_name(tree, alloc, place, name)?;
             let parameters = read_parameters(alloc, parameters)?;
             let procedure = Procedure::new(alloc, parameters, read_body(alloc, body)?)?;
             define(tree, alloc, place, name, procedure)

@@ -63,6 +63,25 @@ pub fn error(
     }
 }
 
+/// `throw type message`: an error of this message, whose kind is this text as it is.
+///
+/// # Errors
+/// The error; 241; want of memory.
+pub fn throw(
+    tree: &mut Tree,
+    alloc: Global,
+    place: Place,
+    args: &[Value],
+) -> Result<Value, Interruption>
+    ensures acts { Acts tree.old place (λ _. control.throw args.now) tree.new result }
+    ensures level { IsLevel tree.old tree.new }
+{
+    match args {
+        [kind, message] => Err(Interruption::of_completion(alloc, error_of(message, kind)?)),
+        _ => Err(wrong_args(alloc, "throw type message")),
+    }
+}
+
 /// The completion of this code with no text.
 fn bare(alloc: Global, code: i64) -> Interruption
     ensures { Interrupts result (λ e. e ≡ core.Reply.Completed (core.completion code [])) }

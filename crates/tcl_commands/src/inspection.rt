@@ -19,13 +19,14 @@ ghost use Rattle.tcl_tree.specs.TreeOf.{tree_of, Names};
 ghost use Rattle.tcl_commands.specs.Calls.{words_numbered};
 
 use crate::answers::answered;
+use crate::procedures;
 use crate::steps::{frames_seen, word_integer};
 use std::alloc::{AllocError, Global};
 use tcl_frames::frames::Frames;
 use tcl_frames::scope::Scope;
 use tcl_glob::matches;
 use tcl_lists::commands;
-use tcl_run::failure::{bad_level, too_long, unknown_subcommand, wrong_args};
+use tcl_run::failure::{bad_level, too_long, wrong_args};
 use tcl_run::interruption::Interruption;
 use tcl_run::steps::frame_failure;
 use tcl_text::list::write_list;
@@ -34,7 +35,7 @@ use tcl_tree::tree::{Place, Tree};
 use tcl_value::value::Value;
 
 /// A number as a value.
-fn number_value(alloc: Global, n: u64) -> Result<Value, AllocError>
+pub(crate) fn number_value(alloc: Global, n: u64) -> Result<Value, AllocError>
     ensures { IfOk result (λ value. value ≡ decimal n) }
 {
     let text = format!(in alloc; "{n}")?;
@@ -65,7 +66,7 @@ fn cmdcount(tree: &Tree, alloc: Global, place: Place, args: &[Value]) -> Result<
 }
 
 /// A truth as a value.
-fn truth_value(truth: bool) -> Value
+pub(crate) fn truth_value(truth: bool) -> Value
     ensures { result ≡ either truth (codes "1") (codes "0") }
 {
     if truth {
@@ -105,7 +106,7 @@ fn matching(alloc: Global, pattern: &str, names: &[Text]) -> Result<Vec<Text>, A
 }
 
 /// The list of texts as a value.
-fn list_value(alloc: Global, texts: &[Text]) -> Result<Value, Interruption>
+pub(crate) fn list_value(alloc: Global, texts: &[Text]) -> Result<Value, Interruption>
     ensures { IfEnded result (λ r. r
         ≡ Completed (either (fits (written_list texts.now)) (core.ok (written_list texts.now))
         language.too_long)) }
@@ -205,15 +206,16 @@ fn level(tree: &Tree, alloc: Global, place: Place, args: &[Value]) -> Result<Val
 
 /// What a subcommand of `info` gives.
 fn subcommand(
-    tree: &Tree,
+    tree: &mut Tree,
     alloc: Global,
     place: Place,
     word: &Value,
     args: &[Value],
 ) -> Result<Value, Interruption>
-    requires { (p : Path) × Names tree.now place p }
-    ensures { Acts tree.now place (λ style. inspection.chosen style word.now args.now) tree.now
-        result }
+    requires { (p : Path) × Names tree.old place p }
+    ensures acts { Acts tree.old place
+        (λ style. inspection.chosen style word.now args.now) tree.new result }
+    ensures level { IsLevel tree.old tree.new }
 {
     if word.is_text(b"cmdcount") {
         return cmdcount(tree, alloc, place, args);
@@ -254,13 +256,15 @@ fn subcommand(
     if word.is_text(b"level") {
         return level(tree, alloc, place, args);
     }
-    Err(unknown_subcommand(alloc, word.text(alloc)?.as_str()))
+    procedures::subcommand(tree, alloc, place, word, args)
 }
 
 /// `info subcommand ?arg ...?`: what a subcommand tells of the interpreter.
 ///
 /// # Errors
-/// 244 of the subcommand; 241; of `exists` 238; of `level` 111, 112 and 235; 122; want of memory.
+/// 244 of the subcommand; 241; of `exists` 238; of `level` 111, 112 and 235; of `args`, `body` and
+/// `default` 238 and 246 of the procedure; of `default` 238 of the parameter, and 232, 233 and 238
+/// of the variable; 122; want of memory.
 pub fn info(
     tree: &mut Tree,
     alloc: Global,

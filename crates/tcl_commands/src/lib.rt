@@ -3,7 +3,9 @@
 #![tactic(auto)]
 
 pub mod answers;
+pub mod arrays;
 pub mod assigning;
+pub mod changing;
 pub mod definitions;
 pub mod ends;
 pub mod growing;
@@ -11,6 +13,7 @@ pub mod inspection;
 pub mod links;
 pub mod lists;
 mod naming;
+mod procedures;
 pub mod steps;
 mod sums;
 pub mod texts;

@@ -92,12 +92,16 @@ pub fn upvar(
     }
 }
 
-/// The local name of a global variable.
+/// The local name of a global variable. The name of an element is given as it is written, and so
+/// refused as a local name.
 fn local_name(alloc: Global, name: &Text) -> Result<Text, AllocError>
     ensures { IfOk result (λ local. local ≡ variables.local_name name.now (name_of name.now)) }
 {
     match read_name(name.as_str()) {
-        Some(written) => Text::new(alloc, written.base),
+        Some(written) => match written.key {
+            None => Text::new(alloc, written.base),
+            Some(_) => name.clone(),
+        },
         None => name.clone(),
     }
 }

@@ -8,6 +8,8 @@ ghost use Rattle.tcl_lists.specs.Lists.{lindex_of, linsert_of, llength_of, lrang
 ghost use Rattle.tcl_lists.specs.Lists.{lreplace_of, lreverse_of};
 ghost use Rattle.tcl_run.specs.Plain.{Acts};
 ghost use Rattle.tcl_run.specs.Runs.{IsLevel};
+ghost use Rattle.tcl_search_and_sort.specs.Computed.{lsort_of};
+ghost use Rattle.tcl_search_and_sort.specs.Searching.{lsearch_of};
 ghost use Rattle.tcl_text.specs.Writing.{written_list};
 
 use crate::answers::answered;
@@ -15,6 +17,7 @@ use std::alloc::Global;
 use tcl_list_texts::{joining, splitting};
 use tcl_lists::{commands, indexes, lengthening};
 use tcl_run::interruption::Interruption;
+use tcl_search_and_sort::{searching, sorting};
 use tcl_tree::tree::{Place, Tree};
 use tcl_value::value::Value;
 
@@ -165,4 +168,31 @@ pub fn split(
     ensures level { IsLevel tree.old tree.new }
 {
     answered(alloc, splitting::split(alloc, args))
+}
+
+/// `lsearch ?option ...? list pattern`: where the pattern is found in a list, or what fits it.
+pub fn lsearch(
+    tree: &mut Tree,
+    alloc: Global,
+    place: Place,
+    args: &[Value],
+) -> Result<Value, Interruption>
+    ensures acts { Acts tree.old place (λ _. answered (lsearch_of args.now)) tree.new result }
+    ensures level { IsLevel tree.old tree.new }
+{
+    answered(alloc, searching::lsearch(alloc, args))
+}
+
+/// `lsort ?option ...? list`: the elements in order.
+pub fn lsort(
+    tree: &mut Tree,
+    alloc: Global,
+    place: Place,
+    args: &[Value],
+) -> Result<Value, Interruption>
+    ensures acts { Acts tree.old place
+        (λ style. answered (lsort_of style args.now)) tree.new result }
+    ensures level { IsLevel tree.old tree.new }
+{
+    answered(alloc, sorting::lsort(alloc, tree.integers(), args))
 }

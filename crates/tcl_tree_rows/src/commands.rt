@@ -8,13 +8,15 @@ use crate::calls::ended;
 use crate::words::{values_of, words_of};
 use row_runner::World;
 use std::alloc::{AllocError, Global};
+use tcl_commands::arrays::array;
 use tcl_commands::assigning::lassign;
+use tcl_commands::changing::{dict_append, dict_incr, dict_lappend, dict_set, dict_unset, lset};
 use tcl_commands::definitions::{proc, remove, rename_to};
-use tcl_commands::ends::{breaks, continues, error, returns};
+use tcl_commands::ends::{breaks, continues, error, returns, throw};
 use tcl_commands::growing::{append, lappend};
 use tcl_commands::inspection::info;
 use tcl_commands::links::{global, upvar};
-use tcl_commands::lists::{lindex, llength, lrange, split};
+use tcl_commands::lists::{lindex, llength, lrange, lsearch, lsort, split};
 use tcl_commands::texts::{format, string};
 use tcl_commands::unsetting::unset;
 use tcl_commands::variables::{incr, set};
@@ -44,14 +46,46 @@ fn call_of_words(
         "llength" => llength(tree, alloc, root, args),
         "lindex" => lindex(tree, alloc, root, args),
         "lrange" => lrange(tree, alloc, root, args),
+        "lsearch" => lsearch(tree, alloc, root, args),
+        "lsort" => lsort(tree, alloc, root, args),
         "split" => split(tree, alloc, root, args),
         "string" => string(tree, alloc, root, args),
         "format" => format(tree, alloc, root, args),
         "error" => error(tree, alloc, root, args),
+        "throw" => throw(tree, alloc, root, args),
         "return" => returns(tree, alloc, root, args),
         "break" => breaks(tree, alloc, root, args),
         "continue" => continues(tree, alloc, root, args),
         _ => Err(Interruption::Exited(1)),
+    }
+}
+
+/// Calls a subcommand of `dict` that changes a variable.
+fn change_dict(tree: &mut Tree, alloc: Global, args: &[Value]) -> Result<Value, Interruption> {
+    match args {
+        [] => Ok(Value::empty()),
+        [word, args @ ..] => {
+            let word = word.text(alloc)?;
+            change_dict_so(tree, alloc, word.as_str(), args)
+        }
+    }
+}
+
+/// Calls the subcommand of `dict` of this name that changes a variable.
+fn change_dict_so(
+    tree: &mut Tree,
+    alloc: Global,
+    name: &str,
+    args: &[Value],
+) -> Result<Value, Interruption> {
+    let root = tree.root();
+    match name {
+        "set" => dict_set(tree, alloc, root, args),
+        "unset" => dict_unset(tree, alloc, root, args),
+        "incr" => dict_incr(tree, alloc, root, args),
+        "append" => dict_append(tree, alloc, root, args),
+        "lappend" => dict_lappend(tree, alloc, root, args),
+        _ => Ok(Value::empty()),
     }
 }
 
@@ -65,6 +99,9 @@ fn call(tree: &mut Tree, alloc: Global, name: &str, args: &[Value]) -> Result<Va
         "append" => append(tree, alloc, root, args),
         "lappend" => lappend(tree, alloc, root, args),
         "lassign" => lassign(tree, alloc, root, args),
+        "lset" => lset(tree, alloc, root, args),
+        "dict" => change_dict(tree, alloc, args),
+        "array" => array(tree, alloc, root, args),
         "global" => global(tree, alloc, root, args),
         "upvar" => upvar(tree, alloc, root, args),
         "info" => info(tree, alloc, root, args),

@@ -6,5 +6,5 @@ use Rattle.tcl_commands.proofs.inspection.info.Goals as goal
 
 pub returns-in-len1-up-clause-acts : goal.returns-in-len1-up-clause-acts
 returns-in-len1-up-clause-acts c =
-    info_acts c.args.tree.now c.args.place c.args.args.now c.word-item.result (take (length c.args.args.now - 1) (drop 1 c.args.args.now)) c.subcommand.result
-    (one_front c.args.args.now c.word-item.result c.in-len1-up.len_at_least c.word-item.is) c.subcommand.ensures
+    info_acts c.args.tree.now c.args.place c.subcommand.new.tree c.args.args.now c.word-item.result (take (length c.args.args.now - 1) (drop 1 c.args.args.now)) c.subcommand.result
+    (one_front c.args.args.now c.word-item.result c.in-len1-up.len_at_least c.word-item.is) c.subcommand.ensures.acts
