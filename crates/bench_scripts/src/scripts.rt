@@ -7,6 +7,7 @@ use std::{fs, io};
 use tcl_tree::tree::Tree;
 
 /// A script that is measured.
+#[derive(Clone, Copy)]
 struct Bench<'a> {
     name: &'a str,
     /// How often it does its work in a small run.
