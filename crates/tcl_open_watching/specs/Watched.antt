@@ -1,0 +1,58 @@
+-- What contracts see of an evaluation that is watched over any outside.
+use Rattle.std.specs.Prelude.{◌≡◌, ℕ, ◌+◌, true, Bool, List, [], Some, None, Result}
+use Rattle.tcl_core.specs.Endings.{Reply}
+use Rattle.tcl_core.specs.Entries.Entry.{Eval}
+use Rattle.tcl_core.specs.Execution.{event}
+use Rattle.tcl_core.specs.Lives.{end_at, limited}
+use Rattle.tcl_core.specs.Paths.{Path, Text}
+use Rattle.tcl_core.specs.Trees.{Event, Node, Tree, effect}
+use Rattle.tcl_core.specs.Trees.What.{Done, In, Limited}
+use Rattle.tcl_eval.specs.Running.{IsOpenRun, ending_of, root_count, root_limit}
+use Rattle.tcl_eval.specs.declared.running.End.{End}
+use Rattle.tcl_eval.specs.declared.running.Refused.TheVariants as refused
+use Rattle.tcl_isolation.specs.Visits.{WatchedVisit}
+use Rattle.tcl_language_laws.specs.Language.{language}
+use Rattle.tcl_recorder.specs.Recording.{noted, recorded}
+use Rattle.tcl_recorder.specs.Records.{RecordView}
+use Rattle.tcl_replay.specs.Watched.{IfEnds, IfRefused, answer_if, recorder_of}
+use Rattle.tcl_replay.specs.declared.watching.Unwatched.{Unwatched}
+use Rattle.tcl_run.specs.Outsides.{Going}
+use Rattle.tcl_tree.specs.Own.{Own}
+use Rattle.tcl_tree.specs.TreeOf.{marks_of, tree_of}
+use Rattle.tcl_tree.specs.declared.tree.Tree.{Tree as Table}
+
+-- A run of the script is one entry into the interpreter at the path, in the tree whose root may be
+-- counted so many steps more; then the root has its own limit again. What happens in it takes the
+-- outside from one state to another, and its end from there to the last. The crossings are those
+-- of the boundary of the interpreter at `watched`, which stood there at first and isn't dropped.
+pub record IsOpenRecorded {S : Type 0} (goes : Going S) (old : Table) (o : S) (path : Path)
+    (script : Text) (limit : ℕ) (watched : Path) (crossings : List (Event Own)) (new : Table)
+    (z : S) (e : End) : Type 0 where
+  pub during : Tree Own
+  pub between : S
+  pub reply : Reply
+  pub visited : WatchedVisit goes (language (marks_of old).integers)
+      (limited limit (tree_of old)) o path (Eval script) watched crossings during between reply
+  pub told : goes during between None (event path (Done None reply)) z
+  pub node : Node Own
+  pub stood : tree_of old watched ≡ Some node
+  pub after : tree_of new ≡ effect [] (Limited (root_limit old)) during
+  pub ends : end_at path reply ≡ Some (ending_of e)
+
+-- The record has the crossings of such a run.
+abbrev pub IsOpenRecord : {S : Type 0} → Going S → Table → S → Path → Text → ℕ → Path →
+    RecordView → Table → S → End → Type 0
+IsOpenRecord goes old o path script limit watched r new z e = (r.watched ≡ watched) ×
+    IsOpenRecorded goes old o path script limit watched r.crossings new z e
+
+-- what an evaluation answers that was recorded: memory was wanted, or there was a run with a
+-- recorder, which was told of the entry and of its end
+pub record Watches {S : Type 0} (goes : Going S) (old : Table) (o : S) (path : Path)
+    (script : Text) (limit : ℕ) (watched : Path) (new : Table) (z : S)
+    (result : Result (End × RecordView) Unwatched) : Type 0 where
+  pub memory : IfRefused result (λ f. (f ≡ refused.Memory) × ((marks_of new).broken ≡ true))
+  pub made : IfEnds result (λ e. (kept : RecordView) × (deleted : Bool) ×
+      (result ≡ answer_if deleted e kept) ×
+      IsOpenRun (recorded goes) old
+      (noted (recorder_of o watched) (event path (In None (Eval script)))) path script
+      (root_count old + limit) new (record { outside = z; kept = kept; deleted = deleted }) e)
