@@ -11,7 +11,7 @@ use Rattle.tcl_eval.specs.declared.running.Refused.{Refused}
 use Rattle.tcl_eval.specs.declared.running.Refused.TheVariants as refused
 use Rattle.tcl_isolation.specs.Visits.{visit}
 use Rattle.tcl_open_watching.proofs.Entered.{entry, plain}
-use Rattle.tcl_open_watching.specs.Watched.{IsOpenRecord, IsOpenRecorded, Watches}
+use Rattle.tcl_open_watching.specs.OpenWatched.{IsOpenRecord, IsOpenRecorded, Watches}
 use Rattle.tcl_recorder.proofs.Fates as fates
 use Rattle.tcl_recorder.specs.Recording.{noted, recorded}
 use Rattle.tcl_recorder.specs.Records.{RecordView}

@@ -7,7 +7,7 @@ ghost use Rattle.tcl_core.specs.Trees.What.{In};
 ghost use Rattle.tcl_eval.specs.Running.{IsOpenRun, root_count, unfit};
 ghost use Rattle.tcl_eval.specs.declared.running.Refused.TheVariants.{Memory};
 ghost use Rattle.tcl_language.specs.Instructions.{fits};
-ghost use Rattle.tcl_open_watching.specs.Watched.{IsOpenRecord, Watches};
+ghost use Rattle.tcl_open_watching.specs.OpenWatched.{IsOpenRecord, Watches};
 ghost use Rattle.tcl_recorder.specs.Recording.{noted, recorded};
 ghost use Rattle.tcl_replay.specs.Watched.{AsksTheHostNothing, IfEnds, IfRefused, Reacts};
 ghost use Rattle.tcl_replay.specs.Watched.{ReactsSo, ReactsUntil, ScriptsStayWithin, answer_of};

@@ -6,7 +6,7 @@ use Rattle.tcl_core.specs.Paths.{Path}
 use Rattle.tcl_core.specs.Trees.What.{In}
 use Rattle.tcl_eval.specs.Running.{IsOpenRun, root_count}
 use Rattle.tcl_open_watching.proofs.Answers.{ends_so, watches}
-use Rattle.tcl_open_watching.specs.Watched.{Watches}
+use Rattle.tcl_open_watching.specs.OpenWatched.{Watches}
 use Rattle.tcl_recorder.specs.Recording.{noted, recorded}
 use Rattle.tcl_recorder.specs.declared.recorder.Recorder.{Recorder}
 use Rattle.tcl_replay.specs.Watched.{IfEnds, recorder_of}

@@ -1,0 +1,10 @@
+//! Evaluations whose crossings of one interpreter's boundary are recorded.
+//!
+//! - `eval_watched`: evaluates with a host, as `evaluation::eval`.
+//! - `open_watched`: evaluates over any outside, as functions and a host, as `evaluation::open_run`.
+//! - `Unwatched`: why there is no record (401 to 404, 122, 411).
+//! - `Record`, `Crossing`, `Reply`, `Answer`: what crossed the boundary, in order.
+pub use tcl_open_watching::watching::open_watched;
+pub use tcl_recorder::crossing::{Answer, Crossing, Reply};
+pub use tcl_recorder::record::Record;
+pub use tcl_replay::watching::{Unwatched, eval_watched};
