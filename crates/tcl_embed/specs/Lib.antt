@@ -4,6 +4,8 @@ pub use Rattle.tcl_functions.specs.Aliases
 pub use Rattle.tcl_functions.specs.Serving
 pub use Rattle.tcl_host.specs.Hosts
 pub use Rattle.tcl_open_watching.specs.OpenWatched
+pub use Rattle.tcl_record_texts.specs.Lines
+pub use Rattle.tcl_record_texts.specs.Words
 pub use Rattle.tcl_replay.specs.Replaying
 pub use Rattle.tcl_replay.specs.Saved
 pub use Rattle.tcl_replay.specs.Watched

@@ -12,6 +12,7 @@ use std::alloc::{AllocError, AllocFailed};
 use std::error::Error;
 use std::fmt;
 use std::io;
+use tcl_characters::limit::LimitError;
 use tcl_eval::running::Refused;
 use tcl_flow::stop::StopKind;
 use tcl_replay::replaying::Unplayed;
@@ -251,5 +252,18 @@ impl From<ValueError> for EmbedError {
 
     fn from(error: ValueError) -> EmbedError {
         EmbedError::Value(error)
+    }
+}
+
+impl From<LimitError> for EmbedError {
+    ghost use Rattle.tcl_embed.specs.Conversions.{of_limit};
+
+    ghost from_gives = { λ x e. e ≡ of_limit x };
+
+    fn from(error: LimitError) -> EmbedError {
+        match error {
+            LimitError::Memory => EmbedError::Memory,
+            LimitError::TooLong => EmbedError::Value(ValueError::TooLong),
+        }
     }
 }
