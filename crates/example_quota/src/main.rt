@@ -15,7 +15,8 @@ const STRANGERS: [(&str, &str); 4] = [
     ("recurses", "proc f {} {f}; f"),
     (
         "deletes",
-        "foreach name [info commands] {if {$name ne {rename}} {rename $name {}}}; set a 1",
+        "foreach name [lsearch -all -inline -not -exact [info commands] rename] {rename $name {}}
+        set a 1",
     ),
     ("works", "expr {6 * 7}"),
 ];
