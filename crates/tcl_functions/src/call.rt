@@ -40,7 +40,7 @@ impl Call {
         ensures { result.now ≡ args_of self.now.words.items }
     {
         match self.words.as_slice() {
-            [] => &[],
+            [] => self.words.as_slice(),
             [_, args @ ..] => args,
         }
     }
@@ -54,7 +54,7 @@ pub(crate) fn words_of(alloc: Global, entry: &Entry) -> Result<Vec<Value>, Alloc
     ensures { IfOk result (λ words. words.items ≡ words_of (whole_entry entry.now)) }
 {
     match entry {
-        Entry::CallWords(words) => Vec::from_clones(alloc, words.as_slice()),
+        Entry::CallWords(words) => Ok(Vec::from_clones(alloc, words.as_slice())?),
         _ => Ok(Vec::new(alloc)),
     }
 }

@@ -1,5 +1,5 @@
 //! Functions and a host, which stand outside of a tree together.
-ghost use Rattle.std.specs.Prelude.{◌≡◌, ◌<◌, ◌≤◌, [], OnOk, IfErr};
+ghost use Rattle.std.specs.Prelude.{◌≡◌, ◌<◌, ◌≤◌, [], true, IfErr, OnOk};
 ghost use Rattle.tcl_core.specs.Paths.{Path};
 ghost use Rattle.tcl_functions.specs.Serving.{Begins, ClosesByExit, IsSpent, Reopens, Serves};
 ghost use Rattle.tcl_functions.specs.Serving.{TakesReply, going, most_entries};
