@@ -1,1 +1,2 @@
+mod Lengths
 mod Ways

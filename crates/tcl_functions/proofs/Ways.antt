@@ -12,14 +12,12 @@ use Rattle.tcl_core.specs.Runs.{is_own}
 use Rattle.tcl_core.specs.Trees.{Tree}
 use Rattle.tcl_flow.specs.View.{completion_of}
 use Rattle.tcl_flow.specs.declared.completion.Completion as code
-use Rattle.tcl_functions.specs.Actions.{action_of}
+use Rattle.tcl_functions.specs.Actions.{ActionView}
 use Rattle.tcl_functions.specs.Actions.ActionView.{Completes, Enters as EntersFirst, Exits}
 use Rattle.tcl_functions.specs.Calls.{words_of}
 use Rattle.tcl_functions.specs.Replies.{Sees, seen}
-use Rattle.tcl_functions.specs.Serving.{Begins, Closes, ClosesByExit, ComesBack, EndsCall, GoesOut, HandsIn, HearsEnd, Hosting, IsSpent, Keeps, Reopens, Serves, Serving, TakesReply, going, past}
+use Rattle.tcl_functions.specs.Serving.{Begins, Closes, ClosesByExit, ComesBack, EndsBy, EndsCall, EndsSo, GoesOut, HandsIn, HearsEnd, Hosting, IsSpent, Keeps, Reopens, Serves, Serving, TakesReply, going, past}
 use Rattle.tcl_functions.specs.Serving.EndsCall.{served, exited, unopened}
-use Rattle.tcl_functions.specs.declared.action.Action as declared_action
-use Rattle.tcl_functions.specs.declared.action.Action.TheVariants as action
 use Rattle.tcl_functions.specs.declared.call.Call.{Call}
 use Rattle.tcl_functions.specs.declared.serving.WithFunctions.{WithFunctions}
 use Rattle.tcl_language.specs.Interpreters.{no_interpreter}
@@ -90,15 +88,15 @@ module _ {F H : Type 0} (serves : Serving F) (o z : WithFunctions F H) where
   pub nobody : (e : Interruption) → length o.calls.items ≡ 0 → length z.calls.items ≡ 0 → z.functions ≡ o.functions → z.exits ≡ o.exits → Keeps o z → Interrupts e (λ r. r ≡ Completed (error (no_interpreter []))) → Serves serves o z (Err e)
   nobody e none none_left same exits keeps says = Interrupts-more e (λ r. r ≡ Completed (error (no_interpreter []))) (λ r. EndsCall serves o r z) (λ r g. unopened none none_left g same exits keeps) says
 
-  pub completes : (below : List Call) (call : Call) (x : declared_action.Action) (d : code.Completion) (e : Interruption) → x ≡ action.Complete d → o.calls.items ≡ below ++ call ∷ [] → serves o.functions call (action_of x) z.functions → Closes o below z →
-      Interrupts e (λ r. r ≡ Completed (completion_of d)) → Serves serves o z (Err e)
-  completes below call x d e is stood does closes says =
-      Interrupts-more e (λ r. r ≡ Completed (completion_of d)) (λ r. EndsCall serves o r z) (λ r g. served below call (Completes (completion_of d)) stood (subst (λ y. serves o.functions call (action_of y) z.functions) is does) g closes) says
+  ends_by : (left : ℕ) (d : ActionView) (r : Reply) → EndsSo d r → EndsBy left d r
+  ends_by left (Completes c) r e = e
+  ends_by left (Exits n) r e = e
+  ends_by left (EntersFirst t i) r e = absurd e
 
-  pub exits : (below : List Call) (call : Call) (x : declared_action.Action) (n : ℤ) → x ≡ action.Exit n → o.calls.items ≡ below ++ call ∷ [] → serves o.functions call (action_of x) z.functions → Closes o below z → EndsCall serves o (Exit n) z
-  exits below call x n is stood does closes = served below call (Exits n) stood (subst (λ y. serves o.functions call (action_of y) z.functions) is does) refl closes
+  pub ends : (below : List Call) (call : Call) (d : ActionView) (e : Interruption) → o.calls.items ≡ below ++ call ∷ [] → serves o.functions call d z.functions → Closes o below z → Interrupts e (EndsSo d) → Serves serves o z (Err e)
+  ends below call d e stood does closes says = Interrupts-more e (EndsSo d) (λ r. EndsCall serves o r z) (λ r g. served below call d stood does (ends_by o.entries d r g) closes) says
 
-  module _ (u : WithFunctions F H) (below : List Call) (call : Call) (x : declared_action.Action) (target : List (List ℕ)) (entry : Entry) (is : action_of x ≡ EntersFirst target entry) (stood : o.calls.items ≡ below ++ call ∷ []) (does : serves o.functions call (action_of x) u.functions) (closes : Closes o below u) where
+  module _ (u : WithFunctions F H) (below : List Call) (call : Call) (d : ActionView) (target : List (List ℕ)) (entry : Entry) (is : d ≡ EntersFirst target entry) (stood : o.calls.items ≡ below ++ call ∷ []) (does : serves o.functions call d u.functions) (closes : Closes o below u) where
     handed : serves o.functions call (EntersFirst target entry) u.functions
     handed = subst (λ y. serves o.functions call y u.functions) is does
 

@@ -111,6 +111,12 @@ pub record Closes {F H : Type 0} (o : WithFunctions F H) (below : List Call)
   pub exits : z.exits ≡ o.exits
   pub keeps : Keeps o z
 
+-- how a call ends by what its function does, where that ends it
+abbrev pub EndsSo : ActionView → Reply → Type 0
+EndsSo (Completes c) r = r ≡ Completed c
+EndsSo (Exits n) r = r ≡ Exit n
+EndsSo (Enters t i) r = Prim.⊥
+
 -- how a call ends by what its function does, where so many entries may still be handed in
 abbrev pub EndsBy : ℕ → ActionView → Reply → Type 0
 EndsBy left (Completes c) r = r ≡ Completed c

@@ -1,8 +1,10 @@
 //! Functions and a host, which stand outside of a tree together.
-ghost use Rattle.std.specs.Prelude.{◌≡◌, ◌<◌, ◌≤◌, [], true, IfErr, OnOk};
+ghost use Rattle.std.specs.Prelude.{◌≡◌, ◌<◌, ◌≤◌, [], true, IfErr, MatchResult, OnOk};
 ghost use Rattle.tcl_core.specs.Paths.{Path};
-ghost use Rattle.tcl_functions.specs.Serving.{Begins, ClosesByExit, IsSpent, Reopens, Serves};
-ghost use Rattle.tcl_functions.specs.Serving.{TakesReply, going, most_entries};
+ghost use Rattle.tcl_functions.specs.Actions.{action_of};
+ghost use Rattle.tcl_functions.specs.Actions.ActionView.{Enters};
+ghost use Rattle.tcl_functions.specs.Serving.{Begins, ClosesByExit, EndsSo, IsSpent, Reopens};
+ghost use Rattle.tcl_functions.specs.Serving.{Serves, TakesReply, going, most_entries};
 ghost use Rattle.tcl_flow.specs.View.{completion_of};
 ghost use Rattle.tcl_run.specs.Ends.{Interrupts};
 ghost use Rattle.tcl_run.specs.Entering.{whole_entry};
@@ -108,8 +110,9 @@ impl<F: Functions, H: Host> WithFunctions<F, H> {
         caller: Place,
         entry: &Entry,
     ) -> Result<(), AllocError>
-        ensures { OnOk result ((p : Path) → Names tree.now caller p →
+        ensures begins { OnOk result ((p : Path) → Names tree.now caller p →
             Begins self.old p (whole_entry entry.now) self.new) }
+        ensures left { self.new.entries ≤ self.old.entries }
     {
         let path = tree.last_names(alloc, caller, usize::MAX)?;
         let words = words_of(alloc, entry)?;
@@ -124,7 +127,8 @@ impl<F: Functions, H: Host> WithFunctions<F, H> {
 
     /// An entry ended so that the last open call handed in; where none is open, the whole run ends.
     fn add_reply(&mut self, reply: Completion) -> Result<(), AllocError>
-        ensures { OnOk result (TakesReply self.old (completion_of reply) self.new) }
+        ensures taken { OnOk result (TakesReply self.old (completion_of reply) self.new) }
+        ensures left { self.new.entries ≤ self.old.entries }
     {
         let Some(mut call) = self.calls.pop() else {
             return Ok(());
@@ -136,7 +140,8 @@ impl<F: Functions, H: Host> WithFunctions<F, H> {
 
     /// The last open call ends with its entry, which ended by an exit.
     fn close(&mut self) -> Result<(), AllocError>
-        ensures { OnOk result (ClosesByExit self.old self.new) }
+        ensures closes { OnOk result (ClosesByExit self.old self.new) }
+        ensures left { self.new.entries ≤ self.old.entries }
     {
         if !self.exits {
             return Err(AllocError);
@@ -174,20 +179,32 @@ impl<F: Functions, H: Host> WithFunctions<F, H> {
         let Some(call) = self.calls.pop() else {
             return Err(no_interpreter(alloc, ""));
         };
-        match self.functions.call(alloc, &call)? {
-            Action::Complete(completion) => {
-                drop(call);
-                Err(Interruption::of_completion(alloc, completion))
-            }
-            Action::Exit(status) => {
-                drop(call);
-                Err(Interruption::Exited(status))
-            }
-            Action::Enter(target, entry) => match self.reopen(alloc, call) {
+        let action = self.functions.call(alloc, &call)?;
+        match entry_of(alloc, action) {
+            Ok((target, entry)) => match self.reopen(alloc, call) {
                 Ok(()) => Ok(Turn::Entry(target, entry)),
                 Err(interruption) => Err(interruption),
             },
+            Err(interruption) => {
+                drop(call);
+                Err(interruption)
+            }
         }
+    }
+}
+
+/// The entry that a function asks for, and for which interpreter.
+///
+/// # Errors
+/// How it ends its call, where it does.
+fn entry_of(alloc: Global, action: Action) -> Result<(Vec<Text>, Entry), Interruption>
+    ensures { MatchResult result (λ x. action_of action ≡ Enters x.0.items (whole_entry x.1))
+        (λ e. Interrupts e (EndsSo (action_of action))) }
+{
+    match action {
+        Action::Complete(completion) => Err(Interruption::of_completion(alloc, completion)),
+        Action::Enter(target, entry) => Ok((target, entry)),
+        Action::Exit(status) => Err(Interruption::Exited(status)),
     }
 }
 
