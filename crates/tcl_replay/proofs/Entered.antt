@@ -36,8 +36,8 @@ use Rattle.tcl_eval.specs.Running.{IsOpenRun, ending_of, first_of, most_steps, r
 use Rattle.tcl_eval.specs.declared.running.End.{End}
 use Rattle.tcl_eval.specs.declared.running.Refused.{Refused}
 use Rattle.tcl_eval.specs.declared.running.Refused.TheVariants as refused
-use Rattle.tcl_recorder.specs.Laws.{IsWatched}
-use Rattle.tcl_recorder.specs.Recording.{crossed, noted, recorded}
+use Rattle.tcl_recorder.specs.Laws.{IsWatched, KeepsAll}
+use Rattle.tcl_recorder.specs.Recording.{Keeps, crossed, noted, recorded}
 use Rattle.tcl_recorder.specs.declared.recorder.Recorder.{Recorder}
 use Rattle.tcl_recorder.proofs.Fates.{fate_parts}
 use Rattle.tcl_recorder.proofs.Visits.{after_parts, visits}
@@ -103,6 +103,8 @@ module _ {S : Type 0} (step : S → Request → HostReply → S → Type 0) (old
   entry_run e there run =
       let w = wholly e there run in
       let all = watched_so e run w in
+      let ends : Keeps run.between (last run.reply) z = run.told.keeps (run.told.ends tt) in
+      let kept : KeepsAll (noted o first) w.says.events run.between = all.keeps ends.whole in
       let τ : List (Event Own) = w.says.events in
       let same : w.whole.ending ≡ ending_of e = Some-inj w.whole.ending (sym w.whole.ends ∙ run.ends) in
       record {
@@ -112,8 +114,8 @@ module _ {S : Type 0} (step : S → Request → HostReply → S → Type 0) (old
           events = τ;
           visits = visits (Taped (Crossings (recorded (hosted step)))) (language style) path (Eval script) w.says;
           outside = subst (λ (u : S). Chain (Crossings (hosted step)) T0 o.outside τ run.during u) (sym run.told.outside) all.outside;
-          kept = run.told.kept ∙ ap (λ k. crossed k (last run.reply)) all.kept ∙ after_parts (crossed o.kept first) τ (last run.reply ∷ []) ∙ after_one o.kept first (τ ++ last run.reply ∷ []);
-          fate = run.told.fate ∙ all.fate ∙ sym (fate_parts o.deleted o.kept.watched τ (last run.reply ∷ []));
+          kept = ends.kept ∙ ap (λ k. crossed k (last run.reply)) kept.kept ∙ after_parts (crossed o.kept first) τ (last run.reply ∷ []) ∙ after_one o.kept first (τ ++ last run.reply ∷ []);
+          fate = ends.fate ∙ kept.fate ∙ sym (fate_parts o.deleted o.kept.watched τ (last run.reply ∷ []));
         };
         runs = subst (λ v. Runs (language style) v path (entering (language style) (T0 path) (Eval script)) (before run.during []) (Some run.reply)) (ahead-all T0 τ) (derived_runs (language style) (w.says.runs nothing));
         run = record { during = run.during; reply = run.reply; runs = plain e run; after = run.after; ends = run.ends };

@@ -1,5 +1,6 @@
 mod Entered
 mod Stopped
+mod Unfinished
 mod Below
 mod Recorded
 mod Answers

@@ -15,8 +15,8 @@ use Rattle.tcl_core.specs.Execution.{Chain, Crossings, before}
 use Rattle.tcl_core.specs.Trees.{Event, Node, Tree, at, effect}
 use Rattle.tcl_core.specs.Trees.What.{Limited}
 use Rattle.tcl_core.specs.Views.{moves_of, steps_of, view}
-use Rattle.tcl_eval.specs.Running.{IsRun, IsWhole, ending_of, first_of, most_steps, root_count}
-use Rattle.tcl_eval.specs.Running.{root_limit}
+use Rattle.tcl_eval.specs.Running.{IsGivenUp, IsRun, IsWhole, ending_of, first_of, most_steps}
+use Rattle.tcl_eval.specs.Running.{root_count, root_limit}
 use Rattle.tcl_eval.specs.declared.running.End.{End}
 use Rattle.tcl_eval.specs.declared.running.Refused.{Refused}
 use Rattle.tcl_eval.specs.declared.running.Refused.TheVariants as refused
@@ -29,6 +29,7 @@ use Rattle.tcl_language.specs.Instructions.{fits}
 use Rattle.tcl_language_laws.specs.Language.{language}
 use Rattle.tcl_language.specs.Safety.{plain}
 use Rattle.tcl_run.specs.Outsides.{hosted}
+use Rattle.tcl_run.specs.Runs.{ways}
 use Rattle.tcl_tree.specs.Own.{Own}
 use Rattle.tcl_tree.specs.TreeOf.{marks_of, tree_of}
 use Rattle.tcl_tree.specs.declared.tree.Tree.{Tree as Table}
@@ -249,14 +250,18 @@ recorder_of o watched = record {
   outside = o;
   kept = record { watched = watched; crossings = [] };
   deleted = false;
+  incomplete = false;
 }
 
--- what an evaluation answers that was recorded: memory was wanted, or there was such a run
+-- What an evaluation answers that was recorded: there was such a run; or memory was wanted, and it
+-- was given up on its way, with the host in the last state there.
 pub record Watches {S : Type 0} (step : S → Request → HostReply → S → Type 0) (old : Table) (o : S)
     (path : Path) (script : Text) (limit : ℕ) (watched : Path) (new : Table) (z : S)
     (result : Result (End × RecordView) Unwatched) : Type 0 where
   pub memory : IfRefused result (λ f. (f ≡ refused.Memory) × ((marks_of new).broken ≡ true))
+  pub given_up : IfRefused result (λ f. IsGivenUp (ways (hosted step) (λ a b. b ≡ a)) old o path
+      script (root_count old + limit) z)
   pub made : IfEnds result (λ e. (kept : RecordView) × (deleted : Bool) ×
       (result ≡ answer_if deleted e kept) ×
       IsEntryRun step old (recorder_of o watched) path script limit new
-      (record { outside = z; kept = kept; deleted = deleted }) e)
+      (record { outside = z; kept = kept; deleted = deleted; incomplete = false }) e)

@@ -1,8 +1,18 @@
 use Rattle.std.proofs.Common.{◌∙◌, sym}
-use Rattle.tcl_replay.specs.Watched.{AsksTheHostNothing, Counts, CountStaysWithin, LeavesTheOutside, LimitsStay, Reacts, ReactsSo, ReactsUntil, ScriptsStayWithin}
+use Rattle.tcl_replay.specs.Watched.{AsksTheHostNothing, Counts, CountStaysWithin, LeavesTheOutside, LimitsStay, Reacts, ReactsSo, ReactsUntil, ScriptsStayWithin, unwatchable}
 use Rattle.tcl_replay.proofs.Answers.{both_there, deletions, follows, records, stops, wholes}
 use Rattle.tcl_replay.proofs.Recorded as recorded
+use Rattle.tcl_replay.proofs.Unfinished.{at_none, if_refused_so}
 use Rattle.tcl_replay.proofs.watching.eval_watched.Goals as goal
+
+pub returns-clause-given_up : goal.returns-clause-given_up
+returns-clause-given_up g c = at_none (unwatchable c.args.tree.now c.args.path.now c.args.script.now c.args.limit c.args.watched.now) _ c.watch.ensures.watches.given_up
+
+pub returns-clause-asked : goal.returns-clause-asked
+returns-clause-asked g c =
+    let there = both_there c.args.tree.now c.args.path.now c.args.script.now c.args.limit c.args.watched.now (sym c.refusal_to_watch.ensures ∙ c.in_default.is) in
+    at_none (unwatchable c.args.tree.now c.args.path.now c.args.script.now c.args.limit c.args.watched.now) _
+    (if_refused_so g.H.Host.step c.args.tree.now c.args.host c.args.path.now c.args.script.now c.args.limit c.watch.result.0 c.watch.result.1 there.0 c.watch.ensures.watches.given_up)
 
 pub returns-clause-whole : goal.returns-clause-whole
 returns-clause-whole g c = wholes g.H.Host.step c.args.tree.now c.args.host c.args.path.now c.args.script.now c.args.limit c.args.watched.now c.watch.new.tree c.watch.result.0 c.watch.result.1 c.watch.ensures.watches
