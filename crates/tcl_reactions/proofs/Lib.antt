@@ -8,4 +8,5 @@ pub mod Waited
 pub mod Played
 pub mod Reacted
 pub mod Free
+pub mod Depths
 pub mod Worked

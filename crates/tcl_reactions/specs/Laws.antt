@@ -13,7 +13,7 @@ use Rattle.tcl_core.specs.Runs.{is_own}
 use Rattle.tcl_core.specs.Execution.{event}
 use Rattle.tcl_core.specs.Lives.{React}
 use Rattle.tcl_core.specs.Lives.Outcome.{Exited}
-use Rattle.tcl_core.specs.Laws.{KeepsTop}
+use Rattle.tcl_core.specs.Laws.{IsUpright, KeepsTop, depth_of}
 use Rattle.tcl_reactions.specs.Playing.{Fate, Player, Lived, IsOver, beginner, last_end, outcome}
 use Rattle.tcl_reactions.specs.Playing.{plays, tree_left}
 
@@ -23,6 +23,12 @@ abbrev pub PlayedIsReact : Type 0 → Type 0 → Type 0
 PlayedIsReact O I = (prog : Table O I) (S V : Tree O) (ms : List (Move O)) (n : ℕ) (z : Player O) →
     Lived prog S (beginner ms n) V z → IsOver z →
     React prog S ms n (outcome z) z.outs (tree_left z V)
+
+-- What is played leaves each depth as it was, where above each interpreter that stands all stand and
+-- are in use as deeply: all entries came to their end by then, also where the playing was cut short.
+abbrev pub DepthsStay : Type 0 → Type 0 → Type 0
+DepthsStay O I = (prog : Table O I) (S V : Tree O) (o z : Player O) →
+    Lived prog S o V z → IsUpright S → (q : Place) → depth_of (V q) ≡ depth_of (S q)
 
 -- the last entry ended by this exit, or the playing is over
 abbrev pub HasExited : {O : Type 0} → Player O → ℤ → Type 0

@@ -161,3 +161,7 @@ where_memory (Err (interruption.Completed c)) p = tt
 where_memory (Err (interruption.Stopped s)) p = tt
 where_memory (Err (interruption.Exited n)) p = tt
 where_memory (Err (interruption.Cut c)) p = tt
+
+-- nothing is said of what is given up
+pub unspoken : {A : Type 0} (r : Result A Interruption) → WhereMemory r (Unit {0})
+unspoken r = where_memory r tt

@@ -7,3 +7,4 @@ mod Answers
 mod Agreeing
 mod Savable
 mod Serving
+mod Depths
