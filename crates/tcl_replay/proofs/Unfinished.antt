@@ -1,14 +1,17 @@
 -- What the host was asked by a run with a recorder that was given up on its way.
 use Rattle.std.proofs.Common.{◌≡◌, ◌∙◌, ℕ, ◌+◌, true, [], Option, None, Some, refl, sym, subst}
-use Rattle.std.specs.Prelude.{Result, Ok, Err, IfErr, IfNone, is_some}
+use Rattle.std.specs.Prelude.{Result, Ok, Err, IfErr, IfNone, IfOk, IsErrOf, is_some}
 use Rattle.tcl_core.specs.Entries.Entry.{Eval}
 use Rattle.tcl_core.specs.Execution.{Crossings}
 use Rattle.tcl_core.specs.Paths.{Path, Text}
 use Rattle.tcl_core.specs.Trees.{Node, effect}
 use Rattle.tcl_core.specs.Trees.What.{Limited}
-use Rattle.tcl_eval.specs.Running.{AsksFirst, IsGivenUp, root_count}
+use Rattle.tcl_eval.specs.Running.{AsksFirst, IsGivenUp, IsUncut, ran_of, root_count}
+use Rattle.tcl_eval.specs.declared.running.OpenEnd.{OpenEnd}
+use Rattle.tcl_eval.specs.declared.running.OpenEnd.TheVariants as open_end
 use Rattle.tcl_eval.specs.declared.running.End.{End}
 use Rattle.tcl_eval.specs.declared.running.Refused.{Refused}
+use Rattle.tcl_eval.specs.declared.running.Refused.TheVariants as refused
 use Rattle.tcl_host.specs.declared.reply.HostReply.{HostReply}
 use Rattle.tcl_host.specs.declared.request.Request.{Request}
 use Rattle.tcl_language.specs.Table.{serve}
@@ -72,6 +75,28 @@ module _ {S : Type 0} (step : S → Request → HostReply → S → Type 0) (old
   if_unwatched (Ok e) u o z h fit same g = tt
   if_unwatched (Err e) None o z h fit same g = unwatched_so o z h same g
   if_unwatched (Err e) (Some f) o z h fit same g = let clash : Some f ≡ None = fit in absurd cc
+
+-- what is said of a refusal is said of it where no outside ended the run
+pub if_refusal : (r : Result OpenEnd Refused) (P : Type 0) → IsUncut r → IfErr r (λ _. P) → IfErr (ran_of r) (λ _. P)
+if_refusal (Ok (open_end.Ran e)) P u p = tt
+if_refusal (Ok open_end.CutOff) P u p = elim u [ ]
+if_refusal (Err e) P u p = p
+
+pub if_memory : (r : Result OpenEnd Refused) → IsUncut r → (u : Option Refused) → u ≡ None → IfNone u (IfErr r (λ e. e ≡ refused.Memory)) → IfErr (ran_of r) (λ e. e ≡ refused.Memory)
+if_memory (Ok (open_end.Ran e)) c u fit p = tt
+if_memory (Ok open_end.CutOff) c u fit p = elim c [ ]
+if_memory (Err e) c None fit p = p
+if_memory (Err e) c (Some f) fit p = let clash : Some f ≡ None = fit in absurd cc
+
+pub if_broken : (r : Result OpenEnd Refused) (P : Type 0) → IsUncut r → (IsErrOf r refused.Memory → P) → IsErrOf (ran_of r) refused.Memory → P
+if_broken (Ok (open_end.Ran e)) P u p m = let clash : ◌≡◌ {A = Result End Refused} (Ok e) (Err refused.Memory) = m in absurd cc
+if_broken (Ok open_end.CutOff) P u p m = elim u [ ]
+if_broken (Err e) P u p m = p m
+
+pub if_ended : (r : Result OpenEnd Refused) (P : Type 0) → IfOk r (λ _. P) → IfOk (ran_of r) (λ _. P)
+if_ended (Ok (open_end.Ran e)) P p = p
+if_ended (Ok open_end.CutOff) P p = tt
+if_ended (Err e) P p = tt
 
 -- what holds anyway
 pub at_none : {A : Type 0} (o : Option A) (P : Type 0) → P → IfNone o P

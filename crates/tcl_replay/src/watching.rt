@@ -19,7 +19,7 @@ ghost use Rattle.tcl_replay.specs.Watched.{answer_of, unwatchable};
 ghost use Rattle.tcl_replay.specs.declared.watching.Unwatched.TheVariants as unwatched;
 
 use std::alloc::{AllocError, Global};
-use tcl_eval::running::{End, Refused, open_run, refusal};
+use tcl_eval::running::{End, Refused, open_run, ran, refusal};
 use tcl_host::host::Host;
 use tcl_isolation::laws::{asks_the_host_nothing, limits_stay, scripts_stay_within};
 use tcl_recorder::record::Record;
@@ -182,7 +182,10 @@ fn run<H: Host>(
         recorder.new end) }
 {
     match begin(alloc, recorder, path, script) {
-        Ok(()) => open_run(tree, alloc, recorder, path, script, limit),
+        Ok(()) => {
+            let opened = open_run(tree, alloc, recorder, path, script, limit);
+            ran(opened)
+        }
         Err(_) => {
             tree.mark_broken();
             Err(Refused::Memory)
