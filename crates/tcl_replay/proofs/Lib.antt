@@ -8,3 +8,4 @@ mod Agreeing
 mod Savable
 mod Serving
 mod Depths
+mod Series

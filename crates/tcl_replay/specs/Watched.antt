@@ -3,7 +3,7 @@ use Rattle.std.specs.Prelude.{◌≡◌, ℕ, ◌≤◌, ◌+◌, ◌&&◌, Bool
 use Rattle.std.specs.Prelude.{Option, Some, None, is_some, Result, Ok, Err}
 use Rattle.tcl_core.specs.Endings.{Reply}
 use Rattle.tcl_core.specs.Entries.Entry.{Eval}
-use Rattle.tcl_core.specs.Laws.{AreFree, ArePlain, AsLimited, AsksNothing, IsLowering, IsSafeAt}
+use Rattle.tcl_core.specs.Laws.{AreFree, ArePlain, AsLimited, AsksNothing, IsSafeAt}
 use Rattle.tcl_core.specs.Laws.{IsSpared, IsStanding, IsUnended, Obeys, Unasked, rest}
 use Rattle.tcl_core.specs.Lives.{Outcome, React, count_at, end_at, limit_at, limited, outcome_of}
 use Rattle.tcl_core.specs.Lives.{outs_of}
@@ -189,14 +189,6 @@ module _ {S : Type 0} (step : S → Request → HostReply → S → Type 0) (old
   abbrev pub Stops : RecordView → Table → S → End → Type 0
   Stops r new z e = IsRecordWith step old o path script limit c r.crossings new z e (λ τ. Obeys c τ)
 
-  -- With a count limit that nothing in the run raises or takes away, it is counted at most to the
-  -- greater of the limit and the count before: to each number that both are at most.
-  abbrev pub CountStaysWithin : RecordView → Table → S → End → Type 0
-  CountStaysWithin r new z e = IsBelowTheTop c →
-      IsRecordWith step old o path script limit c r.crossings new z e
-      (λ τ. (l b : ℕ) → limit_at (tree_of old c) ≡ Some l → IsLowering l c τ → l ≤ b →
-      count_at (tree_of old c) ≤ b → IsWithin (tree_of new c) l b)
-
   -- an interpreter that stands has the limits that it had
   abbrev pub KeepsLimits : Option (Node Own) → Option (Node Own) → Type 0
   KeepsLimits was is = (n : Node Own) → was ≡ Some n → (m : Node Own) × (is ≡ Some m) ×
@@ -214,10 +206,11 @@ module _ {S : Type 0} (step : S → Request → HostReply → S → Type 0) (old
       AsLimited (tree_of old (c ++ q)) (tree_of new (c ++ q)) ×
       (IsStanding (c ++ q) τ → KeepsLimits (tree_of old (c ++ q)) (tree_of new (c ++ q))))
 
--- With a count limit that no entry of the record raises or takes away, a safe watched interpreter
--- is counted at most to the greater of the limit and the count before.
-abbrev pub ScriptsStayWithin : Table → Path → List (Event Own) → Table → Type 0
-ScriptsStayWithin old c crossings new = IsBelowTheTop c → IsSafeAt (tree_of old) c → (l b : ℕ) →
+-- With a count limit that no entry of the record raises or takes away, the watched interpreter, safe
+-- or trusted, is counted at most to the greater of the limit and the count before: to each number
+-- that both are at most.
+abbrev pub CountStaysWithin : Table → Path → List (Event Own) → Table → Type 0
+CountStaysWithin old c crossings new = IsBelowTheTop c → (l b : ℕ) →
     limit_at (tree_of old c) ≡ Some l → AreLowering l (moves_of crossings) → l ≤ b →
     count_at (tree_of old c) ≤ b →
     IsWithin (tree_of new c) l b

@@ -14,8 +14,7 @@ ghost use Rattle.tcl_recorder.specs.Recording.{noted};
 ghost use Rattle.tcl_replay.specs.Watched.{AsksTheHostNothing, Counts, CountStaysWithin, IfDeleted};
 ghost use Rattle.tcl_replay.specs.Watched.{IfEnds, IfRefused, IsDeletion, IsEntryRun, IsRecord};
 ghost use Rattle.tcl_replay.specs.Watched.{LeavesTheOutside, LimitsStay, Reacts, ReactsSo};
-ghost use Rattle.tcl_replay.specs.Watched.{ReactsUntil, ScriptsStayWithin, Stops, Watches};
-ghost use Rattle.tcl_replay.specs.Watched.{answer_of, unwatchable};
+ghost use Rattle.tcl_replay.specs.Watched.{ReactsUntil, Stops, Watches, answer_of, unwatchable};
 ghost use Rattle.tcl_replay.specs.declared.watching.Unwatched.TheVariants as unwatched;
 
 use std::alloc::{AllocError, Global};
@@ -96,10 +95,7 @@ pub fn eval_watched<H: Host>(
         (λ r. Stops H.step tree.old host path.now script.now limit watched.now r.1 tree.new result.0
         r.0) }
     ensures count_stays_within { IfOk result.1
-        (λ r. CountStaysWithin H.step tree.old host path.now script.now limit watched.now r.1
-        tree.new result.0 r.0) }
-    ensures scripts_stay_within { IfOk result.1
-        (λ r. ScriptsStayWithin tree.old watched.now r.1.crossings tree.new) }
+        (λ r. CountStaysWithin tree.old watched.now r.1.crossings tree.new) }
     ensures limits_stay { IfOk result.1
         (λ r. LimitsStay H.step tree.old host path.now script.now limit watched.now r.1 tree.new
         result.0 r.0) }
