@@ -104,12 +104,15 @@ module _ {S : Type 0} (step : S → Request → HostReply → S → Type 0) (old
   asks_nothing law w f a p m =
       law style T0 (run_of w).during o z path (Eval script) c r.crossings (run_of w).reply (visited w) f safe_trees (safe_first f a) (subst (ArePlain plain) (sym (at_first f)) p) m
 
-  pub counts : One → Counts step old o path script limit c r new z e
+  pub count_rises : (w : One) → IsBelowTheTop c → count_at (tree_of new c) ≡ count_at (tree_of old c) + steps_of (view c (visit path (Eval script) (run_of w).events (run_of w).reply))
   unfolding visited
-  counts w f =
+  count_rises w f =
       let h : count_at ((run_of w).during c) ≡ (run_of w).node.count + steps_of (view c (visit path (Eval script) (run_of w).events (run_of w).reply)) =
       safe.counts (hosted step) (language style) T0 (run_of w).during o z path (Eval script) c r.crossings (run_of w).reply (visited w) (run_of w).node f (stood w f) in
-      (run_of w, w.1.1, ap count_at (same_last w f) ∙ h ∙ ap (λ (x : Option (Node Own)). count_at x + steps_of (view c (visit path (Eval script) (run_of w).events (run_of w).reply))) (sym (run_of w).stood))
+      ap count_at (same_last w f) ∙ h ∙ ap (λ (x : Option (Node Own)). count_at x + steps_of (view c (visit path (Eval script) (run_of w).events (run_of w).reply))) (sym (run_of w).stood)
+
+  pub counts : One → Counts step old o path script limit c r new z e
+  counts w f = (run_of w, w.1.1, count_rises w f)
 
   own_limit : (w : One) (l : ℕ) → limit_at (tree_of old c) ≡ Some l → (run_of w).node.limit ≡ Some l
   own_limit w l at_limit = ap limit_at (sym (run_of w).stood) ∙ at_limit

@@ -2,7 +2,6 @@
 use Rattle.std.proofs.Common.{◌≡◌, ◌∙◌, ℕ, ◌≤◌, ◌+◌, ◌⊎◌, Some, inl, inr, sym, ap, arith}
 use Rattle.tcl_core.specs.Lives.{count_at, limit_at}
 use Rattle.tcl_core.specs.Paths.{Path}
-use Rattle.tcl_core.specs.Views.{steps_of, view}
 use Rattle.tcl_host.specs.declared.reply.HostReply.{HostReply}
 use Rattle.tcl_host.specs.declared.request.Request.{Request}
 use Rattle.tcl_isolation.specs.Laws.{IsWithin}
@@ -10,7 +9,6 @@ use Rattle.tcl_isolation.specs.Scripts as laws
 use Rattle.tcl_isolation.specs.Visits.{IsBelowTheTop}
 use Rattle.tcl_replay.specs.Series.{Between, InTurn, Run}
 use Rattle.tcl_replay.specs.Series.InTurn.{none, changed, ran}
-use Rattle.tcl_replay.specs.Watched.{Counts, happened}
 use Rattle.tcl_replay.proofs.Recorded as recorded
 use Rattle.tcl_run.specs.Outsides.{hosted}
 use Rattle.tcl_tree.specs.TreeOf.{tree_of}
@@ -56,9 +54,7 @@ module _ {S : Type 0} (step : S → Request → HostReply → S → Type 0) (law
 
   -- the count rises by the steps of one
   rises : (t u : Table) (k : ℕ) → Run step c t k u → count u ≡ count t + k
-  rises t u k r =
-      let counts : Counts step t r.before r.path r.script r.limit c r.kept u r.after r.end = recorded.counts step t r.before r.path r.script r.limit c r.kept u r.after r.end r.recorded in
-      (counts below).2 ∙ ap (λ j. count t + j) (sym r.made)
+  rises t u k r = recorded.count_rises step t r.before r.path r.script r.limit c r.kept u r.after r.end r.recorded below ∙ ap (λ j. count t + j) (sym r.made)
 
   -- and stays within what the limit and the count before are
   within : (t u : Table) (k : ℕ) → Run step c t k u → (m d : ℕ) → limit_at (tree_of t c) ≡ Some m → m ≤ d → count t ≤ d → IsWithin (tree_of u c) m d
