@@ -9,4 +9,5 @@ pub mod Played
 pub mod Reacted
 pub mod Free
 pub mod Depths
+pub mod OneOutcome
 pub mod Worked
