@@ -1,10 +1,10 @@
 -- What playings leave of depths.
-use Rattle.std.proofs.Common.{◌≡◌, ◌∙◌, ℕ, zero, suc, List, [], ◌∷◌, ◌++◌, Option, Some, None, length, refl, ap, subst}
+use Rattle.std.proofs.Common.{◌≡◌, ◌∙◌, ℕ, zero, suc, List, [], ◌∷◌, ◌++◌, Option, Some, None, refl, subst}
 use Rattle.tcl_core.specs.Endings.{Meter, Reply}
 use Rattle.tcl_core.specs.Endings.Meter.{Count, Depth}
 use Rattle.tcl_core.specs.Endings.Reply.{Cut}
 use Rattle.tcl_core.specs.Endings.Cause.{Above, Over}
-use Rattle.tcl_core.specs.Execution.{Chain, Crossings, Decides, Executes, Opens_so, before, event, more, none}
+use Rattle.tcl_core.specs.Execution.{Chain, Crossings, Decides, Executes, Opens_so, before, more, none}
 use Rattle.tcl_core.specs.Execution.Executes.{completed, exited, acted, refused, went, passed, wrapped, wrapped_passed, too_deep, shut, called, called_passed, unreached, called_out, answered, heard, answered_passed, entered, entered_exiting}
 use Rattle.tcl_core.specs.Laws.{IsSteady, IsUpright, KeepsTop, depth_of}
 use Rattle.tcl_core.specs.Paths.{Place, rise_to}
@@ -16,14 +16,14 @@ use Rattle.tcl_core.specs.Trees.{Event, Grants, Move, Node, Tree, What, asked, a
 use Rattle.tcl_core.specs.Trees.Grant.{Allow, Deny}
 use Rattle.tcl_core.specs.Trees.Grants.{Listed, Budget}
 use Rattle.tcl_core.specs.Trees.Move.{Born, Fall, Enter, Come}
-use Rattle.tcl_core.specs.Trees.What.{Seen, Charged, Refused, Limited, DepthLimited, Nested, Made, Dropped, Out, In, Done, Back}
+use Rattle.tcl_core.specs.Trees.What.{Seen, Charged, Refused, Limited, DepthLimited, Nested, Made, Dropped, In, Back}
 use Rattle.tcl_core.specs.Views.{moves_of}
 use Rattle.tcl_core.proofs.Depths.{steady}
 use Rattle.tcl_core.proofs.Following.{makes}
 use Rattle.tcl_core.proofs.PathLaws.{not_both, Some-inj, child_no_top}
 use Rattle.tcl_core.proofs.Reacting.{IsLasting, Lasting}
 use Rattle.tcl_reactions.specs.Laws.{DepthsStay}
-use Rattle.tcl_reactions.specs.Playing.Lived as lived
+use Rattle.tcl_reactions.specs.Playing.Lived.{begun, entered as came}
 use Rattle.tcl_reactions.specs.Playing.{Lived, Player, plays}
 
 -- ## No act makes or drops the tree's top
@@ -151,9 +151,9 @@ module _ {O I S : Type 0} (step : Tree O → S → Wait → Event O → S → Ty
       (s.upright r refl, s.depths r refl)
 
 module _ {O I : Type 0} (prog : Table O I) where
-  lived_steady : {S V : Tree O} {o z : Player O} → Lived prog S o V z → IsUpright S → IsUpright V × ((q : Place) → depth_of (V q) ≡ depth_of (S q))
-  lived_steady lived.begun up = (up, λ q. refl)
-  lived_steady (lived.entered {U} {V} {u} {w} {v} {z} t i r l calm last enters run leaves) up =
+  lived_steady : {S : Tree O} {o : Player O} {V : Tree O} {z : Player O} → Lived prog S o V z → IsUpright S → IsUpright V × ((q : Place) → depth_of (V q) ≡ depth_of (S q))
+  lived_steady begun up = (up, λ q. refl)
+  lived_steady (came {U} {V} {u} {w} {v} {z} t i r l calm last enters run leaves) up =
       let h = lived_steady l up in
       let k = run_steady (Crossings plays) prog U V w v t _ r run h.0 in
       (k.0, λ q. k.1 q ∙ h.1 q)

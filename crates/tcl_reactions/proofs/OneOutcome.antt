@@ -6,7 +6,7 @@ use Rattle.tcl_core.specs.Endings.{Reply}
 use Rattle.tcl_core.specs.Endings.Reply.{Completed, Stop, Exit, Cut}
 use Rattle.tcl_core.specs.Endings.Cause.{Above, Over}
 use Rattle.tcl_core.specs.Entries.{Entry, Answer}
-use Rattle.tcl_core.specs.Entries.Answer.{Replied}
+use Rattle.tcl_core.specs.Entries.Answer.{Replied, Heard}
 use Rattle.tcl_core.specs.Trees.{Tree, What, Event, Move, at_top, asked, where_none}
 use Rattle.tcl_core.specs.Trees.Grants.{Budget}
 use Rattle.tcl_core.specs.Trees.What.{Made, Dropped, In, Back, Done}
@@ -16,15 +16,15 @@ use Rattle.tcl_core.specs.Programs.Prog.{wait}
 use Rattle.tcl_core.specs.Runs.{World}
 use Rattle.tcl_core.specs.Rules.{Derives}
 use Rattle.tcl_core.specs.Views.{moves_of, steps_of}
-use Rattle.tcl_core.specs.Lives.{Lives, Outcome, React, Reacts, alone, end_of, idle, last_of, never, outcome_at, outs_of, outcome_of, Uncut, IsUncut, begun, ended, InProgress, copies, handed, unwound, spent_at}
-use Rattle.tcl_core.specs.Lives.Outcome.{Exited, Waiting, Ended, Spent, Misfit, Finished}
+use Rattle.tcl_core.specs.Lives.{Lives, Outcome, Reacts, alone, end_of, idle, last_of, never, outcome_at, outs_of, outcome_of, Uncut, IsUncut, begun, ended, InProgress, copies, handed, unwound, spent_at}
+use Rattle.tcl_core.specs.Lives.Outcome.{Ended, Spent, Misfit, Finished}
 use Rattle.tcl_core.specs.Lives.Reacts.{over, waiting, uncalled, unfit, ended_so, spent}
 use Rattle.tcl_core.specs.Laws.{Unended, IsUnended, AtMove, StopsByItself}
 use Rattle.tcl_core.proofs.MoreMoves.{asked_more}
 use Rattle.tcl_core.proofs.Keeping.{KeepsSteps, derived_keep}
 use Rattle.tcl_core.proofs.Counts.{bounded}
 use Rattle.tcl_core.proofs.Conclusions.{determinism}
-use Rattle.tcl_core.proofs.Parting.{part}
+use Rattle.tcl_core.proofs.Parting.{Parts, part}
 use Rattle.tcl_core.proofs.Reactions.{one_reaction}
 use Rattle.tcl_core.proofs.RuleLaws.{derived_runs, runs_derived}
 use Rattle.tcl_core.proofs.Halts.{halted_tape}
@@ -116,7 +116,6 @@ module _ {O : Type 0} where
   not_both_open τ σ k e f g =
       let h : begun τ ≡ ended τ + suc k = subst (InProgress (suc k)) (sym e) g in
       absurd (let z : Prim.⊥ = omega arith in z)
-
 
 module _ {O I : Type 0} (prog : Table O I) where
   -- one that halts reads all that happens
@@ -392,7 +391,7 @@ module _ {O I : Type 0} (prog : Table O I) (S : Tree O) (n : ℕ) where
       further made rest u d m at (inr ([], g, h)) = not_at prog n p ρ (subst AtMove h at)
       further made rest u d m at (inr (ev ∷ q, g, h)) = no_longer made (q ++ spent_at p ∷ ρ) ev q (subst AtMove h at) (ap moves_of (sym g) ∙ e ∙ read_all a made u d m)
 
-      by : _ → Found
+      by : Parts prog w [] (wait idle never) v None a (copies k (Come (Replied (Cut Over)))) → Found
       by (inl g) =
           let whole : g.made ++ [] ≡ δ ++ spent_at p ∷ ρ = ap (λ y. g.made ++ y) (sym (life_tape prog w v l)) ∙ sym g.tape in
           there (g.made ++ []) _ (derived_runs prog (g.runs [])) ρ whole
@@ -412,7 +411,7 @@ module _ {O I : Type 0} (prog : Table O I) (S : Tree O) (n : ℕ) where
       whole : List (Event O)
       whole = σ ++ spent_at t ∷ ψ
 
-      by : _ → δ ≡ σ
+      by : Parts prog (alone S (a ++ q) n whole) [] (wait idle never) v None a q → δ ≡ σ
       by (inl h) =
           let tape : h.made ++ [] ≡ whole = ap (λ y. h.made ++ y) (sym (life_tape prog (alone S (a ++ q) n whole) v m)) ∙ sym h.tape in
           let same = met a a (δ ++ spent_at p ∷ ρ) (h.made ++ []) u _ refl l (derived_runs prog (h.runs [])) in
