@@ -8,7 +8,7 @@ ghost use Rattle.tcl_player.specs.Moves.{moves_in};
 ghost use Rattle.tcl_player.specs.Players.{Stands, player_of, result_of};
 ghost use Rattle.tcl_reactions.specs.Playing as playing;
 ghost use Rattle.tcl_reactions.specs.Playing.{IsOver, Lived, beginner, tree_left};
-ghost use Rattle.tcl_replay.specs.Replaying.{Serves, is_waiting, unfit, wants_memory};
+ghost use Rattle.tcl_replay.specs.Replaying.{ReactsSo, Serves, is_waiting, unfit, wants_memory};
 ghost use Rattle.tcl_replay.specs.Saved.{saved_of};
 ghost use Rattle.tcl_replay.specs.declared.replaying.Unplayed.TheVariants.{Memory};
 ghost use Rattle.tcl_run.specs.Entering.{whole_entry};
@@ -100,6 +100,10 @@ impl Saved {
             (λ r. React (language (saved_of self.now).integers) (saved_of self.now).tree
             (moves_in moves.now) limit (result_of r.outcome) (events_of r.outwards.items)
             (saved_of r.saved).tree) }
+        ensures reacts_so { IfOk result
+            (λ r. ReactsSo (saved_of self.now).integers (saved_of self.now).tree
+            (moves_in moves.now) limit (result_of r.outcome) (events_of r.outwards.items)
+            (saved_of r.saved).tree) }
         ensures style { IfOk result
             (λ r. (saved_of r.saved).integers ≡ (saved_of self.now).integers) }
         ensures waits { IfOk result
@@ -148,6 +152,9 @@ fn play(tree: &Tree, alloc: Global, moves: &[Move], limit: u64) -> Result<Replay
     ensures reacts { IfOk result
         (λ r. React (language (marks_of tree.now).integers) (tree_of tree.now) (moves_in moves.now)
         limit (result_of r.outcome) (events_of r.outwards.items) (saved_of r.saved).tree) }
+    ensures reacts_so { IfOk result
+        (λ r. ReactsSo (marks_of tree.now).integers (tree_of tree.now) (moves_in moves.now) limit
+        (result_of r.outcome) (events_of r.outwards.items) (saved_of r.saved).tree) }
     ensures style { IfOk result (λ r. (saved_of r.saved).integers ≡ (marks_of tree.now).integers) }
     ensures waits { IfOk result (λ r. (saved_of r.saved).waits ≡ is_waiting (result_of r.outcome)) }
     ensures depths { IfOk result (λ r. is_waiting (result_of r.outcome) ≡ false →
