@@ -145,13 +145,13 @@ noted_so (Ok a) b e p f = p
 noted_so (Err x) b e p f = let clash : true ≡ false = sym e ∙ f in absurd cc
 
 -- what may have become of the outside where it wanted memory
-pub lost_where : {A S : Type 0} {loses : S → S → Type 0} (r : Result A Interruption) (o z : S) → WhereMemory r (loses o z) → WhereMemory r (IsLoss loses o z)
-lost_where (Ok a) o z l = tt
-lost_where (Err interruption.Memory) o z l = lost_once l
-lost_where (Err (interruption.Completed c)) o z l = tt
-lost_where (Err (interruption.Stopped s)) o z l = tt
-lost_where (Err (interruption.Exited n)) o z l = tt
-lost_where (Err (interruption.Cut c)) o z l = tt
+pub lost_where : {A S : Type 0} (loses : S → S → Type 0) (r : Result A Interruption) (o z : S) → WhereMemory r (loses o z) → WhereMemory r (IsLoss loses o z)
+lost_where loses (Ok a) o z l = tt
+lost_where loses (Err interruption.Memory) o z l = lost_once l
+lost_where loses (Err (interruption.Completed c)) o z l = tt
+lost_where loses (Err (interruption.Stopped s)) o z l = tt
+lost_where loses (Err (interruption.Exited n)) o z l = tt
+lost_where loses (Err (interruption.Cut c)) o z l = tt
 
 -- what holds anyway
 pub where_memory : {A P : Type 0} (r : Result A Interruption) → P → WhereMemory r P

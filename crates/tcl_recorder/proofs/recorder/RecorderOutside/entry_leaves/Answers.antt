@@ -1,5 +1,4 @@
-use Rattle.std.proofs.Common.{◌≡◌, refl}
-use Rattle.std.specs.Prelude.{IfOk}
+use Rattle.std.proofs.Common.{refl}
 use Rattle.tcl_tree.specs.TreeOf.{tree_of}
 use Rattle.std.proofs.lemmas.Result.{on_ok_weaker}
 use Rattle.tcl_recorder.proofs.Recorders.{leaves}
