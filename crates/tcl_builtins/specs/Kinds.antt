@@ -8,14 +8,25 @@ abbrev pub is_plain : Builtin → Bool
 is_plain name.Uplevel = false
 is_plain name.Eval = false
 is_plain name.Catch = false
+is_plain name.Try = false
 is_plain name.Foreach = false
+is_plain name.Lmap = false
+is_plain name.Dict = false
+is_plain name.Switch = false
 is_plain name.Expr = false
 is_plain name.If = false
 is_plain name.While = false
 is_plain name.For = false
 is_plain name.Rename = false
 is_plain name.Interp = false
+is_plain name.Open = false
+is_plain name.Close = false
+is_plain name.Gets = false
 is_plain name.Puts = false
+is_plain name.Read = false
+is_plain name.Eof = false
+is_plain name.Flush = false
+is_plain name.Source = false
 is_plain _ = true
 
 -- A plain one that does more than give what is a function of its words: it reads or changes the
@@ -28,7 +39,6 @@ is_effectful name.Append = true
 is_effectful name.Lappend = true
 is_effectful name.Lassign = true
 is_effectful name.Lset = true
-is_effectful name.Dict = true
 is_effectful name.Array = true
 is_effectful name.Global = true
 is_effectful name.Upvar = true

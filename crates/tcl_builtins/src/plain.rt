@@ -7,7 +7,6 @@ ghost use Rattle.tcl_run.specs.Runs.{IsLevel};
 ghost use Rattle.tcl_tree.specs.TreeOf.{Names};
 ghost use Rattle.tcl_builtins.specs.Kinds.{is_effectful, is_plain};
 
-use crate::dicts::dict;
 use crate::exits::exit;
 use std::alloc::Global;
 use tcl_commands::arrays::array;
@@ -25,29 +24,26 @@ use tcl_commands::lists::{
 use tcl_commands::texts::{format, string};
 use tcl_commands::unsetting::unset;
 use tcl_commands::variables::{incr, set};
-use tcl_run::failure::invalid_command;
 use tcl_run::interruption::Interruption;
 use tcl_tree::builtin::Builtin;
 use tcl_tree::tree::{Place, Tree};
 use tcl_value::value::Value;
 
-/// Calls a built-in command that evaluates nothing and asks nobody. One that isn't written yet is
-/// no command.
+/// Calls a built-in command that evaluates nothing and asks nobody.
 ///
 /// # Errors
-/// Those of the command; 305 where it isn't written yet; want of memory.
+/// Those of the command; want of memory.
 pub fn call_plain(
     tree: &mut Tree,
     alloc: Global,
     place: Place,
     builtin: Builtin,
-    word: &Value,
     args: &[Value],
 ) -> Result<Value, Interruption>
     requires names { (p : Path) × Names tree.old place p }
     requires plain { is_plain builtin ≡ true }
     ensures acts { Acts tree.old place
-        (λ style. program_of style builtin word.now args.now) tree.new result }
+        (λ style. program_of style builtin args.now) tree.new result }
     ensures level { IsLevel tree.old tree.new }
 {
     match builtin {
@@ -58,7 +54,6 @@ pub fn call_plain(
         Builtin::Lappend => lappend(tree, alloc, place, args),
         Builtin::Lassign => lassign(tree, alloc, place, args),
         Builtin::Lset => lset(tree, alloc, place, args),
-        Builtin::Dict => dict(tree, alloc, place, args),
         Builtin::Array => array(tree, alloc, place, args),
         Builtin::Global => global(tree, alloc, place, args),
         Builtin::Upvar => upvar(tree, alloc, place, args),
@@ -70,24 +65,22 @@ pub fn call_plain(
         Builtin::Throw => throw(tree, alloc, place, args),
         Builtin::Return => returns(tree, alloc, place, args),
         Builtin::Exit => exit(tree, alloc, place, args),
-        other => call_pure(tree, alloc, place, other, word, args),
+        other => call_pure(tree, alloc, place, other, args),
     }
 }
 
-/// Calls a built-in command that gives what is a function of its words. One that isn't written yet
-/// is no command.
+/// Calls a built-in command that gives what is a function of its words.
 fn call_pure(
     tree: &mut Tree,
     alloc: Global,
     place: Place,
     builtin: Builtin,
-    word: &Value,
     args: &[Value],
 ) -> Result<Value, Interruption>
     requires plain { is_plain builtin ≡ true }
     requires quiet { is_effectful builtin ≡ false }
     ensures acts { Acts tree.old place
-        (λ style. program_of style builtin word.now args.now) tree.new result }
+        (λ style. program_of style builtin args.now) tree.new result }
     ensures level { IsLevel tree.old tree.new }
 {
     match builtin {
@@ -106,9 +99,6 @@ fn call_pure(
         Builtin::Lsort => lsort(tree, alloc, place, args),
         Builtin::String => string(tree, alloc, place, args),
         Builtin::Format => format(tree, alloc, place, args),
-        _ => {
-            let word = word.text(alloc)?;
-            Err(invalid_command(alloc, word.as_str()))
-        }
+        _ => unreachable!(),
     }
 }

@@ -1,7 +1,11 @@
 mod Binding
 mod Branching
+mod Choosing
 mod Closing
+mod Gathering
 mod Crossing
+mod Hosted
+mod Handling
 mod Keeping
 mod Kept
 mod Levelling

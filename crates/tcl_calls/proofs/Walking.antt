@@ -1,17 +1,20 @@
 -- How loops over lists are read, and how their variables are set.
-use Rattle.std.proofs.Common.{◌≡◌, ℕ, zero, suc, ◌+◌, ◌-◌, ◌*◌, ◌<◌, ◌≤◌, ◌%◌, true, false, List, [], ◌∷◌, ◌++◌, take, drop, get_or, length, refl, sym, ◌∙◌, ap, subst, arith}
-use Rattle.std.specs.Prelude.{Result, Ok, Err, ◌&&◌}
+use Rattle.std.proofs.Common.{◌≡◌, ℕ, zero, suc, ◌+◌, ◌-◌, ◌*◌, ◌<◌, ◌≤◌, ◌%◌, ◌⊎◌, inl, inr, true, false, List, [], ◌∷◌, ◌++◌, take, drop, get_or, length, refl, sym, ◌∙◌, ap, subst, arith}
+use Rattle.std.specs.Prelude.{Result, Ok, Err, IsOkAnd, ◌&&◌, ◌==◌}
 use Rattle.std.proofs.lemmas.Bool.Decides.{nat_tests}
 use Rattle.std.proofs.Math.Seq.{drop-cons, take-length}
 use Rattle.std.proofs.lemmas.List.{length-take-le}
 use Rattle.tcl_core.specs.Endings.{Reply}
+use Rattle.tcl_core.specs.Endings.Reply.{Completed}
+use Rattle.tcl_dicts.specs.Dicts.{dict_word}
 use Rattle.tcl_core.specs.Paths.{Text}
-use Rattle.tcl_core.specs.Programs.Prog.{done, go}
-use Rattle.tcl_language.specs.Control.{foreach, foreach_form, is_empty, is_over, sets_names, walks_of, walk_of}
+use Rattle.tcl_language.specs.Control.{loops, is_empty, is_over, sets_names, walks_of, walk_of}
 use Rattle.tcl_language.specs.Faults.{wrong_args}
 use Rattle.tcl_language.specs.Instructions.{Walk, Program, either, fails, or_fails}
-use Rattle.tcl_language.specs.Instructions.Instr.{Foreach}
-use Rattle.tcl_run.specs.Ends.{IsFailure}
+use Rattle.tcl_language.specs.Pairing.{dict_for_form, dict_loop, entries_walk}
+use Rattle.tcl_run.specs.Ends.{IsFailure, failing, itself}
+use Rattle.tcl_value.specs.Dicts.{Pairs}
+use Rattle.tcl_value.specs.Texts.{flat}
 use Rattle.tcl_text.specs.Lists.{list_of}
 use Rattle.tcl_text.specs.Writing.{fault_message}
 use Rattle.tcl_text.specs.declared.list.ListFault.{ListFault}
@@ -19,28 +22,28 @@ use Rattle.tcl_language.specs.Variables.{is_odd, sets}
 use Rattle.tcl_language.proofs.Counting.{odd_is}
 use Rattle.tcl_run.specs.Runs.{IsLevel}
 use Rattle.tcl_tree.specs.declared.tree.Tree.{Tree as Table}
-use Rattle.tcl_calls.specs.Walks.{whole, walks_at, ReadsWalk, MisreadsWalk}
+use Rattle.tcl_calls.specs.Walks.{whole, walks_at, IsNoLoop, MisreadsEntry, MisreadsWalk, ReadsWalk}
 use Rattle.tcl_calls.specs.Words.{EndsBy}
 use Rattle.tcl_calls.specs.declared.walks.Walk as read
 
--- ## The words of a `foreach`
+-- ## The words of a loop
 
 pub even_is : {A : Type 0} (xs : List A) → (length xs % 2 ≡ 1 → ⊥) → is_odd xs ≡ false
 even_is xs h = let e = odd_is xs in grind (arith, nat_tests)
 
-pub few_foreach : (args : List Text) → length args < 3 → foreach args ≡ fails (wrong_args foreach_form)
-few_foreach [] h = refl
-few_foreach (a ∷ []) h = refl
-few_foreach (a ∷ b ∷ []) h = refl
-few_foreach (a ∷ b ∷ c ∷ rest) h = absurd (omega arith)
+pub few_words : (args : List Text) → length args < 3 → IsNoLoop args
+few_words [] h = λ form k. refl
+few_words (a ∷ []) h = λ form k. refl
+few_words (a ∷ b ∷ []) h = λ form k. refl
+few_words (a ∷ b ∷ c ∷ rest) h = absurd (omega arith)
 
-even_foreach : (args : List Text) → length args % 2 ≡ 0 → foreach args ≡ fails (wrong_args foreach_form)
-even_foreach [] h = refl
-even_foreach (a ∷ []) h = refl
-even_foreach (a ∷ b ∷ rest) h =
+even_words : (args : List Text) → length args % 2 ≡ 0 → IsNoLoop args
+even_words [] h = λ form k. refl
+even_words (a ∷ []) h = λ form k. refl
+even_words (a ∷ b ∷ rest) h =
     let n : length rest % 2 ≡ 0 = omega arith in
     let e : is_odd rest ≡ false = even_is rest (λ g. let clash : 0 ≡ 1 = sym n ∙ g in cc) in
-    ap (λ t. either t (walks_of (a ∷ b ∷ rest) [] (λ walks body. go (Foreach walks body) done)) (fails (wrong_args foreach_form))) e
+    λ form k. ap (λ t. either t (walks_of form (a ∷ b ∷ rest) [] k) (fails (wrong_args form))) e
 
 -- the words before the last, and the last
 pub before_last : (args : List Text) (last : Text) → 1 ≤ length args → last ≡ get_or args (length args - 1) last → args ≡ take (length args - 1) args ++ last ∷ []
@@ -50,20 +53,20 @@ before_last (x ∷ y ∷ xs) last h e =
     let n : length (x ∷ y ∷ xs) - 1 ≡ suc (length (y ∷ xs) - 1) = omega arith in
     ap (λ ws. x ∷ ws) (before_last (y ∷ xs) last (omega arith) (e ∙ ap (λ m. get_or (x ∷ y ∷ xs) m last) n)) ∙ sym (ap (λ m. take m (x ∷ y ∷ xs) ++ last ∷ []) n)
 
-pub odd_foreach : (args : List Text) → 1 ≤ length args → length (take (length args - 1) args) % 2 ≡ 1 → foreach args ≡ fails (wrong_args foreach_form)
-odd_foreach args h e = even_foreach args (let n = take_less args h in omega (arith, e, n))
+pub odd_words : (args : List Text) → 1 ≤ length args → length (take (length args - 1) args) % 2 ≡ 1 → IsNoLoop args
+odd_words args h e = even_words args (let n = take_less args h in omega (arith, e, n))
   where
     take_less : (xs : List Text) → 1 ≤ length xs → length (take (length xs - 1) xs) ≡ length xs - 1
     take_less xs l = length-take-le (length xs - 1) xs (omega arith)
 
 -- ## Walks that are read
 
-pub walk_read : (names elements : Text) (rest : List Text) (before : List Walk) (k : List Walk → Text → Program) (w : read.Walk) → ReadsWalk names elements w →
-    walks_of (names ∷ elements ∷ rest) before k ≡ walks_of rest (before ++ whole w ∷ []) k
-walk_read names elements rest before k w r = r (λ walk. walks_of rest (before ++ walk ∷ []) k)
+pub walk_read : (form names elements : Text) (rest : List Text) (before : List Walk) (k : List Walk → Text → Program) (w : read.Walk) → ReadsWalk names elements w →
+    walks_of form (names ∷ elements ∷ rest) before k ≡ walks_of form rest (before ++ whole w ∷ []) k
+walk_read form names elements rest before k w r = r form (λ walk. walks_of form rest (before ++ walk ∷ []) k)
 
-pub walk_misread : (names elements : Text) (rest : List Text) (before : List Walk) (k : List Walk → Text → Program) (e : Reply) → MisreadsWalk names elements e → EndsBy (walks_of (names ∷ elements ∷ rest) before k) e
-walk_misread names elements rest before k e m = m (λ walk. walks_of rest (before ++ walk ∷ []) k)
+pub walk_misread : (form names elements : Text) (rest : List Text) (before : List Walk) (k : List Walk → Text → Program) (e : Reply) → MisreadsWalk form names elements e → EndsBy (walks_of form (names ∷ elements ∷ rest) before k) e
+walk_misread form names elements rest before k e m = m (λ walk. walks_of form rest (before ++ walk ∷ []) k)
 
 -- words of which none is left are no more than one
 pub none_left : (words : List Text) → length words < 2 → is_odd words ≡ false → words ≡ []
@@ -130,9 +133,50 @@ not_over turns walks i walk h e more =
     ∙ ap (λ b. b && is_over (walks_at turns (drop (i + 1) walks))) (more_left walk.elements (turns * length walk.names) more)
 
 -- a list of elements that is none
-pub misread_second : (names elements : Text) (xs : List Text) (e : Reply) → list_of names ≡ Ok xs → IsFailure fault_message (list_of elements) e → MisreadsWalk names elements e
-misread_second names elements xs e f h = λ k. subst (λ (r : Result (List Text) ListFault). EndsBy (or_fails fault_message r (λ zs. or_fails fault_message (list_of elements) (λ ys. walk_of zs ys k))) e) (sym f) (by k (list_of elements) h)
+pub misread_second : (form names elements : Text) (xs : List Text) (e : Reply) → list_of names ≡ Ok xs → IsFailure fault_message (list_of elements) e → MisreadsWalk form names elements e
+misread_second form names elements xs e f h = λ k. subst (λ (r : Result (List Text) ListFault). EndsBy (or_fails fault_message r (λ zs. or_fails fault_message (list_of elements) (λ ys. walk_of form zs ys k))) e) (sym f) (by k (list_of elements) h)
   where
-    by : (k : Walk → Program) (r : Result (List Text) ListFault) → IsFailure fault_message r e → EndsBy (or_fails fault_message r (λ ys. walk_of xs ys k)) e
+    by : (k : Walk → Program) (r : Result (List Text) ListFault) → IsFailure fault_message r e → EndsBy (or_fails fault_message r (λ ys. walk_of form xs ys k)) e
     by k (Ok ys) g = elim g [ ]
     by k (Err x) g = g
+
+-- ## The words of a loop over a dict
+
+-- what names that were read, and a dict, are
+abbrev entries_named : List Text → Text → (Walk → Program) → Program
+entries_named xs dict k = either (length xs == 2) (or_fails (λ message. message) (dict_word dict) (λ entries. k (record { names = xs; left = flat entries }))) (fails (wrong_args dict_for_form))
+
+named_on : (names dict : Text) (xs : List Text) (k : Walk → Program) → list_of names ≡ Ok xs → entries_walk names dict k ≡ entries_named xs dict k
+named_on names dict xs k e = ap (λ (r : Result (List Text) ListFault). or_fails fault_message r (λ ys. entries_named ys dict k)) e
+
+two_named : (xs : List Text) (dict : Text) (k : Walk → Program) → length xs ≡ 2 → entries_named xs dict k ≡ or_fails (λ message. message) (dict_word dict) (λ entries. k (record { names = xs; left = flat entries }))
+two_named xs dict k two = ap (λ n. either (n == 2) (or_fails (λ message. message) (dict_word dict) (λ entries. k (record { names = xs; left = flat entries }))) (fails (wrong_args dict_for_form))) two
+
+pub entries_read : (names dict : Text) (xs elements : List Text) (k : Walk → Program) → list_of names ≡ Ok xs → length xs ≡ 2 → IsOkAnd (dict_word dict) (λ entries. elements ≡ flat entries) → entries_walk names dict k ≡ k (record { names = xs; left = elements })
+entries_read names dict xs elements k e two f = named_on names dict xs k e ∙ two_named xs dict k two ∙ by (dict_word dict) f
+  where
+    by : (r : Result Pairs Text) → IsOkAnd r (λ entries. elements ≡ flat entries) → or_fails (λ message. message) r (λ entries. k (record { names = xs; left = flat entries })) ≡ k (record { names = xs; left = elements })
+    by (Ok es) g = ap (λ (l : List Text). k (record { names = xs; left = l })) (sym g)
+    by (Err m) g = elim g [ ]
+
+pub entries_not_two : (names dict : Text) (xs : List Text) (e : Reply) → list_of names ≡ Ok xs → (length xs == 2) ≡ false → e ≡ Completed (failing (wrong_args dict_for_form)) → MisreadsEntry names dict e
+entries_not_two names dict xs e read other h = λ k. subst (λ (x : Program). EndsBy x e)
+    (sym (named_on names dict xs k read ∙ ap (λ b. either b (or_fails (λ message. message) (dict_word dict) (λ entries. k (record { names = xs; left = flat entries }))) (fails (wrong_args dict_for_form))) other)) h
+
+pub entries_misread : (names dict : Text) (xs : List Text) (e : Reply) → list_of names ≡ Ok xs → length xs ≡ 2 → IsFailure itself (dict_word dict) e → MisreadsEntry names dict e
+entries_misread names dict xs e read two h = λ k. subst (λ (x : Program). EndsBy x e) (sym (named_on names dict xs k read ∙ two_named xs dict k two)) (by k (dict_word dict) h)
+  where
+    by : (k : Walk → Program) (r : Result Pairs Text) → IsFailure itself r e → EndsBy (or_fails (λ message. message) r (λ entries. k (record { names = xs; left = flat entries }))) e
+    by k (Ok es) g = elim g [ ]
+    by k (Err m) g = g
+
+pub dict_loop_on : (args : List Text) (names dict body : Text) (k : List Walk → Text → Program) → args ≡ names ∷ dict ∷ body ∷ [] → dict_loop args k ≡ entries_walk names dict (λ walk. k (walk ∷ []) body)
+dict_loop_on args names dict body k is = ap (λ (ws : List Text). dict_loop ws k) is
+
+pub dict_loop_none : (args : List Text) (k : List Walk → Text → Program) → (length args < 3) ⊎ (4 ≤ length args) → dict_loop args k ≡ fails (wrong_args dict_for_form)
+dict_loop_none [] k h = refl
+dict_loop_none (x ∷ []) k h = refl
+dict_loop_none (x ∷ y ∷ []) k h = refl
+dict_loop_none (x ∷ y ∷ z ∷ []) k (inl h) = absurd (omega arith)
+dict_loop_none (x ∷ y ∷ z ∷ []) k (inr h) = absurd (omega arith)
+dict_loop_none (x ∷ y ∷ z ∷ w ∷ ws) k h = refl

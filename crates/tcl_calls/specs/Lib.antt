@@ -1,10 +1,14 @@
 pub mod BranchesRead
 pub mod Carrying
 pub mod Catching
+pub mod Collecting
 pub mod Expressions
 pub mod Found
+pub mod HostCalls
 pub mod Levels
 pub mod Procedures
+pub mod Switching
+pub mod Trying
 pub mod Turns
 pub mod Walks
 pub mod Words

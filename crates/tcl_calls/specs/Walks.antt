@@ -2,9 +2,10 @@
 use Rattle.std.specs.Prelude.{◌≡◌, ◌≤◌, ◌*◌, ℕ, false, List, [], ◌∷◌, ◌++◌, map, drop, length}
 use Rattle.tcl_core.specs.Endings.{Reply}
 use Rattle.tcl_core.specs.Paths.{Text}
-use Rattle.tcl_language.specs.Control.{foreach, foreach_form, walk_of, walks_of}
+use Rattle.tcl_language.specs.Control.{loops, walk_of, walks_of}
 use Rattle.tcl_language.specs.Faults.{wrong_args}
 use Rattle.tcl_language.specs.Instructions.{Walk, Program, fails, or_fails}
+use Rattle.tcl_language.specs.Pairing.{dict_loop, entries_walk}
 use Rattle.tcl_language.specs.Variables.{is_odd}
 use Rattle.tcl_text.specs.Lists.{list_of}
 use Rattle.tcl_text.specs.Writing.{fault_message}
@@ -22,32 +23,49 @@ abbrev pub walks_at : ℕ → List read.Walk → List Walk
 walks_at turns ws = map (walk_at turns) ws
 
 -- on with the walk that two words are
-abbrev pub reads_walk : Text → Text → (Walk → Program) → Program
-reads_walk names elements k = or_fails fault_message (list_of names)
-    (λ xs. or_fails fault_message (list_of elements) (λ ys. walk_of xs ys k))
+abbrev pub reads_walk : Text → Text → Text → (Walk → Program) → Program
+reads_walk form names elements k = or_fails fault_message (list_of names)
+    (λ xs. or_fails fault_message (list_of elements) (λ ys. walk_of form xs ys k))
 
 -- the words, and a body behind them, are read as these walks
 abbrev pub ReadsWalks : List Text → List read.Walk → Type 0
-ReadsWalks words ws = (body : Text) (k : List Walk → Text → Program) →
-    walks_of (words ++ body ∷ []) [] k ≡ k (map whole ws) body
+ReadsWalks words ws = (form body : Text) (k : List Walk → Text → Program) →
+    walks_of form (words ++ body ∷ []) [] k ≡ k (map whole ws) body
 
--- they are refused, whatever the body
-abbrev pub MisreadsWalks : List Text → Reply → Type 0
-MisreadsWalks words e = (body : Text) (k : List Walk → Text → Program) →
-    EndsBy (walks_of (words ++ body ∷ []) [] k) e
+-- they are refused by a command of that form, whatever the body
+abbrev pub MisreadsWalks : Text → List Text → Reply → Type 0
+MisreadsWalks form words e = (body : Text) (k : List Walk → Text → Program) →
+    EndsBy (walks_of form (words ++ body ∷ []) [] k) e
 
 -- two words are read as this walk
 abbrev pub ReadsWalk : Text → Text → read.Walk → Type 0
-ReadsWalk names elements w = (k : Walk → Program) → reads_walk names elements k ≡ k (whole w)
+ReadsWalk names elements w = (form : Text) (k : Walk → Program) →
+    reads_walk form names elements k ≡ k (whole w)
 
-abbrev pub MisreadsWalk : Text → Text → Reply → Type 0
-MisreadsWalk names elements e = (k : Walk → Program) → EndsBy (reads_walk names elements k) e
+abbrev pub MisreadsWalk : Text → Text → Text → Reply → Type 0
+MisreadsWalk form names elements e = (k : Walk → Program) →
+    EndsBy (reads_walk form names elements k) e
 
--- the words of a `foreach` that are read as walks, and its body
-abbrev pub IsForeach : List Text → List Text → Text → Type 0
-IsForeach args words body = (args ≡ words ++ body ∷ []) × (is_odd words ≡ false) ×
-    (2 ≤ length words)
+-- the words of a loop that are read as walks, and its body
+abbrev pub IsLoop : List Text → List Text → Text → Type 0
+IsLoop args words body = (args ≡ words ++ body ∷ []) × (is_odd words ≡ false) × (2 ≤ length words)
 
--- no words are those of a `foreach`
-abbrev pub IsNoForeach : List Text → Type 0
-IsNoForeach args = foreach args ≡ fails (wrong_args foreach_form)
+-- no words are those of a loop
+abbrev pub IsNoLoop : List Text → Type 0
+IsNoLoop args = (form : Text) (k : List Walk → Text → Program) → loops form args k ≡ fails
+    (wrong_args form)
+
+-- a name of a key, one of a value, and a dict are read as this walk, or are refused
+abbrev pub ReadsEntry : Text → Text → read.Walk → Type 0
+ReadsEntry names dict w = (k : Walk → Program) → entries_walk names dict k ≡ k (whole w)
+
+abbrev pub MisreadsEntry : Text → Text → Reply → Type 0
+MisreadsEntry names dict e = (k : Walk → Program) → EndsBy (entries_walk names dict k) e
+
+-- the words of a loop over a dict are read as these walks and this body, or are refused
+abbrev pub ReadsDictLoop : List Text → List read.Walk → Text → Type 0
+ReadsDictLoop args ws body = (k : List Walk → Text → Program) →
+    dict_loop args k ≡ k (map whole ws) body
+
+abbrev pub MisreadsDictLoop : List Text → Reply → Type 0
+MisreadsDictLoop args e = (k : List Walk → Text → Program) → EndsBy (dict_loop args k) e

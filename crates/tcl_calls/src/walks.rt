@@ -1,19 +1,23 @@
-//! The lists that `foreach` walks through.
-ghost use Rattle.std.specs.Prelude.{◌≡◌, ◌+◌, ◌*◌, [], false, drop, get_or, length, IfOk, IfErr};
-ghost use Rattle.std.specs.Prelude.{MatchOption};
+//! The lists that loops walk through.
+ghost use Rattle.std.specs.Prelude.{◌≡◌, ◌+◌, ◌*◌, [], ◌∷◌, false, drop, get_or, length, IfOk, IfErr};
+ghost use Rattle.std.specs.Prelude.{MatchOption, MatchResult, IsOkAnd};
 ghost use Rattle.tcl_core.specs.Paths.{Path};
 ghost use Rattle.tcl_language.specs.Control.{is_over, sets_names, sets_walks};
 ghost use Rattle.tcl_language.specs.Variables.{is_odd};
-ghost use Rattle.tcl_run.specs.Ends.{Interrupts};
+ghost use Rattle.tcl_dicts.specs.Dicts as dicts;
+ghost use Rattle.tcl_value.specs.Texts.{flat};
+ghost use Rattle.tcl_run.specs.Ends.{Interrupts, IsFailure, itself};
 ghost use Rattle.tcl_run.specs.Plain.{Steps};
 ghost use Rattle.tcl_run.specs.Runs.{IsLevel};
 ghost use Rattle.tcl_tree.specs.TreeOf.{Names};
-ghost use Rattle.tcl_calls.specs.Walks.{walks_at, IsForeach, IsNoForeach, MisreadsWalk};
-ghost use Rattle.tcl_calls.specs.Walks.{MisreadsWalks, ReadsWalk, ReadsWalks};
+ghost use Rattle.tcl_calls.specs.Walks.{walks_at, IsLoop, IsNoLoop, MisreadsWalk, MisreadsWalks};
+ghost use Rattle.tcl_calls.specs.Walks.{ReadsWalk, ReadsWalks, ReadsEntry, MisreadsEntry};
+ghost use Rattle.tcl_calls.specs.Walks.{ReadsDictLoop, MisreadsDictLoop};
 
 use crate::setting::set_named;
 use std::alloc::{AllocError, Global};
-use tcl_run::failure::wrong_args;
+use tcl_dicts::reading::dict_word;
+use tcl_run::failure::{refused, wrong_args};
 use tcl_run::interruption::Interruption;
 use tcl_run::steps::read_list;
 use tcl_tree::tree::{Place, Tree};
@@ -22,6 +26,10 @@ use tcl_value::value::Value;
 
 /// The form of `foreach`.
 pub const FOREACH: &str = "foreach varList list ?varList list ...? command";
+/// The form of `lmap`.
+pub const LMAP: &str = "lmap varList list ?varList list ...? command";
+/// The form of `dict for`.
+const DICT_FOR: &str = "dict for {keyVar valueVar} dictionary body";
 
 /// The variables that a loop sets at each turn, and the list whose elements it sets them to.
 #[derive(Drop)]
@@ -30,11 +38,11 @@ pub struct Walk {
     pub elements: List,
 }
 
-/// The words of a `foreach` that are read as walks, and its body, if the number of words is that of
-/// a `foreach`. (foreach(n))
+/// The words of a loop over lists that are read as walks, and its body, if the number of words is
+/// that of such a loop. (foreach(n), lmap(n))
 #[inline(never)]
 pub fn loop_words(args: &[Value]) -> Option<(&[Value], &Value)>
-    ensures { MatchOption result (IsNoForeach args.now) (λ x. IsForeach args.now x.0.now x.1.now) }
+    ensures { MatchOption result (IsNoLoop args.now) (λ x. IsLoop args.now x.0.now x.1.now) }
 {
     let [words @ .., body] = args else {
         return None;
@@ -58,37 +66,98 @@ fn element_at(list: &List, turns: usize, count: usize, more: usize) -> Result<Va
 }
 
 /// Reads two words as a walk.
-fn read_walk(alloc: Global, names: &Value, elements: &Value) -> Result<Walk, Interruption>
+fn read_walk(
+    alloc: Global,
+    form: &str,
+    names: &Value,
+    elements: &Value,
+) -> Result<Walk, Interruption>
     ensures read { IfOk result (ReadsWalk names.now elements.now) }
-    ensures refused { IfErr result (λ i. Interrupts i (MisreadsWalk names.now elements.now)) }
+    ensures refused { IfErr result
+        (λ i. Interrupts i (MisreadsWalk form.now names.now elements.now)) }
 {
     let mut names = names.clone()?;
     let names = read_list(alloc, &mut names)?;
     let mut elements = elements.clone()?;
     let elements = read_list(alloc, &mut elements)?;
     if names.is_empty() {
-        return Err(wrong_args(alloc, FOREACH));
+        return Err(wrong_args(alloc, form));
     }
     Ok(Walk { names, elements })
 }
 
-/// Reads pairs of words as walks, from the left. (foreach(n))
+/// Reads pairs of words as walks, from the left, for a command of a form. (foreach(n), lmap(n))
 ///
 /// # Errors
 /// The first word that is no list; that a list of variables has none; want of memory.
 #[inline(never)]
-pub fn read_walks(alloc: Global, words: &[Value]) -> Result<Vec<Walk>, Interruption>
+pub fn read_walks(alloc: Global, form: &str, words: &[Value]) -> Result<Vec<Walk>, Interruption>
     requires { is_odd words.now ≡ false }
     ensures read { IfOk result (λ walks. ReadsWalks words.now walks.items) }
-    ensures refused { IfErr result (λ i. Interrupts i (MisreadsWalks words.now)) }
+    ensures refused { IfErr result (λ i. Interrupts i (MisreadsWalks form.now words.now)) }
 {
     let mut walks = Vec::new(alloc);
     let mut left = words;
     'words: while let [names, elements, rest @ ..] = left {
-        walks.push(read_walk(alloc, names, elements)?)?;
+        walks.push(read_walk(alloc, form, names, elements)?)?;
         left = rest;
     }
     Ok(walks)
+}
+
+/// Reads two names and a dict as a walk.
+fn read_entries(alloc: Global, names: &Value, dict: &Value) -> Result<Walk, Interruption>
+    ensures read { IfOk result (ReadsEntry names.now dict.now) }
+    ensures refused { IfErr result (λ i. Interrupts i (MisreadsEntry names.now dict.now)) }
+{
+    let mut names = names.clone()?;
+    let names = read_list(alloc, &mut names)?;
+    if names.len() != 2 {
+        return Err(wrong_args(alloc, DICT_FOR));
+    }
+    let elements = read_dict(alloc, dict)?;
+    Ok(Walk { names, elements })
+}
+
+/// Reads the words of a loop over a dict: its one walk, through the keys, each with its value behind
+/// it, and its body. A repeated key has its first place and its last value. (dict(n))
+///
+/// # Errors
+/// 241 of the number of words; 101 to 104 of the names, and 241 where they aren't two; 101 to 104
+/// and 121 of the dict; want of memory.
+#[inline(never)]
+pub fn read_dict_loop(alloc: Global, args: &[Value]) -> Result<(Vec<Walk>, &Value), Interruption>
+    ensures read { IfOk result (λ x. ReadsDictLoop args.now x.0.items x.1.now) }
+    ensures refused { IfErr result (λ i. Interrupts i (MisreadsDictLoop args.now)) }
+{
+    match args {
+        [names, dict, body] => {
+            let walk = read_entries(alloc, names, dict)?;
+            Ok((alone(alloc, walk)?, body))
+        }
+        _ => Err(wrong_args(alloc, DICT_FOR)),
+    }
+}
+
+/// The walks of a loop that has this one alone.
+fn alone(alloc: Global, walk: Walk) -> Result<Vec<Walk>, AllocError>
+    ensures { IfOk result (λ walks. walks.items ≡ walk ∷ []) }
+{
+    let mut walks = Vec::new(alloc);
+    walks.push(walk)?;
+    Ok(walks)
+}
+
+/// The keys of a dict, each with its value behind it.
+fn read_dict(alloc: Global, dict: &Value) -> Result<List, Interruption>
+    ensures { MatchResult result
+        (λ list. IsOkAnd (dicts.dict_word dict.now) (λ entries. list ≡ flat entries))
+        (λ i. Interrupts i (IsFailure itself (dicts.dict_word dict.now))) }
+{
+    match dict_word(alloc, dict) {
+        Ok(dict) => Ok(dict.to_list(alloc)?),
+        Err(refusal) => Err(refused(alloc, refusal)),
+    }
 }
 
 /// Whether no list has elements left after so many turns.

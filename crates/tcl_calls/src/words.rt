@@ -69,7 +69,7 @@ pub fn spread(
 }
 
 /// Adds the elements of a list.
-fn add_elements(list: &List, words: &mut Vec<Value>) -> Result<(), AllocError>
+pub fn add_elements(list: &List, words: &mut Vec<Value>) -> Result<(), AllocError>
     ensures { OnOk result (words.new.items ≡ words.old.items ++ list.now) }
 {
     'elements: for index in 0..list.len() {

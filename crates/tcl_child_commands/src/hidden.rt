@@ -5,8 +5,7 @@ ghost use Rattle.tcl_run.specs.Ends.{Interrupts};
 ghost use Rattle.tcl_child_commands.specs.HiddenCalls.{Invokes, FailsSo, called_as, ReadsOption};
 
 use std::alloc::Global;
-use tcl_entries::failure::bad_option;
-use tcl_run::failure::wrong_args;
+use tcl_run::failure::{bad_option, wrong_args};
 use tcl_run::interruption::Interruption;
 use tcl_text::text::Text;
 use tcl_value::value::Value;

@@ -53,13 +53,6 @@ pub fn in_use(alloc: Global, path: &str) -> Interruption
     failure_quoting(alloc, "interpreter ", path, " is in use")
 }
 
-/// There is no such option.
-pub fn bad_option(alloc: Global, word: &str) -> Interruption
-    ensures { Interrupts result (λ e. e ≡ Completed (failing (interpreters.bad_option word.now))) }
-{
-    failure_about(alloc, "bad option ", word)
-}
-
 /// No number of steps may be this.
 pub fn bad_count(alloc: Global, word: &str) -> Interruption
     ensures { Interrupts result (λ e. e ≡ Completed (failing (interpreters.bad_count word.now))) }

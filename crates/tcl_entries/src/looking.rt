@@ -16,10 +16,10 @@ ghost use Rattle.tcl_tree.specs.TreeOf.{Names, marks_of};
 ghost use Rattle.tcl_entries.specs.Looking.{Finds, Passes, CountGiven, DepthGiven};
 
 use crate::asking::read_path;
-use crate::failure::{bad_count, bad_depth_limit, bad_option};
+use crate::failure::{bad_count, bad_depth_limit};
 use crate::questions::node;
 use std::alloc::{AllocError, Global};
-use tcl_run::failure::{denied, failure, no_interpreter};
+use tcl_run::failure::{bad_option, denied, failure, no_interpreter};
 use tcl_run::interruption::Interruption;
 use tcl_text::integer::{IntegerFault, not_integer_message, too_large_message};
 use tcl_text::text::Text;

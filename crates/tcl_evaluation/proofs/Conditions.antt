@@ -184,7 +184,7 @@ LeavesSo after None = Unit {0}
 leaves_so : (after : After) (i : Interruption) → Interrupts i (Leaves after) → Breaks i (LeavesSo after)
 leaves_so after i l = breaks i (Leaves after) (LeavesSo after) (λ e x. x) tt l
 
-ended_in : (ended : Result Text Interruption) (c : Completion) (P : Ending → Type 0) → EndsIn ended c → IfRan ended P → P (Some (Completed c))
+pub ended_in : (ended : Result Text Interruption) (c : Completion) (P : Ending → Type 0) → EndsIn ended c → IfRan ended P → P (Some (Completed c))
 ended_in (Ok text) c P e p = subst (λ (x : Completion). P (Some (Completed x))) (sym e) p
 ended_in (Err interruption.Memory) c P e p = elim e [ ]
 ended_in (Err (interruption.Completed d)) c P e p = subst (λ (x : Completion). P (Some (Completed x))) (sym e) p

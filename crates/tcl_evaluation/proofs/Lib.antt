@@ -1,6 +1,8 @@
 mod Awaited
 mod Calling
 mod Catching
+mod Choosing
+mod Gathering
 mod Conditions
 mod Dispatching
 mod Entered
@@ -8,6 +10,7 @@ mod Found
 mod Levelling
 mod Looping
 mod Plainly
+mod Requesting
 pub mod Steps
 mod Targets
 mod Walking

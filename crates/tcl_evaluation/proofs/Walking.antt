@@ -11,10 +11,11 @@ use Rattle.tcl_core.specs.Programs.Prog.{done, act, go}
 use Rattle.tcl_core.specs.Trees.{Tree, Node, effect}
 use Rattle.tcl_core.specs.Trees.What.{Changed}
 use Rattle.tcl_frames.specs.Chain.{Chain, after_set}
-use Rattle.tcl_language.specs.Control.{after_body, foreach, foreach_form, foreach_turns, is_over, sets_names, sets_walks, walks_of}
+use Rattle.tcl_language.specs.Control.{after_body, foreach, foreach_form, foreach_turns, is_over, lmap, lmap_form, lmap_turns, loops, sets_names, sets_walks, walks_of}
 use Rattle.tcl_language.specs.Faults.{frame_message, wrong_args}
 use Rattle.tcl_language.specs.Instructions.{Program, Walk, at_node, change, either, fails, fits, too_long, with_chain}
-use Rattle.tcl_language.specs.Instructions.Instr.{Script, Foreach}
+use Rattle.tcl_language.specs.Instructions.Instr.{Script, Foreach, Lmap}
+use Rattle.tcl_language.specs.Pairing.{dict_for}
 use Rattle.tcl_language_laws.specs.Language.{language}
 use Rattle.tcl_language.specs.Variables.{chain_becomes, is_odd, sets}
 use Rattle.tcl_run.specs.Ends.{failing}
@@ -24,7 +25,7 @@ use Rattle.tcl_run.proofs.Proceeding.{at_prog, at_reply, at_start, changes, char
 use Rattle.tcl_text.specs.declared.integer.Integers.{Integers}
 use Rattle.tcl_tree.specs.Own.{Own}
 use Rattle.tcl_variables.specs.declared.fault.FrameFault.{FrameFault}
-use Rattle.tcl_calls.specs.Walks.{whole, walk_at, walks_at, IsForeach, IsNoForeach, MisreadsWalks, ReadsWalks}
+use Rattle.tcl_calls.specs.Walks.{whole, walk_at, walks_at, IsLoop, IsNoLoop, MisreadsWalks, ReadsDictLoop, ReadsWalks}
 use Rattle.tcl_calls.specs.declared.walks.Walk as read
 use Rattle.tcl_evaluation.proofs.Conditions.{ends_by}
 
@@ -44,7 +45,7 @@ SetsWalks [] T U p = U ≡ T
 SetsWalks (walk ∷ walks) T U p = (M : Tree Own) × SetsNames walk.names walk.left T M p × SetsWalks walks M U p
 
 -- a completion in which no setting of a variable ends
-abbrev marked : Completion
+abbrev pub marked : Completion
 marked = record { code = pos 7; text = []; options = record { code = pos 7; level = 0; errorcode = [] } }
 
 abbrev code_of : Reply → ℤ
@@ -54,11 +55,11 @@ code_of r = pos 0
 abbrev Through : Program → (Tree Own → Type 0) → Tree Own → Path → Type 0
 Through x P V p = (U : Tree Own) × P U × Does x U p V (Completed marked)
 
-not_failing : (b : Bool) (text : Text) → Completed marked ≡ Completed (either b (error text) too_long) → ⊥
+pub not_failing : (b : Bool) (text : Text) → Completed marked ≡ Completed (either b (error text) too_long) → ⊥
 not_failing true text e = let f : pos 7 ≡ pos 1 = ap code_of e in cc
 not_failing false text e = let f : pos 7 ≡ pos 1 = ap code_of e in cc
 
-set_through : (name value : Text) (x : Program) (T V : Tree Own) (p : Path) → Does (sets name value x) T p V (Completed marked) → Through x (λ U. Sets name value T U p) V p
+pub set_through : (name value : Text) (x : Program) (T V : Tree Own) (p : Path) → Does (sets name value x) T p V (Completed marked) → Through x (λ U. Sets name value T U p) V p
 set_through name value x T V p d = by (T (p ++ [])) refl d
   where
     given : (n : Node Own) (g : Result Chain FrameFault) → T p ≡ Some n → after_set n.own.chain name value ≡ g → Does (chain_becomes n.own g x) T p V (Completed marked) → Through x (λ U. Sets name value T U p) V p
@@ -129,40 +130,58 @@ pub walks_next : (t : ℕ) (ws : List read.Walk) → map passed (walks_at t ws) 
 walks_next t [] = refl
 walks_next t (w ∷ ws) = λ i. walk_next t w i ∷ walks_next t ws i
 
--- ## The words of a `foreach`
+-- ## The words of a loop
 
 odd_more : {A : Type 0} (xs : List A) (x : A) → is_odd xs ≡ false → is_odd (xs ++ x ∷ []) ≡ true
 odd_more [] x h = refl
 odd_more (a ∷ []) x h = let clash : true ≡ false = h in cc
 odd_more (a ∷ b ∷ xs) x h = odd_more xs x h
 
-pub foreach_is : (args words : List Text) (body : Text) → IsForeach args words body → foreach args ≡ walks_of (words ++ body ∷ []) [] (λ walks text. go (Foreach walks text) done)
-foreach_is args words body h = ap foreach h.0 ∙ by words h.1 h.2
+pub loop_is : (form : Text) (k : List Walk → Text → Program) (args words : List Text) (body : Text) → IsLoop args words body → loops form args k ≡ walks_of form (words ++ body ∷ []) [] k
+loop_is form k args words body h = ap (λ ws. loops form ws k) h.0 ∙ by words h.1 h.2
   where
-    by : (ws : List Text) → is_odd ws ≡ false → 2 ≤ length ws → foreach (ws ++ body ∷ []) ≡ walks_of (ws ++ body ∷ []) [] (λ walks text. go (Foreach walks text) done)
+    by : (ws : List Text) → is_odd ws ≡ false → 2 ≤ length ws → loops form (ws ++ body ∷ []) k ≡ walks_of form (ws ++ body ∷ []) [] k
     by [] e l = absurd (omega arith)
     by (a ∷ []) e l = absurd (omega arith)
-    by (a ∷ b ∷ ws) e l = ap (λ t. either t (walks_of (a ∷ b ∷ (ws ++ body ∷ [])) [] (λ walks text. go (Foreach walks text) done)) (fails (wrong_args foreach_form))) (odd_more ws body e)
+    by (a ∷ b ∷ ws) e l = ap (λ t. either t (walks_of form (a ∷ b ∷ (ws ++ body ∷ [])) [] k) (fails (wrong_args form))) (odd_more ws body e)
+
+-- a turn, or what the loop comes to where none is left
+abbrev pub turn_of : List Walk → Program → (List Walk → Program) → Program
+turn_of walks over after = either (is_over walks) over (act Charge (λ T. sets_walks walks after))
 
 -- what comes behind the variables of a turn
 abbrev pub body_then : Text → List Walk → Program
 body_then body walks = go (Script body) (λ c. after_body c.code c (go (Foreach walks body) done))
 
 module _ {S : Type 0} {ways : Ways S} (style : Integers) where
-  pub foreach_begins : {T V : Tree Own} {o z : S} {p : Path} {r : Ending} (args words : List Text) (body : Text) (ws : List read.Walk) → IsForeach args words body → ReadsWalks words ws →
+  pub foreach_begins : {T V : Tree Own} {o z : S} {p : Path} {r : Ending} (args words : List Text) (body : Text) (ws : List read.Walk) → IsLoop args words body → ReadsWalks words ws →
       Proceeds ways (language style) T o p (foreach_turns (walks_at 0 ws) body) V z r → Proceeds ways (language style) T o p (foreach args) V z r
   foreach_begins args words body ws h read t =
-      at_prog (foreach_is args words body h ∙ read body (λ walks text. go (Foreach walks text) done)) (goes_done {i = Foreach (map whole ws) body} (at_prog (ap (λ (x : List Walk). foreach_turns x body) (sym (walks_first ws))) t))
+      at_prog (loop_is foreach_form (λ walks text. go (Foreach walks text) done) args words body h ∙ read foreach_form body (λ walks text. go (Foreach walks text) done))
+      (goes_done {i = Foreach (map whole ws) body} (at_prog (ap (λ (x : List Walk). foreach_turns x body) (sym (walks_first ws))) t))
 
-  pub foreach_misread : {T : Tree Own} {o : S} {p : Path} (args words : List Text) (body : Text) (e : Reply) → IsForeach args words body → MisreadsWalks words e → Proceeds ways (language style) T o p (foreach args) T o (Some e)
-  foreach_misread args words body e h misread = at_prog (foreach_is args words body h) (ends_by style _ e (misread body (λ walks text. go (Foreach walks text) done)))
+  pub dict_begins : {T V : Tree Own} {o z : S} {p : Path} {r : Ending} (args : List Text) (body : Text) (ws : List read.Walk) → ReadsDictLoop args ws body →
+      Proceeds ways (language style) T o p (foreach_turns (walks_at 0 ws) body) V z r → Proceeds ways (language style) T o p (dict_for args) V z r
+  dict_begins args body ws read t =
+      at_prog (read (λ walks text. go (Foreach walks text) done)) (goes_done {i = Foreach (map whole ws) body} (at_prog (ap (λ (x : List Walk). foreach_turns x body) (sym (walks_first ws))) t))
 
-  pub foreach_none : {T : Tree Own} {o : S} {p : Path} {r : Reply} (args : List Text) → IsNoForeach args → r ≡ Completed (failing (wrong_args foreach_form)) → Proceeds ways (language style) T o p (foreach args) T o (Some r)
-  foreach_none args none e = at_prog none (at_reply e completed)
+  pub lmap_begins : {T V : Tree Own} {o z : S} {p : Path} {r : Ending} (args words : List Text) (body : Text) (ws : List read.Walk) → IsLoop args words body → ReadsWalks words ws →
+      Proceeds ways (language style) T o p (lmap_turns (walks_at 0 ws) body []) V z r → Proceeds ways (language style) T o p (lmap args) V z r
+  lmap_begins args words body ws h read t =
+      at_prog (loop_is lmap_form (λ walks text. go (Lmap walks text []) done) args words body h ∙ read lmap_form body (λ walks text. go (Lmap walks text []) done))
+      (goes_done {i = Lmap (map whole ws) body []} (at_prog (ap (λ (x : List Walk). lmap_turns x body []) (sym (walks_first ws))) t))
+
+  pub loop_misread : {T : Tree Own} {o : S} {p : Path} (form : Text) (k : List Walk → Text → Program) (args words : List Text) (body : Text) (e : Reply) → IsLoop args words body → MisreadsWalks form words e →
+      Proceeds ways (language style) T o p (loops form args k) T o (Some e)
+  loop_misread form k args words body e h misread = at_prog (loop_is form k args words body h) (ends_by style _ e (misread body k))
+
+  pub loop_none : {T : Tree Own} {o : S} {p : Path} {r : Reply} (form : Text) (k : List Walk → Text → Program) (args : List Text) → IsNoLoop args → r ≡ Completed (failing (wrong_args form)) →
+      Proceeds ways (language style) T o p (loops form args k) T o (Some r)
+  loop_none form k args none e = at_prog (none form k) (at_reply e completed)
 
   -- ## The variables of a turn
 
-  set_comes : {T U V : Tree Own} {o z : S} {p : Path} {r : Ending} (name value : Text) (k : Program) → Sets name value T U p → Proceeds ways (language style) U o p k V z r → Proceeds ways (language style) T o p (sets name value k) V z r
+  pub set_comes : {T U V : Tree Own} {o z : S} {p : Path} {r : Ending} (name value : Text) (k : Program) → Sets name value T U p → Proceeds ways (language style) U o p k V z r → Proceeds ways (language style) T o p (sets name value k) V z r
   set_comes name value k s t = looks s.2 (reads_on frame_message (λ chain. change (with_chain s.0.own chain) k) s.3 (changes s.2 s.4 t))
 
   names_come : {U V : Tree Own} {o z : S} {p : Path} {r : Ending} (names left : List Text) (T : Tree Own) (k : Program) → SetsNames names left T U p → Proceeds ways (language style) U o p k V z r →
@@ -178,27 +197,27 @@ module _ {S : Type 0} {ways : Ways S} (style : Integers) where
 
   -- ## Turns
 
-  pub turn_begins : {T U M V : Tree Own} {o u z : S} {p : Path} {r : Ending} (walks : List Walk) (body : Text) → is_over walks ≡ false → Counts ways.goes T o p U u → SetsWalks walks U M p →
-      Proceeds ways (language style) M u p (body_then body (map passed walks)) V z r → Proceeds ways (language style) T o p (foreach_turns walks body) V z r
-  turn_begins {U = U} walks body e counts s t =
-      at_prog (ap (λ b. either b (done (ok [])) (act Charge (λ X. sets_walks walks (body_then body)))) e)
-      (charges counts (at_prog (walks_pass walks (body_then body)) (walks_come walks U (body_then body (map passed walks)) s t)))
+  pub turn_begins : {T U M V : Tree Own} {o u z : S} {p : Path} {r : Ending} (walks : List Walk) (over : Program) (after : List Walk → Program) → is_over walks ≡ false → Counts ways.goes T o p U u → SetsWalks walks U M p →
+      Proceeds ways (language style) M u p (after (map passed walks)) V z r → Proceeds ways (language style) T o p (turn_of walks over after) V z r
+  turn_begins {U = U} walks over after e counts s t =
+      at_prog (ap (λ b. either b over (act Charge (λ X. sets_walks walks after))) e) (charges counts (at_prog (walks_pass walks after) (walks_come walks U (after (map passed walks)) s t)))
 
-  pub turn_over : {T : Tree Own} {o : S} {p : Path} {r : Reply} (walks : List Walk) (body : Text) → is_over walks ≡ true → r ≡ Completed (ok []) → Proceeds ways (language style) T o p (foreach_turns walks body) T o (Some r)
-  turn_over walks body e f = at_prog (ap (λ b. either b (done (ok [])) (act Charge (λ X. sets_walks walks (body_then body)))) e) (at_reply f completed)
+  pub turn_over : {T V : Tree Own} {o z : S} {p : Path} {r : Ending} (walks : List Walk) (over : Program) (after : List Walk → Program) → is_over walks ≡ true →
+      Proceeds ways (language style) T o p over V z r → Proceeds ways (language style) T o p (turn_of walks over after) V z r
+  turn_over walks over after e t = at_prog (ap (λ b. either b over (act Charge (λ X. sets_walks walks after))) e) t
 
-  pub turn_stops : {T U : Tree Own} {o z : S} {p : Path} {r : Reply} (walks : List Walk) (body : Text) → is_over walks ≡ false → RefusesStep ways.goes T o p U z r → Proceeds ways (language style) T o p (foreach_turns walks body) U z (Some r)
-  turn_stops walks body e s =
-      at_prog (ap (λ b. either b (done (ok [])) (act Charge (λ X. sets_walks walks (body_then body)))) e) (charge_refused s)
+  pub turn_stops : {T U : Tree Own} {o z : S} {p : Path} {r : Reply} (walks : List Walk) (over : Program) (after : List Walk → Program) → is_over walks ≡ false → RefusesStep ways.goes T o p U z r →
+      Proceeds ways (language style) T o p (turn_of walks over after) U z (Some r)
+  turn_stops walks over after e s = at_prog (ap (λ b. either b over (act Charge (λ X. sets_walks walks after))) e) (charge_refused s)
 
   -- a variable of the turn can't be set
-  pub turn_fails : {T U V : Tree Own} {o u : S} {p : Path} {r : Reply} (walks : List Walk) (body : Text) → is_over walks ≡ false → Counts ways.goes T o p U u →
-      ((k : Program) → Does (sets_walks walks (λ more. k)) U p V r) → Proceeds ways (language style) T o p (foreach_turns walks body) V u (Some r)
-  turn_fails {u = u} walks body e counts d =
-      at_prog (ap (λ b. either b (done (ok [])) (act Charge (λ X. sets_walks walks (body_then body)))) e)
-      (charges counts (at_prog (walks_pass walks (body_then body)) (does_proceeds (sets_walks walks (λ more. body_then body (map passed walks))) u (d (body_then body (map passed walks))))))
+  pub turn_fails : {T U V : Tree Own} {o u : S} {p : Path} {r : Reply} (walks : List Walk) (over : Program) (after : List Walk → Program) → is_over walks ≡ false → Counts ways.goes T o p U u →
+      ((k : Program) → Does (sets_walks walks (λ more. k)) U p V r) → Proceeds ways (language style) T o p (turn_of walks over after) V u (Some r)
+  turn_fails {u = u} walks over after e counts d =
+      at_prog (ap (λ b. either b over (act Charge (λ X. sets_walks walks after))) e)
+      (charges counts (at_prog (walks_pass walks after) (does_proceeds (sets_walks walks (λ more. after (map passed walks))) u (d (after (map passed walks))))))
 
   -- it is given up once the turn is counted
-  pub turn_given_up : {T U V : Tree Own} {o u : S} {p : Path} (walks : List Walk) (body : Text) → is_over walks ≡ false → Counts ways.goes T o p U u → Proceeds ways (language style) T o p (foreach_turns walks body) V u None
-  turn_given_up walks body e counts =
-      at_prog (ap (λ b. either b (done (ok [])) (act Charge (λ X. sets_walks walks (body_then body)))) e) (charges counts stopped)
+  pub turn_given_up : {T U V : Tree Own} {o u : S} {p : Path} (walks : List Walk) (over : Program) (after : List Walk → Program) → is_over walks ≡ false → Counts ways.goes T o p U u →
+      Proceeds ways (language style) T o p (turn_of walks over after) V u None
+  turn_given_up walks over after e counts = at_prog (ap (λ b. either b over (act Charge (λ X. sets_walks walks after))) e) (charges counts stopped)

@@ -1,3 +1,4 @@
 pub mod Conditional
+pub mod Requests
 pub mod View
 pub mod Waiting

@@ -1,6 +1,6 @@
 -- What contracts see of calls that pass the top of the tree, and of what is handed in while they
 -- are open.
-use Rattle.std.specs.Prelude.{◌≡◌, true, ℕ, ℤ, [], Option, Some, None, Result, Err, MatchResult}
+use Rattle.std.specs.Prelude.{◌≡◌, true, ℕ, ℤ, Option, Some, None, Result, Err, MatchResult}
 use Rattle.tcl_core.specs.Endings.{Completion, ok}
 use Rattle.tcl_core.specs.Endings.Reply.{Completed}
 use Rattle.tcl_core.specs.Entries.{Entry, HostReply}
@@ -13,14 +13,11 @@ use Rattle.tcl_core.specs.Runs.{Ending, entering, is_own}
 use Rattle.tcl_core.specs.Execution.{event}
 use Rattle.tcl_core.specs.Trees.{Tree}
 use Rattle.tcl_core.specs.Trees.What.{In}
-use Rattle.tcl_host.specs.declared.reply.HostReply.{HostReply as TheirReply}
-use Rattle.tcl_host.specs.declared.reply.HostReply.TheVariants as theirs
-use Rattle.tcl_language.specs.Hosting.{channel_message}
 use Rattle.tcl_language.specs.Instructions.{Program}
 use Rattle.tcl_language.specs.Interpreters.{finished}
 use Rattle.tcl_language_laws.specs.Language.{language}
-use Rattle.tcl_run.specs.Ends.{Breaks, IfEnded, IfRan, failing}
-use Rattle.tcl_run.specs.Outsides.{Going, Misses, number_of, reply_of}
+use Rattle.tcl_run.specs.Ends.{Breaks, IfEnded, IfRan}
+use Rattle.tcl_run.specs.Outsides.{Going, Misses, reply_of}
 use Rattle.tcl_run.specs.Runs.{IsAt, Proceeds, Ways}
 use Rattle.tcl_run.specs.declared.interruption.Interruption.{Interruption}
 use Rattle.tcl_run.specs.declared.interruption.Interruption.TheVariants as interruption
@@ -151,11 +148,3 @@ abbrev pub ExitOf : Result Text Interruption → Option ℤ → Type 0
 ExitOf (Err (interruption.Exited n)) status = status ≡ Some n
 ExitOf (Err interruption.Memory) status = Prim.⊥
 ExitOf ended status = status ≡ None
-
--- ## What the host is asked to write
-
--- what its reply is to the script
-abbrev pub IsWritten : Text → TheirReply → Result Text Interruption → Type 0
-IsWritten channel (theirs.Refused why) result = IfEnded result
-    (λ e. e ≡ Completed (failing (channel_message (number_of why) channel)))
-IsWritten channel reply result = IfEnded result (λ e. e ≡ Completed (ok []))

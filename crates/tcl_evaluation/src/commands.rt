@@ -7,15 +7,20 @@ ghost use Rattle.tcl_run.specs.Runs.{IsRunning, IsSteady, ProceedsIn, ways};
 ghost use Rattle.tcl_evaluation.specs.View.{LeavesProc};
 
 use crate::children::child;
+use crate::collecting::lmap;
 use crate::control::{catch, eval};
 use crate::crossing::call_alias;
 use crate::evaluation::eval_value;
 use crate::expressions::{expr, for_loop, if_first, while_loop};
-use crate::hosting::puts;
+use crate::hosting::{call_host, puts};
 use crate::interpreters::interp;
-use crate::loops::{foreach, uplevel};
+use crate::loops::{dict, foreach, uplevel};
+use crate::sourcing::source;
+use crate::switching::switch;
+use crate::trying::try_script;
 use std::alloc::{AllocError, Global};
 use tcl_builtins::plain::call_plain;
+use tcl_calls::host_calls::HostCommand;
 use tcl_calls::lookup::{find_command, find_hidden};
 use tcl_calls::procedures::{bind, enter_frame, leave_frame, wrong_form};
 use tcl_flow::completion::leave_proc;
@@ -98,9 +103,7 @@ fn call_command<O: Outside>(
     ensures left { O.entries_left outside.new ≤ O.entries_left outside.old }
 {
     match command {
-        Command::Builtin(builtin) => {
-            call_builtin(tree, alloc, outside, place, *builtin, word, args)
-        }
+        Command::Builtin(builtin) => { call_builtin(tree, alloc, outside, place, *builtin, args) }
         Command::Procedure(procedure) => {
             call_procedure(tree, alloc, outside, place, procedure, word, args)
         }
@@ -118,12 +121,11 @@ fn call_builtin<O: Outside>(
     outside: &mut O,
     place: Place,
     builtin: Builtin,
-    word: &Value,
     args: &[Value],
 ) -> Result<Value, Interruption>
     requires { IsRunning tree.old place }
     ensures runs { ProceedsIn (ways O.goes O.loses) tree.old outside.old place
-        (λ style. builtin_program style builtin word.now args.now) tree.new outside.new result }
+        (λ style. builtin_program style builtin args.now) tree.new outside.new result }
     ensures steady { IsSteady tree.old tree.new }
     ensures left { O.entries_left outside.new ≤ O.entries_left outside.old }
 {
@@ -133,13 +135,24 @@ fn call_builtin<O: Outside>(
         Builtin::Interp => interp(tree, alloc, outside, place, args),
         Builtin::Uplevel => uplevel(tree, alloc, outside, place, args),
         Builtin::Foreach => foreach(tree, alloc, outside, place, args),
+        Builtin::Lmap => lmap(tree, alloc, outside, place, args),
+        Builtin::Dict => dict(tree, alloc, outside, place, args),
+        Builtin::Switch => switch(tree, alloc, outside, place, args),
+        Builtin::Try => try_script(tree, alloc, outside, place, args),
         Builtin::Expr => expr(tree, alloc, outside, place, args),
         Builtin::If => if_first(tree, alloc, outside, place, args),
         Builtin::While => while_loop(tree, alloc, outside, place, args),
         Builtin::For => for_loop(tree, alloc, outside, place, args),
         Builtin::Rename => rename(tree, alloc, outside, place, args),
+        Builtin::Open => call_host(tree, alloc, outside, place, HostCommand::Open, args),
+        Builtin::Close => call_host(tree, alloc, outside, place, HostCommand::Close, args),
+        Builtin::Gets => call_host(tree, alloc, outside, place, HostCommand::Gets, args),
         Builtin::Puts => puts(tree, alloc, outside, place, args),
-        other => call_plain(tree, alloc, place, other, word, args),
+        Builtin::Read => call_host(tree, alloc, outside, place, HostCommand::Read, args),
+        Builtin::Eof => call_host(tree, alloc, outside, place, HostCommand::Eof, args),
+        Builtin::Flush => call_host(tree, alloc, outside, place, HostCommand::Flush, args),
+        Builtin::Source => source(tree, alloc, outside, place, args),
+        other => call_plain(tree, alloc, place, other, args),
     }
 }
 

@@ -1,25 +1,102 @@
 //! The commands that reach the host.
 ghost use Rattle.std.specs.Prelude.{◌≡◌, ◌≤◌, ◌++◌, ◌==◌, codes, IfOk};
 ghost use Rattle.std.specs.Str.{bytes_eq};
-ghost use Rattle.tcl_core.specs.Endings.Reply.{Completed};
+ghost use Rattle.tcl_calls.specs.HostCalls.{meaning_of, program_of};
 ghost use Rattle.tcl_language.specs.Hosting as hosting;
-ghost use Rattle.tcl_run.specs.Ends.{Interrupts, failing};
-ghost use Rattle.tcl_run.specs.Outsides.{number_of};
+ghost use Rattle.tcl_run.specs.Entering.{request_of};
 ghost use Rattle.tcl_run.specs.Runs.{IsRunning, IsSteady, ProceedsIn, ways};
-ghost use Rattle.tcl_evaluation.specs.Waiting.{IsWritten};
+ghost use Rattle.tcl_evaluation.specs.Requests.{Hears};
 
 use crate::waiting::{Said, wait};
 use std::alloc::{AllocError, Global};
-use tcl_host::reply::{HostRefusal, HostReply};
+use tcl_calls::host_calls::{HostCall, HostCommand, host_call};
+use tcl_calls::replies::answer;
+use tcl_host::reply::HostReply;
 use tcl_host::request::Request;
 use tcl_run::entry::Entry;
-use tcl_run::failure::{failure, too_long, wrong_args};
+use tcl_run::failure::{too_long, wrong_args};
 use tcl_run::interruption::Interruption;
 use tcl_run::outside::Outside;
-use tcl_text::messages::{DEVICE_FAULT, NO_CHANNEL, quoting};
 use tcl_text::text::Text;
 use tcl_tree::tree::{Place, Tree};
 use tcl_value::value::{Value, ValueError};
+
+/// Makes a request of the host, and gives its reply.
+///
+/// # Errors
+/// How the call ended otherwise than by a reply; want of memory.
+#[cycle(eval)]
+#[inline(never)]
+pub fn ask<O: Outside>(
+    tree: &mut Tree,
+    alloc: Global,
+    outside: &mut O,
+    place: Place,
+    request: Request,
+) -> Result<HostReply, Interruption>
+    requires { IsRunning tree.old place }
+    ensures runs { Hears (ways O.goes O.loses) tree.old outside.old place (request_of request) tree.new
+        outside.new result }
+    ensures steady { IsSteady tree.old tree.new }
+    ensures left { O.entries_left outside.new ≤ O.entries_left outside.old }
+{
+    let entry = Entry::AskHost(request);
+    outside.passes_top(alloc, tree, place, None, &[], &entry)?;
+    match wait(tree, alloc, outside, place, None, &entry)? {
+        Said::Heard(reply) => Ok(reply),
+        Said::Completed(_) => unreachable!(),
+    }
+}
+
+/// Makes a call of the host, and gives what its reply is to the script.
+///
+/// # Errors
+/// Those of the host, of what was read and of the variable that it is read for; want of memory.
+#[cycle(eval)]
+#[inline(never)]
+fn make_call<O: Outside>(
+    tree: &mut Tree,
+    alloc: Global,
+    outside: &mut O,
+    place: Place,
+    call: &HostCall,
+) -> Result<Value, Interruption>
+    requires { IsRunning tree.old place }
+    ensures runs { ProceedsIn (ways O.goes O.loses) tree.old outside.old place
+        (λ style. meaning_of call.now) tree.new outside.new result }
+    ensures steady { IsSteady tree.old tree.new }
+    ensures left { O.entries_left outside.new ≤ O.entries_left outside.old }
+{
+    let request = call.request()?;
+    let reply = ask(tree, alloc, outside, place, request)?;
+    answer(tree, alloc, place, call, reply)
+}
+
+/// Calls a command that makes one request of the host. (open(n), close(n), gets(n), read(n),
+/// eof(n), flush(n))
+///
+/// # Errors
+/// 241; 266 of a mode; 261, 262 and 267 of the host; 122 and 265 of what was read; 232, 233 and 238
+/// of a variable; want of memory.
+#[cycle(eval)]
+#[inline(never)]
+pub fn call_host<O: Outside>(
+    tree: &mut Tree,
+    alloc: Global,
+    outside: &mut O,
+    place: Place,
+    command: HostCommand,
+    args: &[Value],
+) -> Result<Value, Interruption>
+    requires { IsRunning tree.old place }
+    ensures runs { ProceedsIn (ways O.goes O.loses) tree.old outside.old place
+        (λ style. program_of command args.now) tree.new outside.new result }
+    ensures steady { IsSteady tree.old tree.new }
+    ensures left { O.entries_left outside.new ≤ O.entries_left outside.old }
+{
+    let call = host_call(alloc, command, args)?;
+    make_call(tree, alloc, outside, place, &call)
+}
 
 /// `puts ?-nonewline? ?channel? string`: writes a text to a channel, which is `stdout` where none
 /// is named, and a newline behind it. (puts(n))
@@ -115,45 +192,6 @@ fn write<O: Outside>(
     ensures steady { IsSteady tree.old tree.new }
     ensures left { O.entries_left outside.new ≤ O.entries_left outside.old }
 {
-    let entry = Entry::AskHost(Request::Write(channel.clone()?, text.text(alloc)?));
-    outside.passes_top(alloc, tree, place, None, &[], &entry)?;
-    match wait(tree, alloc, outside, place, None, &entry)? {
-        Said::Heard(reply) => written(alloc, channel.as_str(), &reply),
-        Said::Completed(_) => unreachable!(),
-    }
-}
-
-/// What the host's reply to a text that was to be written is to the script.
-///
-/// # Errors
-/// 261 and 262 of the host; want of memory.
-fn written(alloc: Global, channel: &str, reply: &HostReply) -> Result<Value, Interruption>
-    ensures { IsWritten channel.now reply.now result }
-{
-    match reply {
-        HostReply::Refused(why) => Err(channel_failure(alloc, *why, channel)),
-        _ => Ok(Value::empty()),
-    }
-}
-
-/// The error that a refusal of the host is.
-fn channel_failure(alloc: Global, why: HostRefusal, channel: &str) -> Interruption
-    ensures { Interrupts result (λ e. e
-        ≡ Completed (failing (hosting.channel_message (number_of why) channel.now))) }
-{
-    match channel_message(alloc, why, channel) {
-        Ok(message) => failure(alloc, message),
-        Err(_) => Interruption::Memory,
-    }
-}
-
-/// What a refusal of the host says of a channel.
-fn channel_message(alloc: Global, why: HostRefusal, channel: &str) -> Result<Text, AllocError>
-    ensures { IfOk result (λ text. text ≡ hosting.channel_message (number_of why) channel.now) }
-{
-    let front = match why {
-        HostRefusal::DeviceFault => DEVICE_FAULT,
-        HostRefusal::NoChannel | HostRefusal::NotOpened => NO_CHANNEL,
-    };
-    quoting(alloc, front, channel)
+    let call = HostCall::Write(channel.clone()?, text.text(alloc)?);
+    make_call(tree, alloc, outside, place, &call)
 }

@@ -2,6 +2,7 @@
 #![tactic(auto)]
 
 mod children;
+mod collecting;
 mod commands;
 mod control;
 pub mod crossing;
@@ -10,4 +11,7 @@ mod expressions;
 mod hosting;
 mod interpreters;
 mod loops;
+mod sourcing;
+mod switching;
+mod trying;
 pub mod waiting;

@@ -14,13 +14,12 @@ ghost use Rattle.tcl_value.specs.Limits.{IsWithin};
 ghost use Rattle.tcl_interp_commands.specs.Failing.{FailsSo};
 
 use std::alloc::{AllocError, Global};
-use tcl_entries::failure::bad_option;
 use tcl_entries::looking::{names_of, stands};
 use tcl_entries::questions::node;
 use tcl_entries::requests::ask_telling;
 use tcl_entries::serving::child_name;
 use tcl_run::entry::OwnEntry;
-use tcl_run::failure::{bad_name, wrong_args};
+use tcl_run::failure::{bad_name, bad_option, wrong_args};
 use tcl_run::interruption::Interruption;
 use tcl_run::outside::Outside;
 use tcl_text::text::Text;

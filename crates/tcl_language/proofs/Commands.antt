@@ -2,11 +2,12 @@
 use Rattle.std.proofs.Common.{◌≡◌, refl, ℕ, zero, suc, ℤ, pos, negsuc, Bool, true, false, not, ◌&&◌, ◌||◌, List, [], ◌∷◌, ◌++◌, Option, Some, None, is_some, Result, Ok, Err, codes, ◌==◌, ◌+ℤ◌, nat_le, length}
 use Rattle.std.specs.Fmt.{decimal}
 use Rattle.std.specs.Map.{keys_of, lookup}
-use Rattle.std.specs.Str.{bytes_eq}
+use Rattle.std.specs.Str.{bytes_eq, is_utf8}
 use Rattle.tcl_core.specs.Endings.{Completion, ok}
-use Rattle.tcl_core.specs.Entries.{Entry, HostReply, Question, Said}
+use Rattle.tcl_core.specs.Entries as core
+use Rattle.tcl_core.specs.Entries.{Entry, HostReply, Question, Request, Said}
 use Rattle.tcl_core.specs.Entries.Entry.{Eval, CallWords, InvokeHidden, SetAlias, ClearAlias, Hide, Expose, SetCountLimit, SetDepthLimit, Create, Delete, Ask, AskHost}
-use Rattle.tcl_core.specs.Entries.HostReply.{Fails}
+use Rattle.tcl_core.specs.Entries.HostReply.{Opened, Bytes, TheEnd, Is, Fails}
 use Rattle.tcl_core.specs.Entries.Question.{Exists, IsSafe, Aliases, AliasOf, Hidden as HiddenNames, Slaves, CountLimitOf, DepthLimitOf}
 use Rattle.tcl_core.specs.Entries.Request.{Write}
 use Rattle.tcl_core.specs.Entries.Said.{Finished, Told}
@@ -15,6 +16,7 @@ use Rattle.tcl_core.specs.Programs.Act.{Limit, LimitDepth, Look}
 use Rattle.tcl_core.specs.Programs.Prog.{act, done, exit, go}
 use Rattle.tcl_core.specs.Tables.{exposes}
 use Rattle.tcl_core.specs.Trees.{Node}
+use Rattle.tcl_dicts.specs.Dicts.{dict_word}
 use Rattle.tcl_expr.specs.Expressions.{expression_of}
 use Rattle.tcl_expr.specs.Faults as expr_faults
 use Rattle.tcl_expression_evaluation.specs.Computations as computations
@@ -36,18 +38,22 @@ use Rattle.tcl_language.specs.Data as collections
 use Rattle.tcl_language.specs.Definitions as definitions
 use Rattle.tcl_language.specs.Expressions as expressions
 use Rattle.tcl_language.specs.Expressions.{Branches}
-use Rattle.tcl_language.specs.Faults.{bad_name, frame_message, integer_message, invalid_command, invalid_hidden}
+use Rattle.tcl_language.specs.Faults.{bad_name, frame_message, integer_message, invalid_command, invalid_hidden, wrong_args}
 use Rattle.tcl_language.specs.Hosting as hosting
 use Rattle.tcl_language.specs.Inspection as inspection
-use Rattle.tcl_language.specs.Instructions.{Instr, Open, Program, Walk, at_node, change, either, fails, fits, gives, grown, look, on_code, on_ok, or_fails}
-use Rattle.tcl_language.specs.Instructions.Instr.{Call, Commands, Expression, For, Foreach, Hidden, Invoke, Parts, Script, Serve, Target, While, Words}
+use Rattle.tcl_language.specs.Instructions.{Instr, Open, Program, Walk, at_node, change, either, fails, fits, gives, grown, look, on_code, on_ok, or_fails, Handler}
+use Rattle.tcl_language.specs.Instructions.Instr.{Call, Commands, Expression, For, Foreach, Hidden, Invoke, Parts, Script, Serve, Target, While, Words, Handled, Lmap}
 use Rattle.tcl_language.specs.Interpreters as interpreters
 use Rattle.tcl_language.specs.Names.{is_name}
 use Rattle.tcl_language.specs.Naming.{Named, command_name, definable, removed, renamed}
 use Rattle.tcl_language.specs.Procedures as procedures
+use Rattle.tcl_language.specs.Pairing as pairing
 use Rattle.tcl_language.specs.Safety.{is_host}
 use Rattle.tcl_language.specs.Scripts as scripts
+use Rattle.tcl_language.specs.Sourcing as sourcing
+use Rattle.tcl_language.specs.Switching as switching
 use Rattle.tcl_language.specs.Table as table
+use Rattle.tcl_language.specs.Trying as trying
 use Rattle.tcl_language.specs.Variables as variables
 use Rattle.tcl_language.specs.Words.{concat, is_level}
 use Rattle.tcl_list_texts.specs.Joining.{concat_of, join_of}
@@ -305,19 +311,33 @@ module _ (P : Demands) (F : Facts P) where
   foreach_turns : (walks : List Walk) (body : Text) → Holds (control.foreach_turns walks body)
   foreach_turns walks body = by_either (control.is_over walks) _ _ tt (tt, λ T s. by_walks walks _ (λ rest. (tt, λ c. by_body c.code c _ (tt, λ e. tt))))
 
-  by_walk : (names left : List Text) (k : Walk → Program) → ((w : Walk) → Holds (k w)) → Holds (control.walk_of names left k)
-  by_walk [] left k f = tt
-  by_walk (name ∷ names) left k f = f _
+  by_walk : (form : Text) (names left : List Text) (k : Walk → Program) → ((w : Walk) → Holds (k w)) → Holds (control.walk_of form names left k)
+  by_walk form [] left k f = tt
+  by_walk form (name ∷ names) left k f = f _
 
-  by_lists : (ws : List Text) (walks : List Walk) (k : List Walk → Text → Program) → ((l : List Walk) (t : Text) → Holds (k l t)) → Holds (control.walks_of ws walks k)
-  by_lists [] walks k f = tt
-  by_lists (body ∷ []) walks k f = f walks body
-  by_lists (names ∷ elements ∷ rest) walks k f =
-      by_result fault_message (list_of names) _ (λ xs. by_result fault_message (list_of elements) _ (λ ys. by_walk xs ys _ (λ walk. by_lists rest (walks ++ walk ∷ []) k f)))
+  by_lists : (form : Text) (ws : List Text) (walks : List Walk) (k : List Walk → Text → Program) → ((l : List Walk) (t : Text) → Holds (k l t)) → Holds (control.walks_of form ws walks k)
+  by_lists form [] walks k f = tt
+  by_lists form (body ∷ []) walks k f = f walks body
+  by_lists form (names ∷ elements ∷ rest) walks k f =
+      by_result fault_message (list_of names) _ (λ xs. by_result fault_message (list_of elements) _ (λ ys. by_walk form xs ys _ (λ walk. by_lists form rest (walks ++ walk ∷ []) k f)))
+
+  by_loop : (form : Text) (args : List Text) (k : List Walk → Text → Program) → ((l : List Walk) (t : Text) → Holds (k l t)) → Holds (control.loops form args k)
+  by_loop form (a ∷ b ∷ rest) k f = by_either (variables.is_odd rest) _ _ (by_lists form (a ∷ b ∷ rest) [] k f) tt
+  by_loop form _ k f = tt
 
   foreach : (args : List Text) → Holds (control.foreach args)
-  foreach (a ∷ b ∷ rest) = by_either (variables.is_odd rest) _ _ (by_lists (a ∷ b ∷ rest) [] _ (λ walks body. (tt, λ c. tt))) tt
-  foreach _ = tt
+  foreach args = by_loop control.foreach_form args (λ walks body. go (Foreach walks body) done) (λ walks body. (tt, λ c. tt))
+
+  after_result : (n : ℤ) (c : Completion) (made : List Text) (k : List Text → Program) → ((l : List Text) → Holds (k l)) → Holds (control.after_result n c made k)
+  after_result (pos zero) c made k f = by_grown (written_list (made ++ c.text ∷ [])) (λ text. k (made ++ c.text ∷ [])) (λ text. f (made ++ c.text ∷ []))
+  after_result (pos (suc (suc (suc (suc zero))))) c made k f = f made
+  after_result n c made k f = tt
+
+  lmap_turns : (walks : List Walk) (body : Text) (made : List Text) → Holds (control.lmap_turns walks body made)
+  lmap_turns walks body made = by_either (control.is_over walks) _ _ tt (tt, λ T s. by_walks walks _ (λ rest. (tt, λ c. after_result c.code c made _ (λ more. (tt, λ e. tt)))))
+
+  lmap : (args : List Text) → Holds (control.lmap args)
+  lmap args = by_loop control.lmap_form args (λ walks body. go (Lmap walks body []) done) (λ walks body. (tt, λ c. tt))
 
   by_bindings : (p : ProcedureView) (word : Text) (ws : List Text) (o : Option (List (Text × Text))) → Holds (control.call_bound p word ws o)
   by_bindings p word ws None = tt
@@ -394,9 +414,40 @@ module _ (P : Demands) (F : Facts P) where
   lassign [] = tt
   lassign (list ∷ names) = by_result fault_message (list_of list) _ (λ elements. by_names names elements _ (λ left. by_answer (lassign_rest (length names) elements)))
 
-  dict : (args : List Text) → Holds (collections.dict args)
-  dict [] = tt
-  dict (word ∷ args) = by_answer (collections.subcommand_in collections.dict_subcommands word args)
+  pure_dict : (args : List Text) → Holds (collections.dict args)
+  pure_dict [] = tt
+  pure_dict (word ∷ args) = by_answer (collections.subcommand_in collections.dict_subcommands word args)
+
+  by_entries : (names dictionary : Text) (k : Walk → Program) → ((w : Walk) → Holds (k w)) → Holds (pairing.entries_walk names dictionary k)
+  by_entries names dictionary k f = by_result fault_message (list_of names) _
+      (λ xs. by_either (length xs == 2) _ (fails (wrong_args pairing.dict_for_form)) (by_result (λ message. message) (dict_word dictionary) _ (λ entries. f _)) tt)
+
+  dict_for : (args : List Text) → Holds (pairing.dict_for args)
+  dict_for (names ∷ dictionary ∷ body ∷ []) = by_entries names dictionary (λ walk. go (Foreach (walk ∷ []) body) done) (λ walk. (tt, λ c. tt))
+  dict_for _ = tt
+
+  -- ## Choices
+
+  switch : (args : List Text) → Holds (switching.switch args)
+  switch args = by_result (λ message. message) (switching.choice switching.exactly args) expressions.runs_last by_last
+
+  by_kept : (names : List Text) (c : Completion) (k : Program) → Holds k → Holds (trying.keeps names c k)
+  by_kept [] c k f = f
+  by_kept (result ∷ []) c k f = by_sets result c.text k f
+  by_kept (result ∷ options ∷ rest) c k f = by_sets result c.text _ (by_grown (control.options_text c) (λ text. variables.sets options text k) (λ text. by_sets options text k f))
+
+  handled_by : (c : Completion) (handlers : List Handler) → Holds (trying.handled_by c handlers)
+  handled_by c [] = tt
+  handled_by c (h ∷ hs) = by_either (trying.is_handled c h.handles) _ _
+      (by_result fault_message (list_of h.names) _ (λ xs. by_kept xs c _ (by_last (trying.first_script (h ∷ hs))))) (handled_by c hs)
+
+  finishes : (body : Text) (handlers : List Handler) (last : Option Text) → Holds (trying.finishes body handlers last)
+  finishes body handlers None = (tt, λ c. tt)
+  finishes body handlers (Some last) = (tt, λ c. (tt, by_ok (λ text. done c) (λ text. tt)))
+
+  try_script : (style : Integers) (args : List Text) → Holds (trying.try_script style args)
+  try_script style [] = tt
+  try_script style (body ∷ words) = by_result (λ message. message) (trying.tried_of style words) _ (λ t. finishes body t.handlers t.last)
 
   -- ## Inspection
 
@@ -442,13 +493,13 @@ module _ (P : Demands) (F : Facts P) where
   info_body (name ∷ []) = by_procedure name _ (λ p. tt)
   info_body _ = tt
 
-  tells_default : (name variable : Text) (o : Option (Option Text)) → Holds (procedures.tells_default name variable o)
-  tells_default name variable None = tt
-  tells_default name variable (Some None) = by_sets variable [] _ tt
-  tells_default name variable (Some (Some text)) = by_sets variable text _ tt
+  stores_default : (name variable : Text) (o : Option (Option Text)) → Holds (procedures.stores_default name variable o)
+  stores_default name variable None = tt
+  stores_default name variable (Some None) = by_sets variable [] _ tt
+  stores_default name variable (Some (Some text)) = by_sets variable text _ tt
 
   info_default : (args : List Text) → Holds (procedures.default_of args)
-  info_default (name ∷ parameter ∷ variable ∷ []) = by_procedure name _ (λ p. tells_default parameter variable (procedures.default_in parameter p.parameters))
+  info_default (name ∷ parameter ∷ variable ∷ []) = by_procedure name _ (λ p. stores_default parameter variable (procedures.default_in parameter p.parameters))
   info_default _ = tt
 
   command_names : (b : Bool) (form : Text) (args : List Text) → Holds (procedures.names b form args)
@@ -551,26 +602,30 @@ module _ (P : Demands) (F : Facts P) where
   dict_lappend style args = by_args (two_and_rest (codes "dict lappend varName key ?value ...?") args) _ (λ p. by_change true p.0 (λ old. dict_changing.lappend_of old p.1 p.2))
 
   dict_or_change : (style : Integers) (args : List Text) → Holds (changes.dict style args)
-  dict_or_change style [] = dict []
+  dict_or_change style [] = pure_dict []
   dict_or_change style (word ∷ args) =
       by_word word (codes "set") _ _ (dict_set style args)
       (by_word word (codes "unset") _ _ (dict_unset style args)
       (by_word word (codes "incr") _ _ (dict_incr style args)
       (by_word word (codes "append") _ _ (dict_append style args)
-      (by_word word (codes "lappend") _ _ (dict_lappend style args) (dict (word ∷ args))))))
+      (by_word word (codes "lappend") _ _ (dict_lappend style args) (pure_dict (word ∷ args))))))
+
+  dict : (style : Integers) (args : List Text) → Holds (pairing.dict style args)
+  dict style [] = dict_or_change style []
+  dict style (word ∷ args) = by_word word (codes "for") _ _ (dict_for args) (dict_or_change style (word ∷ args))
 
   -- ## The host
 
-  written : (channel : Text) (r : HostReply) → Holds (hosting.written channel r)
-  written channel (Fails number) = tt
-  written channel r = tt
+  accepted : (channel : Text) (r : HostReply) → Holds (hosting.accepted channel r)
+  accepted channel (Fails number) = tt
+  accepted channel r = tt
 
   by_heard : (k : HostReply → Program) → ((r : HostReply) → Holds (k r)) → (s : Said) → Holds (hosting.heard k s)
   by_heard k f (Finished c) = tt
   by_heard k f (Told r) = f r
 
   writes : (channel text : Text) → AsksHost P → Holds (hosting.writes channel text)
-  writes channel text h = (h (Write channel text), by_heard (hosting.written channel) (written channel))
+  writes channel text h = (h (Write channel text), by_heard (hosting.accepted channel) (accepted channel))
 
   puts_line : (channel text : Text) → AsksHost P → Holds (hosting.puts_line channel text)
   puts_line channel text h = by_grown (text ++ hosting.newline) (hosting.writes channel) (λ t. writes channel t h)
@@ -580,6 +635,87 @@ module _ (P : Demands) (F : Facts P) where
   puts (word ∷ text ∷ []) h = by_either (hosting.is_nonewline word) _ _ (writes hosting.stdout text h) (puts_line word text h)
   puts (word ∷ channel ∷ text ∷ []) h = by_either (hosting.is_nonewline word) (hosting.writes channel text) hosting.puts_form (writes channel text h) tt
   puts _ h = tt
+
+  by_request : (q : Request) (k : HostReply → Program) → AsksHost P → ((r : HostReply) → Holds (k r)) → Holds (hosting.asks q k)
+  by_request q k h f = (h q, by_heard k f)
+
+  by_read : (x : Text) (bytes : List ℕ) (k : Text → Program) → ((t : Text) → Holds (k t)) → Holds (hosting.read_from x bytes k)
+  by_read x bytes k f = by_grown bytes _ (λ t. by_either (is_utf8 t) (k t) (fails (hosting.not_utf8 x)) (f t) tt)
+
+  text_read : (channel : Text) (r : HostReply) → Holds (hosting.text_read channel r)
+  text_read channel (Bytes bytes) = by_read channel bytes hosting.gives_text (λ t. tt)
+  text_read channel (Fails number) = tt
+  text_read channel r = tt
+
+  line_read : (channel name : Text) (r : HostReply) → Holds (hosting.line_read channel name r)
+  line_read channel name (Bytes bytes) = by_read channel bytes (hosting.keeps_line name) (λ t. by_sets name t _ tt)
+  line_read channel name TheEnd = by_sets name [] _ tt
+  line_read channel name (Fails number) = tt
+  line_read channel name r = tt
+
+  gets : (args : List Text) → AsksHost P → Holds (hosting.gets args)
+  gets (channel ∷ []) h = by_request (core.Request.ReadLine channel) (hosting.text_read channel) h (text_read channel)
+  gets (channel ∷ name ∷ []) h = by_request (core.Request.ReadLine channel) (hosting.line_read channel name) h (line_read channel name)
+  gets _ h = tt
+
+  on_channel : (form : Text) (k : Text → Program) → ((channel : Text) → Holds (k channel)) → (args : List Text) → Holds (hosting.on_channel form k args)
+  on_channel form k f (channel ∷ []) = f channel
+  on_channel form k f [] = tt
+  on_channel form k f (x ∷ y ∷ rest) = tt
+
+  read_all : (args : List Text) → AsksHost P → Holds (hosting.read args)
+  read_all args h = on_channel (codes "read channel") hosting.reads_all (λ channel. by_request (core.Request.ReadAll channel) (hosting.text_read channel) h (text_read channel)) args
+
+  opened : (file : Text) (r : HostReply) → Holds (hosting.opened file r)
+  opened file (Opened channel) = tt
+  opened file (Fails number) = tt
+  opened file r = tt
+
+  opens : (file mode : Text) → AsksHost P → Holds (hosting.opens file mode)
+  opens file mode h = by_request (core.Request.Open file mode) (hosting.opened file) h (opened file)
+
+  open_file : (args : List Text) → AsksHost P → Holds (hosting.open_file args)
+  open_file (file ∷ []) h = opens file (codes "r") h
+  open_file (file ∷ mode ∷ []) h = by_either (hosting.is_mode mode) (hosting.opens file mode) (fails (hosting.bad_mode mode)) (opens file mode h) tt
+  open_file _ h = tt
+
+  close : (args : List Text) → AsksHost P → Holds (hosting.close args)
+  close args h = on_channel (codes "close channel") hosting.closes (λ channel. by_request (core.Request.Close channel) (hosting.accepted channel) h (accepted channel)) args
+
+  flush : (args : List Text) → AsksHost P → Holds (hosting.flush args)
+  flush args h = on_channel (codes "flush channel") hosting.flushes (λ channel. by_request (core.Request.Flush channel) (hosting.accepted channel) h (accepted channel)) args
+
+  at_end : (channel : Text) (r : HostReply) → Holds (hosting.at_end channel r)
+  at_end channel (Is answer) = tt
+  at_end channel (Fails number) = tt
+  at_end channel r = tt
+
+  eof : (args : List Text) → AsksHost P → Holds (hosting.eof args)
+  eof args h = on_channel (codes "eof channel") hosting.asks_end (λ channel. by_request (core.Request.AtEnd channel) (hosting.at_end channel) h (at_end channel)) args
+
+  -- ### The script of a file
+
+  after_close : (file : Text) (k : Program) → Holds k → (r : HostReply) → Holds (sourcing.after_close file k r)
+  after_close file k f (Fails number) = tt
+  after_close file k f r = f
+
+  closed : (file : Text) (read r : HostReply) → Holds (sourcing.closed file read r)
+  closed file (Bytes bytes) r = after_close file _ (by_read file bytes sourcing.evaluates_file (λ text. (tt, λ c. tt))) r
+  closed file (Fails number) r = tt
+  closed file read r = after_close file (done (ok [])) tt r
+
+  reads_script : (file channel : Text) → AsksHost P → Holds (sourcing.reads_script file channel)
+  reads_script file channel h = by_request (core.Request.ReadAll channel) (λ read. hosting.asks (core.Request.Close channel) (sourcing.closed file read)) h
+      (λ read. by_request (core.Request.Close channel) (sourcing.closed file read) h (closed file read))
+
+  script_opened : (file : Text) → AsksHost P → (r : HostReply) → Holds (sourcing.script_opened file r)
+  script_opened file h (Opened channel) = reads_script file channel h
+  script_opened file h (Fails number) = tt
+  script_opened file h r = tt
+
+  source : (args : List Text) → AsksHost P → Holds (sourcing.source args)
+  source (file ∷ []) h = by_request (core.Request.Open file (codes "r")) (sourcing.script_opened file) h (script_opened file h)
+  source _ h = tt
 
   exits : (n : ℤ) → Holds (hosting.exits n)
   exits (pos n) = by_either (nat_le n 255) (exit (pos n)) _ tt tt
@@ -942,60 +1078,69 @@ module _ (P : Demands) (F : Facts P) where
   -- ## The table
 
   -- a command that reaches the host may be called only where that may be asked
-  builtin : (style : Integers) (b : Builtin) (word : Text) (args : List Text) → (is_host b ≡ true → AsksHost P) → Holds (table.builtin style b word args)
-  builtin style name.Set word args h = set args
-  builtin style name.Unset word args h = unset args
-  builtin style name.Incr word args h = incr style args
-  builtin style name.Append word args h = append args
-  builtin style name.Array word args h = array args
-  builtin style name.Global word args h = global args
-  builtin style name.Upvar word args h = upvar style args
-  builtin style name.Uplevel word args h = uplevel style args
-  builtin style name.Eval word args h = eval args
-  builtin style name.Catch word args h = catch args
-  builtin style name.Error word args h = error_ends args
-  builtin style name.Return word args h = returns style args
-  builtin style name.Break word args h = breaks args
-  builtin style name.Continue word args h = continues args
-  builtin style name.Foreach word args h = foreach args
-  builtin style name.Expr word args h = expr args
-  builtin style name.If word args h = runs_branches style (expressions.branches_of args)
-  builtin style name.While word args h = while_loop args
-  builtin style name.For word args h = for_loop args
-  builtin style name.List word args h = tt
-  builtin style name.Llength word args h = by_answer (llength_of args)
-  builtin style name.Lindex word args h = by_answer (lindex_of style args)
-  builtin style name.Lrange word args h = by_answer (lrange_of style args)
-  builtin style name.Linsert word args h = by_answer (linsert_of style args)
-  builtin style name.Lreplace word args h = by_answer (lreplace_of style args)
-  builtin style name.Lrepeat word args h = by_answer (lrepeat_of style args)
-  builtin style name.Lreverse word args h = by_answer (lreverse_of args)
-  builtin style name.Concat word args h = by_answer (concat_of args)
-  builtin style name.Join word args h = by_answer (join_of args)
-  builtin style name.Split word args h = by_answer (split_of args)
-  builtin style name.String word args h = by_answer (string_of style args)
-  builtin style name.Format word args h = by_answer (format_of style args)
-  builtin style name.Lappend word args h = lappend args
-  builtin style name.Lassign word args h = lassign args
-  builtin style name.Dict word args h = dict_or_change style args
-  builtin style name.Lset word args h = lset style args
-  builtin style name.Lsearch word args h = by_answer (lsearch_of args)
-  builtin style name.Lsort word args h = by_answer (lsort_of style args)
-  builtin style name.Throw word args h = throw args
-  builtin style name.Info word args h = info style args
-  builtin style name.Proc word args h = proc args
-  builtin style name.Rename word args h = rename args
-  builtin style name.Interp word args h = interp style args
-  builtin style name.Puts word args h = puts args (h refl)
-  builtin style name.Exit word args h = exit_with style args
-  builtin style _ word args h = tt
+  builtin : (style : Integers) (b : Builtin) (args : List Text) → (is_host b ≡ true → AsksHost P) → Holds (table.builtin style b args)
+  builtin style name.Set args h = set args
+  builtin style name.Unset args h = unset args
+  builtin style name.Incr args h = incr style args
+  builtin style name.Append args h = append args
+  builtin style name.Array args h = array args
+  builtin style name.Global args h = global args
+  builtin style name.Upvar args h = upvar style args
+  builtin style name.Uplevel args h = uplevel style args
+  builtin style name.Eval args h = eval args
+  builtin style name.Catch args h = catch args
+  builtin style name.Try args h = try_script style args
+  builtin style name.Error args h = error_ends args
+  builtin style name.Return args h = returns style args
+  builtin style name.Break args h = breaks args
+  builtin style name.Continue args h = continues args
+  builtin style name.Foreach args h = foreach args
+  builtin style name.Lmap args h = lmap args
+  builtin style name.Switch args h = switch args
+  builtin style name.Expr args h = expr args
+  builtin style name.If args h = runs_branches style (expressions.branches_of args)
+  builtin style name.While args h = while_loop args
+  builtin style name.For args h = for_loop args
+  builtin style name.List args h = tt
+  builtin style name.Llength args h = by_answer (llength_of args)
+  builtin style name.Lindex args h = by_answer (lindex_of style args)
+  builtin style name.Lrange args h = by_answer (lrange_of style args)
+  builtin style name.Linsert args h = by_answer (linsert_of style args)
+  builtin style name.Lreplace args h = by_answer (lreplace_of style args)
+  builtin style name.Lrepeat args h = by_answer (lrepeat_of style args)
+  builtin style name.Lreverse args h = by_answer (lreverse_of args)
+  builtin style name.Concat args h = by_answer (concat_of args)
+  builtin style name.Join args h = by_answer (join_of args)
+  builtin style name.Split args h = by_answer (split_of args)
+  builtin style name.String args h = by_answer (string_of style args)
+  builtin style name.Format args h = by_answer (format_of style args)
+  builtin style name.Lappend args h = lappend args
+  builtin style name.Lassign args h = lassign args
+  builtin style name.Dict args h = dict style args
+  builtin style name.Lset args h = lset style args
+  builtin style name.Lsearch args h = by_answer (lsearch_of args)
+  builtin style name.Lsort args h = by_answer (lsort_of style args)
+  builtin style name.Throw args h = throw args
+  builtin style name.Info args h = info style args
+  builtin style name.Proc args h = proc args
+  builtin style name.Rename args h = rename args
+  builtin style name.Interp args h = interp style args
+  builtin style name.Open args h = open_file args (h refl)
+  builtin style name.Close args h = close args (h refl)
+  builtin style name.Gets args h = gets args (h refl)
+  builtin style name.Puts args h = puts args (h refl)
+  builtin style name.Read args h = read_all args (h refl)
+  builtin style name.Eof args h = eof args (h refl)
+  builtin style name.Flush args h = flush args (h refl)
+  builtin style name.Source args h = source args (h refl)
+  builtin style name.Exit args h = exit_with style args
 
   call_alias : (a : AliasView) (word : Text) (args : List Text) → Holds (interpreters.call_alias a word args)
   call_alias a word args = (F.calls a.up a.down (CallWords (a.words ++ args)) refl, by_finished done (λ c. tt))
 
   dispatch : (style : Integers) (word : Text) (args : List Text) (missing : Text → Text) (o : Option Command) → ((b : Builtin) → o ≡ Some (command.Builtin b) → is_host b ≡ true → AsksHost P) → Holds (table.dispatch style word args missing o)
   dispatch style word args missing None h = tt
-  dispatch style word args missing (Some (command.Builtin b)) h = builtin style b word args (h b refl)
+  dispatch style word args missing (Some (command.Builtin b)) h = builtin style b args (h b refl)
   dispatch style word args missing (Some (command.Procedure p)) h = procedure p word args
   dispatch style word args missing (Some (command.Alias a)) h = call_alias a word args
   dispatch style word args missing (Some command.Child) h = child style (table.child_name (command_name word)) args
@@ -1043,7 +1188,9 @@ module _ (P : Demands) (F : Facts P) where
   program style (Invoke ws) g = (g, tt, λ c. tt)
   program style (Hidden ws) g = invoked style ws g
   program style (Foreach walks body) g = foreach_turns walks body
+  program style (Lmap walks body made) g = lmap_turns walks body made
   program style (Expression text) g = expression style text
   program style (While test body) g = while_turns style test body
   program style (For test next body) g = for_turns style test next body
+  program style (Handled body handlers) g = (tt, λ c. handled_by c handlers)
   program style (Serve entry) g = serve style entry (F.served entry g)

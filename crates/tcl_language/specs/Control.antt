@@ -18,9 +18,9 @@ use Rattle.tcl_text.specs.Writing.{written_list, fault_message}
 use Rattle.tcl_tree.specs.Own.{Own}
 use Rattle.tcl_tree.specs.Commands.{ProcedureView}
 use Rattle.tcl_interpreter.specs.declared.parameter.Parameter.{Parameter}
-use Rattle.tcl_language.specs.Instructions.{Walk, Program, either, fits, fails, grown, or_fails}
-use Rattle.tcl_language.specs.Instructions.{look, with_chain, too_long}
-use Rattle.tcl_language.specs.Instructions.Instr.{Script, Foreach}
+use Rattle.tcl_language.specs.Instructions.{Walk, Program, either, fits, fails, gives, grown}
+use Rattle.tcl_language.specs.Instructions.{or_fails, look, with_chain, too_long}
+use Rattle.tcl_language.specs.Instructions.Instr.{Script, Foreach, Lmap}
 use Rattle.tcl_language.specs.Faults.{wrong_args}
 use Rattle.tcl_language.specs.Words.{concat, is_level}
 use Rattle.tcl_language.specs.Variables.{sets, level, is_odd}
@@ -158,28 +158,57 @@ foreach_turns walks body = either (is_over walks) (done (ok []))
     (act Charge (λ T. sets_walks walks
     (λ rest. go (Script body) (λ c. after_body c.code c (go (Foreach rest body) done)))))
 
+-- the lists are read from the left; a list of no variables is refused
+abbrev pub walk_of : Text → List Text → List Text → (Walk → Program) → Program
+walk_of form [] left k = fails (wrong_args form)
+walk_of form (name ∷ names) left k = k (record { names = name ∷ names; left = left })
+
+abbrev pub walks_of : Text → List Text → List Walk → (List Walk → Text → Program) → Program
+walks_of form (names ∷ elements ∷ rest) walks k =
+    or_fails fault_message (list_of names)
+    (λ xs. or_fails fault_message (list_of elements)
+    (λ ys. walk_of form xs ys (λ walk. walks_of form rest (walks ++ walk ∷ []) k)))
+walks_of form (body ∷ []) walks k = k walks body
+walks_of form [] walks k = fails (wrong_args form)
+
+-- on with the walks and the body that the words of a loop over lists are
+abbrev pub loops : Text → List Text → (List Walk → Text → Program) → Program
+loops form (names ∷ elements ∷ rest) k = either (is_odd rest)
+    (walks_of form (names ∷ elements ∷ rest) [] k) (fails (wrong_args form))
+loops form _ k = fails (wrong_args form)
+
 abbrev pub foreach_form : Text
 foreach_form = codes "foreach varList list ?varList list ...? command"
 
--- the lists are read from the left; a list of no variables is refused
-abbrev pub walk_of : List Text → List Text → (Walk → Program) → Program
-walk_of [] left k = fails (wrong_args foreach_form)
-walk_of (name ∷ names) left k = k (record { names = name ∷ names; left = left })
-
-abbrev pub walks_of : List Text → List Walk → (List Walk → Text → Program) → Program
-walks_of (names ∷ elements ∷ rest) walks k =
-    or_fails fault_message (list_of names)
-    (λ xs. or_fails fault_message (list_of elements)
-    (λ ys. walk_of xs ys (λ walk. walks_of rest (walks ++ walk ∷ []) k)))
-walks_of (body ∷ []) walks k = k walks body
-walks_of [] walks k = fails (wrong_args foreach_form)
-
 -- `foreach varList list ?varList list ...? command`
 abbrev pub foreach : List Text → Program
-foreach (names ∷ elements ∷ rest) = either (is_odd rest)
-    (walks_of (names ∷ elements ∷ rest) [] (λ walks body. go (Foreach walks body) done))
-    (fails (wrong_args foreach_form))
-foreach _ = fails (wrong_args foreach_form)
+foreach words = loops foreach_form words (λ walks body. go (Foreach walks body) done)
+
+-- What a loop that keeps what its body gives does after the body ended so: an ordinary end's text
+-- is kept, where the list isn't too long then; after a `continue` nothing is; a `break` gives what
+-- is kept.
+abbrev pub after_result : ℤ → Completion → List Text → (List Text → Program) → Program
+after_result (pos zero) c made k = grown (written_list (made ++ c.text ∷ []))
+    (λ text. k (made ++ c.text ∷ []))
+after_result (pos (suc zero)) c made k = done c
+after_result (pos (suc (suc zero))) c made k = done c
+after_result (pos (suc (suc (suc zero)))) c made k = gives (written_list made)
+after_result (pos (suc (suc (suc (suc zero))))) c made k = k made
+after_result (pos (suc (suc (suc (suc (suc n)))))) c made k = done c
+after_result (negsuc n) c made k = done c
+
+abbrev pub lmap_turns : List Walk → Text → List Text → Program
+lmap_turns walks body made = either (is_over walks) (gives (written_list made))
+    (act Charge (λ T. sets_walks walks
+    (λ rest. go (Script body)
+    (λ c. after_result c.code c made (λ more. go (Lmap rest body more) done)))))
+
+abbrev pub lmap_form : Text
+lmap_form = codes "lmap varList list ?varList list ...? command"
+
+-- `lmap varList list ?varList list ...? command`
+abbrev pub lmap : List Text → Program
+lmap words = loops lmap_form words (λ walks body. go (Lmap walks body []) done)
 
 -- ## Procedures
 

@@ -25,6 +25,18 @@ pub record Walk : Type 0 where
   pub names : List Text
   pub left : List Text
 
+-- What a handler of `try` handles: the completions of a code, or the errors whose errorcode begins
+-- with these elements.
+pub data Handles : Type 0 where
+  of_code : (code : ℤ) → Handles
+  of_errors : (pattern : List Text) → Handles
+
+-- a handler: the list of the variables that it sets, which is read when it runs, and its script
+pub record Handler : Type 0 where
+  pub handles : Handles
+  pub names : Text
+  pub script : Text
+
 pub data Instr : Type 0 where
   -- a script, one level deeper
   Script : (text : Text) → Instr
@@ -41,14 +53,18 @@ pub data Instr : Type 0 where
   -- a hidden command whose step is made, one level deeper; and then by itself
   Invoke : (words : List Text) → Instr
   Hidden : (words : List Text) → Instr
-  -- the turns that are left of a loop over lists
+  -- the turns that are left of a loop over lists; and of one that keeps what its body gave, with
+  -- what it gave before
   Foreach : (walks : List Walk) (body : Text) → Instr
+  Lmap : (walks : List Walk) (body : Text) (made : List Text) → Instr
   -- an expression, whose value is wanted
   Expression : (text : Text) → Instr
   -- the turns that are left of a loop with a condition, and of one that has a script between two
   -- turns
   While : (test body : Text) → Instr
   For : (test next body : Text) → Instr
+  -- a script whose completion its handlers are told of
+  Handled : (body : Text) (handlers : List Handler) → Instr
   -- what another interpreter could ask for, asked by the interpreter itself
   Serve : (entry : Entry) → Instr
 

@@ -13,11 +13,15 @@ pub mod Interpreters
 pub mod Language
 pub mod Names
 pub mod Naming
+pub mod Pairing
 pub mod Playing
 pub mod Procedures
 pub mod Rows
 pub mod Safety
 pub mod Scripts
+pub mod Sourcing
+pub mod Switching
 pub mod Table
+pub mod Trying
 pub mod Variables
 pub mod Words

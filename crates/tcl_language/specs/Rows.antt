@@ -79,6 +79,10 @@ module _ (language : Integers → Table Own Instr) where
     pub octal : Gives (codes "set x 010; incr x") (codes "9")
     pub exit : Exits (codes "exit 7; set a 1") 7
     pub exit_status : Fails (codes "exit 256") (codes "exit status must be between 0 and 255")
+    pub channels : Gives (codes
+        "list [close stdout] [flush x] [catch {gets a b c} m] $m [catch {open f x} n] $n")
+        (codes
+        "{} {} 1 {wrong # args: should be \"gets channel ?varName?\"} 1 {bad mode \"x\"}")
     pub children : Gives (codes "list [interp create] [interp create -safe] [interp slaves]")
         (codes "interp0 interp1 {interp0 interp1}")
     pub made_again : Gives (codes
@@ -197,6 +201,30 @@ module _ (language : Integers → Table Own Instr) where
     pub turns_refused : Stops 6 (codes "foreach x {a b c} {set y $x}")
     pub turns_made : GivesWithin 7 (codes "foreach x {a b c} {set y $x}") []
     pub bad_list : Fails (codes "llength \"a {b\"") (codes "unmatched open brace in list")
+    pub switch_body : Gives (codes
+        "list [switch -glob abc {a* - b* {list one} default {list two}}] [switch x a {list b}]")
+        (codes "one {}")
+    pub switch_default : Gives (codes
+        "list [switch b default {list a} b {list c}] [switch -nocase -- B b {list d}]")
+        (codes "c d")
+    pub switch_words : Gives (codes "list [catch {switch a b} m] $m [catch {switch -x a b c} m] $m")
+        (codes "1 {wrong # args: should be \"switch ?option ...? string ?pattern body ...?\"} 1 {bad option \"-x\"}")
+    pub lmap : Gives (codes "lmap a {1 2 3} b {4 5} {list $a $b}") (codes "{1 4} {2 5} {3 {}}")
+    pub lmap_ends : Gives (codes
+        "lmap x {a b c d} {if {$x eq {b}} continue; if {$x eq {d}} break; set x}") (codes "a c")
+    pub lmap_counted : Stops 6 (codes "lmap x {a b c} {set y $x}")
+    pub dict_for : Gives (codes "set l {}; dict for {k v} {a 1 b 2 a 3} {lappend l $v $k}; set l")
+        (codes "3 a 2 b")
+    pub dict_for_names : Fails (codes "dict for k {a 1} {}")
+        (codes "wrong # args: should be \"dict for {keyVar valueVar} dictionary body\"")
+    pub trapped : Gives (codes
+        "list [catch {try {error msg {} {A B}} trap A {m o} {list $m [dict get $o -errorcode]}} r] $r")
+        (codes "0 {msg {A B}}")
+    pub finally : Gives (codes "set n 0; set r [try {set n 5} finally {incr n}]; list $r $n")
+        (codes "5 6")
+    pub handled_break : Gives (codes
+        "foreach i {1 2} {try {break} on break {} {set z $i}}; set z") (codes "2")
+    pub finally_stopped : Stops 4 (codes "try {while 1 {}} finally {set z 1}")
     pub matching : Gives (codes
         "list [string match {[a-c]?*} bz] [string match {[a-c]?*} b] [dict get {a 1 a 2} a]")
         (codes "1 0 2")

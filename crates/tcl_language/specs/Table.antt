@@ -19,8 +19,8 @@ use Rattle.tcl_interpreter.specs.declared.command.Command.{Command}
 use Rattle.tcl_interpreter.specs.declared.command.Command.TheVariants as command
 use Rattle.tcl_language.specs.Instructions.{Instr, Program, fails, gives, look}
 use Rattle.tcl_language.specs.Instructions.Instr.{Script, Commands, Words, Parts, Call, Target}
-use Rattle.tcl_language.specs.Instructions.Instr.{Invoke, Hidden, Foreach, Expression, While, For}
-use Rattle.tcl_language.specs.Instructions.Instr.{Serve}
+use Rattle.tcl_language.specs.Instructions.Instr.{Invoke, Hidden, Foreach, Lmap, Expression}
+use Rattle.tcl_language.specs.Instructions.Instr.{While, For, Handled, Serve}
 use Rattle.tcl_language.specs.Faults.{invalid_command, invalid_hidden, bad_name}
 use Rattle.tcl_lists.specs.Lists.{lindex_of, linsert_of, llength_of, lrange_of, lrepeat_of}
 use Rattle.tcl_lists.specs.Lists.{lreplace_of, lreverse_of}
@@ -36,63 +36,75 @@ use Rattle.tcl_language.specs.Data as collections
 use Rattle.tcl_language.specs.Changes as changes
 use Rattle.tcl_language.specs.Variables as variables
 use Rattle.tcl_language.specs.Control as control
+use Rattle.tcl_language.specs.Pairing as pairing
+use Rattle.tcl_language.specs.Switching as switching
+use Rattle.tcl_language.specs.Trying as trying
 use Rattle.tcl_language.specs.Definitions as definitions
 use Rattle.tcl_language.specs.Expressions as expressions
 use Rattle.tcl_language.specs.Hosting as hosting
 use Rattle.tcl_language.specs.Inspection as inspection
 use Rattle.tcl_language.specs.Interpreters as interpreters
+use Rattle.tcl_language.specs.Sourcing as sourcing
 use Rattle.tcl_language.specs.Control.{at_level, level_over}
 use Rattle.tcl_language.specs.Naming.{command_name}
 
--- the program of a built-in command with its arguments; a command that isn't written yet is no
--- command
-abbrev pub builtin : Integers → Builtin → Text → List Text → Program
-builtin style name.Set word args = variables.set args
-builtin style name.Unset word args = variables.unset args
-builtin style name.Incr word args = variables.incr style args
-builtin style name.Append word args = variables.append args
-builtin style name.Array word args = arrays.array args
-builtin style name.Global word args = variables.global args
-builtin style name.Upvar word args = variables.upvar style args
-builtin style name.Uplevel word args = control.uplevel style args
-builtin style name.Eval word args = control.eval args
-builtin style name.Catch word args = control.catch args
-builtin style name.Error word args = control.error args
-builtin style name.Return word args = control.returns style args
-builtin style name.Break word args = control.breaks args
-builtin style name.Continue word args = control.continues args
-builtin style name.Foreach word args = control.foreach args
-builtin style name.Expr word args = expressions.expr args
-builtin style name.If word args = expressions.if_first style args
-builtin style name.While word args = expressions.while_loop args
-builtin style name.For word args = expressions.for_loop args
-builtin style name.List word args = gives (written_list args)
-builtin style name.Llength word args = collections.answered (llength_of args)
-builtin style name.Lindex word args = collections.answered (lindex_of style args)
-builtin style name.Lrange word args = collections.answered (lrange_of style args)
-builtin style name.Linsert word args = collections.answered (linsert_of style args)
-builtin style name.Lreplace word args = collections.answered (lreplace_of style args)
-builtin style name.Lrepeat word args = collections.answered (lrepeat_of style args)
-builtin style name.Lreverse word args = collections.answered (lreverse_of args)
-builtin style name.Concat word args = collections.answered (concat_of args)
-builtin style name.Join word args = collections.answered (join_of args)
-builtin style name.Split word args = collections.answered (split_of args)
-builtin style name.String word args = collections.answered (string_of style args)
-builtin style name.Format word args = collections.answered (format_of style args)
-builtin style name.Lappend word args = collections.lappend args
-builtin style name.Lassign word args = collections.lassign args
-builtin style name.Dict word args = changes.dict style args
-builtin style name.Lset word args = changes.lset style args
-builtin style name.Lsearch word args = collections.answered (lsearch_of args)
-builtin style name.Lsort word args = collections.answered (lsort_of style args)
-builtin style name.Throw word args = control.throw args
-builtin style name.Info word args = inspection.info style args
-builtin style name.Proc word args = definitions.proc args
-builtin style name.Rename word args = definitions.rename args
-builtin style name.Interp word args = interpreters.interp style args
-builtin style name.Puts word args = hosting.puts args
-builtin style name.Exit word args = hosting.exit_with style args
-builtin style _ word args = fails (invalid_command word)
+-- the program of a built-in command with its arguments
+abbrev pub builtin : Integers → Builtin → List Text → Program
+builtin style name.Set args = variables.set args
+builtin style name.Unset args = variables.unset args
+builtin style name.Incr args = variables.incr style args
+builtin style name.Append args = variables.append args
+builtin style name.Array args = arrays.array args
+builtin style name.Global args = variables.global args
+builtin style name.Upvar args = variables.upvar style args
+builtin style name.Uplevel args = control.uplevel style args
+builtin style name.Eval args = control.eval args
+builtin style name.Catch args = control.catch args
+builtin style name.Try args = trying.try_script style args
+builtin style name.Error args = control.error args
+builtin style name.Return args = control.returns style args
+builtin style name.Break args = control.breaks args
+builtin style name.Continue args = control.continues args
+builtin style name.Foreach args = control.foreach args
+builtin style name.Lmap args = control.lmap args
+builtin style name.Switch args = switching.switch args
+builtin style name.Expr args = expressions.expr args
+builtin style name.If args = expressions.if_first style args
+builtin style name.While args = expressions.while_loop args
+builtin style name.For args = expressions.for_loop args
+builtin style name.List args = gives (written_list args)
+builtin style name.Llength args = collections.answered (llength_of args)
+builtin style name.Lindex args = collections.answered (lindex_of style args)
+builtin style name.Lrange args = collections.answered (lrange_of style args)
+builtin style name.Linsert args = collections.answered (linsert_of style args)
+builtin style name.Lreplace args = collections.answered (lreplace_of style args)
+builtin style name.Lrepeat args = collections.answered (lrepeat_of style args)
+builtin style name.Lreverse args = collections.answered (lreverse_of args)
+builtin style name.Concat args = collections.answered (concat_of args)
+builtin style name.Join args = collections.answered (join_of args)
+builtin style name.Split args = collections.answered (split_of args)
+builtin style name.String args = collections.answered (string_of style args)
+builtin style name.Format args = collections.answered (format_of style args)
+builtin style name.Lappend args = collections.lappend args
+builtin style name.Lassign args = collections.lassign args
+builtin style name.Lset args = changes.lset style args
+builtin style name.Lsearch args = collections.answered (lsearch_of args)
+builtin style name.Lsort args = collections.answered (lsort_of style args)
+builtin style name.Throw args = control.throw args
+builtin style name.Dict args = pairing.dict style args
+builtin style name.Info args = inspection.info style args
+builtin style name.Proc args = definitions.proc args
+builtin style name.Rename args = definitions.rename args
+builtin style name.Interp args = interpreters.interp style args
+builtin style name.Open args = hosting.open_file args
+builtin style name.Close args = hosting.close args
+builtin style name.Gets args = hosting.gets args
+builtin style name.Puts args = hosting.puts args
+builtin style name.Read args = hosting.read args
+builtin style name.Eof args = hosting.eof args
+builtin style name.Flush args = hosting.flush args
+builtin style name.Source args = sourcing.source args
+builtin style name.Exit args = hosting.exit_with style args
 
 -- the name by which a child is kept, whose command was called so
 abbrev pub child_name : Option Text → Text
@@ -101,7 +113,7 @@ child_name (Some plain) = plain
 
 abbrev pub dispatch : Integers → Text → List Text → (Text → Text) → Option Command → Program
 dispatch style word args missing None = fails (missing word)
-dispatch style word args missing (Some (command.Builtin b)) = builtin style b word args
+dispatch style word args missing (Some (command.Builtin b)) = builtin style b args
 dispatch style word args missing (Some (command.Procedure p)) = control.procedure p word args
 dispatch style word args missing (Some (command.Alias a)) = interpreters.call_alias a word args
 dispatch style word args missing (Some command.Child) = interpreters.child style
@@ -169,7 +181,9 @@ program style (Target words) = inside Deeper (Call words) done
 program style (Invoke words) = inside Deeper (Hidden words) done
 program style (Hidden words) = invoked style words
 program style (Foreach walks body) = control.foreach_turns walks body
+program style (Lmap walks body made) = control.lmap_turns walks body made
 program style (Expression text) = expressions.expression style text
 program style (While test body) = expressions.while_turns style test body
 program style (For test next body) = expressions.for_turns style test next body
+program style (Handled body handlers) = trying.handled body handlers
 program style (Serve entry) = serve style entry

@@ -168,6 +168,13 @@ pub fn no_procedure(alloc: Global, name: &str) -> Interruption
     failure_quoting(alloc, "", name, " isn't a procedure")
 }
 
+/// There is no such option.
+pub fn bad_option(alloc: Global, word: &str) -> Interruption
+    ensures { Interrupts result (λ e. e ≡ Completed (failing (interpreters.bad_option word.now))) }
+{
+    failure_about(alloc, "bad option ", word)
+}
+
 /// There is no such level.
 pub fn bad_level(alloc: Global, level: &str) -> Interruption
     ensures { Interrupts result (λ e. e ≡ Completed (failing (faults.bad_level level.now))) }

@@ -114,16 +114,19 @@ use Rattle.tcl_evaluation.proofs.Dispatching.{interp_known, interp_unknown, invo
 use Rattle.std.specs.Str.{bytes_eq}
 use Rattle.tcl_core.specs.Paths.{Text}
 use Rattle.tcl_language.specs.Hosting as hosting
-use Rattle.tcl_language.specs.Instructions.{either}
+use Rattle.tcl_language.specs.Instructions.{either, fails}
 use Rattle.tcl_value.specs.Limits.{IsPast}
 use Rattle.tcl_evaluation.proofs.Awaited
-use Rattle.tcl_evaluation.proofs.Writing.{not_put, past_long, writes_as, writes_heard, writes_over}
+use Rattle.tcl_evaluation.proofs.Writing.{not_put, past_long, writes_as}
+use Rattle.tcl_evaluation.proofs.Requesting.{asks_heard, asks_over, call_answered, call_over, file_evaluates, heard_once, heard_twice, leaves_more, not_sourced, reads_after, reads_heard, reads_over, reads_unheard, script_goes, script_is}
+use Rattle.tcl_language.specs.Sourcing as sourcing
+use Rattle.tcl_calls.specs.HostCalls.{IsOver, meaning_of, program_of as host_program}
 use Rattle.std.proofs.Common.{FitsSigned, w64, ℤ}
 use Rattle.std.proofs.lemmas.Int.{to_z-of_z}
 use Rattle.std.specs.Prelude.{Ok}
 use Rattle.tcl_core.specs.Entries.Entry.{AskHost}
-use Rattle.tcl_core.specs.Entries.Request.{Write}
-use Rattle.tcl_run.specs.Entering.{entry_of, whole_entry}
+use Rattle.tcl_core.specs.Entries as asking
+use Rattle.tcl_run.specs.Entering.{entry_of, request_of, whole_entry}
 use Rattle.tcl_run.specs.Outsides.{OnEntry, reply_of}
 -- (of what is given up)
 use Rattle.tcl_run.specs.Runs.{ways}
@@ -137,7 +140,27 @@ use Rattle.tcl_evaluation.proofs.Plainly.{acts_proceeds, asking_last, evaluates_
 use Rattle.tcl_run.specs.Runs.{room}
 use Rattle.tcl_run.specs.declared.outside.Turn.{Turn}
 use Rattle.tcl_language.specs.Interpreters.{no_interpreter}
-use Rattle.tcl_evaluation.specs.Waiting.{IsWritten, SaysOn}
+use Rattle.tcl_evaluation.specs.Waiting.{SaysOn}
+use Rattle.tcl_evaluation.proofs.+eval.Goals.{sourcing::source-in_default-via-then-args-lt1, sourcing::source-in_default-via-else-args-lt1+else-args-lt2}
+-- (of loops over lists and dicts, and of choices)
+use Rattle.tcl_language.specs.Control.{foreach, foreach_form, lmap, lmap_form, lmap_turns}
+use Rattle.tcl_language.specs.Changes.{dict as plain_dict}
+use Rattle.tcl_language.specs.Expressions.{runs_last}
+use Rattle.tcl_language.specs.Instructions.{gives, or_fails}
+use Rattle.tcl_language.specs.Instructions.Instr.{Lmap}
+use Rattle.tcl_language.specs.Pairing.{dict as whole_dict, dict_for}
+use Rattle.tcl_language.specs.Switching.{choice, exactly, switch}
+use Rattle.tcl_language.specs.Trying.{handled, handled_by, keeps, tried_of, try_script}
+use Rattle.tcl_run.proofs.Endings.{ran}
+use Rattle.tcl_run.proofs.Proceeding.{passed as passes, read_fails, reads_on}
+use Rattle.tcl_text.specs.Lists.{list_of}
+use Rattle.tcl_text.specs.Writing.{fault_message, written_list}
+use Rattle.tcl_calls.specs.Trying.{handlers_of, seen as tried_seen}
+use Rattle.tcl_calls.specs.declared.trying.Handler.{Handler as TriedHandler}
+use Rattle.tcl_evaluation.proofs.Choosing
+use Rattle.tcl_evaluation.proofs.Gathering
+use Rattle.tcl_evaluation.proofs.Gathering.{result_then}
+use Rattle.tcl_evaluation.proofs.Walking.{body_then}
 use Rattle.tcl_evaluation.proofs.+eval.Goals.{hosting::puts-in_default-via-then-args-lt1, hosting::puts-in_default-via-else-args-lt1+else-args-lt2+else-args-lt3+else-args-lt4}
 -- (of what is given up)
 use Rattle.tcl_run.proofs.Endings.{ran, ran_text}
@@ -1426,46 +1449,197 @@ expressions::for_loop-returns-clause-runs g t c = λ q style at. c.turns.invaria
 
 -- # Loops over lists, and scripts at another level
 
+pub loops::walk_through-returns-in_err-script-clause-runs : goal.loops::walk_through-returns-in_err-script-clause-runs
+loops::walk_through-returns-in_err-script-clause-runs g t c =
+    let p = err_from_is_err_and c.from_residual.result c.from_residual.ensures.1 in
+    memory_err c.from_residual.result p.0 _ _ p.1 p.2 (λ q style at. stopped)
+
+pub loops::walk_through-turns-init : goal.loops::walk_through-turns-init
+loops::walk_through-turns-init g t c = record {
+  leads = λ q style at V z r run. run;
+  script = c.in_ok-script.ensures.cases;
+  steady = steady-refl _;
+  left = search rules;
+}
+
+pub loops::walk_through-returns-then-is_over-clause-runs : goal.loops::walk_through-returns-then-is_over-clause-runs
+loops::walk_through-returns-then-is_over-clause-runs g t c = λ q style at.
+    let over = sym c.is_over.ensures ∙ c.if-is_over.true in
+    c.turns.invariant.leads q style at _ _ _
+    (Walking.turn_over style (walks_at c.turns.turns c.args.walks.now) (done (ok [])) (body_then c.args.body.now) over (at_reply (ap (λ (x : List ℕ). Completed (ok x)) c.empty.ensures) completed))
+
+pub loops::walk_through-returns-in_err-charge-clause-runs : goal.loops::walk_through-returns-in_err-charge-clause-runs
+loops::walk_through-returns-in_err-charge-clause-runs g t c =
+    let more = sym c.is_over.ensures ∙ c.if-is_over.false in
+    let p = err_from_is_err_and c.from_residual-in_err-charge.result c.from_residual-in_err-charge.ensures.1 in
+    says_err c.from_residual-in_err-charge.result c.in_err-charge.field-0.0 p.0 _ _ _ p.1 p.2 c.in_err-charge.ensures.refused
+    (λ e h q style at. c.turns.invariant.leads q style at _ _ _
+    (Walking.turn_stops style (walks_at c.turns.turns c.args.walks.now) (done (ok [])) (body_then c.args.body.now) more (h q (still_at _ _ c.args.place q style c.turns.invariant.steady at).names)))
+
+pub loops::walk_through-returns-in_err-set_walks-clause-runs : goal.loops::walk_through-returns-in_err-set_walks-clause-runs
+loops::walk_through-returns-in_err-set_walks-clause-runs g t c =
+    let more = sym c.is_over.ensures ∙ c.if-is_over.false in
+    let p = err_from_is_err_and c.from_residual-in_err-set_walks.result c.from_residual-in_err-set_walks.ensures.1 in
+    fails_err c.from_residual-in_err-set_walks.result c.in_err-set_walks.field-0.0 p.0 _ _ _ p.1 p.2 c.in_err-set_walks.ensures.set
+    (λ e h q style at.
+    let here = still_at _ _ c.args.place q style c.turns.invariant.steady at in
+    let after = still_at _ _ c.args.place q style (level_steady _ _ c.charge.ensures.level) here in
+    let counts = c.in_ok-charge.ensures.counted q here.names in
+    c.turns.invariant.leads q style at _ _ _
+    (Walking.turn_fails style (walks_at c.turns.turns c.args.walks.now) (done (ok [])) (body_then c.args.body.now) more counts (λ k. h q after.names k)))
+    (λ q style at.
+    let here = still_at _ _ c.args.place q style c.turns.invariant.steady at in
+    let counts = c.in_ok-charge.ensures.counted q here.names in
+    c.turns.invariant.leads q style at _ _ _ (Walking.turn_given_up style (walks_at c.turns.turns c.args.walks.now) (done (ok [])) (body_then c.args.body.now) more counts))
+
+pub loops::walk_through-returns-in_err-goes_on-clause-runs : goal.loops::walk_through-returns-in_err-goes_on-clause-runs
+loops::walk_through-returns-in_err-goes_on-clause-runs g t c =
+    let more = sym c.is_over.ensures ∙ c.if-is_over.false in
+    let p = err_from_is_err_and c.from_residual-in_err-goes_on.result c.from_residual-in_err-goes_on.ensures.1 in
+    ran_err c.from_residual-in_err-goes_on.result c.in_err-goes_on.field-0.0 p.0 _ _ _ p.1 p.2
+    (Conditions.turned_err after_body c.eval_value.result c.in_err-goes_on.field-0.0
+    (EndsAt (ways g.O.Outside.goes g.O.Outside.loses) c.set_walks.new.tree c.charge.new.outside c.args.place (λ style. script c.turns.script) c.eval_value.new.tree c.eval_value.new.outside) c.in_err-goes_on.ensures c.eval_value.ensures.runs)
+    (λ e h q style at.
+    let here = still_at _ _ c.args.place q style c.turns.invariant.steady at in
+    let after = still_at _ _ c.args.place q style (level_steady _ _ c.charge.ensures.level) here in
+    let set = still_at _ _ c.args.place q style (level_steady _ _ c.set_walks.ensures.level) after in
+    let counts = c.in_ok-charge.ensures.counted q here.names in
+    c.turns.invariant.leads q style at _ _ _
+    (Walking.turn_begins style (walks_at c.turns.turns c.args.walks.now) (done (ok [])) (body_then c.args.body.now) more counts
+    (Walking.walks_set (walks_at c.turns.turns c.args.walks.now) (tree_of c.charge.new.tree) (tree_of c.set_walks.new.tree) q (λ k V r d. c.in_ok-set_walks.ensures.set q after.names k V r d))
+    (Conditions.leaves_after style after_body c.args.body.now _ e h.1 (at_prog (ap script (sym c.turns.invariant.script)) (h.0 q style (record { names = set.names; style_is = set.style_is }))))))
+
+pub loops::walk_through-returns-then-not-branch-clause-runs : goal.loops::walk_through-returns-then-not-branch-clause-runs
+loops::walk_through-returns-then-not-branch-clause-runs g t c = λ q style at.
+    let more = sym c.is_over.ensures ∙ c.if-is_over.false in
+    let x = Conditions.turned_ok after_body c.eval_value.result c.in_ok-goes_on.field-0 false
+    (EndsAt (ways g.O.Outside.goes g.O.Outside.loses) c.set_walks.new.tree c.charge.new.outside c.args.place (λ style. script c.turns.script) c.eval_value.new.tree c.eval_value.new.outside) c.in_ok-goes_on.ensures c.if-not-branch.true c.eval_value.ensures.runs in
+    let here = still_at _ _ c.args.place q style c.turns.invariant.steady at in
+    let after = still_at _ _ c.args.place q style (level_steady _ _ c.charge.ensures.level) here in
+    let set = still_at _ _ c.args.place q style (level_steady _ _ c.set_walks.ensures.level) after in
+    let counts = c.in_ok-charge.ensures.counted q here.names in
+    c.turns.invariant.leads q style at _ _ _
+    (Walking.turn_begins style (walks_at c.turns.turns c.args.walks.now) (done (ok [])) (body_then c.args.body.now) more counts
+    (Walking.walks_set (walks_at c.turns.turns c.args.walks.now) (tree_of c.charge.new.tree) (tree_of c.set_walks.new.tree) q (λ k V r d. c.in_ok-set_walks.ensures.set q after.names k V r d))
+    (goes_on {i = Script c.args.body.now} (at_prog (ap script (sym c.turns.invariant.script)) (x.1 q style (record { names = set.names; style_is = set.style_is })))
+    (at_prog (x.2 (go (Foreach (map passed (walks_at c.turns.turns c.args.walks.now)) c.args.body.now) done)) (at_reply (ap (λ (y : List ℕ). Completed (ok y)) c.empty-then-not-branch.ensures) completed))))
+
+pub loops::walk_through-turns-preserved : goal.loops::walk_through-turns-preserved
+loops::walk_through-turns-preserved g t c =
+    let more = sym c.is_over.ensures ∙ c.if-is_over.false in
+    let x = Conditions.turned_ok after_body c.eval_value.result c.in_ok-goes_on.field-0 true
+    (EndsAt (ways g.O.Outside.goes g.O.Outside.loses) c.set_walks.new.tree c.charge.new.outside c.args.place (λ style. script c.turns.script) c.eval_value.new.tree c.eval_value.new.outside) c.in_ok-goes_on.ensures c.if-not-branch.false c.eval_value.ensures.runs in
+    record {
+      leads = λ q style at V z r run.
+          let here = still_at _ _ c.args.place q style c.turns.invariant.steady at in
+          let after = still_at _ _ c.args.place q style (level_steady _ _ c.charge.ensures.level) here in
+          let set = still_at _ _ c.args.place q style (level_steady _ _ c.set_walks.ensures.level) after in
+          let counts = c.in_ok-charge.ensures.counted q here.names in
+          c.turns.invariant.leads q style at _ _ _
+          (Walking.turn_begins style (walks_at c.turns.turns c.args.walks.now) (done (ok [])) (body_then c.args.body.now) more counts
+          (Walking.walks_set (walks_at c.turns.turns c.args.walks.now) (tree_of c.charge.new.tree) (tree_of c.set_walks.new.tree) q (λ k V r d. c.in_ok-set_walks.ensures.set q after.names k V r d))
+          (goes_on {i = Script c.args.body.now} (at_prog (ap script (sym c.turns.invariant.script)) (x.1 q style (record { names = set.names; style_is = set.style_is })))
+          (at_prog (x.2 (go (Foreach (map passed (walks_at c.turns.turns c.args.walks.now)) c.args.body.now) done))
+          (goes_done {i = Foreach (map passed (walks_at c.turns.turns c.args.walks.now)) c.args.body.now}
+          (at_prog (ap (λ (ws : List Left). foreach_turns ws c.args.body.now) (Walking.walks_next c.turns.turns c.args.walks.now)) run)))));
+      script = c.eval_value.ensures.same ∙ c.turns.invariant.script;
+      steady = steady-trans _ _ _ (steady-trans _ _ _ (steady-trans _ _ _ c.turns.invariant.steady (level_steady _ _ c.charge.ensures.level)) (level_steady _ _ c.set_walks.ensures.level)) c.eval_value.ensures.steady;
+      left = let a = c.eval_value.ensures.left in let b = c.turns.invariant.left in omega arith;
+    }
+
+pub loops::walk_through-returns-clause-runs : goal.loops::walk_through-returns-clause-runs
+loops::walk_through-returns-clause-runs g t c = λ q style at. c.turns.invariant.leads q style at _ _ _ stopped
+
 pub loops::foreach-returns-in_default-clause-runs : goal.loops::foreach-returns-in_default-clause-runs
 loops::foreach-returns-in_default-clause-runs g t c =
-    breaks c.wrong_args.result _ _ (λ e h q style at. Walking.foreach_none style c.args.args.now c.in_default.ensures h) (λ q style at. stopped) c.wrong_args.ensures
+    breaks c.wrong_args.result _ _ (λ e h q style at. Walking.loop_none style foreach_form (λ walks body. go (Foreach walks body) done) c.args.args.now c.in_default.ensures h) (λ q style at. stopped) c.wrong_args.ensures
 
 pub loops::foreach-returns-in_err-walks-clause-runs : goal.loops::foreach-returns-in_err-walks-clause-runs
 loops::foreach-returns-in_err-walks-clause-runs g t c =
     let p = err_from_is_err_and c.from_residual.result c.from_residual.ensures.1 in
     fails_err c.from_residual.result c.in_err-walks.field-0.0 p.0 _ _ _ p.1 p.2 c.in_err-walks.ensures.refused
-    (λ e h q style at. Walking.foreach_misread style c.args.args.now c.in-Some.words.now c.in-Some.body.now e c.in-Some.ensures h) (λ q style at. stopped)
+    (λ e h q style at. Walking.loop_misread style foreach_form (λ walks body. go (Foreach walks body) done) c.args.args.now c.in-Some.words.now c.in-Some.body.now e c.in-Some.ensures h) (λ q style at. stopped)
 
-pub loops::foreach-returns-in_err-body-clause-runs : goal.loops::foreach-returns-in_err-body-clause-runs
-loops::foreach-returns-in_err-body-clause-runs g t c =
+pub loops::foreach-returns-clause-runs : goal.loops::foreach-returns-clause-runs
+loops::foreach-returns-clause-runs g t c =
+    IfRan-more c.walk_through.result
+    (EndsFrom (ways g.O.Outside.goes g.O.Outside.loses) c.args.tree.now c.args.outside.now c.args.place (λ style. foreach_turns (walks_at 0 c.as_slice.result.now) c.in-Some.body.now) c.walk_through.new.tree c.walk_through.new.outside)
+    (EndsFrom (ways g.O.Outside.goes g.O.Outside.loses) c.args.tree.now c.args.outside.now c.args.place (λ style. foreach c.args.args.now) c.walk_through.new.tree c.walk_through.new.outside)
+    (λ e h q style at. Walking.foreach_begins style c.args.args.now c.in-Some.words.now c.in-Some.body.now c.in_ok-walks.walks.items c.in-Some.ensures c.in_ok-walks.ensures.read
+    (at_prog (ap (λ (ws : List Walk). foreach_turns (walks_at 0 ws) c.in-Some.body.now) (sym c.as_slice.ensures.value)) (h q style at))) c.walk_through.ensures.runs
+
+pub loops::dict_for-returns-in_err-walks-clause-runs : goal.loops::dict_for-returns-in_err-walks-clause-runs
+loops::dict_for-returns-in_err-walks-clause-runs g t c =
+    let p = err_from_is_err_and c.from_residual.result c.from_residual.ensures.1 in
+    fails_err c.from_residual.result c.in_err-walks.field-0.0 p.0 _ _ _ p.1 p.2 c.in_err-walks.ensures.refused
+    (λ e h q style at. Conditions.ends_by style _ e (h (λ walks body. go (Foreach walks body) done))) (λ q style at. stopped)
+
+pub loops::dict_for-returns-clause-runs : goal.loops::dict_for-returns-clause-runs
+loops::dict_for-returns-clause-runs g t c =
+    IfRan-more c.walk_through.result
+    (EndsFrom (ways g.O.Outside.goes g.O.Outside.loses) c.args.tree.now c.args.outside.now c.args.place (λ style. foreach_turns (walks_at 0 c.as_slice.result.now) c.in_ok-walks.body.now) c.walk_through.new.tree c.walk_through.new.outside)
+    (EndsFrom (ways g.O.Outside.goes g.O.Outside.loses) c.args.tree.now c.args.outside.now c.args.place (λ style. dict_for c.args.args.now) c.walk_through.new.tree c.walk_through.new.outside)
+    (λ e h q style at. Walking.dict_begins style c.args.args.now c.in_ok-walks.body.now c.in_ok-walks.walks.items c.in_ok-walks.ensures.read
+    (at_prog (ap (λ (ws : List Walk). foreach_turns (walks_at 0 ws) c.in_ok-walks.body.now) (sym c.as_slice.ensures.value)) (h q style at))) c.walk_through.ensures.runs
+
+pub loops::dict-returns-in-Some-clause-runs : goal.loops::dict-returns-in-Some-clause-runs
+loops::dict-returns-in-Some-clause-runs g t c =
+    proceeds_as (ways g.O.Outside.goes g.O.Outside.loses) c.args.tree.now c.dict_for.new.tree c.args.outside.now c.dict_for.new.outside c.args.place (λ style. whole_dict style c.args.args.now) (λ style. dict_for c.in-Some.words.now) c.dict_for.result (λ style. c.in-Some.ensures style) c.dict_for.ensures.runs
+
+pub loops::dict-returns-in-None : goal.loops::dict-returns-in-None
+loops::dict-returns-in-None g t c = record {
+  runs = proceeds_as (ways g.O.Outside.goes g.O.Outside.loses) c.args.tree.now c.dict.new.tree c.args.outside.now c.args.outside.now c.args.place (λ style. whole_dict style c.args.args.now) (λ style. plain_dict style c.args.args.now) c.dict.result (λ style. c.in-None.ensures style)
+      (acts_proceeds (ways g.O.Outside.goes g.O.Outside.loses) c.args.tree.now c.dict.new.tree c.args.outside.now c.args.place (λ style. plain_dict style c.args.args.now) c.dict.result c.dict.ensures.acts);
+  steady = level_steady _ _ c.dict.ensures.level;
+  left = omega arith;
+}
+
+pub collecting::lmap-returns-in_default-clause-runs : goal.collecting::lmap-returns-in_default-clause-runs
+collecting::lmap-returns-in_default-clause-runs g t c =
+    breaks c.wrong_args.result _ _ (λ e h q style at. Walking.loop_none style lmap_form (λ walks body. go (Lmap walks body []) done) c.args.args.now c.in_default.ensures h) (λ q style at. stopped) c.wrong_args.ensures
+
+pub collecting::lmap-returns-in_err-walks-clause-runs : goal.collecting::lmap-returns-in_err-walks-clause-runs
+collecting::lmap-returns-in_err-walks-clause-runs g t c =
+    let p = err_from_is_err_and c.from_residual.result c.from_residual.ensures.1 in
+    fails_err c.from_residual.result c.in_err-walks.field-0.0 p.0 _ _ _ p.1 p.2 c.in_err-walks.ensures.refused
+    (λ e h q style at. Walking.loop_misread style lmap_form (λ walks body. go (Lmap walks body []) done) c.args.args.now c.in-Some.words.now c.in-Some.body.now e c.in-Some.ensures h) (λ q style at. stopped)
+
+pub collecting::lmap-returns-in_err-body-clause-runs : goal.collecting::lmap-returns-in_err-body-clause-runs
+collecting::lmap-returns-in_err-body-clause-runs g t c =
     let p = err_from_is_err_and c.from_residual-in_err-body.result c.from_residual-in_err-body.ensures.1 in
     memory_err c.from_residual-in_err-body.result p.0 _ _ p.1 p.2 (λ q style at. stopped)
 
-pub loops::foreach-turns-init : goal.loops::foreach-turns-init
-loops::foreach-turns-init g t c = record {
-  leads = λ q style at V z r run. Walking.foreach_begins style c.args.args.now c.in-Some.words.now c.in-Some.body.now c.in_ok-walks.walks.items c.in-Some.ensures c.in_ok-walks.ensures.read
-      (at_prog (ap (foreach_turns (walks_at 0 c.in_ok-walks.walks.items)) (sym c.in_ok-body.ensures.cases)) run);
+pub collecting::lmap-returns-in_err-made-clause-runs : goal.collecting::lmap-returns-in_err-made-clause-runs
+collecting::lmap-returns-in_err-made-clause-runs g t c =
+    let p = err_from_is_err_and c.from_residual-in_err-made.result c.from_residual-in_err-made.ensures.1 in
+    memory_err c.from_residual-in_err-made.result p.0 _ _ p.1 p.2 (λ q style at. stopped)
+
+pub collecting::lmap-turns-init : goal.collecting::lmap-turns-init
+collecting::lmap-turns-init g t c = record {
+  leads = λ q style at V z r run. Walking.lmap_begins style c.args.args.now c.in-Some.words.now c.in-Some.body.now c.in_ok-walks.walks.items c.in-Some.ensures c.in_ok-walks.ensures.read
+      (at_prog ((λ i. lmap_turns (walks_at 0 c.in_ok-walks.walks.items) (sym c.in_ok-body.ensures.cases i) (sym c.in_ok-made.ensures i))) run);
   body = refl;
   steady = steady-refl _;
   left = search rules;
 }
 
-pub loops::foreach-returns-then-is_over-clause-runs : goal.loops::foreach-returns-then-is_over-clause-runs
-loops::foreach-returns-then-is_over-clause-runs g t c = λ q style at.
+pub collecting::lmap-returns-then-is_over-clause-runs : goal.collecting::lmap-returns-then-is_over-clause-runs
+collecting::lmap-returns-then-is_over-clause-runs g t c =
     let over = ap (λ (ws : List Walk). is_over (walks_at c.turns.turns ws)) (sym c.as_slice.ensures.value) ∙ sym c.is_over.ensures ∙ c.if-is_over.true in
-    c.turns.invariant.leads q style at _ _ _
-    (Walking.turn_over style (walks_at c.turns.turns c.in_ok-walks.walks.items) c.in_ok-body.body over (ap (λ (x : List ℕ). Completed (ok x)) c.empty.ensures))
+    ran c.collected.result (EndsBy (gives (written_list c.turns.made))) _
+    (λ e h q style at. c.turns.invariant.leads q style at _ _ _ (Walking.turn_over style (walks_at c.turns.turns c.in_ok-walks.walks.items) (gives (written_list c.turns.made)) (result_then c.in_ok-body.body c.turns.made) over (Conditions.ends_by style (gives (written_list c.turns.made)) e h)))
+    (λ q style at. c.turns.invariant.leads q style at _ _ _ stopped) c.collected.ensures
 
-pub loops::foreach-returns-in_err-charge-clause-runs : goal.loops::foreach-returns-in_err-charge-clause-runs
-loops::foreach-returns-in_err-charge-clause-runs g t c =
+pub collecting::lmap-returns-in_err-charge-clause-runs : goal.collecting::lmap-returns-in_err-charge-clause-runs
+collecting::lmap-returns-in_err-charge-clause-runs g t c =
     let more = ap (λ (ws : List Walk). is_over (walks_at c.turns.turns ws)) (sym c.as_slice.ensures.value) ∙ sym c.is_over.ensures ∙ c.if-is_over.false in
     let p = err_from_is_err_and c.from_residual-in_err-charge.result c.from_residual-in_err-charge.ensures.1 in
     says_err c.from_residual-in_err-charge.result c.in_err-charge.field-0.0 p.0 _ _ _ p.1 p.2 c.in_err-charge.ensures.refused
     (λ e h q style at. c.turns.invariant.leads q style at _ _ _
-    (Walking.turn_stops style (walks_at c.turns.turns c.in_ok-walks.walks.items) c.in_ok-body.body more (h q (still_at _ _ c.args.place q style c.turns.invariant.steady at).names)))
+    (Walking.turn_stops style (walks_at c.turns.turns c.in_ok-walks.walks.items) (gives (written_list c.turns.made)) (result_then c.in_ok-body.body c.turns.made) more (h q (still_at _ _ c.args.place q style c.turns.invariant.steady at).names)))
 
-pub loops::foreach-returns-in_err-set_walks-clause-runs : goal.loops::foreach-returns-in_err-set_walks-clause-runs
-loops::foreach-returns-in_err-set_walks-clause-runs g t c =
+pub collecting::lmap-returns-in_err-set_walks-clause-runs : goal.collecting::lmap-returns-in_err-set_walks-clause-runs
+collecting::lmap-returns-in_err-set_walks-clause-runs g t c =
     let more = ap (λ (ws : List Walk). is_over (walks_at c.turns.turns ws)) (sym c.as_slice.ensures.value) ∙ sym c.is_over.ensures ∙ c.if-is_over.false in
     let p = err_from_is_err_and c.from_residual-in_err-set_walks.result c.from_residual-in_err-set_walks.ensures.1 in
     fails_err c.from_residual-in_err-set_walks.result c.in_err-set_walks.field-0.0 p.0 _ _ _ p.1 p.2 c.in_err-set_walks.ensures.set
@@ -1474,52 +1648,67 @@ loops::foreach-returns-in_err-set_walks-clause-runs g t c =
     let after = still_at _ _ c.args.place q style (level_steady _ _ c.charge.ensures.level) here in
     let counts = c.in_ok-charge.ensures.counted q here.names in
     c.turns.invariant.leads q style at _ _ _
-    (Walking.turn_fails style (walks_at c.turns.turns c.in_ok-walks.walks.items) c.in_ok-body.body more counts
+    (Walking.turn_fails style (walks_at c.turns.turns c.in_ok-walks.walks.items) (gives (written_list c.turns.made)) (result_then c.in_ok-body.body c.turns.made) more counts
     (λ k. subst (λ (ws : List Walk). Does (sets_walks (walks_at c.turns.turns ws) (λ rest. k)) (tree_of c.charge.new.tree) q (tree_of c.set_walks.new.tree) e) c.as_slice-in-turns.ensures.value (h q after.names k))))
     (λ q style at.
     let here = still_at _ _ c.args.place q style c.turns.invariant.steady at in
     let counts = c.in_ok-charge.ensures.counted q here.names in
-    c.turns.invariant.leads q style at _ _ _ (Walking.turn_given_up style (walks_at c.turns.turns c.in_ok-walks.walks.items) c.in_ok-body.body more counts))
+    c.turns.invariant.leads q style at _ _ _ (Walking.turn_given_up style (walks_at c.turns.turns c.in_ok-walks.walks.items) (gives (written_list c.turns.made)) (result_then c.in_ok-body.body c.turns.made) more counts))
 
-pub loops::foreach-returns-in_err-goes_on-clause-runs : goal.loops::foreach-returns-in_err-goes_on-clause-runs
-loops::foreach-returns-in_err-goes_on-clause-runs g t c =
+pub collecting::lmap-returns-in_err-collects-clause-runs : goal.collecting::lmap-returns-in_err-collects-clause-runs
+collecting::lmap-returns-in_err-collects-clause-runs g t c =
     let more = ap (λ (ws : List Walk). is_over (walks_at c.turns.turns ws)) (sym c.as_slice.ensures.value) ∙ sym c.is_over.ensures ∙ c.if-is_over.false in
-    let p = err_from_is_err_and c.from_residual-in_err-goes_on.result c.from_residual-in_err-goes_on.ensures.1 in
-    ran_err c.from_residual-in_err-goes_on.result c.in_err-goes_on.field-0.0 p.0 _ _ _ p.1 p.2
-    (Conditions.turned_err after_body c.eval_value.result c.in_err-goes_on.field-0.0
-    (EndsAt (ways g.O.Outside.goes g.O.Outside.loses) c.set_walks.new.tree c.charge.new.outside c.args.place (λ style. script c.turns.body) c.eval_value.new.tree c.eval_value.new.outside) c.in_err-goes_on.ensures c.eval_value.ensures.runs)
+    let p = err_from_is_err_and c.from_residual-in_err-collects.result c.from_residual-in_err-collects.ensures.1 in
+    ran_err c.from_residual-in_err-collects.result c.in_err-collects.field-0.0 p.0 _ _ _ p.1 p.2
+    (Gathering.collected_err c.eval_value-ended.result c.in_err-collects.field-0.0 c.turns.made c.collects.new.made
+    (EndsAt (ways g.O.Outside.goes g.O.Outside.loses) c.set_walks.new.tree c.charge.new.outside c.args.place (λ style. script c.turns.body) c.eval_value-ended.new.tree c.eval_value-ended.new.outside) c.in_err-collects.ensures c.eval_value-ended.ensures.runs)
     (λ e h q style at.
     let here = still_at _ _ c.args.place q style c.turns.invariant.steady at in
     let after = still_at _ _ c.args.place q style (level_steady _ _ c.charge.ensures.level) here in
     let set = still_at _ _ c.args.place q style (level_steady _ _ c.set_walks.ensures.level) after in
     let counts = c.in_ok-charge.ensures.counted q here.names in
     c.turns.invariant.leads q style at _ _ _
-    (Walking.turn_begins style (walks_at c.turns.turns c.in_ok-walks.walks.items) c.in_ok-body.body more counts
+    (Walking.turn_begins style (walks_at c.turns.turns c.in_ok-walks.walks.items) (gives (written_list c.turns.made)) (result_then c.in_ok-body.body c.turns.made) more counts
     (Walking.walks_set (walks_at c.turns.turns c.in_ok-walks.walks.items) (tree_of c.charge.new.tree) (tree_of c.set_walks.new.tree) q
     (λ k V r d. subst (λ (ws : List Walk). Does (sets_walks (walks_at c.turns.turns ws) (λ rest. k)) (tree_of c.charge.new.tree) q V r) c.as_slice-in-turns.ensures.value (c.in_ok-set_walks.ensures.set q after.names k V r d)))
-    (Conditions.leaves_after style after_body c.in_ok-body.body _ e h.1 (at_prog (ap script (sym c.turns.invariant.body)) (h.0 q style (record { names = set.names; style_is = set.style_is }))))))
+    (Gathering.turn_ends style c.in_ok-body.body c.turns.made (map passed (walks_at c.turns.turns c.in_ok-walks.walks.items)) e (EndsAt (ways g.O.Outside.goes g.O.Outside.loses) c.set_walks.new.tree c.charge.new.outside c.args.place (λ style. script c.turns.body) c.eval_value-ended.new.tree c.eval_value-ended.new.outside)
+    (λ f d. at_prog (ap script (sym c.turns.invariant.body)) (d q style (record { names = set.names; style_is = set.style_is }))) h)))
 
-pub loops::foreach-returns-then-not-branch-clause-runs : goal.loops::foreach-returns-then-not-branch-clause-runs
-loops::foreach-returns-then-not-branch-clause-runs g t c = λ q style at.
+pub collecting::lmap-returns-then-not-branch-clause-runs : goal.collecting::lmap-returns-then-not-branch-clause-runs
+collecting::lmap-returns-then-not-branch-clause-runs g t c =
     let more = ap (λ (ws : List Walk). is_over (walks_at c.turns.turns ws)) (sym c.as_slice.ensures.value) ∙ sym c.is_over.ensures ∙ c.if-is_over.false in
-    let x = Conditions.turned_ok after_body c.eval_value.result c.in_ok-goes_on.field-0 false
-    (EndsAt (ways g.O.Outside.goes g.O.Outside.loses) c.set_walks.new.tree c.charge.new.outside c.args.place (λ style. script c.turns.body) c.eval_value.new.tree c.eval_value.new.outside) c.in_ok-goes_on.ensures c.if-not-branch.true c.eval_value.ensures.runs in
+    let x = Gathering.collected_ok c.eval_value-ended.result c.in_ok-collects.field-0 false c.turns.made c.collects.new.made
+    (EndsAt (ways g.O.Outside.goes g.O.Outside.loses) c.set_walks.new.tree c.charge.new.outside c.args.place (λ style. script c.turns.body) c.eval_value-ended.new.tree c.eval_value-ended.new.outside) c.in_ok-collects.ensures c.if-not-branch.true c.eval_value-ended.ensures.runs in
+    ran c.collected-then-not-branch.result (EndsBy (gives (written_list c.collects.new.made))) _
+    (λ e h q style at.
     let here = still_at _ _ c.args.place q style c.turns.invariant.steady at in
     let after = still_at _ _ c.args.place q style (level_steady _ _ c.charge.ensures.level) here in
     let set = still_at _ _ c.args.place q style (level_steady _ _ c.set_walks.ensures.level) after in
     let counts = c.in_ok-charge.ensures.counted q here.names in
     c.turns.invariant.leads q style at _ _ _
-    (Walking.turn_begins style (walks_at c.turns.turns c.in_ok-walks.walks.items) c.in_ok-body.body more counts
+    (Walking.turn_begins style (walks_at c.turns.turns c.in_ok-walks.walks.items) (gives (written_list c.turns.made)) (result_then c.in_ok-body.body c.turns.made) more counts
     (Walking.walks_set (walks_at c.turns.turns c.in_ok-walks.walks.items) (tree_of c.charge.new.tree) (tree_of c.set_walks.new.tree) q
     (λ k V r d. subst (λ (ws : List Walk). Does (sets_walks (walks_at c.turns.turns ws) (λ rest. k)) (tree_of c.charge.new.tree) q V r) c.as_slice-in-turns.ensures.value (c.in_ok-set_walks.ensures.set q after.names k V r d)))
     (goes_on {i = Script c.in_ok-body.body} (at_prog (ap script (sym c.turns.invariant.body)) (x.1 q style (record { names = set.names; style_is = set.style_is })))
-    (at_prog (x.2 (go (Foreach (map passed (walks_at c.turns.turns c.in_ok-walks.walks.items)) c.in_ok-body.body) done)) (at_reply (ap (λ (y : List ℕ). Completed (ok y)) c.empty-then-not-branch.ensures) completed))))
+    (at_prog (x.2 (λ made. go (Lmap (map passed (walks_at c.turns.turns c.in_ok-walks.walks.items)) c.in_ok-body.body made) done))
+    (Conditions.ends_by style (gives (written_list c.collects.new.made)) e h)))))
+    (λ q style at.
+    let here = still_at _ _ c.args.place q style c.turns.invariant.steady at in
+    let after = still_at _ _ c.args.place q style (level_steady _ _ c.charge.ensures.level) here in
+    let set = still_at _ _ c.args.place q style (level_steady _ _ c.set_walks.ensures.level) after in
+    let counts = c.in_ok-charge.ensures.counted q here.names in
+    c.turns.invariant.leads q style at _ _ _
+    (Walking.turn_begins style (walks_at c.turns.turns c.in_ok-walks.walks.items) (gives (written_list c.turns.made)) (result_then c.in_ok-body.body c.turns.made) more counts
+    (Walking.walks_set (walks_at c.turns.turns c.in_ok-walks.walks.items) (tree_of c.charge.new.tree) (tree_of c.set_walks.new.tree) q
+    (λ k V r d. subst (λ (ws : List Walk). Does (sets_walks (walks_at c.turns.turns ws) (λ rest. k)) (tree_of c.charge.new.tree) q V r) c.as_slice-in-turns.ensures.value (c.in_ok-set_walks.ensures.set q after.names k V r d)))
+    (goes_on {i = Script c.in_ok-body.body} (at_prog (ap script (sym c.turns.invariant.body)) (x.1 q style (record { names = set.names; style_is = set.style_is }))) stopped)))
+    c.collected-then-not-branch.ensures
 
-pub loops::foreach-turns-preserved : goal.loops::foreach-turns-preserved
-loops::foreach-turns-preserved g t c =
+pub collecting::lmap-turns-preserved : goal.collecting::lmap-turns-preserved
+collecting::lmap-turns-preserved g t c =
     let more = ap (λ (ws : List Walk). is_over (walks_at c.turns.turns ws)) (sym c.as_slice.ensures.value) ∙ sym c.is_over.ensures ∙ c.if-is_over.false in
-    let x = Conditions.turned_ok after_body c.eval_value.result c.in_ok-goes_on.field-0 true
-    (EndsAt (ways g.O.Outside.goes g.O.Outside.loses) c.set_walks.new.tree c.charge.new.outside c.args.place (λ style. script c.turns.body) c.eval_value.new.tree c.eval_value.new.outside) c.in_ok-goes_on.ensures c.if-not-branch.false c.eval_value.ensures.runs in
+    let x = Gathering.collected_ok c.eval_value-ended.result c.in_ok-collects.field-0 true c.turns.made c.collects.new.made
+    (EndsAt (ways g.O.Outside.goes g.O.Outside.loses) c.set_walks.new.tree c.charge.new.outside c.args.place (λ style. script c.turns.body) c.eval_value-ended.new.tree c.eval_value-ended.new.outside) c.in_ok-collects.ensures c.if-not-branch.false c.eval_value-ended.ensures.runs in
     record {
       leads = λ q style at V z r run.
           let here = still_at _ _ c.args.place q style c.turns.invariant.steady at in
@@ -1527,20 +1716,20 @@ loops::foreach-turns-preserved g t c =
           let set = still_at _ _ c.args.place q style (level_steady _ _ c.set_walks.ensures.level) after in
           let counts = c.in_ok-charge.ensures.counted q here.names in
           c.turns.invariant.leads q style at _ _ _
-          (Walking.turn_begins style (walks_at c.turns.turns c.in_ok-walks.walks.items) c.in_ok-body.body more counts
+          (Walking.turn_begins style (walks_at c.turns.turns c.in_ok-walks.walks.items) (gives (written_list c.turns.made)) (result_then c.in_ok-body.body c.turns.made) more counts
           (Walking.walks_set (walks_at c.turns.turns c.in_ok-walks.walks.items) (tree_of c.charge.new.tree) (tree_of c.set_walks.new.tree) q
           (λ k V r d. subst (λ (ws : List Walk). Does (sets_walks (walks_at c.turns.turns ws) (λ rest. k)) (tree_of c.charge.new.tree) q V r) c.as_slice-in-turns.ensures.value (c.in_ok-set_walks.ensures.set q after.names k V r d)))
           (goes_on {i = Script c.in_ok-body.body} (at_prog (ap script (sym c.turns.invariant.body)) (x.1 q style (record { names = set.names; style_is = set.style_is })))
-          (at_prog (x.2 (go (Foreach (map passed (walks_at c.turns.turns c.in_ok-walks.walks.items)) c.in_ok-body.body) done))
-          (goes_done {i = Foreach (map passed (walks_at c.turns.turns c.in_ok-walks.walks.items)) c.in_ok-body.body}
-          (at_prog (ap (λ (ws : List Left). foreach_turns ws c.in_ok-body.body) (Walking.walks_next c.turns.turns c.in_ok-walks.walks.items)) run)))));
-      body = c.eval_value.ensures.same ∙ c.turns.invariant.body;
-      steady = steady-trans _ _ _ (steady-trans _ _ _ (steady-trans _ _ _ c.turns.invariant.steady (level_steady _ _ c.charge.ensures.level)) (level_steady _ _ c.set_walks.ensures.level)) c.eval_value.ensures.steady;
-      left = let a = c.eval_value.ensures.left in let b = c.turns.invariant.left in omega arith;
+          (at_prog (x.2 (λ made. go (Lmap (map passed (walks_at c.turns.turns c.in_ok-walks.walks.items)) c.in_ok-body.body made) done))
+          (goes_done {i = Lmap (map passed (walks_at c.turns.turns c.in_ok-walks.walks.items)) c.in_ok-body.body c.collects.new.made}
+          (at_prog (ap (λ (ws : List Left). lmap_turns ws c.in_ok-body.body c.collects.new.made) (Walking.walks_next c.turns.turns c.in_ok-walks.walks.items)) run)))));
+      body = c.eval_value-ended.ensures.same ∙ c.turns.invariant.body;
+      steady = steady-trans _ _ _ (steady-trans _ _ _ (steady-trans _ _ _ c.turns.invariant.steady (level_steady _ _ c.charge.ensures.level)) (level_steady _ _ c.set_walks.ensures.level)) c.eval_value-ended.ensures.steady;
+      left = let a = c.eval_value-ended.ensures.left in let b = c.turns.invariant.left in omega arith;
     }
 
-pub loops::foreach-returns-clause-runs : goal.loops::foreach-returns-clause-runs
-loops::foreach-returns-clause-runs g t c = λ q style at. c.turns.invariant.leads q style at _ _ _ stopped
+pub collecting::lmap-returns-clause-runs : goal.collecting::lmap-returns-clause-runs
+collecting::lmap-returns-clause-runs g t c = λ q style at. c.turns.invariant.leads q style at _ _ _ stopped
 
 pub loops::uplevel-returns-in_err-level-clause-runs : goal.loops::uplevel-returns-in_err-level-clause-runs
 loops::uplevel-returns-in_err-level-clause-runs g t c =
@@ -1613,11 +1802,17 @@ expressions::for_loop-turn-requires g t c κs within = (search rules, (search ru
 pub expressions::for_loop-eval_value-requires-in-turns : goal.expressions::for_loop-eval_value-requires-in-turns
 expressions::for_loop-eval_value-requires-in-turns g t c κs within = (search rules, (search rules, let r = still_running _ _ c.args.place (steady-trans _ _ _ c.turns.invariant.steady c.turn.ensures.steady) c.requires in (r.0, r.1)))
 
-pub loops::foreach-returns-in_err-goes_on-clause-steady : goal.loops::foreach-returns-in_err-goes_on-clause-steady
-loops::foreach-returns-in_err-goes_on-clause-steady g t c = steady-trans _ _ _ c.turns.invariant.steady (steady-trans _ _ _ (level_steady _ _ c.charge.ensures.level) (steady-trans _ _ _ (level_steady _ _ c.set_walks.ensures.level) c.eval_value.ensures.steady))
+pub loops::walk_through-returns-in_err-goes_on-clause-steady : goal.loops::walk_through-returns-in_err-goes_on-clause-steady
+loops::walk_through-returns-in_err-goes_on-clause-steady g t c = steady-trans _ _ _ c.turns.invariant.steady (steady-trans _ _ _ (level_steady _ _ c.charge.ensures.level) (steady-trans _ _ _ (level_steady _ _ c.set_walks.ensures.level) c.eval_value.ensures.steady))
 
-pub loops::foreach-returns-then-not-branch-clause-steady : goal.loops::foreach-returns-then-not-branch-clause-steady
-loops::foreach-returns-then-not-branch-clause-steady g t c = steady-trans _ _ _ c.turns.invariant.steady (steady-trans _ _ _ (level_steady _ _ c.charge.ensures.level) (steady-trans _ _ _ (level_steady _ _ c.set_walks.ensures.level) c.eval_value.ensures.steady))
+pub loops::walk_through-returns-then-not-branch-clause-steady : goal.loops::walk_through-returns-then-not-branch-clause-steady
+loops::walk_through-returns-then-not-branch-clause-steady g t c = steady-trans _ _ _ c.turns.invariant.steady (steady-trans _ _ _ (level_steady _ _ c.charge.ensures.level) (steady-trans _ _ _ (level_steady _ _ c.set_walks.ensures.level) c.eval_value.ensures.steady))
+
+pub collecting::lmap-returns-in_err-collects-clause-steady : goal.collecting::lmap-returns-in_err-collects-clause-steady
+collecting::lmap-returns-in_err-collects-clause-steady g t c = steady-trans _ _ _ c.turns.invariant.steady (steady-trans _ _ _ (level_steady _ _ c.charge.ensures.level) (steady-trans _ _ _ (level_steady _ _ c.set_walks.ensures.level) c.eval_value-ended.ensures.steady))
+
+pub collecting::lmap-returns-then-not-branch-clause-steady : goal.collecting::lmap-returns-then-not-branch-clause-steady
+collecting::lmap-returns-then-not-branch-clause-steady g t c = steady-trans _ _ _ c.turns.invariant.steady (steady-trans _ _ _ (level_steady _ _ c.charge.ensures.level) (steady-trans _ _ _ (level_steady _ _ c.set_walks.ensures.level) c.eval_value-ended.ensures.steady))
 
 -- `interp`, and a child's own command
 
@@ -1793,16 +1988,193 @@ commands::call_command-returns-in-Child-clause-runs g t c =
 
 pub commands::call_builtin-returns-in-Rename-clause-runs : goal.commands::call_builtin-returns-in-Rename-clause-runs
 commands::call_builtin-returns-in-Rename-clause-runs g t c =
-    proceeds_as (ways g.O.Outside.goes g.O.Outside.loses) c.args.tree.now c.rename.new.tree c.args.outside.now c.rename.new.outside c.args.place (λ style. builtin_program style c.args.builtin c.args.word.now c.args.args.now) (λ style. definitions.rename c.args.args.now) c.rename.result
-    (λ style. ap (λ (b : Builtin). builtin_program style b c.args.word.now c.args.args.now) c.in-Rename.is)
+    proceeds_as (ways g.O.Outside.goes g.O.Outside.loses) c.args.tree.now c.rename.new.tree c.args.outside.now c.rename.new.outside c.args.place (λ style. builtin_program style c.args.builtin c.args.args.now) (λ style. definitions.rename c.args.args.now) c.rename.result
+    (λ style. ap (λ (b : Builtin). builtin_program style b c.args.args.now) c.in-Rename.is)
     (evaluates_proceeds (ways g.O.Outside.goes g.O.Outside.loses) c.args.tree.now c.rename.new.tree c.args.outside.now c.rename.new.outside c.args.place (λ style. definitions.rename c.args.args.now) c.rename.result c.rename.ensures.evaluates c.rename.ensures.lost)
 
 pub commands::call_builtin-returns-in_default : goal.commands::call_builtin-returns-in_default
 commands::call_builtin-returns-in_default g t c = record {
-  runs = acts_proceeds (ways g.O.Outside.goes g.O.Outside.loses) c.args.tree.now c.call_plain.new.tree c.args.outside.now c.args.place (λ style. builtin_program style c.args.builtin c.args.word.now c.args.args.now) c.call_plain.result c.call_plain.ensures.acts;
+  runs = acts_proceeds (ways g.O.Outside.goes g.O.Outside.loses) c.args.tree.now c.call_plain.new.tree c.args.outside.now c.args.place (λ style. builtin_program style c.args.builtin c.args.args.now) c.call_plain.result c.call_plain.ensures.acts;
   steady = level_steady _ _ c.call_plain.ensures.level;
   left = omega arith;
 }
+
+-- # Choices of a script
+
+pub switching::switch-returns-in_err-body-clause-runs : goal.switching::switch-returns-in_err-body-clause-runs
+switching::switch-returns-in_err-body-clause-runs g t c =
+    let p = err_from_is_err_and c.from_residual.result c.from_residual.ensures.1 in
+    fails_err c.from_residual.result c.in_err-body.field-0.0 p.0 _ _ _ p.1 p.2 c.in_err-body.ensures
+    (λ e h q style at. read_fails itself (choice exactly c.args.args.now) runs_last e h) (λ q style at. stopped)
+
+pub switching::switch-returns-in_default-clause-runs : goal.switching::switch-returns-in_default-clause-runs
+switching::switch-returns-in_default-clause-runs g t c = λ q style at.
+    let none : choice exactly c.args.args.now ≡ Ok None = search rules in
+    reads_on itself runs_last none (at_reply (ap (λ (x : List ℕ). Completed (ok x)) c.empty.ensures) completed)
+
+pub switching::switch-returns-clause-runs : goal.switching::switch-returns-clause-runs
+switching::switch-returns-clause-runs g t c =
+    let some : choice exactly c.args.args.now ≡ Ok (Some c.in-Some.body) = search rules in
+    IfRan-more c.eval_value.result
+    (EndsAt (ways g.O.Outside.goes g.O.Outside.loses) c.args.tree.now c.args.outside.now c.args.place (λ style. script c.in-Some.body) c.eval_value.new.tree c.eval_value.new.outside)
+    (EndsFrom (ways g.O.Outside.goes g.O.Outside.loses) c.args.tree.now c.args.outside.now c.args.place (λ style. switch c.args.args.now) c.eval_value.new.tree c.eval_value.new.outside)
+    (λ e h q style at. reads_on itself runs_last some (goes_done {i = Script c.in-Some.body} (h q style (record { names = at.names; style_is = at.style_is })))) c.eval_value.ensures.runs
+
+pub trying::handled-returns-in_err-script-clause-runs : goal.trying::handled-returns-in_err-script-clause-runs
+trying::handled-returns-in_err-script-clause-runs g t c =
+    let p = err_from_is_err_and c.from_residual.result c.from_residual.ensures.1 in
+    memory_err c.from_residual.result p.0 _ _ p.1 p.2 (λ q style at. stopped)
+
+pub trying::handled-returns-in_err-completion-clause-runs : goal.trying::handled-returns-in_err-completion-clause-runs
+trying::handled-returns-in_err-completion-clause-runs g t c =
+    let p = err_from_is_err_and c.from_residual-in_err-completion.result c.from_residual-in_err-completion.ensures.1 in
+    ran_err c.from_residual-in_err-completion.result c.in_err-completion.field-0.0 p.0 _ _ _ p.1 p.2
+    (caught_err c.eval_value.result c.caught.result c.in_err-completion.field-0.0 (EndsAt (ways g.O.Outside.goes g.O.Outside.loses) c.args.tree.now c.args.outside.now c.args.place (λ style. script c.in_ok-script.script) c.eval_value.new.tree c.eval_value.new.outside)
+    c.in_err-completion.was c.caught.ensures c.eval_value.ensures.runs)
+    (λ e h q style at. passes {i = Script c.args.body.now} h.1 (at_prog (ap script (sym c.in_ok-script.ensures.cases)) (h.0 q style (record { names = at.names; style_is = at.style_is }))))
+
+pub trying::handled-returns-in_err-names-clause-runs : goal.trying::handled-returns-in_err-names-clause-runs
+trying::handled-returns-in_err-names-clause-runs g t c =
+    let p = err_from_is_err_and c.from_residual-in_err-names.result c.from_residual-in_err-names.ensures.1 in
+    let caught = caught_ok c.eval_value.result c.caught.result c.in_ok-completion.completion (EndsAt (ways g.O.Outside.goes g.O.Outside.loses) c.args.tree.now c.args.outside.now c.args.place (λ style. script c.in_ok-script.script) c.eval_value.new.tree c.eval_value.new.outside)
+    c.in_ok-completion.was c.caught.ensures c.eval_value.ensures.runs in
+    memory_err c.from_residual-in_err-names.result p.0 _ _ p.1 p.2
+    (λ q style at. goes_on {i = Script c.args.body.now} (at_prog (ap script (sym c.in_ok-script.ensures.cases)) (caught q style (record { names = at.names; style_is = at.style_is }))) stopped)
+
+pub trying::handled-returns-in_default-clause-runs : goal.trying::handled-returns-in_default-clause-runs
+trying::handled-returns-in_default-clause-runs g t c =
+    let caught = caught_ok c.eval_value.result c.caught.result c.in_ok-completion.completion (EndsAt (ways g.O.Outside.goes g.O.Outside.loses) c.args.tree.now c.args.outside.now c.args.place (λ style. script c.in_ok-script.script) c.eval_value.new.tree c.eval_value.new.outside)
+    c.in_ok-completion.was c.caught.ensures c.eval_value.ensures.runs in
+    let none : handled_by (completion_of c.in_ok-completion.completion) (handlers_of c.args.handlers.now) ≡ done (completion_of c.in_ok-completion.completion) = search rules in
+    ran c.released.result (λ e. e ≡ Completed (completion_of c.in_ok-completion.completion)) _
+    (λ e h q style at. goes_on {i = Script c.args.body.now} (at_prog (ap script (sym c.in_ok-script.ensures.cases)) (caught q style (record { names = at.names; style_is = at.style_is }))) (at_prog none (at_reply h completed)))
+    (λ q style at. goes_on {i = Script c.args.body.now} (at_prog (ap script (sym c.in_ok-script.ensures.cases)) (caught q style (record { names = at.names; style_is = at.style_is }))) stopped) c.released.ensures
+
+pub trying::handled-returns-in_err-keep_named-clause-runs : goal.trying::handled-returns-in_err-keep_named-clause-runs
+trying::handled-returns-in_err-keep_named-clause-runs g t c =
+    let p = err_from_is_err_and c.from_residual-in_err-keep_named.result c.from_residual-in_err-keep_named.ensures.1 in
+    let caught = caught_ok c.eval_value.result c.caught.result c.in_ok-completion.completion (EndsAt (ways g.O.Outside.goes g.O.Outside.loses) c.args.tree.now c.args.outside.now c.args.place (λ style. script c.in_ok-script.script) c.eval_value.new.tree c.eval_value.new.outside)
+    c.in_ok-completion.was c.caught.ensures c.eval_value.ensures.runs in
+    let some : handled_by (completion_of c.in_ok-completion.completion) (handlers_of c.args.handlers.now) ≡ or_fails fault_message (list_of c.in-Some.names.now) (λ xs. keeps xs (completion_of c.in_ok-completion.completion) (runs_last (option_copied c.in-Some.script))) = search rules in
+    fails_err c.from_residual-in_err-keep_named.result c.in_err-keep_named.field-0.0 p.0 _ _ _ p.1 p.2 c.in_err-keep_named.ensures.kept
+    (λ e h q style at.
+    let after = still_at _ _ c.args.place q style c.eval_value.ensures.steady at in
+    goes_on {i = Script c.args.body.now} (at_prog (ap script (sym c.in_ok-script.ensures.cases)) (caught q style (record { names = at.names; style_is = at.style_is }))) (at_prog some (does_proceeds _ c.eval_value.new.outside (h q after.names _))))
+    (λ q style at. goes_on {i = Script c.args.body.now} (at_prog (ap script (sym c.in_ok-script.ensures.cases)) (caught q style (record { names = at.names; style_is = at.style_is }))) stopped)
+
+pub trying::handled-returns-in_default-script-clause-runs : goal.trying::handled-returns-in_default-script-clause-runs
+trying::handled-returns-in_default-script-clause-runs g t c = λ q style at.
+    let caught = caught_ok c.eval_value.result c.caught.result c.in_ok-completion.completion (EndsAt (ways g.O.Outside.goes g.O.Outside.loses) c.args.tree.now c.args.outside.now c.args.place (λ style. script c.in_ok-script.script) c.eval_value.new.tree c.eval_value.new.outside)
+    c.in_ok-completion.was c.caught.ensures c.eval_value.ensures.runs in
+    let some : handled_by (completion_of c.in_ok-completion.completion) (handlers_of c.args.handlers.now) ≡ or_fails fault_message (list_of c.in-Some.names.now) (λ xs. keeps xs (completion_of c.in_ok-completion.completion) (runs_last (option_copied c.in-Some.script))) = search rules in
+    let none : option_copied c.in-Some.script ≡ None = search rules in
+    let after = still_at _ _ c.args.place q style c.eval_value.ensures.steady at in
+    goes_on {i = Script c.args.body.now} (at_prog (ap script (sym c.in_ok-script.ensures.cases)) (caught q style (record { names = at.names; style_is = at.style_is })))
+    (at_prog some (Choosing.named_comes style c.in-Some.names.now (completion_of c.in_ok-completion.completion) (runs_last (option_copied c.in-Some.script)) (c.in_ok-keep_named.ensures.kept q after.names)
+    (at_prog (ap runs_last none) (at_reply (ap (λ (x : List ℕ). Completed (ok x)) c.empty.ensures) completed))))
+
+pub trying::handled-returns-in_err-script-2-clause-runs : goal.trying::handled-returns-in_err-script-2-clause-runs
+trying::handled-returns-in_err-script-2-clause-runs g t c =
+    let p = err_from_is_err_and c.from_residual-in_err-script-2.result c.from_residual-in_err-script-2.ensures.1 in
+    let caught = caught_ok c.eval_value.result c.caught.result c.in_ok-completion.completion (EndsAt (ways g.O.Outside.goes g.O.Outside.loses) c.args.tree.now c.args.outside.now c.args.place (λ style. script c.in_ok-script.script) c.eval_value.new.tree c.eval_value.new.outside)
+    c.in_ok-completion.was c.caught.ensures c.eval_value.ensures.runs in
+    memory_err c.from_residual-in_err-script-2.result p.0 _ _ p.1 p.2
+    (λ q style at. goes_on {i = Script c.args.body.now} (at_prog (ap script (sym c.in_ok-script.ensures.cases)) (caught q style (record { names = at.names; style_is = at.style_is }))) stopped)
+
+pub trying::handled-returns-clause-runs : goal.trying::handled-returns-clause-runs
+trying::handled-returns-clause-runs g t c =
+    let caught = caught_ok c.eval_value.result c.caught.result c.in_ok-completion.completion (EndsAt (ways g.O.Outside.goes g.O.Outside.loses) c.args.tree.now c.args.outside.now c.args.place (λ style. script c.in_ok-script.script) c.eval_value.new.tree c.eval_value.new.outside)
+    c.in_ok-completion.was c.caught.ensures c.eval_value.ensures.runs in
+    let some : handled_by (completion_of c.in_ok-completion.completion) (handlers_of c.args.handlers.now) ≡ or_fails fault_message (list_of c.in-Some.names.now) (λ xs. keeps xs (completion_of c.in_ok-completion.completion) (runs_last (option_copied c.in-Some.script))) = search rules in
+    let is : option_copied c.in-Some.script ≡ Some c.in-Some-script.script.now = search rules in
+    IfRan-more c.eval_value-2.result
+    (EndsAt (ways g.O.Outside.goes g.O.Outside.loses) c.keep_named.new.tree c.eval_value.new.outside c.args.place (λ style. script c.in_ok-script-2.script) c.eval_value-2.new.tree c.eval_value-2.new.outside)
+    (EndsFrom (ways g.O.Outside.goes g.O.Outside.loses) c.args.tree.now c.args.outside.now c.args.place (λ style. handled c.args.body.now (handlers_of c.args.handlers.now)) c.eval_value-2.new.tree c.eval_value-2.new.outside)
+    (λ e h q style at.
+    let after = still_at _ _ c.args.place q style c.eval_value.ensures.steady at in
+    let set = still_at _ _ c.args.place q style (level_steady _ _ c.keep_named.ensures.level) after in
+    goes_on {i = Script c.args.body.now} (at_prog (ap script (sym c.in_ok-script.ensures.cases)) (caught q style (record { names = at.names; style_is = at.style_is })))
+    (at_prog some (Choosing.named_comes style c.in-Some.names.now (completion_of c.in_ok-completion.completion) (runs_last (option_copied c.in-Some.script)) (c.in_ok-keep_named.ensures.kept q after.names)
+    (at_prog (ap runs_last is) (goes_done {i = Script c.in-Some-script.script.now} (at_prog (ap script (sym c.in_ok-script-2.ensures.cases)) (h q style (record { names = set.names; style_is = set.style_is })))))))) c.eval_value-2.ensures.runs
+
+pub trying::try_script-returns-in_default-clause-runs : goal.trying::try_script-returns-in_default-clause-runs
+trying::try_script-returns-in_default-clause-runs g t c =
+    breaks c.wrong_args.result _ _ (λ e h q style at. at_prog (ap (try_script style) (no_item c.args.args.now c.in_default.len_below)) (at_reply h completed)) (λ q style at. stopped) c.wrong_args.ensures
+
+pub trying::try_script-returns-in_err-tried-clause-runs : goal.trying::try_script-returns-in_err-tried-clause-runs
+trying::try_script-returns-in_err-tried-clause-runs g t c =
+    let p = err_from_is_err_and c.from_residual.result c.from_residual.ensures.1 in
+    fails_err c.from_residual.result c.in_err-tried.field-0.0 p.0 _ _ _ p.1 p.2 c.in_err-tried.ensures
+    (λ e h q style at.
+    let same = c.integers.ensures ∙ at.style_is in
+    Choosing.try_refused style c.args.args.now (take (length c.args.args.now - 1) (drop 1 c.args.args.now)) c.body-item.result e (split_first c.args.args.now c.body-item.result c.in-len1-up.len_at_least c.body-item.is) (subst (λ (s : Integers). IsFailure itself (tried_of s (take (length c.args.args.now - 1) (drop 1 c.args.args.now))) e) same h)) (λ q style at. stopped)
+
+pub trying::try_script-returns-in_default-last-clause-runs : goal.trying::try_script-returns-in_default-last-clause-runs
+trying::try_script-returns-in_default-last-clause-runs g t c =
+    let none : option_copied c.in_ok-tried.tried.last ≡ None = search rules in
+    IfRan-more c.handled-ended.result (EndsFrom (ways g.O.Outside.goes g.O.Outside.loses) c.args.tree.now c.args.outside.now c.args.place (λ style. handled c.body-item.result (handlers_of c.as_slice.result.now)) c.handled-ended.new.tree c.handled-ended.new.outside)
+    (EndsFrom (ways g.O.Outside.goes g.O.Outside.loses) c.args.tree.now c.args.outside.now c.args.place (λ style. try_script style c.args.args.now) c.handled-ended.new.tree c.handled-ended.new.outside)
+    (λ e h q style at.
+    let same = c.integers.ensures ∙ at.style_is in
+    Choosing.try_begins style c.args.args.now (take (length c.args.args.now - 1) (drop 1 c.args.args.now)) c.body-item.result (tried_seen c.in_ok-tried.tried) (split_first c.args.args.now c.body-item.result c.in-len1-up.len_at_least c.body-item.is) (ap (λ (s : Integers). tried_of s (take (length c.args.args.now - 1) (drop 1 c.args.args.now))) (sym same) ∙ c.in_ok-tried.ensures)
+    (Choosing.finish_none style c.body-item.result (handlers_of c.in_ok-tried.tried.handlers.items) _ none (at_prog (ap (λ (hs : List TriedHandler). handled c.body-item.result (handlers_of hs)) (sym c.as_slice.ensures.value)) (h q style at)))) c.handled-ended.ensures.runs
+
+pub trying::try_script-returns-in_err-completion-clause-runs : goal.trying::try_script-returns-in_err-completion-clause-runs
+trying::try_script-returns-in_err-completion-clause-runs g t c =
+    let p = err_from_is_err_and c.from_residual-in_err-completion.result c.from_residual-in_err-completion.ensures.1 in
+    ran_err c.from_residual-in_err-completion.result c.in_err-completion.field-0.0 p.0 _ _ _ p.1 p.2
+    (caught_err c.handled-ended.result c.caught.result c.in_err-completion.field-0.0 (EndsFrom (ways g.O.Outside.goes g.O.Outside.loses) c.args.tree.now c.args.outside.now c.args.place (λ style. handled c.body-item.result (handlers_of c.as_slice.result.now)) c.handled-ended.new.tree c.handled-ended.new.outside) c.in_err-completion.was c.caught.ensures c.handled-ended.ensures.runs)
+    (λ e h q style at.
+    let same = c.integers.ensures ∙ at.style_is in
+    Choosing.try_begins style c.args.args.now (take (length c.args.args.now - 1) (drop 1 c.args.args.now)) c.body-item.result (tried_seen c.in_ok-tried.tried) (split_first c.args.args.now c.body-item.result c.in-len1-up.len_at_least c.body-item.is) (ap (λ (s : Integers). tried_of s (take (length c.args.args.now - 1) (drop 1 c.args.args.now))) (sym same) ∙ c.in_ok-tried.ensures)
+    (Choosing.finish_passes style c.body-item.result (handlers_of c.in_ok-tried.tried.handlers.items) _ h.1 (at_prog (ap (λ (hs : List TriedHandler). handled c.body-item.result (handlers_of hs)) (sym c.as_slice.ensures.value)) (h.0 q style at))))
+
+pub trying::try_script-returns-in_err-last-clause-runs : goal.trying::try_script-returns-in_err-last-clause-runs
+trying::try_script-returns-in_err-last-clause-runs g t c =
+    let p = err_from_is_err_and c.from_residual-in_err-last.result c.from_residual-in_err-last.ensures.1 in
+    let caught = caught_ok c.handled-ended.result c.caught.result c.in_ok-completion.completion (EndsFrom (ways g.O.Outside.goes g.O.Outside.loses) c.args.tree.now c.args.outside.now c.args.place (λ style. handled c.body-item.result (handlers_of c.as_slice.result.now)) c.handled-ended.new.tree c.handled-ended.new.outside) c.in_ok-completion.was c.caught.ensures c.handled-ended.ensures.runs in
+    let some : option_copied c.in_ok-tried.tried.last ≡ Some c.in-Some.last.now = search rules in
+    memory_err c.from_residual-in_err-last.result p.0 _ _ p.1 p.2
+    (λ q style at.
+    let same = c.integers.ensures ∙ at.style_is in
+    Choosing.try_begins style c.args.args.now (take (length c.args.args.now - 1) (drop 1 c.args.args.now)) c.body-item.result (tried_seen c.in_ok-tried.tried) (split_first c.args.args.now c.body-item.result c.in-len1-up.len_at_least c.body-item.is) (ap (λ (s : Integers). tried_of s (take (length c.args.args.now - 1) (drop 1 c.args.args.now))) (sym same) ∙ c.in_ok-tried.ensures)
+    (Choosing.finish_lost style c.body-item.result (handlers_of c.in_ok-tried.tried.handlers.items) _ c.in-Some.last.now (completion_of c.in_ok-completion.completion) some (at_prog (ap (λ (hs : List TriedHandler). handled c.body-item.result (handlers_of hs)) (sym c.as_slice.ensures.value)) (caught q style at))))
+
+pub trying::try_script-returns-in_err-on_ok-clause-runs : goal.trying::try_script-returns-in_err-on_ok-clause-runs
+trying::try_script-returns-in_err-on_ok-clause-runs g t c =
+    let p = err_from_is_err_and c.from_residual-in_err-on_ok.result c.from_residual-in_err-on_ok.ensures.1 in
+    let caught = caught_ok c.handled-ended.result c.caught.result c.in_ok-completion.completion (EndsFrom (ways g.O.Outside.goes g.O.Outside.loses) c.args.tree.now c.args.outside.now c.args.place (λ style. handled c.body-item.result (handlers_of c.as_slice.result.now)) c.handled-ended.new.tree c.handled-ended.new.outside) c.in_ok-completion.was c.caught.ensures c.handled-ended.ensures.runs in
+    let some : option_copied c.in_ok-tried.tried.last ≡ Some c.in-Some.last.now = search rules in
+    ran_err c.from_residual-in_err-on_ok.result c.in_err-on_ok.field-0.0 p.0 _ _ _ p.1 p.2
+    (stays_of c.eval_value.result c.in_err-on_ok.field-0.0 (EndsAt (ways g.O.Outside.goes g.O.Outside.loses) c.handled-ended.new.tree c.handled-ended.new.outside c.args.place (λ style. script c.in_ok-last.last) c.eval_value.new.tree c.eval_value.new.outside)
+    c.in_err-on_ok.ensures.same c.eval_value.ensures.runs c.in_err-on_ok.ensures.stays)
+    (λ e h q style at.
+    let same = c.integers.ensures ∙ at.style_is in
+    let after = still_at _ _ c.args.place q style c.handled-ended.ensures.steady at in
+    Choosing.try_begins style c.args.args.now (take (length c.args.args.now - 1) (drop 1 c.args.args.now)) c.body-item.result (tried_seen c.in_ok-tried.tried) (split_first c.args.args.now c.body-item.result c.in-len1-up.len_at_least c.body-item.is) (ap (λ (s : Integers). tried_of s (take (length c.args.args.now - 1) (drop 1 c.args.args.now))) (sym same) ∙ c.in_ok-tried.ensures)
+    (Choosing.finish_stays style c.body-item.result (handlers_of c.in_ok-tried.tried.handlers.items) _ c.in-Some.last.now (completion_of c.in_ok-completion.completion) e some h.1 (at_prog (ap (λ (hs : List TriedHandler). handled c.body-item.result (handlers_of hs)) (sym c.as_slice.ensures.value)) (caught q style at))
+    (at_prog (ap script (sym c.in_ok-last.ensures.cases)) (h.0 q style (record { names = after.names; style_is = after.style_is })))))
+
+pub trying::try_script-returns-clause-runs : goal.trying::try_script-returns-clause-runs
+trying::try_script-returns-clause-runs g t c =
+    let caught = caught_ok c.handled-ended.result c.caught.result c.in_ok-completion.completion (EndsFrom (ways g.O.Outside.goes g.O.Outside.loses) c.args.tree.now c.args.outside.now c.args.place (λ style. handled c.body-item.result (handlers_of c.as_slice.result.now)) c.handled-ended.new.tree c.handled-ended.new.outside) c.in_ok-completion.was c.caught.ensures c.handled-ended.ensures.runs in
+    let some : option_copied c.in_ok-tried.tried.last ≡ Some c.in-Some.last.now = search rules in
+    let x = ran_text c.eval_value.result c.in_ok-on_ok.field-0 (EndsAt (ways g.O.Outside.goes g.O.Outside.loses) c.handled-ended.new.tree c.handled-ended.new.outside c.args.place (λ style. script c.in_ok-last.last) c.eval_value.new.tree c.eval_value.new.outside)
+    c.in_ok-on_ok.ensures.text c.eval_value.ensures.runs in
+    ran c.released.result (λ e. e ≡ Completed (completion_of c.in_ok-completion.completion)) _
+    (λ e h q style at.
+    let same = c.integers.ensures ∙ at.style_is in
+    let after = still_at _ _ c.args.place q style c.handled-ended.ensures.steady at in
+    Choosing.try_begins style c.args.args.now (take (length c.args.args.now - 1) (drop 1 c.args.args.now)) c.body-item.result (tried_seen c.in_ok-tried.tried) (split_first c.args.args.now c.body-item.result c.in-len1-up.len_at_least c.body-item.is) (ap (λ (s : Integers). tried_of s (take (length c.args.args.now - 1) (drop 1 c.args.args.now))) (sym same) ∙ c.in_ok-tried.ensures)
+    (Choosing.finish_goes style c.body-item.result (handlers_of c.in_ok-tried.tried.handlers.items) _ c.in-Some.last.now (completion_of c.in_ok-completion.completion) x.0 c.in_ok-on_ok.field-0 some x.2 x.3 (at_prog (ap (λ (hs : List TriedHandler). handled c.body-item.result (handlers_of hs)) (sym c.as_slice.ensures.value)) (caught q style at))
+    (at_prog (ap script (sym c.in_ok-last.ensures.cases)) (x.1 q style (record { names = after.names; style_is = after.style_is }))) (at_reply h completed)))
+    (λ q style at.
+    let same = c.integers.ensures ∙ at.style_is in
+    let after = still_at _ _ c.args.place q style c.handled-ended.ensures.steady at in
+    Choosing.try_begins style c.args.args.now (take (length c.args.args.now - 1) (drop 1 c.args.args.now)) c.body-item.result (tried_seen c.in_ok-tried.tried) (split_first c.args.args.now c.body-item.result c.in-len1-up.len_at_least c.body-item.is) (ap (λ (s : Integers). tried_of s (take (length c.args.args.now - 1) (drop 1 c.args.args.now))) (sym same) ∙ c.in_ok-tried.ensures)
+    (Choosing.finish_goes style c.body-item.result (handlers_of c.in_ok-tried.tried.handlers.items) _ c.in-Some.last.now (completion_of c.in_ok-completion.completion) x.0 c.in_ok-on_ok.field-0 some x.2 x.3 (at_prog (ap (λ (hs : List TriedHandler). handled c.body-item.result (handlers_of hs)) (sym c.as_slice.ensures.value)) (caught q style at))
+    (at_prog (ap script (sym c.in_ok-last.ensures.cases)) (x.1 q style (record { names = after.names; style_is = after.style_is }))) stopped))
+    c.released.ensures
 
 -- # What reaches the host
 
@@ -1912,30 +2284,188 @@ hosting::write-returns-in_err-text-clause-runs g t c =
     let p = err_from_is_err_and c.from_residual-in_err-text.result c.from_residual-in_err-text.ensures.1 in
     memory_err c.from_residual-in_err-text.result p.0 _ _ p.1 p.2 (λ q style at. stopped)
 
-pub hosting::write-returns-in_err-passes_top-clause-runs : goal.hosting::write-returns-in_err-passes_top-clause-runs
-hosting::write-returns-in_err-passes_top-clause-runs g t c =
-    let p = err_from_is_err_and c.from_residual-in_err-passes_top.result c.from_residual-in_err-passes_top.ensures.1 in
-    memory_err c.from_residual-in_err-passes_top.result p.0 _ _ p.1 p.2 (λ q style at. stopped_by (lost_once c.passes_top.ensures.lost))
-
-pub hosting::write-returns-in_err-reply-clause-runs : goal.hosting::write-returns-in_err-reply-clause-runs
-hosting::write-returns-in_err-reply-clause-runs g t c =
-    let channel : c.in_ok-clone.field-0 ≡ c.args.channel.now = search rules in
-    let p = err_from_is_err_and c.from_residual-in_err-reply.result c.from_residual-in_err-reply.ensures.1 in
-    writes_as (ways g.O.Outside.goes g.O.Outside.loses) c.args.tree.now c.wait.new.tree c.args.outside.now c.wait.new.outside c.args.place c.args.channel.now c.args.text.now c.in_ok-clone.field-0 c.in_ok-text.field-0 c.from_residual-in_err-reply.result
-    channel c.in_ok-text.ensures
-    (writes_over (ways g.O.Outside.goes g.O.Outside.loses) c.args.tree.now c.wait.new.tree c.args.outside.now c.passes_top.new.self c.wait.new.outside c.args.place c.in_ok-clone.field-0 c.in_ok-text.field-0 c.from_residual-in_err-reply.result
-    c.in_err-reply.field-0.0 p.0 (λ q at. c.in_ok-passes_top.ensures.told q at refl) p.1 p.2 c.in_err-reply.ensures.runs)
-
 pub hosting::write-returns-clause-runs : goal.hosting::write-returns-clause-runs
 hosting::write-returns-clause-runs g t c =
     let channel : c.in_ok-clone.field-0 ≡ c.args.channel.now = search rules in
-    let named : c.as_str.result.now ≡ c.args.channel.now = search rules in
-    writes_as (ways g.O.Outside.goes g.O.Outside.loses) c.args.tree.now c.wait.new.tree c.args.outside.now c.wait.new.outside c.args.place c.args.channel.now c.args.text.now c.in_ok-clone.field-0 c.in_ok-text.field-0 c.written.result
-    channel c.in_ok-text.ensures
-    (writes_heard (ways g.O.Outside.goes g.O.Outside.loses) c.args.tree.now c.wait.new.tree c.args.outside.now c.passes_top.new.self c.wait.new.outside c.args.place c.in_ok-clone.field-0 c.in_ok-text.field-0 c.written.result
-    (λ q at. c.in_ok-passes_top.ensures.told q at refl) c.in-Heard.reply
-    (subst (SaysOn (ways g.O.Outside.goes g.O.Outside.loses) c.args.tree.now c.passes_top.new.self c.args.place None (AskHost (Write c.in_ok-clone.field-0 c.in_ok-text.field-0)) c.wait.new.tree c.wait.new.outside) c.in-Heard.is c.in_ok-reply.ensures.runs)
-    (subst (λ (x : Text). IsWritten x c.in-Heard.reply c.written.result) (named ∙ sym channel) c.written.ensures))
+    writes_as (ways g.O.Outside.goes g.O.Outside.loses) c.args.tree.now c.make_call.new.tree c.args.outside.now c.make_call.new.outside c.args.place c.args.channel.now c.args.text.now c.in_ok-clone.field-0 c.in_ok-text.field-0 c.make_call.result
+    channel c.in_ok-text.ensures c.make_call.ensures.runs
+
+-- ## Requests
+
+pub hosting::ask-returns-in_err-passes_top-clause-runs : goal.hosting::ask-returns-in_err-passes_top-clause-runs
+hosting::ask-returns-in_err-passes_top-clause-runs g t c =
+    let p = err_from_is_err_and c.from_residual.result c.from_residual.ensures.1 in
+    memory_err c.from_residual.result p.0 _ _ p.1 p.2 (λ q style at k. stopped_by (lost_once c.passes_top.ensures.lost))
+
+pub hosting::ask-returns-in_err-reply-clause-runs : goal.hosting::ask-returns-in_err-reply-clause-runs
+hosting::ask-returns-in_err-reply-clause-runs g t c =
+    let p = err_from_is_err_and c.from_residual-in_err-reply.result c.from_residual-in_err-reply.ensures.1 in
+    asks_over (ways g.O.Outside.goes g.O.Outside.loses) c.args.tree.now c.wait.new.tree c.args.outside.now c.passes_top.new.self c.wait.new.outside c.args.place (request_of c.args.request) (λ q at. c.in_ok-passes_top.ensures.told q at refl)
+    c.from_residual-in_err-reply.result c.in_err-reply.field-0.0 p.0 p.1 p.2 c.in_err-reply.ensures.runs
+
+pub hosting::ask-returns-clause-runs : goal.hosting::ask-returns-clause-runs
+hosting::ask-returns-clause-runs g t c =
+    asks_heard (ways g.O.Outside.goes g.O.Outside.loses) c.args.tree.now c.wait.new.tree c.args.outside.now c.passes_top.new.self c.wait.new.outside c.args.place (request_of c.args.request) (λ q at. c.in_ok-passes_top.ensures.told q at refl) (reply_of c.in-Heard.reply)
+    (subst (SaysOn (ways g.O.Outside.goes g.O.Outside.loses) c.args.tree.now c.passes_top.new.self c.args.place None (AskHost (request_of c.args.request)) c.wait.new.tree c.wait.new.outside) c.in-Heard.is c.in_ok-reply.ensures.runs)
+
+pub hosting::make_call-returns-in_err-request-clause-runs : goal.hosting::make_call-returns-in_err-request-clause-runs
+hosting::make_call-returns-in_err-request-clause-runs g t c =
+    let p = err_from_is_err_and c.from_residual.result c.from_residual.ensures.1 in
+    memory_err c.from_residual.result p.0 _ _ p.1 p.2 (λ q style at. stopped)
+
+pub hosting::make_call-returns-in_err-reply-clause-runs : goal.hosting::make_call-returns-in_err-reply-clause-runs
+hosting::make_call-returns-in_err-reply-clause-runs g t c =
+    let p = err_from_is_err_and c.from_residual-in_err-reply.result c.from_residual-in_err-reply.ensures.1 in
+    call_over (ways g.O.Outside.goes g.O.Outside.loses) c.args.tree.now c.ask.new.tree c.ask.new.tree c.args.outside.now c.ask.new.outside c.args.place c.args.call.now (request_of c.in_ok-request.request) c.from_residual-in_err-reply.result c.in_err-reply.field-0.0 p.0
+    c.in_ok-request.ensures p.1 p.2 c.in_err-reply.ensures.runs
+
+pub hosting::make_call-returns-clause-runs : goal.hosting::make_call-returns-clause-runs
+hosting::make_call-returns-clause-runs g t c =
+    call_answered (ways g.O.Outside.goes g.O.Outside.loses) c.args.tree.now c.ask.new.tree c.answer.new.tree c.args.outside.now c.ask.new.outside c.args.place c.args.call.now (request_of c.in_ok-request.request) (reply_of c.in_ok-reply.reply) c.answer.result
+    c.in_ok-request.ensures c.in_ok-reply.ensures.runs c.ask.ensures.steady c.answer.ensures.acts
+
+pub hosting::make_call-returns-clause-steady : goal.hosting::make_call-returns-clause-steady
+hosting::make_call-returns-clause-steady g t c = steady-trans _ _ _ c.ask.ensures.steady (level_steady _ _ c.answer.ensures.level)
+
+pub hosting::call_host-returns-in_err-call-clause-runs : goal.hosting::call_host-returns-in_err-call-clause-runs
+hosting::call_host-returns-in_err-call-clause-runs g t c =
+    let p = err_from_is_err_and c.from_residual.result c.from_residual.ensures.1 in
+    fails_err c.from_residual.result c.in_err-call.field-0.0 p.0 _ (IsOver (host_program c.args.command c.args.args.now)) _ p.1 p.2 c.in_err-call.ensures
+    (λ e h q style at. does_proceeds (host_program c.args.command c.args.args.now) c.args.outside.now (h (tree_of c.args.tree.now) q)) (λ q style at. stopped)
+
+pub hosting::call_host-returns-clause-runs : goal.hosting::call_host-returns-clause-runs
+hosting::call_host-returns-clause-runs g t c =
+    IfRan-more c.make_call.result (EndsFrom (ways g.O.Outside.goes g.O.Outside.loses) c.args.tree.now c.args.outside.now c.args.place (λ style. meaning_of c.in_ok-call.call) c.make_call.new.tree c.make_call.new.outside)
+    (EndsFrom (ways g.O.Outside.goes g.O.Outside.loses) c.args.tree.now c.args.outside.now c.args.place (λ style. host_program c.args.command c.args.args.now) c.make_call.new.tree c.make_call.new.outside)
+    (λ e h q style at. at_prog c.in_ok-call.ensures (h q style at)) c.make_call.ensures.runs
+
+-- ## The script of a file
+
+pub sourcing::source-returns-in_err-text-in-len1-clause-runs : goal.sourcing::source-returns-in_err-text-in-len1-clause-runs
+sourcing::source-returns-in_err-text-in-len1-clause-runs g t c =
+    let p = err_from_is_err_and c.from_residual.result c.from_residual.ensures.1 in
+    memory_err c.from_residual.result p.0 _ _ p.1 p.2 (λ q style at. stopped)
+
+pub sourcing::source-returns-in_ok-text-in-len1-clause-runs : goal.sourcing::source-returns-in_ok-text-in-len1-clause-runs
+sourcing::source-returns-in_ok-text-in-len1-clause-runs g t c =
+    let is = one_item c.args.args.now c.file-item.result c.in-len1.len_at_least c.in-len1.len_below c.file-item.is in
+    IfRan-more c.source_file.result (EndsFrom (ways g.O.Outside.goes g.O.Outside.loses) c.args.tree.now c.args.outside.now c.args.place (λ style. sourcing.sources c.in_ok-text-in-len1.field-0) c.source_file.new.tree c.source_file.new.outside)
+    (EndsFrom (ways g.O.Outside.goes g.O.Outside.loses) c.args.tree.now c.args.outside.now c.args.place (λ style. sourcing.source c.args.args.now) c.source_file.new.tree c.source_file.new.outside)
+    (λ e h q style at. at_prog (ap sourcing.source is ∙ ap sourcing.sources (sym c.in_ok-text-in-len1.ensures)) (h q style at)) c.source_file.ensures.runs
+
+pub sourcing::source-returns-in_default-clause-runs : goal.sourcing::source-returns-in_default-clause-runs
+sourcing::source-returns-in_default-clause-runs g t c =
+    let other : sourcing.source c.args.args.now ≡ fails (wrong_args (codes "source name")) = elim c.in_default.branch [
+      | sourcing::source-in_default-via-then-args-lt1 w ↦ not_sourced c.args.args.now (inl (search rules))
+      | sourcing::source-in_default-via-else-args-lt1+else-args-lt2 w ↦ not_sourced c.args.args.now (inr (search rules))
+    ] in
+    breaks c.wrong_args.result _ _ (λ e h q style at. at_prog other (at_reply h completed)) (λ q style at. stopped) c.wrong_args.ensures
+
+pub sourcing::source_file-returns-in_err-script-clause-runs : goal.sourcing::source_file-returns-in_err-script-clause-runs
+sourcing::source_file-returns-in_err-script-clause-runs g t c =
+    let p = err_from_is_err_and c.from_residual.result c.from_residual.ensures.1 in
+    ran_err c.from_residual.result c.in_err-script.field-0.0 p.0 _ _ _ p.1 p.2 c.in_err-script.ensures.runs (λ e h. h)
+
+pub sourcing::source_file-eval_file-requires : goal.sourcing::source_file-eval_file-requires
+sourcing::source_file-eval_file-requires g t c κs within = (search rules, (search rules, still_running _ _ c.args.place c.read_file.ensures.steady c.requires))
+
+pub sourcing::source_file-returns-clause-runs : goal.sourcing::source_file-returns-clause-runs
+sourcing::source_file-returns-clause-runs g t c =
+    script_goes (ways g.O.Outside.goes g.O.Outside.loses) c.args.tree.now c.read_file.new.tree c.eval_file.new.tree c.args.outside.now c.read_file.new.outside c.eval_file.new.outside c.args.place (sourcing.sources c.args.file.now) c.in_ok-script.script c.eval_file.result
+    c.in_ok-script.ensures.runs c.read_file.ensures.steady c.eval_file.ensures.runs
+
+pub sourcing::source_file-returns-clause-steady : goal.sourcing::source_file-returns-clause-steady
+sourcing::source_file-returns-clause-steady g t c = steady-trans _ _ _ c.read_file.ensures.steady c.eval_file.ensures.steady
+
+pub sourcing::read_file-returns-in_err-clone-clause-runs : goal.sourcing::read_file-returns-in_err-clone-clause-runs
+sourcing::read_file-returns-in_err-clone-clause-runs g t c =
+    let p = err_from_is_err_and c.from_residual.result c.from_residual.ensures.1 in
+    memory_err c.from_residual.result p.0 _ _ p.1 p.2 (λ q style at. stopped)
+
+pub sourcing::read_file-returns-in_err-reply-clause-runs : goal.sourcing::read_file-returns-in_err-reply-clause-runs
+sourcing::read_file-returns-in_err-reply-clause-runs g t c =
+    let file : c.in_ok-clone.field-0 ≡ c.args.file.now = search rules in
+    let p = err_from_is_err_and c.from_residual-in_err-reply.result c.from_residual-in_err-reply.ensures.1 in
+    reads_unheard (ways g.O.Outside.goes g.O.Outside.loses) c.args.tree.now c.ask.new.tree c.ask.new.tree c.args.outside.now c.ask.new.outside c.ask.new.outside c.args.place (sourcing.sources c.args.file.now) (asking.Request.Open c.in_ok-clone.field-0 (codes "r")) (sourcing.script_opened c.args.file.now)
+    c.from_residual-in_err-reply.result c.in_err-reply.field-0.0 p.0 (ap (λ (x : Text). hosting.asks (asking.Request.Open x (codes "r")) (sourcing.script_opened c.args.file.now)) (sym file)) p.1 p.2 c.in_err-reply.ensures.runs
+
+pub sourcing::read_file-returns-in_err-channel-clause-runs : goal.sourcing::read_file-returns-in_err-channel-clause-runs
+sourcing::read_file-returns-in_err-channel-clause-runs g t c =
+    let file : c.in_ok-clone.field-0 ≡ c.args.file.now = search rules in
+    let p = err_from_is_err_and c.from_residual-in_err-channel.result c.from_residual-in_err-channel.ensures.1 in
+    reads_over (ways g.O.Outside.goes g.O.Outside.loses) c.args.tree.now c.ask.new.tree c.ask.new.tree c.args.outside.now c.ask.new.outside c.ask.new.outside c.args.place (sourcing.sources c.args.file.now) (sourcing.script_opened c.args.file.now (reply_of c.in_ok-reply.reply))
+    c.from_residual-in_err-channel.result c.in_err-channel.field-0.0 p.0
+    (reads_heard (ways g.O.Outside.goes g.O.Outside.loses) c.args.tree.now c.ask.new.tree c.ask.new.tree c.args.outside.now c.ask.new.outside c.ask.new.outside c.args.place (sourcing.sources c.args.file.now) (asking.Request.Open c.in_ok-clone.field-0 (codes "r")) (sourcing.script_opened c.args.file.now) (reply_of c.in_ok-reply.reply)
+    (ap (λ (x : Text). hosting.asks (asking.Request.Open x (codes "r")) (sourcing.script_opened c.args.file.now)) (sym file)) c.in_ok-reply.ensures.runs)
+    p.1 p.2 c.in_err-channel.ensures
+
+pub sourcing::read_file-read_channel-requires : goal.sourcing::read_file-read_channel-requires
+sourcing::read_file-read_channel-requires g t c κs within = (search rules, (search rules, still_running _ _ c.args.place c.ask.ensures.steady c.requires))
+
+pub sourcing::read_file-returns-clause-runs : goal.sourcing::read_file-returns-clause-runs
+sourcing::read_file-returns-clause-runs g t c =
+    let file : c.in_ok-clone.field-0 ≡ c.args.file.now = search rules in
+    reads_after (ways g.O.Outside.goes g.O.Outside.loses) c.args.tree.now c.ask.new.tree c.read_channel.new.tree c.args.outside.now c.ask.new.outside c.read_channel.new.outside c.args.place (sourcing.sources c.args.file.now) (sourcing.reads_script c.args.file.now c.in_ok-channel.channel) c.read_channel.result
+    (λ q style at V w e h. reads_heard (ways g.O.Outside.goes g.O.Outside.loses) c.args.tree.now c.ask.new.tree c.ask.new.tree c.args.outside.now c.ask.new.outside c.ask.new.outside c.args.place (sourcing.sources c.args.file.now) (asking.Request.Open c.in_ok-clone.field-0 (codes "r")) (sourcing.script_opened c.args.file.now) (reply_of c.in_ok-reply.reply)
+    (ap (λ (x : Text). hosting.asks (asking.Request.Open x (codes "r")) (sourcing.script_opened c.args.file.now)) (sym file)) c.in_ok-reply.ensures.runs q style at V w e (at_prog c.in_ok-channel.ensures h))
+    c.ask.ensures.steady c.read_channel.ensures.runs
+
+pub sourcing::read_file-returns-clause-steady : goal.sourcing::read_file-returns-clause-steady
+sourcing::read_file-returns-clause-steady g t c = steady-trans _ _ _ c.ask.ensures.steady c.read_channel.ensures.steady
+
+pub sourcing::read_channel-returns-in_err-clone-clause-runs : goal.sourcing::read_channel-returns-in_err-clone-clause-runs
+sourcing::read_channel-returns-in_err-clone-clause-runs g t c =
+    let p = err_from_is_err_and c.from_residual.result c.from_residual.ensures.1 in
+    memory_err c.from_residual.result p.0 _ _ p.1 p.2 (λ q style at. stopped)
+
+pub sourcing::read_channel-returns-in_err-clone-2-clause-runs : goal.sourcing::read_channel-returns-in_err-clone-2-clause-runs
+sourcing::read_channel-returns-in_err-clone-2-clause-runs g t c =
+    let p = err_from_is_err_and c.from_residual-in_err-clone-2.result c.from_residual-in_err-clone-2.ensures.1 in
+    memory_err c.from_residual-in_err-clone-2.result p.0 _ _ p.1 p.2 (λ q style at. stopped)
+
+pub sourcing::read_channel-returns-in_err-read-clause-runs : goal.sourcing::read_channel-returns-in_err-read-clause-runs
+sourcing::read_channel-returns-in_err-read-clause-runs g t c =
+    let channel : c.in_ok-clone.field-0 ≡ c.args.channel.now = search rules in
+    let p = err_from_is_err_and c.from_residual-in_err-read.result c.from_residual-in_err-read.ensures.1 in
+    reads_unheard (ways g.O.Outside.goes g.O.Outside.loses) c.args.tree.now c.ask.new.tree c.ask.new.tree c.args.outside.now c.ask.new.outside c.ask.new.outside c.args.place (sourcing.reads_script c.args.file.now c.args.channel.now) (asking.Request.ReadAll c.in_ok-clone.field-0)
+    (λ read. hosting.asks (asking.Request.Close c.args.channel.now) (sourcing.closed c.args.file.now read))
+    c.from_residual-in_err-read.result c.in_err-read.field-0.0 p.0 (ap (λ (x : Text). hosting.asks (asking.Request.ReadAll x) (λ read. hosting.asks (asking.Request.Close c.args.channel.now) (sourcing.closed c.args.file.now read))) (sym channel)) p.1 p.2 c.in_err-read.ensures.runs
+
+pub sourcing::read_channel-ask-2-requires : goal.sourcing::read_channel-ask-2-requires
+sourcing::read_channel-ask-2-requires g t c κs within = (search rules, (search rules, still_running _ _ c.args.place c.ask.ensures.steady c.requires))
+
+pub sourcing::read_channel-returns-in_err-closed-clause-runs : goal.sourcing::read_channel-returns-in_err-closed-clause-runs
+sourcing::read_channel-returns-in_err-closed-clause-runs g t c =
+    let channel : c.in_ok-clone.field-0 ≡ c.args.channel.now = search rules in
+    let closes : c.in_ok-clone-2.field-0 ≡ c.args.channel.now = search rules in
+    let p = err_from_is_err_and c.from_residual-in_err-closed.result c.from_residual-in_err-closed.ensures.1 in
+    heard_once (ways g.O.Outside.goes g.O.Outside.loses) c.args.tree.now c.ask.new.tree c.ask-2.new.tree c.args.outside.now c.ask.new.outside c.ask-2.new.outside c.args.place (sourcing.reads_script c.args.file.now c.args.channel.now) (asking.Request.ReadAll c.in_ok-clone.field-0) (asking.Request.Close c.in_ok-clone-2.field-0)
+    (sourcing.closed c.args.file.now) (reply_of c.in_ok-read.read) c.from_residual-in_err-closed.result c.in_err-closed.field-0.0 p.0
+    (λ i. hosting.asks (asking.Request.ReadAll (sym channel i)) (λ read. hosting.asks (asking.Request.Close (sym closes i)) (sourcing.closed c.args.file.now read)))
+    c.in_ok-read.ensures.runs c.ask.ensures.steady p.1 p.2 c.in_err-closed.ensures.runs
+
+pub sourcing::read_channel-returns-in_err-closed-clause-steady : goal.sourcing::read_channel-returns-in_err-closed-clause-steady
+sourcing::read_channel-returns-in_err-closed-clause-steady g t c = steady-trans _ _ _ c.ask.ensures.steady c.ask-2.ensures.steady
+
+pub sourcing::read_channel-returns-clause-runs : goal.sourcing::read_channel-returns-clause-runs
+sourcing::read_channel-returns-clause-runs g t c =
+    let channel : c.in_ok-clone.field-0 ≡ c.args.channel.now = search rules in
+    let closes : c.in_ok-clone-2.field-0 ≡ c.args.channel.now = search rules in
+    script_is (ways g.O.Outside.goes g.O.Outside.loses) c.args.tree.now c.ask-2.new.tree c.args.outside.now c.ask-2.new.outside c.args.place (sourcing.reads_script c.args.file.now c.args.channel.now) (sourcing.closed c.args.file.now (reply_of c.in_ok-read.read) (reply_of c.in_ok-closed.closed)) c.script_of_file.result
+    (heard_twice (ways g.O.Outside.goes g.O.Outside.loses) c.args.tree.now c.ask.new.tree c.ask-2.new.tree c.args.outside.now c.ask.new.outside c.ask-2.new.outside c.args.place (sourcing.reads_script c.args.file.now c.args.channel.now) (asking.Request.ReadAll c.in_ok-clone.field-0) (asking.Request.Close c.in_ok-clone-2.field-0)
+    (sourcing.closed c.args.file.now) (reply_of c.in_ok-read.read) (reply_of c.in_ok-closed.closed)
+    (λ i. hosting.asks (asking.Request.ReadAll (sym channel i)) (λ read. hosting.asks (asking.Request.Close (sym closes i)) (sourcing.closed c.args.file.now read)))
+    c.in_ok-read.ensures.runs c.ask.ensures.steady c.in_ok-closed.ensures.runs) c.script_of_file.ensures
+
+pub sourcing::read_channel-returns-clause-steady : goal.sourcing::read_channel-returns-clause-steady
+sourcing::read_channel-returns-clause-steady g t c = steady-trans _ _ _ c.ask.ensures.steady c.ask-2.ensures.steady
+
+pub sourcing::eval_file-returns-clause-runs : goal.sourcing::eval_file-returns-clause-runs
+sourcing::eval_file-returns-clause-runs g t c =
+    leaves_more c.eval_value-ended.result c.left_file.result
+    (EndsAt (ways g.O.Outside.goes g.O.Outside.loses) c.args.tree.now c.args.outside.now c.args.place (λ style. script c.args.script.now) c.eval_value-ended.new.tree c.eval_value-ended.new.outside)
+    (EndsFrom (ways g.O.Outside.goes g.O.Outside.loses) c.args.tree.now c.args.outside.now c.args.place (λ style. sourcing.evaluates_file c.args.script.now) c.eval_value-ended.new.tree c.eval_value-ended.new.outside)
+    c.eval_value-ended.ensures.runs c.left_file.ensures (λ e f h l q style at. file_evaluates style c.args.script.now e f l (h q style (record { names = at.names; style_is = at.style_is })))
 
 -- # Calls between interpreters
 

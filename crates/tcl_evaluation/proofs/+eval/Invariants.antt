@@ -10,7 +10,7 @@ use Rattle.tcl_tree.specs.TreeOf.{tree_of}
 use Rattle.tcl_calls.specs.Words.{opens, IsShort}
 use Rattle.tcl_expression_evaluation.specs.Steps.{from}
 use Rattle.tcl_language.specs.Expressions.{expression, computed, if_first, first_true, while_loop, while_turns, for_loop, for_turns}
-use Rattle.tcl_language.specs.Control.{foreach, foreach_turns}
+use Rattle.tcl_language.specs.Control.{foreach_turns, lmap, lmap_turns}
 use Rattle.tcl_calls.specs.BranchesRead.{tests_of}
 use Rattle.tcl_calls.specs.Expressions.{IsKept, settles}
 use Rattle.tcl_calls.specs.Walks.{walks_at}
@@ -200,19 +200,51 @@ invariant-expressions::for_loop-turns g l = record {
 -- Loops over lists, and scripts at another level.
 
 abbrev pub decreases-loops::foreach : goal.decreases-loops::foreach
-decreases-loops::foreach g l = 16016 * g.O.Outside.entries_left l.outside.now + 16 * room (tree_of l.tree.now) + 7
+decreases-loops::foreach g l = 16016 * g.O.Outside.entries_left l.outside.now + 16 * room (tree_of l.tree.now) + 8
+
+abbrev pub decreases-loops::walk_through : goal.decreases-loops::walk_through
+decreases-loops::walk_through g l = 16016 * g.O.Outside.entries_left l.outside.now + 16 * room (tree_of l.tree.now) + 7
+
+abbrev pub decreases-loops::dict_for : goal.decreases-loops::dict_for
+decreases-loops::dict_for g l = 16016 * g.O.Outside.entries_left l.outside.now + 16 * room (tree_of l.tree.now) + 8
+
+abbrev pub decreases-loops::dict : goal.decreases-loops::dict
+decreases-loops::dict g l = 16016 * g.O.Outside.entries_left l.outside.now + 16 * room (tree_of l.tree.now) + 9
+
+abbrev pub decreases-collecting::lmap : goal.decreases-collecting::lmap
+decreases-collecting::lmap g l = 16016 * g.O.Outside.entries_left l.outside.now + 16 * room (tree_of l.tree.now) + 8
 
 abbrev pub decreases-loops::uplevel : goal.decreases-loops::uplevel
 decreases-loops::uplevel g l = 16016 * g.O.Outside.entries_left l.outside.now + 16 * room (tree_of l.tree.now) + 2
 
-abbrev pub invariant-loops::foreach-turns : goal.invariant-loops::foreach-turns
-invariant-loops::foreach-turns g l = record {
+abbrev pub invariant-loops::walk_through-turns : goal.invariant-loops::walk_through-turns
+invariant-loops::walk_through-turns g l = record {
   leads : (p : Path) (style : Integers) → IsAt l.fn.tree l.place p style →
-      Leads (ways g.O.Outside.goes g.O.Outside.loses) style (tree_of l.fn.tree) l.fn.outside p (foreach l.fn.args) (tree_of l.tree) l.outside (foreach_turns (walks_at l.turns l.walks.items) l.initial.body);
+      Leads (ways g.O.Outside.goes g.O.Outside.loses) style (tree_of l.fn.tree) l.fn.outside p (foreach_turns (walks_at 0 l.fn.walks) l.fn.body) (tree_of l.tree) l.outside (foreach_turns (walks_at l.turns l.fn.walks) l.fn.body);
+  script : l.script ≡ l.fn.body;
+  steady : IsSteady l.fn.tree l.tree;
+  left : g.O.Outside.entries_left l.outside ≤ g.O.Outside.entries_left l.fn.outside;
+}
+
+abbrev pub invariant-collecting::lmap-turns : goal.invariant-collecting::lmap-turns
+invariant-collecting::lmap-turns g l = record {
+  leads : (p : Path) (style : Integers) → IsAt l.fn.tree l.place p style →
+      Leads (ways g.O.Outside.goes g.O.Outside.loses) style (tree_of l.fn.tree) l.fn.outside p (lmap l.fn.args) (tree_of l.tree) l.outside (lmap_turns (walks_at l.turns l.walks.items) l.initial.body l.made);
   body : l.body ≡ l.initial.body;
   steady : IsSteady l.fn.tree l.tree;
   left : g.O.Outside.entries_left l.outside ≤ g.O.Outside.entries_left l.fn.outside;
 }
+
+-- Choices of a script.
+
+abbrev pub decreases-switching::switch : goal.decreases-switching::switch
+decreases-switching::switch g l = 16016 * g.O.Outside.entries_left l.outside.now + 16 * room (tree_of l.tree.now) + 2
+
+abbrev pub decreases-trying::handled : goal.decreases-trying::handled
+decreases-trying::handled g l = 16016 * g.O.Outside.entries_left l.outside.now + 16 * room (tree_of l.tree.now) + 2
+
+abbrev pub decreases-trying::try_script : goal.decreases-trying::try_script
+decreases-trying::try_script g l = 16016 * g.O.Outside.entries_left l.outside.now + 16 * room (tree_of l.tree.now) + 3
 
 -- Crossings, and what stands outside of the tree.
 
@@ -240,14 +272,38 @@ decreases-waiting::hand_in g l = 16016 * g.O.Outside.entries_left l.outside.now 
 abbrev pub decreases-waiting::enter : goal.decreases-waiting::enter
 decreases-waiting::enter g l = 16016 * g.O.Outside.entries_left l.outside.now + 16 * room (tree_of l.tree.now) + 4
 
+abbrev pub decreases-hosting::ask : goal.decreases-hosting::ask
+decreases-hosting::ask g l = 16016 * g.O.Outside.entries_left l.outside.now + 16 * room (tree_of l.tree.now) + 1
+
+abbrev pub decreases-hosting::make_call : goal.decreases-hosting::make_call
+decreases-hosting::make_call g l = 16016 * g.O.Outside.entries_left l.outside.now + 16 * room (tree_of l.tree.now) + 2
+
+abbrev pub decreases-hosting::call_host : goal.decreases-hosting::call_host
+decreases-hosting::call_host g l = 16016 * g.O.Outside.entries_left l.outside.now + 16 * room (tree_of l.tree.now) + 3
+
 abbrev pub decreases-hosting::write : goal.decreases-hosting::write
-decreases-hosting::write g l = 16016 * g.O.Outside.entries_left l.outside.now + 16 * room (tree_of l.tree.now) + 1
+decreases-hosting::write g l = 16016 * g.O.Outside.entries_left l.outside.now + 16 * room (tree_of l.tree.now) + 3
 
 abbrev pub decreases-hosting::put_line : goal.decreases-hosting::put_line
-decreases-hosting::put_line g l = 16016 * g.O.Outside.entries_left l.outside.now + 16 * room (tree_of l.tree.now) + 2
+decreases-hosting::put_line g l = 16016 * g.O.Outside.entries_left l.outside.now + 16 * room (tree_of l.tree.now) + 4
 
 abbrev pub decreases-hosting::puts : goal.decreases-hosting::puts
-decreases-hosting::puts g l = 16016 * g.O.Outside.entries_left l.outside.now + 16 * room (tree_of l.tree.now) + 3
+decreases-hosting::puts g l = 16016 * g.O.Outside.entries_left l.outside.now + 16 * room (tree_of l.tree.now) + 5
+
+abbrev pub decreases-sourcing::read_channel : goal.decreases-sourcing::read_channel
+decreases-sourcing::read_channel g l = 16016 * g.O.Outside.entries_left l.outside.now + 16 * room (tree_of l.tree.now) + 2
+
+abbrev pub decreases-sourcing::read_file : goal.decreases-sourcing::read_file
+decreases-sourcing::read_file g l = 16016 * g.O.Outside.entries_left l.outside.now + 16 * room (tree_of l.tree.now) + 3
+
+abbrev pub decreases-sourcing::eval_file : goal.decreases-sourcing::eval_file
+decreases-sourcing::eval_file g l = 16016 * g.O.Outside.entries_left l.outside.now + 16 * room (tree_of l.tree.now) + 2
+
+abbrev pub decreases-sourcing::source_file : goal.decreases-sourcing::source_file
+decreases-sourcing::source_file g l = 16016 * g.O.Outside.entries_left l.outside.now + 16 * room (tree_of l.tree.now) + 4
+
+abbrev pub decreases-sourcing::source : goal.decreases-sourcing::source
+decreases-sourcing::source g l = 16016 * g.O.Outside.entries_left l.outside.now + 16 * room (tree_of l.tree.now) + 5
 
 abbrev pub decreases-waiting::wait-turns : goal.decreases-waiting::wait-turns
 decreases-waiting::wait-turns g l = g.O.Outside.entries_left l.outside

@@ -1,6 +1,6 @@
 use Rattle.std.proofs.Common.{◌-◌, length, take, arith}
 use Rattle.std.proofs.lemmas.List.{length-take-le}
-use Rattle.tcl_calls.proofs.Walking.{before_last, even_is, few_foreach, odd_foreach}
+use Rattle.tcl_calls.proofs.Walking.{before_last, even_is, few_words, odd_words}
 use Rattle.tcl_calls.proofs.walks.loop_words.Goals as goal
 use Rattle.tcl_calls.proofs.walks.loop_words.Goals.{then-words-lt2-via-then-words-lt2, then-words-lt2-via-else-words-lt2+then-words-eq1}
 
@@ -9,8 +9,8 @@ returns-then-words-lt2 c =
     let some = c.in-len1-up.len_at_least in
     let n = length-take-le (length c.args.args.now - 1) c.args.args.now (omega arith) in
     elim c.then-words-lt2.branch [
-      | then-words-lt2-via-then-words-lt2 w ↦ few_foreach c.args.args.now (let few = w.if-words-lt2.true in omega (arith, few, n, some))
-      | then-words-lt2-via-else-words-lt2+then-words-eq1 w ↦ odd_foreach c.args.args.now c.in-len1-up.len_at_least w.if-words-eq1.true
+      | then-words-lt2-via-then-words-lt2 w ↦ few_words c.args.args.now (let few = w.if-words-lt2.true in omega (arith, few, n, some))
+      | then-words-lt2-via-else-words-lt2+then-words-eq1 w ↦ odd_words c.args.args.now c.in-len1-up.len_at_least w.if-words-eq1.true
     ]
 
 pub returns : goal.returns

@@ -14,5 +14,5 @@ pub returns-in_err-elements-2-clause-refused : goal.returns-in_err-elements-2-cl
 returns-in_err-elements-2-clause-refused c =
     let p = err_from_is_err_and c.from_residual-in_err-elements-2.result c.from_residual-in_err-elements-2.ensures.1 in
     let names : list_of c.args.names.now ≡ Ok c.in_ok-names-2.names = ap list_of (sym c.in_ok-names.ensures.cases) ∙ c.in_ok-names-2.ensures.read in
-    at_err c.from_residual-in_err-elements-2.result c.in_err-elements-2.field-0.0 p.0 (IsFailure fault_message (list_of c.in_ok-elements.elements)) (MisreadsWalk c.args.names.now c.args.elements.now) p.1 p.2 c.in_err-elements-2.ensures.read
-    (λ e h. misread_second c.args.names.now c.args.elements.now c.in_ok-names-2.names e names (subst (λ (x : Text). IsFailure fault_message (list_of x) e) c.in_ok-elements.ensures.cases h))
+    at_err c.from_residual-in_err-elements-2.result c.in_err-elements-2.field-0.0 p.0 (IsFailure fault_message (list_of c.in_ok-elements.elements)) (MisreadsWalk c.args.form.now c.args.names.now c.args.elements.now) p.1 p.2 c.in_err-elements-2.ensures.read
+    (λ e h. misread_second c.args.form.now c.args.names.now c.args.elements.now c.in_ok-names-2.names e names (subst (λ (x : Text). IsFailure fault_message (list_of x) e) c.in_ok-elements.ensures.cases h))

@@ -9,7 +9,7 @@ use Rattle.tcl_calls.proofs.walks.read_walks.Given as goal
 abbrev pub invariant-words : goal.invariant-words
 invariant-words l = record {
   even : is_odd l.left ≡ false;
-  same : (body : Text) (k : List Walk → Text → Program) → walks_of (l.fn.words ++ body ∷ []) [] k ≡ walks_of (l.left ++ body ∷ []) (map whole l.walks.items) k;
+  same : (form body : Text) (k : List Walk → Text → Program) → walks_of form (l.fn.words ++ body ∷ []) [] k ≡ walks_of form (l.left ++ body ∷ []) (map whole l.walks.items) k;
 }
 
 abbrev pub decreases-words : goal.decreases-words

@@ -1,0 +1,85 @@
+//! `try`.
+ghost use Rattle.std.specs.Prelude.{◌≤◌};
+ghost use Rattle.tcl_calls.specs.Trying.{handlers_of};
+ghost use Rattle.tcl_language.specs.Trying as trying;
+ghost use Rattle.tcl_run.specs.Runs.{IsRunning, IsSteady, ProceedsIn, ways};
+
+use crate::evaluation::eval_value;
+use std::alloc::Global;
+use tcl_calls::trying::{Handler, TRY, handler_for, keep_named, read_tried, released};
+use tcl_run::failure::wrong_args;
+use tcl_run::interruption::{Interruption, caught};
+use tcl_run::outside::Outside;
+use tcl_run::steps::on_ok;
+use tcl_tree::tree::{Place, Tree};
+use tcl_value::value::Value;
+
+/// Evaluates the body of a `try`, and the script of the first handler that handles its completion.
+///
+/// # Errors
+/// Those of the body where no handler handles its completion; those of the handler; what no script
+/// catches: a stop, an exit, an end from outside; want of memory.
+#[cycle(eval)]
+#[inline(never)]
+fn handled<O: Outside>(
+    tree: &mut Tree,
+    alloc: Global,
+    outside: &mut O,
+    place: Place,
+    body: &Value,
+    handlers: &[Handler<'_>],
+) -> Result<Value, Interruption>
+    requires { IsRunning tree.old place }
+    ensures runs { ProceedsIn (ways O.goes O.loses) tree.old outside.old place
+        (λ style. trying.handled body.now (handlers_of handlers.now)) tree.new outside.new result }
+    ensures steady { IsSteady tree.old tree.new }
+    ensures left { O.entries_left outside.new ≤ O.entries_left outside.old }
+{
+    let mut script = body.clone()?;
+    let completion = caught(eval_value(tree, alloc, outside, place, &mut script))?;
+    let Some((names, script)) = handler_for(alloc, &completion, handlers)? else {
+        return released(alloc, completion);
+    };
+    keep_named(tree, alloc, place, names, &completion)?;
+    let Some(script) = script else {
+        return Ok(Value::empty());
+    };
+    let mut script = script.clone()?;
+    eval_value(tree, alloc, outside, place, &mut script)
+}
+
+/// `try body ?handler ...? ?finally script?`: evaluates the body and a handler of its completion,
+/// and last the script behind `finally`, whatever the completion is. (try(n))
+///
+/// # Errors
+/// 241; 221 of a code; 101 to 104 of a pattern and of the names that a handler sets; 122 of the
+/// options; 232, 233 and 238 of the variables; those of the body, its handler and the last script;
+/// what no script catches: a stop, an exit, an end from outside; want of memory.
+#[cycle(eval)]
+#[inline(never)]
+pub fn try_script<O: Outside>(
+    tree: &mut Tree,
+    alloc: Global,
+    outside: &mut O,
+    place: Place,
+    args: &[Value],
+) -> Result<Value, Interruption>
+    requires { IsRunning tree.old place }
+    ensures runs { ProceedsIn (ways O.goes O.loses) tree.old outside.old place
+        (λ style. trying.try_script style args.now) tree.new outside.new result }
+    ensures steady { IsSteady tree.old tree.new }
+    ensures left { O.entries_left outside.new ≤ O.entries_left outside.old }
+{
+    let [body, words @ ..] = args else {
+        return Err(wrong_args(alloc, TRY));
+    };
+    let tried = read_tried(alloc, tree.integers(), words)?;
+    let ended = handled(tree, alloc, outside, place, body, tried.handlers.as_slice());
+    let Some(last) = tried.last else {
+        return ended;
+    };
+    let completion = caught(ended)?;
+    let mut last = last.clone()?;
+    on_ok(eval_value(tree, alloc, outside, place, &mut last))?;
+    released(alloc, completion)
+}
