@@ -10,10 +10,10 @@ use Rattle.std.specs.Prelude.{Result, Ok, Err, IfOk, IfErr, IfNone, []}
 use Rattle.tcl_partial_runs.specs.Beginnings.{Begun}
 use Rattle.tcl_core.specs.Endings.{Reply}
 use Rattle.tcl_core.specs.Entries.Entry.{Eval}
-use Rattle.tcl_core.specs.Lives.{end_at}
+use Rattle.tcl_core.specs.Lives.{end_at, limit_at}
 use Rattle.tcl_core.specs.Runs.{Ending}
 use Rattle.tcl_core.specs.Execution.{Crossings}
-use Rattle.tcl_core.specs.Trees.{Tree, effect}
+use Rattle.tcl_core.specs.Trees.{Node, Tree, effect, with_limit}
 use Rattle.tcl_core.specs.Trees.What.{Limited}
 use Rattle.tcl_language_laws.specs.Language.{language}
 use Rattle.tcl_language.specs.Table.{serve}
@@ -24,8 +24,9 @@ use Rattle.tcl_run.specs.Runs.{IsLoss, Proceeds, Ways}
 use Rattle.tcl_run.specs.Runs.Proceeds.{given_up}
 use Rattle.tcl_tree.specs.Own.{Own}
 use Rattle.tcl_run.proofs.Endings.{IfEnded-both}
-use Rattle.tcl_eval.specs.Running.{IsGivenUp, Tells, ending_of, first_of, most_steps, root_count, unfit}
-use Rattle.tcl_eval.specs.declared.running.End.{End}
+use Rattle.tcl_tree.proofs.CoreLemmas.{top_there}
+use Rattle.tcl_eval.specs.Running.{IsGivenUp, Tells, first_of, most_steps, open_ending, root_count, root_limit, unfit}
+use Rattle.tcl_eval.specs.declared.running.OpenEnd.{OpenEnd}
 use Rattle.tcl_eval.specs.declared.running.Refused.TheVariants as refused
 
 by_all : (t : Table) (path : Path) (script : Text) (limit : ℕ) (b s n f : Bool) → (marks_of t).broken ≡ b → is_some (tree_of t path) ≡ s → nat_le (root_count t + limit) most_steps ≡ n → fits script ≡ f → unfit t path script limit ≡ first_of b s n f
@@ -44,8 +45,8 @@ is_fit t path script limit eb es h f = by_all t path script limit false true tru
 
 -- ## How it ended
 
-pub told_so : {E : Type 0} (path : Path) (ended : Result Text Interruption) (result : Result End E) (P : Reply → Type 0) (Q : End → Type 0) → Tells path ended result → IfEnded ended P →
-    ((e : End) (r : Reply) → P r → end_at path r ≡ Some (ending_of e) → Q e) → IfOk result Q
+pub told_so : {E : Type 0} (path : Path) (ended : Result Text Interruption) (result : Result OpenEnd E) (P : Reply → Type 0) (Q : OpenEnd → Type 0) → Tells path ended result → IfEnded ended P →
+    ((e : OpenEnd) (r : Reply) → P r → end_at path r ≡ open_ending e → Q e) → IfOk result Q
 told_so path ended (Err e) P Q t p k = tt
 told_so path (Ok text) (Ok e) P Q t p k = k e _ p t
 told_so path (Err interruption.Memory) (Ok e) P Q t p k = elim t [ ]
@@ -55,10 +56,20 @@ told_so path (Err (interruption.Exited n)) (Ok e) P Q t p k = k e _ p t
 told_so path (Err (interruption.Cut c)) (Ok e) P Q t p k = k e _ p t
 
 -- and where the outside is told too
-pub told_all : {E : Type 0} (path : Path) (ended : Result Text Interruption) (result : Result End E) (P D : Reply → Type 0) (Q : End → Type 0) → Tells path ended result → IfEnded ended P → IfOk result (λ e. IfEnded ended D) →
-    ((e : End) (r : Reply) → P r → D r → end_at path r ≡ Some (ending_of e) → Q e) → IfOk result Q
+pub told_all : {E : Type 0} (path : Path) (ended : Result Text Interruption) (result : Result OpenEnd E) (P D : Reply → Type 0) (Q : OpenEnd → Type 0) → Tells path ended result → IfEnded ended P → IfOk result (λ e. IfEnded ended D) →
+    ((e : OpenEnd) (r : Reply) → P r → D r → end_at path r ≡ open_ending e → Q e) → IfOk result Q
 told_all path ended (Err e) P D Q t p d k = tt
 told_all {E} path ended (Ok e) P D Q t p d k = told_so {E = E} path ended (Ok e) (λ r. P r × D r) Q t (IfEnded-both ended P D (λ r. P r × D r) (λ r a b. (a, b)) p d) (λ x r h s. k x r h.0 h.1 s)
+
+-- ## The root's own limit
+
+-- the root has the limit that it is given
+limit_so : (l : Option ℕ) (o : Option (Node Own)) → is_some o ≡ true → limit_at (with_limit l o) ≡ l
+limit_so l None there = let clash : false ≡ true = there in absurd cc
+limit_so l (Some n) there = refl
+
+pub own_limit : (t new : Table) (l : Option ℕ) → tree_of new ≡ effect [] (Limited l) (tree_of t) → root_limit new ≡ l
+own_limit t new l e = ap (λ (T : Tree Own). limit_at (T [])) e ∙ limit_so l (tree_of t []) (top_there t)
 
 -- ## Where it was given up
 

@@ -32,6 +32,8 @@ use Rattle.tcl_tree.specs.TreeOf.{tree_of, marks_of}
 use Rattle.tcl_tree.specs.declared.tree.Tree.{Tree as Table}
 use Rattle.tcl_eval.specs.declared.running.End.{End}
 use Rattle.tcl_eval.specs.declared.running.End.TheVariants as end
+use Rattle.tcl_eval.specs.declared.running.OpenEnd.{OpenEnd}
+use Rattle.tcl_eval.specs.declared.running.OpenEnd.TheVariants as open_end
 use Rattle.tcl_eval.specs.declared.running.Refused.{Refused}
 use Rattle.tcl_eval.specs.declared.running.Refused.TheVariants as refused
 
@@ -68,6 +70,23 @@ ending_of (end.Done c) = Completed_as (completion_of c)
 ending_of (end.Stopped kind) = Stopped (meter_of kind)
 ending_of (end.Exit n) = Exits n
 
+-- how an open run did, where its outside didn't end it
+abbrev pub open_ending : OpenEnd → Option Ending
+open_ending (open_end.Ran e) = Some (ending_of e)
+open_ending open_end.CutOff = None
+
+-- no outside ended it
+abbrev pub IsUncut : {E : Type 0} → Result OpenEnd E → Type 0
+IsUncut (Ok (open_end.Ran e)) = Unit {0}
+IsUncut (Ok open_end.CutOff) = Prim.⊥
+IsUncut (Err f) = Unit {0}
+
+-- its end then
+abbrev pub ran_of : Result OpenEnd Refused → Result End Refused
+ran_of (Ok (open_end.Ran e)) = Ok e
+ran_of (Ok open_end.CutOff) = Err refused.Memory
+ran_of (Err f) = Err f
+
 -- The script is one entry into the interpreter at the path, in the tree whose root may be counted
 -- so far; then the root has its own limit again.
 pub record IsRun {S : Type 0} (goes : Going S) (old : Table) (o : S) (path : Path) (script : Text)
@@ -80,9 +99,9 @@ pub record IsRun {S : Type 0} (goes : Going S) (old : Table) (o : S) (path : Pat
   pub after : tree_of new ≡ effect [] (Limited (root_limit old)) during
   pub ends : end_at path reply ≡ Some (ending_of e)
 
--- The same over any outside: it is told how the entry ends.
+-- The same over any outside: it is told how the entry ends, and may end it itself.
 pub record IsOpenRun {S : Type 0} (goes : Going S) (old : Table) (o : S) (path : Path)
-    (script : Text) (most : ℕ) (new : Table) (z : S) (e : End) : Type 0 where
+    (script : Text) (most : ℕ) (new : Table) (z : S) (e : OpenEnd) : Type 0 where
   pub during : Tree Own
   pub between : S
   pub reply : Reply
@@ -91,7 +110,7 @@ pub record IsOpenRun {S : Type 0} (goes : Going S) (old : Table) (o : S) (path :
       (serve (marks_of old).integers (Eval script)) during between reply
   pub told : goes during between None (event path (Done None reply)) z
   pub after : tree_of new ≡ effect [] (Limited (root_limit old)) during
-  pub ends : end_at path reply ≡ Some (ending_of e)
+  pub ends : end_at path reply ≡ open_ending e
 
 -- The run is the whole evaluation of the script at the path, with so many counted steps, for
 -- replies that belong to the host.
@@ -135,5 +154,5 @@ IfSaid (Err interruption.Memory) P = Prim.⊥
 IfSaid (Err i) P = Interrupts i P
 
 -- an end as whoever began the run at the path is told it
-abbrev pub Tells : {E : Type 0} → Path → Result Text Interruption → Result End E → Type 0
-Tells path ended result = IfOk result (λ e. IfSaid ended (λ r. end_at path r ≡ Some (ending_of e)))
+abbrev pub Tells : {E : Type 0} → Path → Result Text Interruption → Result OpenEnd E → Type 0
+Tells path ended result = IfOk result (λ e. IfSaid ended (λ r. end_at path r ≡ open_ending e))

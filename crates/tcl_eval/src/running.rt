@@ -12,7 +12,8 @@ ghost use Rattle.tcl_tree.specs.TreeOf.{marks_of, tree_of, Names};
 ghost use Rattle.tcl_core.specs.Lives.{end_at};
 ghost use Rattle.tcl_run.specs.Runs.{IsLoss, ways};
 ghost use Rattle.tcl_eval.specs.Running.{AsksFirst, IsBudgeted, IsGivenUp, IsOpenRun, IsRun};
-ghost use Rattle.tcl_eval.specs.Running.{IsWhole, Tells, ending_of, unfit, root_count, root_limit};
+ghost use Rattle.tcl_eval.specs.Running.{IsUncut, IsWhole, Tells, ending_of, ran_of, root_count};
+ghost use Rattle.tcl_eval.specs.Running.{root_limit, unfit};
 ghost use Rattle.tcl_eval.specs.declared.running.Refused.TheVariants.{Memory};
 
 use std::alloc::{AllocError, Global};
@@ -39,6 +40,15 @@ pub enum End {
     Stopped(StopKind),
     /// The script ended the run with this status.
     Exit(i64),
+}
+
+/// How an open run ended.
+#[derive(Drop)]
+pub enum OpenEnd {
+    /// As the run of a script ends.
+    Ran(End),
+    /// The outside ended it: it refused a step, or answered an open call by an end from outside.
+    CutOff,
 }
 
 /// Why there was no run, or none that came to its end.
@@ -89,6 +99,7 @@ pub fn eval<H: Host>(
     ensures broken { IsErrOf result Memory → (marks_of tree.new).broken ≡ true }
     ensures marks { IfOk result (λ _. marks_of tree.new ≡ marks_of tree.old) }
     ensures style { (marks_of tree.new).integers ≡ (marks_of tree.old).integers }
+    ensures root_limit { root_limit tree.new ≡ root_limit tree.old }
     ensures given_up { IfNone (unfit tree.old path.now script.now limit)
         (IfErr result (λ _. IsGivenUp (ways (hosted H.step) (λ o z. z ≡ o)) tree.old host.old
         path.now script.now (root_count tree.old + limit) host.new)) }
@@ -105,11 +116,25 @@ pub fn eval<H: Host>(
         end) }
 {
     scripts_keep_budgets();
-    open_run(tree, alloc, host, path, script, limit)
+    let opened = open_run(tree, alloc, host, path, script, limit);
+    ran(opened)
+}
+
+/// The end of a run that no outside ended.
+pub fn ran(opened: Result<OpenEnd, Refused>) -> Result<End, Refused>
+    requires { IsUncut opened }
+    ensures { result ≡ ran_of opened }
+{
+    match opened {
+        Ok(OpenEnd::Ran(end)) => Ok(end),
+        Ok(OpenEnd::CutOff) => unreachable!(),
+        Err(refused) => Err(refused),
+    }
 }
 
 /// The same over any outside, which was told that the script comes in, and is told how the entry
-/// ends.
+/// ends. An outside may refuse a step, or answer a call by an end from outside: that ends the run,
+/// and the tree is as sound afterwards as after any other end.
 ///
 /// # Errors
 /// Those of `eval`.
@@ -120,7 +145,7 @@ pub fn open_run<O: Outside>(
     path: &[Text],
     script: &str,
     limit: u64,
-) -> Result<End, Refused>
+) -> Result<OpenEnd, Refused>
     ensures refused { IfSome (unfit tree.old path.now script.now limit) (λ e. result ≡ Err e) }
     ensures unchanged { IfSome (unfit tree.old path.now script.now limit)
         (λ _. (tree.new ≡ tree.old) × (outside.new ≡ outside.old)) }
@@ -128,6 +153,7 @@ pub fn open_run<O: Outside>(
     ensures broken { IsErrOf result Memory → (marks_of tree.new).broken ≡ true }
     ensures marks { IfOk result (λ _. marks_of tree.new ≡ marks_of tree.old) }
     ensures style { (marks_of tree.new).integers ≡ (marks_of tree.old).integers }
+    ensures root_limit { root_limit tree.new ≡ root_limit tree.old }
     ensures given_up { IfNone (unfit tree.old path.now script.now limit)
         (IfErr result (λ _. IsGivenUp (ways O.goes O.loses) tree.old outside.old path.now script.now
         (root_count tree.old + limit) outside.new)) }
@@ -213,11 +239,12 @@ fn run<O: Outside>(
     start: Start,
     path: &[Text],
     script: &str,
-) -> Result<End, AllocError>
+) -> Result<OpenEnd, AllocError>
     requires short { fits script.now ≡ true }
     requires place { Names tree.old start.place path.now }
     requires own { start.own ≡ root_limit tree.old }
     ensures marks { marks_of tree.new ≡ marks_of tree.old }
+    ensures root_limit { root_limit tree.new ≡ root_limit tree.old }
     ensures given_up { IfErr result
         (λ _. IsGivenUp (ways O.goes O.loses) tree.old outside.old path.now script.now start.most
         outside.new) }
@@ -242,7 +269,7 @@ fn leave<O: Outside>(
     outside: &mut O,
     path: &[Text],
     ended: Result<Value, Interruption>,
-) -> Result<End, AllocError>
+) -> Result<OpenEnd, AllocError>
     ensures tells { Tells path.now ended result }
     ensures lost { IsLoss O.loses outside.old outside.new }
     ensures told { IfOk result
@@ -258,16 +285,18 @@ fn end_of(
     alloc: Global,
     path: &[Text],
     ended: Result<Value, Interruption>,
-) -> Result<End, AllocError>
+) -> Result<OpenEnd, AllocError>
     ensures { Tells path.now ended result }
 {
     match ended {
-        Ok(text) => Ok(End::Done(completion::ok(text))),
-        Err(Interruption::Completed(completion)) => Ok(End::Done(Box::into_inner(completion))),
-        Err(Interruption::Stopped(stop)) => stopped(alloc, path, stop),
-        Err(Interruption::Exited(status)) => Ok(End::Exit(status)),
+        Ok(text) => Ok(OpenEnd::Ran(End::Done(completion::ok(text)))),
+        Err(Interruption::Completed(completion)) => {
+            Ok(OpenEnd::Ran(End::Done(Box::into_inner(completion))))
+        }
+        Err(Interruption::Stopped(stop)) => Ok(OpenEnd::Ran(stopped(alloc, path, stop)?)),
+        Err(Interruption::Exited(status)) => Ok(OpenEnd::Ran(End::Exit(status))),
+        Err(Interruption::Cut(_)) => Ok(OpenEnd::CutOff),
         Err(Interruption::Memory) => Err(AllocError),
-        Err(Interruption::Cut(_)) => Err(AllocError),
     }
 }
 

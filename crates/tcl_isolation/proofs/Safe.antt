@@ -12,25 +12,15 @@ use Rattle.tcl_core.specs.Execution.{before}
 use Rattle.tcl_core.specs.Trees.{Event, Node, Tree, at}
 use Rattle.tcl_core.specs.Views.{moves_of, steps_of, view}
 use Rattle.tcl_core.proofs.Counts.{counting, limiting}
-use Rattle.tcl_core.proofs.PathLaws.{strip_own}
 use Rattle.tcl_core.proofs.Safeguards.{limits_kept, no_requests}
 use Rattle.tcl_isolation.specs.Limits.{AreLowering}
 use Rattle.tcl_isolation.specs.Visits.{IsBelowTheTop}
-use Rattle.tcl_isolation.proofs.Lowering.{AreSafe, IsSafeNode, Rules, lowering}
+use Rattle.tcl_isolation.proofs.Lowering.{Rules, lowering}
 use Rattle.tcl_isolation.proofs.Records.{Pointwise, all_past, keeps_top}
 use Rattle.tcl_isolation.proofs.Watching.{Watched, lasts, life, remains, same_moves, seen, stands, tape}
 
 asking : (O : Type 0) → Pointwise {O = O} (λ p x. IsNoRequest x) AsksNothing
 asking O = record { none = tt; more = λ ev τ f g. (f, g); first = λ ev τ f. f.0; later = λ ev τ f. f.1 }
-
-module _ {O : Type 0} where
-  safe_node : (o : Option (Node O)) → ((n : Node O) → o ≡ Some n → n.safe ≡ true) → IsSafeNode o
-  safe_node None f = tt
-  safe_node (Some n) f = f n refl
-
-  -- a safe interpreter's subtree
-  pub safe_subtree : (T : Tree O) (c : Place) → IsSafeBelow T → IsSafeAt T c → AreSafe (at T c)
-  safe_subtree T c s a p = safe_node (T (c ++ p)) (λ n e. s c (c ++ p) p a.0 n (strip_own c p) a.1 a.2 e)
 
 module _ {O I S : Type 0} (goes : Tree O → S → Wait → Event O → S → Type 0) (prog : Table O I) (T V : Tree O) (o z : S) (t : Path) (i : Entry) (c : Place) (crossings : List (Event O)) (r : Reply) where
   abbrev One : Type 0
@@ -82,8 +72,8 @@ module _ {O I S : Type 0} (goes : Tree O → S → Wait → Event O → S → Ty
       limiting prog c [] (before T (whole w)) (wait idle never) (before V []) None n l b (life goes prog T V o z t i c crossings r w) (lasts goes prog T V o z t i c crossings r w n f e) low e g lb nb in
       (subst (λ x. x ≤ b) (sym (ap count_at h.2)) h.5, (h.1, ap limit_at h.2 ∙ h.3, h.4))
 
-  pub all_lowering : (fine : I → Bool) → Rules fine prog → (w : One) (n : Node O) (l : ℕ) → IsBelowTheTop c → IsSafeBelow T → IsSafeAt T c → T c ≡ Some n → AreLowering l (moves_of crossings) → IsLowering l c (whole w)
-  all_lowering fine all w n l f s a e m =
+  pub all_lowering : (fine : I → Bool) → Rules fine prog → (w : One) (n : Node O) (l : ℕ) → IsBelowTheTop c → T c ≡ Some n → AreLowering l (moves_of crossings) → IsLowering l c (whole w)
+  all_lowering fine all w n l f e m =
       let low : AreLowering l (moves_of (seen goes prog T V o z t i c crossings r w)) = subst (AreLowering l) (same_moves goes prog T V o z t i c crossings r w n f e) m in
-      lowering prog fine all l c (before T (whole w)) (before V []) (life goes prog T V o z t i c crossings r w) refl (safe_subtree T c s a) low
+      lowering prog fine all l c (before T (whole w)) (before V []) (life goes prog T V o z t i c crossings r w) refl low
       (keeps_top (seen goes prog T V o z t i c crossings r w) (remains goes prog T V o z t i c crossings r w n f e))

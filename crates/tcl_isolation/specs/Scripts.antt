@@ -46,12 +46,11 @@ pub record LimitsStay {S : Type 0} (goes : Going S) : Type 0 where
       IsSafeBelow T → IsSafeAt T c → T c ≡ Some n → Unasked [] (moves_of crossings) →
       (m : Node Own) × (V c ≡ Some m) × (m.limit ≡ n.limit) × (m.depth_limit ≡ n.depth_limit)
 
--- A safe watched interpreter with a count limit that no entry of the record raises or takes away is
--- counted at most to the greater of the limit and the count before.
+-- A watched interpreter with a count limit that no entry of the record raises or takes away is
+-- counted at most to the greater of the limit and the count before. It needn't be safe: nobody sets
+-- a limit of its own, and who asks for one asks below.
 abbrev pub ScriptsStayWithin : {S : Type 0} → Going S → Type 0
 ScriptsStayWithin {S} goes = (style : Integers) (T V : Tree Own) (o z : S) (t : Path) (i : Entry)
     (c : Place) (crossings : List (Event Own)) (r : Reply) (n : Node Own) (l b : ℕ) →
-    WatchedVisit goes (language style) T o t i c crossings V z r → IsBelowTheTop c → IsSafeBelow T →
-    IsSafeAt T c → T c ≡ Some n → n.limit ≡ Some l → AreLowering l (moves_of crossings) →
-    l ≤ b → n.count ≤ b →
-    IsWithin (V c) l b
+    WatchedVisit goes (language style) T o t i c crossings V z r → IsBelowTheTop c → T c ≡ Some n →
+    n.limit ≡ Some l → AreLowering l (moves_of crossings) → l ≤ b → n.count ≤ b → IsWithin (V c) l b

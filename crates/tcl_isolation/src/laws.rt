@@ -89,10 +89,8 @@ pub fn limits_stay<O: Outside>()
     safe_scripts_set_no_limit()
 }
 
-/// A safe watched interpreter with a count limit that no entry of the record raises or takes away
-/// is counted at most to the greater of the limit and the count before.
+/// A watched interpreter with a count limit that no entry of the record raises or takes away, safe
+/// or trusted, is counted at most to the greater of the limit and the count before.
 pub fn scripts_stay_within<O: Outside>()
     ensures { ScriptsStayWithin O.goes }
-{
-    safe_scripts_set_no_limit()
-}
+{}

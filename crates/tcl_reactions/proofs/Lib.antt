@@ -8,4 +8,6 @@ pub mod Waited
 pub mod Played
 pub mod Reacted
 pub mod Free
+pub mod Depths
+pub mod OneOutcome
 pub mod Worked

@@ -1,19 +1,21 @@
 -- The laws of playing. The first holds whatever the commands are: `prog` is their table.
-use Rattle.std.specs.Prelude.{◌≡◌, ◌⊎◌, ℕ, ℤ, true, List, Some, None}
+use Rattle.std.specs.Prelude.{◌≡◌, ◌⊎◌, ℕ, ℤ, true, List, [], ◌∷◌, Some, None}
 use Rattle.tcl_core.specs.Paths.{Path, Place, Height, rise_to}
 use Rattle.tcl_core.specs.Endings.{Reply}
 use Rattle.tcl_core.specs.Endings.Meter.{Count}
-use Rattle.tcl_core.specs.Endings.Reply.{Exit}
+use Rattle.tcl_core.specs.Endings.Cause.{Over}
+use Rattle.tcl_core.specs.Endings.Reply.{Exit, Cut}
 use Rattle.tcl_core.specs.Entries.{Entry, Answer}
 use Rattle.tcl_core.specs.Entries.Answer.{Replied}
-use Rattle.tcl_core.specs.Trees.{Tree, Move}
+use Rattle.tcl_core.specs.Trees.{Event, Tree, Move}
+use Rattle.tcl_core.specs.Trees.Move.{Come}
 use Rattle.tcl_core.specs.Trees.What.{Charged, Refused, Dropped, Out, In, Done, Back}
 use Rattle.tcl_core.specs.Programs.{Table}
 use Rattle.tcl_core.specs.Runs.{is_own}
 use Rattle.tcl_core.specs.Execution.{event}
-use Rattle.tcl_core.specs.Lives.{React}
+use Rattle.tcl_core.specs.Lives.{Outcome, React}
 use Rattle.tcl_core.specs.Lives.Outcome.{Exited}
-use Rattle.tcl_core.specs.Laws.{KeepsTop}
+use Rattle.tcl_core.specs.Laws.{IsUpright, KeepsTop, depth_of}
 use Rattle.tcl_reactions.specs.Playing.{Fate, Player, Lived, IsOver, beginner, last_end, outcome}
 use Rattle.tcl_reactions.specs.Playing.{plays, tree_left}
 
@@ -23,6 +25,27 @@ abbrev pub PlayedIsReact : Type 0 → Type 0 → Type 0
 PlayedIsReact O I = (prog : Table O I) (S V : Tree O) (ms : List (Move O)) (n : ℕ) (z : Player O) →
     Lived prog S (beginner ms n) V z → IsOver z →
     React prog S ms n (outcome z) z.outs (tree_left z V)
+
+-- What is played leaves each depth as it was, where above each interpreter that stands all stand and
+-- are in use as deeply: all entries came to their end by then, also where the playing was cut short.
+abbrev pub DepthsStay : Type 0 → Type 0 → Type 0
+DepthsStay O I = (prog : Table O I) (S V : Tree O) (o z : Player O) →
+    Lived prog S o V z → IsUpright S → (q : Place) → depth_of (V q) ≡ depth_of (S q)
+
+-- each end from outside among these moves is one by what is above
+abbrev pub AreFromAbove : {O : Type 0} → List (Move O) → Type 0
+AreFromAbove [] = Unit {0}
+AreFromAbove (Come (Replied (Cut Over)) ∷ ms) = Prim.⊥
+AreFromAbove (m ∷ ms) = AreFromAbove ms
+
+-- A tree, moves and a budget come to one outcome, whichever of the six it is: all that the tree does
+-- by itself with these moves and this budget is the same, what it tells and what it leaves. (Why a
+-- call is ended from outside is told to nobody. Of moves as they are recorded and played each such
+-- end is one by what is above; so the law is said of these.)
+abbrev pub OneOutcome : Type 0 → Type 0 → Type 0
+OneOutcome O I = (prog : Table O I) (S : Tree O) (ms : List (Move O)) (n : ℕ) (x y : Outcome)
+    (outs told : List (Event O)) (V W : Tree O) → AreFromAbove ms → React prog S ms n x outs V →
+    React prog S ms n y told W → (y ≡ x) × (told ≡ outs) × (W ≡ V)
 
 -- the last entry ended by this exit, or the playing is over
 abbrev pub HasExited : {O : Type 0} → Player O → ℤ → Type 0

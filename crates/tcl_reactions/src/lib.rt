@@ -4,11 +4,21 @@
 #![tactic(auto)]
 
 ghost use Rattle.tcl_reactions.specs.Example.{WorkedPlayings};
-ghost use Rattle.tcl_reactions.specs.Laws.{NeverStuck, PlayedIsReact};
+ghost use Rattle.tcl_reactions.specs.Laws.{DepthsStay, NeverStuck, OneOutcome, PlayedIsReact};
 
 /// What comes of playing moves to a tree is what that tree does by itself with them.
 pub fn played_is_react<O, I>()
     ensures { PlayedIsReact O I }
+{}
+
+/// A tree, moves and a budget come to one outcome, whichever of the six it is.
+pub fn one_outcome<O, I>()
+    ensures { OneOutcome O I }
+{}
+
+/// What is played leaves each depth as it was.
+pub fn depths_stay<O, I>()
+    ensures { DepthsStay O I }
 {}
 
 /// Who plays entries and answers is never at a loss.

@@ -1,6 +1,7 @@
 pub mod Boundaries
 pub mod BoundaryLaws
 pub mod Fates
+pub mod GivenUp
 pub mod Lengths
 pub mod Notes
 pub mod Recorders

@@ -1,5 +1,5 @@
 -- Entries from outside of the tree, with what happens in them.
-use Rattle.std.proofs.Common.{◌≡◌, List, [], ◌∷◌, ◌++◌, Some, None, refl, sym, ◌∙◌, ap, subst, append_assoc}
+use Rattle.std.proofs.Common.{◌≡◌, false, List, [], ◌∷◌, ◌++◌, Some, None, refl, sym, ◌∙◌, ap, subst, append_assoc}
 use Rattle.tcl_core.specs.Endings.{Reply}
 use Rattle.tcl_core.specs.Entries.{Entry}
 use Rattle.tcl_core.specs.Paths.{Place}
@@ -14,7 +14,7 @@ use Rattle.tcl_core.proofs.RuleLaws.{derived_runs}
 use Rattle.tcl_run.specs.Outsides.{Going}
 use Rattle.tcl_tree.specs.Own.{Own}
 use Rattle.tcl_recorder.specs.Boundary.{boundary}
-use Rattle.tcl_recorder.specs.Laws.{WatchedEntry, WatchedVisit, visit}
+use Rattle.tcl_recorder.specs.Laws.{KeepsAll, WatchedEntry, WatchedVisit, visit}
 use Rattle.tcl_recorder.specs.Records.{RecordView}
 use Rattle.tcl_recorder.specs.Recording.{after, crossed, noted, recorded}
 use Rattle.tcl_recorder.specs.declared.recorder.Recorder.{Recorder}
@@ -58,20 +58,22 @@ module _ {I S : Type 0} (goes : Going S) (prog : Table Own I) (T V : Tree Own) w
       let end : Crossings (recorded goes) V w None (event t (Done None r)) z = record { told = leaves } in
       let chain : Chain (Crossings (recorded goes)) T o (visit t i made.events r) V z = more entry (chain-append (Crossings (recorded goes)) made.chain (more end none)) in
       let all = watched goes T V o z (visit t i made.events r) chain in
-      record { events = made.events; visits = visits (Crossings (recorded goes)) prog t i made; outside = all.outside; kept = all.kept; fate = all.fate }
+      let kept : KeepsAll o (visit t i made.events r) z = all.keeps (leaves.ends tt) in
+      record { events = made.events; visits = visits (Crossings (recorded goes)) prog t i made; outside = all.outside; kept = kept.kept; fate = kept.fate }
 
-  pub watched_entry : (o w : Recorder S) (t : Place) (i : Entry) (r : Reply) →
+  pub watched_entry : (o w : Recorder S) (t : Place) (i : Entry) (r : Reply) → w.incomplete ≡ false →
       Executes (Crossings (recorded goes)) prog T (noted o (event t (In None i))) t (entering prog (T t) i) V w r →
       WatchedEntry goes prog T o t i V (noted w (event t (Done None r))) r
-  watched_entry o w t i r run =
+  watched_entry o w t i r whole run =
       let made = follows (Crossings (recorded goes)) prog run in
       let first = event t (In None i) in
       let last = event t (Done None r) in
       let all = watched goes T V (noted o first) w made.events made.chain in
+      let so : KeepsAll (noted o first) made.events w = all.keeps whole in
       record {
         events = made.events;
         visits = visits (Crossings (recorded goes)) prog t i made;
         outside = all.outside;
-        kept = ap (λ k. crossed k last) all.kept ∙ after_parts (crossed o.kept first) made.events (last ∷ []) ∙ after_one o.kept first (made.events ++ last ∷ []);
-        fate = all.fate ∙ sym (fate_parts o.deleted o.kept.watched made.events (last ∷ []));
+        kept = ap (λ k. crossed k last) so.kept ∙ after_parts (crossed o.kept first) made.events (last ∷ []) ∙ after_one o.kept first (made.events ++ last ∷ []);
+        fate = so.fate ∙ sym (fate_parts o.deleted o.kept.watched made.events (last ∷ []));
       }

@@ -10,10 +10,10 @@ use Rattle.tcl_core.specs.Trees.What.{Charged, Refused, Dropped, Out, In, Done, 
 use Rattle.tcl_core.proofs.Following.{makes}
 use Rattle.tcl_run.specs.Outsides.{Going}
 use Rattle.tcl_tree.specs.Own.{Own}
-use Rattle.tcl_recorder.specs.Laws.{IsNoCrossing, IsWatched, WatchedRun}
+use Rattle.tcl_recorder.specs.Laws.{IsNoCrossing, IsWatched, KeepsAll, WatchedRun}
 use Rattle.tcl_recorder.specs.Boundary.{boundary}
 use Rattle.tcl_recorder.specs.Records.{RecordView}
-use Rattle.tcl_recorder.specs.Recording.{after, crossed, fallen_after, falls, recorded}
+use Rattle.tcl_recorder.specs.Recording.{Keeps, after, crossed, fallen_after, falls, recorded}
 use Rattle.tcl_recorder.specs.declared.recorder.Recorder.{Recorder}
 use Rattle.tcl_recorder.proofs.BoundaryLaws.{boundary_append}
 use Rattle.tcl_recorder.proofs.Notes.{unchanged}
@@ -28,46 +28,56 @@ after_one r ev τ = ap (λ (xs : List (Event Own)). record { watched = r.watched
 module _ {S : Type 0} (goes : Going S) where
   pub record IsStep (T : Tree Own) (o : Recorder S) (s : Wait) (ev : Event Own) (u : Recorder S) : Type 0 where
     pub outside : Crossings goes T o.outside s ev u.outside
-    pub kept : u.kept ≡ crossed o.kept ev
-    pub fate : u.deleted ≡ either (falls o.kept.watched ev) o.deleted
+    pub keeps : u.incomplete ≡ false → Keeps o ev u
 
   still : (T : Tree Own) (o : Recorder S) (s : Wait) (ev : Event Own) (u : Recorder S) → IsNoCrossing ev.what → falls o.kept.watched ev ≡ false → hears goes T o.outside s ev.place ev.what u.outside → u ≡ o → IsStep T o s ev u
   still T o s ev u f stands h e = record {
     outside = record { told = h };
-    kept = ap (λ (r : Recorder S). r.kept) e ∙ unchanged o.kept ev f;
-    fate = ap (λ (r : Recorder S). r.deleted) e ∙ sym (ap (λ b. either b o.deleted) stands);
+    keeps = λ w. record {
+      whole = sym (ap (λ (r : Recorder S). r.incomplete) e) ∙ w;
+      kept = ap (λ (r : Recorder S). r.kept) e ∙ unchanged o.kept ev f;
+      fate = ap (λ (r : Recorder S). r.deleted) e ∙ sym (ap (λ b. either b o.deleted) stands);
+    };
   }
 
   one : (T : Tree Own) (o : Recorder S) (s : Wait) (p : Place) (x : What Own) (u : Recorder S) → hears (recorded goes) T o s p x u → IsStep T o s (event p x) u
-  one T o s p (Out h down i) u t = record { outside = record { told = t.outside }; kept = t.kept; fate = t.fate }
-  one T o s p (Back h a) u t = record { outside = record { told = t.outside }; kept = t.kept; fate = t.fate }
-  one T o s p (In h i) u t = record { outside = record { told = t.outside }; kept = t.kept; fate = t.fate }
-  one T o s p (Done h r) u t = record { outside = record { told = t.outside }; kept = t.kept; fate = t.fate }
-  one T o s p Charged u t = record { outside = record { told = t.outside }; kept = t.kept; fate = t.fate }
-  one T o s p (Refused m None) u t = record { outside = record { told = t.outside }; kept = t.kept; fate = t.fate }
-  one T o s p Dropped u t = record { outside = record { told = t.outside }; kept = t.kept; fate = t.fate }
+  one T o s p (Out h down i) u t = record { outside = record { told = t.outside }; keeps = t.keeps }
+  one T o s p (Back h a) u t = record { outside = record { told = t.outside }; keeps = t.keeps }
+  one T o s p (In h i) u t = record { outside = record { told = t.outside }; keeps = t.keeps }
+  one T o s p (Done h r) u t = record { outside = record { told = t.outside }; keeps = t.keeps }
+  one T o s p Charged u t = record { outside = record { told = t.outside }; keeps = t.keeps }
+  one T o s p (Refused m None) u t = record { outside = record { told = t.outside }; keeps = t.keeps }
+  one T o s p Dropped u t = record { outside = record { told = t.outside }; keeps = t.keeps }
   one T o s p x u t = still T o s (event p x) u tt refl (ap (λ (r : Recorder S). r.outside) t) t
 
   pub step : (T : Tree Own) (o : Recorder S) (s : Wait) (ev : Event Own) (u : Recorder S) → Crossings (recorded goes) T o s ev u → IsStep T o s ev u
   step T o s ev u t = one T o s ev.place ev.what u t.told
 
   pub watched : (T V : Tree Own) (o z : Recorder S) (τ : List (Event Own)) → Chain (Crossings (recorded goes)) T o τ V z → IsWatched goes T o τ V z
-  watched T V o z [] none = record { outside = none; kept = after_none o.kept; fate = refl }
+  watched T V o z [] none = record { outside = none; keeps = λ w. record { whole = w; kept = after_none o.kept; fate = refl } }
   watched T V o z (ev ∷ τ) (more {u = u} {s = s} a rest) =
       let first = step T o s ev u a in
       let later = watched (effect ev.place ev.what T) V u z τ rest in
       record {
         outside = more first.outside later.outside;
-        kept = later.kept ∙ ap (λ r. after r τ) first.kept ∙ after_one o.kept ev τ;
-        fate = later.fate ∙ ap (λ (r : RecordView). fallen_after u.deleted r.watched τ) first.kept ∙ ap (λ b. fallen_after b o.kept.watched τ) first.fate;
+        keeps = λ w. (
+            let l : KeepsAll u τ z = later.keeps w in
+            let f : Keeps o ev u = first.keeps l.whole in
+            record {
+              whole = f.whole;
+              kept = l.kept ∙ ap (λ r. after r τ) f.kept ∙ after_one o.kept ev τ;
+              fate = l.fate ∙ ap (λ (r : RecordView). fallen_after u.deleted r.watched τ) f.kept ∙ ap (λ b. fallen_after b o.kept.watched τ) f.fate;
+            }
+            );
       }
 
-  pub watched_run : {I : Type 0} (prog : Table Own I) (T V : Tree Own) (o z : Recorder S) (p : Place) (x : Prog Own I) (r : Reply) →
+  pub watched_run : {I : Type 0} (prog : Table Own I) (T V : Tree Own) (o z : Recorder S) (p : Place) (x : Prog Own I) (r : Reply) → z.incomplete ≡ false →
       Executes (Crossings (recorded goes)) prog T o p x V z r → WatchedRun goes prog T o p x V z r
-  watched_run prog T V o z p x r t =
+  watched_run prog T V o z p x r w t =
       let made = makes (Crossings (recorded goes)) prog t in
       let all = watched T V o z made.events made.chain in
-      record { events = made.events; runs = made.runs; outside = all.outside; kept = all.kept; fate = all.fate }
+      let kept : KeepsAll o made.events z = all.keeps w in
+      record { events = made.events; runs = made.runs; outside = all.outside; kept = kept.kept; fate = kept.fate }
 
 -- ## Another outside
 

@@ -12,6 +12,7 @@ use Rattle.tcl_core.specs.Trees.{Event, Move, Tree, What}
 use Rattle.tcl_core.specs.Trees.Move.{Enter, Come}
 use Rattle.tcl_core.specs.Trees.What.{Out, In, Done, Back}
 use Rattle.tcl_core.specs.Views.{moves_of, view}
+use Rattle.tcl_partial_runs.specs.Beginnings.{Begun}
 use Rattle.tcl_run.specs.Outsides.{Going}
 use Rattle.tcl_tree.specs.Own.{Own}
 use Rattle.tcl_recorder.specs.Boundary.{at_passing, back_seen, boundary, done_seen, in_seen}
@@ -96,14 +97,20 @@ FateParts = (b : Bool) (c : Place) (σ τ : List (Event Own)) →
 
 -- ## Recorders
 
+-- What is recorded of these happenings, where nothing was missing before: their boundary, and
+-- whether the watched interpreter was dropped.
+pub record KeepsAll {S : Type 0} (o : Recorder S) (τ : List (Event Own)) (z : Recorder S) : Type 0
+  where
+    pub whole : o.incomplete ≡ false
+    pub kept : z.kept ≡ after o.kept τ
+    pub fate : z.deleted ≡ fallen_after o.deleted o.kept.watched τ
+
 -- These happenings take the outside that the recorder holds from one state to the other, with the
--- tree, their boundary is added to the record, and it is told whether the watched interpreter was
--- dropped.
+-- tree. Where nothing is missing from the record afterwards, they are recorded.
 pub record IsWatched {S : Type 0} (goes : Going S) (T : Tree Own) (o : Recorder S)
     (τ : List (Event Own)) (V : Tree Own) (z : Recorder S) : Type 0 where
   pub outside : Chain (Crossings goes) T o.outside τ V z.outside
-  pub kept : z.kept ≡ after o.kept τ
-  pub fate : z.deleted ≡ fallen_after o.deleted o.kept.watched τ
+  pub keeps : z.incomplete ≡ false → KeepsAll o τ z
 
 abbrev pub RecordsTheBoundary : {S : Type 0} → Going S → Type 0
 RecordsTheBoundary {S} goes = (T V : Tree Own) (o z : Recorder S) (τ : List (Event Own)) → Chain
@@ -111,7 +118,7 @@ RecordsTheBoundary {S} goes = (T V : Tree Own) (o z : Recorder S) (τ : List (Ev
 
 -- A run takes the tree over a tape, which takes the outside that the recorder holds; the boundary
 -- of that very tape is added to the record, and it is told whether the watched interpreter was
--- dropped.
+-- dropped. So it is wherever nothing is missing from the record.
 pub record WatchedRun {I S : Type 0} (goes : Going S) (prog : Table Own I) (T : Tree Own)
     (o : Recorder S) (p : Place) (x : Prog Own I) (V : Tree Own) (z : Recorder S) (r : Reply) : Type
     0 where
@@ -123,7 +130,7 @@ pub record WatchedRun {I S : Type 0} (goes : Going S) (prog : Table Own I) (T : 
 
 abbrev pub RunsAreWatched : {S : Type 0} → Type 0 → Going S → Type 0
 RunsAreWatched {S} I goes = (prog : Table Own I) (T V : Tree Own) (o z : Recorder S) (p : Place)
-    (x : Prog Own I) (r : Reply) →
+    (x : Prog Own I) (r : Reply) → z.incomplete ≡ false →
     Executes (Crossings (recorded goes)) prog T o p x V z r → WatchedRun goes prog T o p x V z r
 
 -- What comes of a program with a recorder comes of it with the outside that the recorder holds.
@@ -132,6 +139,13 @@ RunsUnwatched {S} I goes = (prog : Table Own I) (T V : Tree Own) (o z : Recorder
     (x : Prog Own I) (r : Reply) →
     Executes (Crossings (recorded goes)) prog T o p x V z r →
     Executes (Crossings goes) prog T o.outside p x V z.outside r
+
+-- And what is given up with a recorder on its way, as for want of memory, is given up so without.
+abbrev pub GivenUpUnwatched : {S : Type 0} → Type 0 → Going S → Type 0
+GivenUpUnwatched {S} I goes = (prog : Table Own I) (T : Tree Own) (o z : Recorder S) (p : Place)
+    (x : Prog Own I) →
+    Begun (Crossings (recorded goes)) prog T o p x z →
+    Begun (Crossings goes) prog T o.outside p x z.outside
 
 -- ## Entries from outside of the tree
 
@@ -175,7 +189,7 @@ pub record WatchedEntry {I S : Type 0} (goes : Going S) (prog : Table Own I) (T 
 
 abbrev pub EntriesAreWatched : {S : Type 0} → Type 0 → Going S → Type 0
 EntriesAreWatched {S} I goes = (prog : Table Own I) (T V : Tree Own) (o w : Recorder S) (t : Place)
-    (i : Entry) (r : Reply) →
+    (i : Entry) (r : Reply) → w.incomplete ≡ false →
     Executes (Crossings (recorded goes)) prog T (noted o (event t (In None i))) t
     (entering prog (T t) i) V w r →
     WatchedEntry goes prog T o t i V (noted w (event t (Done None r))) r

@@ -8,7 +8,7 @@ use Rattle.tcl_core.specs.Paths.{Path, Place, Height, strip}
 use Rattle.tcl_core.specs.Programs.{Wait, either}
 use Rattle.tcl_core.specs.Execution.{event}
 use Rattle.tcl_core.specs.Trees.{Event, Tree, What}
-use Rattle.tcl_core.specs.Trees.What.{Dropped, In, Back}
+use Rattle.tcl_core.specs.Trees.What.{Dropped, In, Done, Back}
 use Rattle.tcl_run.specs.Ends.{Interrupts}
 use Rattle.tcl_run.specs.Entering.{whole_entry}
 use Rattle.tcl_run.specs.Outsides.{Going, reply_of}
@@ -44,20 +44,38 @@ abbrev pub fallen_after : Bool → Place → List (Event Own) → Bool
 fallen_after b c [] = b
 fallen_after b c (ev ∷ τ) = fallen_after (either (falls c ev) b) c τ
 
--- A recorder goes as the outside that it holds; what crosses the boundary is recorded, and whether
--- the watched interpreter is dropped.
+-- What is recorded of a happening, where nothing was missing before: what crosses the boundary, and
+-- whether the watched interpreter is dropped.
+pub record Keeps {S : Type 0} (o : Recorder S) (ev : Event Own) (z : Recorder S) : Type 0 where
+  pub whole : o.incomplete ≡ false
+  pub kept : z.kept ≡ crossed o.kept ev
+  pub fate : z.deleted ≡ either (falls o.kept.watched ev) o.deleted
+
+-- an entry from outside of the tree is done
+abbrev pub IsLeft : What Own → Type 0
+IsLeft (Done None r) = Unit {0}
+IsLeft x = Prim.⊥
+
+-- A recorder goes as the outside that it holds. Where nothing is missing from the record afterwards,
+-- the happening is recorded; and that an entry is done is told only where nothing is missing.
 pub record Records {S : Type 0} (goes : Going S) (T : Tree Own) (o : Recorder S) (s : Wait)
     (ev : Event Own) (z : Recorder S) : Type 0 where
   pub outside : goes T o.outside s ev z.outside
-  pub kept : z.kept ≡ crossed o.kept ev
-  pub fate : z.deleted ≡ either (falls o.kept.watched ev) o.deleted
+  pub keeps : z.incomplete ≡ false → Keeps o ev z
+  pub ends : IsLeft ev.what → z.incomplete ≡ false
 
 abbrev pub recorded : {S : Type 0} → Going S → Going (Recorder S)
 recorded goes T o s ev z = Records goes T o s ev z
 
 -- the recorder after a crossing of which the outside that it holds isn't told
 abbrev pub noted : {S : Type 0} → Recorder S → Event Own → Recorder S
-noted o ev = record { outside = o.outside; kept = crossed o.kept ev; deleted = o.deleted }
+noted o ev = record {
+  outside = o.outside;
+  kept = crossed o.kept ev;
+  deleted = o.deleted;
+  incomplete =
+      o.incomplete;
+}
 
 -- what is recorded of what comes next to an open call
 abbrev pub Turns : RecordView → Path → Height → Result Turn Interruption → RecordView → Type 0

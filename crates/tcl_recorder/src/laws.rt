@@ -2,8 +2,9 @@
 //! going on in one; the laws of runs hold for every table of commands.
 ghost use Rattle.tcl_recorder.specs.Laws.{BoundaryCrossings, BoundaryMoves, BoundaryOuts};
 ghost use Rattle.tcl_recorder.specs.Laws.{BoundaryParts, EntriesAreWatched, FateParts};
-ghost use Rattle.tcl_recorder.specs.Laws.{FatesAreTold, OneEnd, RecordsTheBoundary, RunsAreWatched};
-ghost use Rattle.tcl_recorder.specs.Laws.{RunsUnwatched, VisitsAreWatched};
+ghost use Rattle.tcl_recorder.specs.Laws.{FatesAreTold, GivenUpUnwatched, OneEnd};
+ghost use Rattle.tcl_recorder.specs.Laws.{RecordsTheBoundary, RunsAreWatched, RunsUnwatched};
+ghost use Rattle.tcl_recorder.specs.Laws.{VisitsAreWatched};
 
 use tcl_run::outside::Outside;
 
@@ -44,8 +45,9 @@ pub fn fate_parts()
     ensures { FateParts }
 {}
 
-/// What happens while an outside is recorded adds its boundary to the record, tells whether the
-/// watched interpreter was dropped, and takes the outside as if nobody recorded it.
+/// What happens while an outside is recorded takes the outside as if nobody recorded it, and where
+/// nothing is missing from the record, adds its boundary to that and tells whether the watched
+/// interpreter was dropped.
 pub fn records_the_boundary<O: Outside>()
     ensures { RecordsTheBoundary O.goes }
 {}
@@ -59,6 +61,11 @@ pub fn runs_are_watched<O: Outside, I>()
 /// What comes of a program with a recorder comes of it without.
 pub fn runs_unwatched<O: Outside, I>()
     ensures { RunsUnwatched I O.goes }
+{}
+
+/// What is given up with a recorder on its way, as for want of memory, is given up so without.
+pub fn given_up_unwatched<O: Outside, I>()
+    ensures { GivenUpUnwatched I O.goes }
 {}
 
 /// An entry from outside of the tree that a recorder is told of, with all that happens in it, is a

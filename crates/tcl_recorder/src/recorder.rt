@@ -16,11 +16,16 @@ use tcl_value::value::Value;
 
 /// An outside that records what crosses the boundary of one interpreter, and whether that one was
 /// dropped.
+///
+/// Where memory is wanted to record what the outside that it holds has answered, or handed in,
+/// that is passed on nevertheless, since the outside is past it. From then on the record is
+/// incomplete: no call goes out any more, and no entry is told to be done.
 #[derive(Drop)]
 pub struct Recorder<O> {
     outside: O,
     kept: Record,
     deleted: bool,
+    incomplete: bool,
 }
 
 impl<O: Outside> Recorder<O> {
@@ -34,12 +39,14 @@ impl<O: Outside> Recorder<O> {
               outside = outside;
               kept = record { watched = watched.items; crossings = [] };
               deleted = false;
+              incomplete = false;
             } }
     {
         Recorder {
             outside,
             kept: Record::new(alloc, watched),
             deleted: false,
+            incomplete: false,
         }
     }
 
@@ -51,8 +58,19 @@ impl<O: Outside> Recorder<O> {
             outside,
             kept,
             deleted,
+            incomplete: _,
         } = self;
         (outside, kept, deleted)
+    }
+
+    // Nothing is missing from the record.
+    fn goes_on(&self) -> Result<(), AllocError>
+        ensures { OnOk result (self.now.incomplete ≡ false) }
+    {
+        if self.incomplete {
+            return Err(AllocError);
+        }
+        Ok(())
     }
 
     /// An entry of a run comes to the interpreter at a path, of which the outside that it holds
@@ -66,8 +84,9 @@ impl<O: Outside> Recorder<O> {
         target: &[Text],
         entry: &Entry,
     ) -> Result<(), AllocError>
-        ensures { OnOk result
+        ensures noted { OnOk result
             (self.new ≡ noted self.old (event target.now (In None (whole_entry entry.now)))) }
+        ensures outside { self.new.outside ≡ self.old.outside }
     {
         self.kept.entry_comes(alloc, target, entry)
     }
@@ -89,13 +108,15 @@ impl<O: Outside> Recorder<O> {
     }
 }
 
+#[tactic(auto, using(tcl_run::proofs::Losing::losing))]
 impl<O: Outside> Outside for Recorder<O> {
     ghost use Rattle.tcl_recorder.specs.Recording.{Records};
+    ghost use Rattle.tcl_run.specs.Runs.{IsLoss};
 
     ghost goes = { λ T o s ev z. Records O.goes T o s ev z };
 
-    // what is recorded until an evaluation is given up is not spoken of
-    ghost loses = { λ o z. Unit {0} };
+    // of what is recorded until an evaluation is given up nothing is said, but of the outside
+    ghost loses = { λ o z. IsLoss O.loses o.outside z.outside };
 
     ghost entries_left = { λ o. O.entries_left o.outside };
 
@@ -189,6 +210,7 @@ impl<O: Outside> Outside for Recorder<O> {
         down: &[Text],
         entry: &Entry,
     ) -> Result<(), AllocError> {
+        self.goes_on()?;
         self.outside
             .passes_top(alloc, tree, caller, up, down, entry)?;
         let path = tree.last_names(alloc, caller, usize::MAX)?;
@@ -203,9 +225,11 @@ impl<O: Outside> Outside for Recorder<O> {
         up: Option<usize>,
         entry: &Entry,
     ) -> Result<Turn, Interruption> {
-        let turn = self.outside.next(alloc, tree, caller, up, entry);
+        self.goes_on()?;
         let path = tree.last_names(alloc, caller, usize::MAX)?;
-        self.kept.turn_comes(alloc, path.as_slice(), up, &turn)?;
+        let turn = self.outside.next(alloc, tree, caller, up, entry);
+        let noted = self.kept.turn_comes(alloc, path.as_slice(), up, &turn);
+        self.incomplete = noted.is_err();
         turn
     }
 
@@ -216,6 +240,7 @@ impl<O: Outside> Outside for Recorder<O> {
         target: &[Text],
         ended: &Result<Value, Interruption>,
     ) -> Result<(), AllocError> {
+        self.goes_on()?;
         self.outside.entry_leaves(alloc, tree, target, ended)?;
         self.kept.entry_ends(alloc, target, ended)
     }

@@ -26,6 +26,7 @@ use Rattle.tcl_replay.specs.Watched.{IfDeleted, IfEnds, IfRefused, IsDeletion, I
 use Rattle.tcl_replay.specs.declared.watching.Unwatched.{Unwatched}
 use Rattle.tcl_replay.specs.declared.watching.Unwatched.TheVariants as unwatched
 use Rattle.tcl_replay.proofs.Stopped.{obeys_entry}
+use Rattle.tcl_replay.proofs.Unfinished.{Lost, not_begun}
 
 -- ## Before it
 
@@ -65,6 +66,10 @@ nobody t path script limit watched e f = nobody_so (marks_of t).broken (is_some 
 
 -- ## The answer
 
+-- a recorder with these, from whose record nothing is missing
+abbrev pub as_whole : {S : Type 0} → S → RecordView → Bool → Recorder S
+as_whole o kept deleted = record { outside = o; kept = kept; deleted = deleted; incomplete = false }
+
 -- what holds whatever the end is, where the run came to one
 pub ends_so : (ended : Result End Refused) (kept : RecordView) (deleted : Bool) (P : Type 0) → IfOk ended (λ _. P) → IfEnds (answer_of ended kept deleted) (λ _. P)
 ends_so (Ok e) kept true P p = p
@@ -73,23 +78,51 @@ ends_so (Err f) kept deleted P p = tt
 
 module _ {S : Type 0} (step : S → Request → HostReply → S → Type 0) (old : Table) (o : S) (path : Path) (script : Text) (limit : ℕ) (watched : Path) (new : Table) (z : S) where
   abbrev ended_with : RecordView → Bool → Recorder S
-  ended_with kept deleted = record { outside = z; kept = kept; deleted = deleted }
+  ended_with kept deleted = as_whole z kept deleted
 
   abbrev Ran : RecordView → Bool → End → Type 0
   Ran kept deleted e = IsEntryRun step old (recorder_of o watched) path script limit new (ended_with kept deleted) e
 
-  no_refusal : (deleted : Bool) (e : End) (kept : RecordView) → IfRefused (answer_if deleted e kept) (λ f. (f ≡ refused.Memory) × ((marks_of new).broken ≡ true))
-  no_refusal true e kept = tt
-  no_refusal false e kept = tt
+  no_refusal : (P : Refused → Type 0) (deleted : Bool) (e : End) (kept : RecordView) → IfRefused (answer_if deleted e kept) P
+  no_refusal P true e kept = tt
+  no_refusal P false e kept = tt
+
+  -- it was given up on its way
+  abbrev pub Given_up : Type 0
+  Given_up = Lost step old path script (root_count old + limit) o z
 
   ended_so : (deleted : Bool) (e : End) (kept : RecordView) → Ran kept deleted e → IfEnds (answer_if deleted e kept) (λ x. (k : RecordView) × (d : Bool) × (answer_if deleted e kept ≡ answer_if d x k) × Ran k d x)
   ended_so true e kept run = (kept, true, refl, run)
   ended_so false e kept run = (kept, false, refl, run)
 
-  pub watches : (ended : Result End Refused) (kept : RecordView) (deleted : Bool) → IfErr ended (λ f. f ≡ refused.Memory) → (IsErrOf ended refused.Memory → (marks_of new).broken ≡ true) → IfOk ended (Ran kept deleted) →
+  pub watches : (ended : Result End Refused) (kept : RecordView) (deleted : Bool) → IfErr ended (λ f. f ≡ refused.Memory) → (IsErrOf ended refused.Memory → (marks_of new).broken ≡ true) → IfErr ended (λ f. Given_up) → IfOk ended (Ran kept deleted) →
       Watches step old o path script limit watched new z (answer_of ended kept deleted)
-  watches (Ok e) kept deleted m b run = record { memory = no_refusal deleted e kept; made = ended_so deleted e kept run }
-  watches (Err f) kept deleted m b run = record { memory = (m, b (ap (λ (x : Refused). Err x) m)); made = tt }
+  watches (Ok e) kept deleted m b g run = record {
+    memory = no_refusal (λ f. (f ≡ refused.Memory) × ((marks_of new).broken ≡ true)) deleted e kept;
+    given_up = no_refusal (λ f. Given_up) deleted e kept;
+    made = ended_so deleted e kept run;
+  }
+  watches (Err f) kept deleted m b g run = record { memory = (m, b (ap (λ (x : Refused). Err x) m)); given_up = g; made = tt }
+
+  -- memory was wanted before anything was done
+  pub wants : (marks_of new).broken ≡ true → z ≡ o → Watches step old o path script limit watched new z (Err (unwatched.Refused refused.Memory))
+  wants b same = record { memory = (refl, b); given_up = subst (λ (u : S). Lost step old path script (root_count old + limit) o u) (sym same) (not_begun step old path script (root_count old + limit) o); made = tt }
+
+  -- what is missing from the record is nothing
+  pub run_so : (ended : Result End Refused) (x : Recorder S) (u : Recorder S) → IfOk ended (IsEntryRun step old x path script limit new u) →
+      IfOk ended (IsEntryRun step old x path script limit new (as_whole u.outside u.kept u.deleted))
+  run_so (Err f) x u run = tt
+  run_so (Ok e) x u run = record {
+    during = run.during;
+    reply = run.reply;
+    entry = record { events = run.entry.events; visits = run.entry.visits; outside = run.entry.outside; kept = run.entry.kept; fate = run.entry.fate };
+    runs = run.runs;
+    run = run.run;
+    after = run.after;
+    ends = run.ends;
+    whole = run.whole;
+    taped = run.taped;
+  }
 
   pub runs : (result : Result (End × RecordView) Unwatched) → Watches step old o path script limit watched new z result → IfEnds result (IsRun (hosted step) old o path script (root_count old + limit) new z)
   runs (Ok r) w = w.made.3.run

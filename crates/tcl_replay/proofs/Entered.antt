@@ -11,7 +11,7 @@ use Rattle.tcl_core.specs.Execution.{Chain, Crossings, before, event}
 use Rattle.tcl_core.specs.Trees.{Event, Tree, Node}
 use Rattle.tcl_core.specs.Trees.What.{In, Done}
 use Rattle.tcl_core.proofs.Following.{ahead-all, nothing}
-use Rattle.tcl_core.proofs.PathLaws.{Some-inj}
+use Rattle.tcl_core.proofs.PathLaws.{not_both, Some-inj}
 use Rattle.tcl_core.proofs.RuleLaws.{derived_runs}
 use Rattle.tcl_host.specs.declared.reply.HostReply.{HostReply}
 use Rattle.tcl_host.specs.declared.request.Request.{Request}
@@ -32,12 +32,14 @@ use Rattle.tcl_tree.specs.Own.{Own}
 use Rattle.tcl_tree.specs.TreeOf.{tree_of, marks_of}
 use Rattle.tcl_tree.specs.declared.tree.Tree.{Tree as Table}
 use Rattle.tcl_tree.proofs.CoreLemmas.{top_there}
-use Rattle.tcl_eval.specs.Running.{IsOpenRun, ending_of, first_of, most_steps, root_count, unfit}
+use Rattle.tcl_eval.specs.Running.{IsOpenRun, IsUncut, ending_of, first_of, most_steps, ran_of, root_count, unfit}
 use Rattle.tcl_eval.specs.declared.running.End.{End}
+use Rattle.tcl_eval.specs.declared.running.OpenEnd.{OpenEnd}
+use Rattle.tcl_eval.specs.declared.running.OpenEnd.TheVariants as open_end
 use Rattle.tcl_eval.specs.declared.running.Refused.{Refused}
 use Rattle.tcl_eval.specs.declared.running.Refused.TheVariants as refused
-use Rattle.tcl_recorder.specs.Laws.{IsWatched}
-use Rattle.tcl_recorder.specs.Recording.{crossed, noted, recorded}
+use Rattle.tcl_recorder.specs.Laws.{IsWatched, KeepsAll}
+use Rattle.tcl_recorder.specs.Recording.{Keeps, crossed, noted, recorded}
 use Rattle.tcl_recorder.specs.declared.recorder.Recorder.{Recorder}
 use Rattle.tcl_recorder.proofs.Fates.{fate_parts}
 use Rattle.tcl_recorder.proofs.Visits.{after_parts, visits}
@@ -71,38 +73,40 @@ module _ {S : Type 0} (step : S → Request → HostReply → S → Type 0) (old
   abbrev last : Reply → Event Own
   last r = event path (Done None r)
 
-  abbrev Opened : End → Type 0
+  abbrev Opened : OpenEnd → Type 0
   Opened e = IsOpenRun (recorded (hosted step)) old (noted o first) path script (root_count old + limit) new z e
 
   -- the run from its entry on
-  entered : (e : End) → is_some (tree_of old path) ≡ true → (run : Opened e) → Comes (recorded (hosted step)) (language style) T0 (noted o first) path (entering (language style) (T0 path) (Eval script)) run.during run.between run.reply
+  entered : (e : OpenEnd) → is_some (tree_of old path) ≡ true → (run : Opened e) → Comes (recorded (hosted step)) (language style) T0 (noted o first) path (entering (language style) (T0 path) (Eval script)) run.during run.between run.reply
   entered e there run =
       let n : (n : Node Own) × (tree_of old path ≡ Some n) = stands (tree_of old path) there in
       let m : (m : Node Own) × (T0 path ≡ Some m) = still_stands (tree_of old) (Some (root_count old + limit)) path n.0 n.1 in
       at_prog (ap (λ x. entering (language style) x (Eval script)) m.1) run.runs
 
   -- the whole evaluation with the same tape
-  abbrev Wholly : (e : End) → Opened e → Type 0
+  abbrev Wholly : (e : OpenEnd) → Opened e → Type 0
   Wholly e run = WholeTape step (Crossings (recorded (hosted step))) (λ (u : Recorder S). u.outside) (language style) (tree_of old) path script limit (noted o first) run.during run.between run.reply
 
-  wholly : (e : End) → is_some (tree_of old path) ≡ true → (run : Opened e) → Wholly e run
+  wholly : (e : OpenEnd) → is_some (tree_of old path) ≡ true → (run : Opened e) → Wholly e run
   wholly e there run =
       whole_tape step (Crossings (recorded (hosted step))) (λ (u : Recorder S). u.outside) (along step) leaves_steps (language style) (tree_of old) run.during (noted o first) run.between path script limit run.reply
       (language_keeps_tops style) (stands (tree_of old []) (top_there old)) (entered e there run)
 
   -- what is recorded over that tape
-  watched_so : (e : End) (run : Opened e) (w : Wholly e run) → IsWatched (hosted step) T0 (noted o first) w.says.events run.during run.between
+  watched_so : (e : OpenEnd) (run : Opened e) (w : Wholly e run) → IsWatched (hosted step) T0 (noted o first) w.says.events run.during run.between
   watched_so e run w = watched (hosted step) T0 run.during (noted o first) run.between w.says.events w.outside
 
-  plain : (e : End) (run : Opened e) → Comes (hosted step) (language style) T0 o.outside path (serve style (Eval script)) run.during z.outside run.reply
+  plain : (e : OpenEnd) (run : Opened e) → Comes (hosted step) (language style) T0 o.outside path (serve style (Eval script)) run.during z.outside run.reply
   plain e run =
       subst (λ (u : S). Comes (hosted step) (language style) T0 o.outside path (serve style (Eval script)) run.during u run.reply) (sym run.told.outside)
       (unwatched (hosted step) (language style) T0 run.during (noted o first) run.between path (serve style (Eval script)) run.reply run.runs)
 
-  entry_run : (e : End) → is_some (tree_of old path) ≡ true → Opened e → IsEntryRun step old o path script limit new z e
+  entry_run : (e : End) → is_some (tree_of old path) ≡ true → Opened (open_end.Ran e) → IsEntryRun step old o path script limit new z e
   entry_run e there run =
-      let w = wholly e there run in
-      let all = watched_so e run w in
+      let w = wholly (open_end.Ran e) there run in
+      let all = watched_so (open_end.Ran e) run w in
+      let ends : Keeps run.between (last run.reply) z = run.told.keeps (run.told.ends tt) in
+      let kept : KeepsAll (noted o first) w.says.events run.between = all.keeps ends.whole in
       let τ : List (Event Own) = w.says.events in
       let same : w.whole.ending ≡ ending_of e = Some-inj w.whole.ending (sym w.whole.ends ∙ run.ends) in
       record {
@@ -112,11 +116,11 @@ module _ {S : Type 0} (step : S → Request → HostReply → S → Type 0) (old
           events = τ;
           visits = visits (Taped (Crossings (recorded (hosted step)))) (language style) path (Eval script) w.says;
           outside = subst (λ (u : S). Chain (Crossings (hosted step)) T0 o.outside τ run.during u) (sym run.told.outside) all.outside;
-          kept = run.told.kept ∙ ap (λ k. crossed k (last run.reply)) all.kept ∙ after_parts (crossed o.kept first) τ (last run.reply ∷ []) ∙ after_one o.kept first (τ ++ last run.reply ∷ []);
-          fate = run.told.fate ∙ all.fate ∙ sym (fate_parts o.deleted o.kept.watched τ (last run.reply ∷ []));
+          kept = ends.kept ∙ ap (λ k. crossed k (last run.reply)) kept.kept ∙ after_parts (crossed o.kept first) τ (last run.reply ∷ []) ∙ after_one o.kept first (τ ++ last run.reply ∷ []);
+          fate = ends.fate ∙ kept.fate ∙ sym (fate_parts o.deleted o.kept.watched τ (last run.reply ∷ []));
         };
         runs = subst (λ v. Runs (language style) v path (entering (language style) (T0 path) (Eval script)) (before run.during []) (Some run.reply)) (ahead-all T0 τ) (derived_runs (language style) (w.says.runs nothing));
-        run = record { during = run.during; reply = run.reply; runs = plain e run; after = run.after; ends = run.ends };
+        run = record { during = run.during; reply = run.reply; runs = plain (open_end.Ran e) run; after = run.after; ends = run.ends };
         after = run.after;
         ends = run.ends;
         whole = record {
@@ -138,7 +142,14 @@ module _ {S : Type 0} (step : S → Request → HostReply → S → Type 0) (old
         taped = w.taped;
       }
 
-  pub if_entry : (r : Result End Refused) → unfit old path script limit ≡ None → IfOk r (IsOpenRun (recorded (hosted step)) old (noted o (event path (In None (Eval script)))) path script (root_count old + limit) new z) →
-      IfOk r (IsEntryRun step old o path script limit new z)
-  if_entry (Ok e) fit run = entry_run e (fit_there old path script limit fit) run
+  pub if_entry : (r : Result OpenEnd Refused) → unfit old path script limit ≡ None → IfOk r (IsOpenRun (recorded (hosted step)) old (noted o (event path (In None (Eval script)))) path script (root_count old + limit) new z) →
+      IfOk (ran_of r) (IsEntryRun step old o path script limit new z)
+  if_entry (Ok (open_end.Ran e)) fit run = entry_run e (fit_there old path script limit fit) run
+  if_entry (Ok open_end.CutOff) fit run = tt
   if_entry (Err f) fit run = tt
+
+  -- the host that it holds ends no run
+  pub is_uncut : (r : Result OpenEnd Refused) → unfit old path script limit ≡ None → IfOk r (IsOpenRun (recorded (hosted step)) old (noted o (event path (In None (Eval script)))) path script (root_count old + limit) new z) → IsUncut r
+  is_uncut (Ok (open_end.Ran e)) fit run = tt
+  is_uncut (Ok open_end.CutOff) fit run = let w = wholly open_end.CutOff (fit_there old path script limit fit) run in not_both run.ends w.whole.ends
+  is_uncut (Err f) fit run = tt

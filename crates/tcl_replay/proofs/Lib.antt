@@ -1,8 +1,11 @@
 mod Entered
 mod Stopped
+mod Unfinished
 mod Below
 mod Recorded
 mod Answers
 mod Agreeing
 mod Savable
 mod Serving
+mod Depths
+mod Series

@@ -28,7 +28,7 @@ use Rattle.tcl_tree.specs.Own.{Own}
 use Rattle.tcl_tree.specs.TreeOf.{marks_of, tree_of}
 use Rattle.tcl_tree.specs.declared.tree.Tree.{Tree as Table}
 use Rattle.tcl_recorder.specs.Records.{RecordView}
-use Rattle.tcl_replay.specs.Watched.{AsksTheHostNothing, Counts, CountStaysWithin, IsRecord, IsRecorded, LeavesTheOutside, LimitsStay, Reacts, ReactsSo, ReactsUntil, ScriptsStayWithin}
+use Rattle.tcl_replay.specs.Watched.{AsksTheHostNothing, Counts, CountStaysWithin, IsRecord, IsRecorded, LeavesTheOutside, LimitsStay, Reacts, ReactsSo, ReactsUntil}
 use Rattle.tcl_replay.proofs.Below.{below_at, below_same, rest_back}
 
 module _ {S : Type 0} (step : S → Request → HostReply → S → Type 0) (old : Table) (o : S) (path : Path) (script : Text) (limit : ℕ) (c : Path) (r : RecordView) (new : Table) (z : S) (e : End) where
@@ -104,12 +104,15 @@ module _ {S : Type 0} (step : S → Request → HostReply → S → Type 0) (old
   asks_nothing law w f a p m =
       law style T0 (run_of w).during o z path (Eval script) c r.crossings (run_of w).reply (visited w) f safe_trees (safe_first f a) (subst (ArePlain plain) (sym (at_first f)) p) m
 
-  pub counts : One → Counts step old o path script limit c r new z e
+  pub count_rises : (w : One) → IsBelowTheTop c → count_at (tree_of new c) ≡ count_at (tree_of old c) + steps_of (view c (visit path (Eval script) (run_of w).events (run_of w).reply))
   unfolding visited
-  counts w f =
+  count_rises w f =
       let h : count_at ((run_of w).during c) ≡ (run_of w).node.count + steps_of (view c (visit path (Eval script) (run_of w).events (run_of w).reply)) =
       safe.counts (hosted step) (language style) T0 (run_of w).during o z path (Eval script) c r.crossings (run_of w).reply (visited w) (run_of w).node f (stood w f) in
-      (run_of w, w.1.1, ap count_at (same_last w f) ∙ h ∙ ap (λ (x : Option (Node Own)). count_at x + steps_of (view c (visit path (Eval script) (run_of w).events (run_of w).reply))) (sym (run_of w).stood))
+      ap count_at (same_last w f) ∙ h ∙ ap (λ (x : Option (Node Own)). count_at x + steps_of (view c (visit path (Eval script) (run_of w).events (run_of w).reply))) (sym (run_of w).stood)
+
+  pub counts : One → Counts step old o path script limit c r new z e
+  counts w f = (run_of w, w.1.1, count_rises w f)
 
   own_limit : (w : One) (l : ℕ) → limit_at (tree_of old c) ≡ Some l → (run_of w).node.limit ≡ Some l
   own_limit w l at_limit = ap limit_at (sym (run_of w).stood) ∙ at_limit
@@ -120,19 +123,9 @@ module _ {S : Type 0} (step : S → Request → HostReply → S → Type 0) (old
   finally : (w : One) (l b : ℕ) → IsBelowTheTop c → IsWithin ((run_of w).during c) l b → IsWithin (tree_of new c) l b
   finally w l b f h = subst (λ (x : Option (Node Own)). IsWithin x l b) (sym (same_last w f)) h
 
-  pub stays_within : One → CountStaysWithin step old o path script limit c r new z e
-  unfolding visited
-  stays_within w f = (
-    run_of w,
-    w.1.1,
-    λ l b at_limit low lb nb.
-        let h = safe.within_limit (hosted step) (language style) T0 (run_of w).during o z path (Eval script) c r.crossings (run_of w).reply (visited w) (run_of w).node l b f (stood w f) low (own_limit w l at_limit) lb (own_count w b nb) in
-        finally w l b f (record { count = h.0; limit = h.1 }),
-  )
-
-  pub scripts_within : laws.ScriptsStayWithin (hosted step) → One → ScriptsStayWithin old c r.crossings new
-  scripts_within law w f a l b at_limit low lb nb =
-      finally w l b f (law style T0 (run_of w).during o z path (Eval script) c r.crossings (run_of w).reply (run_of w).node l b (visited w) f safe_trees (safe_first f a) (stood w f) (own_limit w l at_limit) low lb (own_count w b nb))
+  pub stays_within : laws.ScriptsStayWithin (hosted step) → One → CountStaysWithin old c r.crossings new
+  stays_within law w f l b at_limit low lb nb =
+      finally w l b f (law style T0 (run_of w).during o z path (Eval script) c r.crossings (run_of w).reply (run_of w).node l b (visited w) f (stood w f) (own_limit w l at_limit) low lb (own_count w b nb))
 
   first_below : IsBelowTheTop c → (q : Path) → T0 (c ++ q) ≡ tree_of old (c ++ q)
   first_below f q = ap (λ (U : Tree Own). U q) (at_first f)

@@ -1,5 +1,5 @@
 -- What an entry of a playing comes to, and how playings go on.
-use Rattle.std.proofs.Common.{◌≡◌, ℕ, true, false, List, Some, None, Result, Ok, Err, refl, sym, ap, subst}
+use Rattle.std.proofs.Common.{◌≡◌, ℕ, true, false, List, [], ◌∷◌, Some, None, Result, Ok, Err, refl, sym, ap, subst}
 use Rattle.std.specs.Prelude.{IfNone, IfSome, Option, OnOk, is_some}
 use Rattle.tcl_core.specs.Endings.{Reply, ok}
 use Rattle.tcl_core.specs.Endings.Reply.{Completed, Exit, Cut}
@@ -16,11 +16,18 @@ use Rattle.tcl_flow.specs.View.{completion_of}
 use Rattle.tcl_flow.specs.Stopping as stopping
 use Rattle.tcl_language_laws.specs.Language.{language}
 use Rattle.tcl_player.specs.Players.{Begins, played, player_of}
+use Rattle.tcl_player.specs.Moves.{moves_in}
+use Rattle.tcl_player.specs.declared.moves.Move.{Move as KeptMove}
+use Rattle.tcl_player.specs.declared.moves.Move.TheVariants as moving
 use Rattle.tcl_player.specs.declared.player.Player as declared
+use Rattle.tcl_recorder.specs.declared.crossing.Answer.TheVariants as answer
+use Rattle.tcl_recorder.specs.declared.crossing.Reply.TheVariants as reply
 use Rattle.tcl_reactions.specs.Playing.{IsOver, Lived, Player, beginner, outcome, plays, tree_left}
 use Rattle.tcl_reactions.specs.Playing.Lived.{entered}
+use Rattle.tcl_reactions.proofs.OneOutcome.{one_outcome}
 use Rattle.tcl_reactions.proofs.Reacted.{played_is_react}
-use Rattle.tcl_replay.specs.Replaying.{Serves, wants_memory}
+use Rattle.tcl_reactions.specs.Laws.{AreFromAbove}
+use Rattle.tcl_replay.specs.Replaying.{ReactsSo, Serves, wants_memory}
 use Rattle.tcl_run.specs.Ends.{IfEnded, cause_of}
 use Rattle.tcl_run.specs.Runs.{Comes, ways}
 use Rattle.tcl_run.proofs.Proceeding.{comes}
@@ -116,3 +123,18 @@ reacts style kept S T V W o z ms n x outs a b c l d e f g =
 pub some_or_none : {A : Type 0} (o : Option A) → is_some o ≡ true → o ≡ None → Prim.⊥
 some_or_none None e f = cc
 some_or_none (Some a) e f = cc
+
+-- ## It does nothing else
+
+-- of moves as they are kept, an end from outside is one by what is above
+pub from_above : (ms : List KeptMove) → AreFromAbove (moves_in ms)
+from_above [] = tt
+from_above (moving.Enter target entry ∷ ms) = from_above ms
+from_above (moving.Come (answer.Heard r) ∷ ms) = from_above ms
+from_above (moving.Come (answer.Replied (reply.Completed c)) ∷ ms) = from_above ms
+from_above (moving.Come (answer.Replied (reply.Stopped s)) ∷ ms) = from_above ms
+from_above (moving.Come (answer.Replied (reply.Exited n)) ∷ ms) = from_above ms
+from_above (moving.Come (answer.Replied reply.Ended) ∷ ms) = from_above ms
+
+pub reacts_so : (style : Integers) (S W : Tree Own) (ms : List KeptMove) (n : ℕ) (x : Outcome) (outs : List (Event Own)) → React (language style) S (moves_in ms) n x outs W → ReactsSo style S (moves_in ms) n x outs W
+reacts_so style S W ms n x outs a y told V b = one_outcome (language style) S (moves_in ms) n x y outs told W V (from_above ms) a b

@@ -1,4 +1,5 @@
 pub mod Saved
 pub mod Watched
 pub mod Worlds
+pub mod Series
 pub mod Replaying

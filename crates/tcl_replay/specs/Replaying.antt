@@ -1,14 +1,14 @@
 -- What contracts see of a replay.
-use Rattle.std.specs.Prelude.{ℕ, ◌+◌, Bool, true, false, nat_le, Option, Some, None, List, []}
+use Rattle.std.specs.Prelude.{◌≡◌, ℕ, ◌+◌, Bool, true, false, nat_le, Option, Some, None, List, []}
 use Rattle.std.specs.Prelude.{Result, Err}
 use Rattle.tcl_core.specs.Endings.{Reply}
 use Rattle.tcl_core.specs.Entries.{Entry}
-use Rattle.tcl_core.specs.Lives.{Outcome, count_at}
+use Rattle.tcl_core.specs.Lives.{Outcome, React, count_at}
 use Rattle.tcl_core.specs.Lives.Outcome.{Waiting}
 use Rattle.tcl_core.specs.Paths.{Path}
 use Rattle.tcl_core.specs.Runs.{entering}
 use Rattle.tcl_core.specs.Execution.{event}
-use Rattle.tcl_core.specs.Trees.{Tree}
+use Rattle.tcl_core.specs.Trees.{Event, Move, Tree}
 use Rattle.tcl_core.specs.Trees.What.{Done}
 use Rattle.tcl_eval.specs.Running.{most_steps}
 use Rattle.tcl_language_laws.specs.Language.{language}
@@ -34,6 +34,13 @@ abbrev pub unfit : SavedView → ℕ → Option Unplayed
 unfit s limit = first_of s.waits (nat_le (count_at (s.tree []) + limit) most_steps)
 
 -- ## What comes of it
+
+-- This is all that the tree does by itself with these moves and this budget: it comes to no other
+-- outcome, tells nothing else and leaves no other tree.
+abbrev pub ReactsSo : Integers → Tree Own → List (Move Own) → ℕ → Outcome → List (Event Own) →
+    Tree Own → Type 0
+ReactsSo style S ms n x told W = (y : Outcome) (others : List (Event Own)) (V : Tree Own) →
+    React (language style) S ms n y others V → (y ≡ x) × (others ≡ told) × (V ≡ W)
 
 -- it is left at an open call
 abbrev pub is_waiting : Outcome → Bool

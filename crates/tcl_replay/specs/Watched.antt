@@ -3,7 +3,7 @@ use Rattle.std.specs.Prelude.{◌≡◌, ℕ, ◌≤◌, ◌+◌, ◌&&◌, Bool
 use Rattle.std.specs.Prelude.{Option, Some, None, is_some, Result, Ok, Err}
 use Rattle.tcl_core.specs.Endings.{Reply}
 use Rattle.tcl_core.specs.Entries.Entry.{Eval}
-use Rattle.tcl_core.specs.Laws.{AreFree, ArePlain, AsLimited, AsksNothing, IsLowering, IsSafeAt}
+use Rattle.tcl_core.specs.Laws.{AreFree, ArePlain, AsLimited, AsksNothing, IsSafeAt}
 use Rattle.tcl_core.specs.Laws.{IsSpared, IsStanding, IsUnended, Obeys, Unasked, rest}
 use Rattle.tcl_core.specs.Lives.{Outcome, React, count_at, end_at, limit_at, limited, outcome_of}
 use Rattle.tcl_core.specs.Lives.{outs_of}
@@ -15,8 +15,8 @@ use Rattle.tcl_core.specs.Execution.{Chain, Crossings, before}
 use Rattle.tcl_core.specs.Trees.{Event, Node, Tree, at, effect}
 use Rattle.tcl_core.specs.Trees.What.{Limited}
 use Rattle.tcl_core.specs.Views.{moves_of, steps_of, view}
-use Rattle.tcl_eval.specs.Running.{IsRun, IsWhole, ending_of, first_of, most_steps, root_count}
-use Rattle.tcl_eval.specs.Running.{root_limit}
+use Rattle.tcl_eval.specs.Running.{IsGivenUp, IsRun, IsWhole, ending_of, first_of, most_steps}
+use Rattle.tcl_eval.specs.Running.{root_count, root_limit}
 use Rattle.tcl_eval.specs.declared.running.End.{End}
 use Rattle.tcl_eval.specs.declared.running.Refused.{Refused}
 use Rattle.tcl_eval.specs.declared.running.Refused.TheVariants as refused
@@ -29,6 +29,7 @@ use Rattle.tcl_language.specs.Instructions.{fits}
 use Rattle.tcl_language_laws.specs.Language.{language}
 use Rattle.tcl_language.specs.Safety.{plain}
 use Rattle.tcl_run.specs.Outsides.{hosted}
+use Rattle.tcl_run.specs.Runs.{ways}
 use Rattle.tcl_tree.specs.Own.{Own}
 use Rattle.tcl_tree.specs.TreeOf.{marks_of, tree_of}
 use Rattle.tcl_tree.specs.declared.tree.Tree.{Tree as Table}
@@ -188,14 +189,6 @@ module _ {S : Type 0} (step : S → Request → HostReply → S → Type 0) (old
   abbrev pub Stops : RecordView → Table → S → End → Type 0
   Stops r new z e = IsRecordWith step old o path script limit c r.crossings new z e (λ τ. Obeys c τ)
 
-  -- With a count limit that nothing in the run raises or takes away, it is counted at most to the
-  -- greater of the limit and the count before: to each number that both are at most.
-  abbrev pub CountStaysWithin : RecordView → Table → S → End → Type 0
-  CountStaysWithin r new z e = IsBelowTheTop c →
-      IsRecordWith step old o path script limit c r.crossings new z e
-      (λ τ. (l b : ℕ) → limit_at (tree_of old c) ≡ Some l → IsLowering l c τ → l ≤ b →
-      count_at (tree_of old c) ≤ b → IsWithin (tree_of new c) l b)
-
   -- an interpreter that stands has the limits that it had
   abbrev pub KeepsLimits : Option (Node Own) → Option (Node Own) → Type 0
   KeepsLimits was is = (n : Node Own) → was ≡ Some n → (m : Node Own) × (is ≡ Some m) ×
@@ -213,10 +206,11 @@ module _ {S : Type 0} (step : S → Request → HostReply → S → Type 0) (old
       AsLimited (tree_of old (c ++ q)) (tree_of new (c ++ q)) ×
       (IsStanding (c ++ q) τ → KeepsLimits (tree_of old (c ++ q)) (tree_of new (c ++ q))))
 
--- With a count limit that no entry of the record raises or takes away, a safe watched interpreter
--- is counted at most to the greater of the limit and the count before.
-abbrev pub ScriptsStayWithin : Table → Path → List (Event Own) → Table → Type 0
-ScriptsStayWithin old c crossings new = IsBelowTheTop c → IsSafeAt (tree_of old) c → (l b : ℕ) →
+-- With a count limit that no entry of the record raises or takes away, the watched interpreter, safe
+-- or trusted, is counted at most to the greater of the limit and the count before: to each number
+-- that both are at most.
+abbrev pub CountStaysWithin : Table → Path → List (Event Own) → Table → Type 0
+CountStaysWithin old c crossings new = IsBelowTheTop c → (l b : ℕ) →
     limit_at (tree_of old c) ≡ Some l → AreLowering l (moves_of crossings) → l ≤ b →
     count_at (tree_of old c) ≤ b →
     IsWithin (tree_of new c) l b
@@ -249,14 +243,18 @@ recorder_of o watched = record {
   outside = o;
   kept = record { watched = watched; crossings = [] };
   deleted = false;
+  incomplete = false;
 }
 
--- what an evaluation answers that was recorded: memory was wanted, or there was such a run
+-- What an evaluation answers that was recorded: there was such a run; or memory was wanted, and it
+-- was given up on its way, with the host in the last state there.
 pub record Watches {S : Type 0} (step : S → Request → HostReply → S → Type 0) (old : Table) (o : S)
     (path : Path) (script : Text) (limit : ℕ) (watched : Path) (new : Table) (z : S)
     (result : Result (End × RecordView) Unwatched) : Type 0 where
   pub memory : IfRefused result (λ f. (f ≡ refused.Memory) × ((marks_of new).broken ≡ true))
+  pub given_up : IfRefused result (λ f. IsGivenUp (ways (hosted step) (λ a b. b ≡ a)) old o path
+      script (root_count old + limit) z)
   pub made : IfEnds result (λ e. (kept : RecordView) × (deleted : Bool) ×
       (result ≡ answer_if deleted e kept) ×
       IsEntryRun step old (recorder_of o watched) path script limit new
-      (record { outside = z; kept = kept; deleted = deleted }) e)
+      (record { outside = z; kept = kept; deleted = deleted; incomplete = false }) e)

@@ -1,7 +1,10 @@
-//! The laws of two worlds, told of two evaluations that were watched. `G` and `H` are their hosts.
+//! Laws of evaluations that were watched: of two in two worlds, whose hosts are `G` and `H`, and of
+//! many in one.
+ghost use Rattle.tcl_replay.specs.Series.{RunsStayWithin};
 ghost use Rattle.tcl_replay.specs.Worlds.{RecordsAgree, RecordsAgreeUntil};
 
 use tcl_host::host::Host;
+use tcl_isolation::laws::scripts_stay_within;
 
 /// In two worlds in which the watched subtrees are the same, and all moves of the records, the
 /// records are the same, and the subtrees left: whatever else is different, the trees around them,
@@ -15,3 +18,12 @@ pub fn records_agree<G: Host, H: Host>()
 pub fn records_agree_until<G: Host, H: Host>()
     ensures { RecordsAgreeUntil G.step H.step }
 {}
+
+/// A watched interpreter with a count limit makes, in any number of evaluations, no more steps than
+/// lead from its count to that limit, and none where its count is past it; where neither an entry of
+/// a record nor whoever holds the tree raises the limit or takes it away.
+pub fn runs_stay_within<H: Host>()
+    ensures { RunsStayWithin H.step }
+{
+    scripts_stay_within::<H>();
+}

@@ -1,6 +1,6 @@
 //! Moves that are played to a saved interpreter.
-ghost use Rattle.std.specs.Prelude.{◌≡◌, ◌+◌, ◌≤◌, length, nat_le, IfErr, IfNone, IfOk, IfSome};
-ghost use Rattle.std.specs.Prelude.{OnOk};
+ghost use Rattle.std.specs.Prelude.{◌≡◌, ◌+◌, ◌≤◌, false, length, nat_le, IfErr, IfNone, IfOk};
+ghost use Rattle.std.specs.Prelude.{IfSome, OnOk};
 ghost use Rattle.tcl_core.specs.Lives.{React};
 ghost use Rattle.tcl_eval.specs.Running.{most_steps, root_count};
 ghost use Rattle.tcl_language_laws.specs.Language.{language};
@@ -8,10 +8,11 @@ ghost use Rattle.tcl_player.specs.Moves.{moves_in};
 ghost use Rattle.tcl_player.specs.Players.{Stands, player_of, result_of};
 ghost use Rattle.tcl_reactions.specs.Playing as playing;
 ghost use Rattle.tcl_reactions.specs.Playing.{IsOver, Lived, beginner, tree_left};
-ghost use Rattle.tcl_replay.specs.Replaying.{Serves, is_waiting, unfit, wants_memory};
+ghost use Rattle.tcl_replay.specs.Replaying.{ReactsSo, Serves, is_waiting, unfit, wants_memory};
 ghost use Rattle.tcl_replay.specs.Saved.{saved_of};
 ghost use Rattle.tcl_replay.specs.declared.replaying.Unplayed.TheVariants.{Memory};
 ghost use Rattle.tcl_run.specs.Entering.{whole_entry};
+ghost use Rattle.tcl_run_laws.specs.Budgets.{DepthsComeBack};
 ghost use Rattle.tcl_tree.specs.Own.{Own};
 ghost use Rattle.tcl_tree.specs.TreeOf.{marks_of, tree_of};
 ghost use Rattle.tcl_recorder.specs.Crossings.{events_of};
@@ -87,7 +88,8 @@ pub enum Unplayed {
 
 impl Saved {
     /// Plays moves to the interpreter by itself, in order, up to what first ends that, with at most
-    /// so many counted steps.
+    /// so many counted steps. But where it is left at an open call, each interpreter is in use
+    /// afterwards as deeply as before.
     ///
     /// # Errors
     /// 412 and 404, which are looked for in this order; and 401.
@@ -98,10 +100,16 @@ impl Saved {
             (λ r. React (language (saved_of self.now).integers) (saved_of self.now).tree
             (moves_in moves.now) limit (result_of r.outcome) (events_of r.outwards.items)
             (saved_of r.saved).tree) }
+        ensures reacts_so { IfOk result
+            (λ r. ReactsSo (saved_of self.now).integers (saved_of self.now).tree
+            (moves_in moves.now) limit (result_of r.outcome) (events_of r.outwards.items)
+            (saved_of r.saved).tree) }
         ensures style { IfOk result
             (λ r. (saved_of r.saved).integers ≡ (saved_of self.now).integers) }
         ensures waits { IfOk result
             (λ r. (saved_of r.saved).waits ≡ is_waiting (result_of r.outcome)) }
+        ensures depths { IfOk result (λ r. is_waiting (result_of r.outcome) ≡ false →
+            DepthsComeBack (saved_of self.now).tree (saved_of r.saved).tree) }
     {
         if self.waits {
             return Err(Unplayed::Waits);
@@ -144,8 +152,13 @@ fn play(tree: &Tree, alloc: Global, moves: &[Move], limit: u64) -> Result<Replay
     ensures reacts { IfOk result
         (λ r. React (language (marks_of tree.now).integers) (tree_of tree.now) (moves_in moves.now)
         limit (result_of r.outcome) (events_of r.outwards.items) (saved_of r.saved).tree) }
+    ensures reacts_so { IfOk result
+        (λ r. ReactsSo (marks_of tree.now).integers (tree_of tree.now) (moves_in moves.now) limit
+        (result_of r.outcome) (events_of r.outwards.items) (saved_of r.saved).tree) }
     ensures style { IfOk result (λ r. (saved_of r.saved).integers ≡ (marks_of tree.now).integers) }
     ensures waits { IfOk result (λ r. (saved_of r.saved).waits ≡ is_waiting (result_of r.outcome)) }
+    ensures depths { IfOk result (λ r. is_waiting (result_of r.outcome) ≡ false →
+        DepthsComeBack (tree_of tree.now) (saved_of r.saved).tree) }
 {
     let mut played = copy_of(tree)?;
     let mut player = Player::new(alloc, moves, limit);

@@ -4,21 +4,21 @@ ghost use Rattle.std.specs.Prelude.{OnOk, [], false, true};
 ghost use Rattle.tcl_core.specs.Entries.Entry.{Eval};
 ghost use Rattle.tcl_core.specs.Execution.{event};
 ghost use Rattle.tcl_core.specs.Trees.What.{In};
-ghost use Rattle.tcl_eval.specs.Running.{IsRun, IsWhole, root_count, unfit};
+ghost use Rattle.tcl_eval.specs.Running.{AsksFirst, IsGivenUp, IsRun, IsWhole, root_count, unfit};
 ghost use Rattle.tcl_eval.specs.declared.running.Refused.TheVariants.{Memory};
 ghost use Rattle.tcl_language.specs.Instructions.{fits};
 ghost use Rattle.tcl_run.specs.Outsides.{hosted};
+ghost use Rattle.tcl_run.specs.Runs.{ways};
 ghost use Rattle.tcl_tree.specs.TreeOf.{marks_of, tree_of};
 ghost use Rattle.tcl_recorder.specs.Recording.{noted};
 ghost use Rattle.tcl_replay.specs.Watched.{AsksTheHostNothing, Counts, CountStaysWithin, IfDeleted};
 ghost use Rattle.tcl_replay.specs.Watched.{IfEnds, IfRefused, IsDeletion, IsEntryRun, IsRecord};
 ghost use Rattle.tcl_replay.specs.Watched.{LeavesTheOutside, LimitsStay, Reacts, ReactsSo};
-ghost use Rattle.tcl_replay.specs.Watched.{ReactsUntil, ScriptsStayWithin, Stops, Watches};
-ghost use Rattle.tcl_replay.specs.Watched.{answer_of, unwatchable};
+ghost use Rattle.tcl_replay.specs.Watched.{ReactsUntil, Stops, Watches, answer_of, unwatchable};
 ghost use Rattle.tcl_replay.specs.declared.watching.Unwatched.TheVariants as unwatched;
 
 use std::alloc::{AllocError, Global};
-use tcl_eval::running::{End, Refused, open_run, refusal};
+use tcl_eval::running::{End, Refused, open_run, ran, refusal};
 use tcl_host::host::Host;
 use tcl_isolation::laws::{asks_the_host_nothing, limits_stay, scripts_stay_within};
 use tcl_recorder::record::Record;
@@ -43,8 +43,9 @@ pub enum Unwatched {
 ///
 /// # Errors
 /// 402; 403 where no interpreter stands at the path, or none at `watched`; 404; 122: they are
-/// looked for in this order, and change nothing. 401, by which the tree is broken. 411, with the
-/// end of the run, where the watched interpreter was deleted in it.
+/// looked for in this order, and change nothing. 401, by which the tree is broken; until then the
+/// host was asked what the script asks it first. 411, with the end of the run, where the watched
+/// interpreter was deleted in it.
 pub fn eval_watched<H: Host>(
     tree: &mut Tree,
     alloc: Global,
@@ -61,6 +62,12 @@ pub fn eval_watched<H: Host>(
     ensures begun { IfNone (unwatchable tree.old path.now script.now limit watched.now)
         (IfRefused result.1 (λ e. e ≡ Memory)) }
     ensures broken { IfRefused result.1 (λ e. e ≡ Memory → (marks_of tree.new).broken ≡ true) }
+    ensures given_up { IfNone (unwatchable tree.old path.now script.now limit watched.now)
+        (IfRefused result.1 (λ _. IsGivenUp (ways (hosted H.step) (λ o z. z ≡ o)) tree.old host
+        path.now script.now (root_count tree.old + limit) result.0)) }
+    ensures asked { IfNone (unwatchable tree.old path.now script.now limit watched.now)
+        (IfRefused result.1 (λ _. AsksFirst H.step tree.old host path.now script.now limit
+        result.0)) }
     ensures marks { IfEnds result.1 (λ _. marks_of tree.new ≡ marks_of tree.old) }
     ensures runs { IfEnds result.1
         (λ end. IsRun (hosted H.step) tree.old host path.now script.now
@@ -88,10 +95,7 @@ pub fn eval_watched<H: Host>(
         (λ r. Stops H.step tree.old host path.now script.now limit watched.now r.1 tree.new result.0
         r.0) }
     ensures count_stays_within { IfOk result.1
-        (λ r. CountStaysWithin H.step tree.old host path.now script.now limit watched.now r.1
-        tree.new result.0 r.0) }
-    ensures scripts_stay_within { IfOk result.1
-        (λ r. ScriptsStayWithin tree.old watched.now r.1.crossings tree.new) }
+        (λ r. CountStaysWithin tree.old watched.now r.1.crossings tree.new) }
     ensures limits_stay { IfOk result.1
         (λ r. LimitsStay H.step tree.old host path.now script.now limit watched.now r.1 tree.new
         result.0 r.0) }
@@ -166,12 +170,18 @@ fn run<H: Host>(
     ensures memory { IfErr result (λ e. e ≡ Memory) }
     ensures broken { IsErrOf result Memory → (marks_of tree.new).broken ≡ true }
     ensures marks { IfOk result (λ _. marks_of tree.new ≡ marks_of tree.old) }
+    ensures given_up { IfErr result
+        (λ _. IsGivenUp (ways (hosted H.step) (λ o z. z ≡ o)) tree.old recorder.old.outside path.now
+        script.now (root_count tree.old + limit) recorder.new.outside) }
     ensures runs { IfOk result
         (λ end. IsEntryRun H.step tree.old recorder.old path.now script.now limit tree.new
         recorder.new end) }
 {
     match begin(alloc, recorder, path, script) {
-        Ok(()) => open_run(tree, alloc, recorder, path, script, limit),
+        Ok(()) => {
+            let opened = open_run(tree, alloc, recorder, path, script, limit);
+            ran(opened)
+        }
         Err(_) => {
             tree.mark_broken();
             Err(Refused::Memory)
@@ -187,8 +197,9 @@ fn begin<H: Host>(
     script: &str,
 ) -> Result<(), AllocError>
     requires short { fits script.now ≡ true }
-    ensures { OnOk result
+    ensures noted { OnOk result
         (recorder.new ≡ noted recorder.old (event path.now (In None (Eval script.now)))) }
+    ensures outside { recorder.new.outside ≡ recorder.old.outside }
 {
     let entry = Entry::Eval(Value::from_short_text(Text::new(alloc, script)?));
     recorder.entry_begins(alloc, path, &entry)

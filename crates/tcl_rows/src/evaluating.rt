@@ -2,6 +2,8 @@
 use crate::ending::{self, STEPS, evaluated};
 use crate::world::{Trees, count_of, done, no_call, number_of};
 use std::alloc::{AllocError, Global};
+use tcl_eval::running::{OpenEnd, Refused, open_run};
+use tcl_player::player::Player;
 use tcl_text::list::read_list;
 use tcl_text::text::Text;
 
@@ -63,6 +65,30 @@ pub(crate) fn eval_within(
         Some(limit) => run(world, alloc, &[], script, limit),
         None => no_call(alloc),
     }
+}
+
+/// How an open run ended, or what refused it.
+fn opened(alloc: Global, opened: &Result<OpenEnd, Refused>) -> Result<String, AllocError> {
+    match opened {
+        Ok(OpenEnd::Ran(end)) => ending::end(alloc, end),
+        Ok(OpenEnd::CutOff) => String::from_str(alloc, "cut off"),
+        Err(refused) => ending::refusal(alloc, *refused),
+    }
+}
+
+/// How a run ends whose outside answers nothing and grants so many steps.
+pub(crate) fn eval_open(
+    world: &mut Trees,
+    alloc: Global,
+    steps: &Text,
+    script: &str,
+) -> Result<String, AllocError> {
+    let Some(granted) = number_of(steps) else {
+        return no_call(alloc);
+    };
+    let mut outside = Player::new(alloc, &[], granted);
+    let ended = open_run(&mut world.tree, alloc, &mut outside, &[], script, STEPS);
+    opened(alloc, &ended)
 }
 
 /// How a run at a path ends.

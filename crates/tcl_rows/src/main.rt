@@ -13,6 +13,8 @@
 //!   first the script is empty;
 //! - `eval SCRIPT`, `within STEPS SCRIPT`, `at PATH SCRIPT`: how a run of the script ends, in the
 //!   root or at a path;
+//! - `open STEPS SCRIPT`: how a run of the script in the root ends whose outside grants so many
+//!   steps and answers nothing, or that the outside ended it;
 //! - `prepare SCRIPT`: runs the script in the root, however that ends;
 //! - `nested DEPTH OPEN MIDDLE CLOSE SCRIPT`: how a run of the script ends, in which `%` stands for
 //!   the middle in so many pairs;

@@ -198,6 +198,7 @@ fn of_two(
 ) -> Result<String, AllocError> {
     match call {
         "within" => evaluating::eval_within(world, alloc, word, other.as_str()),
+        "open" => evaluating::eval_open(world, alloc, word, other.as_str()),
         "at" => evaluating::eval_at(world, alloc, word, other.as_str()),
         "inputs" => hosting::inputs(world, alloc, word, other.as_str()),
         "file" => hosting::file(world, alloc, word.as_str(), other.as_str()),

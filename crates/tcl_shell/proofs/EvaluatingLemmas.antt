@@ -1,11 +1,16 @@
 -- What a script comes to, from what its two evaluations come to.
-use Rattle.std.proofs.Common.{◌≡◌, ◌≤◌, ℕ, length, subst, inl, inr, refl}
+use Rattle.std.proofs.Common.{◌≡◌, ◌∙◌, ◌+◌, ◌≤◌, ℕ, length, Option, Some, None, sym, subst, inl, inr, refl}
 use Rattle.std.specs.Str.{IsUtf8}
 use Rattle.tcl_core.specs.Paths.{Path, Text}
 use Rattle.tcl_tree.specs.declared.tree.Tree.{Tree}
-use Rattle.std.specs.Prelude.{map}
+use Rattle.std.specs.Prelude.{map, Result, Ok, Err, IfErr, IfNone, IfSome}
+use Rattle.tcl_eval.specs.Running.{AsksFirst, IsRun, root_count, unfit}
+use Rattle.tcl_eval.specs.declared.running.End.{End}
+use Rattle.tcl_eval.specs.declared.running.Refused.{Refused}
+use Rattle.tcl_eval.specs.declared.running.Refused.TheVariants as refused
+use Rattle.tcl_run.specs.Outsides.{hosted}
 use Rattle.tcl_shell.specs.Beginning.{Begins, path_of, setting_of}
-use Rattle.tcl_shell.specs.Evaluating.{EndsAs, Then, RunsTo, EvaluatesTo, longest}
+use Rattle.tcl_shell.specs.Evaluating.{Comes, EndsAs, IsRefused, Then, RunsTo, EvaluatesTo, longest}
 use Rattle.tcl_shell.specs.Reading.{Serving}
 use Rattle.tcl_shell.specs.declared.ending.Ending.{Ending}
 use Rattle.tcl_shell.specs.declared.ending.Ending.TheVariants.{Finished, Helped, Failed, Misused, Unreadable, Stopped, Exited, OutOfMemory}
@@ -25,9 +30,9 @@ runs_by step o script h z (Misused text) x = x
 runs_by step o script h z Unreadable x = x
 runs_by step o script h z (Stopped kind) x = x
 runs_by step o script h z (Exited n) x = x
-runs_by step o script h z OutOfMemory x = tt
+runs_by step o script h z OutOfMemory x = inr x
 
-ends_so : {S : Type 0} (step : Serving S) (t u : Tree) (h z : S) (p q : Path) (s r : Text) (n : ℕ) (e : Ending) → p ≡ q → s ≡ r → EndsAs step t h p s n e u z → EndsAs step t h q r n e u z
+pub ends_so : {S : Type 0} (step : Serving S) (t u : Tree) (h z : S) (p q : Path) (s r : Text) (n : ℕ) (e : Ending) → p ≡ q → s ≡ r → EndsAs step t h p s n e u z → EndsAs step t h q r n e u z
 ends_so step t u h z p q s r n e ep es x = subst (λ (y : Text). EndsAs step t h q y n e u z) es (subst (λ (y : Path). EndsAs step t h y s n e u z) ep x)
 
 -- the variables were set, and the script ran
@@ -84,7 +89,47 @@ evaluates_by step o bytes h z (Misused text) l u x = inr (l, u, x)
 evaluates_by step o bytes h z Unreadable l u x = absurd (never_runs step o bytes h z x.2 x.0 x.1 x.3 x.5 x.6)
 evaluates_by step o bytes h z (Stopped kind) l u x = inr (l, u, x)
 evaluates_by step o bytes h z (Exited n) l u x = inr (l, u, x)
-evaluates_by step o bytes h z OutOfMemory l u x = tt
+evaluates_by step o bytes h z OutOfMemory l u x = inr (l, u, x)
 
 pub evaluates_so : {S : Type 0} (step : Serving S) (o : Options) (bytes script : Text) (h z : S) (e : Ending) → length bytes ≤ longest → IsUtf8 bytes → script ≡ bytes → RunsTo step o script h e z → EvaluatesTo step o bytes h e z
 evaluates_so step o bytes script h z e l u is x = evaluates_by step o bytes h z e l u (subst (λ (s : Text). RunsTo step o s h e z) is x)
+
+-- ## One evaluation
+
+module _ {S : Type 0} (step : Serving S) (t u : Tree) (h z : S) (p : Path) (s : Text) (n : ℕ) where
+  -- it came to its end
+  pub end_ends : (e : End) (r : Ending) → IsRun (hosted step) t h p s (root_count t + n) u z e → Comes e r → EndsAs step t h p s n r u z
+  end_ends e (Finished text) run c = inl (e, run, c)
+  end_ends e (Helped text) run c = inl (e, run, c)
+  end_ends e (Failed text) run c = inl (e, run, c)
+  end_ends e (Misused text) run c = inl (e, run, c)
+  end_ends e Unreadable run c = inl (e, run, c)
+  end_ends e (Stopped kind) run c = inl (e, run, c)
+  end_ends e (Exited k) run c = inl (e, run, c)
+  end_ends e OutOfMemory run c = inr (inr (e, run, tt))
+
+  as_out_of_memory : (r : Ending) → r ≡ OutOfMemory → EndsAs step t h p s n OutOfMemory u z → EndsAs step t h p s n r u z
+  as_out_of_memory r is x = subst (λ (y : Ending). EndsAs step t h p s n y u z) (sym is) x
+
+  -- it was refused, and nothing was changed
+  not_begun : (f : Refused) (r : Ending) → unfit t p s n ≡ Some f → z ≡ h → IsRefused f r → EndsAs step t h p s n r u z
+  not_begun refused.TooLong r at same (inl x) = subst (λ (y : Ending). EndsAs step t h p s n y u z) (sym x) (inr (at, same, refl))
+  not_begun refused.TooLong r at same (inr x) = as_out_of_memory r x (inl same)
+  not_begun refused.Memory r at same x = as_out_of_memory r x (inl same)
+  not_begun refused.Broken r at same x = as_out_of_memory r x (inl same)
+  not_begun refused.NoInterpreter r at same x = as_out_of_memory r x (inl same)
+  not_begun refused.CountTooLarge r at same x = as_out_of_memory r x (inl same)
+
+  -- it was refused, or given up on its way
+  pub refused_ends : (res : Result End Refused) (f : Refused) (r : Ending) → res ≡ Err f → IfSome (unfit t p s n) (λ e. res ≡ Err e) → IfSome (unfit t p s n) (λ _. (u ≡ t) × (z ≡ h)) → IfNone (unfit t p s n) (IfErr res (λ e. e ≡ refused.Memory)) →
+      IfNone (unfit t p s n) (IfErr res (λ _. AsksFirst step t h p s n z)) → IsRefused f r → EndsAs step t h p s n r u z
+  refused_ends res f r is a b c d w =
+      by (unfit t p s n) refl a b (subst (λ (q : Result End Refused). IfNone (unfit t p s n) (IfErr q (λ e. e ≡ refused.Memory))) is c)
+      (subst (λ (q : Result End Refused). IfNone (unfit t p s n) (IfErr q (λ _. AsksFirst step t h p s n z))) is d)
+    where
+      by : (o : Option Refused) → unfit t p s n ≡ o → IfSome o (λ e. res ≡ Err e) → IfSome o (λ _. (u ≡ t) × (z ≡ h)) → IfNone o (f ≡ refused.Memory) → IfNone o (AsksFirst step t h p s n z) → EndsAs step t h p s n r u z
+      by (Some e) at x y m q =
+          let both : ◌≡◌ {A = Result End Refused} (Err e) (Err f) = sym x ∙ is in
+          let one : e ≡ f = cc in
+          not_begun f r (subst (λ (k : Refused). unfit t p s n ≡ Some k) one at) y.1 w
+      by None at x y m q = as_out_of_memory r (subst (λ (k : Refused). IsRefused k r) m w) (inr (inl q))

@@ -6,7 +6,7 @@ use Rattle.std.specs.Str.{IsUtf8}
 use Rattle.std.specs.declared.alloc.AllocError.{AllocError}
 use Rattle.tcl_core.specs.Paths.{Path, Text}
 use Rattle.tcl_flow.specs.declared.completion.Completion.{Completion}
-use Rattle.tcl_eval.specs.Running.{IsRun, unfit, root_count}
+use Rattle.tcl_eval.specs.Running.{AsksFirst, IsRun, unfit, root_count}
 use Rattle.tcl_eval.specs.declared.running.End.{End}
 use Rattle.tcl_eval.specs.declared.running.End.TheVariants.{Done, Exit}
 use Rattle.tcl_eval.specs.declared.running.End.TheVariants as end
@@ -61,7 +61,8 @@ IsRefused TooLong e = (e ≡ Failed too_long) ⊎ (e ≡ OutOfMemory)
 IsRefused _ e = e ≡ OutOfMemory
 
 -- The script ran in the interpreter at the path with so many steps, and this is what its end comes
--- to; or it was too long to be run.
+-- to; or it was too long to be run; or memory was wanted, before it ran, on its way, or for the text
+-- of its end, and the host was asked what the script asks it first.
 abbrev pub RunsIn : {S : Type 0} → Serving S → Tree → S → Path → Text → ℕ → Ending → Tree → S →
     Type 0
 RunsIn step t h path script limit e u z = (end : End) ×
@@ -73,7 +74,8 @@ IsTooLongIn t h path script limit e z = (unfit t path script limit ≡ Some TooL
 
 abbrev pub EndsAs : {S : Type 0} → Serving S → Tree → S → Path → Text → ℕ → Ending → Tree → S →
     Type 0
-EndsAs step t h path script limit OutOfMemory u z = Unit {0}
+EndsAs step t h path script limit OutOfMemory u z = (z ≡ h) ⊎
+    (AsksFirst step t h path script limit z ⊎ RunsIn step t h path script limit OutOfMemory u z)
 EndsAs step t h path script limit e u z = RunsIn step t h path script limit e u z ⊎ IsTooLongIn t h
     path script limit e z
 
@@ -87,19 +89,24 @@ Then step o script (Finished text) t h e z = (u : Tree) ×
 Then step o script first t h e z = (e ≡ first) × (z ≡ h)
 
 -- In a fresh tree the variables of the command line are set by three steps, and then the script
--- runs, with as many as were asked for. Want of memory says nothing.
-abbrev pub RunsTo : {S : Type 0} → Serving S → Options → Text → S → Ending → S → Type 0
-RunsTo step o script h OutOfMemory z = Unit {0}
-RunsTo {S} step o script h e z =
+-- runs, with as many as were asked for.
+abbrev pub SetsAndRuns : {S : Type 0} → Serving S → Options → Text → S → Ending → S → Type 0
+SetsAndRuns {S} step o script h e z =
     (t : Tree) × (u : Tree) × (mid : S) × (first : Ending) × Begins o t ×
     EndsAs step t h (path_of o.is_safe)
     (setting_of o.file.now (map (λ word. word.now) o.arguments.items)) 3 first u mid
     × Then step o script first u mid e z
 
+-- So it is, or memory was wanted before anything ran.
+abbrev pub RunsTo : {S : Type 0} → Serving S → Options → Text → S → Ending → S → Type 0
+RunsTo step o script h OutOfMemory z = (z ≡ h) ⊎ SetsAndRuns step o script h OutOfMemory z
+RunsTo step o script h e z = SetsAndRuns step o script h e z
+
 -- What the bytes of a script come to: they are too long for one; they aren't UTF-8; or the script
--- ends so.
+-- ends so. Where memory was wanted, nothing ran, or the script ends by that.
 abbrev pub EvaluatesTo : {S : Type 0} → Serving S → Options → List ℕ → S → Ending → S → Type 0
-EvaluatesTo step o bytes h OutOfMemory z = Unit {0}
+EvaluatesTo step o bytes h OutOfMemory z = (z ≡ h) ⊎
+    ((length bytes ≤ longest) × IsUtf8 bytes × RunsTo step o bytes h OutOfMemory z)
 EvaluatesTo step o bytes h Unreadable z = (length bytes ≤ longest) × (IsUtf8 bytes → Prim.⊥) ×
     (z ≡ h)
 EvaluatesTo step o bytes h e z = ((longest < length bytes) × (e ≡ Failed too_long) × (z ≡ h)) ⊎

@@ -35,10 +35,10 @@ Refuses step old request new = (why : HostRefusal) × step old request (Refused 
 abbrev pub Asks : {S : Type 0} → Serving S → S → Request → S → Type 0
 Asks step old request new = ((reply : HostReply) × step old request reply new) ⊎ (new ≡ old)
 
--- All of the standard input is read, or the host refuses that.
+-- All of the standard input is read, or the host refuses that, or it wants memory and is as it was.
 abbrev pub ReadsInput : {S : Type 0} → Serving S → S → Result (List ℕ) Ending → S → Type 0
 ReadsInput step old (Ok bytes) new = step old (ReadAll (codes "stdin")) (Rest bytes) new
-ReadsInput step old (Err OutOfMemory) new = Unit {0}
+ReadsInput step old (Err OutOfMemory) new = new ≡ old
 ReadsInput step old (Err Unreadable) new = Refuses step old (ReadAll (codes "stdin")) new
 ReadsInput step old (Err _) new = Prim.⊥
 
@@ -46,13 +46,17 @@ ReadsInput step old (Err _) new = Prim.⊥
 abbrev pub OpensSo : {S : Type 0} → Serving S → List ℕ → S → List ℕ → S → Type 0
 OpensSo step file old channel new = step old (Open file Read) (Opened channel) new
 
--- The file is opened, read and closed; or the host refuses one of these, and what was opened is
--- closed nevertheless.
+-- The file is opened, read and closed; or the host refuses one of these, or wants memory for one,
+-- and what was opened is closed nevertheless. It is asked for nothing else.
 abbrev pub ReadsFile : {S : Type 0} → Serving S → List ℕ → S → Result (List ℕ) Ending → S → Type 0
 ReadsFile {S} step file old (Ok bytes) new =
     (channel : List ℕ) × (opened : S) × (read : S) × OpensSo step file old channel opened ×
     step opened (ReadAll channel) (Rest bytes) read × step read (Close channel) Done new
-ReadsFile step file old (Err OutOfMemory) new = Unit {0}
+ReadsFile {S} step file old (Err OutOfMemory) new =
+    (new ≡ old)
+    ⊎ ((channel : List ℕ) × (opened : S) × (read : S) × OpensSo step file old channel opened
+    × (((read ≡ opened) × step read (Close channel) Done new) ⊎
+    (Asks step opened (ReadAll channel) read × (new ≡ read))))
 ReadsFile {S} step file old (Err Unreadable) new =
     Refuses step old (Open file Read) new
     ⊎ ((channel : List ℕ) × (opened : S) × (read : S) × OpensSo step file old channel opened

@@ -50,7 +50,7 @@ fn run<H: Host>(alloc: Global, host: &mut H, options: &Options<'_>, script: &str
     }
 }
 
-/// How an evaluation ends.
+/// How an evaluation ends. Where memory is wanted, the host was asked what the script asks it first.
 fn ended<H: Host>(
     alloc: Global,
     host: &mut H,

@@ -11,13 +11,16 @@ use Rattle.tcl_run.specs.Runs.{ways}
 use Rattle.tcl_run.proofs.Endings.{ended_so}
 use Rattle.tcl_run.proofs.Proceeding.{at_prog, at_start, comes, given_up_after, stopped}
 use Rattle.tcl_tree.specs.TreeOf.{tree_of, marks_of}
-use Rattle.tcl_eval.proofs.Starting.{at_any_err, is_given_up, some_way, told_all}
+use Rattle.tcl_eval.proofs.Starting.{at_any_err, is_given_up, own_limit, some_way, told_all}
 use Rattle.tcl_evaluation.proofs.Steps.{EndsAt}
 use Rattle.tcl_eval.proofs.running.run.Goals as goal
 
 pub returns-in_err-new-clause-given_up : goal.returns-in_err-new-clause-given_up
 returns-in_err-new-clause-given_up g c =
     at_any_err c.from_residual.result _ (is_given_up c.args.tree.now c.args.outside.now c.args.outside.now c.args.path.now c.args.script.now c.args.start.most (stopped {V = tree_of c.args.tree.now}))
+
+pub returns-clause-root_limit : goal.returns-clause-root_limit
+returns-clause-root_limit g c = own_limit c.serve_eval-ended.new.tree c.set_run_limit-2.new.self c.args.start.own c.set_run_limit-2.ensures.limited ∙ c.requires.own
 
 pub returns-clause-given_up : goal.returns-clause-given_up
 returns-clause-given_up g c =

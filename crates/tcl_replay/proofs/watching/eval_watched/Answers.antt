@@ -1,8 +1,18 @@
 use Rattle.std.proofs.Common.{◌∙◌, sym}
-use Rattle.tcl_replay.specs.Watched.{AsksTheHostNothing, Counts, CountStaysWithin, LeavesTheOutside, LimitsStay, Reacts, ReactsSo, ReactsUntil, ScriptsStayWithin}
+use Rattle.tcl_replay.specs.Watched.{AsksTheHostNothing, Counts, CountStaysWithin, LeavesTheOutside, LimitsStay, Reacts, ReactsSo, ReactsUntil, unwatchable}
 use Rattle.tcl_replay.proofs.Answers.{both_there, deletions, follows, records, stops, wholes}
 use Rattle.tcl_replay.proofs.Recorded as recorded
+use Rattle.tcl_replay.proofs.Unfinished.{at_none, if_refused_so}
 use Rattle.tcl_replay.proofs.watching.eval_watched.Goals as goal
+
+pub returns-clause-given_up : goal.returns-clause-given_up
+returns-clause-given_up g c = at_none (unwatchable c.args.tree.now c.args.path.now c.args.script.now c.args.limit c.args.watched.now) _ c.watch.ensures.watches.given_up
+
+pub returns-clause-asked : goal.returns-clause-asked
+returns-clause-asked g c =
+    let there = both_there c.args.tree.now c.args.path.now c.args.script.now c.args.limit c.args.watched.now (sym c.refusal_to_watch.ensures ∙ c.in_default.is) in
+    at_none (unwatchable c.args.tree.now c.args.path.now c.args.script.now c.args.limit c.args.watched.now) _
+    (if_refused_so g.H.Host.step c.args.tree.now c.args.host c.args.path.now c.args.script.now c.args.limit c.watch.result.0 c.watch.result.1 there.0 c.watch.ensures.watches.given_up)
 
 pub returns-clause-whole : goal.returns-clause-whole
 returns-clause-whole g c = wholes g.H.Host.step c.args.tree.now c.args.host c.args.path.now c.args.script.now c.args.limit c.args.watched.now c.watch.new.tree c.watch.result.0 c.watch.result.1 c.watch.ensures.watches
@@ -61,14 +71,8 @@ returns-clause-counts g c =
 pub returns-clause-count_stays_within : goal.returns-clause-count_stays_within
 returns-clause-count_stays_within g c =
     let there = both_there c.args.tree.now c.args.path.now c.args.script.now c.args.limit c.args.watched.now (sym c.refusal_to_watch.ensures ∙ c.in_default.is) in
-    follows g.H.Host.step c.args.tree.now c.args.host c.args.path.now c.args.script.now c.args.limit c.args.watched.now c.watch.new.tree c.watch.result.0 (λ r e. CountStaysWithin g.H.Host.step c.args.tree.now c.args.host c.args.path.now c.args.script.now c.args.limit c.args.watched.now r c.watch.new.tree c.watch.result.0 e) c.watch.result.1 (records g.H.Host.step c.args.tree.now c.args.host c.args.path.now c.args.script.now c.args.limit c.args.watched.now c.watch.new.tree c.watch.result.0 c.watch.result.1 there.1 c.watch.ensures.watches)
-    (λ r e w. recorded.stays_within g.H.Host.step c.args.tree.now c.args.host c.args.path.now c.args.script.now c.args.limit c.args.watched.now r c.watch.new.tree c.watch.result.0 e w)
-
-pub returns-clause-scripts_stay_within : goal.returns-clause-scripts_stay_within
-returns-clause-scripts_stay_within g c =
-    let there = both_there c.args.tree.now c.args.path.now c.args.script.now c.args.limit c.args.watched.now (sym c.refusal_to_watch.ensures ∙ c.in_default.is) in
-    follows g.H.Host.step c.args.tree.now c.args.host c.args.path.now c.args.script.now c.args.limit c.args.watched.now c.watch.new.tree c.watch.result.0 (λ r e. ScriptsStayWithin c.args.tree.now c.args.watched.now r.crossings c.watch.new.tree) c.watch.result.1 (records g.H.Host.step c.args.tree.now c.args.host c.args.path.now c.args.script.now c.args.limit c.args.watched.now c.watch.new.tree c.watch.result.0 c.watch.result.1 there.1 c.watch.ensures.watches)
-    (λ r e w. recorded.scripts_within g.H.Host.step c.args.tree.now c.args.host c.args.path.now c.args.script.now c.args.limit c.args.watched.now r c.watch.new.tree c.watch.result.0 e c.scripts_stay_within.ensures w)
+    follows g.H.Host.step c.args.tree.now c.args.host c.args.path.now c.args.script.now c.args.limit c.args.watched.now c.watch.new.tree c.watch.result.0 (λ r e. CountStaysWithin c.args.tree.now c.args.watched.now r.crossings c.watch.new.tree) c.watch.result.1 (records g.H.Host.step c.args.tree.now c.args.host c.args.path.now c.args.script.now c.args.limit c.args.watched.now c.watch.new.tree c.watch.result.0 c.watch.result.1 there.1 c.watch.ensures.watches)
+    (λ r e w. recorded.stays_within g.H.Host.step c.args.tree.now c.args.host c.args.path.now c.args.script.now c.args.limit c.args.watched.now r c.watch.new.tree c.watch.result.0 e c.scripts_stay_within.ensures w)
 
 pub returns-clause-limits_stay : goal.returns-clause-limits_stay
 returns-clause-limits_stay g c =

@@ -18,7 +18,7 @@ use Rattle.tcl_recorder.proofs.recorder.RecorderOutside.misses.Goals as goal
 pub returns-clause-told : goal.returns-clause-told
 returns-clause-told g c =
     let old = c.args.self.now in
-    let new : Recorder g.row.O.Denot = record { outside = c.misses.new.self; kept = c.call_misses.new.self; deleted = old.deleted } in
+    let new : Recorder g.row.O.Denot = record { outside = c.misses.new.self; kept = c.call_misses.new.self; deleted = old.deleted; incomplete = old.incomplete } in
     let q = c.as_slice.result.now in
     let n = c.args.up in
     let down = c.args.down.now in
@@ -28,6 +28,6 @@ returns-clause-told g c =
     let Outer : Reply → Type 0 = λ r. (p a : Path) → Names c.args.tree.now c.args.caller p → rise_to (Some n) p ≡ Some a → Misses (recorded g.O.Outside.goes) (tree_of c.args.tree.now) old p n down i r new in
     on_ok_weaker c.call_misses.result
     (λ e. IfEnded-both c.args.told.now Kept Inner Outer
-    (λ r kept inner p a at up. misses g.O.Outside.goes (tree_of c.args.tree.now) old new q p n down i r (c.as_slice.ensures.value ∙ c.in_ok-path.ensures p at ∙ whole_path c.args.tree.now p _ at) kept refl (inner p a at up))
+    (λ r kept inner p a at up. misses g.O.Outside.goes (tree_of c.args.tree.now) old new q p n down i r (c.as_slice.ensures.value ∙ c.in_ok-path.ensures p at ∙ whole_path c.args.tree.now p _ at) kept refl refl (inner p a at up))
     e c.in_ok-misses.ensures.told)
     c.call_misses.ensures

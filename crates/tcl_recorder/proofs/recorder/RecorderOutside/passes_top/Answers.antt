@@ -9,6 +9,6 @@ use Rattle.tcl_recorder.proofs.recorder.RecorderOutside.passes_top.Goals as goal
 
 pub returns-clause-told : goal.returns-clause-told
 returns-clause-told g c = on_ok_weaker c.call_goes.result
-    (λ e p at up. crosses g.O.Outside.goes (tree_of c.args.tree.now) c.args.self.now (record { outside = c.passes_top.new.self; kept = c.call_goes.new.self; deleted = c.args.self.now.deleted }) None c.as_slice.result.now p (Out c.args.up c.args.down.now (whole_entry c.args.entry.now))
-    (c.as_slice.ensures.value ∙ c.in_ok-path.ensures p at ∙ whole_path c.args.tree.now p _ at) e refl (c.in_ok-passes_top.ensures.told p at up))
+    (λ e p at up. crosses g.O.Outside.goes (tree_of c.args.tree.now) c.args.self.now (record { outside = c.passes_top.new.self; kept = c.call_goes.new.self; deleted = c.args.self.now.deleted; incomplete = c.args.self.now.incomplete }) None c.as_slice.result.now p (Out c.args.up c.args.down.now (whole_entry c.args.entry.now))
+    (c.as_slice.ensures.value ∙ c.in_ok-path.ensures p at ∙ whole_path c.args.tree.now p _ at) (λ w. w) e refl (λ f. absurd f) (c.in_ok-passes_top.ensures.told p at up))
     c.call_goes.ensures

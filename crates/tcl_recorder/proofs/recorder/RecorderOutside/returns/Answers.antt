@@ -18,7 +18,7 @@ use Rattle.tcl_recorder.proofs.recorder.RecorderOutside.returns.Goals as goal
 pub returns-clause-told : goal.returns-clause-told
 returns-clause-told g c =
     let old = c.args.self.now in
-    let new : Recorder g.row.O.Denot = record { outside = c.returns.new.self; kept = c.call_returns.new.self; deleted = old.deleted } in
+    let new : Recorder g.row.O.Denot = record { outside = c.returns.new.self; kept = c.call_returns.new.self; deleted = old.deleted; incomplete = old.incomplete } in
     let q = c.as_slice.result.now in
     let n = c.args.up in
     let down = c.args.down.now in
@@ -28,6 +28,6 @@ returns-clause-told g c =
     on_ok_weaker c.call_returns.result
     (λ e. IfEnded-both c.args.ended.now (λ s. IfEnded c.args.told.now (Kept s)) (λ s. IfEnded c.args.told.now (Inner s)) (λ s. IfEnded c.args.told.now (Outer s))
     (λ s x y. IfEnded-both c.args.told.now (Kept s) (Inner s) (Outer s)
-    (λ r kept inner p a at up. returns g.O.Outside.goes (tree_of c.args.tree.now) old new q p n a down s r (c.as_slice.ensures.value ∙ c.in_ok-path.ensures p at ∙ whole_path c.args.tree.now p _ at) up kept refl (inner p a at up)) x y)
+    (λ r kept inner p a at up. returns g.O.Outside.goes (tree_of c.args.tree.now) old new q p n a down s r (c.as_slice.ensures.value ∙ c.in_ok-path.ensures p at ∙ whole_path c.args.tree.now p _ at) up kept refl refl (inner p a at up)) x y)
     e c.in_ok-returns.ensures.told)
     c.call_returns.ensures
