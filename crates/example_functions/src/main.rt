@@ -3,7 +3,7 @@
 
 use std::alloc::{AllocError, Global};
 use tcl_embed::errors::EmbedError;
-use tcl_embed::evaluation::{open_run, run_text};
+use tcl_embed::evaluation::{open_run, open_text};
 use tcl_embed::functions::{Action, Call, Functions, WithFunctions, set_function};
 use tcl_embed::hosts::MemoryHost;
 use tcl_embed::texts::Text;
@@ -51,7 +51,7 @@ fn main(rt: HostRuntime) -> Result<(), EmbedError> {
     let mut shop = WithFunctions::new(alloc, Shop {}, MemoryHost::new(alloc)?);
     'scripts: for script in ["price tea", "twice {incr n}", "twice", "twice {twice {incr n}}"] {
         let run = open_run(&mut tree, alloc, &mut shop, &guest, script, 1_000);
-        println!(rt; "{}", run_text(alloc, &run)?)?;
+        println!(rt; "{}", open_text(alloc, &run)?)?;
     }
     Ok(())
 }

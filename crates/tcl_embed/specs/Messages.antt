@@ -6,6 +6,8 @@ use Rattle.tcl_embed.specs.declared.errors.EmbedError.{EmbedError}
 use Rattle.tcl_embed.specs.declared.errors.EmbedError.TheVariants as embed
 use Rattle.tcl_eval.specs.declared.running.End.{End}
 use Rattle.tcl_eval.specs.declared.running.End.TheVariants as end
+use Rattle.tcl_eval.specs.declared.running.OpenEnd.{OpenEnd}
+use Rattle.tcl_eval.specs.declared.running.OpenEnd.TheVariants as open_end
 use Rattle.tcl_eval.specs.declared.running.Refused.{Refused}
 use Rattle.tcl_eval.specs.declared.running.Refused.TheVariants as refused
 use Rattle.tcl_flow.specs.declared.completion.Completion.{Completion}
@@ -99,3 +101,9 @@ end_text (end.Exit n) = codes "exit " ++ signed_decimal n
 abbrev pub run_text : Result End Refused → Text
 run_text (Ok e) = end_text e
 run_text (Err r) = refused_text r
+
+-- the same of an open run, which its outside may have ended
+abbrev pub open_text : Result OpenEnd Refused → Text
+open_text (Ok (open_end.Ran e)) = end_text e
+open_text (Ok open_end.CutOff) = codes "cut off"
+open_text (Err r) = refused_text r

@@ -8,7 +8,7 @@ use Rattle.tcl_core.specs.Paths.{Path, Text}
 use Rattle.tcl_core.specs.Trees.{Node, Tree, at}
 use Rattle.tcl_core.specs.Views.{moves_of}
 use Rattle.tcl_eval.specs.Running.{root_count, root_limit}
-use Rattle.tcl_eval.specs.declared.running.End.{End}
+use Rattle.tcl_eval.specs.declared.running.OpenEnd.{OpenEnd}
 use Rattle.tcl_isolation.proofs.Watching as watching
 use Rattle.tcl_isolation.specs.Laws.{IsWithin, Suffices}
 use Rattle.tcl_isolation.specs.Scripts as laws
@@ -18,7 +18,7 @@ use Rattle.tcl_language_laws.specs.Language.{language}
 use Rattle.tcl_open_watching.proofs.Below.{below_at, below_same}
 use Rattle.tcl_open_watching.specs.OpenWatched.{IsOpenRecorded}
 use Rattle.tcl_recorder.specs.Records.{RecordView}
-use Rattle.tcl_replay.specs.Watched.{AsksTheHostNothing, Reacts, ReactsSo, ReactsUntil, ScriptsStayWithin}
+use Rattle.tcl_replay.specs.Watched.{AsksTheHostNothing, CountStaysWithin, Reacts, ReactsSo, ReactsUntil}
 use Rattle.tcl_run.specs.Outsides.{Going}
 use Rattle.tcl_run_laws.proofs.Orders.{orderly_relimited}
 use Rattle.tcl_run_laws.proofs.Tables.{orderly}
@@ -27,7 +27,7 @@ use Rattle.tcl_tree.specs.Own.{Own}
 use Rattle.tcl_tree.specs.TreeOf.{marks_of, tree_of}
 use Rattle.tcl_tree.specs.declared.tree.Tree.{Tree as Table}
 
-module _ {S : Type 0} (goes : Going S) (old : Table) (o : S) (path : Path) (script : Text) (limit : ℕ) (c : Path) (r : RecordView) (new : Table) (z : S) (e : End) where
+module _ {S : Type 0} (goes : Going S) (old : Table) (o : S) (path : Path) (script : Text) (limit : ℕ) (c : Path) (r : RecordView) (new : Table) (z : S) (e : OpenEnd) where
   abbrev pub One : Type 0
   One = IsOpenRecorded goes old o path script limit c r.crossings new z e
 
@@ -94,6 +94,6 @@ module _ {S : Type 0} (goes : Going S) (old : Table) (o : S) (path : Path) (scri
   finally : (w : One) (l b : ℕ) → IsBelowTheTop c → IsWithin (w.during c) l b → IsWithin (tree_of new c) l b
   finally w l b f h = subst (λ (x : Option (Node Own)). IsWithin x l b) (sym (same_last w f)) h
 
-  pub scripts_within : laws.ScriptsStayWithin goes → One → ScriptsStayWithin old c r.crossings new
-  scripts_within law w f a l b at_limit low lb nb =
-      finally w l b f (law style T0 w.during o w.between path (Eval script) c r.crossings w.reply w.node l b w.visited f safe_trees (safe_first f a) (stood w f) (own_limit w l at_limit) low lb (own_count w b nb))
+  pub stays_within : laws.ScriptsStayWithin goes → One → CountStaysWithin old c r.crossings new
+  stays_within law w f l b at_limit low lb nb =
+      finally w l b f (law style T0 w.during o w.between path (Eval script) c r.crossings w.reply w.node l b w.visited f (stood w f) (own_limit w l at_limit) low lb (own_count w b nb))

@@ -7,25 +7,33 @@ ghost use Rattle.tcl_core.specs.Trees.What.{In};
 ghost use Rattle.tcl_eval.specs.Running.{IsOpenRun, root_count, unfit};
 ghost use Rattle.tcl_eval.specs.declared.running.Refused.TheVariants.{Memory};
 ghost use Rattle.tcl_language.specs.Instructions.{fits};
-ghost use Rattle.tcl_open_watching.specs.OpenWatched.{IsOpenRecord, Watches};
+ghost use Rattle.tcl_open_watching.specs.OpenWatched.{IfEnds, IfRefused, IsOpenRecord, Watches};
+ghost use Rattle.tcl_open_watching.specs.OpenWatched.{answer_of};
+ghost use Rattle.tcl_open_watching.specs.declared.watching.OpenUnwatched.TheVariants as unwatched;
 ghost use Rattle.tcl_recorder.specs.Recording.{noted, recorded};
-ghost use Rattle.tcl_replay.specs.Watched.{AsksTheHostNothing, IfEnds, IfRefused, Reacts};
-ghost use Rattle.tcl_replay.specs.Watched.{ReactsSo, ReactsUntil, ScriptsStayWithin, answer_of};
-ghost use Rattle.tcl_replay.specs.Watched.{unwatchable};
-ghost use Rattle.tcl_replay.specs.declared.watching.Unwatched.TheVariants as unwatched;
+ghost use Rattle.tcl_replay.specs.Watched.{AsksTheHostNothing, CountStaysWithin, Reacts, ReactsSo};
+ghost use Rattle.tcl_replay.specs.Watched.{ReactsUntil, unwatchable};
 ghost use Rattle.tcl_tree.specs.TreeOf.{marks_of, tree_of};
 
 use std::alloc::{AllocError, Global};
-use tcl_eval::running::{End, Refused, open_run, refusal};
+use tcl_eval::running::{OpenEnd, Refused, open_run, refusal};
 use tcl_isolation::laws::{asks_the_host_nothing, scripts_stay_within};
 use tcl_recorder::record::Record;
 use tcl_recorder::recorder::Recorder;
-use tcl_replay::watching::Unwatched;
 use tcl_run::entry::Entry;
 use tcl_run::outside::Outside;
 use tcl_text::text::Text;
 use tcl_tree::tree::Tree;
 use tcl_value::value::Value;
+
+/// Why there is no record of an open evaluation.
+#[derive(Drop)]
+pub enum OpenUnwatched {
+    /// 401, 402, 403, 404 or 122: there was no run, or none that came to its end.
+    Refused(Refused),
+    /// 411: the watched interpreter was deleted in the run, which ended so.
+    Deleted(OpenEnd),
+}
 
 /// Evaluates a script in the interpreter at the path over an outside, as `open_run` does, and
 /// records what crosses the boundary of the interpreter at `watched`: the entries into its subtree,
@@ -44,7 +52,7 @@ pub fn open_watched<O: Outside>(
     script: &str,
     limit: u64,
     watched: &[Text],
-) -> (O, Result<(End, Record), Unwatched>)
+) -> (O, Result<(OpenEnd, Record), OpenUnwatched>)
     ensures refused { IfSome (unwatchable tree.old path.now script.now limit watched.now)
         (λ e. result.1 ≡ Err (unwatched.Refused e)) }
     ensures unchanged { IfSome (unwatchable tree.old path.now script.now limit watched.now)
@@ -65,13 +73,13 @@ pub fn open_watched<O: Outside>(
         (λ r. ReactsUntil tree.old watched.now r.1.crossings tree.new) }
     ensures asks_nothing { IfOk result.1
         (λ r. AsksTheHostNothing tree.old watched.now r.1.crossings) }
-    ensures scripts_stay_within { IfOk result.1
-        (λ r. ScriptsStayWithin tree.old watched.now r.1.crossings tree.new) }
+    ensures count_stays_within { IfOk result.1
+        (λ r. CountStaysWithin tree.old watched.now r.1.crossings tree.new) }
 {
     asks_the_host_nothing::<O>();
     scripts_stay_within::<O>();
     if let Some(refused) = refusal_to_watch(tree, path, script, limit, watched) {
-        return (outside, Err(Unwatched::Refused(refused)));
+        return (outside, Err(OpenUnwatched::Refused(refused)));
     }
     watch(tree, alloc, outside, path, script, limit, watched)
 }
@@ -105,7 +113,7 @@ fn watch<O: Outside>(
     script: &str,
     limit: u64,
     watched: &[Text],
-) -> (O, Result<(End, Record), Unwatched>)
+) -> (O, Result<(OpenEnd, Record), OpenUnwatched>)
     requires fit { unfit tree.old path.now script.now limit ≡ None }
     ensures watches { Watches O.goes tree.old outside path.now script.now limit watched.now tree.new
         result.0 result.1 }
@@ -115,7 +123,7 @@ fn watch<O: Outside>(
         Ok(names) => names,
         Err(_) => {
             tree.mark_broken();
-            return (outside, Err(Unwatched::Refused(Refused::Memory)));
+            return (outside, Err(OpenUnwatched::Refused(Refused::Memory)));
         }
     };
     let mut recorder = Recorder::new(alloc, outside, names);
@@ -132,7 +140,7 @@ fn run<O: Outside>(
     path: &[Text],
     script: &str,
     limit: u64,
-) -> Result<End, Refused>
+) -> Result<OpenEnd, Refused>
     requires fit { unfit tree.old path.now script.now limit ≡ None }
     ensures memory { IfErr result (λ e. e ≡ Memory) }
     ensures broken { IsErrOf result Memory → (marks_of tree.new).broken ≡ true }
@@ -169,17 +177,17 @@ fn begin<O: Outside>(
 /// What is answered where the run ended so, with this record, and the watched interpreter was
 /// deleted or not.
 fn outcome_of(
-    ended: Result<End, Refused>,
+    ended: Result<OpenEnd, Refused>,
     kept: Record,
     deleted: bool,
-) -> Result<(End, Record), Unwatched>
+) -> Result<(OpenEnd, Record), OpenUnwatched>
     ensures { result ≡ answer_of ended kept deleted }
 {
     match ended {
-        Err(refused) => Err(Unwatched::Refused(refused)),
+        Err(refused) => Err(OpenUnwatched::Refused(refused)),
         Ok(end) => {
             if deleted {
-                return Err(Unwatched::Deleted(end));
+                return Err(OpenUnwatched::Deleted(end));
             }
             Ok((end, kept))
         }
