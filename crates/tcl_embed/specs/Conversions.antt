@@ -3,8 +3,6 @@ use Rattle.tcl_characters.specs.declared.limit.LimitError.{LimitError}
 use Rattle.tcl_characters.specs.declared.limit.LimitError.TheVariants as limit
 use Rattle.tcl_embed.specs.declared.errors.EmbedError.{EmbedError}
 use Rattle.tcl_embed.specs.declared.errors.EmbedError.TheVariants as embed
-use Rattle.tcl_open_watching.specs.declared.watching.OpenUnwatched.{OpenUnwatched}
-use Rattle.tcl_open_watching.specs.declared.watching.OpenUnwatched.TheVariants as open_unwatched
 use Rattle.tcl_replay.specs.declared.watching.Unwatched.{Unwatched}
 use Rattle.tcl_replay.specs.declared.watching.Unwatched.TheVariants as unwatched
 use Rattle.tcl_text.specs.declared.list.ListError.{ListError}
@@ -14,10 +12,6 @@ use Rattle.tcl_value.specs.declared.value.ValueError.TheVariants as value
 abbrev pub of_unwatched : Unwatched → EmbedError
 of_unwatched (unwatched.Refused r) = embed.Refused r
 of_unwatched (unwatched.Deleted e) = embed.Deleted
-
-abbrev pub of_open : OpenUnwatched → EmbedError
-of_open (open_unwatched.Refused r) = embed.Refused r
-of_open (open_unwatched.Deleted e) = embed.Deleted
 
 abbrev pub of_list : ListError → EmbedError
 of_list list.Memory = embed.Memory

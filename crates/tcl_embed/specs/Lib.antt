@@ -3,7 +3,6 @@ pub use Rattle.tcl_functions.specs.Actions
 pub use Rattle.tcl_functions.specs.Aliases
 pub use Rattle.tcl_functions.specs.Serving
 pub use Rattle.tcl_host.specs.Hosts
-pub use Rattle.tcl_open_watching.specs.OpenWatched
 pub use Rattle.tcl_record_texts.specs.Lines
 pub use Rattle.tcl_record_texts.specs.Words
 pub use Rattle.tcl_replay.specs.Replaying

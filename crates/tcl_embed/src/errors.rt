@@ -15,7 +15,6 @@ use std::io;
 use tcl_characters::limit::LimitError;
 use tcl_eval::running::Refused;
 use tcl_flow::stop::StopKind;
-use tcl_open_watching::watching::OpenUnwatched;
 use tcl_replay::replaying::Unplayed;
 use tcl_replay::watching::Unwatched;
 use tcl_text::list::{ListError, ListFault};
@@ -209,19 +208,6 @@ impl From<Unwatched> for EmbedError {
         match unwatched {
             Unwatched::Refused(refused) => EmbedError::Refused(refused),
             Unwatched::Deleted(_end) => EmbedError::Deleted,
-        }
-    }
-}
-
-impl From<OpenUnwatched> for EmbedError {
-    ghost use Rattle.tcl_embed.specs.Conversions.{of_open};
-
-    ghost from_gives = { λ x e. e ≡ of_open x };
-
-    fn from(unwatched: OpenUnwatched) -> EmbedError {
-        match unwatched {
-            OpenUnwatched::Refused(refused) => EmbedError::Refused(refused),
-            OpenUnwatched::Deleted(_end) => EmbedError::Deleted,
         }
     }
 }

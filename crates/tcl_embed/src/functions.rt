@@ -3,8 +3,7 @@
 //! - `Functions`: what an embedder implements, one method; it is asked with a `Call` and says by an
 //!   `Action` what it does next: it answers, fails, or evaluates something in the tree first.
 //! - `set_function`: makes a name of an interpreter a function of the embedder.
-//! - `WithFunctions`: functions and a host, for `evaluation::open_run` and
-//!   `watching::open_watched`.
+//! - `WithFunctions`: functions and a host, for `evaluation::open_run`.
 //! - `Outside`, `Turn`, `Entry`, `OwnEntry`, `Question`, `Interruption`: for an outside that does
 //!   more, as one that waits for another process.
 pub use tcl_functions::action::Action;

@@ -1,12 +1,10 @@
 //! Evaluations whose crossings of one interpreter's boundary are recorded.
 //!
 //! - `eval_watched`: evaluates with a host, as `evaluation::eval`.
-//! - `open_watched`: evaluates over any outside, as functions and a host, as `evaluation::open_run`.
-//! - `Unwatched`, `OpenUnwatched`: why there is no record (401 to 404, 122, 411).
+//! - `Unwatched`: why there is no record (401 to 404, 122, 411).
 //! - `Record`, `Crossing`, `Reply`, `Answer`: what crossed the boundary, in order.
 //! - `lines_of`, `line_of`: crossings as lines of text; `LimitError`: why there are none (122).
 pub use tcl_characters::limit::LimitError;
-pub use tcl_open_watching::watching::{OpenUnwatched, open_watched};
 pub use tcl_record_texts::lines::{line_of, lines_of};
 pub use tcl_recorder::crossing::{Answer, Crossing, Reply};
 pub use tcl_recorder::record::Record;
