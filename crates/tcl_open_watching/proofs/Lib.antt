@@ -1,5 +1,0 @@
-mod Answers
-mod Before
-mod Below
-mod Entered
-mod Recorded
