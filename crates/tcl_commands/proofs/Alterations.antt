@@ -1,5 +1,5 @@
 -- What the commands come to that change what a variable holds.
-use Rattle.std.proofs.Common.{◌≡◌, Bool, true, false, List, Option, Some, refl, sym, ap, subst, ◌∙◌, append-nil}
+use Rattle.std.proofs.Common.{◌≡◌, Bool, true, false, Option, Some, refl, sym, ap, subst, ◌∙◌, append-nil}
 use Rattle.std.specs.Prelude.{Result, Ok, Err}
 use Rattle.tcl_core.specs.Endings.{Completion, Reply, ok}
 use Rattle.tcl_core.specs.Endings.Reply.{Completed}
@@ -13,7 +13,7 @@ use Rattle.tcl_language.specs.Data.{given}
 use Rattle.tcl_language.specs.Faults.{frame_message}
 use Rattle.tcl_language.specs.Instructions.{Program, at_node, look, or_fails, with_chain}
 use Rattle.tcl_language.specs.Variables.{sets}
-use Rattle.tcl_run.specs.Ends.{Interrupts, WordsTell, itself}
+use Rattle.tcl_run.specs.Ends.{WordsTell, itself}
 use Rattle.tcl_run.specs.Plain.{Does, Acts}
 use Rattle.tcl_run.specs.declared.interruption.Interruption.{Interruption}
 use Rattle.tcl_run.proofs.Endings.{Interrupts-more, words_tell}

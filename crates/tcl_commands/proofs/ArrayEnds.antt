@@ -112,11 +112,11 @@ module _ (t : Table) (place : TablePlace) where
   -- ## The names of commands
 
   pub names_acts : (b : Bool) (pattern : Option Text) (commands : CommandMap) (texts : List Text) (result : Result Text Interruption) →
-      ((p : Path) (n : Node Own) → Names t place p → tree_of t p ≡ Some n → commands ≡ n.own.commands) → texts ≡ procedures.names_told b pattern commands →
+      ((p : Path) (n : Node Own) → Names t place p → tree_of t p ≡ Some n → commands ≡ n.own.commands) → texts ≡ procedures.listed_names b pattern commands →
       IfEnded result (λ r. r ≡ Completed (either (fits (written_list texts)) (ok (written_list texts)) too_long)) → Acts t place (λ style. procedures.listed b pattern) t result
   names_acts b pattern commands texts result seen is told =
-      acts_looking t t place (λ n. gives (written_list (procedures.names_told b pattern n.own.commands))) (gives (written_list texts)) result
-      (λ p n at there. ap (λ (xs : List Text). gives (written_list xs)) (ap (procedures.names_told b pattern) (sym (seen p n at there)) ∙ sym is)) (gives_acts t place (written_list texts) result told)
+      acts_looking t t place (λ n. gives (written_list (procedures.listed_names b pattern n.own.commands))) (gives (written_list texts)) result
+      (λ p n at there. ap (λ (xs : List Text). gives (written_list xs)) (ap (procedures.listed_names b pattern) (sym (seen p n at there)) ∙ sym is)) (gives_acts t place (written_list texts) result told)
 
 -- ## Keys and values in turn
 
@@ -129,9 +129,9 @@ pairs_step made left key value whole h e f i =
 -- ## Names of commands
 
 pub name_step : (b : Bool) (pattern : Option Text) (es : CommandMap) (i : ℕ) (name : Text) (c : Command) → slice_get es i ≡ Some (name, c) →
-    kept_if (procedures.is_told b c && procedures.is_taken pattern name) name (procedures.names_told b pattern (drop (i + 1) es)) ≡ procedures.names_told b pattern (drop i es)
+    kept_if (procedures.is_listed b c && procedures.is_taken pattern name) name (procedures.listed_names b pattern (drop (i + 1) es)) ≡ procedures.listed_names b pattern (drop i es)
 name_step b pattern es i name c e =
-    ap (λ n. kept_if (procedures.is_told b c && procedures.is_taken pattern name) name (procedures.names_told b pattern (drop n es))) (add-one i) ∙ sym (ap (procedures.names_told b pattern) (drop_at es i (name, c) e))
+    ap (λ n. kept_if (procedures.is_listed b c && procedures.is_taken pattern name) name (procedures.listed_names b pattern (drop n es))) (add-one i) ∙ sym (ap (procedures.listed_names b pattern) (drop_at es i (name, c) e))
 
-pub names_end : (b : Bool) (pattern : Option Text) (es : CommandMap) (i : ℕ) (names : List Text) → length es ≤ i → names ++ procedures.names_told b pattern (drop i es) ≡ names
-names_end b pattern es i names h = ap (λ xs. names ++ procedures.names_told b pattern xs) (drop_of_length-le es h) ∙ append-nil names
+pub names_end : (b : Bool) (pattern : Option Text) (es : CommandMap) (i : ℕ) (names : List Text) → length es ≤ i → names ++ procedures.listed_names b pattern (drop i es) ≡ names
+names_end b pattern es i names h = ap (λ xs. names ++ procedures.listed_names b pattern xs) (drop_of_length-le es h) ∙ append-nil names

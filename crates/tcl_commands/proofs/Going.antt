@@ -14,7 +14,6 @@ use Rattle.tcl_run.specs.Ends.{Interrupts, IfEnded, IsFailure, Gave}
 use Rattle.tcl_run.specs.Plain.{Does, Acts}
 use Rattle.tcl_run.specs.Runs.{IsThere, IsLevel, Rechained}
 use Rattle.tcl_run.specs.declared.interruption.Interruption.{Interruption}
-use Rattle.tcl_run.specs.declared.interruption.Interruption.TheVariants as interruption
 use Rattle.tcl_run.proofs.Endings.{Interrupts-more, IfEnded-more, Interrupts-at}
 use Rattle.tcl_run.proofs.Plain.{does_look, does_read, does_fail, does_change}
 use Rattle.tcl_run.proofs.Steady.{stands}

@@ -12,7 +12,6 @@ use Rattle.tcl_language.specs.Interpreters.{done_so, refused_text, renaming}
 use Rattle.tcl_language.specs.Naming as language
 use Rattle.tcl_language.specs.Naming.{command_name, without_colons, of_global, with_word}
 use Rattle.tcl_run.specs.Ends.{Interrupts, failing}
-use Rattle.tcl_run.specs.Plain.{Acts}
 use Rattle.tcl_run.specs.Runs.{IsLevel}
 use Rattle.tcl_run.specs.declared.interruption.Interruption.{Interruption}
 use Rattle.tcl_run.proofs.Endings.{Interrupts-more}
@@ -20,7 +19,7 @@ use Rattle.tcl_run.proofs.Plain.{does_look, does_read, does_change}
 use Rattle.tcl_run.proofs.Steady.{stands, changed_level}
 use Rattle.tcl_tree.specs.Changes as changes
 use Rattle.tcl_tree.specs.Naming as tree
-use Rattle.tcl_tree.specs.Naming.{Becomes, RefusesNaming, Refuses}
+use Rattle.tcl_tree.specs.Naming.{Becomes, RefusesNaming}
 use Rattle.tcl_tree.specs.Own.{Own, command_in}
 use Rattle.tcl_tree.specs.TreeOf.{tree_of, key_of, marks_of, Names}
 use Rattle.tcl_interpreter.specs.declared.command.Command.{Command}

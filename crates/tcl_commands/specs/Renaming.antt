@@ -5,11 +5,9 @@ use Rattle.tcl_core.specs.Endings.Reply.{Completed}
 use Rattle.tcl_core.specs.Paths.{Text}
 use Rattle.tcl_language.specs.Faults.{bad_name, invalid_command}
 use Rattle.tcl_language.specs.Interpreters.{already_exists, refusal_text}
-use Rattle.tcl_language.specs.Naming as language
 use Rattle.tcl_run.specs.Ends.{Interrupts, failing}
 use Rattle.tcl_run.specs.declared.interruption.Interruption.{Interruption}
 use Rattle.tcl_run.specs.declared.interruption.Interruption.TheVariants as interruption
-use Rattle.tcl_tree.specs.Naming as tree
 use Rattle.tcl_interpreter.specs.declared.command.Command.{Command}
 use Rattle.tcl_interpreter.specs.declared.command.Command.TheVariants as command
 use Rattle.tcl_interpreter.specs.declared.refusal.TreeError.{TreeError}

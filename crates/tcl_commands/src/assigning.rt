@@ -17,7 +17,7 @@ use tcl_tree::tree::{Place, Tree};
 use tcl_value::value::Value;
 
 /// `lassign list ?varName ...?`: sets variables to the elements of a list, from the left, and to
-/// empty values where none is left; gives the elements that are left.
+/// empty values where none is left; gives the elements that are left. (lassign(n))
 ///
 /// # Errors
 /// 241; 101 to 104 of the list; 232, 233 and 238 of the first variable that is refused; want of

@@ -179,7 +179,7 @@ fn change_named(
 }
 
 /// `lset varName ?index ...? newValue`: another element stands where the indexes lead in the list
-/// of a variable. The place behind the last element adds one.
+/// of a variable. The place behind the last element adds one. (lset(n))
 ///
 /// # Errors
 /// 241; 231 to 234 and 238; 101 to 104, 114 and 243, which leave the variable as it was; 122; want
@@ -205,7 +205,7 @@ pub fn lset(
 }
 
 /// `dict set varName key ?key ...? value`: another value stands where the keys lead in the dict of
-/// a variable. A key that is missing is new, and stands last.
+/// a variable. A key that is missing is new, and stands last. (dict(n))
 ///
 /// # Errors
 /// 241; 232 to 234 and 238; 101 to 104 and 121, which leave the variable as it was; 122; want of
@@ -229,7 +229,7 @@ pub fn dict_set(
 }
 
 /// `dict unset varName key ?key ...?`: the dict to which the keys before the last one lead, in that
-/// of a variable, is without the last.
+/// of a variable, is without the last. (dict(n))
 ///
 /// # Errors
 /// 241; 232 to 234 and 238; 101 to 104, 121 and 242, which leave the variable as it was; 122; want
@@ -254,7 +254,7 @@ pub fn dict_unset(
 }
 
 /// `dict incr varName key ?increment?`: the integer of a key, which is 0 where it is missing, has
-/// the increment added, which is 1 where none is given.
+/// the increment added, which is 1 where none is given. (dict(n))
 ///
 /// # Errors
 /// 241; 232 to 234 and 238; 101 to 104, 121, 111, 112 and 212, which leave the variable as it was;
@@ -279,7 +279,7 @@ pub fn dict_incr(
 }
 
 /// `dict append varName key ?string ...?`: the value of a key, which is empty where it is missing,
-/// has the strings behind it.
+/// has the strings behind it. (dict(n))
 ///
 /// # Errors
 /// 241; 232 to 234 and 238; 101 to 104 and 121, which leave the variable as it was; 122; want of
@@ -304,7 +304,7 @@ pub fn dict_append(
 }
 
 /// `dict lappend varName key ?value ...?`: the list of a key, which is empty where it is missing,
-/// has the values behind its elements.
+/// has the values behind its elements. (dict(n))
 ///
 /// # Errors
 /// 241; 232 to 234 and 238; 101 to 104 and 121, which leave the variable as it was; 122; want of

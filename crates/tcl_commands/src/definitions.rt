@@ -160,6 +160,7 @@ fn read_body(alloc: Global, body: &Value) -> Result<Value, AllocError>
 }
 
 /// `proc name args body`: makes a name a procedure, whose parameters are read from a list.
+/// (proc(n))
 ///
 /// # Errors
 /// 241; 238 and 302 of the name; 101 to 104 and 238 of the parameters; want of memory.

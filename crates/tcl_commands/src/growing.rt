@@ -197,7 +197,7 @@ pub(crate) fn grow_variable(
 }
 
 /// `append varName ?value ...?`: adds values to the text of a variable, which is empty where there
-/// is none. With no value the variable is read.
+/// is none. With no value the variable is read. (append(n))
 ///
 /// # Errors
 /// 241; 231 to 234 and 238; 122; want of memory.
@@ -225,7 +225,7 @@ pub fn append(
 }
 
 /// `lappend varName ?value ...?`: adds elements to the list of a variable, which is empty where
-/// there is none.
+/// there is none. (lappend(n))
 ///
 /// # Errors
 /// 241; 232, 233 and 238; 101 to 104; 122; want of memory.

@@ -259,7 +259,7 @@ fn subcommand(
     procedures::subcommand(tree, alloc, place, word, args)
 }
 
-/// `info subcommand ?arg ...?`: what a subcommand tells of the interpreter.
+/// `info subcommand ?arg ...?`: what a subcommand tells of the interpreter. (info(n))
 ///
 /// # Errors
 /// 244 of the subcommand; 241; of `exists` 238; of `level` 111, 112 and 235; of `args`, `body` and

@@ -61,7 +61,7 @@ fn link_all(
 }
 
 /// `upvar ?level? otherVar localVar ?otherVar localVar ...?`: makes local names links to what other
-/// names are at a level, which is that of the caller where none is named.
+/// names are at a level, which is that of the caller where none is named. (upvar(n))
 ///
 /// # Errors
 /// 241; 235 of the level; of each pair in turn, 238, 237, 233 and 236; want of memory.
@@ -126,6 +126,7 @@ fn global_all(
 }
 
 /// `global ?varName ...?`: makes local names links to global variables, and at level 0 nothing.
+/// (global(n))
 ///
 /// # Errors
 /// Of each name in turn, 238, 237 and 236; want of memory.

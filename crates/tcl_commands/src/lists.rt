@@ -21,7 +21,7 @@ use tcl_search_and_sort::{searching, sorting};
 use tcl_tree::tree::{Place, Tree};
 use tcl_value::value::Value;
 
-/// `list ?arg ...?`: the list of the words.
+/// `list ?arg ...?`: the list of the words. (list(n))
 pub fn list(
     tree: &mut Tree,
     alloc: Global,
@@ -34,7 +34,7 @@ pub fn list(
     answered(alloc, commands::list(alloc, args))
 }
 
-/// `llength list`: how many elements a list has.
+/// `llength list`: how many elements a list has. (llength(n))
 pub fn llength(
     tree: &mut Tree,
     alloc: Global,
@@ -48,6 +48,7 @@ pub fn llength(
 }
 
 /// `lindex list ?index ...?`: what stands at an index, at the next index of that, and so on.
+/// (lindex(n))
 pub fn lindex(
     tree: &mut Tree,
     alloc: Global,
@@ -61,7 +62,7 @@ pub fn lindex(
     answered(alloc, indexes::lindex(alloc, tree.integers(), args))
 }
 
-/// `lrange list first last`: the elements from one index to another.
+/// `lrange list first last`: the elements from one index to another. (lrange(n))
 pub fn lrange(
     tree: &mut Tree,
     alloc: Global,
@@ -75,7 +76,7 @@ pub fn lrange(
     answered(alloc, commands::lrange(alloc, tree.integers(), args))
 }
 
-/// `linsert list index ?element ...?`: the list with elements before an index.
+/// `linsert list index ?element ...?`: the list with elements before an index. (linsert(n))
 pub fn linsert(
     tree: &mut Tree,
     alloc: Global,
@@ -90,7 +91,7 @@ pub fn linsert(
 }
 
 /// `lreplace list first last ?element ...?`: the list with elements in the place of those between
-/// two indexes.
+/// two indexes. (lreplace(n))
 pub fn lreplace(
     tree: &mut Tree,
     alloc: Global,
@@ -104,7 +105,7 @@ pub fn lreplace(
     answered(alloc, commands::lreplace(alloc, tree.integers(), args))
 }
 
-/// `lrepeat count ?value ...?`: the list of the words, as often as a count says.
+/// `lrepeat count ?value ...?`: the list of the words, as often as a count says. (lrepeat(n))
 pub fn lrepeat(
     tree: &mut Tree,
     alloc: Global,
@@ -118,7 +119,7 @@ pub fn lrepeat(
     answered(alloc, lengthening::lrepeat(alloc, tree.integers(), args))
 }
 
-/// `lreverse list`: the elements from the last to the first.
+/// `lreverse list`: the elements from the last to the first. (lreverse(n))
 pub fn lreverse(
     tree: &mut Tree,
     alloc: Global,
@@ -132,6 +133,7 @@ pub fn lreverse(
 }
 
 /// `concat ?arg ...?`: the words without white space at their ends, with a space between any two.
+/// (concat(n))
 pub fn concat(
     tree: &mut Tree,
     alloc: Global,
@@ -144,7 +146,7 @@ pub fn concat(
     answered(alloc, joining::concat(alloc, args))
 }
 
-/// `join list ?joinString?`: the elements of a list with a text between any two.
+/// `join list ?joinString?`: the elements of a list with a text between any two. (join(n))
 pub fn join(
     tree: &mut Tree,
     alloc: Global,
@@ -157,7 +159,7 @@ pub fn join(
     answered(alloc, joining::join(alloc, args))
 }
 
-/// `split string ?splitChars?`: the list of the parts of a text between characters.
+/// `split string ?splitChars?`: the list of the parts of a text between characters. (split(n))
 pub fn split(
     tree: &mut Tree,
     alloc: Global,
@@ -171,6 +173,7 @@ pub fn split(
 }
 
 /// `lsearch ?option ...? list pattern`: where the pattern is found in a list, or what fits it.
+/// (lsearch(n))
 pub fn lsearch(
     tree: &mut Tree,
     alloc: Global,
@@ -183,7 +186,7 @@ pub fn lsearch(
     answered(alloc, searching::lsearch(alloc, args))
 }
 
-/// `lsort ?option ...? list`: the elements in order.
+/// `lsort ?option ...? list`: the elements in order. (lsort(n))
 pub fn lsort(
     tree: &mut Tree,
     alloc: Global,

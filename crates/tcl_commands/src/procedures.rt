@@ -146,7 +146,7 @@ fn set_default(
 }
 
 /// Sets a variable to the default that was found of a parameter.
-fn tell_default(
+fn store_default(
     tree: &mut Tree,
     alloc: Global,
     place: Place,
@@ -156,7 +156,7 @@ fn tell_default(
 ) -> Result<Value, Interruption>
     requires { (p : Path) × Names tree.old place p }
     ensures acts { Acts tree.old place
-        (λ style. procedures.tells_default name.now variable.now found) tree.new result }
+        (λ style. procedures.stores_default name.now variable.now found) tree.new result }
     ensures level { IsLevel tree.old tree.new }
 {
     match found {
@@ -183,7 +183,7 @@ fn default_of(
             let procedure = procedure_of(tree, alloc, place, name)?;
             let wanted = parameter.text(alloc)?;
             let found = default_in(&wanted, procedure.parameters())?;
-            tell_default(tree, alloc, place, parameter, variable, found)
+            store_default(tree, alloc, place, parameter, variable, found)
         }
         _ => Err(wrong_args(alloc, "info default procname arg varname")),
     }
@@ -213,9 +213,9 @@ fn is_procedure(command: &Command) -> bool
     }
 }
 
-/// Whether the name of a command is told: of procedures alone, or of all.
-fn is_told(only_procedures: bool, command: &Command) -> bool
-    ensures { result ≡ procedures.is_told only_procedures command.now }
+/// Whether the name of a command is listed: of procedures alone, or of all.
+fn is_listed(only_procedures: bool, command: &Command) -> bool
+    ensures { result ≡ procedures.is_listed only_procedures command.now }
 {
     !only_procedures || is_procedure(command)
 }
@@ -230,12 +230,12 @@ fn is_taken(pattern: Option<&Text>, name: &Text) -> bool
     }
 }
 
-/// Whether the name of a command is told that a pattern takes.
+/// Whether the name of a command is listed, and a pattern takes it.
 fn is_wanted(only_procedures: bool, pattern: Option<&Text>, name: &Text, command: &Command) -> bool
-    ensures { result ≡ (procedures.is_told only_procedures command.now &&
+    ensures { result ≡ (procedures.is_listed only_procedures command.now &&
         procedures.is_taken (option_copied pattern.entry) name.now) }
 {
-    is_told(only_procedures, command) && is_taken(pattern, name)
+    is_listed(only_procedures, command) && is_taken(pattern, name)
 }
 
 /// Adds a name, if it is wanted.
@@ -249,7 +249,7 @@ fn push_if(names: &mut Vec<Text>, is_wanted: bool, name: &Text) -> Result<(), Al
     Ok(())
 }
 
-/// Adds the name of the command at a place in their order, if it is told.
+/// Adds the name of the command at a place in their order, if it is wanted.
 fn push_name_at(
     names: &mut Vec<Text>,
     commands: &Commands,
@@ -259,29 +259,29 @@ fn push_name_at(
 ) -> Result<(), AllocError>
     requires { index < length commands.now.entries }
     ensures { OnOk result
-        (names.new.items ++ procedures.names_told only_procedures (option_copied pattern.entry)
+        (names.new.items ++ procedures.listed_names only_procedures (option_copied pattern.entry)
         (drop (index + 1) commands.now.entries)
-        ≡ names.old.items ++ procedures.names_told only_procedures (option_copied pattern.entry)
+        ≡ names.old.items ++ procedures.listed_names only_procedures (option_copied pattern.entry)
         (drop index commands.now.entries)) }
 {
     match commands.get_index(index) {
         Some((name, command)) => {
-            let told = is_wanted(only_procedures, pattern, name, command);
-            push_if(names, told, name)
+            let wanted = is_wanted(only_procedures, pattern, name, command);
+            push_if(names, wanted, name)
         }
         None => unreachable!(),
     }
 }
 
-/// The names that are told of commands, in the order in which these were made.
-fn names_told(
+/// The names of commands that are wanted, in the order in which these were made.
+fn listed_names(
     alloc: Global,
     commands: &Commands,
     only_procedures: bool,
     pattern: Option<&Text>,
 ) -> Result<Vec<Text>, AllocError>
     ensures { IfOk result (λ names. names.items
-        ≡ procedures.names_told only_procedures (option_copied pattern.entry)
+        ≡ procedures.listed_names only_procedures (option_copied pattern.entry)
         commands.now.entries) }
 {
     let mut names = Vec::new(alloc);
@@ -305,7 +305,7 @@ fn listed(
         result }
 {
     let commands = commands_seen(tree, place);
-    let names = names_told(alloc, commands, only_procedures, pattern)?;
+    let names = listed_names(alloc, commands, only_procedures, pattern)?;
     list_value(alloc, names.as_slice())
 }
 
@@ -346,7 +346,8 @@ fn complete(tree: &Tree, alloc: Global, place: Place, args: &[Value]) -> Result<
     }
 }
 
-/// What a subcommand of `info` tells of procedures, of the names of commands, and of scripts.
+/// `info subcommand ?arg ...?`: what there is to know of procedures, of the names of commands, and
+/// of scripts. (info(n))
 ///
 /// # Errors
 /// 244 of the subcommand; 241; 238 and 246 of a procedure; of `default` 238 of the parameter, and

@@ -35,7 +35,7 @@ fn format_value(alloc: Global, style: Integers, args: &[Value]) -> Result<Value,
     Ok(answer_value(answer))
 }
 
-/// `string subcommand ?arg ...?`: what a subcommand makes of texts.
+/// `string subcommand ?arg ...?`: what a subcommand makes of texts. (string(n))
 pub fn string(
     tree: &mut Tree,
     alloc: Global,
@@ -49,7 +49,7 @@ pub fn string(
     answered(alloc, string_value(alloc, tree.integers(), args))
 }
 
-/// `format formatString ?arg ...?`: a text with values in the place of its specifiers.
+/// `format formatString ?arg ...?`: a text with values in the place of its specifiers. (format(n))
 pub fn format(
     tree: &mut Tree,
     alloc: Global,

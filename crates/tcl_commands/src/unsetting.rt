@@ -44,7 +44,7 @@ fn unset_all(
 }
 
 /// `unset ?-nocomplain? ?--? ?name ...?`: unsets variables from the left, up to the first that is
-/// refused. With `-nocomplain` only names that no variable may have are refused.
+/// refused. With `-nocomplain` only names that no variable may have are refused. (unset(n))
 ///
 /// # Errors
 /// 231, 233, 234 and 238; want of memory.

@@ -15,6 +15,7 @@ use tcl_tree::tree::{Place, Tree};
 use tcl_value::value::Value;
 
 /// `set varName ?newValue?`: what a variable holds, after it is set where there is a value for it.
+/// (set(n))
 ///
 /// # Errors
 /// 241; 231 to 234 and 238; want of memory.
@@ -43,6 +44,7 @@ pub fn set(
 }
 
 /// `incr varName ?increment?`: adds to the integer of a variable, which is 0 where there is none.
+/// (incr(n))
 ///
 /// # Errors
 /// 241; 232, 233 and 238; 111 and 112 of the variable and then of the increment; 113 of the sum;

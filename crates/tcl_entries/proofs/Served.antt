@@ -11,7 +11,7 @@ use Rattle.tcl_core.specs.Endings.Reply.{Completed}
 use Rattle.tcl_core.specs.Paths.{Text, Path, strip}
 use Rattle.tcl_core.specs.Programs as programs
 use Rattle.tcl_core.specs.Programs.{Deed, spot, making}
-use Rattle.tcl_core.specs.Programs.Act.{Look, Make, Limit, LimitDepth}
+use Rattle.tcl_core.specs.Programs.Act.{Look, Limit, LimitDepth}
 use Rattle.tcl_core.specs.Programs.Next.{On}
 use Rattle.tcl_core.specs.Programs.Prog.{done, act}
 use Rattle.tcl_core.specs.Execution.{completed, event}
@@ -40,7 +40,7 @@ use Rattle.tcl_text.specs.declared.integer.Integers.{Integers}
 use Rattle.tcl_text.specs.Writing.{written_list}
 use Rattle.tcl_tree.specs.Changes.{MayMake, Makes, RefusesMake, Drops, RefusesDrop, MayDeepen, RefusesToDeepen}
 use Rattle.tcl_tree.specs.Naming as tree
-use Rattle.tcl_tree.specs.Naming.{Becomes, Refuses, RefusesNaming}
+use Rattle.tcl_tree.specs.Naming.{Becomes, RefusesNaming}
 use Rattle.tcl_tree.specs.Own.{Own, new_own, with_new_child, without_old_child, command_in}
 use Rattle.tcl_tree.specs.TreeOf.{tree_of, Names}
 use Rattle.tcl_interpreter.specs.declared.refusal.TreeError.{TreeError}

@@ -493,13 +493,13 @@ module _ (P : Demands) (F : Facts P) where
   info_body (name ∷ []) = by_procedure name _ (λ p. tt)
   info_body _ = tt
 
-  tells_default : (name variable : Text) (o : Option (Option Text)) → Holds (procedures.tells_default name variable o)
-  tells_default name variable None = tt
-  tells_default name variable (Some None) = by_sets variable [] _ tt
-  tells_default name variable (Some (Some text)) = by_sets variable text _ tt
+  stores_default : (name variable : Text) (o : Option (Option Text)) → Holds (procedures.stores_default name variable o)
+  stores_default name variable None = tt
+  stores_default name variable (Some None) = by_sets variable [] _ tt
+  stores_default name variable (Some (Some text)) = by_sets variable text _ tt
 
   info_default : (args : List Text) → Holds (procedures.default_of args)
-  info_default (name ∷ parameter ∷ variable ∷ []) = by_procedure name _ (λ p. tells_default parameter variable (procedures.default_in parameter p.parameters))
+  info_default (name ∷ parameter ∷ variable ∷ []) = by_procedure name _ (λ p. stores_default parameter variable (procedures.default_in parameter p.parameters))
   info_default _ = tt
 
   command_names : (b : Bool) (form : Text) (args : List Text) → Holds (procedures.names b form args)

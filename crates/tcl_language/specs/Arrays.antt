@@ -1,5 +1,5 @@
 -- `array`, which reads and changes whole arrays. What is no array reads as one with no elements.
-use Rattle.std.specs.Prelude.{Bool, List, [], ◌∷◌, length, Option, Some, None, Result, codes}
+use Rattle.std.specs.Prelude.{List, [], ◌∷◌, length, Option, Some, None, Result, codes}
 use Rattle.std.specs.Fmt.{decimal}
 use Rattle.std.specs.Map.{keys_of}
 use Rattle.std.specs.Str.{bytes_eq}

@@ -53,7 +53,8 @@ named own x c = by_name (command_name x) x
 -- the name by which a procedure may be kept: one of a command, and no child's
 abbrev pub definable_as : Own → Text → Option Text → Result Text (TreeError × Text)
 definable_as own x None = Err (BadName, x)
-definable_as own x (Some plain) = cond (is_child (command_in own plain)) (Err (Exists, x)) (Ok plain)
+definable_as own x (Some plain) =
+    cond (is_child (command_in own plain)) (Err (Exists, x)) (Ok plain)
 
 abbrev pub definable : Own → Text → Result Text (TreeError × Text)
 definable own x = definable_as own x (command_name x)

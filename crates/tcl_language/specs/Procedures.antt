@@ -62,15 +62,15 @@ default_in name [] = None
 default_in name (p ∷ ps) = cond (bytes_eq name p.name) (Some p.default) (default_in name ps)
 
 -- the variable is set to the default, or to the empty text where there is none
-abbrev pub tells_default : Text → Text → Option (Option Text) → Program
-tells_default name variable None = fails (bad_name name)
-tells_default name variable (Some None) = sets variable [] (done (ok (codes "0")))
-tells_default name variable (Some (Some text)) = sets variable text (done (ok (codes "1")))
+abbrev pub stores_default : Text → Text → Option (Option Text) → Program
+stores_default name variable None = fails (bad_name name)
+stores_default name variable (Some None) = sets variable [] (done (ok (codes "0")))
+stores_default name variable (Some (Some text)) = sets variable text (done (ok (codes "1")))
 
 -- `info default procname arg varname`
 abbrev pub default_of : List Text → Program
 default_of (name ∷ parameter ∷ variable ∷ []) = with_procedure name
-    (λ p. tells_default parameter variable (default_in parameter p.parameters))
+    (λ p. stores_default parameter variable (default_in parameter p.parameters))
 default_of _ = fails (wrong_args (codes "info default procname arg varname"))
 
 -- ## Names of commands
@@ -81,26 +81,26 @@ is_procedure (command.Procedure p) = true
 is_procedure (command.Alias a) = false
 is_procedure command.Child = false
 
--- which names are told: those of procedures alone, or all
-abbrev pub is_told : Bool → Command → Bool
-is_told true c = is_procedure c
-is_told false c = true
+-- which names are listed: those of procedures alone, or all
+abbrev pub is_listed : Bool → Command → Bool
+is_listed true c = is_procedure c
+is_listed false c = true
 
 -- whether a pattern takes a name; where there is none, each is taken
 abbrev pub is_taken : Option Text → Text → Bool
 is_taken None name = true
 is_taken (Some pattern) name = is_match false pattern name
 
--- the names that are told of commands, in the order in which these were made
-abbrev pub names_told : Bool → Option Text → CommandMap → List Text
-names_told procedures pattern [] = []
-names_told procedures pattern (e ∷ es) = kept_if
-    (is_told procedures e.1 && is_taken pattern e.0) e.0 (names_told procedures pattern es)
+-- the names of commands that are listed, in the order in which these were made
+abbrev pub listed_names : Bool → Option Text → CommandMap → List Text
+listed_names procedures pattern [] = []
+listed_names procedures pattern (e ∷ es) = kept_if
+    (is_listed procedures e.1 && is_taken pattern e.0) e.0 (listed_names procedures pattern es)
 
 -- they are those of the commands that aren't hidden
 abbrev pub listed : Bool → Option Text → Program
 listed procedures pattern = look
-    (λ n. gives (written_list (names_told procedures pattern n.own.commands)))
+    (λ n. gives (written_list (listed_names procedures pattern n.own.commands)))
 
 -- `info commands|procs ?pattern?`
 abbrev pub names : Bool → Text → List Text → Program

@@ -12,7 +12,7 @@ use Rattle.tcl_language.proofs.Commands as commands
 use Rattle.tcl_language.proofs.Everywhere.{Goes}
 use Rattle.tcl_language.proofs.Facts.{Facts, Names, OwnFacts, Served, any_named, any_own}
 use Rattle.tcl_language.specs.Naming as naming
-use Rattle.tcl_language.specs.Naming.{Named, by_name, keeps_child, command_name, named, exposed_as}
+use Rattle.tcl_language.specs.Naming.{Named, by_name, command_name, named, exposed_as}
 use Rattle.tcl_language.specs.Instructions.{Instr}
 use Rattle.tcl_language.specs.Instructions.Instr.{Hidden, Invoke, Serve}
 use Rattle.tcl_language.specs.Safety.{is_host, is_plain, are_plain, plain, is_quiet, is_modest}

@@ -19,7 +19,7 @@ use Rattle.tcl_core.specs.Runs.{carried, reached, entering}
 use Rattle.tcl_core.specs.Execution.{Executes, Decides, Opens_so}
 use Rattle.tcl_core.specs.Execution.Executes.{completed, exited, acted as acts, refused, went, passed, wrapped as wraps, wrapped_passed, too_deep, shut, called, called_passed, unreached, called_out, heard}
 use Rattle.tcl_language.specs.Playing as playing
-use Rattle.tcl_language.specs.Playing.{Played, play, Any, PlayIsRun}
+use Rattle.tcl_language.specs.Playing.{Played, play, Any}
 
 module _ {O I : Type 0} (prog : Table O I) where
   abbrev Goes : Tree O → Place → Prog O I → Tree O → Reply → Type 0

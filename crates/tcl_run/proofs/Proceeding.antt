@@ -19,7 +19,7 @@ use Rattle.tcl_core.specs.Programs.Next.{On}
 use Rattle.tcl_core.specs.Programs.Prog.{done, exit, act, go, inside, call, wait}
 use Rattle.tcl_core.specs.Rules.{IsOn, IsNoExit}
 use Rattle.tcl_core.specs.Runs.{Ending, carried, entering, is_own, where_stands}
-use Rattle.tcl_core.specs.Execution.{Crossings, Decides, Opens_so, event}
+use Rattle.tcl_core.specs.Execution.{Crossings, Decides, event}
 use Rattle.tcl_core.specs.Execution as executes
 use Rattle.tcl_tree.specs.Own.{Own}
 use Rattle.tcl_language.specs.Instructions.{Instr, Program, look, change, at_node, or_fails, grown, either, fits, too_long as too_long_error}

@@ -3,7 +3,7 @@ use Rattle.tcl_core.specs.Entries.Entry.{Ask}
 use Rattle.tcl_core.specs.Entries.Question.{AliasOf}
 use Rattle.tcl_core.specs.Programs.Prog.{done}
 use Rattle.tcl_language.specs.Interpreters as interpreters
-use Rattle.tcl_language.specs.Interpreters.{asks_at, child_form, child_path}
+use Rattle.tcl_language.specs.Interpreters.{asks_at}
 use Rattle.tcl_entries.proofs.Telling.{evaluates_as}
 use Rattle.tcl_child_commands.proofs.alias.alias_of.Goals as goal
 

@@ -2,7 +2,7 @@ use Rattle.std.proofs.Common.{[], ◌∷◌, sym}
 use Rattle.tcl_core.specs.Entries.Entry.{ClearAlias}
 use Rattle.tcl_core.specs.Programs.Prog.{done}
 use Rattle.tcl_language.specs.Interpreters as interpreters
-use Rattle.tcl_language.specs.Interpreters.{asks_at, child_form, child_path}
+use Rattle.tcl_language.specs.Interpreters.{asks_at}
 use Rattle.tcl_entries.proofs.Telling.{evaluates_as}
 use Rattle.tcl_child_commands.proofs.alias.clear_alias.Goals as goal
 

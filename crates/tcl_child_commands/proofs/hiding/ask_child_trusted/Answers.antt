@@ -3,7 +3,7 @@ use Rattle.std.proofs.lemmas.Result.{err_from_is_err_and}
 use Rattle.tcl_core.specs.Paths.{Path}
 use Rattle.tcl_core.specs.Programs.Prog.{done}
 use Rattle.tcl_language.specs.Interpreters as interpreters
-use Rattle.tcl_language.specs.Interpreters.{asks_at, child_form, child_path}
+use Rattle.tcl_language.specs.Interpreters.{asks_at, child_path}
 use Rattle.tcl_run.proofs.Endings.{Interrupts-more}
 use Rattle.tcl_run.specs.Entering.{entry_of}
 use Rattle.tcl_entries.specs.Looking.{GetsToEnd}

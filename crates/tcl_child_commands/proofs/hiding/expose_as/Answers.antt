@@ -1,7 +1,7 @@
 use Rattle.std.proofs.Common.{sym}
 use Rattle.tcl_core.specs.Entries.Entry.{Expose}
 use Rattle.tcl_language.specs.Interpreters as interpreters
-use Rattle.tcl_language.specs.Interpreters.{asks_at, child_form, child_path}
+use Rattle.tcl_language.specs.Interpreters.{child_path}
 use Rattle.tcl_entries.proofs.Telling.{evaluates_as}
 use Rattle.tcl_child_commands.proofs.hiding.expose_as.Goals as goal
 

@@ -5,7 +5,7 @@ use Rattle.tcl_core.specs.Entries.Question.{CountLimitOf}
 use Rattle.tcl_core.specs.Paths.{Path}
 use Rattle.tcl_core.specs.Programs.Prog.{done}
 use Rattle.tcl_language.specs.Interpreters as interpreters
-use Rattle.tcl_language.specs.Interpreters.{asks_at, child_form, child_path}
+use Rattle.tcl_language.specs.Interpreters.{asks_at}
 use Rattle.tcl_run.proofs.Endings.{Interrupts-more}
 use Rattle.tcl_entries.specs.Looking.{GetsToEnd}
 use Rattle.tcl_entries.proofs.Looks.{gets_evaluates, passes_evaluates}

@@ -4,7 +4,7 @@ use Rattle.tcl_core.specs.Paths.{Path}
 use Rattle.tcl_core.specs.Programs.Prog.{done}
 use Rattle.tcl_language.specs.Faults.{wrong_args}
 use Rattle.tcl_language.specs.Interpreters as interpreters
-use Rattle.tcl_language.specs.Interpreters.{asks_at, child_form, child_path}
+use Rattle.tcl_language.specs.Interpreters.{asks_at, child_form}
 use Rattle.tcl_run.specs.Entering.{question_of}
 use Rattle.tcl_entries.proofs.Telling.{evaluates_as, fails_told}
 use Rattle.tcl_child_commands.proofs.Forms as forms

@@ -1,7 +1,6 @@
 use Rattle.std.proofs.Common.{length}
 use Rattle.tcl_language.specs.Faults.{wrong_args}
 use Rattle.tcl_language.specs.Interpreters as interpreters
-use Rattle.tcl_language.specs.Interpreters.{asks_at}
 use Rattle.tcl_entries.proofs.Telling.{evaluates_as, fails_told}
 use Rattle.std.proofs.Common.{take, drop, ◌-◌}
 use Rattle.tcl_entries.proofs.Telling.{alias_few, alias_many}

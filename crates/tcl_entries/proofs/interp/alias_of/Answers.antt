@@ -3,7 +3,6 @@ use Rattle.tcl_core.specs.Entries.Entry.{Ask}
 use Rattle.tcl_core.specs.Entries.Question.{AliasOf}
 use Rattle.tcl_core.specs.Paths.{Text}
 use Rattle.tcl_language.specs.Interpreters as interpreters
-use Rattle.tcl_language.specs.Interpreters.{asks_at}
 use Rattle.tcl_entries.proofs.Telling.{evaluates_as}
 use Rattle.tcl_entries.proofs.interp.alias_of.Goals as goal
 

@@ -3,7 +3,6 @@ use Rattle.tcl_core.specs.Entries.Entry.{ClearAlias}
 use Rattle.tcl_core.specs.Paths.{Text}
 use Rattle.tcl_language.specs.Faults.{wrong_args}
 use Rattle.tcl_language.specs.Interpreters as interpreters
-use Rattle.tcl_language.specs.Interpreters.{asks_at}
 use Rattle.tcl_entries.proofs.Telling.{evaluates_as, fails_told}
 use Rattle.tcl_entries.proofs.Looks.{untrue}
 use Rattle.tcl_entries.proofs.Telling.{alias_short}

@@ -1,7 +1,6 @@
 use Rattle.std.proofs.Common.{sym}
 use Rattle.tcl_core.specs.Entries.Entry.{Expose}
 use Rattle.tcl_language.specs.Interpreters as interpreters
-use Rattle.tcl_language.specs.Interpreters.{asks_at}
 use Rattle.tcl_entries.proofs.Telling.{evaluates_as}
 use Rattle.tcl_entries.proofs.interp.expose_as.Goals as goal
 

@@ -2,7 +2,6 @@ use Rattle.std.proofs.lemmas.Result.{err_from_is_err_and}
 use Rattle.tcl_core.specs.Programs.Act.{Look}
 use Rattle.tcl_core.specs.Programs.Prog.{act}
 use Rattle.tcl_language.specs.Interpreters as interpreters
-use Rattle.tcl_language.specs.Interpreters.{asks_at}
 use Rattle.tcl_run.proofs.Endings.{Interrupts-more}
 use Rattle.tcl_entries.specs.Looking.{GetsToEnd}
 use Rattle.tcl_entries.specs.Telling.{limits_to, limits_below}

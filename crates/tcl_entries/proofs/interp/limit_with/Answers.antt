@@ -1,7 +1,6 @@
 use Rattle.std.proofs.Common.{[], ◌∷◌}
 use Rattle.std.proofs.lemmas.Result.{err_from_is_err_and}
 use Rattle.tcl_language.specs.Interpreters as interpreters
-use Rattle.tcl_language.specs.Interpreters.{asks_at}
 use Rattle.tcl_run.proofs.Endings.{Interrupts-more}
 use Rattle.tcl_entries.specs.Looking.{GetsToEnd}
 use Rattle.tcl_entries.proofs.Looks.{gets_evaluates, passes_evaluates}

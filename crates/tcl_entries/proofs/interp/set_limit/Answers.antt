@@ -3,7 +3,6 @@ use Rattle.std.proofs.lemmas.Result.{err_from_is_err_and}
 use Rattle.tcl_core.specs.Paths.{Path}
 use Rattle.tcl_language.specs.Instructions.{or_fails}
 use Rattle.tcl_language.specs.Interpreters as interpreters
-use Rattle.tcl_language.specs.Interpreters.{asks_at}
 use Rattle.tcl_run.specs.Runs.{Evaluates}
 use Rattle.tcl_run.proofs.Endings.{Interrupts-more}
 use Rattle.tcl_text.specs.Lists.{list_of}

@@ -1,5 +1,4 @@
 use Rattle.tcl_language.specs.Interpreters as interpreters
-use Rattle.tcl_language.specs.Interpreters.{asks_at}
 use Rattle.tcl_core.specs.Entries.Entry.{Ask}
 use Rattle.tcl_run.specs.Entering.{question_of}
 use Rattle.tcl_entries.specs.Telling.{asked_of}

@@ -1,7 +1,6 @@
 use Rattle.std.proofs.Common.{◌∙◌, sym, ap}
 use Rattle.tcl_core.specs.Paths.{Text}
 use Rattle.tcl_language.specs.Interpreters as interpreters
-use Rattle.tcl_language.specs.Interpreters.{asks_at}
 use Rattle.tcl_run.specs.Entering.{entry_of}
 use Rattle.tcl_entries.specs.Telling.{asked_of}
 use Rattle.tcl_entries.proofs.Telling.{evaluates_as, fails_told, asked_none, asked_one, asked_more}

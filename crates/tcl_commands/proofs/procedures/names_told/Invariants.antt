@@ -1,7 +1,0 @@
-use Rattle.std.proofs.Common.{◌≡◌, ◌++◌, drop}
-use Rattle.std.specs.Option.{option_copied}
-use Rattle.tcl_language.specs.Procedures as procedures
-use Rattle.tcl_commands.proofs.procedures.names_told.Given as goal
-
-abbrev pub invariant-commands : goal.invariant-commands
-invariant-commands l = l.names.items ++ procedures.names_told l.only_procedures (option_copied l.pattern) (drop l.index l.commands.entries) ≡ procedures.names_told l.only_procedures (option_copied l.pattern) l.commands.entries
