@@ -1,6 +1,6 @@
 -- Which body the words of a `switch` choose.
-use Rattle.std.proofs.Common.{◌≡◌, ℕ, ◌-◌, ◌<◌, ◌≤◌, ◌%◌, ◌==◌, Bool, true, false, List, [], ◌∷◌, take, drop, get_or, length, Option, Some, None, refl, sym, ◌∙◌, ap, subst, arith}
-use Rattle.std.specs.Prelude.{Result, Ok, Err, codes, ◌||◌, ◌↔◌}
+use Rattle.std.proofs.Common.{◌≡◌, ℕ, ◌-◌, ◌<◌, ◌≤◌, ◌%◌, ◌⊎◌, inl, inr, Bool, true, false, List, [], ◌∷◌, ◌++◌, take, drop, get_or, length, Option, Some, None, refl, sym, ◌∙◌, ap, subst, arith}
+use Rattle.std.specs.Prelude.{Result, Ok, Err, codes, ◌==◌, ◌||◌, ◌↔◌}
 use Rattle.std.specs.Str.{bytes_eq}
 use Rattle.std.proofs.Math.Seq.{take-length}
 use Rattle.std.proofs.lemmas.Slice.Eq.{bytes_eq-Decides}
@@ -123,10 +123,11 @@ second_left (x ∷ y ∷ xs) b l e = (x, behind_two (x ∷ y ∷ xs) x b xs (ap 
 
 -- ## Words behind the options
 
-pub behind_rest : (manner : Manner) (words : List Text) (string : Text) (pairs : List Text) → words ≡ string ∷ pairs → (length pairs ≡ 1 → ⊥) → behind_options manner words ≡ among manner string pairs
-behind_rest manner words string [] is h = ap (behind_options manner) is
-behind_rest manner words string (a ∷ []) is h = absurd (h refl)
-behind_rest manner words string (a ∷ b ∷ pairs) is h = ap (behind_options manner) is
+pub behind_rest : (manner : Manner) (string : Text) (pairs : List Text) → (length pairs < 1) ⊎ (2 ≤ length pairs) → behind_options manner (string ∷ pairs) ≡ among manner string pairs
+behind_rest manner string [] h = refl
+behind_rest manner string (a ∷ []) (inl h) = absurd (omega arith)
+behind_rest manner string (a ∷ []) (inr h) = absurd (omega arith)
+behind_rest manner string (a ∷ b ∷ pairs) h = refl
 
 pub read_among : (manner : Manner) (string pairs : Text) (xs : List Text) → list_of pairs ≡ Ok xs → behind_options manner (string ∷ pairs ∷ []) ≡ among manner string xs
 read_among manner string pairs xs e = ap (among_read manner string) e
@@ -141,16 +142,25 @@ among_even manner string text pairs body even same is =
     ap (λ b. either b (Err (wrong_args switch_form)) (Ok (chosen (is_fit manner string) pairs))) (even_is pairs even)
     ∙ ap Ok (ap (λ t. chosen (is_fit manner t) pairs) (sym same) ∙ sym is)
 
-pub unread_among : (manner : Manner) (string pairs : Text) (e : Reply) → IsFailure fault_message (list_of pairs) e → IsFailure itself (behind_options manner (string ∷ pairs ∷ [])) e
+unread_among : (manner : Manner) (string pairs : Text) (e : Reply) → IsFailure fault_message (list_of pairs) e → IsFailure itself (behind_options manner (string ∷ pairs ∷ [])) e
 unread_among manner string pairs e h = by (list_of pairs) h
   where
     by : (r : Result (List Text) ListFault) → IsFailure fault_message r e → IsFailure itself (among_read manner string r) e
     by (Ok xs) f = absurd f
     by (Err g) f = f
 
+-- the same of a copy of that text
+pub unread_as : (manner : Manner) (string pairs own : Text) (e : Reply) → own ≡ pairs → IsFailure fault_message (list_of own) e → IsFailure itself (behind_options manner (string ∷ pairs ∷ [])) e
+unread_as manner string pairs own e same h = unread_among manner string pairs e (subst (λ (x : Text). IsFailure fault_message (list_of x) e) same h)
+
 -- what is given for the words that were read is given for all
 pub gave_as : (r s : Choice) (given : Result (Option Text) Interruption) → r ≡ s → Gave itself s given → Gave itself r given
 gave_as r s given same h = subst (λ (x : Choice). Gave itself x given) (sym same) h
+
+-- ## Words that are put into a slice
+
+pub filled : (before list made slice : List Text) → slice ≡ made → made ≡ before ++ list → before ≡ [] → list ≡ slice
+filled before list made slice same is none = sym (same ∙ is ∙ ap (λ (xs : List Text). xs ++ list) none)
 
 -- ## Texts
 

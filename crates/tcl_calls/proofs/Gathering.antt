@@ -1,5 +1,5 @@
 -- What a loop keeps of what its body gives.
-use Rattle.std.proofs.Common.{◌≡◌, ◌⊎◌, inl, inr, ℤ, zero, suc, pos, negsuc, ◌<◌, ◌≤◌, Bool, true, false, List, [], ◌∷◌, ◌++◌, length, refl, sym, ◌∙◌, ap, subst, arith}
+use Rattle.std.proofs.Common.{◌≡◌, inr, ℤ, zero, suc, pos, negsuc, ◌<◌, ◌≤◌, Bool, true, false, List, [], ◌∷◌, ◌++◌, length, refl, sym, ◌∙◌, ap, subst, arith}
 use Rattle.std.specs.Prelude.{Result, Ok, Err}
 use Rattle.std.specs.Global.{Box}
 use Rattle.std.proofs.lemmas.Bool.Decides.{nat_tests}
@@ -16,7 +16,7 @@ use Rattle.tcl_run.specs.declared.interruption.Interruption.{Interruption}
 use Rattle.tcl_run.specs.declared.interruption.Interruption.TheVariants as interruption
 use Rattle.tcl_run.proofs.Endings.{Interrupts-more}
 use Rattle.tcl_text.specs.Writing.{written_list}
-use Rattle.tcl_calls.specs.Collecting.{Collects, EndsTurn, GoesWith, Keeps}
+use Rattle.tcl_calls.specs.Collecting.{Collects, CollectsCompleted, EndsBehind, EndsTurn, GoesWith, Keeps}
 use Rattle.tcl_calls.specs.Turns.{EndsIn}
 use Rattle.tcl_calls.specs.Words.{EndsBy}
 
@@ -38,11 +38,16 @@ result_is : (c : Completion) (before : List Text) (value : Text) (b : Bool) (k :
 result_is c before value b k e f g =
     ap (λ n. after_result n c before k) e ∙ ap (λ (t : Text). either (fits (written_list (before ++ t ∷ []))) (k (before ++ t ∷ [])) (done too_long)) f ∙ ap (λ t. either t (k (before ++ value ∷ [])) (done too_long)) g
 
-pub kept_collects : (ended : Result Text Interruption) (c : Completion) (before after : List Text) (value : Text) (r : Result Bool Interruption) → EndsIn ended c → c.code ≡ pos 0 → c.text ≡ value → Keeps before after value r → Collects ended before after r
-kept_collects ended c before after value (Ok true) e a b h = (c, e, λ k. result_is c before value true k a b h.2 ∙ ap k (sym h.1))
-kept_collects ended c before after value (Ok false) e a b h = let clash : false ≡ true = h.0 in cc
-kept_collects ended c before after value (Err i) e a b h =
-    inr (c, e, Interrupts-more i _ _ (λ r f k. subst (λ (x : Program). EndsBy x r) (sym (result_is c before value false k a b f.0)) f.1) h)
+pub kept_with : (c : Completion) (before after : List Text) (value : Text) (r : Result Bool Interruption) → c.code ≡ pos 0 → c.text ≡ value → Keeps before after value r → CollectsCompleted c before after r
+kept_with c before after value (Ok true) a b h = λ k. result_is c before value true k a b h.2 ∙ ap k (sym h.1)
+kept_with c before after value (Ok false) a b h = let clash : false ≡ true = h.0 in cc
+kept_with c before after value (Err i) a b h =
+    Interrupts-more i (λ e. (fits (written_list (before ++ value ∷ [])) ≡ false) × (e ≡ Completed too_long)) (EndsBehind before c) (λ r f k. subst (λ (x : Program). EndsBy x r) (sym (result_is c before value false k a b f.0)) f.1) h
+
+-- what comes of the completion comes of the body
+pub gathered : (ended : Result Text Interruption) (c : Completion) (before after : List Text) (r : Result Bool Interruption) → EndsIn ended c → CollectsCompleted c before after r → Collects ended before after r
+gathered ended c before after (Ok on) e h = (c, e, h)
+gathered ended c before after (Err i) e h = inr (c, e, h)
 
 pub ends_in_text : (ended : Result Text Interruption) (text : Text) → ended ≡ Ok text → EndsIn ended (ok text)
 ends_in_text ended text is = subst (λ (x : Result Text Interruption). EndsIn x (ok text)) (sym is) refl
@@ -65,5 +70,13 @@ ends_so (pos (suc (suc (suc (suc zero))))) c made k a b d = absurd (d refl)
 ends_so (pos (suc (suc (suc (suc (suc n)))))) c made k a b d = refl
 ends_so (negsuc n) c made k a b d = refl
 
-pub ends_turn : (c : Completion) (made : List Text) → (c.code ≡ pos 0 → ⊥) → (c.code ≡ pos 3 → ⊥) → (c.code ≡ pos 4 → ⊥) → EndsTurn made (Completed c)
-ends_turn c made a b d = λ k. ends_so c.code c made k a b d
+pub ends_behind : (c : Completion) (made : List Text) → (c.code ≡ pos 0 → ⊥) → (c.code ≡ pos 3 → ⊥) → (c.code ≡ pos 4 → ⊥) → EndsBehind made c (Completed c)
+ends_behind c made a b d = λ k. subst (λ (x : Program). EndsBy x (Completed c)) (sym (ends_so c.code c made k a b d)) refl
+
+-- an end that is no completion
+pub ends_turn : (i : Interruption) (made : List Text) → ((d : Box TheCompletion) → i ≡ interruption.Completed d → ⊥) → Interrupts i (EndsTurn made)
+ends_turn interruption.Memory made h = tt
+ends_turn (interruption.Completed d) made h = absurd (h d refl)
+ends_turn (interruption.Stopped s) made h = tt
+ends_turn (interruption.Exited n) made h = tt
+ends_turn (interruption.Cut x) made h = tt

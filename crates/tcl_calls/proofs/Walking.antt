@@ -1,5 +1,5 @@
 -- How loops over lists are read, and how their variables are set.
-use Rattle.std.proofs.Common.{◌≡◌, ℕ, zero, suc, ◌+◌, ◌-◌, ◌*◌, ◌<◌, ◌≤◌, ◌%◌, true, false, List, [], ◌∷◌, ◌++◌, take, drop, get_or, length, refl, sym, ◌∙◌, ap, subst, arith}
+use Rattle.std.proofs.Common.{◌≡◌, ℕ, zero, suc, ◌+◌, ◌-◌, ◌*◌, ◌<◌, ◌≤◌, ◌%◌, ◌⊎◌, inl, inr, true, false, List, [], ◌∷◌, ◌++◌, take, drop, get_or, length, refl, sym, ◌∙◌, ap, subst, arith}
 use Rattle.std.specs.Prelude.{Result, Ok, Err, IsOkAnd, ◌&&◌, ◌==◌}
 use Rattle.std.proofs.lemmas.Bool.Decides.{nat_tests}
 use Rattle.std.proofs.Math.Seq.{drop-cons, take-length}
@@ -177,20 +177,13 @@ entries_misread names dict xs e read two h = λ k. subst (λ (x : Program). Ends
     by k (Ok es) g = elim g [ ]
     by k (Err m) g = g
 
--- three words
-pub three_words : (args : List Text) (a b c : Text) → 3 ≤ length args → length args < 4 → a ≡ get_or args 0 a → b ≡ get_or args 1 b → c ≡ get_or args 2 c → args ≡ a ∷ b ∷ c ∷ []
-three_words [] a b c l m e f g = absurd (omega arith)
-three_words (x ∷ []) a b c l m e f g = absurd (omega arith)
-three_words (x ∷ y ∷ []) a b c l m e f g = absurd (omega arith)
-three_words (x ∷ y ∷ z ∷ []) a b c l m e f g = λ i. sym e i ∷ sym f i ∷ sym g i ∷ []
-three_words (x ∷ y ∷ z ∷ w ∷ ws) a b c l m e f g = absurd (omega arith)
-
 pub dict_loop_on : (args : List Text) (names dict body : Text) (k : List Walk → Text → Program) → args ≡ names ∷ dict ∷ body ∷ [] → dict_loop args k ≡ entries_walk names dict (λ walk. k (walk ∷ []) body)
 dict_loop_on args names dict body k is = ap (λ (ws : List Text). dict_loop ws k) is
 
-pub dict_loop_none : (args : List Text) (k : List Walk → Text → Program) → (length args ≡ 3 → ⊥) → dict_loop args k ≡ fails (wrong_args dict_for_form)
+pub dict_loop_none : (args : List Text) (k : List Walk → Text → Program) → (length args < 3) ⊎ (4 ≤ length args) → dict_loop args k ≡ fails (wrong_args dict_for_form)
 dict_loop_none [] k h = refl
 dict_loop_none (x ∷ []) k h = refl
 dict_loop_none (x ∷ y ∷ []) k h = refl
-dict_loop_none (x ∷ y ∷ z ∷ []) k h = absurd (h refl)
+dict_loop_none (x ∷ y ∷ z ∷ []) k (inl h) = absurd (omega arith)
+dict_loop_none (x ∷ y ∷ z ∷ []) k (inr h) = absurd (omega arith)
 dict_loop_none (x ∷ y ∷ z ∷ w ∷ ws) k h = refl

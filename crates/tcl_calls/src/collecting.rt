@@ -1,12 +1,13 @@
 //! What a loop keeps of what its body gives.
-ghost use Rattle.tcl_calls.specs.Collecting.{Collects, Keeps};
+ghost use Rattle.tcl_calls.specs.Collecting.{Collects, CollectsCompleted, Keeps};
 ghost use Rattle.tcl_calls.specs.Words.{EndsBy};
+ghost use Rattle.tcl_flow.specs.View.{completion_of};
 ghost use Rattle.tcl_language.specs.Instructions.{gives};
 ghost use Rattle.tcl_run.specs.Ends.{IfEnded};
 ghost use Rattle.tcl_text.specs.Writing.{written_list};
 
 use std::alloc::Global;
-use tcl_flow::completion::{BREAK, CONTINUE, OK};
+use tcl_flow::completion::{BREAK, CONTINUE, Completion, OK};
 use tcl_run::failure::too_long;
 use tcl_run::interruption::Interruption;
 use tcl_value::list::List;
@@ -26,6 +27,30 @@ fn keep(alloc: Global, made: &mut List, value: Value) -> Result<bool, Interrupti
     }
 }
 
+/// Whether a loop goes on after its body completed so, with what an ordinary end gave added to what
+/// it keeps.
+///
+/// # Errors
+/// Every other completion; that the list is too long for a value; want of memory.
+fn collects_completed(
+    alloc: Global,
+    made: &mut List,
+    completion: Box<Completion>,
+) -> Result<bool, Interruption>
+    ensures { CollectsCompleted (completion_of completion.value) made.old made.new result }
+{
+    if completion.code == OK {
+        return keep(alloc, made, Box::into_inner(completion).text);
+    }
+    if completion.code == CONTINUE {
+        return Ok(true);
+    }
+    if completion.code == BREAK {
+        return Ok(false);
+    }
+    Err(Interruption::Completed(completion))
+}
+
 /// Whether a loop goes on after its body ended so, with what an ordinary end gave added to what it
 /// keeps; a `continue` adds nothing, and after a `break` the loop is over. (lmap(n))
 ///
@@ -41,18 +66,7 @@ pub fn collects(
 {
     match ended {
         Ok(value) => keep(alloc, made, value),
-        Err(Interruption::Completed(completion)) => {
-            if completion.code == OK {
-                return keep(alloc, made, Box::into_inner(completion).text);
-            }
-            if completion.code == CONTINUE {
-                return Ok(true);
-            }
-            if completion.code == BREAK {
-                return Ok(false);
-            }
-            Err(Interruption::Completed(completion))
-        }
+        Err(Interruption::Completed(completion)) => collects_completed(alloc, made, completion),
         Err(interruption) => Err(interruption),
     }
 }

@@ -120,12 +120,22 @@ fn value_of(alloc: Global, text: Text) -> Result<Value, Interruption>
 ///
 /// # Errors
 /// Want of memory.
-fn length_of(alloc: Global, value: &Value) -> Result<i64, AllocError>
-    ensures { IfOk result (λ count. count ≡ pos (length (chars value.now))) }
+fn length_of(alloc: Global, value: &Value) -> Result<Value, AllocError>
+    ensures { IfOk result (λ count. count ≡ signed_decimal (pos (length (chars value.now)))) }
 {
     let text = value.text(alloc)?;
-    match i64::try_from(character_count(text.as_str())) {
-        Ok(count) => Ok(count),
+    count_value(character_count(text.as_str()))
+}
+
+/// The number of a count. No memory has so many characters that it takes more than 63 bits.
+///
+/// # Errors
+/// Want of memory.
+fn count_value(count: usize) -> Result<Value, AllocError>
+    ensures { IfOk result (λ value. value ≡ signed_decimal (pos count)) }
+{
+    match i64::try_from(count) {
+        Ok(number) => Ok(Value::from_int(number)),
         Err(_) => Err(AllocError),
     }
 }
@@ -202,7 +212,7 @@ fn keep_line(
     match reply {
         HostReply::Line(bytes) => keep_bytes(tree, alloc, place, channel, name, bytes),
         HostReply::Rest(bytes) => keep_bytes(tree, alloc, place, channel, name, bytes),
-        HostReply::End => keep(tree, alloc, place, name, Value::empty(), -1),
+        HostReply::End => keep(tree, alloc, place, name, Value::empty(), Value::from_int(-1)),
         HostReply::Refused(why) => Err(refused_by_host(alloc, why, channel)),
         _other => Ok(Value::empty()),
     }
@@ -235,13 +245,13 @@ fn keep(
     place: Place,
     name: &Value,
     text: Value,
-    number: i64,
+    number: Value,
 ) -> Result<Value, Interruption>
     requires { (p : Path) × Names tree.old place p }
     ensures acts { Acts tree.old place
-        (λ style. sets name.now text (done (ok (signed_decimal number)))) tree.new result }
+        (λ style. sets name.now text (done (ok number))) tree.new result }
     ensures level { IsLevel tree.old tree.new }
 {
     set_named(tree, alloc, place, name, text)?;
-    Ok(Value::from_int(number))
+    Ok(number)
 }

@@ -27,6 +27,7 @@ struct Manner {
 }
 
 /// What a word is that stands before others.
+#[derive(Clone, Copy)]
 enum OptionWord {
     /// An option, behind which patterns are taken so.
     Sets(Manner),
@@ -100,13 +101,14 @@ fn read_options(alloc: Global, words: &[Value]) -> Result<(Manner, &[Value]), In
             return Ok((manner, left));
         }
         let text = word.text(alloc)?;
-        match option_word(text.as_str(), manner) {
+        let option = text.as_str();
+        match option_word(option, manner) {
             OptionWord::Sets(other) => {
                 manner = other;
                 left = rest;
             }
             OptionWord::Ends => return Ok((manner, rest)),
-            OptionWord::Unknown => return Err(bad_option(alloc, text.as_str())),
+            OptionWord::Unknown => return Err(bad_option(alloc, option)),
             OptionWord::Compared => return Ok((manner, left)),
         }
     }
@@ -212,7 +214,15 @@ fn among(
         return Err(wrong_args(alloc, SWITCH));
     }
     let string = string.text(alloc)?;
-    match first_taken(alloc, manner, string.as_str(), pairs)? {
+    let body = first_taken(alloc, manner, string.as_str(), pairs)?;
+    Ok(own_body(body)?)
+}
+
+/// A body of its own.
+fn own_body(body: Option<&Value>) -> Result<Option<Value>, AllocError>
+    ensures { IfOk result (λ own. own ≡ option_copied body) }
+{
+    match body {
         Some(body) => Ok(Some(body.clone()?)),
         None => Ok(None),
     }
@@ -235,6 +245,22 @@ fn among_elements(
     among(alloc, manner, string, elements.as_slice())
 }
 
+/// The same of words that are the pairs, or of one word whose elements are.
+fn among_words(
+    alloc: Global,
+    manner: Manner,
+    string: &Value,
+    pairs: &[Value],
+) -> Result<Option<Value>, Interruption>
+    ensures { Gave itself
+        (switching.behind_options (manner_of manner) (string.now ∷ pairs.now)) result }
+{
+    match pairs {
+        [elements] => among_elements(alloc, manner, string, elements),
+        _ => among(alloc, manner, string, pairs),
+    }
+}
+
 /// The body that the words behind the options choose.
 fn behind_options(
     alloc: Global,
@@ -243,11 +269,10 @@ fn behind_options(
 ) -> Result<Option<Value>, Interruption>
     ensures { Gave itself (switching.behind_options (manner_of manner) words.now) result }
 {
-    match words {
-        [] => Err(wrong_args(alloc, SWITCH)),
-        [string, pairs] => among_elements(alloc, manner, string, pairs),
-        [string, pairs @ ..] => among(alloc, manner, string, pairs),
-    }
+    let [string, pairs @ ..] = words else {
+        return Err(wrong_args(alloc, SWITCH));
+    };
+    among_words(alloc, manner, string, pairs)
 }
 
 /// The body that the words of a `switch` choose, if they choose one. (switch(n))

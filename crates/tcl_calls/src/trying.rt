@@ -1,11 +1,12 @@
 //! The handlers of a `try`.
 ghost use Rattle.std.specs.Option.{option_copied, option_map};
-ghost use Rattle.std.specs.Prelude.{◌≡◌, ◌<◌, length, IfOk, MatchResult, OnTrue, Ok, None};
-ghost use Rattle.tcl_core.specs.Endings as core;
+ghost use Rattle.std.specs.Ordering.{int_eq};
+ghost use Rattle.std.specs.Prelude.{◌≡◌, ◌<◌, length, pos, IfOk, MatchResult, Ok};
 ghost use Rattle.tcl_core.specs.Endings.Reply.{Completed};
 ghost use Rattle.tcl_core.specs.Paths.{Path};
 ghost use Rattle.tcl_flow.specs.Returning as returning;
 ghost use Rattle.tcl_flow.specs.View.{completion_of};
+ghost use Rattle.tcl_flow.specs.declared.returning.OptionsFault.TheVariants.{BadCode};
 ghost use Rattle.tcl_language.specs.Instructions.{or_fails};
 ghost use Rattle.tcl_language.specs.Trying as trying;
 ghost use Rattle.tcl_run.specs.Ends.{IfEnded, Interrupts, IsFailure, itself};
@@ -15,6 +16,7 @@ ghost use Rattle.tcl_text.specs.Lists.{list_of};
 ghost use Rattle.tcl_text.specs.Writing.{fault_message};
 ghost use Rattle.tcl_tree.specs.TreeOf.{Names};
 ghost use Rattle.tcl_calls.specs.Trying.{handles_of, handlers_of, seen, EndsRead, Picks};
+ghost use Rattle.tcl_calls.specs.Trying.{ReadsHandles};
 
 use crate::catching::keep_caught;
 use crate::words::add_elements;
@@ -62,37 +64,36 @@ pub struct Tried<'w> {
     pub last: Option<&'w Value>,
 }
 
-/// A word is no code.
-fn bad_code(alloc: Global, word: &Value) -> Result<Interruption, AllocError>
-    ensures { IfOk result (λ i. Interrupts i (λ e. IsFailure itself (trying.code_or word.now None) e)) }
+/// What is said of a word that is no code.
+fn code_message(alloc: Global, word: &Value) -> Result<Text, AllocError>
+    ensures { IfOk result (λ text. text ≡ returning.options_message (BadCode word.now)) }
 {
-    let fault = OptionsFault::BadCode(word.text(alloc)?);
-    Ok(failure(alloc, fault.message(alloc)?))
+    let word = word.text(alloc)?;
+    OptionsFault::BadCode(word).message(alloc)
 }
 
 /// Reads the code of a handler.
 fn read_code(alloc: Global, style: Integers, word: &Value) -> Result<Handles, Interruption>
-    ensures { MatchResult result
-        (λ handles. trying.code_or word.now (returning.code_of style word.now)
-        ≡ Ok (handles_of handles))
-        (λ i. Interrupts i (IsFailure itself
-        (trying.code_or word.now (returning.code_of style word.now)))) }
+    ensures { ReadsHandles (trying.code_or word.now (returning.code_of style word.now)) result }
 {
     let mut own = word.clone()?;
-    match code_of(alloc, style, &mut own)? {
+    let found = code_of(alloc, style, &mut own)?;
+    match found {
         Some(code) => Ok(Handles::Code(code)),
-        None => Err(bad_code(alloc, word)?),
+        None => {
+            let message = code_message(alloc, word)?;
+            Err(failure(alloc, message))
+        }
     }
 }
 
 /// Reads the pattern of a handler.
 fn read_pattern(alloc: Global, word: &Value) -> Result<Handles, Interruption>
-    ensures { MatchResult result
-        (λ handles. trying.pattern_or (list_of word.now) ≡ Ok (handles_of handles))
-        (λ i. Interrupts i (IsFailure itself (trying.pattern_or (list_of word.now)))) }
+    ensures { ReadsHandles (trying.pattern_or (list_of word.now)) result }
 {
     let mut own = word.clone()?;
-    Ok(Handles::Errors(read_list(alloc, &mut own)?))
+    let list = read_list(alloc, &mut own)?;
+    Ok(Handles::Errors(list))
 }
 
 /// Reads the first two words of a handler.
@@ -102,9 +103,7 @@ fn read_handles(
     word: &Value,
     what: &Value,
 ) -> Result<Handles, Interruption>
-    ensures { MatchResult result
-        (λ handles. trying.handles_of style word.now what.now ≡ Ok (handles_of handles))
-        (λ i. Interrupts i (IsFailure itself (trying.handles_of style word.now what.now))) }
+    ensures { ReadsHandles (trying.handles_of style word.now what.now) result }
 {
     if word.is_text(b"on") {
         return read_code(alloc, style, what);
@@ -122,8 +121,10 @@ fn last_script(alloc: Global, words: &[Value]) -> Result<Option<&Value>, Interru
         (λ i. Interrupts i (λ e. (style : Integers) →
         IsFailure itself (trying.tried_of style words.now) e)) }
 {
+    if words.is_empty() {
+        return Ok(None);
+    }
     match words {
-        [] => Ok(None),
         [word, script] => {
             if word.is_text(b"finally") {
                 return Ok(Some(script));
@@ -166,7 +167,7 @@ pub fn read_tried(
 fn begins(pattern: &List, list: &List) -> Result<bool, AllocError>
     ensures { IfOk result (λ found. found ≡ trying.begins pattern.now list.now) }
 {
-    if pattern.len() > list.len() {
+    if list.len() < pattern.len() {
         return Ok(false);
     }
     'elements: for index in 0..pattern.len() {
@@ -201,6 +202,13 @@ fn begins_read(alloc: Global, pattern: &List, errorcode: Value) -> Result<bool, 
     }
 }
 
+/// Whether a completion is an error.
+fn is_error(completion: &Completion) -> bool
+    ensures { result ≡ int_eq completion.now.code (pos 1) }
+{
+    completion.code == ERROR
+}
+
 /// Whether a handler handles a completion.
 fn is_handled(alloc: Global, completion: &Completion, handles: &Handles) -> Result<bool, AllocError>
     ensures { IfOk result (λ handled. handled ≡ trying.is_handled (completion_of completion.now)
@@ -209,10 +217,11 @@ fn is_handled(alloc: Global, completion: &Completion, handles: &Handles) -> Resu
     match handles {
         Handles::Code(code) => Ok(completion.code == *code),
         Handles::Errors(pattern) => {
-            if completion.code != ERROR {
+            if !is_error(completion) {
                 return Ok(false);
             }
-            begins_read(alloc, pattern, errorcode(alloc, completion)?)
+            let kind = errorcode(alloc, completion)?;
+            begins_read(alloc, pattern, kind)
         }
     }
 }
@@ -280,20 +289,17 @@ pub fn keep_named(
     keep_caught(tree, alloc, place, names.as_slice(), completion)
 }
 
-/// Whether a completion is an ordinary one, of which no more is known than its text.
-fn is_ordinary(completion: &Completion) -> bool
-    ensures { OnTrue result (completion_of completion.now ≡ core.ok completion.now.text) }
-{
-    let options = &completion.options;
-    completion.code == OK && options.code == OK && options.level == 0 && options.errorcode.is_none()
-}
-
-/// An evaluation that completed so.
+/// An evaluation that completed so: an ordinary end, where no more than its text is known.
 #[inline(never)]
 pub fn released(alloc: Global, completion: Completion) -> Result<Value, Interruption>
     ensures { IfEnded result (λ e. e ≡ Completed (completion_of completion)) }
 {
-    if is_ordinary(&completion) {
+    let options = &completion.options;
+    if completion.code == OK
+        && options.code == OK
+        && options.level == 0
+        && options.errorcode.is_none()
+    {
         return Ok(completion.text);
     }
     Err(Interruption::of_completion(alloc, completion))

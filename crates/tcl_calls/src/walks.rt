@@ -1,10 +1,10 @@
 //! The lists that loops walk through.
-ghost use Rattle.std.specs.Prelude.{◌≡◌, ◌+◌, ◌*◌, [], false, drop, get_or, length, IfOk, IfErr};
+ghost use Rattle.std.specs.Prelude.{◌≡◌, ◌+◌, ◌*◌, [], ◌∷◌, false, drop, get_or, length, IfOk, IfErr};
 ghost use Rattle.std.specs.Prelude.{MatchOption, MatchResult, IsOkAnd};
 ghost use Rattle.tcl_core.specs.Paths.{Path};
 ghost use Rattle.tcl_language.specs.Control.{is_over, sets_names, sets_walks};
 ghost use Rattle.tcl_language.specs.Variables.{is_odd};
-ghost use Rattle.tcl_dicts.specs.Dicts.{dict_word};
+ghost use Rattle.tcl_dicts.specs.Dicts as dicts;
 ghost use Rattle.tcl_value.specs.Texts.{flat};
 ghost use Rattle.tcl_run.specs.Ends.{Interrupts, IsFailure, itself};
 ghost use Rattle.tcl_run.specs.Plain.{Steps};
@@ -132,19 +132,27 @@ pub fn read_dict_loop(alloc: Global, args: &[Value]) -> Result<(Vec<Walk>, &Valu
 {
     match args {
         [names, dict, body] => {
-            let mut walks = Vec::new(alloc);
-            walks.push(read_entries(alloc, names, dict)?)?;
-            Ok((walks, body))
+            let walk = read_entries(alloc, names, dict)?;
+            Ok((alone(alloc, walk)?, body))
         }
         _ => Err(wrong_args(alloc, DICT_FOR)),
     }
 }
 
+/// The walks of a loop that has this one alone.
+fn alone(alloc: Global, walk: Walk) -> Result<Vec<Walk>, AllocError>
+    ensures { IfOk result (λ walks. walks.items ≡ walk ∷ []) }
+{
+    let mut walks = Vec::new(alloc);
+    walks.push(walk)?;
+    Ok(walks)
+}
+
 /// The keys of a dict, each with its value behind it.
 fn read_dict(alloc: Global, dict: &Value) -> Result<List, Interruption>
     ensures { MatchResult result
-        (λ list. IsOkAnd (dict_word dict.now) (λ entries. list ≡ flat entries))
-        (λ i. Interrupts i (IsFailure itself (dict_word dict.now))) }
+        (λ list. IsOkAnd (dicts.dict_word dict.now) (λ entries. list ≡ flat entries))
+        (λ i. Interrupts i (IsFailure itself (dicts.dict_word dict.now))) }
 {
     match dict_word(alloc, dict) {
         Ok(dict) => Ok(dict.to_list(alloc)?),

@@ -10,7 +10,7 @@ use Rattle.tcl_calls.proofs.files.script_of_file.Goals as goal
 
 pub returns-in-Line : goal.returns-in-Line
 returns-in-Line c =
-    script_as (sourcing.closed c.args.file.now (reply_of c.args.read) (reply_of c.args.closed.now)) (sourcing.closed c.args.file.now (Bytes c.in-Line.bytes) (reply_of c.args.closed.now)) c.closed_behind-in-Line.result (ap (λ (r : HostReply). sourcing.closed c.args.file.now (reply_of r) (reply_of c.args.closed.now)) c.in-Line.is) c.closed_behind-in-Line.ensures
+    script_as (sourcing.closed c.args.file.now (reply_of c.args.read) (reply_of c.args.closed.now)) (sourcing.closed c.args.file.now (Bytes c.in-Line.bytes) (reply_of c.args.closed.now)) c.closed_behind.result (ap (λ (r : HostReply). sourcing.closed c.args.file.now (reply_of r) (reply_of c.args.closed.now)) c.in-Line.is) c.closed_behind.ensures
 
 pub returns-in-Rest : goal.returns-in-Rest
 returns-in-Rest c =

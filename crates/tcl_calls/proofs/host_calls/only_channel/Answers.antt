@@ -1,4 +1,4 @@
-use Rattle.std.proofs.Common.{inl, inr, rules, sym, ap, ◌∙◌}
+use Rattle.std.proofs.Common.{◌<◌, ◌≤◌, ◌⊎◌, arith, length, inl, inr, sym, ap, ◌∙◌}
 use Rattle.tcl_language.specs.Faults.{wrong_args}
 use Rattle.tcl_language.specs.Hosting.{on_channel}
 use Rattle.tcl_run.specs.Ends.{failing}
@@ -15,7 +15,8 @@ returns-in_ok-text-in-len1-clause-named c = λ form k.
 
 pub returns-in_default-clause-refused : goal.returns-in_default-clause-refused
 returns-in_default-clause-refused c =
-    Interrupts-more c.wrong_args.result _ _ (λ e h k. over_by (on_channel c.args.form.now k c.args.args.now) (failing (wrong_args c.args.form.now)) e (not_only c.args.form.now k c.args.args.now (elim c.in_default.branch [
-      | in_default-via-then-args-lt1 w ↦ inl (search rules)
-      | in_default-via-else-args-lt1+else-args-lt2 w ↦ inr (search rules)
-    ])) h) c.wrong_args.ensures
+    let other : (length c.args.args.now < 1) ⊎ (2 ≤ length c.args.args.now) = elim c.in_default.branch [
+      | in_default-via-then-args-lt1 w ↦ inl (grind arith)
+      | in_default-via-else-args-lt1+else-args-lt2 w ↦ inr (grind arith)
+    ] in
+    Interrupts-more c.wrong_args.result _ _ (λ e h k. over_by (on_channel c.args.form.now k c.args.args.now) (failing (wrong_args c.args.form.now)) e (not_only c.args.form.now k c.args.args.now other) h) c.wrong_args.ensures

@@ -1,4 +1,4 @@
-use Rattle.std.proofs.Common.{inl, inr, rules, sym, ap, ◌∙◌}
+use Rattle.std.proofs.Common.{◌<◌, ◌≤◌, ◌⊎◌, arith, length, inl, inr, sym, ap, ◌∙◌}
 use Rattle.std.proofs.lemmas.Result.{err_from_is_err_and}
 use Rattle.std.specs.Prelude.{[], ◌∷◌, codes}
 use Rattle.tcl_core.specs.Paths.{Text}
@@ -31,7 +31,8 @@ returns-in_err-mode-in-len2 c =
 
 pub returns-in_default : goal.returns-in_default
 returns-in_default c =
-    over_err (open_file c.args.args.now) (failing (wrong_args (codes "open name ?mode?"))) c.wrong_args.result (not_opened c.args.args.now (elim c.in_default.branch [
-      | in_default-via-then-args-lt1 w ↦ inl (search rules)
-      | in_default-via-else-args-lt1+else-args-lt2+else-args-lt3 w ↦ inr (search rules)
-    ])) c.wrong_args.ensures
+    let other : (length c.args.args.now < 1) ⊎ (3 ≤ length c.args.args.now) = elim c.in_default.branch [
+      | in_default-via-then-args-lt1 w ↦ inl (grind arith)
+      | in_default-via-else-args-lt1+else-args-lt2+else-args-lt3 w ↦ inr (grind arith)
+    ] in
+    over_err (open_file c.args.args.now) (failing (wrong_args (codes "open name ?mode?"))) c.wrong_args.result (not_opened c.args.args.now other) c.wrong_args.ensures

@@ -13,8 +13,8 @@ returns-in-ReadLineInto-clause-acts c =
 
 pub returns-in-ReadLine-clause-acts : goal.returns-in-ReadLine-clause-acts
 returns-in-ReadLine-clause-acts c =
-    over_acts c.args.tree.now c.args.place (heard_by c.args.call.now (reply_of c.args.reply)) c.text_read-in-ReadLine.result
-    (subst (λ (x : HostCall). Ends (heard_by x (reply_of c.args.reply)) c.text_read-in-ReadLine.result) (sym c.in-ReadLine.is) c.text_read-in-ReadLine.ensures)
+    over_acts c.args.tree.now c.args.place (heard_by c.args.call.now (reply_of c.args.reply)) c.text_read.result
+    (subst (λ (x : HostCall). Ends (heard_by x (reply_of c.args.reply)) c.text_read.result) (sym c.in-ReadLine.is) c.text_read.ensures)
 
 pub returns-in-ReadAll-clause-acts : goal.returns-in-ReadAll-clause-acts
 returns-in-ReadAll-clause-acts c =
@@ -28,8 +28,8 @@ returns-in-Open-clause-acts c =
 
 pub returns-in-Write-clause-acts : goal.returns-in-Write-clause-acts
 returns-in-Write-clause-acts c =
-    over_acts c.args.tree.now c.args.place (heard_by c.args.call.now (reply_of c.args.reply)) c.accepted-in-Write.result
-    (subst (λ (x : HostCall). Ends (heard_by x (reply_of c.args.reply)) c.accepted-in-Write.result) (sym c.in-Write.is) c.accepted-in-Write.ensures)
+    over_acts c.args.tree.now c.args.place (heard_by c.args.call.now (reply_of c.args.reply)) c.accepted.result
+    (subst (λ (x : HostCall). Ends (heard_by x (reply_of c.args.reply)) c.accepted.result) (sym c.in-Write.is) c.accepted.ensures)
 
 pub returns-in-Flush-clause-acts : goal.returns-in-Flush-clause-acts
 returns-in-Flush-clause-acts c =

@@ -1,7 +1,7 @@
-use Rattle.std.proofs.Common.{ap, sym, ◌∙◌, ℤ}
+use Rattle.std.proofs.Common.{ap, sym, ◌∙◌}
 use Rattle.std.proofs.lemmas.Result.{err_from_is_err_and}
-use Rattle.std.specs.Fmt.{signed_decimal}
 use Rattle.tcl_core.specs.Endings.{ok}
+use Rattle.tcl_core.specs.Paths.{Text}
 use Rattle.tcl_core.specs.Programs.Prog.{done}
 use Rattle.tcl_language.specs.Hosting.{keeps_line, read_from}
 use Rattle.tcl_language.specs.Variables.{sets}
@@ -17,5 +17,5 @@ returns-in_err-line-clause-acts c =
 
 pub returns-clause-acts : goal.returns-clause-acts
 returns-clause-acts c =
-    acts_as c.args.tree.now c.keep.new.tree c.args.place (read_from c.args.channel.now c.args.bytes (keeps_line c.args.name.now)) (sets c.args.name.now c.in_ok-line.line (done (ok (signed_decimal c.in_ok-count.count)))) c.keep.result
-    (c.in_ok-line.ensures (keeps_line c.args.name.now) ∙ ap (λ (n : ℤ). sets c.args.name.now c.in_ok-line.line (done (ok (signed_decimal n)))) (sym c.in_ok-count.ensures)) c.keep.ensures.acts
+    acts_as c.args.tree.now c.keep.new.tree c.args.place (read_from c.args.channel.now c.args.bytes (keeps_line c.args.name.now)) (sets c.args.name.now c.in_ok-line.line (done (ok c.in_ok-count.count))) c.keep.result
+    (c.in_ok-line.ensures (keeps_line c.args.name.now) ∙ ap (λ (n : Text). sets c.args.name.now c.in_ok-line.line (done (ok n))) (sym c.in_ok-count.ensures)) c.keep.ensures.acts

@@ -1,5 +1,4 @@
-use Rattle.std.proofs.Common.{[], ap, sym, ◌∙◌, negsuc}
-use Rattle.std.specs.Fmt.{signed_decimal}
+use Rattle.std.proofs.Common.{ap, sym, ◌∙◌}
 use Rattle.tcl_core.specs.Endings.{ok}
 use Rattle.tcl_core.specs.Paths.{Text}
 use Rattle.tcl_core.specs.Programs.Prog.{done}
@@ -14,8 +13,8 @@ use Rattle.tcl_calls.proofs.replies.keep_line.Goals as goal
 
 pub returns-in-Line-clause-acts : goal.returns-in-Line-clause-acts
 returns-in-Line-clause-acts c =
-    acts_as c.args.tree.now c.keep_bytes-in-Line.new.tree c.args.place (line_read c.args.channel.now c.args.name.now (reply_of c.args.reply)) (read_from c.args.channel.now c.in-Line.bytes (keeps_line c.args.name.now)) c.keep_bytes-in-Line.result
-    (ap (λ (r : HostReply). line_read c.args.channel.now c.args.name.now (reply_of r)) c.in-Line.is) c.keep_bytes-in-Line.ensures.acts
+    acts_as c.args.tree.now c.keep_bytes.new.tree c.args.place (line_read c.args.channel.now c.args.name.now (reply_of c.args.reply)) (read_from c.args.channel.now c.in-Line.bytes (keeps_line c.args.name.now)) c.keep_bytes.result
+    (ap (λ (r : HostReply). line_read c.args.channel.now c.args.name.now (reply_of r)) c.in-Line.is) c.keep_bytes.ensures.acts
 
 pub returns-in-Rest-clause-acts : goal.returns-in-Rest-clause-acts
 returns-in-Rest-clause-acts c =
@@ -24,8 +23,9 @@ returns-in-Rest-clause-acts c =
 
 pub returns-in-End-clause-acts : goal.returns-in-End-clause-acts
 returns-in-End-clause-acts c =
-    acts_as c.args.tree.now c.keep.new.tree c.args.place (line_read c.args.channel.now c.args.name.now (reply_of c.args.reply)) (sets c.args.name.now c.empty.result (done (ok (signed_decimal (negsuc 0))))) c.keep.result
-    (ap (λ (r : HostReply). line_read c.args.channel.now c.args.name.now (reply_of r)) c.in-End.is ∙ (λ i. sets c.args.name.now (sym c.empty.ensures i) (done (ok (sym minus_one i))))) c.keep.ensures.acts
+    let number = c.from_int.ensures ∙ minus_one in
+    acts_as c.args.tree.now c.keep.new.tree c.args.place (line_read c.args.channel.now c.args.name.now (reply_of c.args.reply)) (sets c.args.name.now c.empty.result (done (ok c.from_int.result))) c.keep.result
+    (ap (λ (r : HostReply). line_read c.args.channel.now c.args.name.now (reply_of r)) c.in-End.is ∙ (λ i. sets c.args.name.now (sym c.empty.ensures i) (done (ok (sym number i))))) c.keep.ensures.acts
 
 pub returns-in-Refused-clause-acts : goal.returns-in-Refused-clause-acts
 returns-in-Refused-clause-acts c =

@@ -8,8 +8,8 @@ use Rattle.tcl_calls.proofs.replies.text_read.Goals as goal
 
 pub returns-in-Line : goal.returns-in-Line
 returns-in-Line c =
-    ends_as (text_read c.args.channel.now (reply_of c.args.reply)) (read_from c.args.channel.now c.in-Line.bytes gives_text) c.value_read-in-Line.result (ap (λ (r : HostReply). text_read c.args.channel.now (reply_of r)) c.in-Line.is)
-    (read_ends c.args.channel.now c.in-Line.bytes c.value_read-in-Line.result c.value_read-in-Line.ensures)
+    ends_as (text_read c.args.channel.now (reply_of c.args.reply)) (read_from c.args.channel.now c.in-Line.bytes gives_text) c.value_read.result (ap (λ (r : HostReply). text_read c.args.channel.now (reply_of r)) c.in-Line.is)
+    (read_ends c.args.channel.now c.in-Line.bytes c.value_read.result c.value_read.ensures)
 
 pub returns-in-Rest : goal.returns-in-Rest
 returns-in-Rest c =

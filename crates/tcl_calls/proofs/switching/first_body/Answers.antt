@@ -1,4 +1,4 @@
-use Rattle.std.proofs.Common.{◌≡◌, rules, true, false, sym, ◌∙◌}
+use Rattle.std.proofs.Common.{◌≡◌, rules, true, false, sym, ◌∙◌, arith}
 use Rattle.std.specs.Prelude.{codes}
 use Rattle.std.specs.Str.{bytes_eq}
 use Rattle.tcl_calls.proofs.Choosing.{first_none, first_on, second_left}
@@ -17,4 +17,4 @@ bodies-preserved c =
     c.bodies.invariant ∙ first_on c.bodies.left.now two.0 c.body-item.result _ true two.1 same
 
 pub returns : goal.returns
-returns c = sym (c.bodies.invariant ∙ first_none c.bodies.left.now c.in_default.len_below)
+returns c = sym (c.bodies.invariant ∙ first_none c.bodies.left.now (omega arith))

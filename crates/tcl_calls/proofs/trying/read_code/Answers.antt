@@ -1,0 +1,13 @@
+use Rattle.std.proofs.Common.{ap, ◌∙◌}
+use Rattle.tcl_language.specs.Trying.{code_or}
+use Rattle.tcl_run.proofs.Endings.{Interrupts-more}
+use Rattle.tcl_calls.proofs.Handling.{code_read, code_refused}
+use Rattle.tcl_calls.proofs.trying.read_code.Goals as goal
+
+pub returns-in-Some : goal.returns-in-Some
+returns-in-Some c =
+    code_read c.args.style c.args.word.now c.in_ok-own.own c.in_ok-found.found c.in_ok-found.ensures.read c.in_ok-own.ensures.cases ∙ ap (code_or c.args.word.now) c.in-Some.is
+
+pub returns-in_ok-message-in-None : goal.returns-in_ok-message-in-None
+returns-in_ok-message-in-None c =
+    Interrupts-more c.failure.result _ _ (λ e h. code_refused c.args.style c.args.word.now c.in_ok-own.own c.in_ok-message-in-None.message c.in_ok-found.found e c.in_ok-found.ensures.read c.in_ok-own.ensures.cases c.in-None.is c.in_ok-message-in-None.ensures h) c.failure.ensures
