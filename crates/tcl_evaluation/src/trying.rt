@@ -33,7 +33,7 @@ fn run_handler<O: Outside>(
 ) -> Result<Value, Interruption>
     requires { IsRunning tree.old place }
     ensures runs { ProceedsIn (ways O.goes O.loses) tree.old outside.old place
-        (λ style. runs_last (option_copied chosen)) tree.new outside.new result }
+        (λ style. runs_last (option_copied chosen.entry)) tree.new outside.new result }
     ensures steady { IsSteady tree.old tree.new }
     ensures left { O.entries_left outside.new ≤ O.entries_left outside.old }
 {

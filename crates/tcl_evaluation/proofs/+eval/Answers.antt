@@ -2385,9 +2385,9 @@ sourcing::source-returns-in_err-text-in-len1-clause-runs g t c =
 pub sourcing::source-returns-in_ok-text-in-len1-clause-runs : goal.sourcing::source-returns-in_ok-text-in-len1-clause-runs
 sourcing::source-returns-in_ok-text-in-len1-clause-runs g t c =
     let is = one_item c.args.args.now c.file-item.result c.in-len1.len_at_least c.in-len1.len_below c.file-item.is in
-    IfRan-more c.source_file.result (EndsFrom (ways g.O.Outside.goes g.O.Outside.loses) c.args.tree.now c.args.outside.now c.args.place (λ style. sourcing.sources c.in_ok-text-in-len1.field-0) c.source_file.new.tree c.source_file.new.outside)
-    (EndsFrom (ways g.O.Outside.goes g.O.Outside.loses) c.args.tree.now c.args.outside.now c.args.place (λ style. sourcing.source c.args.args.now) c.source_file.new.tree c.source_file.new.outside)
-    (λ e h q style at. at_prog (ap sourcing.source is ∙ ap sourcing.sources (sym c.in_ok-text-in-len1.ensures)) (h q style at)) c.source_file.ensures.runs
+    IfRan-more c.source_file-in-len1.result (EndsFrom (ways g.O.Outside.goes g.O.Outside.loses) c.args.tree.now c.args.outside.now c.args.place (λ style. sourcing.sources c.in_ok-text-in-len1.field-0) c.source_file-in-len1.new.tree c.source_file-in-len1.new.outside)
+    (EndsFrom (ways g.O.Outside.goes g.O.Outside.loses) c.args.tree.now c.args.outside.now c.args.place (λ style. sourcing.source c.args.args.now) c.source_file-in-len1.new.tree c.source_file-in-len1.new.outside)
+    (λ e h q style at. at_prog (ap sourcing.source is ∙ ap sourcing.sources (sym c.in_ok-text-in-len1.ensures)) (h q style at)) c.source_file-in-len1.ensures.runs
 
 pub sourcing::source-returns-in_default-clause-runs : goal.sourcing::source-returns-in_default-clause-runs
 sourcing::source-returns-in_default-clause-runs g t c =
