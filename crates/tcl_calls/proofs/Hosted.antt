@@ -1,5 +1,5 @@
 -- What calls of the host come to.
-use Rattle.std.proofs.Common.{◌≡◌, ◌<◌, ◌≤◌, ◌⊎◌, inl, inr, negsuc, Bool, true, false, List, [], ◌∷◌, length, refl, sym, ◌∙◌, ap, subst, arith}
+use Rattle.std.proofs.Common.{◌≡◌, ◌<◌, ◌≤◌, ◌⊎◌, inl, inr, negsuc, Bool, true, false, List, [], ◌∷◌, ◌++◌, append-nil, length, refl, sym, ◌∙◌, ap, subst, arith}
 use Rattle.std.specs.Prelude.{Result, Ok, Err, codes, if◌then◌else◌, ◌||◌}
 use Rattle.std.specs.Str.{IsUtf8, bytes_eq, is_utf8}
 use Rattle.std.proofs.lemmas.Bool.Decides.{nat_tests}
@@ -12,7 +12,7 @@ use Rattle.tcl_core.specs.Endings.Reply.{Completed}
 use Rattle.tcl_core.specs.Entries as asking
 use Rattle.tcl_core.specs.Paths.{Place, Text}
 use Rattle.tcl_core.specs.Programs.Prog.{done}
-use Rattle.tcl_host.specs.Modes.{mode_of}
+use Rattle.tcl_host.specs.Modes.{bad_mode_text, mode_of}
 use Rattle.tcl_host.specs.Replies.{refusal_text}
 use Rattle.tcl_host.specs.declared.open_mode.BadMode.{BadMode}
 use Rattle.tcl_host.specs.declared.open_mode.OpenMode.{OpenMode}
@@ -71,9 +71,12 @@ over_err x c i same h = Interrupts-more i (λ e. e ≡ Completed c) (IsOver x) (
 -- ## Words
 
 pub refusal_is : (why : HostRefusal) (x : Text) → refusal_text why x ≡ refusal_message (number_of why) x
-refusal_is NoChannel x = refl
-refusal_is DeviceFault x = refl
-refusal_is NotOpened x = refl
+refusal_is NoChannel x = ap (λ (t : Text). codes "can not find channel named \"" ++ t) (sym (append-nil (x ++ 34 ∷ [])))
+refusal_is DeviceFault x = ap (λ (t : Text). codes "device fault on \"" ++ t) (sym (append-nil (x ++ 34 ∷ [])))
+refusal_is NotOpened x = ap (λ (t : Text). codes "couldn't open \"" ++ t) (sym (append-nil (x ++ 34 ∷ [])))
+
+pub bad_mode_is : (word : Text) → bad_mode_text word ≡ hosting.bad_mode word
+bad_mode_is word = ap (λ (t : Text). codes "bad mode \"" ++ t) (sym (append-nil (word ++ 34 ∷ [])))
 
 -- a list of other than one word
 pub not_only : (form : Text) (k : Text → Program) (xs : List Text) → (length xs < 1) ⊎ (2 ≤ length xs) → on_channel form k xs ≡ fails (wrong_args form)
@@ -117,10 +120,10 @@ mode_is_none word bad h = by_no_modes word bad _ _ _ refl refl refl h
 -- ## What is read
 
 not_valid : (bytes : Text) → (IsUtf8 bytes → Prim.⊥) → is_utf8 bytes ≡ false
-not_valid bytes no = by (is_utf8 bytes) refl
+not_valid bytes bad = by (is_utf8 bytes) refl
   where
     by : (b : Bool) → is_utf8 bytes ≡ b → is_utf8 bytes ≡ false
-    by true e = elim (no (IsUtf8-from_is_utf8 bytes e)) [ ]
+    by true e = elim (bad (IsUtf8-from_is_utf8 bytes e)) [ ]
     by false e = e
 
 within : (bytes : Text) → length bytes ≤ 16777216 → fits bytes ≡ true
@@ -138,9 +141,9 @@ pub reads_long : (x bytes : Text) (e : Reply) → 16777216 < length bytes → e 
 reads_long x bytes e h is k = over_by _ too_long e (ap (λ b. either b (either (is_utf8 bytes) (k bytes) (fails (not_utf8 x))) (done too_long)) (beyond bytes h)) is
 
 pub reads_bad : (x bytes : Text) (e : Reply) → length bytes ≤ 16777216 → (IsUtf8 bytes → Prim.⊥) → e ≡ Completed (failing (not_utf8 x)) → (k : Text → Program) → IsOver (read_from x bytes k) e
-reads_bad x bytes e h no is k =
+reads_bad x bytes e h bad is k =
     over_by _ (failing (not_utf8 x)) e
-    (ap (λ b. either b (either (is_utf8 bytes) (k bytes) (fails (not_utf8 x))) (done too_long)) (within bytes h) ∙ ap (λ b. either b (k bytes) (fails (not_utf8 x))) (not_valid bytes no)) is
+    (ap (λ b. either b (either (is_utf8 bytes) (k bytes) (fails (not_utf8 x))) (done too_long)) (within bytes h) ∙ ap (λ b. either b (k bytes) (fails (not_utf8 x))) (not_valid bytes bad)) is
 
 -- a text that may be too long
 pub gives_short : (text value : Text) → value ≡ text → IsWithin text → Ends (gives text) (Ok value)

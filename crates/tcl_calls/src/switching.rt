@@ -220,7 +220,7 @@ fn among(
 
 /// A body of its own.
 fn own_body(body: Option<&Value>) -> Result<Option<Value>, AllocError>
-    ensures { IfOk result (λ own. own ≡ option_copied body) }
+    ensures { IfOk result (λ own. own ≡ option_copied body.entry) }
 {
     match body {
         Some(body) => Ok(Some(body.clone()?)),

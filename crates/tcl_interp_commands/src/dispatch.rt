@@ -10,10 +10,11 @@ ghost use Rattle.tcl_interp_commands.specs.Evaluating.{evaluates_nothing};
 use crate::creating::create;
 use crate::deleting::delete;
 use crate::existing::exists;
-use crate::listing::{aliases, children, hidden, is_safe, slaves};
 use std::alloc::Global;
 use tcl_entries::interp::{alias, expose, hide, limit, recursion_limit};
+use tcl_entries::requests::ask_about;
 use tcl_entries::subcommand::Subcommand;
+use tcl_run::entry::Question;
 use tcl_run::interruption::Interruption;
 use tcl_run::outside::Outside;
 use tcl_tree::tree::{Place, Tree};
@@ -52,12 +53,52 @@ pub fn interp_own<O: Outside>(
         Subcommand::Create => create(tree, alloc, outside, place, args),
         Subcommand::Delete => delete(tree, alloc, outside, place, args),
         Subcommand::Alias => alias(tree, alloc, outside, place, args),
-        Subcommand::Aliases => aliases(tree, alloc, outside, place, args),
+        Subcommand::Aliases => ask_about(
+            tree,
+            alloc,
+            outside,
+            place,
+            "interp aliases ?path?",
+            Question::Aliases,
+            args,
+        ),
         Subcommand::Exists => exists(tree, alloc, outside, place, args),
-        Subcommand::Hidden => hidden(tree, alloc, outside, place, args),
-        Subcommand::IsSafe => is_safe(tree, alloc, outside, place, args),
-        Subcommand::Slaves => slaves(tree, alloc, outside, place, args),
-        Subcommand::Children => children(tree, alloc, outside, place, args),
+        Subcommand::Hidden => ask_about(
+            tree,
+            alloc,
+            outside,
+            place,
+            "interp hidden ?path?",
+            Question::Hidden,
+            args,
+        ),
+        Subcommand::IsSafe => ask_about(
+            tree,
+            alloc,
+            outside,
+            place,
+            "interp issafe ?path?",
+            Question::IsSafe,
+            args,
+        ),
+        Subcommand::Slaves => ask_about(
+            tree,
+            alloc,
+            outside,
+            place,
+            "interp slaves ?path?",
+            Question::Slaves,
+            args,
+        ),
+        Subcommand::Children => ask_about(
+            tree,
+            alloc,
+            outside,
+            place,
+            "interp children ?path?",
+            Question::Slaves,
+            args,
+        ),
         Subcommand::Limit => limit(tree, alloc, outside, place, args),
         Subcommand::RecursionLimit => recursion_limit(tree, alloc, outside, place, args),
         Subcommand::Hide => hide(tree, alloc, outside, place, args),

@@ -5,5 +5,4 @@ pub mod creating;
 pub mod deleting;
 pub mod dispatch;
 pub mod existing;
-pub mod listing;
 pub mod naming;

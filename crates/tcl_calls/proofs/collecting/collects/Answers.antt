@@ -1,8 +1,10 @@
-use Rattle.std.proofs.Common.{inl, refl, ap, ◌∙◌}
+use Rattle.std.proofs.Common.{inl, rules, refl, ap, ◌∙◌}
 use Rattle.std.specs.Prelude.{Err}
 use Rattle.tcl_core.specs.Endings.{ok}
 use Rattle.tcl_flow.specs.View.{completion_of}
-use Rattle.tcl_calls.proofs.Gathering.{ends_in, ends_in_text, ends_turn, gathered, kept_with}
+use Rattle.tcl_run.specs.Ends.{Interrupts}
+use Rattle.tcl_calls.specs.Collecting.{EndsTurn}
+use Rattle.tcl_calls.proofs.Gathering.{ends_in, ends_in_text, gathered, kept_with}
 use Rattle.tcl_calls.proofs.collecting.collects.Goals as goal
 
 pub returns-in-Ok : goal.returns-in-Ok
@@ -16,4 +18,6 @@ returns-in-Err-Completed c =
     (ends_in c.args.ended c.in-Err-Completed.completion (c.in-Err-Completed.is ∙ ap Err c.in-Err-Completed.field-0-is)) c.collects_completed.ensures
 
 pub returns-in-Err : goal.returns-in-Err
-returns-in-Err c = inl (c.in-Err.is, ends_turn c.in-Err.interruption c.args.made.now c.in-Err.field-0-not-Completed)
+returns-in-Err c =
+    let turn : Interrupts c.in-Err.interruption (EndsTurn c.args.made.now) = search rules in
+    inl (c.in-Err.is, turn)

@@ -22,14 +22,14 @@ short_value-requires c =
     let same : string_bytes c.in-Ok.text ≡ c.args.bytes = search rules in
     subst IsWithin (sym same) within
 
-pub returns-in_ok-short_value-in-Ok : goal.returns-in_ok-short_value-in-Ok
-returns-in_ok-short_value-in-Ok c = λ k.
+pub returns-in-Ok : goal.returns-in-Ok
+returns-in-Ok c = λ k.
     let within : length c.args.bytes ≤ 16777216 = omega (arith, c.len.ensures, c.if-len-gt-MOST_BYTES.false) in
     let same : string_bytes c.in-Ok.text ≡ c.args.bytes = search rules in
     reads_whole c.args.name.now c.args.bytes c.in_ok-short_value-in-Ok.field-0 within (subst IsUtf8 same (IsUtf8-string_bytes c.in-Ok.text)) (c.in_ok-short_value-in-Ok.ensures ∙ same) k
 
-pub returns-in-Err : goal.returns-in-Err
-returns-in-Err c =
+pub returns : goal.returns
+returns c =
     let within : length c.args.bytes ≤ 16777216 = omega (arith, c.len.ensures, c.if-len-gt-MOST_BYTES.false) in
     Interrupts-more c.failure_quoting.result _ _
     (λ e h k. reads_bad c.args.name.now c.args.bytes e within (λ u. let clash : false ≡ true = c.in-Err.ensures.succeeds (subst IsUtf8 (sym c.into_vec.ensures) u) in cc)

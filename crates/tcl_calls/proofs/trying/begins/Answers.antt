@@ -4,8 +4,8 @@ use Rattle.tcl_text.proofs.Items.{none_on}
 use Rattle.tcl_calls.proofs.Handling.{begins_more, begins_none, begins_on}
 use Rattle.tcl_calls.proofs.trying.begins.Goals as goal
 
-pub returns-then-len-len : goal.returns-then-len-len
-returns-then-len-len c = sym (begins_more c.args.pattern.now c.args.list.now (omega arith))
+pub returns-then-len : goal.returns-then-len
+returns-then-len c = sym (begins_more c.args.pattern.now c.args.list.now (omega arith))
 
 pub returns-then-not-same : goal.returns-then-not-same
 returns-then-not-same c =

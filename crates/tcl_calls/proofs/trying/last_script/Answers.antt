@@ -22,8 +22,8 @@ returns-then-is_text c = λ style.
     let same : bytes_eq c.word-item.result (codes "finally") ≡ true = search rules in
     last_read style c.args.words.now c.word-item.result c.script-item.result is same
 
-pub returns-in-len2 : goal.returns-in-len2
-returns-in-len2 c =
+pub returns-else-is_text : goal.returns-else-is_text
+returns-else-is_text c =
     let is = two_items c.args.words.now c.word-item.result c.script-item.result c.in-len2.len_at_least c.in-len2.len_below c.word-item.is c.script-item.is in
     let other : bytes_eq c.word-item.result (codes "finally") ≡ false = search rules in
     Interrupts-more c.wrong_args.result _ _ (λ e h style. subst (λ (r : Result Tried Text). IsFailure itself r e) (sym (last_unread style c.args.words.now c.word-item.result c.script-item.result is other)) h) c.wrong_args.ensures

@@ -1,4 +1,4 @@
-use Rattle.std.proofs.Common.{sym, subst}
+use Rattle.std.proofs.Common.{◌≡◌, sym, subst}
 use Rattle.std.specs.Prelude.{Result, IsOkAnd}
 use Rattle.tcl_core.specs.Paths.{Text}
 use Rattle.tcl_dicts.specs.Dicts.{dict_word}

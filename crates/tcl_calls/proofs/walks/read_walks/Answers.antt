@@ -1,4 +1,4 @@
-use Rattle.std.proofs.Common.{◌-◌, List, [], ◌∷◌, ◌++◌, map, take, drop, length, sym, ap, ◌∙◌, subst}
+use Rattle.std.proofs.Common.{◌-◌, List, [], ◌∷◌, ◌++◌, map, take, drop, length, sym, ap, ◌∙◌, subst, arith}
 use Rattle.std.proofs.lemmas.List.{map-append}
 use Rattle.std.proofs.lemmas.Result.{err_from_is_err_and}
 use Rattle.tcl_core.specs.Paths.{Text}
@@ -8,7 +8,7 @@ use Rattle.tcl_language.specs.Variables.{is_odd}
 use Rattle.tcl_run.proofs.Endings.{at_err}
 use Rattle.tcl_calls.specs.Walks.{whole, MisreadsWalk, MisreadsWalks}
 use Rattle.tcl_calls.specs.Words.{EndsBy}
-use Rattle.tcl_calls.proofs.Walking.{two_left, walk_read, walk_misread}
+use Rattle.tcl_calls.proofs.Walking.{none_left, two_left, walk_read, walk_misread}
 use Rattle.tcl_calls.proofs.walks.read_walks.Goals as goal
 
 pub returns-in_err-read_walk-clause-refused : goal.returns-in_err-read_walk-clause-refused
@@ -30,3 +30,7 @@ words-preserved c =
           ∙ walk_read form c.names-item.result c.elements-item.result _ (map whole c.words.walks.items) k c.in_ok-read_walk.field-0 c.in_ok-read_walk.ensures.read
           ∙ ap (λ (ws : List Walk). walks_of form (take (length c.words.left.now - 2) (drop 2 c.words.left.now) ++ body ∷ []) ws k) (sym made);
     }
+
+pub returns-clause-read : goal.returns-clause-read
+returns-clause-read c = λ form body k.
+    c.words.invariant.same form body k ∙ ap (λ (ws : List Text). walks_of form (ws ++ body ∷ []) (map whole c.words.walks.items) k) (none_left c.words.left.now (omega arith) c.words.invariant.even)
