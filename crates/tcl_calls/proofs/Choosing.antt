@@ -36,22 +36,6 @@ choice_more manner word [] h = absurd (omega arith)
 choice_more manner word (a ∷ []) h = absurd (omega arith)
 choice_more manner word (a ∷ b ∷ words) h = refl
 
-pub at_dashes : (word : Text) (manner : Manner) (words : List Text) (go_on : Manner → Choice) → bytes_eq word (codes "--") ≡ true → option_first word manner words go_on ≡ behind_options manner words
-at_dashes word manner words go_on e = ap (λ b. either b (behind_options manner words)
-    (either (bytes_eq word (codes "-exact")) (go_on (record manner { glob = false }))
-    (either (bytes_eq word (codes "-glob")) (go_on (record manner { glob = true }))
-    (either (bytes_eq word (codes "-nocase")) (go_on (record manner { nocase = true }))
-    (either (is_option word) (Err (bad_option word)) (behind_options manner (word ∷ words))))))) e
-
-pub at_exact : (manner : Manner) (words : List Text) (go_on : Manner → Choice) → option_first (codes "-exact") manner words go_on ≡ go_on (record manner { glob = false })
-at_exact manner words go_on = refl
-
-pub at_glob : (manner : Manner) (words : List Text) (go_on : Manner → Choice) → option_first (codes "-glob") manner words go_on ≡ go_on (record manner { glob = true })
-at_glob manner words go_on = refl
-
-pub at_nocase : (manner : Manner) (words : List Text) (go_on : Manner → Choice) → option_first (codes "-nocase") manner words go_on ≡ go_on (record manner { nocase = true })
-at_nocase manner words go_on = refl
-
 -- what a first word is, that was read, with more than two words left
 pub first_at : (manner : Manner) (left : List Text) (word text : Text) (rest : List Text) → left ≡ word ∷ rest → text ≡ word → 2 ≤ length rest → choice manner left ≡ option_first text manner rest (λ other. choice other rest)
 first_at manner left word text rest is same more = ap (choice manner) (is ∙ ap (λ w. w ∷ rest) (sym same)) ∙ choice_more manner text rest more

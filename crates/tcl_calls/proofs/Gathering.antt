@@ -60,23 +60,3 @@ goes_on_with c made e = λ k. ap (λ n. after_result n c made k) e
 
 pub over_with : (c : Completion) (made : List Text) → c.code ≡ pos 3 → GoesWith c made made false
 over_with c made e = λ k. ap (λ n. after_result n c made k) e
-
-ends_so : (n : ℤ) (c : Completion) (made : List Text) (k : List Text → Program) → (n ≡ pos 0 → ⊥) → (n ≡ pos 3 → ⊥) → (n ≡ pos 4 → ⊥) → after_result n c made k ≡ done c
-ends_so (pos zero) c made k a b d = absurd (a refl)
-ends_so (pos (suc zero)) c made k a b d = refl
-ends_so (pos (suc (suc zero))) c made k a b d = refl
-ends_so (pos (suc (suc (suc zero)))) c made k a b d = absurd (b refl)
-ends_so (pos (suc (suc (suc (suc zero))))) c made k a b d = absurd (d refl)
-ends_so (pos (suc (suc (suc (suc (suc n)))))) c made k a b d = refl
-ends_so (negsuc n) c made k a b d = refl
-
-pub ends_behind : (c : Completion) (made : List Text) → (c.code ≡ pos 0 → ⊥) → (c.code ≡ pos 3 → ⊥) → (c.code ≡ pos 4 → ⊥) → EndsBehind made c (Completed c)
-ends_behind c made a b d = λ k. subst (λ (x : Program). EndsBy x (Completed c)) (sym (ends_so c.code c made k a b d)) refl
-
--- an end that is no completion
-pub ends_turn : (i : Interruption) (made : List Text) → ((d : Box TheCompletion) → i ≡ interruption.Completed d → ⊥) → Interrupts i (EndsTurn made)
-ends_turn interruption.Memory made h = tt
-ends_turn (interruption.Completed d) made h = absurd (h d refl)
-ends_turn (interruption.Stopped s) made h = tt
-ends_turn (interruption.Exited n) made h = tt
-ends_turn (interruption.Cut x) made h = tt

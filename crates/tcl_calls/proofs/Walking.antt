@@ -159,13 +159,6 @@ entries_read names dict xs elements k e two f = named_on names dict xs k e ∙ t
     by (Ok es) g = ap (λ (l : List Text). k (record { names = xs; left = l })) (sym g)
     by (Err m) g = elim g [ ]
 
-pub entries_misnamed : (names dict : Text) (e : Reply) → IsFailure fault_message (list_of names) e → MisreadsEntry names dict e
-entries_misnamed names dict e h = λ k. by k (list_of names) h
-  where
-    by : (k : Walk → Program) (r : Result (List Text) ListFault) → IsFailure fault_message r e → EndsBy (or_fails fault_message r (λ ys. entries_named ys dict k)) e
-    by k (Ok xs) g = elim g [ ]
-    by k (Err f) g = g
-
 pub entries_not_two : (names dict : Text) (xs : List Text) (e : Reply) → list_of names ≡ Ok xs → (length xs == 2) ≡ false → e ≡ Completed (failing (wrong_args dict_for_form)) → MisreadsEntry names dict e
 entries_not_two names dict xs e read other h = λ k. subst (λ (x : Program). EndsBy x e)
     (sym (named_on names dict xs k read ∙ ap (λ b. either b (or_fails (λ message. message) (dict_word dict) (λ entries. k (record { names = xs; left = flat entries }))) (fails (wrong_args dict_for_form))) other)) h

@@ -212,7 +212,14 @@ fn keep_line(
     match reply {
         HostReply::Line(bytes) => keep_bytes(tree, alloc, place, channel, name, bytes),
         HostReply::Rest(bytes) => keep_bytes(tree, alloc, place, channel, name, bytes),
-        HostReply::End => keep(tree, alloc, place, name, Value::empty(), Value::from_int(-1)),
+        HostReply::End => keep(
+            tree,
+            alloc,
+            place,
+            name,
+            Value::empty(),
+            Value::from_int(-1),
+        ),
         HostReply::Refused(why) => Err(refused_by_host(alloc, why, channel)),
         _other => Ok(Value::empty()),
     }

@@ -1,7 +1,7 @@
-use Rattle.std.proofs.Common.{ap, ◌∙◌}
+use Rattle.std.proofs.Common.{ap}
 use Rattle.tcl_core.specs.Entries.HostReply.{Bytes}
 use Rattle.tcl_host.specs.declared.reply.HostReply.{HostReply}
-use Rattle.tcl_language.specs.Hosting.{read_from, refusal_message}
+use Rattle.tcl_language.specs.Hosting.{refusal_message}
 use Rattle.tcl_language.specs.Sourcing as sourcing
 use Rattle.tcl_run.specs.Ends.{failing}
 use Rattle.tcl_run.specs.Outsides.{number_of, reply_of}

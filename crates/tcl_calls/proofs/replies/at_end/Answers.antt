@@ -6,7 +6,7 @@ use Rattle.tcl_core.specs.Endings.Reply.{Completed}
 use Rattle.tcl_core.specs.Paths.{Text}
 use Rattle.tcl_run.specs.Ends.{failing}
 use Rattle.tcl_run.specs.Outsides.{number_of, reply_of}
-use Rattle.tcl_calls.proofs.Hosted.{ends_as, gives_nothing, not_told, over_by, over_err}
+use Rattle.tcl_calls.proofs.Hosted.{gives_nothing, not_told, over_by, over_err}
 use Rattle.tcl_calls.proofs.replies.at_end.Goals as goal
 
 pub returns-in-AtEnd : goal.returns-in-AtEnd

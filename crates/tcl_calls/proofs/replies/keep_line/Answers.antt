@@ -1,6 +1,5 @@
 use Rattle.std.proofs.Common.{ap, sym, ◌∙◌}
 use Rattle.tcl_core.specs.Endings.{ok}
-use Rattle.tcl_core.specs.Paths.{Text}
 use Rattle.tcl_core.specs.Programs.Prog.{done}
 use Rattle.tcl_host.specs.declared.reply.HostReply.{HostReply}
 use Rattle.tcl_language.specs.Hosting.{keeps_line, line_read, read_from, refusal_message}

@@ -1,4 +1,4 @@
-use Rattle.std.proofs.Common.{◌-◌, true, false, List, ◌∷◌, take, drop, length, Option, sym, ap, ◌∙◌, arith}
+use Rattle.std.proofs.Common.{◌-◌, true, false, List, take, drop, length, Option, sym, ap, ◌∙◌, arith}
 use Rattle.tcl_core.specs.Paths.{Text}
 use Rattle.tcl_flow.specs.View.{completion_of}
 use Rattle.tcl_language.specs.Expressions.{runs_last}

@@ -8,7 +8,7 @@ use Rattle.tcl_run.proofs.Endings.{Interrupts-more, at_err}
 use Rattle.tcl_text.specs.Lists.{list_of}
 use Rattle.tcl_text.specs.Writing.{fault_message}
 use Rattle.tcl_calls.specs.Walks.{MisreadsEntry}
-use Rattle.tcl_calls.proofs.Walking.{entries_misnamed, entries_misread, entries_not_two, entries_read}
+use Rattle.tcl_calls.proofs.Walking.{entries_misread, entries_not_two, entries_read}
 use Rattle.tcl_calls.proofs.walks.read_entries.Goals as goal
 
 pub returns-then-len-ne2-clause-refused : goal.returns-then-len-ne2-clause-refused
