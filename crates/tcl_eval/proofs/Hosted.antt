@@ -77,7 +77,9 @@ if_unfit (Some f) r p = ap ran_of p
 pub if_broken : (r : Result OpenEnd Refused) (P : Type 0) → IsUncut r → (IsErrOf r refused.Memory → P) → IsErrOf (ran_of r) refused.Memory → P
 if_broken (Ok (open_end.Ran e)) P u p m = let clash : ◌≡◌ {A = Result End Refused} (Ok e) (Err refused.Memory) = m in absurd cc
 if_broken (Ok open_end.CutOff) P u p m = elim u [ ]
-if_broken (Err e) P u p m = p m
+if_broken (Err e) P u p m =
+    let told : ◌≡◌ {A = Result End Refused} (Err e) (Err refused.Memory) = m in
+    let same : e ≡ refused.Memory = cc in p (ap Err same)
 
 -- ## The whole evaluation
 

@@ -45,7 +45,7 @@ kept_through (a ∷ b ∷ rest) c T V p d =
     by M s false e f = absurd (not_failing false [] f.1)
 
 -- the list of the names is read, and they are set
-NamedSo : Text → Completion → Tree Own → Tree Own → Path → Type 0
+abbrev NamedSo : Text → Completion → Tree Own → Tree Own → Path → Type 0
 NamedSo names c T V p = (xs : List Text) × (list_of names ≡ Ok xs) × KeptSo xs c T V p
 
 named_through : (names : Text) (c : Completion) (T V : Tree Own) (p : Path) → Does (or_fails fault_message (list_of names) (λ xs. keeps xs c (done marked))) T p V (Completed marked) → NamedSo names c T V p
@@ -60,7 +60,7 @@ module _ {S : Type 0} {ways : Ways S} (style : Integers) where
       Proceeds ways (language style) T o p (keeps names c k) V z r
   kept_comes [] c k s t = at_start s t
   kept_comes (a ∷ []) c k s t = set_comes style a c.text k s t
-  kept_comes (a ∷ b ∷ rest) c k s t = set_comes style a c.text _ s.1 (grows (options_text c) (λ text. sets b text k) s.2 (set_comes style b (options_text c) k s.3 t))
+  kept_comes (a ∷ b ∷ rest) c k s t = set_comes style a c.text (grown (options_text c) (λ text. sets b text k)) s.1 (grows (options_text c) (λ text. sets b text k) s.2 (set_comes style b (options_text c) k s.3 t))
 
   pub named_comes : {T U V : Tree Own} {o z : S} {p : Path} {r : Ending} (names : Text) (c : Completion) (k : Program) →
       ((k : Program) (W : Tree Own) (e : Reply) → Does k U p W e → Does (or_fails fault_message (list_of names) (λ xs. keeps xs c k)) T p W e) →

@@ -1,4 +1,4 @@
-//! The loop that keeps what its body gives.
+//! The loop that keeps the results of its body.
 ghost use Rattle.std.specs.Prelude.{◌≤◌};
 ghost use Rattle.tcl_language.specs.Control as control;
 ghost use Rattle.tcl_run.specs.Runs.{IsRunning, IsSteady, ProceedsIn, ways};
@@ -15,8 +15,8 @@ use tcl_tree::tree::{Place, Tree};
 use tcl_value::list::List;
 use tcl_value::value::Value;
 
-/// `lmap varList list ?varList list ...? command`: as `foreach`; gives the list of what the body
-/// gave in the turns that ended ordinarily. (lmap(n))
+/// `lmap varList list ?varList list ...? command`: as `foreach`; returns the list of the results of
+/// the turns that ended ordinarily. (lmap(n))
 ///
 /// # Errors
 /// 241; 101 to 104 of the lists; 232, 233 and 238 of the variables; 122 of the list; the stop 308;

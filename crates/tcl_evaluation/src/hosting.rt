@@ -21,7 +21,7 @@ use tcl_text::text::Text;
 use tcl_tree::tree::{Place, Tree};
 use tcl_value::value::{Value, ValueError};
 
-/// Makes a request of the host, and gives its reply.
+/// Makes a request of the host, and returns its reply.
 ///
 /// # Errors
 /// How the call ended otherwise than by a reply; want of memory.
@@ -48,7 +48,7 @@ pub fn ask<O: Outside>(
     }
 }
 
-/// Makes a call of the host, and gives what its reply is to the script.
+/// Makes a call of the host, and returns what its reply is to the script.
 ///
 /// # Errors
 /// Those of the host, of what was read and of the variable that it is read for; want of memory.

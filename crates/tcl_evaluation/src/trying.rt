@@ -1,18 +1,77 @@
 //! `try`.
+ghost use Rattle.std.specs.Option.{option_copied};
 ghost use Rattle.std.specs.Prelude.{◌≤◌};
 ghost use Rattle.tcl_calls.specs.Trying.{handlers_of};
+ghost use Rattle.tcl_flow.specs.View.{completion_of};
+ghost use Rattle.tcl_language.specs.Expressions.{runs_last};
 ghost use Rattle.tcl_language.specs.Trying as trying;
 ghost use Rattle.tcl_run.specs.Runs.{IsRunning, IsSteady, ProceedsIn, ways};
 
 use crate::evaluation::eval_value;
 use std::alloc::Global;
-use tcl_calls::trying::{Handler, TRY, handler_for, keep_named, read_tried, released};
+use tcl_calls::trying::{Handler, TRY, Tried, handler_for, keep_named, read_tried, released};
+use tcl_flow::completion::Completion;
 use tcl_run::failure::wrong_args;
 use tcl_run::interruption::{Interruption, caught};
 use tcl_run::outside::Outside;
 use tcl_run::steps::on_ok;
 use tcl_tree::tree::{Place, Tree};
 use tcl_value::value::Value;
+
+/// Evaluates the script of a handler, where it has one.
+///
+/// # Errors
+/// Those of the script; want of memory.
+#[cycle(eval)]
+#[inline(never)]
+fn run_handler<O: Outside>(
+    tree: &mut Tree,
+    alloc: Global,
+    outside: &mut O,
+    place: Place,
+    chosen: Option<&Value>,
+) -> Result<Value, Interruption>
+    requires { IsRunning tree.old place }
+    ensures runs { ProceedsIn (ways O.goes O.loses) tree.old outside.old place
+        (λ style. runs_last (option_copied chosen.entry)) tree.new outside.new result }
+    ensures steady { IsSteady tree.old tree.new }
+    ensures left { O.entries_left outside.new ≤ O.entries_left outside.old }
+{
+    let Some(script) = chosen else {
+        return Ok(Value::empty());
+    };
+    let mut own = script.clone()?;
+    eval_value(tree, alloc, outside, place, &mut own)
+}
+
+/// Sets the variables of the first handler that handles a completion, and evaluates its script.
+///
+/// # Errors
+/// The completion where no handler handles it; 101 to 104 of the list of the variables; 232, 233 and
+/// 238 of the variables; 122 of the options; those of the script; want of memory.
+#[cycle(eval)]
+#[inline(never)]
+fn handle<O: Outside>(
+    tree: &mut Tree,
+    alloc: Global,
+    outside: &mut O,
+    place: Place,
+    completion: Completion,
+    handlers: &[Handler<'_>],
+) -> Result<Value, Interruption>
+    requires { IsRunning tree.old place }
+    ensures runs { ProceedsIn (ways O.goes O.loses) tree.old outside.old place
+        (λ style. trying.handled_by (completion_of completion) (handlers_of handlers.now)) tree.new
+        outside.new result }
+    ensures steady { IsSteady tree.old tree.new }
+    ensures left { O.entries_left outside.new ≤ O.entries_left outside.old }
+{
+    let Some((names, script)) = handler_for(alloc, &completion, handlers)? else {
+        return released(alloc, completion);
+    };
+    keep_named(tree, alloc, place, names, &completion)?;
+    run_handler(tree, alloc, outside, place, script)
+}
 
 /// Evaluates the body of a `try`, and the script of the first handler that handles its completion.
 ///
@@ -37,15 +96,7 @@ fn handled<O: Outside>(
 {
     let mut script = body.clone()?;
     let completion = caught(eval_value(tree, alloc, outside, place, &mut script))?;
-    let Some((names, script)) = handler_for(alloc, &completion, handlers)? else {
-        return released(alloc, completion);
-    };
-    keep_named(tree, alloc, place, names, &completion)?;
-    let Some(script) = script else {
-        return Ok(Value::empty());
-    };
-    let mut script = script.clone()?;
-    eval_value(tree, alloc, outside, place, &mut script)
+    handle(tree, alloc, outside, place, completion, handlers)
 }
 
 /// `try body ?handler ...? ?finally script?`: evaluates the body and a handler of its completion,
@@ -74,12 +125,13 @@ pub fn try_script<O: Outside>(
         return Err(wrong_args(alloc, TRY));
     };
     let tried = read_tried(alloc, tree.integers(), words)?;
-    let ended = handled(tree, alloc, outside, place, body, tried.handlers.as_slice());
-    let Some(last) = tried.last else {
+    let Tried { handlers, last } = tried;
+    let ended = handled(tree, alloc, outside, place, body, handlers.as_slice());
+    let Some(last) = last else {
         return ended;
     };
     let completion = caught(ended)?;
-    let mut last = last.clone()?;
-    on_ok(eval_value(tree, alloc, outside, place, &mut last))?;
+    let mut script = last.clone()?;
+    on_ok(eval_value(tree, alloc, outside, place, &mut script))?;
     released(alloc, completion)
 }

@@ -1,5 +1,5 @@
 -- The count limit of a tree's top is set but as an entry from outside asks for it.
-use Rattle.std.proofs.Common.{◌≡◌, ℕ, zero, suc, ℤ, Bool, true, false, List, [], ◌∷◌, ◌++◌, Option, Some, None, refl, sym, ◌∙◌, ap, subst, append-nil}
+use Rattle.std.proofs.Common.{◌≡◌, ℕ, zero, suc, ℤ, Bool, true, false, List, [], ◌∷◌, ◌++◌, Option, Some, None, refl, sym, ◌∙◌, subst, append-nil}
 use Rattle.tcl_core.specs.Endings.{Completion, Meter}
 use Rattle.tcl_core.specs.Endings.Cause.{Above, Over}
 use Rattle.tcl_core.specs.Endings.Meter.{Count, Depth}
@@ -22,7 +22,7 @@ use Rattle.tcl_core.specs.Trees.{Event, Grants, Move, Node, Tree, What, asked, a
 use Rattle.tcl_core.specs.Trees.Grant.{Allow, Deny}
 use Rattle.tcl_core.specs.Trees.Grants.{Listed, Budget}
 use Rattle.tcl_core.specs.Trees.Move.{Born, Fall, Enter, Come}
-use Rattle.tcl_core.specs.Trees.What.{Seen, Changed, Charged, Refused, Nested, Unnested, Limited, DepthLimited, Made, Dropped, Out, In, Back}
+use Rattle.tcl_core.specs.Trees.What.{Seen, Charged, Refused, Nested, Limited, DepthLimited, Made, Dropped, Out, In, Back}
 use Rattle.tcl_core.specs.Views.{inside_of, kept, moves_of, view}
 use Rattle.tcl_core.proofs.Conclusions.{lives_within}
 use Rattle.tcl_core.proofs.PathLaws.{Some-inj, not_both, strip-sound, strip_own}

@@ -146,15 +146,13 @@ use Rattle.tcl_evaluation.proofs.+eval.Goals.{sourcing::source-in_default-via-th
 use Rattle.tcl_language.specs.Control.{foreach, foreach_form, lmap, lmap_form, lmap_turns}
 use Rattle.tcl_language.specs.Changes.{dict as plain_dict}
 use Rattle.tcl_language.specs.Expressions.{runs_last}
-use Rattle.tcl_language.specs.Instructions.{gives, or_fails}
+use Rattle.tcl_language.specs.Instructions.{gives}
 use Rattle.tcl_language.specs.Instructions.Instr.{Lmap}
 use Rattle.tcl_language.specs.Pairing.{dict as whole_dict, dict_for}
 use Rattle.tcl_language.specs.Switching.{choice, exactly, switch}
-use Rattle.tcl_language.specs.Trying.{handled, handled_by, keeps, tried_of, try_script}
-use Rattle.tcl_run.proofs.Endings.{ran}
+use Rattle.tcl_language.specs.Trying.{handled, handled_by, tried_of, try_script}
 use Rattle.tcl_run.proofs.Proceeding.{passed as passes, read_fails, reads_on}
-use Rattle.tcl_text.specs.Lists.{list_of}
-use Rattle.tcl_text.specs.Writing.{fault_message, written_list}
+use Rattle.tcl_text.specs.Writing.{written_list}
 use Rattle.tcl_calls.specs.Trying.{handlers_of, seen as tried_seen}
 use Rattle.tcl_calls.specs.declared.trying.Handler.{Handler as TriedHandler}
 use Rattle.tcl_evaluation.proofs.Choosing
@@ -1626,7 +1624,8 @@ collecting::lmap-turns-init g t c = record {
 pub collecting::lmap-returns-then-is_over-clause-runs : goal.collecting::lmap-returns-then-is_over-clause-runs
 collecting::lmap-returns-then-is_over-clause-runs g t c =
     let over = ap (λ (ws : List Walk). is_over (walks_at c.turns.turns ws)) (sym c.as_slice.ensures.value) ∙ sym c.is_over.ensures ∙ c.if-is_over.true in
-    ran c.collected.result (EndsBy (gives (written_list c.turns.made))) _
+    ran c.collected.result (EndsBy (gives (written_list c.turns.made)))
+    (EndsFrom (ways g.O.Outside.goes g.O.Outside.loses) c.args.tree.now c.args.outside.now c.args.place (λ style. lmap c.args.args.now) c.turns.tree c.turns.outside)
     (λ e h q style at. c.turns.invariant.leads q style at _ _ _ (Walking.turn_over style (walks_at c.turns.turns c.in_ok-walks.walks.items) (gives (written_list c.turns.made)) (result_then c.in_ok-body.body c.turns.made) over (Conditions.ends_by style (gives (written_list c.turns.made)) e h)))
     (λ q style at. c.turns.invariant.leads q style at _ _ _ stopped) c.collected.ensures
 
@@ -1679,7 +1678,8 @@ collecting::lmap-returns-then-not-branch-clause-runs g t c =
     let more = ap (λ (ws : List Walk). is_over (walks_at c.turns.turns ws)) (sym c.as_slice.ensures.value) ∙ sym c.is_over.ensures ∙ c.if-is_over.false in
     let x = Gathering.collected_ok c.eval_value-ended.result c.in_ok-collects.field-0 false c.turns.made c.collects.new.made
     (EndsAt (ways g.O.Outside.goes g.O.Outside.loses) c.set_walks.new.tree c.charge.new.outside c.args.place (λ style. script c.turns.body) c.eval_value-ended.new.tree c.eval_value-ended.new.outside) c.in_ok-collects.ensures c.if-not-branch.true c.eval_value-ended.ensures.runs in
-    ran c.collected-then-not-branch.result (EndsBy (gives (written_list c.collects.new.made))) _
+    ran c.collected-then-not-branch.result (EndsBy (gives (written_list c.collects.new.made)))
+    (EndsFrom (ways g.O.Outside.goes g.O.Outside.loses) c.args.tree.now c.args.outside.now c.args.place (λ style. lmap c.args.args.now) c.eval_value-ended.new.tree c.eval_value-ended.new.outside)
     (λ e h q style at.
     let here = still_at _ _ c.args.place q style c.turns.invariant.steady at in
     let after = still_at _ _ c.args.place q style (level_steady _ _ c.charge.ensures.level) here in
@@ -2008,17 +2008,78 @@ switching::switch-returns-in_err-body-clause-runs g t c =
     (λ e h q style at. read_fails itself (choice exactly c.args.args.now) runs_last e h) (λ q style at. stopped)
 
 pub switching::switch-returns-in_default-clause-runs : goal.switching::switch-returns-in_default-clause-runs
-switching::switch-returns-in_default-clause-runs g t c = λ q style at.
-    let none : choice exactly c.args.args.now ≡ Ok None = search rules in
-    reads_on itself runs_last none (at_reply (ap (λ (x : List ℕ). Completed (ok x)) c.empty.ensures) completed)
+switching::switch-returns-in_default-clause-runs g t c =
+    let none = rw c.in_default.is at c.in_ok-body.ensures in
+    λ q style at. reads_on itself runs_last none (at_reply (ap (λ (x : List ℕ). Completed (ok x)) c.empty.ensures) completed)
 
 pub switching::switch-returns-clause-runs : goal.switching::switch-returns-clause-runs
 switching::switch-returns-clause-runs g t c =
-    let some : choice exactly c.args.args.now ≡ Ok (Some c.in-Some.body) = search rules in
+    let some = rw c.in-Some.is at c.in_ok-body.ensures in
     IfRan-more c.eval_value.result
     (EndsAt (ways g.O.Outside.goes g.O.Outside.loses) c.args.tree.now c.args.outside.now c.args.place (λ style. script c.in-Some.body) c.eval_value.new.tree c.eval_value.new.outside)
     (EndsFrom (ways g.O.Outside.goes g.O.Outside.loses) c.args.tree.now c.args.outside.now c.args.place (λ style. switch c.args.args.now) c.eval_value.new.tree c.eval_value.new.outside)
     (λ e h q style at. reads_on itself runs_last some (goes_done {i = Script c.in-Some.body} (h q style (record { names = at.names; style_is = at.style_is })))) c.eval_value.ensures.runs
+
+-- the script of a handler
+
+pub trying::run_handler-returns-in_default-clause-runs : goal.trying::run_handler-returns-in_default-clause-runs
+trying::run_handler-returns-in_default-clause-runs g t c =
+    let none : option_copied c.args.chosen ≡ None = ap option_copied c.in_default.is in
+    λ q style at. at_prog (ap runs_last none) (at_reply (ap (λ (x : List ℕ). Completed (ok x)) c.empty.ensures) completed)
+
+pub trying::run_handler-returns-in_err-own-clause-runs : goal.trying::run_handler-returns-in_err-own-clause-runs
+trying::run_handler-returns-in_err-own-clause-runs g t c =
+    let p = err_from_is_err_and c.from_residual.result c.from_residual.ensures.1 in
+    memory_err c.from_residual.result p.0 _ _ p.1 p.2 (λ q style at. stopped)
+
+pub trying::run_handler-returns-clause-runs : goal.trying::run_handler-returns-clause-runs
+trying::run_handler-returns-clause-runs g t c =
+    let some : option_copied c.args.chosen ≡ Some c.in-Some.script.now = ap option_copied c.in-Some.is in
+    IfRan-more c.eval_value.result
+    (EndsAt (ways g.O.Outside.goes g.O.Outside.loses) c.args.tree.now c.args.outside.now c.args.place (λ style. script c.in_ok-own.own) c.eval_value.new.tree c.eval_value.new.outside)
+    (EndsFrom (ways g.O.Outside.goes g.O.Outside.loses) c.args.tree.now c.args.outside.now c.args.place (λ style. runs_last (option_copied c.args.chosen)) c.eval_value.new.tree c.eval_value.new.outside)
+    (λ e h q style at. at_prog (ap runs_last some)
+    (goes_done {i = Script c.in-Some.script.now} (at_prog (ap script (sym c.in_ok-own.ensures.cases)) (h q style (record { names = at.names; style_is = at.style_is }))))) c.eval_value.ensures.runs
+
+-- a handler
+
+pub trying::handle-returns-in_err-names-clause-runs : goal.trying::handle-returns-in_err-names-clause-runs
+trying::handle-returns-in_err-names-clause-runs g t c =
+    let p = err_from_is_err_and c.from_residual.result c.from_residual.ensures.1 in
+    memory_err c.from_residual.result p.0 _ _ p.1 p.2 (λ q style at. stopped)
+
+pub trying::handle-returns-in_default-clause-runs : goal.trying::handle-returns-in_default-clause-runs
+trying::handle-returns-in_default-clause-runs g t c =
+    let none = rw c.in_default.is at c.in_ok-names.ensures in
+    ran c.released.result (λ e. e ≡ Completed (completion_of c.args.completion))
+    (EndsFrom (ways g.O.Outside.goes g.O.Outside.loses) c.args.tree.now c.args.outside.now c.args.place (λ style. handled_by (completion_of c.args.completion) (handlers_of c.args.handlers.now)) c.args.tree.now c.args.outside.now)
+    (λ e h q style at. at_prog none (at_reply h completed)) (λ q style at. stopped) c.released.ensures
+
+pub trying::handle-returns-in_err-keep_named-clause-runs : goal.trying::handle-returns-in_err-keep_named-clause-runs
+trying::handle-returns-in_err-keep_named-clause-runs g t c =
+    let some = rw c.in-Some.is at c.in_ok-names.ensures in
+    let p = err_from_is_err_and c.from_residual-in_err-keep_named.result c.from_residual-in_err-keep_named.ensures.1 in
+    fails_err c.from_residual-in_err-keep_named.result c.in_err-keep_named.field-0.0 p.0 _ _ _ p.1 p.2 c.in_err-keep_named.ensures.kept
+    (λ e h q style at. at_prog some (does_proceeds _ c.args.outside.now (h q at.names (runs_last (option_copied c.in-Some.script))))) (λ q style at. stopped)
+
+pub trying::handle-run_handler-requires : goal.trying::handle-run_handler-requires
+trying::handle-run_handler-requires g t c κs within =
+    (search rules, (search rules, still_running _ _ c.args.place (level_steady _ _ c.keep_named.ensures.level) c.requires))
+
+pub trying::handle-returns-clause-runs : goal.trying::handle-returns-clause-runs
+trying::handle-returns-clause-runs g t c =
+    let some = rw c.in-Some.is at c.in_ok-names.ensures in
+    IfRan-more c.run_handler.result
+    (EndsFrom (ways g.O.Outside.goes g.O.Outside.loses) c.keep_named.new.tree c.args.outside.now c.args.place (λ style. runs_last (option_copied c.in-Some.script)) c.run_handler.new.tree c.run_handler.new.outside)
+    (EndsFrom (ways g.O.Outside.goes g.O.Outside.loses) c.args.tree.now c.args.outside.now c.args.place (λ style. handled_by (completion_of c.args.completion) (handlers_of c.args.handlers.now)) c.run_handler.new.tree c.run_handler.new.outside)
+    (λ e h q style at. at_prog some (Choosing.named_comes style c.in-Some.names.now (completion_of c.args.completion) (runs_last (option_copied c.in-Some.script)) (c.in_ok-keep_named.ensures.kept q at.names)
+    (h q style (still_at _ _ c.args.place q style (level_steady _ _ c.keep_named.ensures.level) at)))) c.run_handler.ensures.runs
+
+pub trying::handle-returns-clause-steady : goal.trying::handle-returns-clause-steady
+trying::handle-returns-clause-steady g t c =
+    steady-trans _ _ _ (level_steady _ _ c.keep_named.ensures.level) c.run_handler.ensures.steady
+
+-- a body and its handlers
 
 pub trying::handled-returns-in_err-script-clause-runs : goal.trying::handled-returns-in_err-script-clause-runs
 trying::handled-returns-in_err-script-clause-runs g t c =
@@ -2033,69 +2094,25 @@ trying::handled-returns-in_err-completion-clause-runs g t c =
     c.in_err-completion.was c.caught.ensures c.eval_value.ensures.runs)
     (λ e h q style at. passes {i = Script c.args.body.now} h.1 (at_prog (ap script (sym c.in_ok-script.ensures.cases)) (h.0 q style (record { names = at.names; style_is = at.style_is }))))
 
-pub trying::handled-returns-in_err-names-clause-runs : goal.trying::handled-returns-in_err-names-clause-runs
-trying::handled-returns-in_err-names-clause-runs g t c =
-    let p = err_from_is_err_and c.from_residual-in_err-names.result c.from_residual-in_err-names.ensures.1 in
-    let caught = caught_ok c.eval_value.result c.caught.result c.in_ok-completion.completion (EndsAt (ways g.O.Outside.goes g.O.Outside.loses) c.args.tree.now c.args.outside.now c.args.place (λ style. script c.in_ok-script.script) c.eval_value.new.tree c.eval_value.new.outside)
-    c.in_ok-completion.was c.caught.ensures c.eval_value.ensures.runs in
-    memory_err c.from_residual-in_err-names.result p.0 _ _ p.1 p.2
-    (λ q style at. goes_on {i = Script c.args.body.now} (at_prog (ap script (sym c.in_ok-script.ensures.cases)) (caught q style (record { names = at.names; style_is = at.style_is }))) stopped)
-
-pub trying::handled-returns-in_default-clause-runs : goal.trying::handled-returns-in_default-clause-runs
-trying::handled-returns-in_default-clause-runs g t c =
-    let caught = caught_ok c.eval_value.result c.caught.result c.in_ok-completion.completion (EndsAt (ways g.O.Outside.goes g.O.Outside.loses) c.args.tree.now c.args.outside.now c.args.place (λ style. script c.in_ok-script.script) c.eval_value.new.tree c.eval_value.new.outside)
-    c.in_ok-completion.was c.caught.ensures c.eval_value.ensures.runs in
-    let none : handled_by (completion_of c.in_ok-completion.completion) (handlers_of c.args.handlers.now) ≡ done (completion_of c.in_ok-completion.completion) = search rules in
-    ran c.released.result (λ e. e ≡ Completed (completion_of c.in_ok-completion.completion)) _
-    (λ e h q style at. goes_on {i = Script c.args.body.now} (at_prog (ap script (sym c.in_ok-script.ensures.cases)) (caught q style (record { names = at.names; style_is = at.style_is }))) (at_prog none (at_reply h completed)))
-    (λ q style at. goes_on {i = Script c.args.body.now} (at_prog (ap script (sym c.in_ok-script.ensures.cases)) (caught q style (record { names = at.names; style_is = at.style_is }))) stopped) c.released.ensures
-
-pub trying::handled-returns-in_err-keep_named-clause-runs : goal.trying::handled-returns-in_err-keep_named-clause-runs
-trying::handled-returns-in_err-keep_named-clause-runs g t c =
-    let p = err_from_is_err_and c.from_residual-in_err-keep_named.result c.from_residual-in_err-keep_named.ensures.1 in
-    let caught = caught_ok c.eval_value.result c.caught.result c.in_ok-completion.completion (EndsAt (ways g.O.Outside.goes g.O.Outside.loses) c.args.tree.now c.args.outside.now c.args.place (λ style. script c.in_ok-script.script) c.eval_value.new.tree c.eval_value.new.outside)
-    c.in_ok-completion.was c.caught.ensures c.eval_value.ensures.runs in
-    let some : handled_by (completion_of c.in_ok-completion.completion) (handlers_of c.args.handlers.now) ≡ or_fails fault_message (list_of c.in-Some.names.now) (λ xs. keeps xs (completion_of c.in_ok-completion.completion) (runs_last (option_copied c.in-Some.script))) = search rules in
-    fails_err c.from_residual-in_err-keep_named.result c.in_err-keep_named.field-0.0 p.0 _ _ _ p.1 p.2 c.in_err-keep_named.ensures.kept
-    (λ e h q style at.
-    let after = still_at _ _ c.args.place q style c.eval_value.ensures.steady at in
-    goes_on {i = Script c.args.body.now} (at_prog (ap script (sym c.in_ok-script.ensures.cases)) (caught q style (record { names = at.names; style_is = at.style_is }))) (at_prog some (does_proceeds _ c.eval_value.new.outside (h q after.names _))))
-    (λ q style at. goes_on {i = Script c.args.body.now} (at_prog (ap script (sym c.in_ok-script.ensures.cases)) (caught q style (record { names = at.names; style_is = at.style_is }))) stopped)
-
-pub trying::handled-returns-in_default-script-clause-runs : goal.trying::handled-returns-in_default-script-clause-runs
-trying::handled-returns-in_default-script-clause-runs g t c = λ q style at.
-    let caught = caught_ok c.eval_value.result c.caught.result c.in_ok-completion.completion (EndsAt (ways g.O.Outside.goes g.O.Outside.loses) c.args.tree.now c.args.outside.now c.args.place (λ style. script c.in_ok-script.script) c.eval_value.new.tree c.eval_value.new.outside)
-    c.in_ok-completion.was c.caught.ensures c.eval_value.ensures.runs in
-    let some : handled_by (completion_of c.in_ok-completion.completion) (handlers_of c.args.handlers.now) ≡ or_fails fault_message (list_of c.in-Some.names.now) (λ xs. keeps xs (completion_of c.in_ok-completion.completion) (runs_last (option_copied c.in-Some.script))) = search rules in
-    let none : option_copied c.in-Some.script ≡ None = search rules in
-    let after = still_at _ _ c.args.place q style c.eval_value.ensures.steady at in
-    goes_on {i = Script c.args.body.now} (at_prog (ap script (sym c.in_ok-script.ensures.cases)) (caught q style (record { names = at.names; style_is = at.style_is })))
-    (at_prog some (Choosing.named_comes style c.in-Some.names.now (completion_of c.in_ok-completion.completion) (runs_last (option_copied c.in-Some.script)) (c.in_ok-keep_named.ensures.kept q after.names)
-    (at_prog (ap runs_last none) (at_reply (ap (λ (x : List ℕ). Completed (ok x)) c.empty.ensures) completed))))
-
-pub trying::handled-returns-in_err-script-2-clause-runs : goal.trying::handled-returns-in_err-script-2-clause-runs
-trying::handled-returns-in_err-script-2-clause-runs g t c =
-    let p = err_from_is_err_and c.from_residual-in_err-script-2.result c.from_residual-in_err-script-2.ensures.1 in
-    let caught = caught_ok c.eval_value.result c.caught.result c.in_ok-completion.completion (EndsAt (ways g.O.Outside.goes g.O.Outside.loses) c.args.tree.now c.args.outside.now c.args.place (λ style. script c.in_ok-script.script) c.eval_value.new.tree c.eval_value.new.outside)
-    c.in_ok-completion.was c.caught.ensures c.eval_value.ensures.runs in
-    memory_err c.from_residual-in_err-script-2.result p.0 _ _ p.1 p.2
-    (λ q style at. goes_on {i = Script c.args.body.now} (at_prog (ap script (sym c.in_ok-script.ensures.cases)) (caught q style (record { names = at.names; style_is = at.style_is }))) stopped)
+pub trying::handled-handle-requires : goal.trying::handled-handle-requires
+trying::handled-handle-requires g t c κs within =
+    (search rules, (search rules, still_running _ _ c.args.place c.eval_value.ensures.steady c.requires))
 
 pub trying::handled-returns-clause-runs : goal.trying::handled-returns-clause-runs
 trying::handled-returns-clause-runs g t c =
     let caught = caught_ok c.eval_value.result c.caught.result c.in_ok-completion.completion (EndsAt (ways g.O.Outside.goes g.O.Outside.loses) c.args.tree.now c.args.outside.now c.args.place (λ style. script c.in_ok-script.script) c.eval_value.new.tree c.eval_value.new.outside)
     c.in_ok-completion.was c.caught.ensures c.eval_value.ensures.runs in
-    let some : handled_by (completion_of c.in_ok-completion.completion) (handlers_of c.args.handlers.now) ≡ or_fails fault_message (list_of c.in-Some.names.now) (λ xs. keeps xs (completion_of c.in_ok-completion.completion) (runs_last (option_copied c.in-Some.script))) = search rules in
-    let is : option_copied c.in-Some.script ≡ Some c.in-Some-script.script.now = search rules in
-    IfRan-more c.eval_value-2.result
-    (EndsAt (ways g.O.Outside.goes g.O.Outside.loses) c.keep_named.new.tree c.eval_value.new.outside c.args.place (λ style. script c.in_ok-script-2.script) c.eval_value-2.new.tree c.eval_value-2.new.outside)
-    (EndsFrom (ways g.O.Outside.goes g.O.Outside.loses) c.args.tree.now c.args.outside.now c.args.place (λ style. handled c.args.body.now (handlers_of c.args.handlers.now)) c.eval_value-2.new.tree c.eval_value-2.new.outside)
-    (λ e h q style at.
-    let after = still_at _ _ c.args.place q style c.eval_value.ensures.steady at in
-    let set = still_at _ _ c.args.place q style (level_steady _ _ c.keep_named.ensures.level) after in
-    goes_on {i = Script c.args.body.now} (at_prog (ap script (sym c.in_ok-script.ensures.cases)) (caught q style (record { names = at.names; style_is = at.style_is })))
-    (at_prog some (Choosing.named_comes style c.in-Some.names.now (completion_of c.in_ok-completion.completion) (runs_last (option_copied c.in-Some.script)) (c.in_ok-keep_named.ensures.kept q after.names)
-    (at_prog (ap runs_last is) (goes_done {i = Script c.in-Some-script.script.now} (at_prog (ap script (sym c.in_ok-script-2.ensures.cases)) (h q style (record { names = set.names; style_is = set.style_is })))))))) c.eval_value-2.ensures.runs
+    IfRan-more c.handle.result
+    (EndsFrom (ways g.O.Outside.goes g.O.Outside.loses) c.eval_value.new.tree c.eval_value.new.outside c.args.place (λ style. handled_by (completion_of c.in_ok-completion.completion) (handlers_of c.args.handlers.now)) c.handle.new.tree c.handle.new.outside)
+    (EndsFrom (ways g.O.Outside.goes g.O.Outside.loses) c.args.tree.now c.args.outside.now c.args.place (λ style. handled c.args.body.now (handlers_of c.args.handlers.now)) c.handle.new.tree c.handle.new.outside)
+    (λ e h q style at. goes_on {i = Script c.args.body.now} (at_prog (ap script (sym c.in_ok-script.ensures.cases)) (caught q style (record { names = at.names; style_is = at.style_is })))
+    (h q style (still_at _ _ c.args.place q style c.eval_value.ensures.steady at))) c.handle.ensures.runs
+
+pub trying::handled-returns-clause-steady : goal.trying::handled-returns-clause-steady
+trying::handled-returns-clause-steady g t c =
+    steady-trans _ _ _ c.eval_value.ensures.steady c.handle.ensures.steady
+
+-- `try`
 
 pub trying::try_script-returns-in_default-clause-runs : goal.trying::try_script-returns-in_default-clause-runs
 trying::try_script-returns-in_default-clause-runs g t c =
@@ -2111,70 +2128,86 @@ trying::try_script-returns-in_err-tried-clause-runs g t c =
 
 pub trying::try_script-returns-in_default-last-clause-runs : goal.trying::try_script-returns-in_default-last-clause-runs
 trying::try_script-returns-in_default-last-clause-runs g t c =
-    let none : option_copied c.in_ok-tried.tried.last ≡ None = search rules in
+    let none : option_copied c.in_ok-tried.tried.last ≡ None = ap option_copied c.in_default-last.is in
     IfRan-more c.handled-ended.result (EndsFrom (ways g.O.Outside.goes g.O.Outside.loses) c.args.tree.now c.args.outside.now c.args.place (λ style. handled c.body-item.result (handlers_of c.as_slice.result.now)) c.handled-ended.new.tree c.handled-ended.new.outside)
     (EndsFrom (ways g.O.Outside.goes g.O.Outside.loses) c.args.tree.now c.args.outside.now c.args.place (λ style. try_script style c.args.args.now) c.handled-ended.new.tree c.handled-ended.new.outside)
     (λ e h q style at.
     let same = c.integers.ensures ∙ at.style_is in
     Choosing.try_begins style c.args.args.now (take (length c.args.args.now - 1) (drop 1 c.args.args.now)) c.body-item.result (tried_seen c.in_ok-tried.tried) (split_first c.args.args.now c.body-item.result c.in-len1-up.len_at_least c.body-item.is) (ap (λ (s : Integers). tried_of s (take (length c.args.args.now - 1) (drop 1 c.args.args.now))) (sym same) ∙ c.in_ok-tried.ensures)
-    (Choosing.finish_none style c.body-item.result (handlers_of c.in_ok-tried.tried.handlers.items) _ none (at_prog (ap (λ (hs : List TriedHandler). handled c.body-item.result (handlers_of hs)) (sym c.as_slice.ensures.value)) (h q style at)))) c.handled-ended.ensures.runs
+    (Choosing.finish_none style c.body-item.result (handlers_of c.in_ok-tried.tried.handlers.items) (option_copied c.in_ok-tried.tried.last) none (at_prog (ap (λ (hs : List TriedHandler). handled c.body-item.result (handlers_of hs)) (sym c.as_slice.ensures.value)) (h q style at)))) c.handled-ended.ensures.runs
 
 pub trying::try_script-returns-in_err-completion-clause-runs : goal.trying::try_script-returns-in_err-completion-clause-runs
 trying::try_script-returns-in_err-completion-clause-runs g t c =
     let p = err_from_is_err_and c.from_residual-in_err-completion.result c.from_residual-in_err-completion.ensures.1 in
     ran_err c.from_residual-in_err-completion.result c.in_err-completion.field-0.0 p.0 _ _ _ p.1 p.2
-    (caught_err c.handled-ended.result c.caught.result c.in_err-completion.field-0.0 (EndsFrom (ways g.O.Outside.goes g.O.Outside.loses) c.args.tree.now c.args.outside.now c.args.place (λ style. handled c.body-item.result (handlers_of c.as_slice.result.now)) c.handled-ended.new.tree c.handled-ended.new.outside) c.in_err-completion.was c.caught.ensures c.handled-ended.ensures.runs)
+    (caught_err c.handled-ended.result c.caught.result c.in_err-completion.field-0.0 (EndsFrom (ways g.O.Outside.goes g.O.Outside.loses) c.args.tree.now c.args.outside.now c.args.place (λ style. handled c.body-item.result (handlers_of c.as_slice.result.now)) c.handled-ended.new.tree c.handled-ended.new.outside)
+    c.in_err-completion.was c.caught.ensures c.handled-ended.ensures.runs)
     (λ e h q style at.
     let same = c.integers.ensures ∙ at.style_is in
     Choosing.try_begins style c.args.args.now (take (length c.args.args.now - 1) (drop 1 c.args.args.now)) c.body-item.result (tried_seen c.in_ok-tried.tried) (split_first c.args.args.now c.body-item.result c.in-len1-up.len_at_least c.body-item.is) (ap (λ (s : Integers). tried_of s (take (length c.args.args.now - 1) (drop 1 c.args.args.now))) (sym same) ∙ c.in_ok-tried.ensures)
-    (Choosing.finish_passes style c.body-item.result (handlers_of c.in_ok-tried.tried.handlers.items) _ h.1 (at_prog (ap (λ (hs : List TriedHandler). handled c.body-item.result (handlers_of hs)) (sym c.as_slice.ensures.value)) (h.0 q style at))))
+    (Choosing.finish_passes style c.body-item.result (handlers_of c.in_ok-tried.tried.handlers.items) (option_copied c.in_ok-tried.tried.last) h.1 (at_prog (ap (λ (hs : List TriedHandler). handled c.body-item.result (handlers_of hs)) (sym c.as_slice.ensures.value)) (h.0 q style at))))
 
-pub trying::try_script-returns-in_err-last-clause-runs : goal.trying::try_script-returns-in_err-last-clause-runs
-trying::try_script-returns-in_err-last-clause-runs g t c =
-    let p = err_from_is_err_and c.from_residual-in_err-last.result c.from_residual-in_err-last.ensures.1 in
-    let caught = caught_ok c.handled-ended.result c.caught.result c.in_ok-completion.completion (EndsFrom (ways g.O.Outside.goes g.O.Outside.loses) c.args.tree.now c.args.outside.now c.args.place (λ style. handled c.body-item.result (handlers_of c.as_slice.result.now)) c.handled-ended.new.tree c.handled-ended.new.outside) c.in_ok-completion.was c.caught.ensures c.handled-ended.ensures.runs in
-    let some : option_copied c.in_ok-tried.tried.last ≡ Some c.in-Some.last.now = search rules in
-    memory_err c.from_residual-in_err-last.result p.0 _ _ p.1 p.2
+pub trying::try_script-returns-in_err-script-clause-runs : goal.trying::try_script-returns-in_err-script-clause-runs
+trying::try_script-returns-in_err-script-clause-runs g t c =
+    let p = err_from_is_err_and c.from_residual-in_err-script.result c.from_residual-in_err-script.ensures.1 in
+    let caught = caught_ok c.handled-ended.result c.caught.result c.in_ok-completion.completion (EndsFrom (ways g.O.Outside.goes g.O.Outside.loses) c.args.tree.now c.args.outside.now c.args.place (λ style. handled c.body-item.result (handlers_of c.as_slice.result.now)) c.handled-ended.new.tree c.handled-ended.new.outside)
+    c.in_ok-completion.was c.caught.ensures c.handled-ended.ensures.runs in
+    let some : option_copied c.in_ok-tried.tried.last ≡ Some c.in-Some.last.now = ap option_copied c.in-Some.is in
+    memory_err c.from_residual-in_err-script.result p.0 _ _ p.1 p.2
     (λ q style at.
     let same = c.integers.ensures ∙ at.style_is in
     Choosing.try_begins style c.args.args.now (take (length c.args.args.now - 1) (drop 1 c.args.args.now)) c.body-item.result (tried_seen c.in_ok-tried.tried) (split_first c.args.args.now c.body-item.result c.in-len1-up.len_at_least c.body-item.is) (ap (λ (s : Integers). tried_of s (take (length c.args.args.now - 1) (drop 1 c.args.args.now))) (sym same) ∙ c.in_ok-tried.ensures)
-    (Choosing.finish_lost style c.body-item.result (handlers_of c.in_ok-tried.tried.handlers.items) _ c.in-Some.last.now (completion_of c.in_ok-completion.completion) some (at_prog (ap (λ (hs : List TriedHandler). handled c.body-item.result (handlers_of hs)) (sym c.as_slice.ensures.value)) (caught q style at))))
+    (Choosing.finish_lost style c.body-item.result (handlers_of c.in_ok-tried.tried.handlers.items) (option_copied c.in_ok-tried.tried.last) c.in-Some.last.now (completion_of c.in_ok-completion.completion) some (at_prog (ap (λ (hs : List TriedHandler). handled c.body-item.result (handlers_of hs)) (sym c.as_slice.ensures.value)) (caught q style at))))
+
+pub trying::try_script-eval_value-requires : goal.trying::try_script-eval_value-requires
+trying::try_script-eval_value-requires g t c κs within =
+    (search rules, (search rules, let r = still_running _ _ c.args.place c.handled-ended.ensures.steady c.requires in (r.0, r.1)))
 
 pub trying::try_script-returns-in_err-on_ok-clause-runs : goal.trying::try_script-returns-in_err-on_ok-clause-runs
 trying::try_script-returns-in_err-on_ok-clause-runs g t c =
     let p = err_from_is_err_and c.from_residual-in_err-on_ok.result c.from_residual-in_err-on_ok.ensures.1 in
-    let caught = caught_ok c.handled-ended.result c.caught.result c.in_ok-completion.completion (EndsFrom (ways g.O.Outside.goes g.O.Outside.loses) c.args.tree.now c.args.outside.now c.args.place (λ style. handled c.body-item.result (handlers_of c.as_slice.result.now)) c.handled-ended.new.tree c.handled-ended.new.outside) c.in_ok-completion.was c.caught.ensures c.handled-ended.ensures.runs in
-    let some : option_copied c.in_ok-tried.tried.last ≡ Some c.in-Some.last.now = search rules in
+    let caught = caught_ok c.handled-ended.result c.caught.result c.in_ok-completion.completion (EndsFrom (ways g.O.Outside.goes g.O.Outside.loses) c.args.tree.now c.args.outside.now c.args.place (λ style. handled c.body-item.result (handlers_of c.as_slice.result.now)) c.handled-ended.new.tree c.handled-ended.new.outside)
+    c.in_ok-completion.was c.caught.ensures c.handled-ended.ensures.runs in
+    let some : option_copied c.in_ok-tried.tried.last ≡ Some c.in-Some.last.now = ap option_copied c.in-Some.is in
     ran_err c.from_residual-in_err-on_ok.result c.in_err-on_ok.field-0.0 p.0 _ _ _ p.1 p.2
-    (stays_of c.eval_value.result c.in_err-on_ok.field-0.0 (EndsAt (ways g.O.Outside.goes g.O.Outside.loses) c.handled-ended.new.tree c.handled-ended.new.outside c.args.place (λ style. script c.in_ok-last.last) c.eval_value.new.tree c.eval_value.new.outside)
+    (stays_of c.eval_value.result c.in_err-on_ok.field-0.0 (EndsAt (ways g.O.Outside.goes g.O.Outside.loses) c.handled-ended.new.tree c.handled-ended.new.outside c.args.place (λ style. script c.in_ok-script.script) c.eval_value.new.tree c.eval_value.new.outside)
     c.in_err-on_ok.ensures.same c.eval_value.ensures.runs c.in_err-on_ok.ensures.stays)
     (λ e h q style at.
     let same = c.integers.ensures ∙ at.style_is in
     let after = still_at _ _ c.args.place q style c.handled-ended.ensures.steady at in
     Choosing.try_begins style c.args.args.now (take (length c.args.args.now - 1) (drop 1 c.args.args.now)) c.body-item.result (tried_seen c.in_ok-tried.tried) (split_first c.args.args.now c.body-item.result c.in-len1-up.len_at_least c.body-item.is) (ap (λ (s : Integers). tried_of s (take (length c.args.args.now - 1) (drop 1 c.args.args.now))) (sym same) ∙ c.in_ok-tried.ensures)
-    (Choosing.finish_stays style c.body-item.result (handlers_of c.in_ok-tried.tried.handlers.items) _ c.in-Some.last.now (completion_of c.in_ok-completion.completion) e some h.1 (at_prog (ap (λ (hs : List TriedHandler). handled c.body-item.result (handlers_of hs)) (sym c.as_slice.ensures.value)) (caught q style at))
-    (at_prog (ap script (sym c.in_ok-last.ensures.cases)) (h.0 q style (record { names = after.names; style_is = after.style_is })))))
+    (Choosing.finish_stays style c.body-item.result (handlers_of c.in_ok-tried.tried.handlers.items) (option_copied c.in_ok-tried.tried.last) c.in-Some.last.now (completion_of c.in_ok-completion.completion) e some h.1 (at_prog (ap (λ (hs : List TriedHandler). handled c.body-item.result (handlers_of hs)) (sym c.as_slice.ensures.value)) (caught q style at))
+    (at_prog (ap script (sym c.in_ok-script.ensures.cases)) (h.0 q style (record { names = after.names; style_is = after.style_is })))))
+
+pub trying::try_script-returns-in_err-on_ok-clause-steady : goal.trying::try_script-returns-in_err-on_ok-clause-steady
+trying::try_script-returns-in_err-on_ok-clause-steady g t c =
+    steady-trans _ _ _ c.handled-ended.ensures.steady c.eval_value.ensures.steady
 
 pub trying::try_script-returns-clause-runs : goal.trying::try_script-returns-clause-runs
 trying::try_script-returns-clause-runs g t c =
-    let caught = caught_ok c.handled-ended.result c.caught.result c.in_ok-completion.completion (EndsFrom (ways g.O.Outside.goes g.O.Outside.loses) c.args.tree.now c.args.outside.now c.args.place (λ style. handled c.body-item.result (handlers_of c.as_slice.result.now)) c.handled-ended.new.tree c.handled-ended.new.outside) c.in_ok-completion.was c.caught.ensures c.handled-ended.ensures.runs in
-    let some : option_copied c.in_ok-tried.tried.last ≡ Some c.in-Some.last.now = search rules in
-    let x = ran_text c.eval_value.result c.in_ok-on_ok.field-0 (EndsAt (ways g.O.Outside.goes g.O.Outside.loses) c.handled-ended.new.tree c.handled-ended.new.outside c.args.place (λ style. script c.in_ok-last.last) c.eval_value.new.tree c.eval_value.new.outside)
-    c.in_ok-on_ok.ensures.text c.eval_value.ensures.runs in
-    ran c.released.result (λ e. e ≡ Completed (completion_of c.in_ok-completion.completion)) _
+    let caught = caught_ok c.handled-ended.result c.caught.result c.in_ok-completion.completion (EndsFrom (ways g.O.Outside.goes g.O.Outside.loses) c.args.tree.now c.args.outside.now c.args.place (λ style. handled c.body-item.result (handlers_of c.as_slice.result.now)) c.handled-ended.new.tree c.handled-ended.new.outside)
+    c.in_ok-completion.was c.caught.ensures c.handled-ended.ensures.runs in
+    let some : option_copied c.in_ok-tried.tried.last ≡ Some c.in-Some.last.now = ap option_copied c.in-Some.is in
+    let x = ran_text c.eval_value.result c.in_ok-on_ok.field-0 (EndsAt (ways g.O.Outside.goes g.O.Outside.loses) c.handled-ended.new.tree c.handled-ended.new.outside c.args.place (λ style. script c.in_ok-script.script) c.eval_value.new.tree c.eval_value.new.outside) c.in_ok-on_ok.ensures.text c.eval_value.ensures.runs in
+    ran c.released.result (λ e. e ≡ Completed (completion_of c.in_ok-completion.completion))
+    (EndsFrom (ways g.O.Outside.goes g.O.Outside.loses) c.args.tree.now c.args.outside.now c.args.place (λ style. try_script style c.args.args.now) c.eval_value.new.tree c.eval_value.new.outside)
     (λ e h q style at.
     let same = c.integers.ensures ∙ at.style_is in
     let after = still_at _ _ c.args.place q style c.handled-ended.ensures.steady at in
     Choosing.try_begins style c.args.args.now (take (length c.args.args.now - 1) (drop 1 c.args.args.now)) c.body-item.result (tried_seen c.in_ok-tried.tried) (split_first c.args.args.now c.body-item.result c.in-len1-up.len_at_least c.body-item.is) (ap (λ (s : Integers). tried_of s (take (length c.args.args.now - 1) (drop 1 c.args.args.now))) (sym same) ∙ c.in_ok-tried.ensures)
-    (Choosing.finish_goes style c.body-item.result (handlers_of c.in_ok-tried.tried.handlers.items) _ c.in-Some.last.now (completion_of c.in_ok-completion.completion) x.0 c.in_ok-on_ok.field-0 some x.2 x.3 (at_prog (ap (λ (hs : List TriedHandler). handled c.body-item.result (handlers_of hs)) (sym c.as_slice.ensures.value)) (caught q style at))
-    (at_prog (ap script (sym c.in_ok-last.ensures.cases)) (x.1 q style (record { names = after.names; style_is = after.style_is }))) (at_reply h completed)))
+    (Choosing.finish_goes style c.body-item.result (handlers_of c.in_ok-tried.tried.handlers.items) (option_copied c.in_ok-tried.tried.last) c.in-Some.last.now (completion_of c.in_ok-completion.completion) x.0 c.in_ok-on_ok.field-0 some x.2 x.3 (at_prog (ap (λ (hs : List TriedHandler). handled c.body-item.result (handlers_of hs)) (sym c.as_slice.ensures.value)) (caught q style at))
+    (at_prog (ap script (sym c.in_ok-script.ensures.cases)) (x.1 q style (record { names = after.names; style_is = after.style_is }))) (at_reply h completed)))
     (λ q style at.
     let same = c.integers.ensures ∙ at.style_is in
     let after = still_at _ _ c.args.place q style c.handled-ended.ensures.steady at in
     Choosing.try_begins style c.args.args.now (take (length c.args.args.now - 1) (drop 1 c.args.args.now)) c.body-item.result (tried_seen c.in_ok-tried.tried) (split_first c.args.args.now c.body-item.result c.in-len1-up.len_at_least c.body-item.is) (ap (λ (s : Integers). tried_of s (take (length c.args.args.now - 1) (drop 1 c.args.args.now))) (sym same) ∙ c.in_ok-tried.ensures)
-    (Choosing.finish_goes style c.body-item.result (handlers_of c.in_ok-tried.tried.handlers.items) _ c.in-Some.last.now (completion_of c.in_ok-completion.completion) x.0 c.in_ok-on_ok.field-0 some x.2 x.3 (at_prog (ap (λ (hs : List TriedHandler). handled c.body-item.result (handlers_of hs)) (sym c.as_slice.ensures.value)) (caught q style at))
-    (at_prog (ap script (sym c.in_ok-last.ensures.cases)) (x.1 q style (record { names = after.names; style_is = after.style_is }))) stopped))
+    (Choosing.finish_goes style c.body-item.result (handlers_of c.in_ok-tried.tried.handlers.items) (option_copied c.in_ok-tried.tried.last) c.in-Some.last.now (completion_of c.in_ok-completion.completion) x.0 c.in_ok-on_ok.field-0 some x.2 x.3 (at_prog (ap (λ (hs : List TriedHandler). handled c.body-item.result (handlers_of hs)) (sym c.as_slice.ensures.value)) (caught q style at))
+    (at_prog (ap script (sym c.in_ok-script.ensures.cases)) (x.1 q style (record { names = after.names; style_is = after.style_is }))) stopped))
     c.released.ensures
+
+pub trying::try_script-returns-clause-steady : goal.trying::try_script-returns-clause-steady
+trying::try_script-returns-clause-steady g t c =
+    steady-trans _ _ _ c.handled-ended.ensures.steady c.eval_value.ensures.steady
 
 -- # What reaches the host
 
@@ -2324,6 +2357,9 @@ hosting::make_call-returns-clause-runs g t c =
     call_answered (ways g.O.Outside.goes g.O.Outside.loses) c.args.tree.now c.ask.new.tree c.answer.new.tree c.args.outside.now c.ask.new.outside c.args.place c.args.call.now (request_of c.in_ok-request.request) (reply_of c.in_ok-reply.reply) c.answer.result
     c.in_ok-request.ensures c.in_ok-reply.ensures.runs c.ask.ensures.steady c.answer.ensures.acts
 
+pub hosting::make_call-answer-requires : goal.hosting::make_call-answer-requires
+hosting::make_call-answer-requires g t c = let r = still_running _ _ c.args.place c.ask.ensures.steady c.requires in (r.0, r.1)
+
 pub hosting::make_call-returns-clause-steady : goal.hosting::make_call-returns-clause-steady
 hosting::make_call-returns-clause-steady g t c = steady-trans _ _ _ c.ask.ensures.steady (level_steady _ _ c.answer.ensures.level)
 
@@ -2349,9 +2385,9 @@ sourcing::source-returns-in_err-text-in-len1-clause-runs g t c =
 pub sourcing::source-returns-in_ok-text-in-len1-clause-runs : goal.sourcing::source-returns-in_ok-text-in-len1-clause-runs
 sourcing::source-returns-in_ok-text-in-len1-clause-runs g t c =
     let is = one_item c.args.args.now c.file-item.result c.in-len1.len_at_least c.in-len1.len_below c.file-item.is in
-    IfRan-more c.source_file.result (EndsFrom (ways g.O.Outside.goes g.O.Outside.loses) c.args.tree.now c.args.outside.now c.args.place (λ style. sourcing.sources c.in_ok-text-in-len1.field-0) c.source_file.new.tree c.source_file.new.outside)
-    (EndsFrom (ways g.O.Outside.goes g.O.Outside.loses) c.args.tree.now c.args.outside.now c.args.place (λ style. sourcing.source c.args.args.now) c.source_file.new.tree c.source_file.new.outside)
-    (λ e h q style at. at_prog (ap sourcing.source is ∙ ap sourcing.sources (sym c.in_ok-text-in-len1.ensures)) (h q style at)) c.source_file.ensures.runs
+    IfRan-more c.source_file-in-len1.result (EndsFrom (ways g.O.Outside.goes g.O.Outside.loses) c.args.tree.now c.args.outside.now c.args.place (λ style. sourcing.sources c.in_ok-text-in-len1.field-0) c.source_file-in-len1.new.tree c.source_file-in-len1.new.outside)
+    (EndsFrom (ways g.O.Outside.goes g.O.Outside.loses) c.args.tree.now c.args.outside.now c.args.place (λ style. sourcing.source c.args.args.now) c.source_file-in-len1.new.tree c.source_file-in-len1.new.outside)
+    (λ e h q style at. at_prog (ap sourcing.source is ∙ ap sourcing.sources (sym c.in_ok-text-in-len1.ensures)) (h q style at)) c.source_file-in-len1.ensures.runs
 
 pub sourcing::source-returns-in_default-clause-runs : goal.sourcing::source-returns-in_default-clause-runs
 sourcing::source-returns-in_default-clause-runs g t c =
@@ -2431,8 +2467,8 @@ sourcing::read_channel-returns-in_err-read-clause-runs g t c =
     (λ read. hosting.asks (asking.Request.Close c.args.channel.now) (sourcing.closed c.args.file.now read))
     c.from_residual-in_err-read.result c.in_err-read.field-0.0 p.0 (ap (λ (x : Text). hosting.asks (asking.Request.ReadAll x) (λ read. hosting.asks (asking.Request.Close c.args.channel.now) (sourcing.closed c.args.file.now read))) (sym channel)) p.1 p.2 c.in_err-read.ensures.runs
 
-pub sourcing::read_channel-ask-2-requires : goal.sourcing::read_channel-ask-2-requires
-sourcing::read_channel-ask-2-requires g t c κs within = (search rules, (search rules, still_running _ _ c.args.place c.ask.ensures.steady c.requires))
+pub sourcing::read_channel-ask-requires-2 : goal.sourcing::read_channel-ask-requires-2
+sourcing::read_channel-ask-requires-2 g t c κs within = (search rules, (search rules, still_running _ _ c.args.place c.ask.ensures.steady c.requires))
 
 pub sourcing::read_channel-returns-in_err-closed-clause-runs : goal.sourcing::read_channel-returns-in_err-closed-clause-runs
 sourcing::read_channel-returns-in_err-closed-clause-runs g t c =

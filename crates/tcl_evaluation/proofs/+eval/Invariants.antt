@@ -240,11 +240,17 @@ invariant-collecting::lmap-turns g l = record {
 abbrev pub decreases-switching::switch : goal.decreases-switching::switch
 decreases-switching::switch g l = 16016 * g.O.Outside.entries_left l.outside.now + 16 * room (tree_of l.tree.now) + 2
 
+abbrev pub decreases-trying::run_handler : goal.decreases-trying::run_handler
+decreases-trying::run_handler g l = 16016 * g.O.Outside.entries_left l.outside.now + 16 * room (tree_of l.tree.now) + 2
+
+abbrev pub decreases-trying::handle : goal.decreases-trying::handle
+decreases-trying::handle g l = 16016 * g.O.Outside.entries_left l.outside.now + 16 * room (tree_of l.tree.now) + 3
+
 abbrev pub decreases-trying::handled : goal.decreases-trying::handled
-decreases-trying::handled g l = 16016 * g.O.Outside.entries_left l.outside.now + 16 * room (tree_of l.tree.now) + 2
+decreases-trying::handled g l = 16016 * g.O.Outside.entries_left l.outside.now + 16 * room (tree_of l.tree.now) + 4
 
 abbrev pub decreases-trying::try_script : goal.decreases-trying::try_script
-decreases-trying::try_script g l = 16016 * g.O.Outside.entries_left l.outside.now + 16 * room (tree_of l.tree.now) + 3
+decreases-trying::try_script g l = 16016 * g.O.Outside.entries_left l.outside.now + 16 * room (tree_of l.tree.now) + 5
 
 -- Crossings, and what stands outside of the tree.
 

@@ -3,7 +3,7 @@ use Rattle.std.specs.Prelude.{Result, Err, IfErr, IfNone, IfOk, IfSome, IsErrOf}
 use Rattle.tcl_run.specs.Outsides.{hosted}
 use Rattle.tcl_run.specs.Runs.{ways}
 use Rattle.tcl_tree.specs.TreeOf.{marks_of}
-use Rattle.tcl_eval.specs.Running.{AsksFirst, IsBudgeted, IsGivenUp, IsRun, IsWhole, root_count, unfit}
+use Rattle.tcl_eval.specs.Running.{AsksFirst, IsGivenUp, IsRun, IsWhole, root_count, unfit}
 use Rattle.tcl_eval.specs.declared.running.End.{End}
 use Rattle.tcl_eval.specs.declared.running.Refused.{Refused}
 use Rattle.tcl_eval.specs.declared.running.Refused.TheVariants as refused
