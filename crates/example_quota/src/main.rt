@@ -30,12 +30,7 @@ fn admit(tree: &mut Tree, alloc: Global, name: &str) -> Result<(), EmbedError> {
 }
 
 /// How a script of a stranger ends, and how many steps the stranger has made by then.
-fn ending(
-    tree: &mut Tree,
-    alloc: Global,
-    name: &str,
-    script: &str,
-) -> Result<String, AllocError> {
+fn ending(tree: &mut Tree, alloc: Global, name: &str, script: &str) -> Result<String, AllocError> {
     let path = [Text::new(alloc, name)?];
     let mut host = MemoryHost::new(alloc)?;
     let run = eval(tree, alloc, &mut host, &path, script, 100_000);

@@ -20,11 +20,7 @@ const SCRIPT: &str = "foreach name {tea milk} {lappend bought [price $name]}
 llength $bought";
 
 /// Evaluates the stranger's script: how it ends, and what crosses the stranger's boundary.
-fn watch(
-    tree: &mut Tree,
-    alloc: Global,
-    guest: &[Text],
-) -> Result<(String, Record), EmbedError> {
+fn watch(tree: &mut Tree, alloc: Global, guest: &[Text]) -> Result<(String, Record), EmbedError> {
     let host = MemoryHost::new(alloc)?;
     let (_host, watched) = eval_watched(tree, alloc, host, guest, SCRIPT, 1_000, guest);
     let (end, record) = watched?;
@@ -49,6 +45,9 @@ fn main(rt: HostRuntime) -> Result<(), EmbedError> {
     let now = save(&tree, &guest)?;
     println!(rt; "{end}")?;
     println!(rt; "{} crossings", record.crossings().len())?;
-    println!(rt; "the replay agrees: {}", agrees(alloc, &before, &record, &now)?)?;
+    println!(rt;
+        "the replay agrees: {}",
+        agrees(alloc, &before, &record, &now)?
+    )?;
     Ok(())
 }

@@ -10,8 +10,7 @@ ghost use Rattle.tcl_embed.specs.Messages.{tree_text, unplayed_text, unwatched_t
 
 use std::alloc::{AllocError, AllocFailed};
 use std::error::Error;
-use std::fmt;
-use std::io;
+use std::{fmt, io};
 use tcl_characters::limit::LimitError;
 use tcl_eval::running::Refused;
 use tcl_flow::stop::StopKind;

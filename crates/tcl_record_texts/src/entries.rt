@@ -98,7 +98,10 @@ fn own_words(alloc: Global, entry: &OwnEntry) -> Result<Vec<Text>, AllocError>
         OwnEntry::SetDepthLimit(limit) => {
             two(alloc, "recursionlimit", &number_text(alloc, *limit)?)
         }
-        OwnEntry::Create { name: Some(name), safe } => two(alloc, safe_word(*safe), name),
+        OwnEntry::Create {
+            name: Some(name),
+            safe,
+        } => two(alloc, safe_word(*safe), name),
         OwnEntry::Create { name: None, safe } => one(alloc, safe_word(*safe)),
         OwnEntry::Delete(name) => two(alloc, "delete", name),
         OwnEntry::Ask(question) => question_words(alloc, question),
@@ -112,12 +115,14 @@ pub(crate) fn entry_words(alloc: Global, entry: &Entry) -> Result<Vec<Text>, All
     match entry {
         Entry::Eval(script) => two(alloc, "eval", &script.text(alloc)?),
         Entry::CallWords(words) => with_values(alloc, one(alloc, "call")?, words.as_slice()),
-        Entry::InvokeHidden { is_global: true, words } => {
-            with_values(alloc, one(alloc, "invokehidden-global")?, words.as_slice())
-        }
-        Entry::InvokeHidden { is_global: false, words } => {
-            with_values(alloc, one(alloc, "invokehidden")?, words.as_slice())
-        }
+        Entry::InvokeHidden {
+            is_global: true,
+            words,
+        } => { with_values(alloc, one(alloc, "invokehidden-global")?, words.as_slice()) }
+        Entry::InvokeHidden {
+            is_global: false,
+            words,
+        } => { with_values(alloc, one(alloc, "invokehidden")?, words.as_slice()) }
         Entry::Own(own) => own_words(alloc, own),
         Entry::AskHost(request) => request_words(alloc, request),
     }

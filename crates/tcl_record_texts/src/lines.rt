@@ -142,7 +142,12 @@ fn crossing_words(alloc: Global, crossing: &Crossing) -> Result<Vec<Text>, Alloc
         Crossing::Done { target, reply } => {
             words_at(alloc, "done", target.as_slice(), reply_words(alloc, reply)?)
         }
-        Crossing::Out { caller, up, down, entry } => {
+        Crossing::Out {
+            caller,
+            up,
+            down,
+            entry,
+        } => {
             let way = way_words(alloc, *up, down.as_slice(), entry_words(alloc, entry)?)?;
             words_at(alloc, "out", caller.as_slice(), way)
         }
@@ -154,11 +159,7 @@ fn crossing_words(alloc: Global, crossing: &Crossing) -> Result<Vec<Text>, Alloc
 }
 
 /// To whom a call goes, and more words.
-fn height_words(
-    alloc: Global,
-    up: Option<usize>,
-    more: Vec<Text>,
-) -> Result<Vec<Text>, AllocError>
+fn height_words(alloc: Global, up: Option<usize>, more: Vec<Text>) -> Result<Vec<Text>, AllocError>
     ensures { IfOk result (λ words. words.items ≡ height_word up ∷ more.items) }
 {
     let mut words = Vec::new(alloc);

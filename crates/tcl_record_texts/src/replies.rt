@@ -65,7 +65,11 @@ fn heard_words(alloc: Global, reply: &HostReply) -> Result<Vec<Text>, AllocError
         HostReply::Done => one(alloc, "done"),
         HostReply::AtEnd(true) => one(alloc, "at-end"),
         HostReply::AtEnd(false) => one(alloc, "not-at-end"),
-        HostReply::Refused(why) => two(alloc, "refused", &number_text(alloc, refusal_number(*why))?),
+        HostReply::Refused(why) => two(
+            alloc,
+            "refused",
+            &number_text(alloc, refusal_number(*why))?,
+        ),
     }
 }
 
