@@ -49,12 +49,7 @@ fn main(rt: HostRuntime) -> Result<(), EmbedError> {
     let mut tree = Tree::new(alloc)?;
     admit(&mut tree, alloc, &guest)?;
     let mut shop = WithFunctions::new(alloc, Shop {}, MemoryHost::new(alloc)?);
-    'scripts: for script in [
-        "price tea",
-        "twice {incr n}",
-        "twice",
-        "twice {twice {incr n}}",
-    ] {
+    'scripts: for script in ["price tea", "twice {twice {incr n}}", "twice"] {
         let run = open_run(&mut tree, alloc, &mut shop, &guest, script, 1_000);
         println!(rt; "{}", open_text(alloc, &run)?)?;
     }
