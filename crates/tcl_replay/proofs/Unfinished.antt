@@ -1,5 +1,5 @@
 -- What the host was asked by a run with a recorder that was given up on its way.
-use Rattle.std.proofs.Common.{◌≡◌, ◌∙◌, ℕ, ◌+◌, true, [], Option, None, Some, refl, sym, subst}
+use Rattle.std.proofs.Common.{◌≡◌, ◌∙◌, ℕ, ◌+◌, true, [], Option, None, Some, refl, ap, sym, subst}
 use Rattle.std.specs.Prelude.{Result, Ok, Err, IfErr, IfNone, IfOk, IsErrOf, is_some}
 use Rattle.tcl_core.specs.Entries.Entry.{Eval}
 use Rattle.tcl_core.specs.Execution.{Crossings}
@@ -37,9 +37,6 @@ use Rattle.tcl_tree.specs.declared.tree.Tree.{Tree as Table}
 
 -- of a recorder's host nothing is lost
 abbrev same_held : {S : Type 0} → Recorder S → Recorder S → Type 0
-same_held {S} o z = IsLoss (λ (a b : S). b ≡ a) o.outside z.outside
-
-held : {S : Type 0} → Recorder S → Recorder S → Type 0
 same_held {S} o z = IsLoss (λ (a b : S). b ≡ a) o.outside z.outside
 
 held : {S : Type 0} {o z : Recorder S} → IsLoss (λ (a b : Recorder S). same_held a b) o z → z.outside ≡ o.outside
@@ -91,7 +88,9 @@ if_memory (Err e) c (Some f) fit p = let clash : Some f ≡ None = fit in absurd
 pub if_broken : (r : Result OpenEnd Refused) (P : Type 0) → IsUncut r → (IsErrOf r refused.Memory → P) → IsErrOf (ran_of r) refused.Memory → P
 if_broken (Ok (open_end.Ran e)) P u p m = let clash : ◌≡◌ {A = Result End Refused} (Ok e) (Err refused.Memory) = m in absurd cc
 if_broken (Ok open_end.CutOff) P u p m = elim u [ ]
-if_broken (Err e) P u p m = p m
+if_broken (Err e) P u p m =
+    let told : ◌≡◌ {A = Result End Refused} (Err e) (Err refused.Memory) = m in
+    let same : e ≡ refused.Memory = cc in p (ap Err same)
 
 pub if_ended : (r : Result OpenEnd Refused) (P : Type 0) → IfOk r (λ _. P) → IfOk (ran_of r) (λ _. P)
 if_ended (Ok (open_end.Ran e)) P p = p
