@@ -125,14 +125,18 @@ pub data Executes {O I S : Type 0} (step : Tree O → S → Wait → Event O →
       Executes step prog T o p (wait s k) T u r
   entered : {T U V : Tree O} {o o1 o2 o3 z : S} {p : Place} {s : Wait} {k : Said → Prog O I}
       {y r : Reply} (t : Path) (i : Entry) → rise_to (height_of s) p ≡ None →
-      step T o None (event t (In None i)) o1 →
-      Executes step prog T o1 t (entering prog (T t) i) U o2 y →
+      is_some (T t) ≡ true → step T o None (event t (In None i)) o1 →
+      Executes step prog T o1 t (prog.entry i) U o2 y →
       step U o2 None (event t (Done None y)) o3 → IsNoExit y →
       Executes step prog U o3 p (wait s k) V z r → Executes step prog T o p (wait s k) V z r
+  unfound : {T U : Tree O} {o o1 z : S} {p : Place} {s : Wait} {k : Said → Prog O I} {r : Reply}
+      (t : Path) (i : Entry) → rise_to (height_of s) p ≡ None → T t ≡ None →
+      step T o None (event t (Unfound i (Completed (prog.lost t)))) o1 →
+      Executes step prog T o1 p (wait s k) U z r → Executes step prog T o p (wait s k) U z r
   entered_exiting : {T U : Tree O} {o o1 o2 o3 o4 : S} {p : Place} {c : Height × Entry}
       {k : Said → Prog O I} {n : ℤ} (t : Path) (i : Entry) → rise_to c.0 p ≡ None →
-      step T o None (event t (In None i)) o1 →
-      Executes step prog T o1 t (entering prog (T t) i) U o2 (Exit n) →
+      is_some (T t) ≡ true → step T o None (event t (In None i)) o1 →
+      Executes step prog T o1 t (prog.entry i) U o2 (Exit n) →
       step U o2 None (event t (Done None (Exit n))) o3 →
       step U o3 (Some c) (event p (Back c.0 (Replied (Exit n)))) o4 →
       Executes step prog T o p (wait (Some c) k) U o4 (Exit n)

@@ -72,9 +72,9 @@ abbrev pub reached : {O : Type 0} → Tree O → Place → Path → Option Place
 reached T a down = where_stands (T (a ++ down)) (a ++ down)
 
 -- what an entry does at the interpreter that is there, if one is
-abbrev pub entering : {O I : Type 0} → Table O I → Option (Node O) → Entry → Prog O I
-entering prog None i = done prog.lost
-entering prog (Some n) i = prog.entry i
+abbrev pub entering : {O I : Type 0} → Table O I → Path → Option (Node O) → Entry → Prog O I
+entering prog t None i = done (prog.lost t)
+entering prog t (Some n) i = prog.entry i
 
 -- An alias is answered by how its evaluation ended; a request by one of its own answers, or by an
 -- end from outside.
@@ -187,7 +187,7 @@ module _ {O I : Type 0} where
     pub entered : World O
     pub left : World O
     pub entry : Step w t (In h i) entered
-    pub run : R entered t (entering prog (w.tree t) i) left e
+    pub run : R entered t (entering prog t (w.tree t) i) left e
     pub leaving : Leaves left h t e v
 
   abbrev pub Returns : Run O I → World O → Place → Height → Path → (Said → Prog O I) → Ending →

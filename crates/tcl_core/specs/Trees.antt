@@ -56,6 +56,9 @@ pub data What (O : Type 0) : Type 0 where
   Back : (height : Height) (answer : Answer) → What O
   -- an entry comes in, from so many levels up or from outside the tree; and its reply goes there
   In : (height : Height) (entry : Entry) → What O
+  -- an entry from outside whose path finds nobody, and its answer: it enters no interpreter, so that
+  -- only the top sees it, and no subtree
+  Unfound : (entry : Entry) (reply : Reply) → What O
   Done : (height : Height) (reply : Reply) → What O
 
 pub record Event (O : Type 0) : Type 0 where
@@ -130,6 +133,7 @@ module _ {O : Type 0} where
   effect p (Made o s) T = on_node p (λ x. Some (fresh o s)) T
   effect p Dropped T = on_subtree p (λ x. None) T
   effect p (Done h r) T = T
+  effect p (Unfound i r) T = T
   effect p _ T = T
 
 -- what the outside hands in: an entry; the answer to a call that left the tree; that the tree is
@@ -152,6 +156,7 @@ module _ {O : Type 0} where
   -- the move that a happening reads, in front of those that later ones read
   abbrev pub asked : Place → What O → List (Move O) → List (Move O)
   asked p (In h i) ms = where_none (rise_to h p) (Enter p i) ms
+  asked p (Unfound i r) ms = Enter p i ∷ ms
   asked p (Back h a) ms = where_none (rise_to h p) (Come a) ms
   asked p (Made o s) ms = at_top p (Born o s) ms
   asked p Dropped ms = at_top p Fall ms

@@ -128,6 +128,6 @@ pub fn enter<O: Outside>(
 {
     match tree.place(target) {
         Some(place) => serve_entry(tree, alloc, outside, place, entry),
-        None => Err(no_interpreter(alloc, "")),
+        None => Err(no_interpreter(alloc, write_list(alloc, target)?.as_str())),
     }
 }

@@ -20,7 +20,7 @@ abbrev pub language_with : ProgramsCall → Integers → Table Own Instr
 language_with calls style = record {
   program = program style;
   entry = serve style;
-  lost = error (no_interpreter (codes ""));
+  lost = λ path. error (no_interpreter (written_list path));
   programs_call = (calls style).0;
   entries_call = (calls style).1;
 }
