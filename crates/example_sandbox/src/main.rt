@@ -3,10 +3,10 @@
 
 use std::alloc::{AllocError, Global};
 use std::io;
-use tcl_eval::running::{End, eval};
-use tcl_host::memory::MemoryHost;
-use tcl_text::text::Text;
-use tcl_tree::tree::Tree;
+use tcl_embed::evaluation::{eval, run_text};
+use tcl_embed::hosts::MemoryHost;
+use tcl_embed::texts::Text;
+use tcl_embed::trees::Tree;
 
 /// The child `guest` may make 1,000 steps, and call one command of ours.
 const SETUP: &str = "interp create -safe guest
@@ -14,7 +14,7 @@ guest limit commands -value 1000
 proc price {name} {list $name costs 7}
 interp alias guest price {} price";
 
-/// Says how a script in the interpreter at the path ends, which may make 10,000 steps.
+/// How a script in the interpreter at the path ends, which may make 10,000 steps.
 fn ending(
     alloc: Global,
     tree: &mut Tree,
@@ -22,15 +22,8 @@ fn ending(
     script: &str,
 ) -> Result<String, AllocError> {
     let mut host = MemoryHost::new(alloc)?;
-    match eval(tree, alloc, &mut host, path, script, 10_000) {
-        Ok(End::Done(completion)) => {
-            let text = completion.text.text(alloc)?;
-            format!(in alloc; "code {}: {}", completion.code, text.as_str())
-        }
-        Ok(End::Stopped(_)) => String::from_str(alloc, "a limit of the root"),
-        Ok(End::Exit(status)) => format!(in alloc; "exit {status}"),
-        Err(refused) => format!(in alloc; "refused: {refused:?}"),
-    }
+    let run = eval(tree, alloc, &mut host, path, script, 10_000);
+    run_text(alloc, &run)
 }
 
 fn main(rt: HostRuntime) -> io::Result<()> {

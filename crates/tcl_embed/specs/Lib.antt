@@ -1,0 +1,16 @@
+pub use Rattle.tcl_eval.specs.Running
+pub use Rattle.tcl_functions.specs.Actions
+pub use Rattle.tcl_functions.specs.Aliases
+pub use Rattle.tcl_functions.specs.Serving
+pub use Rattle.tcl_host.specs.Hosts
+pub use Rattle.tcl_record_texts.specs.Lines
+pub use Rattle.tcl_record_texts.specs.Words
+pub use Rattle.tcl_replay.specs.Replaying
+pub use Rattle.tcl_replay.specs.Saved
+pub use Rattle.tcl_replay.specs.Watched
+pub use Rattle.tcl_text.specs.Lists
+pub use Rattle.tcl_tree.specs.Naming
+pub use Rattle.tcl_tree.specs.TreeOf
+pub use Rattle.tcl_value.specs.Limits
+pub mod Conversions
+pub mod Messages

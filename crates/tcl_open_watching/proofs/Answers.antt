@@ -1,0 +1,113 @@
+-- What an evaluation that is watched answers.
+use Rattle.std.proofs.Common.{◌≡◌, ◌∙◌, ℕ, ◌+◌, Bool, true, false, None, refl, sym, ap, subst}
+use Rattle.std.specs.Prelude.{Result, Ok, Err, IfOk, IfErr, IsErrOf, is_some}
+use Rattle.tcl_core.specs.Entries.Entry.{Eval}
+use Rattle.tcl_core.specs.Execution.{event}
+use Rattle.tcl_core.specs.Paths.{Path, Text}
+use Rattle.tcl_core.specs.Trees.What.{In}
+use Rattle.tcl_eval.specs.Running.{IsOpenRun, root_count}
+use Rattle.tcl_eval.specs.declared.running.OpenEnd.{OpenEnd}
+use Rattle.tcl_eval.specs.declared.running.Refused.{Refused}
+use Rattle.tcl_eval.specs.declared.running.Refused.TheVariants as refused
+use Rattle.tcl_isolation.specs.Visits.{visit}
+use Rattle.tcl_open_watching.proofs.Entered.{entry, plain}
+use Rattle.tcl_open_watching.specs.OpenWatched.{IfEnds, IfRefused, IsOpenRecord, IsOpenRecorded, Watches, answer_if, answer_of}
+use Rattle.tcl_open_watching.specs.declared.watching.OpenUnwatched.{OpenUnwatched}
+use Rattle.tcl_open_watching.specs.declared.watching.OpenUnwatched.TheVariants as unwatched
+use Rattle.tcl_recorder.proofs.Fates as fates
+use Rattle.tcl_recorder.specs.Recording.{noted, recorded}
+use Rattle.tcl_recorder.specs.Records.{RecordView}
+use Rattle.tcl_recorder.specs.declared.recorder.Recorder.{Recorder}
+use Rattle.tcl_replay.specs.Watched.{recorder_of}
+use Rattle.tcl_run.proofs.Steady.{stands}
+use Rattle.tcl_run.specs.Outsides.{Going}
+use Rattle.tcl_tree.specs.TreeOf.{marks_of, tree_of}
+use Rattle.tcl_tree.specs.declared.tree.Tree.{Tree as Table}
+
+-- what holds whatever the end is, where the run came to one
+pub ends_so : (ended : Result OpenEnd Refused) (kept : RecordView) (deleted : Bool) (P : Type 0) → IfOk ended (λ _. P) → IfEnds (answer_of ended kept deleted) (λ _. P)
+ends_so (Ok e) kept true P p = p
+ends_so (Ok e) kept false P p = p
+ends_so (Err f) kept deleted P p = tt
+
+module _ {S : Type 0} (goes : Going S) (old : Table) (o : S) (path : Path) (script : Text) (limit : ℕ) (watched : Path) (new : Table) (z : S) where
+  abbrev ended_with : RecordView → Bool → Recorder S
+  ended_with kept deleted = record { outside = z; kept = kept; deleted = deleted; incomplete = false }
+
+  abbrev Ran : RecordView → Bool → OpenEnd → Type 0
+  Ran kept deleted e = IsOpenRun (recorded goes) old (noted (recorder_of o watched) (event path (In None (Eval script)))) path script (root_count old + limit) new (ended_with kept deleted) e
+
+  no_refusal : (deleted : Bool) (e : OpenEnd) (kept : RecordView) → IfRefused (answer_if deleted e kept) (λ f. (f ≡ refused.Memory) × ((marks_of new).broken ≡ true))
+  no_refusal true e kept = tt
+  no_refusal false e kept = tt
+
+  ended_so : (deleted : Bool) (e : OpenEnd) (kept : RecordView) → Ran kept deleted e → IfEnds (answer_if deleted e kept) (λ x. (k : RecordView) × (d : Bool) × (answer_if deleted e kept ≡ answer_if d x k) × Ran k d x)
+  ended_so true e kept run = (kept, true, refl, run)
+  ended_so false e kept run = (kept, false, refl, run)
+
+  pub watches : (ended : Result OpenEnd Refused) (kept : RecordView) (deleted : Bool) → IfErr ended (λ f. f ≡ refused.Memory) → (IsErrOf ended refused.Memory → (marks_of new).broken ≡ true) → IfOk ended (Ran kept deleted) →
+      Watches goes old o path script limit watched new z (answer_of ended kept deleted)
+  watches (Ok e) kept deleted m b run = record { memory = no_refusal deleted e kept; made = ended_so deleted e kept run }
+  watches (Err f) kept deleted m b run = record { memory = (m, b (ap (λ (x : Refused). Err x) m)); made = tt }
+
+  pub runs : (result : Result (OpenEnd × RecordView) OpenUnwatched) → Watches goes old o path script limit watched new z result → IfEnds result (IsOpenRun goes old o path script (root_count old + limit) new z)
+  runs (Ok r) w = plain goes old (recorder_of o watched) path script limit new (ended_with w.made.0 w.made.1) r.0 w.made.3
+  runs (Err (unwatched.Deleted e)) w = plain goes old (recorder_of o watched) path script limit new (ended_with w.made.0 w.made.1) e w.made.3
+  runs (Err (unwatched.Refused f)) w = tt
+
+  its_record : (kept : RecordView) (deleted : Bool) (e : OpenEnd) → is_some (tree_of old path) ≡ true → is_some (tree_of old watched) ≡ true → Ran kept deleted e → deleted ≡ false → IsOpenRecord goes old o path script limit watched kept new z e
+  its_record kept deleted e there seen run f =
+      let n = stands (tree_of old watched) seen in
+      let w = entry goes old (recorder_of o watched) path script limit new (ended_with kept deleted) e there run in
+      let told = run.told.keeps refl in
+      let kept_so = told.kept ∙ w.kept in
+      (
+        ap (λ (k : RecordView). k.watched) kept_so,
+        record {
+          during = run.during;
+          between = run.between.outside;
+          reply = run.reply;
+          visited = record {
+            events = w.events;
+            visits = w.visits;
+            outside = w.outside;
+            recorded = ap (λ (k : RecordView). k.crossings) kept_so;
+            spared = fates.spared watched (visit path (Eval script) w.events run.reply) (sym w.fate ∙ sym told.fate ∙ f);
+          };
+          told = run.told.outside;
+          node = n.0;
+          stood = n.1;
+          after = run.after;
+          ends = run.ends;
+        },
+      )
+
+  ok_is : (r : OpenEnd × RecordView) (kept : RecordView) (deleted : Bool) → ◌≡◌ {A = Result (OpenEnd × RecordView) OpenUnwatched} (Ok r) (answer_if deleted r.0 kept) → (deleted ≡ false) × (kept ≡ r.1)
+  ok_is r kept true e = absurd cc
+  ok_is r kept false e = let f : r ≡ (r.0, kept) = cc in (refl, sym (ap (λ (x : OpenEnd × RecordView). x.1) f))
+
+  pub records : (result : Result (OpenEnd × RecordView) OpenUnwatched) → is_some (tree_of old path) ≡ true → is_some (tree_of old watched) ≡ true → Watches goes old o path script limit watched new z result →
+      IfOk result (λ r. IsOpenRecord goes old o path script limit watched r.1 new z r.0)
+  records (Ok r) there seen w =
+      let is = ok_is r w.made.0 w.made.1 w.made.2 in
+      subst (λ (k : RecordView). IsOpenRecord goes old o path script limit watched k new z r.0) is.1 (its_record w.made.0 w.made.1 r.0 there seen w.made.3 is.0)
+  records (Err f) there seen w = tt
+
+  -- what follows of a record
+  pub follows : (P : RecordView → Type 0) (result : Result (OpenEnd × RecordView) OpenUnwatched) → IfOk result (λ r. IsOpenRecord goes old o path script limit watched r.1 new z r.0) →
+      ((r : RecordView) (e : OpenEnd) → IsOpenRecorded goes old o path script limit watched r.crossings new z e → P r) → IfOk result (λ r. P r.1)
+  follows P (Ok r) w k = k r.1 r.0 w.1
+  follows P (Err f) w k = tt
+
+-- the recorder at the end of a run, told of as one from which nothing is missing
+pub as_whole : {S : Type 0} → S → RecordView → Bool → Recorder S
+as_whole o k d = record { outside = o; kept = k; deleted = d; incomplete = false }
+
+whole_is : {S : Type 0} (b : Bool) (o : S) (k : RecordView) (d : Bool) → b ≡ false → ◌≡◌ {A = Recorder S} (record { outside = o; kept = k; deleted = d; incomplete = b }) (as_whole o k d)
+whole_is b o k d e = ap (λ x. record { outside = o; kept = k; deleted = d; incomplete = x }) e
+
+pub run_so : {S : Type 0} (goes : Going S) (old : Table) (first : Recorder S) (path : Path) (script : Text) (most : ℕ) (new : Table) (ended : Result OpenEnd Refused) (made : Recorder S) →
+    IfOk ended (λ end. IsOpenRun (recorded goes) old first path script most new made end) → IfOk ended (λ end. IsOpenRun (recorded goes) old first path script most new (as_whole made.outside made.kept made.deleted) end)
+run_so goes old first path script most new (Ok e) made run =
+    subst (λ (z : Recorder _). IsOpenRun (recorded goes) old first path script most new z e) (whole_is made.incomplete made.outside made.kept made.deleted (run.told.ends tt)) run
+run_so goes old first path script most new (Err f) made run = tt

@@ -1,0 +1,5 @@
+mod Answers
+mod Before
+mod Below
+mod Entered
+mod Recorded

@@ -1,0 +1,88 @@
+-- What contracts see of an evaluation that is watched over any outside.
+use Rattle.std.specs.Prelude.{◌≡◌, ℕ, ◌+◌, true, false, Bool, List, Some, None, Result, Ok, Err}
+use Rattle.tcl_core.specs.Endings.{Reply}
+use Rattle.tcl_core.specs.Entries.Entry.{Eval}
+use Rattle.tcl_core.specs.Execution.{event}
+use Rattle.tcl_core.specs.Lives.{end_at, limited}
+use Rattle.tcl_core.specs.Paths.{Path, Text}
+use Rattle.tcl_core.specs.Trees.{Event, Node, Tree, effect}
+use Rattle.tcl_core.specs.Trees.What.{Done, In, Limited}
+use Rattle.tcl_eval.specs.Running.{IsOpenRun, open_ending, root_count, root_limit}
+use Rattle.tcl_eval.specs.declared.running.OpenEnd.{OpenEnd}
+use Rattle.tcl_eval.specs.declared.running.Refused.{Refused}
+use Rattle.tcl_eval.specs.declared.running.Refused.TheVariants as refused
+use Rattle.tcl_isolation.specs.Visits.{WatchedVisit}
+use Rattle.tcl_language_laws.specs.Language.{language}
+use Rattle.tcl_recorder.specs.Recording.{noted, recorded}
+use Rattle.tcl_recorder.specs.Records.{RecordView}
+use Rattle.tcl_open_watching.specs.declared.watching.OpenUnwatched.{OpenUnwatched}
+use Rattle.tcl_open_watching.specs.declared.watching.OpenUnwatched.TheVariants as unwatched
+use Rattle.tcl_replay.specs.Watched.{recorder_of}
+use Rattle.tcl_run.specs.Outsides.{Going}
+use Rattle.tcl_tree.specs.Own.{Own}
+use Rattle.tcl_tree.specs.TreeOf.{marks_of, tree_of}
+use Rattle.tcl_tree.specs.declared.tree.Tree.{Tree as Table}
+
+-- ## What it answers
+
+-- what is answered where the run ended so, with this record, and the watched interpreter was
+-- deleted or not
+abbrev pub answer_if : Bool → OpenEnd → RecordView →
+    Result (OpenEnd × RecordView) OpenUnwatched
+answer_if true e r = Err (unwatched.Deleted e)
+answer_if false e r = Ok (e, r)
+
+abbrev pub answer_of : Result OpenEnd Refused → RecordView → Bool →
+    Result (OpenEnd × RecordView) OpenUnwatched
+answer_of (Ok e) r deleted = answer_if deleted e r
+answer_of (Err f) r deleted = Err (unwatched.Refused f)
+
+-- what is said of the end of a run that came to its end
+abbrev pub IfEnds : Result (OpenEnd × RecordView) OpenUnwatched → (OpenEnd → Type 0) → Type 0
+IfEnds (Ok r) P = P r.0
+IfEnds (Err (unwatched.Deleted e)) P = P e
+IfEnds (Err (unwatched.Refused f)) P = Unit {0}
+
+-- of the refusal where there was none
+abbrev pub IfRefused : Result (OpenEnd × RecordView) OpenUnwatched → (Refused → Type 0) → Type 0
+IfRefused (Ok r) P = Unit {0}
+IfRefused (Err (unwatched.Deleted e)) P = Unit {0}
+IfRefused (Err (unwatched.Refused f)) P = P f
+
+-- ## The run and its record
+
+-- A run of the script is one entry into the interpreter at the path, in the tree whose root may be
+-- counted so many steps more; then the root has its own limit again. What happens in it takes the
+-- outside from one state to another, and its end from there to the last. The crossings are those
+-- of the boundary of the interpreter at `watched`, which stood there at first and isn't dropped.
+pub record IsOpenRecorded {S : Type 0} (goes : Going S) (old : Table) (o : S) (path : Path)
+    (script : Text) (limit : ℕ) (watched : Path) (crossings : List (Event Own)) (new : Table)
+    (z : S) (e : OpenEnd) : Type 0 where
+  pub during : Tree Own
+  pub between : S
+  pub reply : Reply
+  pub visited : WatchedVisit goes (language (marks_of old).integers)
+      (limited limit (tree_of old)) o path (Eval script) watched crossings during between reply
+  pub told : goes during between None (event path (Done None reply)) z
+  pub node : Node Own
+  pub stood : tree_of old watched ≡ Some node
+  pub after : tree_of new ≡ effect [] (Limited (root_limit old)) during
+  pub ends : end_at path reply ≡ open_ending e
+
+-- The record has the crossings of such a run.
+abbrev pub IsOpenRecord : {S : Type 0} → Going S → Table → S → Path → Text → ℕ → Path →
+    RecordView → Table → S → OpenEnd → Type 0
+IsOpenRecord goes old o path script limit watched r new z e = (r.watched ≡ watched) ×
+    IsOpenRecorded goes old o path script limit watched r.crossings new z e
+
+-- what an evaluation answers that was recorded: memory was wanted, or there was a run with a
+-- recorder, which was told of the entry and of its end
+pub record Watches {S : Type 0} (goes : Going S) (old : Table) (o : S) (path : Path)
+    (script : Text) (limit : ℕ) (watched : Path) (new : Table) (z : S)
+    (result : Result (OpenEnd × RecordView) OpenUnwatched) : Type 0 where
+  pub memory : IfRefused result (λ f. (f ≡ refused.Memory) × ((marks_of new).broken ≡ true))
+  pub made : IfEnds result (λ e. (kept : RecordView) × (deleted : Bool) ×
+      (result ≡ answer_if deleted e kept) ×
+      IsOpenRun (recorded goes) old
+      (noted (recorder_of o watched) (event path (In None (Eval script)))) path script
+      (root_count old + limit) new (record { outside = z; kept = kept; deleted = deleted; incomplete = false }) e)

@@ -1,0 +1,4 @@
+//! Evaluations that are watched over any outside.
+#![tactic(auto)]
+
+pub mod watching;

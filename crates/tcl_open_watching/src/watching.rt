@@ -1,0 +1,195 @@
+//! Evaluations over any outside whose crossings of one boundary are recorded.
+ghost use Rattle.std.specs.Prelude.{◌≡◌, ◌+◌, Err, IfErr, IfNone, IfOk, IfSome, IsErrOf, None};
+ghost use Rattle.std.specs.Prelude.{OnOk, true};
+ghost use Rattle.tcl_core.specs.Entries.Entry.{Eval};
+ghost use Rattle.tcl_core.specs.Execution.{event};
+ghost use Rattle.tcl_core.specs.Trees.What.{In};
+ghost use Rattle.tcl_eval.specs.Running.{IsOpenRun, root_count, unfit};
+ghost use Rattle.tcl_eval.specs.declared.running.Refused.TheVariants.{Memory};
+ghost use Rattle.tcl_language.specs.Instructions.{fits};
+ghost use Rattle.tcl_open_watching.specs.OpenWatched.{IfEnds, IfRefused, IsOpenRecord, Watches};
+ghost use Rattle.tcl_open_watching.specs.OpenWatched.{answer_of};
+ghost use Rattle.tcl_open_watching.specs.declared.watching.OpenUnwatched.TheVariants as unwatched;
+ghost use Rattle.tcl_recorder.specs.Recording.{noted, recorded};
+ghost use Rattle.tcl_replay.specs.Watched.{AsksTheHostNothing, CountStaysWithin, Reacts, ReactsSo};
+ghost use Rattle.tcl_replay.specs.Watched.{ReactsUntil, unwatchable};
+ghost use Rattle.tcl_tree.specs.TreeOf.{marks_of, tree_of};
+
+use std::alloc::{AllocError, Global};
+use tcl_eval::running::{OpenEnd, Refused, open_run, refusal};
+use tcl_isolation::laws::{asks_the_host_nothing, scripts_stay_within};
+use tcl_recorder::record::Record;
+use tcl_recorder::recorder::Recorder;
+use tcl_run::entry::Entry;
+use tcl_run::outside::Outside;
+use tcl_text::text::Text;
+use tcl_tree::tree::Tree;
+use tcl_value::value::Value;
+
+/// Why there is no record of an open evaluation.
+#[derive(Drop)]
+pub enum OpenUnwatched {
+    /// 401, 402, 403, 404 or 122: there was no run, or none that came to its end.
+    Refused(Refused),
+    /// 411: the watched interpreter was deleted in the run, which ended so.
+    Deleted(OpenEnd),
+}
+
+/// Evaluates a script in the interpreter at the path over an outside, as `open_run` does, and
+/// records what crosses the boundary of the interpreter at `watched`: the entries into its subtree,
+/// those that the outside hands in among them, its calls that leave the subtree, those past the top
+/// of the tree among them, and how they end. The outside is given back.
+///
+/// # Errors
+/// 402; 403 where no interpreter stands at the path, or none at `watched`; 404; 122: they are
+/// looked for in this order, and change nothing. 401, by which the tree is broken. 411, with the
+/// end of the run, where the watched interpreter was deleted in it.
+pub fn open_watched<O: Outside>(
+    tree: &mut Tree,
+    alloc: Global,
+    outside: O,
+    path: &[Text],
+    script: &str,
+    limit: u64,
+    watched: &[Text],
+) -> (O, Result<(OpenEnd, Record), OpenUnwatched>)
+    ensures refused { IfSome (unwatchable tree.old path.now script.now limit watched.now)
+        (λ e. result.1 ≡ Err (unwatched.Refused e)) }
+    ensures unchanged { IfSome (unwatchable tree.old path.now script.now limit watched.now)
+        (λ _. (tree.new ≡ tree.old) × (result.0 ≡ outside)) }
+    ensures begun { IfNone (unwatchable tree.old path.now script.now limit watched.now)
+        (IfRefused result.1 (λ e. e ≡ Memory)) }
+    ensures broken { IfRefused result.1 (λ e. e ≡ Memory → (marks_of tree.new).broken ≡ true) }
+    ensures marks { IfEnds result.1 (λ _. marks_of tree.new ≡ marks_of tree.old) }
+    ensures runs { IfEnds result.1
+        (λ end. IsOpenRun O.goes tree.old outside path.now script.now
+        (root_count tree.old + limit) tree.new result.0 end) }
+    ensures recorded { IfOk result.1
+        (λ r. IsOpenRecord O.goes tree.old outside path.now script.now limit watched.now r.1
+        tree.new result.0 r.0) }
+    ensures reacts { IfOk result.1 (λ r. Reacts tree.old watched.now r.1.crossings tree.new) }
+    ensures reacts_so { IfOk result.1 (λ r. ReactsSo tree.old watched.now r.1.crossings tree.new) }
+    ensures reacts_until { IfOk result.1
+        (λ r. ReactsUntil tree.old watched.now r.1.crossings tree.new) }
+    ensures asks_nothing { IfOk result.1
+        (λ r. AsksTheHostNothing tree.old watched.now r.1.crossings) }
+    ensures count_stays_within { IfOk result.1
+        (λ r. CountStaysWithin tree.old watched.now r.1.crossings tree.new) }
+{
+    asks_the_host_nothing::<O>();
+    scripts_stay_within::<O>();
+    if let Some(refused) = refusal_to_watch(tree, path, script, limit, watched) {
+        return (outside, Err(OpenUnwatched::Refused(refused)));
+    }
+    watch(tree, alloc, outside, path, script, limit, watched)
+}
+
+/// Why an evaluation that is watched would be refused, want of memory aside. This takes no memory.
+fn refusal_to_watch(
+    tree: &Tree,
+    path: &[Text],
+    script: &str,
+    limit: u64,
+    watched: &[Text],
+) -> Option<Refused>
+    ensures { result ≡ unwatchable tree.now path.now script.now limit watched.now }
+{
+    let first = refusal(tree, path, script, limit);
+    if tree.is_broken() {
+        return first;
+    }
+    match tree.place(watched) {
+        Some(_) => first,
+        None => Some(Refused::NoInterpreter),
+    }
+}
+
+/// Evaluates the script and records it.
+fn watch<O: Outside>(
+    tree: &mut Tree,
+    alloc: Global,
+    outside: O,
+    path: &[Text],
+    script: &str,
+    limit: u64,
+    watched: &[Text],
+) -> (O, Result<(OpenEnd, Record), OpenUnwatched>)
+    requires fit { unfit tree.old path.now script.now limit ≡ None }
+    ensures watches { Watches O.goes tree.old outside path.now script.now limit watched.now tree.new
+        result.0 result.1 }
+    ensures marks { IfEnds result.1 (λ _. marks_of tree.new ≡ marks_of tree.old) }
+{
+    let names = match Vec::from_clones(alloc, watched) {
+        Ok(names) => names,
+        Err(_) => {
+            tree.mark_broken();
+            return (outside, Err(OpenUnwatched::Refused(Refused::Memory)));
+        }
+    };
+    let mut recorder = Recorder::new(alloc, outside, names);
+    let ended = run(tree, alloc, &mut recorder, path, script, limit);
+    let (outside, kept, deleted) = recorder.into_parts();
+    (outside, outcome_of(ended, kept, deleted))
+}
+
+/// Evaluates the script, whose entry the recorder is told of, and its end.
+fn run<O: Outside>(
+    tree: &mut Tree,
+    alloc: Global,
+    recorder: &mut Recorder<O>,
+    path: &[Text],
+    script: &str,
+    limit: u64,
+) -> Result<OpenEnd, Refused>
+    requires fit { unfit tree.old path.now script.now limit ≡ None }
+    ensures memory { IfErr result (λ e. e ≡ Memory) }
+    ensures broken { IsErrOf result Memory → (marks_of tree.new).broken ≡ true }
+    ensures marks { IfOk result (λ _. marks_of tree.new ≡ marks_of tree.old) }
+    ensures runs { IfOk result
+        (λ end. IsOpenRun (recorded O.goes) tree.old
+        (noted recorder.old (event path.now (In None (Eval script.now)))) path.now script.now
+        (root_count tree.old + limit) tree.new recorder.new end) }
+{
+    match begin(alloc, recorder, path, script) {
+        Ok(()) => open_run(tree, alloc, recorder, path, script, limit),
+        Err(_) => {
+            tree.mark_broken();
+            Err(Refused::Memory)
+        }
+    }
+}
+
+/// Tells the recorder that the script comes to the interpreter at the path.
+fn begin<O: Outside>(
+    alloc: Global,
+    recorder: &mut Recorder<O>,
+    path: &[Text],
+    script: &str,
+) -> Result<(), AllocError>
+    requires short { fits script.now ≡ true }
+    ensures { OnOk result
+        (recorder.new ≡ noted recorder.old (event path.now (In None (Eval script.now)))) }
+{
+    let entry = Entry::Eval(Value::from_short_text(Text::new(alloc, script)?));
+    recorder.entry_begins(alloc, path, &entry)
+}
+
+/// What is answered where the run ended so, with this record, and the watched interpreter was
+/// deleted or not.
+fn outcome_of(
+    ended: Result<OpenEnd, Refused>,
+    kept: Record,
+    deleted: bool,
+) -> Result<(OpenEnd, Record), OpenUnwatched>
+    ensures { result ≡ answer_of ended kept deleted }
+{
+    match ended {
+        Err(refused) => Err(OpenUnwatched::Refused(refused)),
+        Ok(end) => {
+            if deleted {
+                return Err(OpenUnwatched::Deleted(end));
+            }
+            Ok((end, kept))
+        }
+    }
+}
