@@ -18,6 +18,7 @@ ghost use Rattle.tcl_run.specs.Runs.{ways};
 ghost use Rattle.tcl_tree.specs.TreeOf.{marks_of, tree_of};
 
 use std::alloc::{AllocError, Global};
+use std::fmt;
 use tcl_eval::running::{OpenEnd, Refused, open_run, refusal};
 use tcl_isolation::laws::{asks_the_host_nothing, scripts_stay_within};
 use tcl_recorder::record::Record;
@@ -27,14 +28,24 @@ use tcl_run::outside::Outside;
 use tcl_text::text::Text;
 use tcl_tree::tree::Tree;
 use tcl_value::value::Value;
+use thiserror::Error;
 
 /// Why there is no record of an open evaluation.
-#[derive(Drop)]
+#[derive(Drop, Error)]
 pub enum OpenUnwatched {
     /// 401, 402, 403, 404 or 122: there was no run, or none that came to its end.
+    #[error(transparent)]
     Refused(Refused),
     /// 411: the watched interpreter was deleted in the run, which ended so.
+    #[error("411: the watched interpreter was deleted in the run")]
     Deleted(OpenEnd),
+}
+
+/// As it is printed by `{}`.
+impl fmt::Debug for OpenUnwatched {
+    fn fmt<W: fmt::Write>(&self, f: &mut fmt::Formatter<W>) -> fmt::Result {
+        write!(f, "{self}")
+    }
 }
 
 /// Evaluates a script in the interpreter at the path over an outside, as `open_run` does, and
