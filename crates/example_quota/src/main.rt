@@ -3,7 +3,7 @@
 #![tactic(auto)]
 
 use std::alloc::{AllocError, Global};
-use tcl_embed::{EmbedError, MemoryHost, Path, Tree, eval, run_text};
+use tcl_embed::{EmbedError, MemoryHost, Path, Text, Tree, eval, run_text};
 
 /// The strangers, and their scripts.
 const STRANGERS: [(&str, &str); 4] = [
@@ -17,13 +17,13 @@ const STRANGERS: [(&str, &str); 4] = [
     ("works", "expr {6 * 7}"),
 ];
 
-/// Makes a safe child at the path, which may make 1,000 steps and evaluate 50 deep.
-fn admit(tree: &mut Tree, alloc: Global, child: &Path) -> Result<(), EmbedError> {
-    'names: for name in child.names() {
-        tree.create(alloc, &[], name, true)?;
-    }
-    tree.set_limit(&[], child.names(), Some(1_000))?;
-    Ok(tree.set_depth_limit(&[], child.names(), 50)?)
+/// Makes a safe child of this name, which may make 1,000 steps and evaluate 50 deep.
+fn admit(tree: &mut Tree, alloc: Global, name: &str) -> Result<Path, EmbedError> {
+    tree.create(alloc, &[], &Text::new(alloc, name)?, true)?;
+    let path = Path::parse(alloc, name)?;
+    tree.set_limit(&[], path.names(), Some(1_000))?;
+    tree.set_depth_limit(&[], path.names(), 50)?;
+    Ok(path)
 }
 
 /// How a script of a stranger ends, and how many steps the stranger has made by then.
@@ -39,8 +39,7 @@ fn main(rt: HostRuntime) -> Result<(), EmbedError> {
     let alloc = rt.alloc();
     let mut tree = Tree::new(alloc)?;
     'strangers: for (name, script) in STRANGERS {
-        let path = Path::parse(alloc, name)?;
-        admit(&mut tree, alloc, &path)?;
+        let path = admit(&mut tree, alloc, name)?;
         println!(rt; "{}", ending(&mut tree, alloc, &path, script)?)?;
     }
     'again: for (name, _) in STRANGERS {

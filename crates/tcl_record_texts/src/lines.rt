@@ -5,16 +5,16 @@
 //!
 //! - `in` (an entry comes in): what is asked.
 //! - `done` (an entry is done): how it ended.
-//! - `out` (a call goes out): the levels that it leads up, or `host`; the names down from there; and
-//!   what is asked.
+//! - `out` (a call goes out): the levels that it leads up, or `host`; the names down from there;
+//!   and what is asked.
 //! - `back` (an answer comes back): the levels, or `host`; and how the call ended, or what the host
 //!   says.
 //!
-//! What is asked is `eval` and a script, `call` and words, `invokehidden` and words, or the name of
-//! another command and its words. How it ended is `code`, a number and a text; `stop`, the levels
-//! up to the interpreter whose limit it is, and `commands` or `recursionlimit`; `exit` and a status;
-//! or `ended`, by the outside. What the host says is a word, and what belongs to it: of bytes that
-//! it read how many they are. In place of each newline stand a backslash and an `n`.
+//! What is asked is `eval` and a script, `call` and words, `invokehidden` and words, or the name
+//! of another command and its words. How it ended is `code`, a number and a text; `stop`, the
+//! levels up to the interpreter whose limit it is, and `commands` or `recursionlimit`; `exit` and a
+//! status; or `ended`, by the outside. What the host says is a word, and what belongs to it: of
+//! bytes that it read how many they are. In place of each newline stand a backslash and an `n`.
 ghost use Rattle.std.specs.Prelude.{◌≡◌, ◌++◌, ◌∷◌, IfOk, OnOk};
 ghost use Rattle.std.specs.String.{string_bytes};
 ghost use Rattle.tcl_record_texts.specs.Lines.{event_lines, line, lines, one_line, outcome_text};
