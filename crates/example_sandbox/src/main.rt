@@ -25,7 +25,13 @@ fn main(rt: HostRuntime) -> Result<(), EmbedError> {
     let root = Path::root(alloc);
     println!(rt; "{}", ending(&mut tree, alloc, &root, SETUP)?)?;
     let guest = Path::parse(alloc, "guest")?;
-    'scripts: for script in ["price tea", "note {tea, please}", "exit", "while 1 {}", "price tea"] {
+    'scripts: for script in [
+        "price tea",
+        "note {tea, please}",
+        "exit",
+        "while 1 {}",
+        "price tea",
+    ] {
         println!(rt; "{}", ending(&mut tree, alloc, &guest, script)?)?;
     }
     println!(rt; "{}", ending(&mut tree, alloc, &root, "set notes")?)?;

@@ -72,8 +72,7 @@ module _ {S : Type 0} (goes : Going S) (loses : S → S → Type 0) (old : Table
       let n = stands (tree_of old watched) seen in
       let w = entry goes old (recorder_of o watched) path script limit new (ended_with kept deleted) e there run in
       let told = run.told.keeps refl in
-      let kept_so = told.kept ∙ w.kept in
-      (
+      let kept_so = told.kept ∙ w.kept in (
         ap (λ (k : RecordView). k.watched) kept_so,
         record {
           during = run.during;

@@ -21,6 +21,14 @@ const USUAL_LIMIT: u64 = 10_000_000;
 /// What stands for the standard input in the place of a file's name.
 pub const STANDARD_INPUT: &str = "-";
 
+/// What `--version` prints behind the program's name.
+const VERSION: &str = "0.1.0";
+
+/// What stands last in help.
+const EXAMPLES: &str = "Examples:
+  tclsafe --safe --limit 1000 order.tcl milk 2
+  echo 'expr {6 * 7}' | tclsafe";
+
 /// The two styles of integers, by their words.
 static STYLES: [&str; 2] = ["8", "9"];
 
@@ -43,7 +51,7 @@ impl<'a> Options<'a> {
     /// What the words ask for, of which the first is the program's name.
     ///
     /// # Errors
-    /// Help where it is asked for, a mistake in the words, and want of memory.
+    /// Help or the version where that is asked for, a mistake in the words, and want of memory.
     pub fn read(alloc: Global, words: &'a [&'a str]) -> Result<Options<'a>, Ending>
         ensures read { IfOk result
             (λ options. IsRead (map (λ word. word.now) words.entry.now) options) }
@@ -121,6 +129,8 @@ fn command<'a>(alloc: Global) -> Result<Command<'a>, AllocError>
         (map (λ name. name.now) names.now ≡ styles) × (app_of made ≡ command names)) }
 {
     Command::new(alloc, "tclsafe")
+        .version(VERSION)
+        .after_help(EXAMPLES)
         .arg(limit_option(alloc))?
         .arg(safe_option(alloc))?
         .arg(integers_option(alloc))?
@@ -187,7 +197,8 @@ fn arguments_of<'a>(alloc: Global, words: Option<&[&'a str]>) -> Result<Vec<&'a 
     }
 }
 
-/// What is told of an error of the command line: help, where that was asked for, or what is wrong.
+/// What is told of an error of the command line: help or the version, where that was asked for, or
+/// what is wrong.
 fn misread(alloc: Global, error: &Error) -> Ending
     ensures { Tells error.now result }
 {
