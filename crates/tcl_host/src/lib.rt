@@ -5,6 +5,7 @@
 pub mod bytes;
 pub mod host;
 pub mod laws;
+mod lent;
 pub mod memory;
 pub mod open_mode;
 pub mod reply;
