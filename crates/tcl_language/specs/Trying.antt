@@ -64,7 +64,7 @@ abbrev pub handled_by : Completion → List Handler → Program
 handled_by c [] = done c
 handled_by c (h ∷ hs) = either (is_handled c h.handles)
     (or_fails fault_message (list_of h.names)
-        (λ xs. keeps xs c (runs_last (first_script (h ∷ hs)))))
+    (λ xs. keeps xs c (runs_last (first_script (h ∷ hs)))))
     (handled_by c hs)
 
 -- a body, and what its handlers make of its completion

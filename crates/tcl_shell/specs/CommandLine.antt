@@ -41,9 +41,16 @@ file_rule = new_rule (codes "FILE")
 abbrev pub arguments_rule : Rule
 arguments_rule = record (new_rule (codes "ARG")) { action = Some Append }
 
+-- its name, and that it has a version
+abbrev pub named : App
+named = record {
+  top = record ((new_app (codes "tclsafe")).top) { has_version = true };
+  subs = [];
+}
+
 abbrev pub command : Bor (List (Bor (List ℕ))) → App
 command names = with_rule (with_rule
-    (with_rule (with_rule (with_rule (new_app (codes "tclsafe")) limit_rule) safe_rule)
+    (with_rule (with_rule (with_rule named limit_rule) safe_rule)
     (integers_rule names)) file_rule) arguments_rule
 
 -- ## What is read of the words
