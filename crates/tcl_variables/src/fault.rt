@@ -27,22 +27,22 @@ pub enum Verb {
 #[derive(Debug, Drop, Error)]
 pub enum FrameFault {
     /// There is no such variable (231).
-    #[error("231: can't {} \"{1}\": no such variable", .0.word())]
+    #[error("231: can't {} \"{}\": no such variable", .0.word(), .1)]
     NoVariable(Verb, Text),
     /// The variable is an array (232).
-    #[error("232: can't {} \"{1}\": variable is array", .0.word())]
+    #[error("232: can't {} \"{}\": variable is array", .0.word(), .1)]
     IsArray(Verb, Text),
     /// The variable isn't an array (233).
-    #[error("233: can't {} \"{1}\": variable isn't array", .0.word())]
+    #[error("233: can't {} \"{}\": variable isn't array", .0.word(), .1)]
     NotArray(Verb, Text),
     /// The array has no such element (234).
-    #[error("234: can't {} \"{1}\": no such element in array", .0.word())]
+    #[error("234: can't {} \"{}\": no such element in array", .0.word(), .1)]
     NoElement(Verb, Text),
     /// There is no such level (235).
     #[error("235: bad level \"{0}\"")]
     BadLevel(usize),
     /// The variable holds a value already (236).
-    #[error("236: variable \"{0}\"{}", ALREADY_EXISTS)]
+    #[error("236: variable \"{}\"{}", .0, ALREADY_EXISTS)]
     Exists(Text),
     /// A link would lead through its own name (237).
     #[error("237: can't upvar from variable to itself")]
