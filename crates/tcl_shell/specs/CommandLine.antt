@@ -5,7 +5,6 @@ use Rattle.std.specs.Prelude.{Option, Some, None, unwrap_or, if◌then◌else◌
 use Rattle.std.specs.Borrow.{Bor}
 use Rattle.std.specs.Str.{bytes_eq}
 use Rattle.std.specs.Str.Parse.{digits_value, without_leading_plus}
-use Rattle.clap.specs.Simple.{on_top}
 use Rattle.clap.specs.Words.{App, Row, Rule, Text, new_app, new_rule, with_rule, matches_of}
 use Rattle.clap.specs.Words.{fault_of, first_of, one_of, all_of, kind_of, IsAmong}
 use Rattle.clap.specs.declared.builder.action.ArgAction.TheVariants.{SetTrue, Append}
@@ -19,8 +18,7 @@ use Rattle.tcl_shell.specs.declared.ending.Ending.{Ending}
 use Rattle.tcl_shell.specs.declared.ending.Ending.TheVariants as ending
 use Rattle.tcl_shell.specs.declared.options.Options.{Options}
 
--- ## The command: `tclsafe [--limit N] [--safe] [--integers 8|9] [FILE] [ARG..]`, or for help or the
--- version
+-- ## The command: `tclsafe [--limit N] [--safe] [--integers 8|9] [FILE] [ARG..]`
 
 abbrev pub limit_rule : Rule
 limit_rule = record (new_rule (codes "limit"))
@@ -43,13 +41,15 @@ file_rule = new_rule (codes "FILE")
 abbrev pub arguments_rule : Rule
 arguments_rule = record (new_rule (codes "ARG")) { action = Some Append }
 
--- the command has a version, so it has the flag that asks for it
-abbrev pub versioned : App → App
-versioned a = on_top (λ s. record s { has_version = true }) a
+-- its name, and that it has a version
+abbrev pub named : App
+named = record {
+  top = record ((new_app (codes "tclsafe")).top) { has_version = true };
+  subs = [];
+}
 
 abbrev pub command : Bor (List (Bor (List ℕ))) → App
-command names = with_rule (with_rule (with_rule
-    (with_rule (with_rule (versioned (new_app (codes "tclsafe"))) limit_rule) safe_rule)
+command names = with_rule (with_rule (with_rule (with_rule (with_rule named limit_rule) safe_rule)
     (integers_rule names)) file_rule) arguments_rule
 
 -- ## What is read of the words

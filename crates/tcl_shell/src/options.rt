@@ -3,7 +3,7 @@ ghost use Rattle.std.specs.Prelude.{◌≡◌, ℕ, List, [], IfOk, IfErr, map, 
 ghost use Rattle.std.specs.Prelude.{false};
 ghost use Rattle.std.specs.Borrow.{Bor};
 ghost use Rattle.clap.specs.Words.{app_of, rule_of, found_of, rows_of};
-ghost use Rattle.tcl_shell.specs.CommandLine.{command, styles, limit_rule, safe_rule};
+ghost use Rattle.tcl_shell.specs.CommandLine.{command, named, styles, limit_rule, safe_rule};
 ghost use Rattle.tcl_shell.specs.CommandLine.{integers_rule, file_rule, arguments_rule, IsRead};
 ghost use Rattle.tcl_shell.specs.CommandLine.{IsNotRead, IsParsed, IsMisparsed, Tells, Says};
 ghost use Rattle.tcl_shell.specs.CommandLine.{LimitIs, style_of};
@@ -21,13 +21,16 @@ const USUAL_LIMIT: u64 = 10_000_000;
 /// What stands for the standard input in the place of a file's name.
 pub const STANDARD_INPUT: &str = "-";
 
-/// What `--version` prints behind the program's name.
+/// The version of the program and of its libraries.
 const VERSION: &str = "0.1.0";
 
-/// What stands last in help.
+/// What help says of the program above its usage.
+const ABOUT: &str = "Runs a Tcl script that nobody has to trust, within a limit of steps";
+
+/// What help shows below the options.
 const EXAMPLES: &str = "Examples:
-  tclsafe --safe --limit 1000 order.tcl milk 2
-  echo 'expr {6 * 7}' | tclsafe";
+  tclsafe sums.tcl 3 4                 the script's argv is 3 4
+  tclsafe --safe --limit 1000 - <job   a stranger's script, from standard input";
 
 /// The two styles of integers, by their words.
 static STYLES: [&str; 2] = ["8", "9"];
@@ -123,14 +126,22 @@ fn arguments_argument<'a>(alloc: Global) -> Arg<'a>
         .help("The script's arguments, its list argv")
 }
 
+/// The program's name, its version, and what help says besides the options.
+fn named<'a>(alloc: Global) -> Command<'a>
+    ensures { app_of result ≡ named }
+{
+    Command::new(alloc, "tclsafe")
+        .version(VERSION)
+        .about(ABOUT)
+        .after_help(EXAMPLES)
+}
+
 /// The command line's own description.
 fn command<'a>(alloc: Global) -> Result<Command<'a>, AllocError>
     ensures { IfOk result (λ made. (names : Bor (List (Bor (List ℕ)))) ×
         (map (λ name. name.now) names.now ≡ styles) × (app_of made ≡ command names)) }
 {
-    Command::new(alloc, "tclsafe")
-        .version(VERSION)
-        .after_help(EXAMPLES)
+    named(alloc)
         .arg(limit_option(alloc))?
         .arg(safe_option(alloc))?
         .arg(integers_option(alloc))?
