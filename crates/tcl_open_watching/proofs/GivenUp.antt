@@ -57,8 +57,3 @@ module _ {S : Type 0} (goes : Going S) (loses : S → S → Type 0) (old : Table
   if_unwatched (Ok e) u o z h fit same g = tt
   if_unwatched (Err e) None o z h fit same g = unwatched_so o z h same g
   if_unwatched (Err e) (Some f) o z h fit same g = let clash : Some f ≡ None = fit in absurd cc
-
--- what holds anyway
-pub at_none : {A : Type 0} (o : Option A) (P : Type 0) → P → IfNone o P
-at_none None P p = p
-at_none (Some a) P p = tt
