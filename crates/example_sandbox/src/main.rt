@@ -22,16 +22,9 @@ fn ending(tree: &mut Tree, alloc: Global, path: &Path, script: &str) -> Result<S
 fn main(rt: HostRuntime) -> Result<(), EmbedError> {
     let alloc = rt.alloc();
     let mut tree = Tree::new(alloc)?;
-    let root = Path::root(alloc);
+    let (root, guest) = (Path::root(alloc), Path::parse(alloc, "guest")?);
     println!(rt; "{}", ending(&mut tree, alloc, &root, SETUP)?)?;
-    let guest = Path::parse(alloc, "guest")?;
-    'scripts: for script in [
-        "price tea",
-        "note {tea, please}",
-        "exit",
-        "while 1 {}",
-        "price tea",
-    ] {
+    'scripts: for script in ["price tea", "note {tea, please}", "exit", "while 1 {}"] {
         println!(rt; "{}", ending(&mut tree, alloc, &guest, script)?)?;
     }
     println!(rt; "{}", ending(&mut tree, alloc, &root, "set notes")?)?;
