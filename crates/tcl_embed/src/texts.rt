@@ -10,7 +10,7 @@ pub use tcl_text::integer::read_int;
 pub use tcl_text::integer::IntegerFault;
 /// The decimal digits of an integer.
 pub use tcl_text::integer::write_int;
-/// What a text is as a truth value: `1`, `true`, `yes`, `on` and their opposites.
+/// What a text is as a truth value: `true`, `yes`, `on` and their opposites, or an integer.
 pub use tcl_text::boolean::read_bool;
 /// Why it is none (113).
 pub use tcl_text::boolean::BooleanFault;
