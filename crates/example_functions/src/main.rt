@@ -35,7 +35,7 @@ fn twice(alloc: Global, call: &Call) -> Result<Action, AllocError> {
 
 /// Gives an interpreter a command that calls the shop's function of the same name.
 fn open_door(tree: &mut Tree, alloc: Global, path: &Path, name: &str) -> Result<(), EmbedError> {
-    Ok(set_function(tree, alloc, path.names(), Text::new(alloc, name)?, name)?)
+    Ok(set_function(tree, alloc, path.names(), name, name)?)
 }
 
 fn main(rt: HostRuntime) -> Result<(), EmbedError> {

@@ -46,7 +46,8 @@ fn main(rt: HostRuntime) -> Result<(), EmbedError> {
     let guest = Path::parse(alloc, "guest")?;
     let before = save(&tree, guest.names())?;
     let (end, record) = watch(&mut tree, alloc, &guest)?;
-    println!(rt; "{end}\n{}", record_lines(alloc, &record)?)?;
+    println!(rt; "{end}")?;
+    print!(rt; "{}", record_lines(alloc, &record)?)?;
     let now = save(&tree, guest.names())?;
     let (told, same) = replay(alloc, &before, &record, &now)?;
     println!(rt; "{told}the same afterwards: {same}")?;
