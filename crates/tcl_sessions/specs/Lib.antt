@@ -1,0 +1,9 @@
+pub mod Calls
+pub mod Evaluations
+pub mod Limits
+pub mod Outcomes
+pub mod Refusals
+pub mod Sessions
+pub mod Standing
+pub mod Texts
+pub mod Trees
