@@ -55,12 +55,7 @@ impl Object {
 /// Reads the text; reads and writes the handle. Answers as `tclsafe_eval`; 425 where no call is
 /// open. 401 gives the evaluation up, and each other refusal changes nothing.
 #[unsafe(no_mangle)]
-pub extern "C" fn tclsafe_answer(
-    alloc: Global,
-    tree: &mut Handle,
-    code: i64,
-    text: &[u8],
-) -> i32
+pub extern "C" fn tclsafe_answer(alloc: Global, tree: &mut Handle, code: i64, text: &[u8]) -> i32
     ensures held { is_some tree.new.sealed.value ≡ is_some tree.old.sealed.value }
     ensures nothing { tree.old.sealed.value ≡ None → result ≡ pos 421 }
 {

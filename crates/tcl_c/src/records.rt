@@ -39,12 +39,7 @@ impl Object {
 }
 
 /// What comes of a record that is replayed.
-fn replay(
-    alloc: Global,
-    saved: &Object,
-    record: &Object,
-    limit: u64,
-) -> Result<Replayed, Refusal> {
+fn replay(alloc: Global, saved: &Object, record: &Object, limit: u64) -> Result<Replayed, Refusal> {
     replay_record(alloc, saved.saved()?, record.record()?, limit)
 }
 
@@ -60,11 +55,7 @@ fn equal(one: &Object, other: &Object) -> Result<bool, Refusal> {
 /// changes nothing: 422, 401; 421, 423; 424; 427 where it wasn't watched, or its record was taken;
 /// 411 where the watched interpreter was deleted in it.
 #[unsafe(no_mangle)]
-pub extern "C" fn tclsafe_take_record(
-    alloc: Global,
-    tree: &mut Handle,
-    record: &mut Handle,
-) -> i32
+pub extern "C" fn tclsafe_take_record(alloc: Global, tree: &mut Handle, record: &mut Handle) -> i32
     ensures { is_some tree.new.sealed.value ≡ is_some tree.old.sealed.value }
 {
     let mut room = match record.room(alloc) {

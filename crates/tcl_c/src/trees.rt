@@ -129,12 +129,7 @@ pub extern "C" fn tclsafe_create(
 /// Reads the texts; reads and writes the handle. Answers 0, or a refusal, which changes nothing:
 /// 421, 423; 122, 265, 101 to 104; 424; 301; 401.
 #[unsafe(no_mangle)]
-pub extern "C" fn tclsafe_delete(
-    alloc: Global,
-    tree: &mut Handle,
-    path: &[u8],
-    name: &[u8],
-) -> i32
+pub extern "C" fn tclsafe_delete(alloc: Global, tree: &mut Handle, path: &[u8], name: &[u8]) -> i32
     ensures held { is_some tree.new.sealed.value ≡ is_some tree.old.sealed.value }
     ensures nothing { tree.old.sealed.value ≡ None → result ≡ pos 421 }
 {

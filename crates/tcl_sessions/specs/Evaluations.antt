@@ -81,7 +81,7 @@ kept_of (Err (unwatched.Refused u)) = Err (of_refused u)
 -- of its end, or of the call that is open
 abbrev pub Shows : Standing → OpenEnd → Report → Type 0
 Shows s (Ran e) r = ShowsEnd e r
-Shows s CutOff r = (call : OpenCall) × (s.open ≡ Some call) × ShowsCall call r
+Shows s CutOff r = (call : OpenCall) × (s.call ≡ Some call) × ShowsCall call r
 
 abbrev pub ShowsOpen : Standing → OpenEnd → Result Report Refusal → Type 0
 ShowsOpen s e (Ok r) = Shows s e r
@@ -89,7 +89,7 @@ ShowsOpen s e (Err f) = f ≡ Memory
 
 -- nothing came back in it yet
 abbrev pub begun_again : Standing → Standing
-begun_again o = record o { given = 0; open = None }
+begun_again o = record o { given = 0; call = None }
 
 -- an evaluation from the beginning, and what is told of it
 abbrev pub Attempts : Table → Standing → Evaluation → Table → Standing → Result Told Refusal →
@@ -123,7 +123,7 @@ pub record IsWaiting (old : Session) (e : Evaluation) (new : Session) : Type 0 w
   pub evaluated : IsEvaluated old.tree (begun_again old.standing) e (watched_of e) during
       new.standing CutOff kept
   pub call : OpenCall
-  pub open : new.standing.open ≡ Some call
+  pub stands : new.standing.call ≡ Some call
   pub shows : ShowsCall call new.report
   pub tree : tree_of new.tree ≡ tree_of old.tree
   pub style : (marks_of new.tree).integers ≡ (marks_of old.tree).integers

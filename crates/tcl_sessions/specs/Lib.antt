@@ -1,7 +1,9 @@
 pub mod Calls
 pub mod Evaluations
+pub mod Files
 pub mod Limits
 pub mod Outcomes
+pub mod Records
 pub mod Refusals
 pub mod Sessions
 pub mod Standing

@@ -1,5 +1,5 @@
 -- Refusals: their numbers and texts, and what errors become.
-use Rattle.std.specs.Prelude.{ℤ, pos, codes}
+use Rattle.std.specs.Prelude.{ℤ, Option, Some, None, [], pos, codes}
 use Rattle.tcl_characters.specs.declared.limit.LimitError.{LimitError}
 use Rattle.tcl_characters.specs.declared.limit.LimitError.TheVariants as limit
 use Rattle.tcl_core.specs.Paths.{Text}
@@ -93,6 +93,11 @@ text_of CallOpen = codes "a call is open"
 text_of NoCallOpen = codes "no call is open"
 text_of NoStyle = codes "no such style of integers"
 text_of NoRecord = codes "there is no record"
+
+-- of a refusal, if there is one
+abbrev pub said_of : Option Refusal → Text
+said_of (Some r) = text_of r
+said_of None = []
 
 -- ## What errors become
 

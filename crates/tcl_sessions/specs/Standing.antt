@@ -59,14 +59,14 @@ pub record Hears (o : Standing) (q : Request) (reply : HostReply) (z : Standing)
   pub is : answer_of answer ≡ Heard (reply_of reply)
   pub kept : z.answers.items ≡ o.answers.items ++ answer ∷ []
   pub given : z.given ≡ length z.answers.items
-  pub open : z.open ≡ o.open
+  pub call : z.call ≡ o.call
 
 -- the call from p for this is kept as open
 pub record Waits (o : Standing) (p : Path) (i : Entry) (z : Standing) : Type 0 where
   pub call : OpenCall
   pub caller : call.caller.items ≡ p
   pub words : call.words.items ≡ words_of i
-  pub after : z ≡ record o { open = Some call }
+  pub after : z ≡ record o { call = Some call }
 
 -- What comes back to a call from p, so high up and for this: what came back before; or the host's
 -- reply; or nothing, since the call has to wait, which ends the evaluation from outside.

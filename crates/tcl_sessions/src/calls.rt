@@ -1,7 +1,7 @@
 //! Calls that left the tree.
 ghost use Rattle.std.specs.Prelude.{◌≡◌};
 ghost use Rattle.tcl_flow.specs.View.{completion_of};
-ghost use Rattle.tcl_sessions.specs.Calls.{ended_by};
+ghost use Rattle.tcl_sessions.specs.Calls.{Abandons, Answers, call_words, ended_by};
 
 use crate::outcome::Outcome;
 use crate::refusal::Refusal;
@@ -27,7 +27,9 @@ impl Session {
     ///
     /// # Errors
     /// 425, which changes nothing. 401, by which the evaluation is given up.
-    pub fn answer(&mut self, alloc: Global, code: i64, text: Value) -> Result<Outcome, Refusal> {
+    pub fn answer(&mut self, alloc: Global, code: i64, text: Value) -> Result<Outcome, Refusal>
+        ensures { Answers self.old code text result self.new }
+    {
         let Some(evaluation) = self.waiting.take() else {
             return Err(Refusal::NoCallOpen);
         };
@@ -35,11 +37,14 @@ impl Session {
         self.run(alloc, evaluation)
     }
 
-    /// Gives up the evaluation that waits. The tree is as before it.
+    /// Gives up the evaluation that waits. The tree is as before it; what the host was asked for
+    /// stays done.
     ///
     /// # Errors
     /// 425.
-    pub fn abandon(&mut self) -> Result<(), Refusal> {
+    pub fn abandon(&mut self) -> Result<(), Refusal>
+        ensures { Abandons self.old result self.new }
+    {
         match self.waiting.take() {
             Some(_evaluation) => {
                 self.standing.begin();
@@ -50,8 +55,13 @@ impl Session {
     }
 
     /// The words of the open call; none where no call is open.
-    pub fn call_words(&self) -> &[Text] {
-        match &self.standing.open {
+    pub fn call_words(&self) -> &[Text]
+        ensures { result.now ≡ call_words self.now.waiting self.now.standing.call }
+    {
+        if self.waiting.is_none() {
+            return &[];
+        }
+        match &self.standing.call {
             Some(call) => call.words.as_slice(),
             None => &[],
         }

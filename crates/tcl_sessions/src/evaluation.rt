@@ -56,11 +56,7 @@ impl Session {
     ///
     /// # Errors
     /// As `evaluate`.
-    pub(crate) fn run(
-        &mut self,
-        alloc: Global,
-        evaluation: Evaluation,
-    ) -> Result<Outcome, Refusal>
+    pub(crate) fn run(&mut self, alloc: Global, evaluation: Evaluation) -> Result<Outcome, Refusal>
         ensures { Runs self.old evaluation result self.new }
     {
         let start = copy_of(&self.tree)?;
@@ -95,7 +91,11 @@ impl Session {
 fn copy_of(tree: &Tree) -> Result<Tree, AllocError>
     ensures tree { IfOk result (λ made. tree_of made ≡ tree_of tree.now) }
     ensures marks { IfOk result
-        (λ made. marks_of made ≡ record { integers = (marks_of tree.now).integers; broken = false }) }
+        (λ made. marks_of made ≡ record {
+          integers = (marks_of tree.now).integers;
+          broken =
+              false;
+        }) }
 {
     match tree.copy_at(&[]) {
         Ok(made) => Ok(made),
@@ -116,7 +116,7 @@ fn attempt(
     ensures { Attempts tree.old standing.old evaluation.now tree.new standing.new result }
 {
     standing.begin_again();
-    let (end, watch) = open(tree, alloc, standing, evaluation)?;
+    let (end, watch) = run_script(tree, alloc, standing, evaluation)?;
     let report = report_of(alloc, standing, &end)?;
     Ok(Told { report, watch })
 }
@@ -130,7 +130,7 @@ fn report_of(alloc: Global, standing: &Standing, end: &OpenEnd) -> Result<Report
 {
     match end {
         OpenEnd::Ran(end) => Ok(Report::of_end(alloc, end)?),
-        OpenEnd::CutOff => match &standing.open {
+        OpenEnd::CutOff => match &standing.call {
             Some(call) => Ok(Report::of_call(alloc, call)?),
             None => Err(Refusal::Memory),
         },
@@ -138,7 +138,7 @@ fn report_of(alloc: Global, standing: &Standing, end: &OpenEnd) -> Result<Report
 }
 
 /// Evaluates the script, watched or not.
-fn open(
+fn run_script(
     tree: &mut Tree,
     alloc: Global,
     standing: &mut Standing,
@@ -148,7 +148,7 @@ fn open(
         standing.new result }
 {
     match &evaluation.watched {
-        Some(watched) => open_and_watch(tree, alloc, standing, evaluation, watched.as_slice()),
+        Some(watched) => run_watched(tree, alloc, standing, evaluation, watched.as_slice()),
         None => {
             let path = evaluation.path.as_slice();
             let script = evaluation.script.as_str();
@@ -159,7 +159,7 @@ fn open(
 }
 
 /// Evaluates the script, and records what crosses the boundary of the interpreter at `watched`.
-fn open_and_watch(
+fn run_watched(
     tree: &mut Tree,
     alloc: Global,
     standing: &mut Standing,

@@ -131,12 +131,7 @@ impl Report {
     }
 
     /// What is told where there are no options and no caller.
-    fn plain(
-        alloc: Global,
-        outcome: Outcome,
-        code: i64,
-        text: &str,
-    ) -> Result<Report, AllocError>
+    fn plain(alloc: Global, outcome: Outcome, code: i64, text: &str) -> Result<Report, AllocError>
         ensures { IfOk result (λ report. report ≡ record nothing_yet
             { outcome = outcome; code = code; text = text.now }) }
     {

@@ -1,4 +1,17 @@
 //! Records, and interpreters that are saved by themselves.
+ghost use Rattle.std.specs.Prelude.{◌≡◌, IfErr, IfOk, false};
+ghost use Rattle.std.specs.String.{string_bytes};
+ghost use Rattle.tcl_core.specs.Lives.{React};
+ghost use Rattle.tcl_core.specs.Trees.{at};
+ghost use Rattle.tcl_core.specs.Views.{moves_of};
+ghost use Rattle.tcl_language_laws.specs.Language.{language};
+ghost use Rattle.tcl_player.specs.Players.{result_of};
+ghost use Rattle.tcl_record_texts.specs.Lines.{replay_lines};
+ghost use Rattle.tcl_recorder.specs.Crossings.{events_of};
+ghost use Rattle.tcl_replay.specs.Saved.{saved_of};
+ghost use Rattle.tcl_sessions.specs.Records.{HasLines, IsUnplayed, IsUnsaved, Takes};
+ghost use Rattle.tcl_tree.specs.TreeOf.{marks_of, tree_of};
+
 use crate::refusal::Refusal;
 use crate::session::{Session, Watch};
 use std::alloc::Global;
@@ -16,7 +29,9 @@ impl Session {
     /// # Errors
     /// 424; 427 where it wasn't watched, or its record was taken; 411 where the watched interpreter
     /// was deleted in it. They change nothing.
-    pub fn take_record(&mut self) -> Result<Record, Refusal> {
+    pub fn take_record(&mut self) -> Result<Record, Refusal>
+        ensures { Takes self.old result self.new }
+    {
         self.at_rest()?;
         match replace(&mut self.watch, Watch::Nothing) {
             Watch::Recorded(record) => Ok(record),
@@ -32,7 +47,16 @@ impl Session {
     ///
     /// # Errors
     /// 424; 402, 403; 401.
-    pub fn save(&self, path: &[Text]) -> Result<Saved, Refusal> {
+    pub fn save(&self, path: &[Text]) -> Result<Saved, Refusal>
+        ensures refused { IfErr result (IsUnsaved self.now path.now) }
+        ensures saved { IfOk result
+            (λ s. saved_of s ≡ record {
+              tree = at (tree_of self.now.tree) path.now;
+              integers = (marks_of self.now.tree).integers;
+              waits =
+                  false;
+            }) }
+    {
         self.at_rest()?;
         Ok(save(&self.tree, path)?)
     }
@@ -42,7 +66,9 @@ impl Session {
 ///
 /// # Errors
 /// 122 where one of the lines would be longer than a value may be; 401.
-pub fn lines_of_record(alloc: Global, record: &Record) -> Result<String, Refusal> {
+pub fn lines_of_record(alloc: Global, record: &Record) -> Result<String, Refusal>
+    ensures { IfOk result (λ text. HasLines record.now.crossings (string_bytes text)) }
+{
     Ok(lines_of(alloc, record.crossings())?)
 }
 
@@ -55,7 +81,15 @@ pub fn replay_record(
     saved: &Saved,
     record: &Record,
     limit: u64,
-) -> Result<Replayed, Refusal> {
+) -> Result<Replayed, Refusal>
+    ensures refused { IfErr result (IsUnplayed saved.now limit) }
+    ensures reacts { IfOk result
+        (λ r. React (language (saved_of saved.now).integers) (saved_of saved.now).tree
+        (moves_of record.now.crossings) limit (result_of r.outcome) (events_of r.outwards.items)
+        (saved_of r.saved).tree) }
+    ensures style { IfOk result
+        (λ r. (saved_of r.saved).integers ≡ (saved_of saved.now).integers) }
+{
     let moves = moves_of(alloc, record.crossings())?;
     Ok(saved.replay(alloc, moves.as_slice(), limit)?)
 }
@@ -64,6 +98,9 @@ pub fn replay_record(
 ///
 /// # Errors
 /// 122 where one of the lines would be longer than a value may be; 401.
-pub fn lines_of_replay(alloc: Global, replayed: &Replayed) -> Result<String, Refusal> {
+pub fn lines_of_replay(alloc: Global, replayed: &Replayed) -> Result<String, Refusal>
+    ensures { IfOk result (λ text. string_bytes text
+        ≡ replay_lines replayed.now.outwards.items replayed.now.outcome) }
+{
     Ok(replay_lines(alloc, replayed.outwards(), replayed.outcome())?)
 }

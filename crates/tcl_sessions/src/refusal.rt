@@ -1,6 +1,7 @@
 //! Why calls do nothing.
-ghost use Rattle.std.specs.Prelude.{◌≡◌};
-ghost use Rattle.tcl_sessions.specs.Refusals.{number_of, text_of};
+ghost use Rattle.std.specs.Ordering.{int_eq};
+ghost use Rattle.std.specs.Prelude.{◌≡◌, find};
+ghost use Rattle.tcl_sessions.specs.Refusals.{number_of, said_of, text_of};
 
 use std::alloc::{AllocError, AllocFailed};
 use tcl_characters::limit::LimitError;
@@ -193,7 +194,9 @@ impl Refusal {
 }
 
 /// What is said of the refusal of that number; nothing where none has it.
-pub fn text_of_number(number: i32) -> &'static str {
+pub fn text_of_number(number: i32) -> &'static str
+    ensures { result.now ≡ said_of (find (λ r. int_eq (number_of r) number) ALL) }
+{
     match ALL.iter().find(|refusal| refusal.number() == number) {
         Some(refusal) => refusal.text(),
         None => "",

@@ -44,9 +44,7 @@ impl Answer {
     {
         match self {
             Answer::Heard(reply) => Ok(Answer::Heard(copy_heard(reply)?)),
-            Answer::Completed(completion) => {
-                Ok(Answer::Completed(copy_completion(completion)?))
-            }
+            Answer::Completed(completion) => { Ok(Answer::Completed(copy_completion(completion)?)) }
         }
     }
 }
@@ -71,7 +69,8 @@ pub struct Standing {
     pub(crate) answers: Vec<Answer>,
     // how many of these came back in the evaluation that is in progress
     pub(crate) given: usize,
-    pub(crate) open: Option<OpenCall>,
+    // the call that is open
+    pub(crate) call: Option<OpenCall>,
 }
 
 impl Drop for Standing {
@@ -80,7 +79,7 @@ impl Drop for Standing {
             host: _host,
             answers: _answers,
             given: _,
-            open: _open,
+            call: _call,
         } = self;
     }
 }
@@ -93,13 +92,13 @@ impl Standing {
     pub fn new(alloc: Global) -> Result<Standing, AllocError>
         ensures host { IfOk result (λ made. made.host ≡ new_host) }
         ensures answers { IfOk result (λ made. made.answers.items ≡ []) }
-        ensures open { IfOk result (λ made. made.open ≡ None) }
+        ensures call { IfOk result (λ made. made.call ≡ None) }
     {
         Ok(Standing {
             host: MemoryHost::new(alloc)?,
             answers: Vec::new(alloc),
             given: 0,
-            open: None,
+            call: None,
         })
     }
 
@@ -108,10 +107,10 @@ impl Standing {
         ensures host { self.new.host ≡ self.old.host }
         ensures answers { self.new.answers ≡ self.old.answers }
         ensures given { self.new.given ≡ 0 }
-        ensures open { self.new.open ≡ None }
+        ensures call { self.new.call ≡ None }
     {
         self.given = 0;
-        self.open = None;
+        self.call = None;
     }
 
     /// Another evaluation begins, in which nothing came back yet.
@@ -119,7 +118,7 @@ impl Standing {
         ensures host { self.new.host ≡ self.old.host }
         ensures answers { self.new.answers.items ≡ [] }
         ensures given { self.new.given ≡ 0 }
-        ensures open { self.new.open ≡ None }
+        ensures call { self.new.call ≡ None }
     {
         self.answers.clear();
         self.begin_again();
@@ -183,7 +182,7 @@ impl Standing {
     {
         let path = tree.last_names(alloc, caller, usize::MAX)?;
         let words = words_of(alloc, entry)?;
-        self.open = Some(OpenCall {
+        self.call = Some(OpenCall {
             caller: path,
             words,
         });
@@ -248,7 +247,8 @@ fn texts_of(alloc: Global, values: &[Value]) -> Result<Vec<Text>, AllocError>
 /// What comes back to a call again.
 ///
 /// # Errors
-/// How the call ended. Want of memory; also where the answer is none to such a call, which can't be.
+/// How the call ended. Want of memory; also where the answer is none to such a call, which can't
+/// be.
 fn answer_again(
     alloc: Global,
     up: Option<usize>,

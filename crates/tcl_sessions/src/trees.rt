@@ -28,9 +28,11 @@ impl Session {
         name: &Text,
         safe: bool,
     ) -> Result<(), Refusal>
-        ensures made { OnOk result (Makes (tree_of self.old.tree) (tree_of self.new.tree) path.now name.now safe) }
+        ensures made { OnOk result
+            (Makes (tree_of self.old.tree) (tree_of self.new.tree) path.now name.now safe) }
         ensures refused { IfErr result
-            (λ e. IsRefused (λ t. RefusesMake t (tree_of self.old.tree) path.now name.now) self.old e) }
+            (λ e. IsRefused (λ t. RefusesMake t (tree_of self.old.tree) path.now name.now)
+            self.old e) }
         ensures unchanged { OnErr result (tree_of self.new.tree ≡ tree_of self.old.tree) }
         ensures marks { marks_of self.new.tree ≡ marks_of self.old.tree }
         ensures rest { KeepsRest self.old self.new }
@@ -44,9 +46,11 @@ impl Session {
     /// # Errors
     /// 424; 301 where it isn't there. They change nothing.
     pub fn delete(&mut self, path: &[Text], name: &Text) -> Result<(), Refusal>
-        ensures dropped { OnOk result (Drops (tree_of self.old.tree) (tree_of self.new.tree) path.now name.now) }
+        ensures dropped { OnOk result
+            (Drops (tree_of self.old.tree) (tree_of self.new.tree) path.now name.now) }
         ensures refused { IfErr result
-            (λ e. IsRefused (λ t. RefusesDrop t (tree_of self.old.tree) path.now name.now) self.old e) }
+            (λ e. IsRefused (λ t. RefusesDrop t (tree_of self.old.tree) path.now name.now)
+            self.old e) }
         ensures unchanged { OnErr result (tree_of self.new.tree ≡ tree_of self.old.tree) }
         ensures marks { marks_of self.new.tree ≡ marks_of self.old.tree }
         ensures rest { KeepsRest self.old self.new }
@@ -81,9 +85,10 @@ impl Session {
         ensures rest { KeepsRest self.old self.new }
     {
         self.at_rest()?;
-        Ok(self
-            .tree
-            .set_alias_between(alloc, path, name, target, words)?)
+        Ok(
+            self.tree
+                .set_alias_between(alloc, path, name, target, words)?,
+        )
     }
 
     /// Makes a name of the interpreter at the path an alias that leaves the tree: a call of it is
@@ -118,7 +123,8 @@ impl Session {
     /// # Errors
     /// 424; 301, 305 where the name is no alias. They change nothing.
     pub fn clear_alias(&mut self, path: &[Text], name: &Text) -> Result<(), Refusal>
-        ensures cleared { OnOk result (Becomes (tree_of self.old.tree) (tree_of self.new.tree) path.now
+        ensures cleared { OnOk result
+            (Becomes (tree_of self.old.tree) (tree_of self.new.tree) path.now
             (λ own. cleared own name.now)) }
         ensures there { OnOk result (IsSome (tree_of self.old.tree path.now)) }
         ensures refused { IfErr result
