@@ -1,6 +1,6 @@
 -- What stands outside of a tree whose calls may have to wait.
 use Rattle.std.specs.Prelude.{◌≡◌, ℕ, ◌+◌, ◌≤◌, true, List, [], ◌∷◌, ◌++◌, length, slice_get}
-use Rattle.std.specs.Prelude.{Option, Some, None, Result, Ok, Err}
+use Rattle.std.specs.Prelude.{Option, Some, None, Result, Ok, Err, IsTrue}
 use Rattle.std.specs.declared.alloc.AllocError.{AllocError}
 use Rattle.tcl_core.specs.Endings.Cause.{Above}
 use Rattle.tcl_core.specs.Endings.Reply.{Completed, Cut}
@@ -15,6 +15,7 @@ use Rattle.tcl_core.specs.Trees.{What}
 use Rattle.tcl_core.specs.Trees.What.{Back}
 use Rattle.tcl_flow.specs.View.{completion_of}
 use Rattle.tcl_host.specs.MemoryHost.{respond}
+use Rattle.tcl_host.specs.Replies.{is_reply_to}
 use Rattle.tcl_host.specs.declared.reply.HostReply.{HostReply}
 use Rattle.tcl_host.specs.declared.request.Request.{Request}
 use Rattle.tcl_run.specs.Ends.{Interrupts}
@@ -55,6 +56,7 @@ IsFresh o = length o.answers.items ≤ o.given
 -- the host replies to a request, and the reply is kept
 pub record Hears (o : Standing) (q : Request) (reply : HostReply) (z : Standing) : Type 0 where
   pub replies : respond o.host q ≡ (reply, z.host)
+  pub fits : IsTrue (is_reply_to reply q)
   pub answer : Answer
   pub is : answer_of answer ≡ Heard (reply_of reply)
   pub kept : z.answers.items ≡ o.answers.items ++ answer ∷ []

@@ -4,7 +4,7 @@ ghost use Rattle.tcl_core.specs.Entries as core;
 ghost use Rattle.tcl_core.specs.Paths.{Path};
 ghost use Rattle.tcl_host.specs.MemoryHost.{new_host};
 ghost use Rattle.tcl_run.specs.Entering.{whole_entry};
-ghost use Rattle.tcl_run.specs.Outsides.{ComesNext};
+ghost use Rattle.tcl_run.specs.Outsides.{ComesNext, OnEntry};
 ghost use Rattle.tcl_sessions.specs.Standing.{AnswersAgain, Hears, IsFresh, IsRecalled, Waits};
 ghost use Rattle.tcl_sessions.specs.Standing.{goes, words_of};
 ghost use Rattle.tcl_tree.specs.TreeOf.{Names, tree_of};
@@ -203,8 +203,9 @@ impl Standing {
         entry: &Entry,
     ) -> Result<Turn, Interruption>
         requires { IsFresh self.old }
-        ensures { (p : Path) → Names tree.now caller p → ComesNext goes Prim.⊥ (tree_of tree.now)
+        ensures comes { (p : Path) → Names tree.now caller p → ComesNext goes Prim.⊥ (tree_of tree.now)
             self.old p up (whole_entry entry.now) self.new result }
+        ensures no_entry { OnEntry result Prim.⊥ }
     {
         match (up, entry) {
             (None, Entry::AskHost(request)) => Ok(Turn::Heard(self.hear(alloc, request)?)),
