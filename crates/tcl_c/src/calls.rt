@@ -1,23 +1,51 @@
 //! Calls that left the tree.
-ghost use Rattle.std.specs.Prelude.{◌≡◌, None, is_some, pos};
+ghost use Rattle.std.specs.Prelude.{◌≡◌, IfOk, None, OnErr, OnOk, pos};
+ghost use Rattle.tcl_c.specs.Acts.{AnswersCall};
+ghost use Rattle.tcl_c.specs.Objects.{IsUnchanged, KeepsTree, OnHeld, OnTrees, TreeKept, Unchanged};
+ghost use Rattle.tcl_sessions.specs.Calls.{IsLeft};
+ghost use Rattle.tcl_sessions.specs.Outcomes.{number_of as outcome_number};
+ghost use Rattle.tcl_sessions.specs.Refusals.{number_of};
+ghost use Rattle.tcl_sessions.specs.Sessions.{SameSession, SameTree};
 
 use crate::codes::{NOTHING_HELD, code_of, outcome_code};
 use crate::handle::{Handle, with_object};
-use crate::object::Object;
+use crate::object::{Object, on_tree};
 use std::alloc::Global;
 use tcl_sessions::outcome::Outcome;
 use tcl_sessions::refusal::Refusal;
+use tcl_sessions::session::Session;
 use tcl_sessions::texts::{value_of, write_front};
 
+/// Ends the open call by this code and this text.
+fn answer(session: &mut Session, alloc: Global, code: i64, text: &[u8]) -> Result<Outcome, Refusal>
+    ensures done { IfOk result (λ x. AnswersCall code text.now x session.old session.new) }
+    ensures refused { OnErr result (SameTree session.old session.new) }
+{
+    let text = value_of(alloc, text)?;
+    session.answer(alloc, code, text)
+}
+
+/// Gives up the evaluation whose call is open.
+fn abandon(session: &mut Session) -> Result<(), Refusal>
+    ensures done { OnOk result (IsLeft session.old session.new) }
+    ensures refused { OnErr result (SameSession session.old session.new) }
+{
+    session.abandon()
+}
+
 impl Object {
-    fn answer(&mut self, alloc: Global, code: i64, text: &[u8]) -> Result<Outcome, Refusal> {
-        let session = self.session_mut()?;
-        let text = value_of(alloc, text)?;
-        session.answer(alloc, code, text)
+    fn answer(&mut self, alloc: Global, code: i64, text: &[u8]) -> Result<Outcome, Refusal>
+        ensures done { IfOk result (λ x. OnTrees (AnswersCall code text.now x) self.old self.new) }
+        ensures refused { OnErr result (KeepsTree self.old self.new) }
+    {
+        on_tree!(self, session => answer(session, alloc, code, text))
     }
 
-    fn abandon(&mut self) -> Result<(), Refusal> {
-        self.session_mut()?.abandon()
+    fn abandon(&mut self) -> Result<(), Refusal>
+        ensures done { OnOk result (OnTrees (IsLeft) self.old self.new) }
+        ensures refused { OnErr result (IsUnchanged self.old self.new) }
+    {
+        on_tree!(self, session => abandon(session))
     }
 
     /// Writes the path of who calls; nothing where no call is open.
@@ -53,10 +81,13 @@ impl Object {
 /// answers so far, on to the next call or its end.
 ///
 /// Reads the text; reads and writes the handle. Answers as `tclsafe_eval`; 425 where no call is
-/// open. 401 gives the evaluation up, and each other refusal changes nothing.
+/// open. 401 may give the evaluation up, and each other refusal changes nothing.
 #[unsafe(no_mangle)]
 pub extern "C" fn tclsafe_answer(alloc: Global, tree: &mut Handle, code: i64, text: &[u8]) -> i32
-    ensures held { is_some tree.new.sealed.value ≡ is_some tree.old.sealed.value }
+    ensures done { (x : Outcome) → result ≡ outcome_number x → OnHeld
+        (AnswersCall code text.now x) tree.old.sealed.value tree.new.sealed.value }
+    ensures refused { (e : Refusal) →
+        result ≡ number_of e → TreeKept tree.old.sealed.value tree.new.sealed.value }
     ensures nothing { tree.old.sealed.value ≡ None → result ≡ pos 421 }
 {
     with_object!(alloc, tree, NOTHING_HELD, mut object => {
@@ -70,10 +101,14 @@ pub extern "C" fn tclsafe_answer(alloc: Global, tree: &mut Handle, code: i64, te
 /// Reads and writes the handle. Answers 0, or a refusal, which changes nothing: 421, 423; 425.
 #[unsafe(no_mangle)]
 pub extern "C" fn tclsafe_abandon(alloc: Global, tree: &mut Handle) -> i32
-    ensures held { is_some tree.new.sealed.value ≡ is_some tree.old.sealed.value }
+    ensures done { result ≡ pos 0 → OnHeld (IsLeft) tree.old.sealed.value tree.new.sealed.value }
+    ensures refused { (e : Refusal) →
+        result ≡ number_of e → Unchanged tree.old.sealed.value tree.new.sealed.value }
     ensures nothing { tree.old.sealed.value ≡ None → result ≡ pos 421 }
 {
-    with_object!(alloc, tree, NOTHING_HELD, mut object => code_of(object.abandon()))
+    with_object!(alloc, tree, NOTHING_HELD, mut object => {
+        code_of(object.abandon())
+    })
 }
 
 /// Writes the path of the interpreter whose call is open, a list of names; else an empty text. It
@@ -82,9 +117,11 @@ pub extern "C" fn tclsafe_abandon(alloc: Global, tree: &mut Handle) -> i32
 /// Writes the room; reads and writes the handle. Answers the length of the whole text.
 #[unsafe(no_mangle)]
 pub extern "C" fn tclsafe_caller(alloc: Global, tree: &mut Handle, room: &mut [u8]) -> usize
-    ensures { is_some tree.new.sealed.value ≡ is_some tree.old.sealed.value }
+    ensures { tree.new.sealed.value ≡ tree.old.sealed.value }
 {
-    with_object!(alloc, tree, write_front(b"", room), object => object.write_caller(room))
+    with_object!(alloc, tree, write_front(b"", room), object => {
+        object.write_caller(room)
+    })
 }
 
 /// How many words the open call has, those of its alias first; 0 where no call is open.
@@ -92,7 +129,7 @@ pub extern "C" fn tclsafe_caller(alloc: Global, tree: &mut Handle, room: &mut [u
 /// Reads and writes the handle.
 #[unsafe(no_mangle)]
 pub extern "C" fn tclsafe_word_count(alloc: Global, tree: &mut Handle) -> usize
-    ensures { is_some tree.new.sealed.value ≡ is_some tree.old.sealed.value }
+    ensures { tree.new.sealed.value ≡ tree.old.sealed.value }
 {
     with_object!(alloc, tree, 0, object => object.word_count())
 }
@@ -108,7 +145,9 @@ pub extern "C" fn tclsafe_word(
     index: usize,
     room: &mut [u8],
 ) -> usize
-    ensures { is_some tree.new.sealed.value ≡ is_some tree.old.sealed.value }
+    ensures { tree.new.sealed.value ≡ tree.old.sealed.value }
 {
-    with_object!(alloc, tree, write_front(b"", room), object => object.write_word(index, room))
+    with_object!(alloc, tree, write_front(b"", room), object => {
+        object.write_word(index, room)
+    })
 }

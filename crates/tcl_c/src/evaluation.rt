@@ -1,14 +1,63 @@
 //! Evaluation.
-ghost use Rattle.std.specs.Prelude.{◌≡◌, None, is_some, pos};
+ghost use Rattle.std.specs.Option.{option_copied};
+ghost use Rattle.std.specs.Prelude.{◌≡◌, IfOk, None, OnErr, Some, pos};
+ghost use Rattle.tcl_c.specs.Acts.{Evals, IsPlan};
+ghost use Rattle.tcl_c.specs.Objects.{KeepsTree, OnHeld, OnTrees, TreeKept};
+ghost use Rattle.tcl_sessions.specs.Outcomes.{number_of as outcome_number};
+ghost use Rattle.tcl_sessions.specs.Refusals.{number_of};
+ghost use Rattle.tcl_sessions.specs.Sessions.{SameTree};
 
 use crate::codes::{NOTHING_HELD, outcome_code};
 use crate::handle::{Handle, with_object};
-use crate::object::Object;
+use crate::object::{Object, on_tree};
 use std::alloc::Global;
 use tcl_sessions::evaluation::Evaluation;
 use tcl_sessions::outcome::Outcome;
 use tcl_sessions::refusal::Refusal;
+use tcl_sessions::session::Session;
 use tcl_sessions::texts::{name_of, path_of, write_front};
+
+/// What is to be evaluated, and whose boundary is to be recorded.
+fn plan(
+    alloc: Global,
+    path: &[u8],
+    script: &[u8],
+    limit: u64,
+    watched: Option<&[u8]>,
+) -> Result<Evaluation, Refusal>
+    ensures { IfOk result (IsPlan path.now script.now limit (option_copied watched.entry)) }
+{
+    let path = path_of(alloc, path)?;
+    let script = name_of(alloc, script)?;
+    let watched = match watched {
+        Some(watched) => Some(path_of(alloc, watched)?),
+        None => None,
+    };
+    Ok(Evaluation {
+        path,
+        script,
+        limit,
+        watched,
+    })
+}
+
+/// Evaluates a script in the interpreter at the path.
+fn eval(
+    session: &mut Session,
+    alloc: Global,
+    path: &[u8],
+    script: &[u8],
+    limit: u64,
+    watched: Option<&[u8]>,
+) -> Result<Outcome, Refusal>
+    ensures done { IfOk result
+        (λ x. Evals path.now script.now limit (option_copied watched.entry) x session.old
+        session.new) }
+    ensures refused { OnErr result (SameTree session.old session.new) }
+{
+    let evaluation = plan(alloc, path, script, limit, watched)?;
+    session.evaluate(alloc, evaluation)
+}
 
 impl Object {
     fn eval(
@@ -17,42 +66,14 @@ impl Object {
         path: &[u8],
         script: &[u8],
         limit: u64,
-    ) -> Result<Outcome, Refusal> {
-        let session = self.session_mut()?;
-        let path = path_of(alloc, path)?;
-        let script = name_of(alloc, script)?;
-        session.evaluate(
-            alloc,
-            Evaluation {
-                path,
-                script,
-                limit,
-                watched: None,
-            },
-        )
-    }
-
-    fn eval_watched(
-        &mut self,
-        alloc: Global,
-        path: &[u8],
-        script: &[u8],
-        limit: u64,
-        watched: &[u8],
-    ) -> Result<Outcome, Refusal> {
-        let session = self.session_mut()?;
-        let path = path_of(alloc, path)?;
-        let script = name_of(alloc, script)?;
-        let watched = Some(path_of(alloc, watched)?);
-        session.evaluate(
-            alloc,
-            Evaluation {
-                path,
-                script,
-                limit,
-                watched,
-            },
-        )
+        watched: Option<&[u8]>,
+    ) -> Result<Outcome, Refusal>
+        ensures done { IfOk result
+            (λ x. OnTrees (Evals path.now script.now limit (option_copied watched.entry) x) self.old
+            self.new) }
+        ensures refused { OnErr result (KeepsTree self.old self.new) }
+    {
+        on_tree!(self, session => eval(session, alloc, path, script, limit, watched))
     }
 
     /// The code or the status; 0 of what is no tree.
@@ -95,11 +116,15 @@ pub extern "C" fn tclsafe_eval(
     script: &[u8],
     limit: u64,
 ) -> i32
-    ensures held { is_some tree.new.sealed.value ≡ is_some tree.old.sealed.value }
+    ensures done { (x : Outcome) → result ≡ outcome_number x →
+        OnHeld (Evals path.now script.now limit None x) tree.old.sealed.value
+        tree.new.sealed.value }
+    ensures refused { (e : Refusal) → result ≡ number_of e →
+        TreeKept tree.old.sealed.value tree.new.sealed.value }
     ensures nothing { tree.old.sealed.value ≡ None → result ≡ pos 421 }
 {
     with_object!(alloc, tree, NOTHING_HELD, mut object => {
-        outcome_code(object.eval(alloc, path, script, limit))
+        outcome_code(object.eval(alloc, path, script, limit, None))
     })
 }
 
@@ -117,11 +142,15 @@ pub extern "C" fn tclsafe_eval_watched(
     limit: u64,
     watched: &[u8],
 ) -> i32
-    ensures held { is_some tree.new.sealed.value ≡ is_some tree.old.sealed.value }
+    ensures done { (x : Outcome) → result ≡ outcome_number x →
+        OnHeld (Evals path.now script.now limit (Some watched.now) x) tree.old.sealed.value
+        tree.new.sealed.value }
+    ensures refused { (e : Refusal) → result ≡ number_of e →
+        TreeKept tree.old.sealed.value tree.new.sealed.value }
     ensures nothing { tree.old.sealed.value ≡ None → result ≡ pos 421 }
 {
     with_object!(alloc, tree, NOTHING_HELD, mut object => {
-        outcome_code(object.eval_watched(alloc, path, script, limit, watched))
+        outcome_code(object.eval(alloc, path, script, limit, Some(watched)))
     })
 }
 
@@ -131,7 +160,7 @@ pub extern "C" fn tclsafe_eval_watched(
 /// Reads and writes the handle.
 #[unsafe(no_mangle)]
 pub extern "C" fn tclsafe_code(alloc: Global, tree: &mut Handle) -> i64
-    ensures { is_some tree.new.sealed.value ≡ is_some tree.old.sealed.value }
+    ensures { tree.new.sealed.value ≡ tree.old.sealed.value }
 {
     with_object!(alloc, tree, 0, object => object.code())
 }
@@ -142,9 +171,11 @@ pub extern "C" fn tclsafe_code(alloc: Global, tree: &mut Handle) -> i64
 /// Writes the room; reads and writes the handle. Answers the length of the whole text.
 #[unsafe(no_mangle)]
 pub extern "C" fn tclsafe_result(alloc: Global, tree: &mut Handle, room: &mut [u8]) -> usize
-    ensures { is_some tree.new.sealed.value ≡ is_some tree.old.sealed.value }
+    ensures { tree.new.sealed.value ≡ tree.old.sealed.value }
 {
-    with_object!(alloc, tree, write_front(b"", room), object => object.write_result(room))
+    with_object!(alloc, tree, write_front(b"", room), object => {
+        object.write_result(room)
+    })
 }
 
 /// Writes the options with which the last evaluation completed, a dictionary with `-code`, `-level`
@@ -153,7 +184,9 @@ pub extern "C" fn tclsafe_result(alloc: Global, tree: &mut Handle, room: &mut [u
 /// Writes the room; reads and writes the handle. Answers the length of the whole text.
 #[unsafe(no_mangle)]
 pub extern "C" fn tclsafe_options(alloc: Global, tree: &mut Handle, room: &mut [u8]) -> usize
-    ensures { is_some tree.new.sealed.value ≡ is_some tree.old.sealed.value }
+    ensures { tree.new.sealed.value ≡ tree.old.sealed.value }
 {
-    with_object!(alloc, tree, write_front(b"", room), object => object.write_options(room))
+    with_object!(alloc, tree, write_front(b"", room), object => {
+        object.write_options(room)
+    })
 }

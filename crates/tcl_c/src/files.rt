@@ -1,26 +1,63 @@
 //! The host in memory.
-ghost use Rattle.std.specs.Prelude.{◌≡◌, None, is_some, pos};
+ghost use Rattle.std.specs.Prelude.{◌≡◌, None, OnErr, OnOk, pos};
+ghost use Rattle.tcl_c.specs.Acts.{PutsFile, PutsInput, RenewsHost};
+ghost use Rattle.tcl_c.specs.Objects.{IsUnchanged, OnHeld, OnTrees, Unchanged};
+ghost use Rattle.tcl_sessions.specs.Refusals.{number_of};
+ghost use Rattle.tcl_sessions.specs.Sessions.{SameSession};
 
 use crate::codes::{DONE, NOTHING_HELD, code_of};
 use crate::handle::{Handle, with_object};
-use crate::object::Object;
+use crate::object::{Object, on_tree};
 use std::alloc::Global;
 use tcl_sessions::refusal::Refusal;
+use tcl_sessions::session::Session;
 use tcl_sessions::texts::{behind, text_of, write_front};
 
+/// Puts a file there.
+fn put_file(session: &mut Session, alloc: Global, name: &[u8], bytes: &[u8]) -> Result<(), Refusal>
+    ensures done { OnOk result (PutsFile name.now bytes.now session.old session.new) }
+    ensures refused { OnErr result (SameSession session.old session.new) }
+{
+    let name = text_of(name)?;
+    session.put_file(alloc, name, bytes)
+}
+
+/// Puts bytes at the end of what scripts can read.
+fn put_input(session: &mut Session, bytes: &[u8]) -> Result<(), Refusal>
+    ensures done { OnOk result (PutsInput bytes.now session.old session.new) }
+    ensures refused { OnErr result (SameSession session.old session.new) }
+{
+    session.put_input(bytes)
+}
+
+/// Puts a host with no files in place of the host.
+fn renew_host(session: &mut Session, alloc: Global) -> Result<(), Refusal>
+    ensures done { OnOk result (RenewsHost session.old session.new) }
+    ensures refused { OnErr result (SameSession session.old session.new) }
+{
+    session.renew_host(alloc)
+}
+
 impl Object {
-    fn put_file(&mut self, alloc: Global, name: &[u8], bytes: &[u8]) -> Result<(), Refusal> {
-        let session = self.session_mut()?;
-        let name = text_of(name)?;
-        session.put_file(alloc, name, bytes)
+    fn put_file(&mut self, alloc: Global, name: &[u8], bytes: &[u8]) -> Result<(), Refusal>
+        ensures done { OnOk result (OnTrees (PutsFile name.now bytes.now) self.old self.new) }
+        ensures refused { OnErr result (IsUnchanged self.old self.new) }
+    {
+        on_tree!(self, session => put_file(session, alloc, name, bytes))
     }
 
-    fn put_input(&mut self, bytes: &[u8]) -> Result<(), Refusal> {
-        self.session_mut()?.put_input(bytes)
+    fn put_input(&mut self, bytes: &[u8]) -> Result<(), Refusal>
+        ensures done { OnOk result (OnTrees (PutsInput bytes.now) self.old self.new) }
+        ensures refused { OnErr result (IsUnchanged self.old self.new) }
+    {
+        on_tree!(self, session => put_input(session, bytes))
     }
 
-    fn renew_host(&mut self, alloc: Global) -> Result<(), Refusal> {
-        self.session_mut()?.renew_host(alloc)
+    fn renew_host(&mut self, alloc: Global) -> Result<(), Refusal>
+        ensures done { OnOk result (OnTrees (RenewsHost) self.old self.new) }
+        ensures refused { OnErr result (IsUnchanged self.old self.new) }
+    {
+        on_tree!(self, session => renew_host(session, alloc))
     }
 
     /// Writes what a file holds, and gives how long that is.
@@ -70,7 +107,10 @@ pub extern "C" fn tclsafe_put_file(
     name: &[u8],
     bytes: &[u8],
 ) -> i32
-    ensures held { is_some tree.new.sealed.value ≡ is_some tree.old.sealed.value }
+    ensures done { result ≡ pos 0 →
+        OnHeld (PutsFile name.now bytes.now) tree.old.sealed.value tree.new.sealed.value }
+    ensures refused { (e : Refusal) →
+        result ≡ number_of e → Unchanged tree.old.sealed.value tree.new.sealed.value }
     ensures nothing { tree.old.sealed.value ≡ None → result ≡ pos 421 }
 {
     with_object!(alloc, tree, NOTHING_HELD, mut object => {
@@ -91,7 +131,7 @@ pub extern "C" fn tclsafe_file(
     room: &mut [u8],
     length: &mut usize,
 ) -> i32
-    ensures held { is_some tree.new.sealed.value ≡ is_some tree.old.sealed.value }
+    ensures same { tree.new.sealed.value ≡ tree.old.sealed.value }
     ensures nothing { tree.old.sealed.value ≡ None → result ≡ pos 421 }
 {
     with_object!(alloc, tree, NOTHING_HELD, object => {
@@ -105,10 +145,15 @@ pub extern "C" fn tclsafe_file(
 /// 421, 423; 401.
 #[unsafe(no_mangle)]
 pub extern "C" fn tclsafe_put_input(alloc: Global, tree: &mut Handle, bytes: &[u8]) -> i32
-    ensures held { is_some tree.new.sealed.value ≡ is_some tree.old.sealed.value }
+    ensures done { result ≡ pos 0 →
+        OnHeld (PutsInput bytes.now) tree.old.sealed.value tree.new.sealed.value }
+    ensures refused { (e : Refusal) →
+        result ≡ number_of e → Unchanged tree.old.sealed.value tree.new.sealed.value }
     ensures nothing { tree.old.sealed.value ≡ None → result ≡ pos 421 }
 {
-    with_object!(alloc, tree, NOTHING_HELD, mut object => code_of(object.put_input(bytes)))
+    with_object!(alloc, tree, NOTHING_HELD, mut object => {
+        code_of(object.put_input(bytes))
+    })
 }
 
 /// Writes what scripts wrote to `stdout`, from that byte on. It is written as `tclsafe_error_text`
@@ -122,9 +167,11 @@ pub extern "C" fn tclsafe_output(
     from: usize,
     room: &mut [u8],
 ) -> usize
-    ensures { is_some tree.new.sealed.value ≡ is_some tree.old.sealed.value }
+    ensures { tree.new.sealed.value ≡ tree.old.sealed.value }
 {
-    with_object!(alloc, tree, write_front(b"", room), object => object.write_output(from, room))
+    with_object!(alloc, tree, write_front(b"", room), object => {
+        object.write_output(from, room)
+    })
 }
 
 /// Writes what scripts wrote to `stderr`, from that byte on. It is written as `tclsafe_error_text`
@@ -138,9 +185,11 @@ pub extern "C" fn tclsafe_errors(
     from: usize,
     room: &mut [u8],
 ) -> usize
-    ensures { is_some tree.new.sealed.value ≡ is_some tree.old.sealed.value }
+    ensures { tree.new.sealed.value ≡ tree.old.sealed.value }
 {
-    with_object!(alloc, tree, write_front(b"", room), object => object.write_errors(from, room))
+    with_object!(alloc, tree, write_front(b"", room), object => {
+        object.write_errors(from, room)
+    })
 }
 
 /// Puts a host with no files in place of the host. Its channels, and what was written, go with it.
@@ -148,8 +197,13 @@ pub extern "C" fn tclsafe_errors(
 /// Reads and writes the handle. Answers 0, or a refusal, which changes nothing: 421, 423; 424; 401.
 #[unsafe(no_mangle)]
 pub extern "C" fn tclsafe_renew_host(alloc: Global, tree: &mut Handle) -> i32
-    ensures held { is_some tree.new.sealed.value ≡ is_some tree.old.sealed.value }
+    ensures done { result ≡ pos 0 →
+        OnHeld (RenewsHost) tree.old.sealed.value tree.new.sealed.value }
+    ensures refused { (e : Refusal) →
+        result ≡ number_of e → Unchanged tree.old.sealed.value tree.new.sealed.value }
     ensures nothing { tree.old.sealed.value ≡ None → result ≡ pos 421 }
 {
-    with_object!(alloc, tree, NOTHING_HELD, mut object => code_of(object.renew_host(alloc)))
+    with_object!(alloc, tree, NOTHING_HELD, mut object => {
+        code_of(object.renew_host(alloc))
+    })
 }

@@ -1,28 +1,67 @@
 //! Limits.
-ghost use Rattle.std.specs.Prelude.{◌≡◌, None, is_some, pos};
+ghost use Rattle.std.specs.Prelude.{◌≡◌, None, OnErr, OnOk, pos};
+ghost use Rattle.tcl_c.specs.Acts.{Limits, LimitsDepth, limit_of};
+ghost use Rattle.tcl_c.specs.Objects.{IsUnchanged, OnHeld, OnTrees, Unchanged};
+ghost use Rattle.tcl_sessions.specs.Refusals.{number_of};
+ghost use Rattle.tcl_sessions.specs.Sessions.{SameSession};
 
 use crate::codes::{DONE, NOTHING_HELD, code_of};
 use crate::handle::{Handle, with_object};
-use crate::object::Object;
+use crate::object::{Object, on_tree};
 use std::alloc::Global;
 use tcl_sessions::refusal::Refusal;
+use tcl_sessions::session::Session;
 use tcl_sessions::texts::path_of;
 
 /// What stands for no limit.
 const NO_LIMIT: u64 = u64::MAX;
 
+/// The limit that a number stands for.
+fn limit_of(number: u64) -> Option<u64>
+    ensures { result ≡ limit_of number }
+{
+    if number == NO_LIMIT {
+        return None;
+    }
+    Some(number)
+}
+
+/// Gives the interpreter at the path a limit of steps, or takes it away.
+fn set_limit(session: &mut Session, alloc: Global, path: &[u8], limit: u64) -> Result<(), Refusal>
+    ensures done { OnOk result (Limits path.now limit session.old session.new) }
+    ensures refused { OnErr result (SameSession session.old session.new) }
+{
+    let path = path_of(alloc, path)?;
+    session.set_limit(path.as_slice(), limit_of(limit))
+}
+
+/// Gives the interpreter at the path a limit of depth.
+fn set_depth_limit(
+    session: &mut Session,
+    alloc: Global,
+    path: &[u8],
+    limit: u64,
+) -> Result<(), Refusal>
+    ensures done { OnOk result (LimitsDepth path.now limit session.old session.new) }
+    ensures refused { OnErr result (SameSession session.old session.new) }
+{
+    let path = path_of(alloc, path)?;
+    session.set_depth_limit(path.as_slice(), limit)
+}
+
 impl Object {
-    fn set_limit(&mut self, alloc: Global, path: &[u8], limit: u64) -> Result<(), Refusal> {
-        let session = self.session_mut()?;
-        let path = path_of(alloc, path)?;
-        let limit = if limit == NO_LIMIT { None } else { Some(limit) };
-        session.set_limit(path.as_slice(), limit)
+    fn set_limit(&mut self, alloc: Global, path: &[u8], limit: u64) -> Result<(), Refusal>
+        ensures done { OnOk result (OnTrees (Limits path.now limit) self.old self.new) }
+        ensures refused { OnErr result (IsUnchanged self.old self.new) }
+    {
+        on_tree!(self, session => set_limit(session, alloc, path, limit))
     }
 
-    fn set_depth_limit(&mut self, alloc: Global, path: &[u8], limit: u64) -> Result<(), Refusal> {
-        let session = self.session_mut()?;
-        let path = path_of(alloc, path)?;
-        session.set_depth_limit(path.as_slice(), limit)
+    fn set_depth_limit(&mut self, alloc: Global, path: &[u8], limit: u64) -> Result<(), Refusal>
+        ensures done { OnOk result (OnTrees (LimitsDepth path.now limit) self.old self.new) }
+        ensures refused { OnErr result (IsUnchanged self.old self.new) }
+    {
+        on_tree!(self, session => set_depth_limit(session, alloc, path, limit))
     }
 
     fn count(&self, alloc: Global, path: &[u8]) -> Result<u64, Refusal> {
@@ -67,7 +106,10 @@ pub extern "C" fn tclsafe_set_limit(
     path: &[u8],
     limit: u64,
 ) -> i32
-    ensures held { is_some tree.new.sealed.value ≡ is_some tree.old.sealed.value }
+    ensures done { result ≡ pos 0 →
+        OnHeld (Limits path.now limit) tree.old.sealed.value tree.new.sealed.value }
+    ensures refused { (e : Refusal) →
+        result ≡ number_of e → Unchanged tree.old.sealed.value tree.new.sealed.value }
     ensures nothing { tree.old.sealed.value ≡ None → result ≡ pos 421 }
 {
     with_object!(alloc, tree, NOTHING_HELD, mut object => {
@@ -87,7 +129,10 @@ pub extern "C" fn tclsafe_set_depth_limit(
     path: &[u8],
     limit: u64,
 ) -> i32
-    ensures held { is_some tree.new.sealed.value ≡ is_some tree.old.sealed.value }
+    ensures done { result ≡ pos 0 →
+        OnHeld (LimitsDepth path.now limit) tree.old.sealed.value tree.new.sealed.value }
+    ensures refused { (e : Refusal) →
+        result ≡ number_of e → Unchanged tree.old.sealed.value tree.new.sealed.value }
     ensures nothing { tree.old.sealed.value ≡ None → result ≡ pos 421 }
 {
     with_object!(alloc, tree, NOTHING_HELD, mut object => {
@@ -106,7 +151,7 @@ pub extern "C" fn tclsafe_count(
     path: &[u8],
     count: &mut u64,
 ) -> i32
-    ensures held { is_some tree.new.sealed.value ≡ is_some tree.old.sealed.value }
+    ensures same { tree.new.sealed.value ≡ tree.old.sealed.value }
     ensures nothing { tree.old.sealed.value ≡ None → result ≡ pos 421 }
 {
     with_object!(alloc, tree, NOTHING_HELD, object => {
@@ -125,7 +170,7 @@ pub extern "C" fn tclsafe_limit(
     path: &[u8],
     limit: &mut u64,
 ) -> i32
-    ensures held { is_some tree.new.sealed.value ≡ is_some tree.old.sealed.value }
+    ensures same { tree.new.sealed.value ≡ tree.old.sealed.value }
     ensures nothing { tree.old.sealed.value ≡ None → result ≡ pos 421 }
 {
     with_object!(alloc, tree, NOTHING_HELD, object => {
@@ -144,7 +189,7 @@ pub extern "C" fn tclsafe_depth_limit(
     path: &[u8],
     limit: &mut u64,
 ) -> i32
-    ensures held { is_some tree.new.sealed.value ≡ is_some tree.old.sealed.value }
+    ensures same { tree.new.sealed.value ≡ tree.old.sealed.value }
     ensures nothing { tree.old.sealed.value ≡ None → result ≡ pos 421 }
 {
     with_object!(alloc, tree, NOTHING_HELD, object => {

@@ -34,19 +34,6 @@ impl Object {
         }
     }
 
-    /// The tree, to be changed.
-    ///
-    /// # Errors
-    /// 423.
-    pub(crate) fn session_mut(&mut self) -> Result<&mut Session, Refusal> {
-        match self {
-            Object::Tree(session) => Ok(session),
-            Object::Nothing | Object::Record(_) | Object::Saved(_) | Object::Replayed(_) => {
-                Err(Refusal::OtherKind)
-            }
-        }
-    }
-
     /// The record.
     ///
     /// # Errors
@@ -85,3 +72,17 @@ impl Object {
         }
     }
 }
+
+/// Does something with the tree that an object is; 423 where it is none.
+macro_rules! on_tree {
+    ($object:ident, $session:ident => $does:expr) => {
+        match $object {
+            Object::Tree($session) => $does,
+            Object::Nothing | Object::Record(_) | Object::Saved(_) | Object::Replayed(_) => {
+                Err(Refusal::OtherKind)
+            }
+        }
+    };
+}
+
+pub(crate) use on_tree;

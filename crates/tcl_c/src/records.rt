@@ -4,7 +4,7 @@ ghost use Rattle.std.specs.Prelude.{◌≡◌, None, is_some, pos};
 use crate::codes::{DONE, NOTHING_HELD};
 use crate::files::write_length;
 use crate::handle::{Handle, with_object};
-use crate::object::Object;
+use crate::object::{Object, on_tree};
 use std::alloc::Global;
 use tcl_recorder::record::Record;
 use tcl_replay::replaying::Replayed;
@@ -12,11 +12,20 @@ use tcl_replay::saving::Saved;
 use tcl_sessions::outcome::replay_number;
 use tcl_sessions::records::{lines_of_record, lines_of_replay, replay_record};
 use tcl_sessions::refusal::Refusal;
+use tcl_sessions::session::Session;
 use tcl_sessions::texts::{path_of, write_front};
 
+fn take_record(session: &mut Session) -> Result<Record, Refusal>
+    ensures { OnErr result (SameSession session.old session.new) }
+{
+    session.take_record()
+}
+
 impl Object {
-    fn take_record(&mut self) -> Result<Record, Refusal> {
-        self.session_mut()?.take_record()
+    fn take_record(&mut self) -> Result<Record, Refusal>
+        ensures { OnErr result (IsUnchanged self.old self.new) }
+    {
+        on_tree!(self, session => take_record(session))
     }
 
     fn save(&self, alloc: Global, path: &[u8]) -> Result<Saved, Refusal> {

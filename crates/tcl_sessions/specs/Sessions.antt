@@ -7,6 +7,7 @@ use Rattle.tcl_sessions.specs.declared.refusal.Refusal.TheVariants.{CallOpen, No
 use Rattle.tcl_sessions.specs.declared.session.Session.{Session}
 use Rattle.tcl_text.specs.declared.integer.Integers.{Integers}
 use Rattle.tcl_text.specs.declared.integer.Integers.TheVariants.{Tcl8, Tcl9}
+use Rattle.tcl_tree.specs.TreeOf.{marks_of, tree_of}
 
 -- the style of a version of Tcl
 abbrev pub IsStyle : ℤ → Result Integers Refusal → Type 0
@@ -30,3 +31,19 @@ pub record KeepsRest (o z : Session) : Type 0 where
 abbrev pub IsRefused : (TreeError → Type 0) → Session → Refusal → Type 0
 IsRefused refuses s e = ((e ≡ CallOpen) × IsSome s.waiting) ⊎
     ((t : TreeError) × (e ≡ of_tree t) × refuses t)
+
+-- ## What stays
+
+-- the tree, with the style of its integers
+pub record SameTree (o z : Session) : Type 0 where
+  pub tree : tree_of z.tree ≡ tree_of o.tree
+  pub style : (marks_of z.tree).integers ≡ (marks_of o.tree).integers
+
+-- all that a session shows
+pub record SameSession (o z : Session) : Type 0 where
+  pub same : SameTree o z
+  pub host : z.standing.host ≡ o.standing.host
+  pub call : z.standing.call ≡ o.standing.call
+  pub waiting : z.waiting ≡ o.waiting
+  pub report : z.report ≡ o.report
+  pub watch : z.watch ≡ o.watch
