@@ -13,7 +13,7 @@ use Rattle.tcl_recorder.specs.Records.{RecordView}
 use Rattle.tcl_replay.specs.Watched.{Reacts, unwatchable}
 use Rattle.tcl_sessions.specs.Outcomes.{ShowsCall, ShowsEnd}
 use Rattle.tcl_sessions.specs.Refusals.{of_refused}
-use Rattle.tcl_sessions.specs.Standing.{goes}
+use Rattle.tcl_sessions.specs.Standing.{begun_again, goes}
 use Rattle.tcl_sessions.specs.declared.evaluation.Told.{Told}
 use Rattle.tcl_sessions.specs.declared.evaluation.Evaluation.{Evaluation}
 use Rattle.tcl_sessions.specs.declared.outcome.Outcome.{Outcome}
@@ -86,10 +86,6 @@ Shows s CutOff r = (call : OpenCall) × (s.call ≡ Some call) × ShowsCall call
 abbrev pub ShowsOpen : Standing → OpenEnd → Result Report Refusal → Type 0
 ShowsOpen s e (Ok r) = Shows s e r
 ShowsOpen s e (Err f) = f ≡ Memory
-
--- nothing came back in it yet
-abbrev pub begun_again : Standing → Standing
-begun_again o = record o { given = 0; call = None }
 
 -- an evaluation from the beginning, and what is told of it
 abbrev pub Attempts : Table → Standing → Evaluation → Table → Standing → Result Told Refusal →

@@ -40,6 +40,10 @@ abbrev pub words_of : Entry → List Text
 words_of (CallWords words) = words
 words_of i = []
 
+-- the evaluation begins again, in which nothing came back yet
+abbrev pub begun_again : Standing → Standing
+begun_again o = record o { given = 0; call = None }
+
 -- ## What comes back
 
 -- the next of the answers comes back again

@@ -6,7 +6,7 @@ ghost use Rattle.tcl_host.specs.MemoryHost.{new_host};
 ghost use Rattle.tcl_run.specs.Entering.{whole_entry};
 ghost use Rattle.tcl_run.specs.Outsides.{ComesNext, OnEntry};
 ghost use Rattle.tcl_sessions.specs.Standing.{AnswersAgain, Hears, IsFresh, IsRecalled, Waits};
-ghost use Rattle.tcl_sessions.specs.Standing.{goes, words_of};
+ghost use Rattle.tcl_sessions.specs.Standing.{begun_again, goes, words_of};
 ghost use Rattle.tcl_tree.specs.TreeOf.{Names, tree_of};
 
 use std::alloc::{AllocError, Global};
@@ -104,10 +104,7 @@ impl Standing {
 
     /// The evaluation begins again: no answer came back in it yet, and no call is open.
     pub(crate) fn begin_again(&mut self)
-        ensures host { self.new.host ≡ self.old.host }
-        ensures answers { self.new.answers ≡ self.old.answers }
-        ensures given { self.new.given ≡ 0 }
-        ensures call { self.new.call ≡ None }
+        ensures { self.new ≡ begun_again self.old }
     {
         self.given = 0;
         self.call = None;
