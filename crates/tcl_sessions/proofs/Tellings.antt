@@ -35,9 +35,9 @@ waits old new e t start z a CutOff evaluated shows tree style told = subst (λ (
     (record { during = t; kept = a.watch; evaluated = evaluated; call = shows.0; stands = shows.1; shows = shows.2; tree = tree; style = style; waiting = refl; watch = refl })
 
 over : (old new : Session) (e : Evaluation) (t : Table) (z : Standing) (a : Told) (x : Outcome) (end : OpenEnd) → IsEvaluated old.tree (begun_again old.standing) e (watched_of e) t z end a.watch → Shows z end a.report → a.report.outcome ≡ x → new ≡ record old { tree = t; standing = z; report = a.report; watch = a.watch } → (Open ≡ x → IsOver old e x new) → IsOver old e x new
-over old new e t z a x (Ran end) evaluated shows is same open = subst (λ (n : Session). IsOver old e x n) (sym same)
+over old new e t z a x (Ran end) evaluated shows is same k = subst (λ (n : Session). IsOver old e x n) (sym same)
     (record { end = end; evaluated = evaluated; shows = shows; outcome = is; waiting = refl })
-over old new e t z a x CutOff evaluated shows is same open = let o = call_open shows.0 a.report shows.2 in let k : Open ≡ x = cc in open k
+over old new e t z a x CutOff evaluated shows is same k = let o = call_open shows.0 a.report shows.2 in let opens : Open ≡ x = cc in k opens
 
 pub runs_so : (old new : Session) (e : Evaluation) (t start : Table) (z : Standing) (a : Told) (x : Outcome) → Attempts old.tree old.standing e t z (Ok a) → tree_of start ≡ tree_of old.tree → (marks_of start).integers ≡ (marks_of old.tree).integers → Tells (record old { tree = t; standing = z }) start e a new x → Runs old e (Ok x) new
 runs_so old new e t start z a Open h tree style told = waits old new e t start z a h.0 h.1 h.2 tree style told
