@@ -3,7 +3,7 @@ ghost use Rattle.std.specs.Prelude.{◌≡◌};
 
 use crate::files::write_length;
 use std::alloc::Global;
-use tcl_sessions::refusal::{Refusal, text_of_number};
+use tcl_sessions::refusal::{ALL, Refusal, of_number};
 use tcl_sessions::texts::{quoted, write_front};
 
 /// Writes what is said of the refusal of that number; an empty text where none has it. As much is
@@ -13,7 +13,10 @@ use tcl_sessions::texts::{quoted, write_front};
 /// Writes the room. Answers the length of the whole text, without the NUL.
 #[unsafe(no_mangle)]
 pub extern "C" fn tclsafe_error_text(number: i32, room: &mut [u8]) -> usize {
-    write_front(text_of_number(number).as_bytes(), room)
+    match of_number(&ALL, number) {
+        Some(refusal) => write_front(refusal.text().as_bytes(), room),
+        None => write_front(b"", room),
+    }
 }
 
 /// Writes a text as one element of a list, with which a script or a path can be put together of

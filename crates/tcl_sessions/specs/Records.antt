@@ -1,12 +1,8 @@
 -- Records and saved interpreters.
-use Rattle.std.specs.Prelude.{◌≡◌, ℕ, ◌⊎◌, List, Some, Result, Ok, Err, IsSome, None}
-use Rattle.tcl_core.specs.Paths.{Path, Text}
-use Rattle.tcl_core.specs.Trees.{Event}
+use Rattle.std.specs.Prelude.{◌≡◌, ℕ, ◌⊎◌, Some, Result, Ok, Err, IsSome, None}
+use Rattle.tcl_core.specs.Paths.{Path}
 use Rattle.tcl_eval.specs.declared.running.Refused.{Refused}
-use Rattle.tcl_record_texts.specs.Lines.{lines}
-use Rattle.tcl_recorder.specs.Crossings.{events_of}
 use Rattle.tcl_recorder.specs.Records.{RecordView}
-use Rattle.tcl_recorder.specs.declared.crossing.Crossing.{Crossing}
 use Rattle.tcl_replay.specs.Replaying.{unfit}
 use Rattle.tcl_replay.specs.Saved.{saved_of, unsavable}
 use Rattle.tcl_replay.specs.declared.replaying.Unplayed.{Unplayed}
@@ -18,7 +14,6 @@ use Rattle.tcl_sessions.specs.declared.refusal.Refusal.TheVariants.{NoRecord}
 use Rattle.tcl_sessions.specs.declared.session.Session.{Session}
 use Rattle.tcl_sessions.specs.declared.session.Watch.{Watch}
 use Rattle.tcl_sessions.specs.declared.session.Watch.TheVariants as watch
-use Rattle.tcl_tree.specs.Own.{Own}
 
 -- why there is no record to be taken
 abbrev pub IsMissing : Watch → Refusal → Type 0
@@ -42,9 +37,3 @@ IsUnsaved s path e = ((e ≡ CallOpen) × IsSome s.waiting) ⊎ (e ≡ Memory) �
 abbrev pub IsUnplayed : Saved → ℕ → Refusal → Type 0
 IsUnplayed s limit e = (e ≡ Memory) ⊎
     ((u : Unplayed) × (e ≡ of_unplayed u) × (unfit (saved_of s) limit ≡ Some u))
-
--- a text has a line for each of these, as they are kept
-pub record HasLines (events : List (Event Own)) (text : Text) : Type 0 where
-  pub crossings : List Crossing
-  pub are : events_of crossings ≡ events
-  pub lines : text ≡ lines crossings

@@ -1,7 +1,5 @@
 -- Refusals: their numbers and texts, and what errors become.
-use Rattle.std.specs.Prelude.{ℤ, Option, Some, None, [], pos, codes}
-use Rattle.tcl_characters.specs.declared.limit.LimitError.{LimitError}
-use Rattle.tcl_characters.specs.declared.limit.LimitError.TheVariants as limit
+use Rattle.std.specs.Prelude.{ℤ, pos, codes}
 use Rattle.tcl_core.specs.Paths.{Text}
 use Rattle.tcl_eval.specs.declared.running.Refused.{Refused}
 use Rattle.tcl_eval.specs.declared.running.Refused.TheVariants as refused
@@ -94,11 +92,6 @@ text_of NoCallOpen = codes "no call is open"
 text_of NoStyle = codes "no such style of integers"
 text_of NoRecord = codes "there is no record"
 
--- of a refusal, if there is one
-abbrev pub said_of : Option Refusal → Text
-said_of (Some r) = text_of r
-said_of None = []
-
 -- ## What errors become
 
 abbrev pub of_fault : ListFault → Refusal
@@ -114,10 +107,6 @@ of_list (list.Fault f) = of_fault f
 abbrev pub of_value : ValueError → Refusal
 of_value value.Memory = Memory
 of_value value.TooLong = TooLong
-
-abbrev pub of_limit : LimitError → Refusal
-of_limit limit.Memory = Memory
-of_limit limit.TooLong = TooLong
 
 abbrev pub of_tree : TreeError → Refusal
 of_tree tree.Memory = Memory

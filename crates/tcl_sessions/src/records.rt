@@ -6,10 +6,10 @@ ghost use Rattle.tcl_core.specs.Trees.{at};
 ghost use Rattle.tcl_core.specs.Views.{moves_of};
 ghost use Rattle.tcl_language_laws.specs.Language.{language};
 ghost use Rattle.tcl_player.specs.Players.{result_of};
-ghost use Rattle.tcl_record_texts.specs.Lines.{replay_lines};
+ghost use Rattle.tcl_record_texts.specs.Lines.{event_lines, replay_lines};
 ghost use Rattle.tcl_recorder.specs.Crossings.{events_of};
 ghost use Rattle.tcl_replay.specs.Saved.{saved_of};
-ghost use Rattle.tcl_sessions.specs.Records.{HasLines, IsUnplayed, IsUnsaved, Takes};
+ghost use Rattle.tcl_sessions.specs.Records.{IsUnplayed, IsUnsaved, Takes};
 ghost use Rattle.tcl_tree.specs.TreeOf.{marks_of, tree_of};
 
 use crate::refusal::Refusal;
@@ -17,7 +17,7 @@ use crate::session::{Session, Watch};
 use std::alloc::Global;
 use std::mem::replace;
 use tcl_player::moves::moves_of;
-use tcl_record_texts::lines::{lines_of, replay_lines};
+use tcl_record_texts::lines::{record_lines, replay_lines};
 use tcl_recorder::record::Record;
 use tcl_replay::replaying::Replayed;
 use tcl_replay::saving::{Saved, save};
@@ -65,11 +65,11 @@ impl Session {
 /// The crossings of a record, a line for each.
 ///
 /// # Errors
-/// 122 where one of the lines would be longer than a value may be; 401.
+/// 401.
 pub fn lines_of_record(alloc: Global, record: &Record) -> Result<String, Refusal>
-    ensures { IfOk result (λ text. HasLines record.now.crossings (string_bytes text)) }
+    ensures { IfOk result (λ text. string_bytes text ≡ event_lines record.now.crossings) }
 {
-    Ok(lines_of(alloc, record.crossings())?)
+    Ok(record_lines(alloc, record)?)
 }
 
 /// Plays the moves of a record to a saved interpreter by itself, with at most so many steps.
@@ -97,7 +97,7 @@ pub fn replay_record(
 /// What a saved interpreter told in a replay, a line for each, and what came of the moves.
 ///
 /// # Errors
-/// 122 where one of the lines would be longer than a value may be; 401.
+/// 401.
 pub fn lines_of_replay(alloc: Global, replayed: &Replayed) -> Result<String, Refusal>
     ensures { IfOk result (λ text. string_bytes text
         ≡ replay_lines replayed.now.outwards.items replayed.now.outcome) }

@@ -1,10 +1,9 @@
 //! Why calls do nothing.
 ghost use Rattle.std.specs.Ordering.{int_eq};
 ghost use Rattle.std.specs.Prelude.{◌≡◌, find};
-ghost use Rattle.tcl_sessions.specs.Refusals.{number_of, said_of, text_of};
+ghost use Rattle.tcl_sessions.specs.Refusals.{number_of, text_of};
 
 use std::alloc::{AllocError, AllocFailed};
-use tcl_characters::limit::LimitError;
 use tcl_eval::running::Refused;
 use tcl_replay::replaying::Unplayed;
 use tcl_text::list::{ListError, ListFault};
@@ -79,7 +78,7 @@ pub enum Refusal {
 }
 
 /// All of them, by their numbers.
-const ALL: [Refusal; 31] = [
+pub const ALL: [Refusal; 31] = [
     Refusal::UnmatchedBrace,
     Refusal::UnmatchedQuote,
     Refusal::AfterBrace,
@@ -193,14 +192,13 @@ impl Refusal {
     }
 }
 
-/// What is said of the refusal of that number; nothing where none has it.
-pub fn text_of_number(number: i32) -> &'static str
-    ensures { result.now ≡ said_of (find (λ r. int_eq (number_of r) number) ALL) }
+/// The first of these refusals that has that number.
+pub fn of_number(all: &[Refusal], number: i32) -> Option<Refusal>
+    ensures { result ≡ find (λ r. int_eq (number_of r) number) all.now }
 {
-    match ALL.iter().find(|refusal| refusal.number() == number) {
-        Some(refusal) => refusal.text(),
-        None => "",
-    }
+    all.iter()
+        .copied()
+        .find(|refusal| refusal.number() == number)
 }
 
 impl From<AllocError> for Refusal {
@@ -248,19 +246,6 @@ impl From<ValueError> for Refusal {
         match error {
             ValueError::Memory => Refusal::Memory,
             ValueError::TooLong => Refusal::TooLong,
-        }
-    }
-}
-
-impl From<LimitError> for Refusal {
-    ghost use Rattle.tcl_sessions.specs.Refusals.{of_limit};
-
-    ghost from_gives = { λ x e. e ≡ of_limit x };
-
-    fn from(error: LimitError) -> Refusal {
-        match error {
-            LimitError::Memory => Refusal::Memory,
-            LimitError::TooLong => Refusal::TooLong,
         }
     }
 }

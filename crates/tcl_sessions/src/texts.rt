@@ -75,19 +75,19 @@ pub fn words_of(alloc: Global, bytes: &[u8]) -> Result<Vec<Value>, Refusal>
     ensures { IfOk result (λ words. Spells words.items bytes.now) }
 {
     let texts = path_of(alloc, bytes)?;
-    values_of(alloc, texts)
+    values_of(alloc, texts.as_slice())
 }
 
 /// The values of these texts.
 ///
 /// # Errors
 /// 122 where one of them is longer than a value may be; 401.
-fn values_of(alloc: Global, texts: Vec<Text>) -> Result<Vec<Value>, Refusal>
-    ensures { IfOk result (λ values. values.items ≡ texts.items) }
+fn values_of(alloc: Global, texts: &[Text]) -> Result<Vec<Value>, Refusal>
+    ensures { IfOk result (λ values. values.items ≡ texts.now) }
 {
     let mut values = Vec::new(alloc);
-    for text in texts {
-        values.push(Value::from_text(text)?)?;
+    'texts: for text in texts {
+        values.push(Value::from_text(text.clone()?)?)?;
     }
     Ok(values)
 }

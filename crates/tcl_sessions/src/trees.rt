@@ -1,5 +1,6 @@
 //! Children and aliases.
-ghost use Rattle.std.specs.Prelude.{◌≡◌, ◌++◌, ◌∷◌, [], IfErr, IfOk, IsSome, OnErr, OnOk};
+ghost use Rattle.std.specs.Prelude.{◌≡◌, ◌+◌, ◌⊎◌, IfErr, IfOk, IsSome, OnErr, OnOk, length};
+ghost use Rattle.tcl_sessions.specs.declared.refusal.Refusal.TheVariants.{Memory};
 ghost use Rattle.tcl_interpreter.specs.declared.command.Command.TheVariants as command;
 ghost use Rattle.tcl_sessions.specs.Sessions.{IsRefused, KeepsRest};
 ghost use Rattle.tcl_sessions.specs.Trees.{way_out};
@@ -107,7 +108,7 @@ impl Session {
             (λ own. named own name (command.Alias (way_out path.now words.items)))) }
         ensures there { OnOk result (IsSome (tree_of self.old.tree path.now)) }
         ensures refused { IfErr result
-            (λ e. IsRefused (λ t. RefusesAt t (tree_of self.old.tree) path.now
+            (λ e. (e ≡ Memory) ⊎ IsRefused (λ t. RefusesAt t (tree_of self.old.tree) path.now
             (λ own. named own name (command.Alias (way_out path.now words.items)))) self.old e) }
         ensures unchanged { OnErr result (tree_of self.new.tree ≡ tree_of self.old.tree) }
         ensures marks { marks_of self.new.tree ≡ marks_of self.old.tree }
