@@ -25,7 +25,7 @@ Watched = Result (OpenEnd × RecordView) OpenUnwatched
 
 -- what is known of the evaluation of a script at a path, over an outside
 pub record Facts (old new : Table) (z : Standing) (limit : ℕ) (w : Path) (r : Watched) (p : Path) (s : Text) (o : Standing) : Type 0 where
-  pub refused : IfSome (unwatchable old p s limit w) (λ u. r ≡ Err (unwatched.Refused u))
+  pub unfit : IfSome (unwatchable old p s limit w) (λ u. r ≡ Err (unwatched.Refused u))
   pub begun : IfNone (unwatchable old p s limit w) (IfRefused r (λ u. u ≡ refused.Memory))
   pub marks : IfEnds r (λ e. marks_of new ≡ marks_of old)
   pub runs : IfEnds r (λ e. IsOpenRun goes old o p s (root_count old + limit) new z e)
@@ -39,4 +39,4 @@ refusal_is (Some v) u r e s n = let k : u ≡ v = cc in inr (v, ap of_refused k,
 pub watched_ends : (old new : Table) (o z : Standing) (e : Evaluation) (w : Path) (r : Watched) → Facts old new z e.limit w r e.path.items e.script o → Ends old o e (Some w) new z (kept_of r)
 watched_ends old new o z e w (Ok x) f = record { runs = f.runs; watched = (f.recorded.0, f.reacts); marks = f.marks }
 watched_ends old new o z e w (Err (unwatched.Deleted d)) f = record { runs = f.runs; watched = tt; marks = f.marks }
-watched_ends old new o z e w (Err (unwatched.Refused u)) f = refusal_is (unwatchable old e.path.items e.script e.limit w) u (Err (unwatched.Refused u)) refl f.refused f.begun
+watched_ends old new o z e w (Err (unwatched.Refused u)) f = refusal_is (unwatchable old e.path.items e.script e.limit w) u (Err (unwatched.Refused u)) refl f.unfit f.begun

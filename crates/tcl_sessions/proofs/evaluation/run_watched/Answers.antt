@@ -17,4 +17,4 @@ returns c =
     (subst (λ (p : Path). Facts old new z e.limit w r p e.script c.args.standing.now) c.as_slice-path.ensures.value
     (subst (λ (s : Text). Facts old new z e.limit w r c.as_slice-path.result.now s c.args.standing.now) c.as_str-script.ensures
     (subst (λ (o : Standing). Facts old new z e.limit w r c.as_slice-path.result.now c.as_str-script.result.now o) c.replace-lent.ensures.value
-    (record { refused = f.refused; begun = f.begun; marks = f.marks; runs = f.runs; recorded = f.recorded; reacts = f.reacts })))))
+    (record { unfit = f.refused; begun = f.begun; marks = f.marks; runs = f.runs; recorded = f.recorded; reacts = f.reacts })))))
