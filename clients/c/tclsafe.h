@@ -169,9 +169,9 @@ size_t tclsafe_options(tclsafe_handle *tree, char *room, size_t size);
    tclsafe_abandon and tclsafe_free are served until it is answered. tclsafe_answer evaluates the
    script again from its beginning, on a copy, with all answers so far, on to its next call or its
    end. What the host was asked for is not asked again: its replies are kept and told again. So an
-   evaluation with n calls costs the steps of n evaluations, and n calls cost n times n. For many
-   calls in one evaluation run the program `tclsafe_serve` beside yours, and speak lines of JSON
-   with it: its evaluation waits. */
+   evaluation with n calls costs the steps of n evaluations, and n calls cost n times n. A
+   program in Rattle that calls out often has functions of its own (`tcl_functions`), for which its
+   evaluation waits. */
 
 /* Ends the open call by this code and this text: 0 and the result; 1 and the message of an error;
    2 as `return` of the text, 3 as `break`, 4 as `continue` of whoever called; or another code.
