@@ -1,5 +1,0 @@
-pub mod Acts
-pub mod Codes
-pub mod Handles
-pub mod Held
-pub mod Objects
