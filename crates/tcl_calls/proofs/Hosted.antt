@@ -236,7 +236,7 @@ is_accepted x theirs.Done d = refl
 is_accepted x (theirs.AtEnd ended) d = refl
 is_accepted x (theirs.Refused why) d = absurd (d why refl)
 
-pub is_closed : (x bytes : Text) (r : TheirReply) → ((why : HostRefusal) → r ≡ theirs.Refused why → Prim.⊥) → sourcing.closed x (asking.HostReply.Bytes bytes) (reply_of r) ≡ read_from x bytes sourcing.evaluates_file
+pub is_closed : (x bytes : Text) (r : TheirReply) → ((why : HostRefusal) → r ≡ theirs.Refused why → Prim.⊥) → sourcing.closed x (asking.HostReply.TheRest bytes) (reply_of r) ≡ read_from x bytes sourcing.evaluates_file
 is_closed x bytes (theirs.Opened name) d = refl
 is_closed x bytes (theirs.Line line) d = refl
 is_closed x bytes theirs.End d = refl
