@@ -12,7 +12,7 @@ use Rattle.tcl_text.specs.declared.integer.Integers.{Integers}
 use Rattle.tcl_entries.specs.Subcommands.{program_of, program_named, child_subcommand_of, child_program_of, child_program_named}
 use Rattle.tcl_entries.specs.declared.subcommand.Subcommand.{Subcommand}
 use Rattle.tcl_entries.specs.declared.subcommand.ChildSubcommand.{ChildSubcommand}
-use Rattle.tcl_child_commands.proofs.Named.{child_by_name}
+use Rattle.tcl_interp.proofs.ChildNamed.{child_by_name}
 
 -- ## interp
 

@@ -1,0 +1,5 @@
+pub mod Deleting
+pub mod Evaluating
+pub mod Failing
+pub mod HiddenCalls
+pub mod Own
