@@ -1,0 +1,132 @@
+//! The kinds of messages.
+use crate::fields::Field;
+
+/// What messages do.
+#[derive(Clone, Copy, Debug, PartialEq, Eq)]
+pub enum Kind {
+    Make,
+    Drop,
+    Create,
+    Delete,
+    Evaluate,
+    Alias,
+    AliasToClient,
+    ClearAlias,
+    LimitCount,
+    LimitDepth,
+    Look,
+    PutFile,
+    File,
+    PutInput,
+    Output,
+    Watch,
+    Save,
+    Compare,
+    Replay,
+    DropSaved,
+    DropRecord,
+    Return,
+    End,
+}
+
+/// All of them.
+const KINDS: [Kind; 23] = [
+    Kind::Make,
+    Kind::Drop,
+    Kind::Create,
+    Kind::Delete,
+    Kind::Evaluate,
+    Kind::Alias,
+    Kind::AliasToClient,
+    Kind::ClearAlias,
+    Kind::LimitCount,
+    Kind::LimitDepth,
+    Kind::Look,
+    Kind::PutFile,
+    Kind::File,
+    Kind::PutInput,
+    Kind::Output,
+    Kind::Watch,
+    Kind::Save,
+    Kind::Compare,
+    Kind::Replay,
+    Kind::DropSaved,
+    Kind::DropRecord,
+    Kind::Return,
+    Kind::End,
+];
+
+impl Kind {
+    /// The kind of this name.
+    pub fn named(name: &str) -> Option<Kind> {
+        KINDS.iter().copied().find(|kind| kind.name() == name)
+    }
+
+    /// Its name, which stands in the field `do`.
+    pub fn name(self) -> &'static str {
+        match self {
+            Kind::Make => "make",
+            Kind::Drop => "drop",
+            Kind::Create => "create",
+            Kind::Delete => "delete",
+            Kind::Evaluate => "evaluate",
+            Kind::Alias => "alias",
+            Kind::AliasToClient => "alias_to_client",
+            Kind::ClearAlias => "clear_alias",
+            Kind::LimitCount => "limit_count",
+            Kind::LimitDepth => "limit_depth",
+            Kind::Look => "look",
+            Kind::PutFile => "put_file",
+            Kind::File => "file",
+            Kind::PutInput => "put_input",
+            Kind::Output => "output",
+            Kind::Watch => "watch",
+            Kind::Save => "save",
+            Kind::Compare => "compare",
+            Kind::Replay => "replay",
+            Kind::DropSaved => "drop_saved",
+            Kind::DropRecord => "drop_record",
+            Kind::Return => "return",
+            Kind::End => "end",
+        }
+    }
+
+    /// Its fields, beside the id and what is done.
+    pub fn fields(self) -> &'static [Field] {
+        match self {
+            Kind::Make => &[Field::Integers],
+            Kind::Drop => &[Field::Tree],
+            Kind::Create => &[Field::Tree, Field::Path, Field::Safe],
+            Kind::Delete | Kind::Look | Kind::Save => &[Field::Tree, Field::Path],
+            Kind::Evaluate => &[Field::Tree, Field::Path, Field::Script, Field::Limit],
+            Kind::Alias => &[
+                Field::Tree,
+                Field::Path,
+                Field::Name,
+                Field::To,
+                Field::Words,
+            ],
+            Kind::AliasToClient => &[Field::Tree, Field::Path, Field::Name, Field::Words],
+            Kind::ClearAlias => &[Field::Tree, Field::Path, Field::Name],
+            Kind::LimitCount => &[Field::Tree, Field::Path, Field::Count],
+            Kind::LimitDepth => &[Field::Tree, Field::Path, Field::Depth],
+            Kind::PutFile => &[Field::Tree, Field::Name, Field::Text],
+            Kind::File => &[Field::Tree, Field::Name],
+            Kind::PutInput => &[Field::Tree, Field::Text],
+            Kind::Output => &[Field::Tree, Field::Channel],
+            Kind::Watch => &[
+                Field::Tree,
+                Field::Path,
+                Field::Script,
+                Field::Limit,
+                Field::Watched,
+            ],
+            Kind::Compare => &[Field::Saved, Field::With],
+            Kind::Replay => &[Field::Saved, Field::Record, Field::Limit],
+            Kind::DropSaved => &[Field::Saved],
+            Kind::DropRecord => &[Field::Record],
+            Kind::Return => &[Field::Call, Field::Code, Field::Text],
+            Kind::End => &[Field::Call],
+        }
+    }
+}
