@@ -1,6 +1,8 @@
 //! What is done to a tree while nothing is evaluated in it.
 use crate::answers::{Answer, Standing};
-use crate::messages::{Alias, AliasToClient, ClearAlias, Create, Interpreter, LimitCount, LimitDepth};
+use crate::messages::{
+    Alias, AliasToClient, ClearAlias, Create, Interpreter, LimitCount, LimitDepth,
+};
 use crate::refusals::Refusal;
 use std::alloc::{AllocError, Global};
 use tcl_text::list::write_list;
@@ -64,18 +66,9 @@ pub fn values_of(alloc: Global, texts: &[Text]) -> Result<Vec<Value>, Refusal> {
 ///
 /// # Errors
 /// 122; want of memory.
-pub fn client_alias(
-    alloc: Global,
-    path: &[Text],
-    words: &[Text],
-) -> Result<alias::Alias, Refusal> {
+pub fn client_alias(alloc: Global, path: &[Text], words: &[Text]) -> Result<alias::Alias, Refusal> {
     let words = values_of(alloc, words)?;
-    Ok(alias::Alias::new(
-        alloc,
-        path.len() + 1,
-        Vec::new(alloc),
-        words,
-    )?)
+    Ok(alias::Alias::new(alloc, path.len() + 1, Vec::new(alloc), words)?)
 }
 
 /// Makes an interpreter.
@@ -96,7 +89,11 @@ pub fn create(tree: &mut Tree, alloc: Global, create: &Create) -> Result<Answer,
 ///
 /// # Errors
 /// 513; 301; 303; want of memory.
-pub fn delete(tree: &mut Tree, alloc: Global, interpreter: &Interpreter) -> Result<Answer, Refusal> {
+pub fn delete(
+    tree: &mut Tree,
+    alloc: Global,
+    interpreter: &Interpreter,
+) -> Result<Answer, Refusal> {
     let Some((name, path)) = interpreter.path.split_last() else {
         return Err(Refusal::Root);
     };

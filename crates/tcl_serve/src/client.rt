@@ -120,10 +120,7 @@ fn stopped(alloc: Global, path: &[Text], stop: Stop) -> Result<Ended, AllocError
 
 /// How an evaluation ends that completes so.
 fn completed(alloc: Global, completion: &Completion) -> Result<Ended, AllocError> {
-    Ok(Ended::Completed(
-        completion.code,
-        completion.text.text(alloc)?,
-    ))
+    Ok(Ended::Completed(completion.code, completion.text.text(alloc)?))
 }
 
 /// How an entry ended.
@@ -421,17 +418,13 @@ impl<R: BufRead + Drop, W: Write + Drop> Client<R, W> {
             }
             Message::Look(interpreter) => {
                 self.here(interpreter.tree)?;
-                Ok(Step::Answer(look(
-                    tree,
-                    alloc,
-                    interpreter.path.as_slice(),
-                )?))
+                Ok(Step::Answer(look(tree, alloc, interpreter.path.as_slice())?))
             }
             Message::PutFile(file) => {
                 self.here(file.tree)?;
                 Ok(Step::Answer(self.host.put_file(alloc, &file)?))
             }
-            Message::File(file) => {
+            Message::GetFile(file) => {
                 self.here(file.tree)?;
                 Ok(Step::Answer(self.host.file(alloc, &file)?))
             }
@@ -439,12 +432,12 @@ impl<R: BufRead + Drop, W: Write + Drop> Client<R, W> {
                 self.here(input.tree)?;
                 Ok(Step::Answer(self.host.put_input(&input)?))
             }
-            Message::Output(output) => {
+            Message::TakeOutput(output) => {
                 self.here(output.tree)?;
                 Ok(Step::Answer(self.host.take(alloc, output.channel)?))
             }
             Message::Return(answer) => Ok(Step::Return(self.completion_of(answer)?)),
-            Message::End(call) => {
+            Message::EndRun(call) => {
                 self.is_open(call)?;
                 Ok(Step::End)
             }
@@ -479,7 +472,11 @@ impl<R: BufRead + Drop, W: Write + Drop> Client<R, W> {
     ///
     /// # Errors
     /// Want of memory.
-    pub(crate) fn ask(&mut self, alloc: Global, request: &Request) -> Result<HostReply, AllocError> {
+    pub(crate) fn ask(
+        &mut self,
+        alloc: Global,
+        request: &Request,
+    ) -> Result<HostReply, AllocError> {
         self.host.ask(alloc, request)
     }
 

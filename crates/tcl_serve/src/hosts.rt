@@ -1,6 +1,6 @@
 //! The host of a served tree, which is in memory.
 use crate::answers::Answer;
-use crate::messages::{Channel, File, PutFile, PutInput};
+use crate::messages::{Channel, GetFile, PutFile, PutInput};
 use crate::refusals::Refusal;
 use std::alloc::{AllocError, Global};
 use tcl_host::host::ask;
@@ -83,7 +83,7 @@ impl ServedHost {
     ///
     /// # Errors
     /// 265; want of memory.
-    pub fn file(&self, alloc: Global, file: &File) -> Result<Answer, Refusal> {
+    pub fn file(&self, alloc: Global, file: &GetFile) -> Result<Answer, Refusal> {
         match self.host.file(file.name.as_str()) {
             Some(bytes) => {
                 let text = text_of(alloc, bytes, file.name.as_str())?;

@@ -126,11 +126,7 @@ fn tells_same(
 
 /// Whether this is the line of a crossing. One that would be longer than a value may be is never
 /// known to be.
-fn is_line_of(
-    alloc: Global,
-    crossing: &Crossing,
-    line: &Option<Text>,
-) -> Result<bool, AllocError> {
+fn is_line_of(alloc: Global, crossing: &Crossing, line: &Option<Text>) -> Result<bool, AllocError> {
     match (crossing_line(alloc, crossing)?, line) {
         (Some(here), Some(line)) => Ok(here.as_str() == line.as_str()),
         _ => Ok(false),

@@ -4,8 +4,8 @@ use crate::fields::Field;
 /// What messages do.
 #[derive(Clone, Copy, Debug, PartialEq, Eq)]
 pub enum Kind {
-    Make,
-    Drop,
+    MakeTree,
+    DropTree,
     Create,
     Delete,
     Evaluate,
@@ -16,9 +16,9 @@ pub enum Kind {
     LimitDepth,
     Look,
     PutFile,
-    File,
+    GetFile,
     PutInput,
-    Output,
+    TakeOutput,
     Watch,
     Save,
     Compare,
@@ -26,13 +26,13 @@ pub enum Kind {
     DropSaved,
     DropRecord,
     Return,
-    End,
+    EndRun,
 }
 
 /// All of them.
 const KINDS: [Kind; 23] = [
-    Kind::Make,
-    Kind::Drop,
+    Kind::MakeTree,
+    Kind::DropTree,
     Kind::Create,
     Kind::Delete,
     Kind::Evaluate,
@@ -43,9 +43,9 @@ const KINDS: [Kind; 23] = [
     Kind::LimitDepth,
     Kind::Look,
     Kind::PutFile,
-    Kind::File,
+    Kind::GetFile,
     Kind::PutInput,
-    Kind::Output,
+    Kind::TakeOutput,
     Kind::Watch,
     Kind::Save,
     Kind::Compare,
@@ -53,7 +53,7 @@ const KINDS: [Kind; 23] = [
     Kind::DropSaved,
     Kind::DropRecord,
     Kind::Return,
-    Kind::End,
+    Kind::EndRun,
 ];
 
 impl Kind {
@@ -65,8 +65,8 @@ impl Kind {
     /// Its name, which stands in the field `do`.
     pub fn name(self) -> &'static str {
         match self {
-            Kind::Make => "make",
-            Kind::Drop => "drop",
+            Kind::MakeTree => "make_tree",
+            Kind::DropTree => "drop_tree",
             Kind::Create => "create",
             Kind::Delete => "delete",
             Kind::Evaluate => "evaluate",
@@ -77,9 +77,9 @@ impl Kind {
             Kind::LimitDepth => "limit_depth",
             Kind::Look => "look",
             Kind::PutFile => "put_file",
-            Kind::File => "file",
+            Kind::GetFile => "get_file",
             Kind::PutInput => "put_input",
-            Kind::Output => "output",
+            Kind::TakeOutput => "take_output",
             Kind::Watch => "watch",
             Kind::Save => "save",
             Kind::Compare => "compare",
@@ -87,15 +87,15 @@ impl Kind {
             Kind::DropSaved => "drop_saved",
             Kind::DropRecord => "drop_record",
             Kind::Return => "return",
-            Kind::End => "end",
+            Kind::EndRun => "end_run",
         }
     }
 
     /// Its fields, beside the id and what is done.
     pub fn fields(self) -> &'static [Field] {
         match self {
-            Kind::Make => &[Field::Integers],
-            Kind::Drop => &[Field::Tree],
+            Kind::MakeTree => &[Field::Integers],
+            Kind::DropTree => &[Field::Tree],
             Kind::Create => &[Field::Tree, Field::Path, Field::Safe],
             Kind::Delete | Kind::Look | Kind::Save => &[Field::Tree, Field::Path],
             Kind::Evaluate => &[Field::Tree, Field::Path, Field::Script, Field::Limit],
@@ -111,9 +111,9 @@ impl Kind {
             Kind::LimitCount => &[Field::Tree, Field::Path, Field::Count],
             Kind::LimitDepth => &[Field::Tree, Field::Path, Field::Depth],
             Kind::PutFile => &[Field::Tree, Field::Name, Field::Text],
-            Kind::File => &[Field::Tree, Field::Name],
+            Kind::GetFile => &[Field::Tree, Field::Name],
             Kind::PutInput => &[Field::Tree, Field::Text],
-            Kind::Output => &[Field::Tree, Field::Channel],
+            Kind::TakeOutput => &[Field::Tree, Field::Channel],
             Kind::Watch => &[
                 Field::Tree,
                 Field::Path,
@@ -126,7 +126,7 @@ impl Kind {
             Kind::DropSaved => &[Field::Saved],
             Kind::DropRecord => &[Field::Record],
             Kind::Return => &[Field::Call, Field::Code, Field::Text],
-            Kind::End => &[Field::Call],
+            Kind::EndRun => &[Field::Call],
         }
     }
 }

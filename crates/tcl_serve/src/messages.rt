@@ -16,7 +16,7 @@ pub const STEPS: u64 = 10_000_000;
 
 /// A tree is made.
 #[derive(Drop)]
-pub struct Make {
+pub struct MakeTree {
     /// How integer texts are read in it.
     pub integers: Integers,
 }
@@ -114,7 +114,7 @@ pub struct PutFile {
 
 /// A file is read.
 #[derive(Drop)]
-pub struct File {
+pub struct GetFile {
     /// The tree's number.
     pub tree: u64,
     /// The file's name.
@@ -191,9 +191,9 @@ pub struct Return {
 /// What a line asks for.
 #[derive(Drop)]
 pub enum Message {
-    Make(Make),
+    MakeTree(MakeTree),
     /// The tree of this number is dropped.
-    Drop(u64),
+    DropTree(u64),
     Create(Create),
     /// The interpreter is deleted.
     Delete(Interpreter),
@@ -206,9 +206,9 @@ pub enum Message {
     /// The interpreter is looked at.
     Look(Interpreter),
     PutFile(PutFile),
-    File(File),
+    GetFile(GetFile),
     PutInput(PutInput),
-    Output(TakeOutput),
+    TakeOutput(TakeOutput),
     Watch(Watch),
     /// The interpreter is saved.
     Save(Interpreter),
@@ -220,7 +220,7 @@ pub enum Message {
     DropRecord(u64),
     Return(Return),
     /// The run of the open call of this number is ended.
-    End(u64),
+    EndRun(u64),
 }
 
 /// A line that was read: its id, if that can be read, and what it asks for.
@@ -286,8 +286,8 @@ fn message_of(alloc: Global, line: &Value) -> Result<Message, Refusal> {
     let kind = kind_of(alloc, line)?;
     only(alloc, line, kind.fields())?;
     match kind {
-        Kind::Make => Ok(Message::Make(make_in(line)?)),
-        Kind::Drop => Ok(Message::Drop(number_in(line, Field::Tree)?)),
+        Kind::MakeTree => Ok(Message::MakeTree(make_tree_in(line)?)),
+        Kind::DropTree => Ok(Message::DropTree(number_in(line, Field::Tree)?)),
         Kind::Create => Ok(Message::Create(create_in(alloc, line)?)),
         Kind::Delete => Ok(Message::Delete(interpreter_in(alloc, line)?)),
         Kind::Evaluate => Ok(Message::Evaluate(evaluate_in(alloc, line)?)),
@@ -298,9 +298,9 @@ fn message_of(alloc: Global, line: &Value) -> Result<Message, Refusal> {
         Kind::LimitDepth => Ok(Message::LimitDepth(limit_depth_in(alloc, line)?)),
         Kind::Look => Ok(Message::Look(interpreter_in(alloc, line)?)),
         Kind::PutFile => Ok(Message::PutFile(put_file_in(alloc, line)?)),
-        Kind::File => Ok(Message::File(file_in(alloc, line)?)),
+        Kind::GetFile => Ok(Message::GetFile(get_file_in(alloc, line)?)),
         Kind::PutInput => Ok(Message::PutInput(put_input_in(alloc, line)?)),
-        Kind::Output => Ok(Message::Output(take_output_in(line)?)),
+        Kind::TakeOutput => Ok(Message::TakeOutput(take_output_in(line)?)),
         Kind::Watch => Ok(Message::Watch(watch_in(alloc, line)?)),
         Kind::Save => Ok(Message::Save(interpreter_in(alloc, line)?)),
         Kind::Compare => Ok(Message::Compare(compare_in(line)?)),
@@ -308,7 +308,7 @@ fn message_of(alloc: Global, line: &Value) -> Result<Message, Refusal> {
         Kind::DropSaved => Ok(Message::DropSaved(number_in(line, Field::Saved)?)),
         Kind::DropRecord => Ok(Message::DropRecord(number_in(line, Field::Record)?)),
         Kind::Return => Ok(Message::Return(return_in(alloc, line)?)),
-        Kind::End => Ok(Message::End(number_in(line, Field::Call)?)),
+        Kind::EndRun => Ok(Message::EndRun(number_in(line, Field::Call)?)),
     }
 }
 
@@ -321,13 +321,13 @@ fn kind_of(alloc: Global, line: &Value) -> Result<Kind, Refusal> {
     }
 }
 
-fn make_in(line: &Value) -> Result<Make, Refusal> {
+fn make_tree_in(line: &Value) -> Result<MakeTree, Refusal> {
     let integers = match optional_number_in(line, Field::Integers)? {
         None | Some(8) => Integers::Tcl8,
         Some(9) => Integers::Tcl9,
         Some(_) => return Err(Refusal::OutOfRange(Field::Integers)),
     };
-    Ok(Make { integers })
+    Ok(MakeTree { integers })
 }
 
 fn interpreter_in(alloc: Global, line: &Value) -> Result<Interpreter, Refusal> {
@@ -405,10 +405,10 @@ fn put_file_in(alloc: Global, line: &Value) -> Result<PutFile, Refusal> {
     Ok(PutFile { tree, name, text })
 }
 
-fn file_in(alloc: Global, line: &Value) -> Result<File, Refusal> {
+fn get_file_in(alloc: Global, line: &Value) -> Result<GetFile, Refusal> {
     let tree = number_in(line, Field::Tree)?;
     let name = text_in(alloc, line, Field::Name)?;
-    Ok(File { tree, name })
+    Ok(GetFile { tree, name })
 }
 
 fn put_input_in(alloc: Global, line: &Value) -> Result<PutInput, Refusal> {

@@ -8,7 +8,7 @@ use crate::evaluating::{evaluate, watch};
 use crate::fields::Field;
 use crate::hosts::ServedHost;
 use crate::keeping::replayed;
-use crate::messages::{Compare, Evaluate, Interpreter, Make, Message, Replay, Watch};
+use crate::messages::{Compare, Evaluate, Interpreter, MakeTree, Message, Replay, Watch};
 use crate::numbered::Numbered;
 use crate::refusals::Refusal;
 use std::alloc::{AllocError, Global};
@@ -133,8 +133,8 @@ impl Session {
     /// Does what a message asks for that evaluates nothing.
     fn act(&mut self, alloc: Global, message: Message) -> Result<Answer, Refusal> {
         match message {
-            Message::Make(message) => self.make(alloc, &message),
-            Message::Drop(number) => self.drop_tree(number),
+            Message::MakeTree(message) => self.make(alloc, &message),
+            Message::DropTree(number) => self.drop_tree(number),
             Message::Create(message) => {
                 let served = self.tree_mut(message.interpreter.tree)?;
                 create(&mut served.tree, alloc, &message)
@@ -171,7 +171,7 @@ impl Session {
                 let served = self.tree_mut(message.tree)?;
                 served.host.put_file(alloc, &message)
             }
-            Message::File(message) => {
+            Message::GetFile(message) => {
                 let served = self.tree(message.tree)?;
                 served.host.file(alloc, &message)
             }
@@ -179,7 +179,7 @@ impl Session {
                 let served = self.tree_mut(message.tree)?;
                 served.host.put_input(&message)
             }
-            Message::Output(message) => {
+            Message::TakeOutput(message) => {
                 let served = self.tree_mut(message.tree)?;
                 served.host.take(alloc, message.channel)
             }
@@ -189,13 +189,13 @@ impl Session {
             Message::DropSaved(number) => self.drop_saved(number),
             Message::DropRecord(number) => self.drop_record(number),
             Message::Return(message) => Err(Refusal::NotOpen(message.call)),
-            Message::End(call) => Err(Refusal::NotOpen(call)),
+            Message::EndRun(call) => Err(Refusal::NotOpen(call)),
             Message::Evaluate(_) | Message::Watch(_) => Err(Refusal::CallOpen),
         }
     }
 
     /// Makes a tree.
-    fn make(&mut self, alloc: Global, message: &Make) -> Result<Answer, Refusal> {
+    fn make(&mut self, alloc: Global, message: &MakeTree) -> Result<Answer, Refusal> {
         let served = served_tree(alloc, message)?;
         Ok(Answer::Tree(self.trees.add(served)?))
     }
@@ -253,7 +253,7 @@ impl Session {
 }
 
 /// A tree of a root alone, with a host that has nothing.
-fn served_tree(alloc: Global, message: &Make) -> Result<ServedTree, AllocError> {
+fn served_tree(alloc: Global, message: &MakeTree) -> Result<ServedTree, AllocError> {
     Ok(ServedTree {
         tree: Tree::with_integers(alloc, message.integers)?,
         host: ServedHost::new(alloc)?,
