@@ -34,6 +34,11 @@ abbrev pub in_range : {A : Type 0} → Field → Option A → Result A Refusal
 in_range f (Some a) = Ok a
 in_range f None = Err (OutOfRange f)
 
+-- why a value is no number that the field can have
+abbrev pub no_number : Field → Option Num → Refusal
+no_number f (Some n) = OutOfRange f
+no_number f None = WrongType f
+
 abbrev pub number_of : Field → Data → Result ℕ Refusal
 number_of f d = followed (of_type f (as_number d)) (λ n. in_range f (as_u64 n))
 

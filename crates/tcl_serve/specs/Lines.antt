@@ -1,6 +1,7 @@
 -- What lines are to the bytes that are read and written.
 use Rattle.std.specs.Io.KnownBytes.{Appends, Consumes, IsAtEnd}
-use Rattle.std.specs.Prelude.{◌≡◌, ◌≢◌, ℕ, ◌+◌, ◌<◌, ◌≤◌, List, [], ◌∷◌, ◌++◌, length, All, Option, Some, None, Result, Ok, Err, IfSome, codes, decimal}
+use Rattle.std.specs.Prelude.{◌≡◌, ◌≢◌, ℕ, ◌+◌, ◌<◌, ◌≤◌, List, [], ◌∷◌, ◌++◌, length, All, Option, Some, None, Result, Ok, Err, IfSome, Vec, codes, decimal}
+use Rattle.std.specs.declared.alloc.Global.{Global}
 use Rattle.tcl_serve.specs.declared.lines.LineFault.{LineFault}
 use Rattle.tcl_serve.specs.declared.lines.LineFault.TheVariants.{TooLong, CutShort, Unreadable, Unwritable, Memory}
 use Rattle.tcl_serve.specs.declared.lines.Step.{Step}
@@ -42,10 +43,10 @@ Reads old new before after (Err e) = Unit {0}
 
 -- A line was read that has no newline within and isn't too long, and its newline; or nothing was
 -- left; or the line is too long; or the input ends inside it.
-abbrev pub ReadsLine : Option (List ℕ) → Option (List ℕ) → Result (Option (List ℕ)) LineFault →
-    Type 0
-ReadsLine old new (Ok (Some line)) = IsWithin line × (length line ≤ most_line) ×
-    Consumes old new (line ++ 10 ∷ [])
+abbrev pub ReadsLine : Option (List ℕ) → Option (List ℕ) →
+    Result (Option (Vec ℕ Global)) LineFault → Type 0
+ReadsLine old new (Ok (Some line)) = IsWithin line.items × (length line.items ≤ most_line) ×
+    Consumes old new (line.items ++ 10 ∷ [])
 ReadsLine old new (Ok None) = IsAtEnd old
 ReadsLine old new (Err TooLong) = PassesLimit old []
 ReadsLine old new (Err CutShort) = IfSome old (λ xs. IsWithin xs × (0 < length xs))

@@ -22,6 +22,8 @@ use Rattle.tcl_serve.specs.declared.refusals.Refusal.TheVariants.{NotOpen, Entry
 use Rattle.tcl_serve.specs.declared.refusals.Refusal.TheVariants.{Tree, TooLong, Run, Deleted}
 use Rattle.tcl_serve.specs.declared.refusals.Refusal.TheVariants.{Unplayed as NotPlayed, NotText}
 use Rattle.tcl_serve.specs.declared.refusals.Refusal.TheVariants.{Told}
+use Rattle.tcl_value.specs.declared.value.ValueError.{ValueError}
+use Rattle.tcl_value.specs.declared.value.ValueError.TheVariants as value
 
 -- ## Numbers
 
@@ -93,6 +95,21 @@ number_of Deleted = 411
 number_of (NotPlayed why) = play_number why
 number_of (NotText name) = 265
 number_of (Told text) = told_number text
+
+-- ## What others answer
+
+abbrev pub of_value : ValueError → Refusal
+of_value value.Memory = Memory
+of_value value.TooLong = TooLong
+
+-- why an interpreter isn't saved: want of memory breaks nothing
+abbrev pub of_saving : Refused → Refusal
+of_saving run.Memory = Memory
+of_saving r = Run r
+
+abbrev pub of_replaying : Unplayed → Refusal
+of_replaying unplayed.Memory = Memory
+of_replaying u = NotPlayed u
 
 -- ## Texts
 

@@ -1,9 +1,22 @@
 //! What is done to a tree while nothing is evaluated in it.
+ghost use Rattle.std.specs.Option.{option_map};
+ghost use Rattle.std.specs.Prelude.{◌≡◌, ◌+◌, ◌++◌, ◌∷◌, [], IfErr, IfOk, Ok, OnErr, OnOk, Some, length};
+ghost use Rattle.tcl_core.specs.Paths.{Path, Text};
+ghost use Rattle.tcl_core.specs.Trees.{effect};
+ghost use Rattle.tcl_core.specs.Trees.What.{DepthLimited, Limited};
+ghost use Rattle.tcl_interpreter.specs.Commands.{way_between};
+ghost use Rattle.tcl_interpreter.specs.declared.command.Command.TheVariants as command;
+ghost use Rattle.tcl_serve.specs.Acting.{AtChild, IsRefused, IsStanding, client_way, nobody};
+ghost use Rattle.tcl_serve.specs.declared.answers.Answer.TheVariants.{Done};
+ghost use Rattle.tcl_tree.specs.Changes.{Drops, Makes, RefusesDepthLimit, RefusesDrop};
+ghost use Rattle.tcl_tree.specs.Changes.{RefusesLimit, RefusesMake};
+ghost use Rattle.tcl_tree.specs.Naming.{Becomes, RefusesAt, RefusesThere, cleared, named};
+ghost use Rattle.tcl_tree.specs.TreeOf.{tree_of};
+
 use crate::answers::{Answer, Standing};
-use crate::messages::{
-    Alias, AliasToClient, ClearAlias, Create, Interpreter, LimitCount, LimitDepth,
-};
+use crate::messages::{Alias, AliasToClient, ClearAlias, Create, LimitCount, LimitDepth};
 use crate::refusals::Refusal;
+use indexmap::map::Keys;
 use std::alloc::{AllocError, Global};
 use tcl_text::list::write_list;
 use tcl_text::text::Text;
@@ -14,39 +27,34 @@ use tcl_value::value::Value;
 
 /// The text of a path.
 fn path_text(alloc: Global, path: &[Text]) -> Result<Text, AllocError> {
-    Text::from_string(alloc, write_list(alloc, path)?)
+    let text = write_list(alloc, path)?;
+    Text::from_string(alloc, text)
 }
 
 /// The refusal of a call on a tree about an interpreter.
-fn refused_at(alloc: Global, error: TreeError, path: &[Text]) -> Refusal {
-    match path_text(alloc, path) {
-        Ok(path) => tree_refusal(error, path),
-        Err(_) => Refusal::Memory,
-    }
+pub fn refused_at(alloc: Global, error: TreeError, path: &[Text]) -> Refusal
+    ensures { IsRefused (λ e. e ≡ error) result }
+{
+    refused_about(error, path_text(alloc, path))
 }
 
 /// The refusal of a call on a tree about an interpreter, where it isn't there, or about a name.
-fn refused_for(alloc: Global, error: TreeError, path: &[Text], name: &Text) -> Refusal {
+fn refused_for(alloc: Global, error: TreeError, path: &[Text], name: &Text) -> Refusal
+    ensures { IsRefused (λ e. e ≡ error) result }
+{
     match error {
         TreeError::NoInterpreter => refused_at(alloc, error, path),
-        other => refused_name(other, name),
-    }
-}
-
-/// The refusal of a call on a tree about a name.
-fn refused_name(error: TreeError, name: &Text) -> Refusal {
-    let name: Result<Text, AllocError> = name.clone();
-    match name {
-        Ok(name) => tree_refusal(error, name),
-        Err(_) => Refusal::Memory,
+        other => refused_about(other, name.clone()),
     }
 }
 
 /// The refusal of a call on a tree about a word.
-fn tree_refusal(error: TreeError, word: Text) -> Refusal {
-    match error {
-        TreeError::Memory => Refusal::Memory,
-        other => Refusal::Tree(other, word),
+fn refused_about(error: TreeError, word: Result<Text, AllocError>) -> Refusal
+    ensures { IsRefused (λ e. e ≡ error) result }
+{
+    match (error, word) {
+        (TreeError::Memory, _) | (_, Err(_)) => Refusal::Memory,
+        (other, Ok(word)) => Refusal::Tree(other, word),
     }
 }
 
@@ -54,7 +62,10 @@ fn tree_refusal(error: TreeError, word: Text) -> Refusal {
 ///
 /// # Errors
 /// 122; want of memory.
-pub fn values_of(alloc: Global, texts: &[Text]) -> Result<Vec<Value>, Refusal> {
+pub fn values_of(alloc: Global, texts: &[Text]) -> Result<Vec<Value>, Refusal>
+    ensures values { IfOk result (λ values. values.items ≡ texts.now) }
+    ensures fault { IfErr result (IsRefused (λ _. Prim.⊥)) }
+{
     let mut values = Vec::new(alloc);
     'texts: for text in texts {
         values.push(Value::from_text(text.clone()?)?)?;
@@ -66,17 +77,28 @@ pub fn values_of(alloc: Global, texts: &[Text]) -> Result<Vec<Value>, Refusal> {
 ///
 /// # Errors
 /// 122; want of memory.
-pub fn client_alias(alloc: Global, path: &[Text], words: &[Text]) -> Result<alias::Alias, Refusal> {
+pub fn client_alias(alloc: Global, path: &[Text], words: &[Text]) -> Result<alias::Alias, Refusal>
+    ensures alias { IfOk result (λ made. made ≡ client_way path.now words.now) }
+    ensures fault { IfErr result (IsRefused (λ _. Prim.⊥)) }
+{
     let words = values_of(alloc, words)?;
-    Ok(alias::Alias::new(alloc, path.len() + 1, Vec::new(alloc), words)?)
+    let down = Vec::new(alloc);
+    Ok(alias::Alias::new(alloc, path.len() + 1, down, words)?)
 }
 
 /// Makes an interpreter.
 ///
 /// # Errors
 /// 513; 301 of the one above; 238; 302; 307; want of memory.
-pub fn create(tree: &mut Tree, alloc: Global, create: &Create) -> Result<Answer, Refusal> {
-    let Some((name, path)) = create.interpreter.path.split_last() else {
+pub fn create(tree: &mut Tree, alloc: Global, create: &Create) -> Result<Answer, Refusal>
+    ensures answer { IfOk result (λ a. a ≡ Done) }
+    ensures made { OnOk result (AtChild create.now.path.items
+        (λ p n. Makes (tree_of tree.old) (tree_of tree.new) p n create.now.safe)) }
+    ensures refused { IfErr result (IsRefused
+        (λ e. AtChild create.now.path.items (RefusesMake e (tree_of tree.old)))) }
+    ensures unchanged { OnErr result (tree_of tree.new ≡ tree_of tree.old) }
+{
+    let Some((name, path)) = create.path.split_last() else {
         return Err(Refusal::Root);
     };
     match tree.create(alloc, path, name, create.safe) {
@@ -85,21 +107,24 @@ pub fn create(tree: &mut Tree, alloc: Global, create: &Create) -> Result<Answer,
     }
 }
 
-/// Deletes an interpreter.
+/// Deletes the interpreter at the path.
 ///
 /// # Errors
 /// 513; 301; 303; want of memory.
-pub fn delete(
-    tree: &mut Tree,
-    alloc: Global,
-    interpreter: &Interpreter,
-) -> Result<Answer, Refusal> {
-    let Some((name, path)) = interpreter.path.split_last() else {
+pub fn delete(tree: &mut Tree, alloc: Global, path: &[Text]) -> Result<Answer, Refusal>
+    ensures answer { IfOk result (λ a. a ≡ Done) }
+    ensures dropped { OnOk result
+        (AtChild path.now (λ p n. Drops (tree_of tree.old) (tree_of tree.new) p n)) }
+    ensures refused { IfErr result (IsRefused
+        (λ e. AtChild path.now (RefusesDrop e (tree_of tree.old)))) }
+    ensures unchanged { OnErr result (tree_of tree.new ≡ tree_of tree.old) }
+{
+    let Some((name, parent)) = path.split_last() else {
         return Err(Refusal::Root);
     };
-    match tree.delete(path, name) {
+    match tree.delete(parent, name) {
         Ok(()) => Ok(Answer::Done),
-        Err(error) => Err(refused_at(alloc, error, interpreter.path.as_slice())),
+        Err(error) => Err(refused_at(alloc, error, path)),
     }
 }
 
@@ -107,9 +132,19 @@ pub fn delete(
 ///
 /// # Errors
 /// 122; 301; 238; 302; want of memory.
-pub fn set_alias(tree: &mut Tree, alloc: Global, alias: &Alias) -> Result<Answer, Refusal> {
+pub fn set_alias(tree: &mut Tree, alloc: Global, alias: &Alias) -> Result<Answer, Refusal>
+    ensures answer { IfOk result (λ a. a ≡ Done) }
+    ensures set { OnOk result (Becomes (tree_of tree.old) (tree_of tree.new) alias.now.path.items
+        (λ own. named own alias.now.name (command.Alias
+        (way_between alias.now.path.items alias.now.to.items alias.now.words.items)))) }
+    ensures refused { IfErr result (IsRefused
+        (λ e. RefusesAt e (tree_of tree.old) alias.now.path.items
+        (λ own. named own alias.now.name (command.Alias
+        (way_between alias.now.path.items alias.now.to.items alias.now.words.items))))) }
+    ensures unchanged { OnErr result (tree_of tree.new ≡ tree_of tree.old) }
+{
     let words = values_of(alloc, alias.words.as_slice())?;
-    let path = alias.interpreter.path.as_slice();
+    let path = alias.path.as_slice();
     let name = alias.name.clone()?;
     match tree.set_alias_between(alloc, path, name, alias.to.as_slice(), words) {
         Ok(()) => Ok(Answer::Done),
@@ -125,10 +160,21 @@ pub fn set_client_alias(
     tree: &mut Tree,
     alloc: Global,
     alias: &AliasToClient,
-) -> Result<Answer, Refusal> {
-    let path = alias.interpreter.path.as_slice();
+) -> Result<Answer, Refusal>
+    ensures answer { IfOk result (λ a. a ≡ Done) }
+    ensures set { OnOk result (Becomes (tree_of tree.old) (tree_of tree.new) alias.now.path.items
+        (λ own. named own alias.now.name (command.Alias
+        (client_way alias.now.path.items alias.now.words.items)))) }
+    ensures refused { IfErr result (IsRefused
+        (λ e. RefusesAt e (tree_of tree.old) alias.now.path.items
+        (λ own. named own alias.now.name (command.Alias
+        (client_way alias.now.path.items alias.now.words.items))))) }
+    ensures unchanged { OnErr result (tree_of tree.new ≡ tree_of tree.old) }
+{
+    let path = alias.path.as_slice();
     let made = client_alias(alloc, path, alias.words.as_slice())?;
-    match tree.set_alias(path, alias.name.clone()?, made) {
+    let name = alias.name.clone()?;
+    match tree.set_alias(path, name, made) {
         Ok(()) => Ok(Answer::Done),
         Err(error) => Err(refused_for(alloc, error, path, &alias.name)),
     }
@@ -138,8 +184,16 @@ pub fn set_client_alias(
 ///
 /// # Errors
 /// 301; 305; want of memory.
-pub fn clear_alias(tree: &mut Tree, alloc: Global, alias: &ClearAlias) -> Result<Answer, Refusal> {
-    let path = alias.interpreter.path.as_slice();
+pub fn clear_alias(tree: &mut Tree, alloc: Global, alias: &ClearAlias) -> Result<Answer, Refusal>
+    ensures answer { IfOk result (λ a. a ≡ Done) }
+    ensures cleared { OnOk result (Becomes (tree_of tree.old) (tree_of tree.new)
+        alias.now.path.items (λ own. cleared own alias.now.name)) }
+    ensures refused { IfErr result (IsRefused
+        (λ e. RefusesThere e (tree_of tree.old) alias.now.path.items
+        (λ own. cleared own alias.now.name))) }
+    ensures unchanged { OnErr result (tree_of tree.new ≡ tree_of tree.old) }
+{
+    let path = alias.path.as_slice();
     match tree.clear_alias(path, &alias.name) {
         Ok(()) => Ok(Answer::Done),
         Err(error) => Err(refused_for(alloc, error, path, &alias.name)),
@@ -150,8 +204,15 @@ pub fn clear_alias(tree: &mut Tree, alloc: Global, alias: &ClearAlias) -> Result
 ///
 /// # Errors
 /// 304 of the root; 301; want of memory.
-pub fn limit_count(tree: &mut Tree, alloc: Global, limit: &LimitCount) -> Result<Answer, Refusal> {
-    let path = limit.interpreter.path.as_slice();
+pub fn limit_count(tree: &mut Tree, alloc: Global, limit: &LimitCount) -> Result<Answer, Refusal>
+    ensures answer { IfOk result (λ a. a ≡ Done) }
+    ensures limited { OnOk result (tree_of tree.new
+        ≡ effect limit.now.path.items (Limited limit.now.count) (tree_of tree.old)) }
+    ensures refused { IfErr result (IsRefused
+        (λ e. RefusesLimit e (tree_of tree.old) [] limit.now.path.items limit.now.count)) }
+    ensures unchanged { OnErr result (tree_of tree.new ≡ tree_of tree.old) }
+{
+    let path = limit.path.as_slice();
     match tree.set_limit(&[], path, limit.count) {
         Ok(()) => Ok(Answer::Done),
         Err(error) => Err(refused_at(alloc, error, path)),
@@ -162,37 +223,54 @@ pub fn limit_count(tree: &mut Tree, alloc: Global, limit: &LimitCount) -> Result
 ///
 /// # Errors
 /// 301; 304 of the root; 309; want of memory.
-pub fn limit_depth(tree: &mut Tree, alloc: Global, limit: &LimitDepth) -> Result<Answer, Refusal> {
-    let path = limit.interpreter.path.as_slice();
+pub fn limit_depth(tree: &mut Tree, alloc: Global, limit: &LimitDepth) -> Result<Answer, Refusal>
+    ensures answer { IfOk result (λ a. a ≡ Done) }
+    ensures limited { OnOk result (tree_of tree.new
+        ≡ effect limit.now.path.items (DepthLimited limit.now.depth) (tree_of tree.old)) }
+    ensures refused { IfErr result (IsRefused
+        (λ e. RefusesDepthLimit e (tree_of tree.old) [] limit.now.path.items limit.now.depth)) }
+    ensures unchanged { OnErr result (tree_of tree.new ≡ tree_of tree.old) }
+{
+    let path = limit.path.as_slice();
     match tree.set_depth_limit(&[], path, limit.depth) {
         Ok(()) => Ok(Answer::Done),
         Err(error) => Err(refused_at(alloc, error, path)),
     }
 }
 
-/// How an interpreter stands.
+/// How the interpreter at the path stands.
 ///
 /// # Errors
 /// 301; want of memory.
-pub fn look(tree: &Tree, alloc: Global, path: &[Text]) -> Result<Answer, Refusal> {
-    match (tree.place(path), tree.children(path)) {
-        (Some(place), Some(names)) => {
-            let mut children = Vec::new(alloc);
-            'names: for name in names {
-                children.push(name.clone()?)?;
-            }
-            match tree.node_at(place) {
-                Some(node) => Ok(Answer::Standing(Standing {
-                    safe: node.state.safe,
-                    count: node.state.count,
-                    count_limit: node.state.limit,
-                    depth: node.state.depth,
-                    depth_limit: node.state.depth_limit,
-                    children,
-                })),
-                None => Err(refused_at(alloc, TreeError::NoInterpreter, path)),
-            }
-        }
-        _ => Err(refused_at(alloc, TreeError::NoInterpreter, path)),
+pub fn look(tree: &Tree, alloc: Global, path: &[Text]) -> Result<Answer, Refusal>
+    ensures stands { IfOk result (IsStanding (tree_of tree.now path.now)) }
+    ensures refused { IfErr result
+        (IsRefused (λ e. nobody e (tree_of tree.now path.now))) }
+{
+    let Some(place) = tree.place(path) else {
+        return Err(refused_at(alloc, TreeError::NoInterpreter, path));
+    };
+    let (Some(node), Some(names)) = (tree.node_at(place), tree.children(path)) else {
+        return Err(refused_at(alloc, TreeError::NoInterpreter, path));
+    };
+    let children = names_of(alloc, names)?;
+    Ok(Answer::Standing(Standing {
+        safe: node.state.safe,
+        count: node.state.count,
+        count_limit: node.state.limit,
+        depth: node.state.depth,
+        depth_limit: node.state.depth_limit,
+        children,
+    }))
+}
+
+/// These names.
+fn names_of(alloc: Global, names: Keys<'_, Text, usize>) -> Result<Vec<Text>, AllocError>
+    ensures { IfOk result (λ made. made.items ≡ names) }
+{
+    let mut made = Vec::new(alloc);
+    'names: for name in names {
+        made.push(name.clone()?)?;
     }
+    Ok(made)
 }

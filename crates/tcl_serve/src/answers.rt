@@ -1,4 +1,12 @@
 //! The lines that are written.
+ghost use Rattle.serde_json.specs.View.{view};
+ghost use Rattle.std.specs.Prelude.{◌≡◌, IfOk};
+ghost use Rattle.std.specs.String.{string_bytes};
+ghost use Rattle.tcl_serve.specs.Answers as written;
+ghost use Rattle.tcl_serve.specs.Answers.{answer_data, ended_data, limit_name, lines_data};
+ghost use Rattle.tcl_serve.specs.Answers.{replayed_data, standing_data, text_data, texts_data};
+ghost use Rattle.tcl_serve.specs.Answers.{watched_data};
+
 use crate::refusals::Refusal;
 use serde_json::{Value, json};
 use std::alloc::{AllocError, Global};
@@ -83,7 +91,9 @@ pub enum Answer {
 }
 
 /// A list of texts.
-fn texts_value(alloc: Global, texts: &[Text]) -> Result<Value, AllocError> {
+fn texts_value(alloc: Global, texts: &[Text]) -> Result<Value, AllocError>
+    ensures { IfOk result (λ value. view value ≡ texts_data texts.now) }
+{
     let mut items = Vec::new(alloc);
     'texts: for text in texts {
         items.push(Value::try_from_str(alloc, text.as_str())?)?;
@@ -92,7 +102,9 @@ fn texts_value(alloc: Global, texts: &[Text]) -> Result<Value, AllocError> {
 }
 
 /// A text, or null.
-fn text_value(alloc: Global, text: &Option<Text>) -> Result<Value, AllocError> {
+fn text_value(alloc: Global, text: &Option<Text>) -> Result<Value, AllocError>
+    ensures { IfOk result (λ value. view value ≡ text_data text.now) }
+{
     match text {
         Some(text) => Value::try_from_str(alloc, text.as_str()),
         None => Ok(Value::Null),
@@ -100,7 +112,9 @@ fn text_value(alloc: Global, text: &Option<Text>) -> Result<Value, AllocError> {
 }
 
 /// A list of texts and nulls.
-fn lines_value(alloc: Global, lines: &[Option<Text>]) -> Result<Value, AllocError> {
+fn lines_value(alloc: Global, lines: &[Option<Text>]) -> Result<Value, AllocError>
+    ensures { IfOk result (λ value. view value ≡ lines_data lines.now) }
+{
     let mut items = Vec::new(alloc);
     'lines: for line in lines {
         items.push(text_value(alloc, line)?)?;
@@ -109,7 +123,9 @@ fn lines_value(alloc: Global, lines: &[Option<Text>]) -> Result<Value, AllocErro
 }
 
 /// The name of a limit.
-fn limit_name(kind: StopKind) -> &'static str {
+fn limit_name(kind: StopKind) -> &'static str
+    ensures { result.now ≡ limit_name kind }
+{
     match kind {
         StopKind::Count => "count",
         StopKind::Depth => "depth",
@@ -117,7 +133,9 @@ fn limit_name(kind: StopKind) -> &'static str {
 }
 
 /// How an evaluation ended.
-fn ended_value(alloc: Global, ended: &Ended) -> Result<Value, AllocError> {
+fn ended_value(alloc: Global, ended: &Ended) -> Result<Value, AllocError>
+    ensures { IfOk result (λ value. view value ≡ ended_data ended.now) }
+{
     match ended {
         Ended::Completed(code, text) => json!(in alloc; {
             "end": "completed",
@@ -131,7 +149,9 @@ fn ended_value(alloc: Global, ended: &Ended) -> Result<Value, AllocError> {
 }
 
 /// How an interpreter stands.
-fn standing_value(alloc: Global, standing: &Standing) -> Result<Value, AllocError> {
+fn standing_value(alloc: Global, standing: &Standing) -> Result<Value, AllocError>
+    ensures { IfOk result (λ value. view value ≡ standing_data standing.now) }
+{
     let children = texts_value(alloc, standing.children.as_slice())?;
     json!(in alloc; {
         "safe": standing.safe,
@@ -144,14 +164,18 @@ fn standing_value(alloc: Global, standing: &Standing) -> Result<Value, AllocErro
 }
 
 /// An evaluation that was watched.
-fn watched_value(alloc: Global, watched: &Watched) -> Result<Value, AllocError> {
+fn watched_value(alloc: Global, watched: &Watched) -> Result<Value, AllocError>
+    ensures { IfOk result (λ value. view value ≡ watched_data watched.now) }
+{
     let ended = ended_value(alloc, &watched.ended)?;
     let lines = lines_value(alloc, watched.lines.as_slice())?;
     json!(in alloc; {"ended": ended, "record": watched.record, "lines": lines})
 }
 
 /// A replay.
-fn replayed_value(alloc: Global, replayed: &Replayed) -> Result<Value, AllocError> {
+fn replayed_value(alloc: Global, replayed: &Replayed) -> Result<Value, AllocError>
+    ensures { IfOk result (λ value. view value ≡ replayed_data replayed.now) }
+{
     let lines = lines_value(alloc, replayed.lines.as_slice())?;
     json!(in alloc; {
         "outcome": replayed.outcome.as_str(),
@@ -162,7 +186,9 @@ fn replayed_value(alloc: Global, replayed: &Replayed) -> Result<Value, AllocErro
 }
 
 /// What is said of a message that was done.
-fn answer_value(alloc: Global, answer: &Answer) -> Result<Value, AllocError> {
+fn answer_value(alloc: Global, answer: &Answer) -> Result<Value, AllocError>
+    ensures { IfOk result (λ value. view value ≡ answer_data answer.now) }
+{
     match answer {
         Answer::Done => json!(in alloc; {}),
         Answer::Tree(number) => json!(in alloc; {"tree": *number}),
@@ -183,7 +209,9 @@ fn answer_value(alloc: Global, answer: &Answer) -> Result<Value, AllocError> {
 ///
 /// # Errors
 /// Want of memory.
-pub fn answer_line(alloc: Global, id: u64, answer: &Answer) -> Result<String, AllocError> {
+pub fn answer_line(alloc: Global, id: u64, answer: &Answer) -> Result<String, AllocError>
+    ensures { IfOk result (λ line. string_bytes line ≡ written.answer_line id answer.now) }
+{
     let answer = answer_value(alloc, answer)?;
     let line = json!(in alloc; {"id": id, "ok": answer})?;
     line.to_string(alloc)
@@ -193,11 +221,9 @@ pub fn answer_line(alloc: Global, id: u64, answer: &Answer) -> Result<String, Al
 ///
 /// # Errors
 /// Want of memory.
-pub fn refusal_line(
-    alloc: Global,
-    id: Option<u64>,
-    refusal: &Refusal,
-) -> Result<String, AllocError> {
+pub fn refusal_line(alloc: Global, id: Option<u64>, refusal: &Refusal) -> Result<String, AllocError>
+    ensures { IfOk result (λ line. string_bytes line ≡ written.refusal_line id refusal.now) }
+{
     let number = refusal.number();
     let text = refusal.text(alloc)?;
     let line = json!(in alloc; {"id": id, "error": {"number": number, "text": text}})?;
@@ -221,7 +247,9 @@ pub struct Call {
 ///
 /// # Errors
 /// Want of memory.
-pub fn call_line(alloc: Global, call: &Call) -> Result<String, AllocError> {
+pub fn call_line(alloc: Global, call: &Call) -> Result<String, AllocError>
+    ensures { IfOk result (λ line. string_bytes line ≡ written.call_line call.now) }
+{
     let interpreter = texts_value(alloc, call.interpreter.as_slice())?;
     let words = texts_value(alloc, call.words.as_slice())?;
     let line = json!(in alloc; {

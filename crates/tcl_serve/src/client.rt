@@ -1,11 +1,12 @@
 //! The client, who is reached by lines.
-use crate::acting::look;
+use crate::acting::{look, refused_at};
 use crate::answers::{Answer, Call, Ended, answer_line, call_line, refusal_line};
-use crate::entering::Asking;
+use crate::entering::{Asked, alias_entry, client_alias_entry, creation, deletion, evaluation};
 use crate::hosts::ServedHost;
 use crate::lines::{LineFault, Lines};
-use crate::messages::{Message, Return, read_line};
+use crate::messages::{Ask, ClearAlias, LimitCount, LimitDepth, Message, Return, read_line};
 use crate::refusals::Refusal;
+use crate::serving::Ending;
 use std::alloc::{AllocError, Global};
 use std::io::{BufRead, Write};
 use std::mem;
@@ -14,68 +15,45 @@ use tcl_flow::completion::{Completion, OK};
 use tcl_flow::stop::Stop;
 use tcl_host::reply::HostReply;
 use tcl_host::request::Request;
-use tcl_run::entry::Entry;
+use tcl_run::entry::{Entry, OwnEntry};
 use tcl_run::interruption::{Cause, Interruption};
 use tcl_run::outside::Turn;
 use tcl_text::text::Text;
+use tcl_tree::refusal::TreeError;
 use tcl_tree::tree::{Place, Tree};
 use tcl_value::value::Value;
 
-/// Why no line is read any more.
-#[derive(Clone, Copy, Debug, PartialEq, Eq)]
-pub enum Ending {
-    /// The input is at its end.
-    Finished,
-    /// A line can't be read or written.
-    Failed(LineFault),
-}
-
-impl Ending {
-    /// The exit status of a program whose session ended so: 0 where the input is at its end, 1 where
-    /// a line can't be written, 2 where one can't be read, 4 for want of memory.
-    pub fn status(self) -> u8 {
-        match self {
-            Ending::Finished => 0,
-            Ending::Failed(LineFault::Unwritable) => 1,
-            Ending::Failed(LineFault::TooLong | LineFault::CutShort | LineFault::Unreadable) => 2,
-            Ending::Failed(LineFault::Memory) => 4,
-        }
-    }
-}
-
 /// A message that is done as an entry, and is answered once the entry is.
 #[derive(Clone, Copy)]
-struct Awaited {
-    id: u64,
-    evaluates: bool,
-}
-
-/// A call of the client that is open.
-#[derive(Clone, Copy)]
-struct OpenCall {
-    number: u64,
-    awaited: Option<Awaited>,
+pub struct Awaited {
+    /// The message's id.
+    pub id: u64,
+    /// Whether the entry evaluates a script.
+    pub evaluates: bool,
 }
 
 /// What a message comes to while a call is open.
-enum Step {
+pub enum Next {
     /// It is done.
-    Answer(Answer),
-    /// It is an entry.
-    Enter(Asking),
+    Says(Answer),
+    /// An interpreter does it.
+    Enters(Asked),
     /// It answers the call.
-    Return(Completion),
+    Returns(Completion),
     /// It ends the run.
-    End,
+    Ends,
 }
 
-/// The client, and what is between the lines: the calls that are open, and the tree and the host
-/// that they are of.
-pub struct Client<R, W> {
+/// The client, and what is between the lines: the calls that are open and the messages that are
+/// done as entries, with the number and the host of the tree that they are of.
+pub struct Client<R: BufRead + Drop, W: Write + Drop> {
     lines: Lines<R, W>,
     tree: u64,
     host: ServedHost,
-    calls: Vec<OpenCall>,
+    // the numbers of the open calls, the last one opened last
+    calls: Vec<u64>,
+    // the messages that are done as entries, the last one begun last
+    awaited: Vec<Awaited>,
     // the number that was given last to a call
     last_call: u64,
     // how many entries may still be handed in
@@ -85,13 +63,14 @@ pub struct Client<R, W> {
     ending: Option<Ending>,
 }
 
-impl<R: Drop, W: Drop> Drop for Client<R, W> {
+impl<R: BufRead + Drop, W: Write + Drop> Drop for Client<R, W> {
     fn drop(self) {
         let Client {
             lines: _lines,
             tree: _,
             host: _host,
             calls: _calls,
+            awaited: _awaited,
             last_call: _,
             entries: _,
             cut: _,
@@ -109,21 +88,23 @@ fn texts_of(alloc: Global, values: &[Value]) -> Result<Vec<Text>, AllocError> {
     Ok(texts)
 }
 
-/// How a run ends by a stop that passed the interpreter at the path: an error, where the stop names
+/// How an evaluation ends that completes so.
+fn completed(alloc: Global, completion: &Completion) -> Result<Ended, AllocError> {
+    let text = completion.text.text(alloc)?;
+    Ok(Ended::Completed(completion.code, text))
+}
+
+/// How an evaluation in the interpreter at the path ends by a stop: an error, where the stop names
 /// one below the root.
 fn stopped(alloc: Global, path: &[Text], stop: Stop) -> Result<Ended, AllocError> {
     if stop.levels_up < path.len() {
-        return completed(alloc, &stop.kind.error(alloc)?);
+        let completion = stop.kind.error(alloc)?;
+        return completed(alloc, &completion);
     }
     Ok(Ended::Stopped(stop.kind))
 }
 
-/// How an evaluation ends that completes so.
-fn completed(alloc: Global, completion: &Completion) -> Result<Ended, AllocError> {
-    Ok(Ended::Completed(completion.code, completion.text.text(alloc)?))
-}
-
-/// How an entry ended.
+/// How an entry into the interpreter at the path ended.
 fn entry_ended(
     alloc: Global,
     path: &[Text],
@@ -156,6 +137,27 @@ fn entry_done(
     }
 }
 
+/// What is said of an entry that ended so.
+fn entry_answer(
+    alloc: Global,
+    evaluates: bool,
+    path: &[Text],
+    ended: &Result<Value, Interruption>,
+) -> Result<Answer, Refusal> {
+    if evaluates {
+        return entry_ended(alloc, path, ended);
+    }
+    entry_done(alloc, path, ended)
+}
+
+/// The refusal of an entry into an interpreter that isn't there.
+fn nobody(alloc: Global, target: &[Text], entry: &Entry) -> Refusal {
+    match entry {
+        Entry::Eval(_) => Refusal::Run(Refused::NoInterpreter),
+        _ => refused_at(alloc, TreeError::NoInterpreter, target),
+    }
+}
+
 impl<R: BufRead + Drop, W: Write + Drop> Client<R, W> {
     /// The client at the other end of a reader and a writer.
     ///
@@ -167,6 +169,7 @@ impl<R: BufRead + Drop, W: Write + Drop> Client<R, W> {
             lines: Lines::new(reader, writer),
             tree: 0,
             calls: Vec::new(alloc),
+            awaited: Vec::new(alloc),
             last_call: 0,
             entries: u64::MAX,
             cut: false,
@@ -186,19 +189,18 @@ impl<R: BufRead + Drop, W: Write + Drop> Client<R, W> {
         mem::swap(&mut self.host, host);
     }
 
-    /// The run is over, and its tree has its host again. Messages that wanted memory in it are
-    /// answered.
+    /// The run is over, and its tree has its host again. Messages for which memory was wanted in it
+    /// are answered.
     pub fn finish(&mut self, alloc: Global, host: &mut ServedHost) {
         mem::swap(&mut self.host, host);
-        'calls: while let Some(call) = self.calls.pop() {
-            if let Some(awaited) = call.awaited {
-                self.reply(alloc, awaited.id, Err(Refusal::Run(Refused::Memory)));
-            }
+        self.calls.clear();
+        'awaited: while let Some(awaited) = self.awaited.pop() {
+            self.reply(alloc, awaited.id, Err(Refusal::Run(Refused::Memory)));
         }
     }
 
     /// Hears a message. A line that isn't understood is answered, and gives none; and where no line
-    /// can be read, that is the client's ending.
+    /// can be read, that is the end.
     pub fn hear(&mut self, alloc: Global) -> Option<(u64, Message)> {
         match self.lines.read(alloc) {
             Ok(Some(line)) => self.understand(alloc, line.as_slice()),
@@ -238,7 +240,7 @@ impl<R: BufRead + Drop, W: Write + Drop> Client<R, W> {
         }
     }
 
-    /// Answers a message that isn't done.
+    /// Answers a line that isn't done.
     fn refuse(&mut self, alloc: Global, id: Option<u64>, refusal: &Refusal) {
         match refusal_line(alloc, id, refusal) {
             Ok(line) => self.put(line.as_str()),
@@ -246,7 +248,7 @@ impl<R: BufRead + Drop, W: Write + Drop> Client<R, W> {
         }
     }
 
-    /// Answers a message for which memory was wanted. This takes no memory.
+    /// Answers a line for which memory was wanted. This takes no memory.
     fn want_memory(&mut self, id: Option<u64>) {
         let written = self.lines.write_out_of_memory(id);
         self.note(written);
@@ -258,18 +260,18 @@ impl<R: BufRead + Drop, W: Write + Drop> Client<R, W> {
         self.note(written);
     }
 
-    /// Takes note of a line that couldn't be written.
+    /// Takes note of a line that can't be written, which is the end.
     fn note(&mut self, written: Result<(), LineFault>) {
         if let Err(fault) = written {
             self.ending = Some(Ending::Failed(fault));
         }
     }
 
-    /// An interpreter calls the client by these words.
+    /// The interpreter that the place names calls the client by these words.
     ///
     /// # Errors
     /// Want of memory.
-    pub(crate) fn open(
+    pub fn open(
         &mut self,
         alloc: Global,
         tree: &Tree,
@@ -286,17 +288,14 @@ impl<R: BufRead + Drop, W: Write + Drop> Client<R, W> {
             words,
         };
         let line = call_line(alloc, &call)?;
-        self.calls.push(OpenCall {
-            number,
-            awaited: None,
-        })?;
+        self.calls.push(number)?;
         self.last_call = number;
         self.put(line.as_str());
         Ok(())
     }
 
     /// Closes the last open call.
-    pub(crate) fn close(&mut self) {
+    pub fn close(&mut self) {
         let _ = self.calls.pop();
     }
 
@@ -304,44 +303,46 @@ impl<R: BufRead + Drop, W: Write + Drop> Client<R, W> {
     ///
     /// # Errors
     /// How the call ends; want of memory.
-    pub(crate) fn serve(&mut self, alloc: Global, tree: &Tree) -> Result<Turn, Interruption> {
+    pub fn serve(&mut self, alloc: Global, tree: &Tree) -> Result<Turn, Interruption> {
         'lines: for _ in 0..u64::MAX {
-            if self.cut || self.ending.is_some() {
-                break;
+            if self.is_over() {
+                return self.cut_off();
             }
-            if let Some((id, message)) = self.hear(alloc) {
-                if let Some(turn) = self.heed(alloc, tree, id, message) {
-                    return turn;
-                }
+            if let Some(turn) = self.turn(alloc, tree) {
+                return turn;
             }
         }
+        self.cut_off()
+    }
+
+    /// Whether the run is over, since the client ended it or is gone.
+    fn is_over(&self) -> bool {
+        self.cut || self.ending.is_some()
+    }
+
+    /// The last open call is cut off.
+    fn cut_off(&mut self) -> Result<Turn, Interruption> {
         self.close();
         Err(Interruption::Cut(Cause::Over))
     }
 
-    /// Does what a message asks for, while a call is open; what comes next to the call then, if
-    /// anything does.
-    fn heed(
-        &mut self,
-        alloc: Global,
-        tree: &Tree,
-        id: u64,
-        message: Message,
-    ) -> Option<Result<Turn, Interruption>> {
-        match self.step(alloc, tree, message) {
-            Ok(Step::Answer(answer)) => {
-                self.reply(alloc, id, Ok(answer));
-                None
-            }
-            Ok(Step::Enter(asking)) => self.enter(alloc, tree, id, asking),
-            Ok(Step::Return(completion)) => {
+    /// Hears a line while a call is open; what comes next to the call then, if anything does.
+    fn turn(&mut self, alloc: Global, tree: &Tree) -> Option<Result<Turn, Interruption>> {
+        let (id, message) = self.hear(alloc)?;
+        match self.next_of(alloc, tree, message) {
+            Ok(Next::Enters((target, entry))) => self.enter(alloc, tree, id, target, entry),
+            Ok(Next::Returns(completion)) => {
                 self.reply(alloc, id, Ok(Answer::Done));
                 self.close();
                 Some(Err(Interruption::of_completion(alloc, completion)))
             }
-            Ok(Step::End) => {
-                self.reply(alloc, id, Ok(Answer::Done));
+            Ok(Next::Ends) => {
                 self.cut = true;
+                self.reply(alloc, id, Ok(Answer::Done));
+                None
+            }
+            Ok(Next::Says(answer)) => {
+                self.reply(alloc, id, Ok(answer));
                 None
             }
             Err(refusal) => {
@@ -351,102 +352,69 @@ impl<R: BufRead + Drop, W: Write + Drop> Client<R, W> {
         }
     }
 
-    /// Hands in an entry, where the interpreter is there.
+    /// Hands in an entry by which a message is done, where the interpreter is there.
     fn enter(
         &mut self,
         alloc: Global,
         tree: &Tree,
         id: u64,
-        asking: Asking,
+        target: Vec<Text>,
+        entry: Entry,
     ) -> Option<Result<Turn, Interruption>> {
-        if !tree.exists(asking.target.as_slice()) {
-            self.reply(alloc, id, Err(Refusal::Run(Refused::NoInterpreter)));
+        if !tree.exists(target.as_slice()) {
+            let refusal = nobody(alloc, target.as_slice(), &entry);
+            self.reply(alloc, id, Err(refusal));
             return None;
         }
-        if self.entries == 0 {
-            // So many lines take longer than anybody waits.
+        let evaluates = matches!(entry, Entry::Eval(_));
+        if !self.await_entry(Awaited { id, evaluates }) {
             self.reply(alloc, id, Err(Refusal::Memory));
             return None;
         }
-        self.entries -= 1;
-        let (target, entry) = asking.into_parts();
-        self.await_entry(id, matches!(entry, Entry::Eval(_)));
         Some(Ok(Turn::Entry(target, entry)))
     }
 
-    /// The last open call hands in an entry, by which a message is answered.
-    fn await_entry(&mut self, id: u64, evaluates: bool) {
-        if let Some(call) = self.calls.last_mut() {
-            call.awaited = Some(Awaited { id, evaluates });
+    /// Awaits an entry, and says whether there is memory for that. (So many entries as are counted
+    /// take longer than anybody waits.)
+    fn await_entry(&mut self, awaited: Awaited) -> bool {
+        if self.entries == 0 {
+            return false;
         }
+        if self.awaited.push(awaited).is_err() {
+            return false;
+        }
+        self.entries -= 1;
+        true
     }
 
     /// What a message comes to while a call is open.
-    fn step(&mut self, alloc: Global, tree: &Tree, message: Message) -> Result<Step, Refusal> {
+    ///
+    /// # Errors
+    /// 510, 511, 512; those of what is asked; want of memory.
+    fn next_of(&mut self, alloc: Global, tree: &Tree, message: Message) -> Result<Next, Refusal> {
         match message {
-            Message::Evaluate(evaluate) => {
-                self.here(evaluate.interpreter.tree)?;
-                Ok(Step::Enter(Asking::evaluate(evaluate)?))
+            Message::Evaluate(message) => {
+                self.is_here(message.interpreter.tree)?;
+                Ok(Next::Enters(evaluation(message)?))
             }
-            Message::Create(create) => {
-                self.here(create.interpreter.tree)?;
-                Ok(Step::Enter(Asking::create(create)?))
+            Message::OnTree(number, ask) => {
+                self.is_here(number)?;
+                self.ask_open(alloc, tree, ask)
             }
-            Message::Delete(interpreter) => {
-                self.here(interpreter.tree)?;
-                Ok(Step::Enter(Asking::delete(interpreter)?))
-            }
-            Message::Alias(alias) => {
-                self.here(alias.interpreter.tree)?;
-                Ok(Step::Enter(Asking::alias(alloc, alias)?))
-            }
-            Message::AliasToClient(alias) => {
-                self.here(alias.interpreter.tree)?;
-                Ok(Step::Enter(Asking::alias_to_client(alloc, alias)?))
-            }
-            Message::ClearAlias(alias) => {
-                self.here(alias.interpreter.tree)?;
-                Ok(Step::Enter(Asking::clear_alias(alias)))
-            }
-            Message::LimitCount(limit) => {
-                self.here(limit.interpreter.tree)?;
-                Ok(Step::Enter(Asking::limit_count(limit)))
-            }
-            Message::LimitDepth(limit) => {
-                self.here(limit.interpreter.tree)?;
-                Ok(Step::Enter(Asking::limit_depth(limit)))
-            }
-            Message::Look(interpreter) => {
-                self.here(interpreter.tree)?;
-                Ok(Step::Answer(look(tree, alloc, interpreter.path.as_slice())?))
-            }
-            Message::PutFile(file) => {
-                self.here(file.tree)?;
-                Ok(Step::Answer(self.host.put_file(alloc, &file)?))
-            }
-            Message::GetFile(file) => {
-                self.here(file.tree)?;
-                Ok(Step::Answer(self.host.file(alloc, &file)?))
-            }
-            Message::PutInput(input) => {
-                self.here(input.tree)?;
-                Ok(Step::Answer(self.host.put_input(&input)?))
-            }
-            Message::TakeOutput(output) => {
-                self.here(output.tree)?;
-                Ok(Step::Answer(self.host.take(alloc, output.channel)?))
-            }
-            Message::Return(answer) => Ok(Step::Return(self.completion_of(answer)?)),
+            Message::Return(message) => Ok(Next::Returns(self.completion_of(message)?)),
             Message::EndRun(call) => {
                 self.is_open(call)?;
-                Ok(Step::End)
+                Ok(Next::Ends)
             }
             _ => Err(Refusal::CallOpen),
         }
     }
 
     /// Looks whether a call is open in the tree of this number.
-    fn here(&self, tree: u64) -> Result<(), Refusal> {
+    ///
+    /// # Errors
+    /// 510.
+    fn is_here(&self, tree: u64) -> Result<(), Refusal> {
         if tree == self.tree {
             return Ok(());
         }
@@ -454,53 +422,73 @@ impl<R: BufRead + Drop, W: Write + Drop> Client<R, W> {
     }
 
     /// Looks whether the call of this number is the one that is open.
+    ///
+    /// # Errors
+    /// 511.
     fn is_open(&self, number: u64) -> Result<(), Refusal> {
-        match self.calls.last() {
-            Some(call) if call.number == number => Ok(()),
-            _ => Err(Refusal::NotOpen(number)),
+        if self.calls.as_slice().last() == Some(&number) {
+            return Ok(());
         }
+        Err(Refusal::NotOpen(number))
     }
 
     /// The completion by which the open call is answered.
+    ///
+    /// # Errors
+    /// 511; 122; want of memory.
     fn completion_of(&self, answer: Return) -> Result<Completion, Refusal> {
         let Return { call, code, text } = answer;
         self.is_open(call)?;
-        Ok(Completion::new(code, Value::from_text(text)?))
+        let text = Value::from_text(text)?;
+        Ok(Completion::new(code, text))
+    }
+
+    /// What comes of what is asked of the tree while a call is open.
+    ///
+    /// # Errors
+    /// Those of what is asked; want of memory.
+    fn ask_open(&mut self, alloc: Global, tree: &Tree, ask: Ask) -> Result<Next, Refusal> {
+        match ask {
+            Ask::Create(ask) => Ok(Next::Enters(creation(ask)?)),
+            Ask::Delete(path) => Ok(Next::Enters(deletion(path)?)),
+            Ask::Alias(ask) => Ok(Next::Enters(alias_entry(alloc, ask)?)),
+            Ask::AliasToClient(ask) => Ok(Next::Enters(client_alias_entry(alloc, ask)?)),
+            Ask::ClearAlias(ClearAlias { path, name }) => {
+                Ok(Next::Enters((path, Entry::Own(OwnEntry::ClearAlias(name)))))
+            }
+            Ask::LimitCount(LimitCount { path, count }) => {
+                Ok(Next::Enters((path, Entry::Own(OwnEntry::SetCountLimit(count)))))
+            }
+            Ask::LimitDepth(LimitDepth { path, depth }) => {
+                Ok(Next::Enters((path, Entry::Own(OwnEntry::SetDepthLimit(depth)))))
+            }
+            Ask::Look(path) => Ok(Next::Says(look(tree, alloc, path.as_slice())?)),
+            Ask::PutFile(file) => Ok(Next::Says(self.host.put_file(alloc, &file)?)),
+            Ask::GetFile(name) => Ok(Next::Says(self.host.file(alloc, &name)?)),
+            Ask::PutInput(text) => Ok(Next::Says(self.host.put_input(&text)?)),
+            Ask::TakeOutput(channel) => Ok(Next::Says(self.host.take(alloc, channel)?)),
+        }
     }
 
     /// Makes a request of the tree's host.
     ///
     /// # Errors
     /// Want of memory.
-    pub(crate) fn ask(
-        &mut self,
-        alloc: Global,
-        request: &Request,
-    ) -> Result<HostReply, AllocError> {
+    pub fn ask(&mut self, alloc: Global, request: &Request) -> Result<HostReply, AllocError> {
         self.host.ask(alloc, request)
     }
 
-    /// An entry ended into the interpreter at the path: the message is answered that it is.
-    pub(crate) fn entry_ends(
+    /// An entry into the interpreter at the path ended, which answers the message that was last
+    /// handed in.
+    pub fn entry_ends(
         &mut self,
         alloc: Global,
         path: &[Text],
         ended: &Result<Value, Interruption>,
     ) {
-        let Some(awaited) = self.take_awaited() else {
-            return;
-        };
-        let answer = if awaited.evaluates {
-            entry_ended(alloc, path, ended)
-        } else {
-            entry_done(alloc, path, ended)
-        };
-        self.reply(alloc, awaited.id, answer);
-    }
-
-    /// The message that the last open call awaits the end of.
-    fn take_awaited(&mut self) -> Option<Awaited> {
-        let call = self.calls.last_mut()?;
-        call.awaited.take()
+        if let Some(awaited) = self.awaited.pop() {
+            let answer = entry_answer(alloc, awaited.evaluates, path, ended);
+            self.reply(alloc, awaited.id, answer);
+        }
     }
 }

@@ -1,8 +1,6 @@
 //! Messages as entries, while a call is open.
 use crate::acting::{client_alias, values_of};
-use crate::messages::{
-    Alias, AliasToClient, ClearAlias, Create, Evaluate, Interpreter, LimitCount, LimitDepth,
-};
+use crate::messages::{Alias, AliasToClient, Create, Evaluate};
 use crate::refusals::Refusal;
 use std::alloc::Global;
 use tcl_run::entry::{Entry, OwnEntry};
@@ -10,135 +8,76 @@ use tcl_text::text::Text;
 use tcl_tree::alias;
 use tcl_value::value::Value;
 
-/// What an interpreter is asked for.
-pub struct Asking {
-    /// Its path.
-    pub target: Vec<Text>,
-    /// What it is asked for.
-    pub entry: Entry,
+/// What the interpreter at a path is asked for.
+pub type Asked = (Vec<Text>, Entry);
+
+/// What a script is evaluated by.
+///
+/// # Errors
+/// 512; 122; want of memory.
+pub fn evaluation(evaluate: Evaluate) -> Result<Asked, Refusal> {
+    let Evaluate {
+        interpreter,
+        script,
+        limit,
+    } = evaluate;
+    if limit.is_some() {
+        return Err(Refusal::EntryLimit);
+    }
+    let script = Value::from_text(script)?;
+    Ok((interpreter.path, Entry::Eval(script)))
 }
 
-impl Drop for Asking {
-    fn drop(self) {
-        let Asking {
-            target: _target,
-            entry: _entry,
-        } = self;
+/// What an interpreter is made by, of the one above it.
+///
+/// # Errors
+/// 513.
+pub fn creation(create: Create) -> Result<Asked, Refusal> {
+    let Create { path, safe } = create;
+    let mut target = path;
+    match target.pop() {
+        Some(name) => {
+            let name = Some(name);
+            Ok((target, Entry::Own(OwnEntry::Create { name, safe })))
+        }
+        None => Err(Refusal::Root),
     }
 }
 
-impl Asking {
-    /// The path, and what is asked for.
-    pub fn into_parts(self) -> (Vec<Text>, Entry) {
-        let Asking { target, entry } = self;
-        (target, entry)
+/// What an interpreter is deleted by, of the one above it.
+///
+/// # Errors
+/// 513.
+pub fn deletion(path: Vec<Text>) -> Result<Asked, Refusal> {
+    let mut target = path;
+    match target.pop() {
+        Some(name) => Ok((target, Entry::Own(OwnEntry::Delete(name)))),
+        None => Err(Refusal::Root),
     }
+}
 
-    /// What evaluates nothing is asked of the interpreter at a path.
-    fn own(target: Vec<Text>, entry: OwnEntry) -> Asking {
-        Asking {
-            target,
-            entry: Entry::Own(entry),
-        }
-    }
+/// What a name becomes an alias to another interpreter by.
+///
+/// # Errors
+/// 122; want of memory.
+pub fn alias_entry(alloc: Global, alias: Alias) -> Result<Asked, Refusal> {
+    let Alias {
+        path,
+        name,
+        to,
+        words,
+    } = alias;
+    let words = values_of(alloc, words.as_slice())?;
+    let alias = alias::Alias::between(alloc, path.as_slice(), to.as_slice(), words)?;
+    Ok((path, Entry::Own(OwnEntry::SetAlias { name, alias })))
+}
 
-    /// That a script be evaluated.
-    ///
-    /// # Errors
-    /// 512; 122; want of memory.
-    pub fn evaluate(evaluate: Evaluate) -> Result<Asking, Refusal> {
-        let Evaluate {
-            interpreter,
-            script,
-            limit,
-        } = evaluate;
-        if limit.is_some() {
-            return Err(Refusal::EntryLimit);
-        }
-        Ok(Asking {
-            target: interpreter.path,
-            entry: Entry::Eval(Value::from_text(script)?),
-        })
-    }
-
-    /// That an interpreter be made, of the one above it.
-    ///
-    /// # Errors
-    /// 513.
-    pub fn create(create: Create) -> Result<Asking, Refusal> {
-        let Create { interpreter, safe } = create;
-        let mut target = interpreter.path;
-        match target.pop() {
-            Some(name) => Ok(Asking::own(
-                target,
-                OwnEntry::Create {
-                    name: Some(name),
-                    safe,
-                },
-            )),
-            None => Err(Refusal::Root),
-        }
-    }
-
-    /// That an interpreter be deleted, of the one above it.
-    ///
-    /// # Errors
-    /// 513.
-    pub fn delete(interpreter: Interpreter) -> Result<Asking, Refusal> {
-        let mut target = interpreter.path;
-        match target.pop() {
-            Some(name) => Ok(Asking::own(target, OwnEntry::Delete(name))),
-            None => Err(Refusal::Root),
-        }
-    }
-
-    /// That a name become an alias to another interpreter.
-    ///
-    /// # Errors
-    /// 122; want of memory.
-    pub fn alias(alloc: Global, alias: Alias) -> Result<Asking, Refusal> {
-        let Alias {
-            interpreter,
-            name,
-            to,
-            words,
-        } = alias;
-        let words = values_of(alloc, words.as_slice())?;
-        let target = interpreter.path;
-        let alias = alias::Alias::between(alloc, target.as_slice(), to.as_slice(), words)?;
-        Ok(Asking::own(target, OwnEntry::SetAlias { name, alias }))
-    }
-
-    /// That a name become an alias to the client.
-    ///
-    /// # Errors
-    /// 122; want of memory.
-    pub fn alias_to_client(alloc: Global, alias: AliasToClient) -> Result<Asking, Refusal> {
-        let AliasToClient {
-            interpreter,
-            name,
-            words,
-        } = alias;
-        let target = interpreter.path;
-        let alias = client_alias(alloc, target.as_slice(), words.as_slice())?;
-        Ok(Asking::own(target, OwnEntry::SetAlias { name, alias }))
-    }
-
-    /// That an alias be taken away.
-    pub fn clear_alias(alias: ClearAlias) -> Asking {
-        let ClearAlias { interpreter, name } = alias;
-        Asking::own(interpreter.path, OwnEntry::ClearAlias(name))
-    }
-
-    /// That a limit of steps be set or taken away.
-    pub fn limit_count(limit: LimitCount) -> Asking {
-        let LimitCount { interpreter, count } = limit;
-        Asking::own(interpreter.path, OwnEntry::SetCountLimit(count))
-    }
-
-    /// That a limit of depth be set.
-    pub fn limit_depth(limit: LimitDepth) -> Asking {
-        let LimitDepth { interpreter, depth } = limit;
-        Asking::own(interpreter.path, OwnEntry::SetDepthLimit(depth))
-    }
+/// What a name becomes an alias to the client by.
+///
+/// # Errors
+/// 122; want of memory.
+pub fn client_alias_entry(alloc: Global, alias: AliasToClient) -> Result<Asked, Refusal> {
+    let AliasToClient { path, name, words } = alias;
+    let alias = client_alias(alloc, path.as_slice(), words.as_slice())?;
+    Ok((path, Entry::Own(OwnEntry::SetAlias { name, alias })))
 }

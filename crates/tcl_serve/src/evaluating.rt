@@ -5,7 +5,7 @@ use crate::keeping::lines_of;
 use crate::messages::{Evaluate, STEPS, Watch};
 use crate::numbered::Numbered;
 use crate::refusals::Refusal;
-use crate::session::ServedTree;
+use crate::served::ServedTree;
 use std::alloc::{AllocError, Global};
 use std::io::{BufRead, Write};
 use tcl_eval::running::{End, OpenEnd, open_run};

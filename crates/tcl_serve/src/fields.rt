@@ -1,4 +1,15 @@
 //! The fields of a message.
+ghost use Rattle.serde_json.specs.Find.{as_number, as_object, get};
+ghost use Rattle.serde_json.specs.View.{items_view, view};
+ghost use Rattle.std.specs.Option.{option_and_then, option_map};
+ghost use Rattle.std.specs.Prelude.{◌≡◌, ◌≢◌, Err, IfErr, IfOk, Ok, OnOk, Some};
+ghost use Rattle.tcl_serve.specs.Fields.{flag_of, in_field, integer_of, is_field, items_of, no_number};
+ghost use Rattle.tcl_serve.specs.Fields.{number_of, number_or_null_of, only, optional_in, present};
+ghost use Rattle.tcl_serve.specs.Fields.{text_of, texts_of};
+ghost use Rattle.tcl_serve.specs.Names.{name_of, type_name, type_of};
+ghost use Rattle.tcl_serve.specs.declared.refusals.Refusal.TheVariants.{Memory, OutOfRange};
+ghost use Rattle.tcl_serve.specs.declared.refusals.Refusal.TheVariants.{WrongType};
+
 use crate::refusals::Refusal;
 use serde_json::Value;
 use std::alloc::Global;
@@ -49,7 +60,9 @@ pub enum FieldType {
 
 impl FieldType {
     /// Its name.
-    pub fn name(self) -> &'static str {
+    pub fn name(self) -> &'static str
+        ensures { result.now ≡ type_name self }
+    {
         match self {
             FieldType::Number => "a number",
             FieldType::NumberOrNull => "a number or null",
@@ -63,7 +76,9 @@ impl FieldType {
 
 impl Field {
     /// Its name.
-    pub fn name(self) -> &'static str {
+    pub fn name(self) -> &'static str
+        ensures { result.now ≡ name_of self }
+    {
         match self {
             Field::Id => "id",
             Field::Do => "do",
@@ -90,7 +105,9 @@ impl Field {
     }
 
     /// What can stand in it.
-    pub fn field_type(self) -> FieldType {
+    pub fn field_type(self) -> FieldType
+        ensures { result ≡ type_of self }
+    {
         match self {
             Field::Id
             | Field::Integers
@@ -116,7 +133,12 @@ impl Field {
 ///
 /// # Errors
 /// 506 where the field is missing.
-fn member(line: &Value, field: Field) -> Result<&Value, Refusal> {
+fn member(line: &Value, field: Field) -> Result<&Value, Refusal>
+    ensures ok { IfOk result
+        (λ value. present field (get (name_of field) (view line.now)) ≡ Ok (view value.now)) }
+    ensures err { IfErr result
+        (λ e. present field (get (name_of field) (view line.now)) ≡ Err e) }
+{
     match line.get(field.name()) {
         Some(value) => Ok(value),
         None => Err(Refusal::Missing(field)),
@@ -124,7 +146,9 @@ fn member(line: &Value, field: Field) -> Result<&Value, Refusal> {
 }
 
 /// Why a value is no number that the field can have.
-fn no_number(value: &Value, field: Field) -> Refusal {
+fn no_number(value: &Value, field: Field) -> Refusal
+    ensures { result ≡ no_number field (as_number (view value.now)) }
+{
     if value.is_number() {
         return Refusal::OutOfRange(field);
     }
@@ -132,7 +156,10 @@ fn no_number(value: &Value, field: Field) -> Refusal {
 }
 
 /// The number that a value is.
-fn number_of(value: &Value, field: Field) -> Result<u64, Refusal> {
+fn number_of(value: &Value, field: Field) -> Result<u64, Refusal>
+    ensures ok { IfOk result (λ r. number_of field (view value.now) ≡ Ok r) }
+    ensures err { IfErr result (λ e. number_of field (view value.now) ≡ Err e) }
+{
     match value.as_u64() {
         Some(number) => Ok(number),
         None => Err(no_number(value, field)),
@@ -143,7 +170,10 @@ fn number_of(value: &Value, field: Field) -> Result<u64, Refusal> {
 ///
 /// # Errors
 /// 506, 507 and 508.
-pub fn number_in(line: &Value, field: Field) -> Result<u64, Refusal> {
+pub fn number_in(line: &Value, field: Field) -> Result<u64, Refusal>
+    ensures ok { IfOk result (λ r. in_field number_of field (view line.now) ≡ Ok r) }
+    ensures err { IfErr result (λ e. in_field number_of field (view line.now) ≡ Err e) }
+{
     let value = member(line, field)?;
     number_of(value, field)
 }
@@ -152,7 +182,10 @@ pub fn number_in(line: &Value, field: Field) -> Result<u64, Refusal> {
 ///
 /// # Errors
 /// 506, 507 and 508.
-pub fn number_or_null_in(line: &Value, field: Field) -> Result<Option<u64>, Refusal> {
+pub fn number_or_null_in(line: &Value, field: Field) -> Result<Option<u64>, Refusal>
+    ensures ok { IfOk result (λ r. in_field number_or_null_of field (view line.now) ≡ Ok r) }
+    ensures err { IfErr result (λ e. in_field number_or_null_of field (view line.now) ≡ Err e) }
+{
     let value = member(line, field)?;
     if value.is_null() {
         return Ok(None);
@@ -164,7 +197,10 @@ pub fn number_or_null_in(line: &Value, field: Field) -> Result<Option<u64>, Refu
 ///
 /// # Errors
 /// 507 and 508.
-pub fn optional_number_in(line: &Value, field: Field) -> Result<Option<u64>, Refusal> {
+pub fn optional_number_in(line: &Value, field: Field) -> Result<Option<u64>, Refusal>
+    ensures ok { IfOk result (λ r. optional_in number_of field (view line.now) ≡ Ok r) }
+    ensures err { IfErr result (λ e. optional_in number_of field (view line.now) ≡ Err e) }
+{
     match line.get(field.name()) {
         Some(value) => Ok(Some(number_of(value, field)?)),
         None => Ok(None),
@@ -175,7 +211,10 @@ pub fn optional_number_in(line: &Value, field: Field) -> Result<Option<u64>, Ref
 ///
 /// # Errors
 /// 506, 507 and 508.
-pub fn integer_in(line: &Value, field: Field) -> Result<i64, Refusal> {
+pub fn integer_in(line: &Value, field: Field) -> Result<i64, Refusal>
+    ensures ok { IfOk result (λ r. in_field integer_of field (view line.now) ≡ Ok r) }
+    ensures err { IfErr result (λ e. in_field integer_of field (view line.now) ≡ Err e) }
+{
     let value = member(line, field)?;
     match value.as_i64() {
         Some(number) => Ok(number),
@@ -187,7 +226,10 @@ pub fn integer_in(line: &Value, field: Field) -> Result<i64, Refusal> {
 ///
 /// # Errors
 /// 506 and 507.
-pub fn flag_in(line: &Value, field: Field) -> Result<bool, Refusal> {
+pub fn flag_in(line: &Value, field: Field) -> Result<bool, Refusal>
+    ensures ok { IfOk result (λ r. in_field flag_of field (view line.now) ≡ Ok r) }
+    ensures err { IfErr result (λ e. in_field flag_of field (view line.now) ≡ Err e) }
+{
     let value = member(line, field)?;
     match value.as_bool() {
         Some(flag) => Ok(flag),
@@ -199,7 +241,10 @@ pub fn flag_in(line: &Value, field: Field) -> Result<bool, Refusal> {
 ///
 /// # Errors
 /// 506 and 507.
-pub fn str_in<'a>(line: &'a Value, field: Field) -> Result<&'a str, Refusal> {
+pub fn str_in<'a>(line: &'a Value, field: Field) -> Result<&'a str, Refusal>
+    ensures ok { IfOk result (λ r. in_field text_of field (view line.now) ≡ Ok (r.now)) }
+    ensures err { IfErr result (λ e. in_field text_of field (view line.now) ≡ Err e) }
+{
     let value = member(line, field)?;
     match value.as_str() {
         Some(text) => Ok(text),
@@ -211,7 +256,10 @@ pub fn str_in<'a>(line: &'a Value, field: Field) -> Result<&'a str, Refusal> {
 ///
 /// # Errors
 /// 506 and 507; want of memory.
-pub fn text_in(alloc: Global, line: &Value, field: Field) -> Result<Text, Refusal> {
+pub fn text_in(alloc: Global, line: &Value, field: Field) -> Result<Text, Refusal>
+    ensures ok { IfOk result (λ r. in_field text_of field (view line.now) ≡ Ok r) }
+    ensures err { IfErr result (λ e. e ≢ Memory → in_field text_of field (view line.now) ≡ Err e) }
+{
     let text = str_in(line, field)?;
     Ok(Text::new(alloc, text)?)
 }
@@ -220,7 +268,10 @@ pub fn text_in(alloc: Global, line: &Value, field: Field) -> Result<Text, Refusa
 ///
 /// # Errors
 /// 506 and 507; want of memory.
-pub fn texts_in(alloc: Global, line: &Value, field: Field) -> Result<Vec<Text>, Refusal> {
+pub fn texts_in(alloc: Global, line: &Value, field: Field) -> Result<Vec<Text>, Refusal>
+    ensures ok { IfOk result (λ r. in_field texts_of field (view line.now) ≡ Ok (r.items)) }
+    ensures err { IfErr result (λ e. e ≢ Memory → in_field texts_of field (view line.now) ≡ Err e) }
+{
     let value = member(line, field)?;
     match value.as_array() {
         Some(items) => texts_of(alloc, items.as_slice(), field),
@@ -229,7 +280,10 @@ pub fn texts_in(alloc: Global, line: &Value, field: Field) -> Result<Vec<Text>, 
 }
 
 /// The texts that items are.
-fn texts_of(alloc: Global, items: &[Value], field: Field) -> Result<Vec<Text>, Refusal> {
+fn texts_of(alloc: Global, items: &[Value], field: Field) -> Result<Vec<Text>, Refusal>
+    ensures ok { IfOk result (λ r. items_of field (items_view items.now) ≡ Ok (r.items)) }
+    ensures err { IfErr result (λ e. e ≢ Memory → items_of field (items_view items.now) ≡ Err e) }
+{
     let mut texts = Vec::new(alloc);
     'items: for item in items {
         match item.as_str() {
@@ -244,20 +298,25 @@ fn texts_of(alloc: Global, items: &[Value], field: Field) -> Result<Vec<Text>, R
 ///
 /// # Errors
 /// 505 of the first field, in the order of their names, that is another one; want of memory.
-pub fn only(alloc: Global, line: &Value, fields: &[Field]) -> Result<(), Refusal> {
+pub fn only(alloc: Global, line: &Value, fields: &[Field]) -> Result<(), Refusal>
+    ensures ok { OnOk result (only fields.now (view line.now) ≡ Ok tt) }
+    ensures err { IfErr result (λ e. e ≢ Memory → only fields.now (view line.now) ≡ Err e) }
+{
     let Some(members) = line.as_object() else {
         return Err(Refusal::NotObject);
     };
     'names: for name in members.keys() {
         if !is_among(name.as_str(), fields) {
-            return Err(Refusal::UnknownField(String::from_str(alloc, name.as_str())?));
+            return Err(Refusal::UnknownField(Text::new(alloc, name.as_str())?));
         }
     }
     Ok(())
 }
 
 /// Whether a name is that of one of these fields, or of one that each message has.
-fn is_among(name: &str, fields: &[Field]) -> bool {
+fn is_among(name: &str, fields: &[Field]) -> bool
+    ensures { result ≡ is_field fields.now name.now }
+{
     name == Field::Id.name()
         || name == Field::Do.name()
         || fields.iter().any(|field| field.name() == name)

@@ -1,6 +1,6 @@
 //! The host of a served tree, which is in memory.
 use crate::answers::Answer;
-use crate::messages::{Channel, GetFile, PutFile, PutInput};
+use crate::messages::{Channel, PutFile};
 use crate::refusals::Refusal;
 use std::alloc::{AllocError, Global};
 use tcl_host::host::ask;
@@ -74,8 +74,8 @@ impl ServedHost {
     ///
     /// # Errors
     /// Want of memory.
-    pub fn put_input(&mut self, input: &PutInput) -> Result<Answer, Refusal> {
-        self.host.put_input(input.text.as_str().as_bytes())?;
+    pub fn put_input(&mut self, text: &Text) -> Result<Answer, Refusal> {
+        self.host.put_input(text.as_str().as_bytes())?;
         Ok(Answer::Done)
     }
 
@@ -83,10 +83,10 @@ impl ServedHost {
     ///
     /// # Errors
     /// 265; want of memory.
-    pub fn file(&self, alloc: Global, file: &GetFile) -> Result<Answer, Refusal> {
-        match self.host.file(file.name.as_str()) {
+    pub fn file(&self, alloc: Global, name: &Text) -> Result<Answer, Refusal> {
+        match self.host.file(name.as_str()) {
             Some(bytes) => {
-                let text = text_of(alloc, bytes, file.name.as_str())?;
+                let text = text_of(alloc, bytes, name.as_str())?;
                 Ok(Answer::Text(Some(text)))
             }
             None => Ok(Answer::Text(None)),

@@ -1,4 +1,8 @@
 //! The kinds of messages.
+ghost use Rattle.std.specs.Prelude.{◌≡◌};
+ghost use Rattle.tcl_serve.specs.Messages.{kind_named};
+ghost use Rattle.tcl_serve.specs.Names.{fields_of, kind_name};
+
 use crate::fields::Field;
 
 /// What messages do.
@@ -58,12 +62,16 @@ const KINDS: [Kind; 23] = [
 
 impl Kind {
     /// The kind of this name.
-    pub fn named(name: &str) -> Option<Kind> {
+    pub fn named(name: &str) -> Option<Kind>
+        ensures { result ≡ kind_named name.now }
+    {
         KINDS.iter().copied().find(|kind| kind.name() == name)
     }
 
     /// Its name, which stands in the field `do`.
-    pub fn name(self) -> &'static str {
+    pub fn name(self) -> &'static str
+        ensures { result.now ≡ kind_name self }
+    {
         match self {
             Kind::MakeTree => "make_tree",
             Kind::DropTree => "drop_tree",
@@ -92,7 +100,9 @@ impl Kind {
     }
 
     /// Its fields, beside the id and what is done.
-    pub fn fields(self) -> &'static [Field] {
+    pub fn fields(self) -> &'static [Field]
+        ensures { result.now ≡ fields_of self }
+    {
         match self {
             Kind::MakeTree => &[Field::Integers],
             Kind::DropTree => &[Field::Tree],

@@ -1,19 +1,20 @@
 //! Trees of interpreters, served over lines of JSON on any reader and writer.
 #![tactic(auto)]
 
-pub mod acting;
+mod acting;
 pub mod answers;
-pub mod client;
-pub mod entering;
-pub mod evaluating;
+mod client;
+mod entering;
+mod evaluating;
 pub mod fields;
-pub mod hosts;
-pub mod keeping;
+mod hosts;
+mod keeping;
 pub mod kinds;
 pub mod lines;
 pub mod messages;
-pub mod numbered;
-pub mod outside;
+mod numbered;
+mod outside;
 pub mod refusals;
+mod served;
 pub mod serving;
-pub mod session;
+mod session;

@@ -1,7 +1,14 @@
 //! Lines, as they are read and written.
+ghost use Rattle.std.specs.Prelude.{◌≡◌, ◌⊎◌, ◌+◌, ◌<◌, ◌≤◌, ◌++◌, IfErr, OnOk, length, vec_len};
+ghost use Rattle.std.specs.Io.KnownBytes.{Keeps};
+ghost use Rattle.tcl_serve.specs.Lines.{Reads, ReadsLine, WritesLine, most_line, out_of_memory};
+ghost use Rattle.tcl_serve.specs.declared.lines.LineFault.TheVariants.{Memory, TooLong};
+ghost use Rattle.tcl_serve.specs.declared.lines.LineFault.TheVariants.{Unwritable};
+
 use memchr::memchr;
 use std::alloc::{AllocError, Global};
 use std::io::{BufRead, ErrorKind, Write};
+use std::marker::Model;
 
 /// The most bytes of a line that is read, its newline left out.
 pub const MOST_LINE: usize = 67_108_864;
@@ -22,6 +29,8 @@ pub enum LineFault {
 }
 
 impl From<AllocError> for LineFault {
+    ghost from_gives = { λ _ e. e ≡ Memory };
+
     fn from(_error: AllocError) -> LineFault {
         LineFault::Memory
     }
@@ -38,7 +47,13 @@ enum Step {
 }
 
 /// Puts bytes at the end of a line.
-fn append(line: &mut Vec<u8>, bytes: &[u8]) -> Result<(), LineFault> {
+fn append(line: &mut Vec<u8>, bytes: &[u8]) -> Result<(), LineFault>
+    requires { vec_len line.old ≤ most_line }
+    ensures appended { OnOk result (line.new.items ≡ line.old.items ++ bytes.now) }
+    ensures within { OnOk result (vec_len line.new ≤ most_line) }
+    ensures fault { IfErr result (λ e. (e ≡ Memory) ⊎
+        ((e ≡ TooLong) × (most_line < vec_len line.old + length bytes.now))) }
+{
     if bytes.len() > MOST_LINE - line.len() {
         return Err(LineFault::TooLong);
     }
@@ -47,7 +62,12 @@ fn append(line: &mut Vec<u8>, bytes: &[u8]) -> Result<(), LineFault> {
 }
 
 /// Takes what the reader has at hand of a line.
-fn append_shown<R: BufRead>(reader: &mut R, line: &mut Vec<u8>) -> Result<Step, LineFault> {
+fn append_shown<R: BufRead>(reader: &mut R, line: &mut Vec<u8>) -> Result<Step, LineFault>
+    requires { vec_len line.old ≤ most_line }
+    ensures reads { Reads (R.remaining reader.old) (R.remaining reader.new) line.old.items
+        line.new.items result }
+    ensures within { OnOk result (vec_len line.new ≤ most_line) }
+{
     let shown = match reader.fill_buf() {
         Ok(shown) => shown,
         Err(error) => {
@@ -77,12 +97,12 @@ fn append_shown<R: BufRead>(reader: &mut R, line: &mut Vec<u8>) -> Result<Step, 
 }
 
 /// A reader of lines, and a writer.
-pub struct Lines<R, W> {
+pub struct Lines<R: BufRead + Drop, W: Write + Drop> {
     reader: R,
     writer: W,
 }
 
-impl<R: Drop, W: Drop> Drop for Lines<R, W> {
+impl<R: BufRead + Drop, W: Write + Drop> Drop for Lines<R, W> {
     fn drop(self) {
         let Lines {
             reader: _reader,
@@ -91,9 +111,22 @@ impl<R: Drop, W: Drop> Drop for Lines<R, W> {
     }
 }
 
-impl<R: BufRead, W: Write> Lines<R, W> {
+impl<R: BufRead + Drop, W: Write + Drop> Model for Lines<R, W> {
+    ghost use Rattle.tcl_serve.specs.Lines.{Traffic};
+
+    ghost Value = { Traffic };
+
+    ghost view = { λ l. record { unread = R.remaining l.reader; written = W.contents l.writer } };
+}
+
+impl<R: BufRead + Drop, W: Write + Drop> Lines<R, W> {
     /// Lines of this reader, and to this writer.
-    pub fn new(reader: R, writer: W) -> Lines<R, W> {
+    pub fn new(reader: R, writer: W) -> Lines<R, W>
+        ensures { result ≡ record {
+          unread = R.remaining reader;
+          written = W.contents writer;
+        } }
+    {
         Lines { reader, writer }
     }
 
@@ -101,7 +134,10 @@ impl<R: BufRead, W: Write> Lines<R, W> {
     ///
     /// # Errors
     /// All but that of the output. None of the line is left then.
-    pub fn read(&mut self, alloc: Global) -> Result<Option<Vec<u8>>, LineFault> {
+    pub fn read(&mut self, alloc: Global) -> Result<Option<Vec<u8>>, LineFault>
+        ensures reads { ReadsLine self.old.unread self.new.unread result }
+        ensures written { self.new.written ≡ self.old.written }
+    {
         let mut line = Vec::new(alloc);
         'steps: for _ in 0..u64::MAX {
             match append_shown(&mut self.reader, &mut line)? {
@@ -123,7 +159,11 @@ impl<R: BufRead, W: Write> Lines<R, W> {
     ///
     /// # Errors
     /// That of the output.
-    pub fn write(&mut self, line: &str) -> Result<(), LineFault> {
+    pub fn write(&mut self, line: &str) -> Result<(), LineFault>
+        ensures writes { OnOk result (WritesLine self.old line.now self.new) }
+        ensures fault { IfErr result (λ e. e ≡ Unwritable) }
+        ensures unread { self.new.unread ≡ self.old.unread }
+    {
         if self.writer.write_all(line.as_bytes()).is_err() {
             return Err(LineFault::Unwritable);
         }
@@ -138,7 +178,11 @@ impl<R: BufRead, W: Write> Lines<R, W> {
     ///
     /// # Errors
     /// That of the output.
-    pub fn write_out_of_memory(&mut self, id: Option<u64>) -> Result<(), LineFault> {
+    pub fn write_out_of_memory(&mut self, id: Option<u64>) -> Result<(), LineFault>
+        ensures writes { OnOk result (WritesLine self.old (out_of_memory id) self.new) }
+        ensures fault { IfErr result (λ e. e ≡ Unwritable) }
+        ensures unread { self.new.unread ≡ self.old.unread }
+    {
         let written = match id {
             Some(id) => writeln!(
                 self.writer,
@@ -156,7 +200,11 @@ impl<R: BufRead, W: Write> Lines<R, W> {
     }
 
     /// Hands on what was written.
-    fn hand_on(&mut self) -> Result<(), LineFault> {
+    fn hand_on(&mut self) -> Result<(), LineFault>
+        ensures written { Keeps self.old.written self.new.written }
+        ensures fault { IfErr result (λ e. e ≡ Unwritable) }
+        ensures unread { self.new.unread ≡ self.old.unread }
+    {
         if self.writer.flush().is_err() {
             return Err(LineFault::Unwritable);
         }

@@ -1,4 +1,18 @@
 //! The messages that lines are.
+ghost use Rattle.serde_json.specs.Read.{read};
+ghost use Rattle.serde_json.specs.View.{view};
+ghost use Rattle.std.specs.Prelude.{◌≡◌, ◌≢◌, ◌⊎◌, Err, IfErr, IfOk, IsUtf8, Ok, Some};
+ghost use Rattle.tcl_serve.specs.Messages.{IsNoJson, SaysOrWants, alias_in, alias_to_client_in};
+ghost use Rattle.tcl_serve.specs.Messages.{ask_of, asked, asks_in, asks_of, channel_of};
+ghost use Rattle.tcl_serve.specs.Messages.{clear_alias_in, compare_in, create_in, evaluation_in};
+ghost use Rattle.tcl_serve.specs.Messages.{evaluation_of, id_in, kind_in, limit_count_in};
+ghost use Rattle.tcl_serve.specs.Messages.{limit_depth_in, make_tree_in, on_tree, place_in};
+ghost use Rattle.tcl_serve.specs.Messages.{place_of, put_file_in, replay_in, return_in, said_of};
+ghost use Rattle.tcl_serve.specs.Messages.{said_under, take_output_in, watch_in};
+ghost use Rattle.tcl_serve.specs.declared.messages.Ask.TheVariants as ask;
+ghost use Rattle.tcl_serve.specs.declared.messages.Message.TheVariants as message;
+ghost use Rattle.tcl_serve.specs.declared.refusals.Refusal.TheVariants.{Memory};
+
 use crate::fields::{
     Field, flag_in, integer_in, number_in, number_or_null_in, only, optional_number_in, str_in,
     text_in, texts_in,
@@ -14,13 +28,6 @@ use tcl_tree::node::MOST_STEPS;
 /// How many steps an evaluation or a replay may make where its message doesn't say.
 pub const STEPS: u64 = 10_000_000;
 
-/// A tree is made.
-#[derive(Drop)]
-pub struct MakeTree {
-    /// How integer texts are read in it.
-    pub integers: Integers,
-}
-
 /// An interpreter of a tree.
 #[derive(Drop)]
 pub struct Interpreter {
@@ -33,10 +40,101 @@ pub struct Interpreter {
 /// An interpreter is made.
 #[derive(Drop)]
 pub struct Create {
-    /// The interpreter.
-    pub interpreter: Interpreter,
+    /// Its path.
+    pub path: Vec<Text>,
     /// Whether it is safe in any case.
     pub safe: bool,
+}
+
+/// A name of an interpreter becomes an alias to another one.
+#[derive(Drop)]
+pub struct Alias {
+    /// The interpreter's path.
+    pub path: Vec<Text>,
+    /// The name.
+    pub name: Text,
+    /// The path of the other interpreter.
+    pub to: Vec<Text>,
+    /// The words with which calls begin there.
+    pub words: Vec<Text>,
+}
+
+/// A name of an interpreter becomes an alias to the client.
+#[derive(Drop)]
+pub struct AliasToClient {
+    /// The interpreter's path.
+    pub path: Vec<Text>,
+    /// The name.
+    pub name: Text,
+    /// The words with which calls begin.
+    pub words: Vec<Text>,
+}
+
+/// An alias of an interpreter is taken away.
+#[derive(Drop)]
+pub struct ClearAlias {
+    /// The interpreter's path.
+    pub path: Vec<Text>,
+    /// The alias's name.
+    pub name: Text,
+}
+
+/// The limit of steps of an interpreter is set, or taken away.
+#[derive(Drop)]
+pub struct LimitCount {
+    /// The interpreter's path.
+    pub path: Vec<Text>,
+    /// The limit.
+    pub count: Option<u64>,
+}
+
+/// The limit of depth of an interpreter is set.
+#[derive(Drop)]
+pub struct LimitDepth {
+    /// The interpreter's path.
+    pub path: Vec<Text>,
+    /// The limit.
+    pub depth: u64,
+}
+
+/// A file is put into the place of any that has its name.
+#[derive(Drop)]
+pub struct PutFile {
+    /// The file's name.
+    pub name: Text,
+    /// What it holds.
+    pub text: Text,
+}
+
+/// A channel that scripts write to.
+#[derive(Clone, Copy, Debug, PartialEq, Eq)]
+pub enum Channel {
+    /// `stdout`.
+    Output,
+    /// `stderr`.
+    Errors,
+}
+
+/// What is asked of a tree that evaluates no script.
+#[derive(Drop)]
+pub enum Ask {
+    Create(Create),
+    /// The interpreter at the path is deleted.
+    Delete(Vec<Text>),
+    Alias(Alias),
+    AliasToClient(AliasToClient),
+    ClearAlias(ClearAlias),
+    LimitCount(LimitCount),
+    LimitDepth(LimitDepth),
+    /// The interpreter at the path is looked at.
+    Look(Vec<Text>),
+    PutFile(PutFile),
+    /// The file of this name is read.
+    GetFile(Text),
+    /// The text is put behind what can be read from `stdin`.
+    PutInput(Text),
+    /// What was written to the channel is taken.
+    TakeOutput(Channel),
 }
 
 /// A script is evaluated in an interpreter.
@@ -50,104 +148,6 @@ pub struct Evaluate {
     pub limit: Option<u64>,
 }
 
-/// A name of an interpreter becomes an alias to another one.
-#[derive(Drop)]
-pub struct Alias {
-    /// The interpreter.
-    pub interpreter: Interpreter,
-    /// The name.
-    pub name: Text,
-    /// The path of the other interpreter.
-    pub to: Vec<Text>,
-    /// The words with which calls begin there.
-    pub words: Vec<Text>,
-}
-
-/// A name of an interpreter becomes an alias to the client.
-#[derive(Drop)]
-pub struct AliasToClient {
-    /// The interpreter.
-    pub interpreter: Interpreter,
-    /// The name.
-    pub name: Text,
-    /// The words with which calls begin.
-    pub words: Vec<Text>,
-}
-
-/// An alias of an interpreter is taken away.
-#[derive(Drop)]
-pub struct ClearAlias {
-    /// The interpreter.
-    pub interpreter: Interpreter,
-    /// The alias's name.
-    pub name: Text,
-}
-
-/// The limit of steps of an interpreter is set, or taken away.
-#[derive(Drop)]
-pub struct LimitCount {
-    /// The interpreter.
-    pub interpreter: Interpreter,
-    /// The limit.
-    pub count: Option<u64>,
-}
-
-/// The limit of depth of an interpreter is set.
-#[derive(Drop)]
-pub struct LimitDepth {
-    /// The interpreter.
-    pub interpreter: Interpreter,
-    /// The limit.
-    pub depth: u64,
-}
-
-/// A file is put into the place of any that has its name.
-#[derive(Drop)]
-pub struct PutFile {
-    /// The tree's number.
-    pub tree: u64,
-    /// The file's name.
-    pub name: Text,
-    /// What it holds.
-    pub text: Text,
-}
-
-/// A file is read.
-#[derive(Drop)]
-pub struct GetFile {
-    /// The tree's number.
-    pub tree: u64,
-    /// The file's name.
-    pub name: Text,
-}
-
-/// A text is put behind what can be read from `stdin`.
-#[derive(Drop)]
-pub struct PutInput {
-    /// The tree's number.
-    pub tree: u64,
-    /// The text.
-    pub text: Text,
-}
-
-/// A channel that scripts write to.
-#[derive(Clone, Copy, Debug, PartialEq, Eq)]
-pub enum Channel {
-    /// `stdout`.
-    Output,
-    /// `stderr`.
-    Errors,
-}
-
-/// What was written to a channel is taken.
-#[derive(Drop)]
-pub struct TakeOutput {
-    /// The tree's number.
-    pub tree: u64,
-    /// The channel.
-    pub channel: Channel,
-}
-
 /// A script is evaluated, and what crosses the boundary of an interpreter meanwhile is recorded.
 #[derive(Drop)]
 pub struct Watch {
@@ -158,7 +158,7 @@ pub struct Watch {
 }
 
 /// Two saved interpreters are compared.
-#[derive(Drop)]
+#[derive(Clone, Copy, Debug)]
 pub struct Compare {
     /// The number of the one.
     pub saved: u64,
@@ -167,12 +167,12 @@ pub struct Compare {
 }
 
 /// A record is replayed to a saved interpreter.
-#[derive(Drop)]
+#[derive(Clone, Copy, Debug)]
 pub struct Replay {
     /// The number of the saved interpreter.
     pub saved: u64,
     /// The number of the record.
-    pub record: u64,
+    pub played: u64,
     /// How many steps it may make.
     pub limit: u64,
 }
@@ -191,24 +191,13 @@ pub struct Return {
 /// What a line asks for.
 #[derive(Drop)]
 pub enum Message {
-    MakeTree(MakeTree),
+    /// A tree is made, in which integer texts are read so.
+    MakeTree(Integers),
     /// The tree of this number is dropped.
     DropTree(u64),
-    Create(Create),
-    /// The interpreter is deleted.
-    Delete(Interpreter),
+    /// Something is asked of the tree of this number.
+    OnTree(u64, Ask),
     Evaluate(Evaluate),
-    Alias(Alias),
-    AliasToClient(AliasToClient),
-    ClearAlias(ClearAlias),
-    LimitCount(LimitCount),
-    LimitDepth(LimitDepth),
-    /// The interpreter is looked at.
-    Look(Interpreter),
-    PutFile(PutFile),
-    GetFile(GetFile),
-    PutInput(PutInput),
-    TakeOutput(TakeOutput),
     Watch(Watch),
     /// The interpreter is saved.
     Save(Interpreter),
@@ -233,7 +222,9 @@ pub struct Line {
 }
 
 /// What a line says.
-pub fn read_line(alloc: Global, line: &[u8]) -> Line {
+pub fn read_line(alloc: Global, line: &[u8]) -> Line
+    ensures { SaysOrWants line.now (said_of result) }
+{
     match json_of(alloc, line) {
         Ok(value) => line_of(alloc, &value),
         Err(refusal) => Line {
@@ -244,7 +235,10 @@ pub fn read_line(alloc: Global, line: &[u8]) -> Line {
 }
 
 /// The JSON that a line is.
-fn json_of(alloc: Global, line: &[u8]) -> Result<Value, Refusal> {
+fn json_of(alloc: Global, line: &[u8]) -> Result<Value, Refusal>
+    ensures ok { IfOk result (λ value. IsUtf8 line.now × (read line.now ≡ Some (view value))) }
+    ensures err { IfErr result (IsNoJson line.now) }
+{
     let Ok(text) = str::from_utf8(line) else {
         return Err(Refusal::NotUtf8);
     };
@@ -260,7 +254,10 @@ fn json_of(alloc: Global, line: &[u8]) -> Result<Value, Refusal> {
 }
 
 /// What a line of JSON says.
-fn line_of(alloc: Global, line: &Value) -> Line {
+fn line_of(alloc: Global, line: &Value) -> Line
+    ensures { (said_of result ≡ said_under (view line.now) (id_in (view line.now))) ⊎
+        ((said_of result).asks ≡ Err Memory) }
+{
     match id_of(line) {
         Ok(id) => Line {
             id: Some(id),
@@ -274,7 +271,10 @@ fn line_of(alloc: Global, line: &Value) -> Line {
 }
 
 /// The id of a line.
-fn id_of(line: &Value) -> Result<u64, Refusal> {
+fn id_of(line: &Value) -> Result<u64, Refusal>
+    ensures ok { IfOk result (λ r. id_in (view line.now) ≡ Ok r) }
+    ensures err { IfErr result (λ e. id_in (view line.now) ≡ Err e) }
+{
     if !line.is_object() {
         return Err(Refusal::NotObject);
     }
@@ -282,25 +282,36 @@ fn id_of(line: &Value) -> Result<u64, Refusal> {
 }
 
 /// What a line asks for.
-fn message_of(alloc: Global, line: &Value) -> Result<Message, Refusal> {
+fn message_of(alloc: Global, line: &Value) -> Result<Message, Refusal>
+    ensures ok { IfOk result (λ r. asks_in (view line.now) ≡ Ok (asks_of r)) }
+    ensures err { IfErr result (λ e. e ≢ Memory → asks_in (view line.now) ≡ Err e) }
+{
     let kind = kind_of(alloc, line)?;
     only(alloc, line, kind.fields())?;
+    message_as(alloc, line, kind)
+}
+
+/// What a message of this kind asks for.
+fn message_as(alloc: Global, line: &Value, kind: Kind) -> Result<Message, Refusal>
+    ensures ok { IfOk result (λ r. asked kind (view line.now) ≡ Ok (asks_of r)) }
+    ensures err { IfErr result (λ e. e ≢ Memory → asked kind (view line.now) ≡ Err e) }
+{
     match kind {
         Kind::MakeTree => Ok(Message::MakeTree(make_tree_in(line)?)),
         Kind::DropTree => Ok(Message::DropTree(number_in(line, Field::Tree)?)),
-        Kind::Create => Ok(Message::Create(create_in(alloc, line)?)),
-        Kind::Delete => Ok(Message::Delete(interpreter_in(alloc, line)?)),
+        Kind::Create => on_tree(line, Ask::Create(create_in(alloc, line)?)),
+        Kind::Delete => on_tree(line, Ask::Delete(texts_in(alloc, line, Field::Path)?)),
         Kind::Evaluate => Ok(Message::Evaluate(evaluate_in(alloc, line)?)),
-        Kind::Alias => Ok(Message::Alias(alias_in(alloc, line)?)),
-        Kind::AliasToClient => Ok(Message::AliasToClient(alias_to_client_in(alloc, line)?)),
-        Kind::ClearAlias => Ok(Message::ClearAlias(clear_alias_in(alloc, line)?)),
-        Kind::LimitCount => Ok(Message::LimitCount(limit_count_in(alloc, line)?)),
-        Kind::LimitDepth => Ok(Message::LimitDepth(limit_depth_in(alloc, line)?)),
-        Kind::Look => Ok(Message::Look(interpreter_in(alloc, line)?)),
-        Kind::PutFile => Ok(Message::PutFile(put_file_in(alloc, line)?)),
-        Kind::GetFile => Ok(Message::GetFile(get_file_in(alloc, line)?)),
-        Kind::PutInput => Ok(Message::PutInput(put_input_in(alloc, line)?)),
-        Kind::TakeOutput => Ok(Message::TakeOutput(take_output_in(line)?)),
+        Kind::Alias => on_tree(line, Ask::Alias(alias_in(alloc, line)?)),
+        Kind::AliasToClient => on_tree(line, Ask::AliasToClient(alias_to_client_in(alloc, line)?)),
+        Kind::ClearAlias => on_tree(line, Ask::ClearAlias(clear_alias_in(alloc, line)?)),
+        Kind::LimitCount => on_tree(line, Ask::LimitCount(limit_count_in(alloc, line)?)),
+        Kind::LimitDepth => on_tree(line, Ask::LimitDepth(limit_depth_in(alloc, line)?)),
+        Kind::Look => on_tree(line, Ask::Look(texts_in(alloc, line, Field::Path)?)),
+        Kind::PutFile => on_tree(line, Ask::PutFile(put_file_in(alloc, line)?)),
+        Kind::GetFile => on_tree(line, Ask::GetFile(text_in(alloc, line, Field::Name)?)),
+        Kind::PutInput => on_tree(line, Ask::PutInput(text_in(alloc, line, Field::Text)?)),
+        Kind::TakeOutput => on_tree(line, Ask::TakeOutput(channel_in(line)?)),
         Kind::Watch => Ok(Message::Watch(watch_in(alloc, line)?)),
         Kind::Save => Ok(Message::Save(interpreter_in(alloc, line)?)),
         Kind::Compare => Ok(Message::Compare(compare_in(line)?)),
@@ -312,37 +323,64 @@ fn message_of(alloc: Global, line: &Value) -> Result<Message, Refusal> {
     }
 }
 
+/// A message that asks this of a tree.
+fn on_tree(line: &Value, asking: Ask) -> Result<Message, Refusal>
+    ensures ok { IfOk result (λ r. on_tree (view line.now) (ask_of asking) ≡ Ok (asks_of r)) }
+    ensures err { IfErr result (λ e. on_tree (view line.now) (ask_of asking) ≡ Err e) }
+{
+    let tree = number_in(line, Field::Tree)?;
+    Ok(Message::OnTree(tree, asking))
+}
+
 /// What kind of message a line is.
-fn kind_of(alloc: Global, line: &Value) -> Result<Kind, Refusal> {
+fn kind_of(alloc: Global, line: &Value) -> Result<Kind, Refusal>
+    ensures ok { IfOk result (λ r. kind_in (view line.now) ≡ Ok r) }
+    ensures err { IfErr result (λ e. e ≢ Memory → kind_in (view line.now) ≡ Err e) }
+{
     let name = str_in(line, Field::Do)?;
     match Kind::named(name) {
         Some(kind) => Ok(kind),
-        None => Err(Refusal::UnknownMessage(String::from_str(alloc, name)?)),
+        None => Err(Refusal::UnknownMessage(Text::new(alloc, name)?)),
     }
 }
 
-fn make_tree_in(line: &Value) -> Result<MakeTree, Refusal> {
-    let integers = match optional_number_in(line, Field::Integers)? {
-        None | Some(8) => Integers::Tcl8,
-        Some(9) => Integers::Tcl9,
-        Some(_) => return Err(Refusal::OutOfRange(Field::Integers)),
-    };
-    Ok(MakeTree { integers })
+/// How integer texts are to be read in a tree.
+fn make_tree_in(line: &Value) -> Result<Integers, Refusal>
+    ensures ok { IfOk result (λ r. make_tree_in (view line.now) ≡ Ok r) }
+    ensures err { IfErr result (λ e. make_tree_in (view line.now) ≡ Err e) }
+{
+    match optional_number_in(line, Field::Integers)? {
+        None | Some(8) => Ok(Integers::Tcl8),
+        Some(9) => Ok(Integers::Tcl9),
+        Some(_) => Err(Refusal::OutOfRange(Field::Integers)),
+    }
 }
 
-fn interpreter_in(alloc: Global, line: &Value) -> Result<Interpreter, Refusal> {
+/// The interpreter of a message.
+fn interpreter_in(alloc: Global, line: &Value) -> Result<Interpreter, Refusal>
+    ensures ok { IfOk result (λ r. place_in (view line.now) ≡ Ok (place_of r)) }
+    ensures err { IfErr result (λ e. e ≢ Memory → place_in (view line.now) ≡ Err e) }
+{
     let tree = number_in(line, Field::Tree)?;
     let path = texts_in(alloc, line, Field::Path)?;
     Ok(Interpreter { tree, path })
 }
 
-fn create_in(alloc: Global, line: &Value) -> Result<Create, Refusal> {
+/// An interpreter that is to be made.
+fn create_in(alloc: Global, line: &Value) -> Result<Create, Refusal>
+    ensures ok { IfOk result (λ r. create_in (view line.now) ≡ Ok (ask_of (ask.Create r))) }
+    ensures err { IfErr result (λ e. e ≢ Memory → create_in (view line.now) ≡ Err e) }
+{
     let safe = flag_in(line, Field::Safe)?;
-    let interpreter = interpreter_in(alloc, line)?;
-    Ok(Create { interpreter, safe })
+    let path = texts_in(alloc, line, Field::Path)?;
+    Ok(Create { path, safe })
 }
 
-fn evaluate_in(alloc: Global, line: &Value) -> Result<Evaluate, Refusal> {
+/// An evaluation.
+fn evaluate_in(alloc: Global, line: &Value) -> Result<Evaluate, Refusal>
+    ensures ok { IfOk result (λ r. evaluation_in (view line.now) ≡ Ok (evaluation_of r)) }
+    ensures err { IfErr result (λ e. e ≢ Memory → evaluation_in (view line.now) ≡ Err e) }
+{
     let limit = optional_number_in(line, Field::Limit)?;
     let interpreter = interpreter_in(alloc, line)?;
     let script = text_in(alloc, line, Field::Script)?;
@@ -353,78 +391,91 @@ fn evaluate_in(alloc: Global, line: &Value) -> Result<Evaluate, Refusal> {
     })
 }
 
-fn alias_in(alloc: Global, line: &Value) -> Result<Alias, Refusal> {
-    let interpreter = interpreter_in(alloc, line)?;
+/// An alias.
+fn alias_in(alloc: Global, line: &Value) -> Result<Alias, Refusal>
+    ensures ok { IfOk result (λ r. alias_in (view line.now) ≡ Ok (ask_of (ask.Alias r))) }
+    ensures err { IfErr result (λ e. e ≢ Memory → alias_in (view line.now) ≡ Err e) }
+{
+    let path = texts_in(alloc, line, Field::Path)?;
     let name = text_in(alloc, line, Field::Name)?;
     let to = texts_in(alloc, line, Field::To)?;
     let words = texts_in(alloc, line, Field::Words)?;
     Ok(Alias {
-        interpreter,
+        path,
         name,
         to,
         words,
     })
 }
 
-fn alias_to_client_in(alloc: Global, line: &Value) -> Result<AliasToClient, Refusal> {
-    let interpreter = interpreter_in(alloc, line)?;
+/// An alias to the client.
+fn alias_to_client_in(alloc: Global, line: &Value) -> Result<AliasToClient, Refusal>
+    ensures ok { IfOk result (λ r. alias_to_client_in (view line.now) ≡ Ok (ask_of (ask.AliasToClient r))) }
+    ensures err { IfErr result (λ e. e ≢ Memory → alias_to_client_in (view line.now) ≡ Err e) }
+{
+    let path = texts_in(alloc, line, Field::Path)?;
     let name = text_in(alloc, line, Field::Name)?;
     let words = texts_in(alloc, line, Field::Words)?;
-    Ok(AliasToClient {
-        interpreter,
-        name,
-        words,
-    })
+    Ok(AliasToClient { path, name, words })
 }
 
-fn clear_alias_in(alloc: Global, line: &Value) -> Result<ClearAlias, Refusal> {
-    let interpreter = interpreter_in(alloc, line)?;
+/// An alias that is to be taken away.
+fn clear_alias_in(alloc: Global, line: &Value) -> Result<ClearAlias, Refusal>
+    ensures ok { IfOk result (λ r. clear_alias_in (view line.now) ≡ Ok (ask_of (ask.ClearAlias r))) }
+    ensures err { IfErr result (λ e. e ≢ Memory → clear_alias_in (view line.now) ≡ Err e) }
+{
+    let path = texts_in(alloc, line, Field::Path)?;
     let name = text_in(alloc, line, Field::Name)?;
-    Ok(ClearAlias { interpreter, name })
+    Ok(ClearAlias { path, name })
 }
 
-fn limit_count_in(alloc: Global, line: &Value) -> Result<LimitCount, Refusal> {
+/// A limit of steps.
+fn limit_count_in(alloc: Global, line: &Value) -> Result<LimitCount, Refusal>
+    ensures ok { IfOk result (λ r. limit_count_in (view line.now) ≡ Ok (ask_of (ask.LimitCount r))) }
+    ensures err { IfErr result (λ e. e ≢ Memory → limit_count_in (view line.now) ≡ Err e) }
+{
     let count = number_or_null_in(line, Field::Count)?;
     if count.unwrap_or(0) > MOST_STEPS {
         return Err(Refusal::OutOfRange(Field::Count));
     }
-    let interpreter = interpreter_in(alloc, line)?;
-    Ok(LimitCount { interpreter, count })
+    let path = texts_in(alloc, line, Field::Path)?;
+    Ok(LimitCount { path, count })
 }
 
-fn limit_depth_in(alloc: Global, line: &Value) -> Result<LimitDepth, Refusal> {
+/// A limit of depth.
+fn limit_depth_in(alloc: Global, line: &Value) -> Result<LimitDepth, Refusal>
+    ensures ok { IfOk result (λ r. limit_depth_in (view line.now) ≡ Ok (ask_of (ask.LimitDepth r))) }
+    ensures err { IfErr result (λ e. e ≢ Memory → limit_depth_in (view line.now) ≡ Err e) }
+{
     let depth = number_in(line, Field::Depth)?;
-    let interpreter = interpreter_in(alloc, line)?;
-    Ok(LimitDepth { interpreter, depth })
+    let path = texts_in(alloc, line, Field::Path)?;
+    Ok(LimitDepth { path, depth })
 }
 
-fn put_file_in(alloc: Global, line: &Value) -> Result<PutFile, Refusal> {
-    let tree = number_in(line, Field::Tree)?;
+/// A file.
+fn put_file_in(alloc: Global, line: &Value) -> Result<PutFile, Refusal>
+    ensures ok { IfOk result (λ r. put_file_in (view line.now) ≡ Ok (ask_of (ask.PutFile r))) }
+    ensures err { IfErr result (λ e. e ≢ Memory → put_file_in (view line.now) ≡ Err e) }
+{
     let name = text_in(alloc, line, Field::Name)?;
     let text = text_in(alloc, line, Field::Text)?;
-    Ok(PutFile { tree, name, text })
+    Ok(PutFile { name, text })
 }
 
-fn get_file_in(alloc: Global, line: &Value) -> Result<GetFile, Refusal> {
-    let tree = number_in(line, Field::Tree)?;
-    let name = text_in(alloc, line, Field::Name)?;
-    Ok(GetFile { tree, name })
-}
-
-fn put_input_in(alloc: Global, line: &Value) -> Result<PutInput, Refusal> {
-    let tree = number_in(line, Field::Tree)?;
-    let text = text_in(alloc, line, Field::Text)?;
-    Ok(PutInput { tree, text })
-}
-
-fn take_output_in(line: &Value) -> Result<TakeOutput, Refusal> {
-    let tree = number_in(line, Field::Tree)?;
-    let channel = channel_of(str_in(line, Field::Channel)?)?;
-    Ok(TakeOutput { tree, channel })
+/// The channel of a message.
+fn channel_in(line: &Value) -> Result<Channel, Refusal>
+    ensures ok { IfOk result (λ r. take_output_in (view line.now) ≡ Ok (ask_of (ask.TakeOutput r))) }
+    ensures err { IfErr result (λ e. take_output_in (view line.now) ≡ Err e) }
+{
+    let name = str_in(line, Field::Channel)?;
+    channel_of(name)
 }
 
 /// The channel of a name.
-fn channel_of(name: &str) -> Result<Channel, Refusal> {
+fn channel_of(name: &str) -> Result<Channel, Refusal>
+    ensures ok { IfOk result (λ r. channel_of name.now ≡ Ok r) }
+    ensures err { IfErr result (λ e. channel_of name.now ≡ Err e) }
+{
     match name {
         "stdout" => Ok(Channel::Output),
         "stderr" => Ok(Channel::Errors),
@@ -432,30 +483,46 @@ fn channel_of(name: &str) -> Result<Channel, Refusal> {
     }
 }
 
-fn watch_in(alloc: Global, line: &Value) -> Result<Watch, Refusal> {
+/// An evaluation that is to be watched.
+fn watch_in(alloc: Global, line: &Value) -> Result<Watch, Refusal>
+    ensures ok { IfOk result (λ r. watch_in (view line.now) ≡ Ok (asks_of (message.Watch r))) }
+    ensures err { IfErr result (λ e. e ≢ Memory → watch_in (view line.now) ≡ Err e) }
+{
     let evaluate = evaluate_in(alloc, line)?;
     let watched = texts_in(alloc, line, Field::Watched)?;
     Ok(Watch { evaluate, watched })
 }
 
-fn compare_in(line: &Value) -> Result<Compare, Refusal> {
+/// Two saved interpreters.
+fn compare_in(line: &Value) -> Result<Compare, Refusal>
+    ensures ok { IfOk result (λ r. compare_in (view line.now) ≡ Ok (asks_of (message.Compare r))) }
+    ensures err { IfErr result (λ e. compare_in (view line.now) ≡ Err e) }
+{
     let saved = number_in(line, Field::Saved)?;
     let with = number_in(line, Field::With)?;
     Ok(Compare { saved, with })
 }
 
-fn replay_in(line: &Value) -> Result<Replay, Refusal> {
+/// A replay.
+fn replay_in(line: &Value) -> Result<Replay, Refusal>
+    ensures ok { IfOk result (λ r. replay_in (view line.now) ≡ Ok (asks_of (message.Replay r))) }
+    ensures err { IfErr result (λ e. replay_in (view line.now) ≡ Err e) }
+{
     let saved = number_in(line, Field::Saved)?;
-    let record = number_in(line, Field::Record)?;
+    let played = number_in(line, Field::Record)?;
     let limit = optional_number_in(line, Field::Limit)?.unwrap_or(STEPS);
     Ok(Replay {
         saved,
-        record,
+        played,
         limit,
     })
 }
 
-fn return_in(alloc: Global, line: &Value) -> Result<Return, Refusal> {
+/// The answer to a call.
+fn return_in(alloc: Global, line: &Value) -> Result<Return, Refusal>
+    ensures ok { IfOk result (λ r. return_in (view line.now) ≡ Ok (asks_of (message.Return r))) }
+    ensures err { IfErr result (λ e. e ≢ Memory → return_in (view line.now) ≡ Err e) }
+{
     let call = number_in(line, Field::Call)?;
     let code = integer_in(line, Field::Code)?;
     let text = text_in(alloc, line, Field::Text)?;

@@ -6,7 +6,8 @@ use std::collections::BTreeMap;
 pub struct Numbered<T> {
     // the number that was given last
     last: u64,
-    held: BTreeMap<u64, T>,
+    /// What is kept.
+    pub held: BTreeMap<u64, T>,
 }
 
 impl<T: Drop> Drop for Numbered<T> {
@@ -40,20 +41,5 @@ impl<T: Drop> Numbered<T> {
         self.held.insert(number, thing)?;
         self.last = number;
         Ok(number)
-    }
-
-    /// The thing of a number.
-    pub fn get(&self, number: u64) -> Option<&T> {
-        self.held.get(&number)
-    }
-
-    /// The thing of a number, to be changed.
-    pub fn get_mut(&mut self, number: u64) -> Option<&mut T> {
-        self.held.get_mut(&number)
-    }
-
-    /// Takes the thing of a number away.
-    pub fn remove(&mut self, number: u64) -> Option<T> {
-        self.held.remove(&number)
     }
 }

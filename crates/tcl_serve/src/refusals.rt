@@ -1,4 +1,13 @@
 //! Why a message isn't done.
+ghost use Rattle.std.specs.Prelude.{◌≡◌, IfOk};
+ghost use Rattle.std.specs.String.{string_bytes};
+ghost use Rattle.tcl_serve.specs.Refusals.{about, line_number, line_text, number_of, of_replaying};
+ghost use Rattle.tcl_serve.specs.Refusals.{of_saving, of_value, play_number, play_text};
+ghost use Rattle.tcl_serve.specs.Refusals.{run_number, run_text, text_of, told_number};
+ghost use Rattle.tcl_serve.specs.Refusals.{tree_number};
+ghost use Rattle.tcl_serve.specs.declared.refusals.Refusal.TheVariants.{Memory, Nothing, NotOpen};
+ghost use Rattle.tcl_serve.specs.declared.refusals.Refusal.TheVariants.{WrongType};
+
 use crate::fields::Field;
 use crate::lines::LineFault;
 use std::alloc::{AllocError, AllocFailed, Global};
@@ -9,7 +18,7 @@ use tcl_text::text::Text;
 use tcl_tree::refusal::TreeError;
 use tcl_value::value::ValueError;
 
-/// Why a message isn't done. Each has a number, which docs/REFUSALS.md tells.
+/// Why a message isn't done. Each has a number, which docs/PROTOCOL.md tells.
 #[derive(Drop)]
 pub enum Refusal {
     /// 500: memory was wanted.
@@ -21,9 +30,9 @@ pub enum Refusal {
     /// 503: the line isn't an object.
     NotObject,
     /// 504: no message does this.
-    UnknownMessage(String),
+    UnknownMessage(Text),
     /// 505: the message has no such field.
-    UnknownField(String),
+    UnknownField(Text),
     /// 506: the field is missing.
     Missing(Field),
     /// 507: what stands in the field is of another type.
@@ -59,18 +68,24 @@ pub enum Refusal {
 }
 
 impl From<AllocError> for Refusal {
+    ghost from_gives = { λ _ e. e ≡ Memory };
+
     fn from(_error: AllocError) -> Refusal {
         Refusal::Memory
     }
 }
 
 impl<T: Drop> From<AllocFailed<T>> for Refusal {
+    ghost from_gives = { λ _ e. e ≡ Memory };
+
     fn from(_error: AllocFailed<T>) -> Refusal {
         Refusal::Memory
     }
 }
 
 impl From<ValueError> for Refusal {
+    ghost from_gives = { λ x e. e ≡ of_value x };
+
     fn from(error: ValueError) -> Refusal {
         match error {
             ValueError::Memory => Refusal::Memory,
@@ -80,7 +95,9 @@ impl From<ValueError> for Refusal {
 }
 
 /// The number of why no line comes or goes any more.
-fn line_number(fault: LineFault) -> u64 {
+fn line_number(fault: LineFault) -> u64
+    ensures { result ≡ line_number fault }
+{
     match fault {
         LineFault::TooLong => 514,
         LineFault::CutShort => 515,
@@ -91,7 +108,9 @@ fn line_number(fault: LineFault) -> u64 {
 }
 
 /// The number of what a call on a tree answers.
-fn tree_number(error: TreeError) -> u64 {
+fn tree_number(error: TreeError) -> u64
+    ensures { result ≡ tree_number error }
+{
     match error {
         TreeError::Memory => 500,
         TreeError::BadName => 238,
@@ -109,7 +128,9 @@ fn tree_number(error: TreeError) -> u64 {
 }
 
 /// The number of why there was no run.
-fn run_number(refused: Refused) -> u64 {
+fn run_number(refused: Refused) -> u64
+    ensures { result ≡ run_number refused }
+{
     match refused {
         Refused::Memory => 401,
         Refused::Broken => 402,
@@ -120,7 +141,9 @@ fn run_number(refused: Refused) -> u64 {
 }
 
 /// The number of why nothing was replayed.
-fn play_number(unplayed: Unplayed) -> u64 {
+fn play_number(unplayed: Unplayed) -> u64
+    ensures { result ≡ play_number unplayed }
+{
     match unplayed {
         Unplayed::Memory => 500,
         Unplayed::CountTooLarge => 404,
@@ -128,32 +151,42 @@ fn play_number(unplayed: Unplayed) -> u64 {
     }
 }
 
-/// How the texts begin that an interpreter says to an entry that evaluates nothing, with their
-/// numbers.
-const TOLD: [(&str, u64); 8] = [
-    ("value longer", 122),
-    ("bad name", 238),
-    ("could not find", 301),
-    ("interpreter", 303),
-    ("permission", 304),
-    ("invalid command", 305),
-    ("too many", 307),
-    ("recursion limit", 309),
-];
-
 /// The number of what an interpreter says to an entry that evaluates nothing.
-fn told_number(text: &str) -> u64 {
-    'texts: for (front, number) in &TOLD {
-        if text.starts_with(front) {
-            return *number;
-        }
+fn told_number(text: &str) -> u64
+    ensures { result ≡ told_number text.now }
+{
+    if text.starts_with("value longer") {
+        return 122;
+    }
+    if text.starts_with("bad name") {
+        return 238;
+    }
+    if text.starts_with("could not find") {
+        return 301;
+    }
+    if text.starts_with("interpreter") {
+        return 303;
+    }
+    if text.starts_with("permission") {
+        return 304;
+    }
+    if text.starts_with("invalid command") {
+        return 305;
+    }
+    if text.starts_with("too many") {
+        return 307;
+    }
+    if text.starts_with("recursion limit") {
+        return 309;
     }
     302
 }
 
 impl Refusal {
     /// Why an interpreter isn't saved.
-    pub fn of_saving(refused: Refused) -> Refusal {
+    pub fn of_saving(refused: Refused) -> Refusal
+        ensures { result ≡ of_saving refused }
+    {
         match refused {
             Refused::Memory => Refusal::Memory,
             other => Refusal::Run(other),
@@ -161,7 +194,9 @@ impl Refusal {
     }
 
     /// Why nothing was replayed.
-    pub fn of_replaying(unplayed: Unplayed) -> Refusal {
+    pub fn of_replaying(unplayed: Unplayed) -> Refusal
+        ensures { result ≡ of_replaying unplayed }
+    {
         match unplayed {
             Unplayed::Memory => Refusal::Memory,
             other => Refusal::Unplayed(other),
@@ -169,7 +204,9 @@ impl Refusal {
     }
 
     /// Its number.
-    pub fn number(&self) -> u64 {
+    pub fn number(&self) -> u64
+        ensures { result ≡ number_of self.now }
+    {
         match self {
             Refusal::Memory => 500,
             Refusal::NotUtf8 => 501,
@@ -200,17 +237,21 @@ impl Refusal {
     ///
     /// # Errors
     /// Want of memory.
-    pub fn text(&self, alloc: Global) -> Result<String, AllocError> {
+    pub fn text(&self, alloc: Global) -> Result<String, AllocError>
+        ensures { IfOk result (λ text. string_bytes text ≡ text_of self.now) }
+    {
         match self {
             Refusal::Memory => String::from_str(alloc, "out of memory"),
             Refusal::NotUtf8 => String::from_str(alloc, "the line is not UTF-8"),
             Refusal::NotJson => String::from_str(alloc, "the line is not JSON"),
             Refusal::NotObject => String::from_str(alloc, "the line is not an object"),
-            Refusal::UnknownMessage(name) => format!(in alloc; "unknown message \"{name}\""),
-            Refusal::UnknownField(name) => format!(in alloc; "unknown field \"{name}\""),
-            Refusal::Missing(field) => missing(alloc, *field),
+            Refusal::UnknownMessage(name) => about(alloc, "unknown message ", name.as_str(), ""),
+            Refusal::UnknownField(name) => about(alloc, "unknown field ", name.as_str(), ""),
+            Refusal::Missing(field) => about(alloc, "the field ", field.name(), " is missing"),
             Refusal::WrongType(field) => wrong_type(alloc, *field),
-            Refusal::OutOfRange(field) => out_of_range(alloc, *field),
+            Refusal::OutOfRange(field) => {
+                about(alloc, "the field ", field.name(), " is out of range")
+            }
             Refusal::Nothing(field, number) => nothing(alloc, *field, *number),
             Refusal::CallOpen => String::from_str(alloc, "a call is open"),
             Refusal::NotOpen(number) => not_open(alloc, *number),
@@ -222,50 +263,47 @@ impl Refusal {
             Refusal::Run(refused) => String::from_str(alloc, run_text(*refused)),
             Refusal::Deleted => String::from_str(alloc, "the watched interpreter was deleted"),
             Refusal::Unplayed(unplayed) => String::from_str(alloc, play_text(*unplayed)),
-            Refusal::NotText(name) => not_text(alloc, name),
+            Refusal::NotText(name) => about(alloc, "", name.as_str(), " is not UTF-8"),
             Refusal::Told(text) => String::from_str(alloc, text.as_str()),
         }
     }
 }
 
-/// The text of a missing field.
-fn missing(alloc: Global, field: Field) -> Result<String, AllocError> {
-    let name = field.name();
-    format!(in alloc; "the field \"{name}\" is missing")
+/// A name in quotation marks, and what stands before and behind it.
+fn about(alloc: Global, front: &str, name: &str, end: &str) -> Result<String, AllocError>
+    ensures { IfOk result (λ text. string_bytes text ≡ about front.now name.now end.now) }
+{
+    format!(in alloc; "{front}\"{name}\"{end}")
 }
 
 /// The text of a field of another type.
-fn wrong_type(alloc: Global, field: Field) -> Result<String, AllocError> {
-    let name = field.name();
+fn wrong_type(alloc: Global, field: Field) -> Result<String, AllocError>
+    ensures { IfOk result (λ text. string_bytes text ≡ text_of (WrongType field)) }
+{
     let wanted = field.field_type().name();
-    format!(in alloc; "the field \"{name}\" must be {wanted}")
-}
-
-/// The text of a field that can't have its value.
-fn out_of_range(alloc: Global, field: Field) -> Result<String, AllocError> {
-    let name = field.name();
-    format!(in alloc; "the field \"{name}\" is out of range")
+    let end = format!(in alloc; " must be {wanted}")?;
+    about(alloc, "the field ", field.name(), end.as_str())
 }
 
 /// The text of a number that nothing has.
-fn nothing(alloc: Global, field: Field, number: u64) -> Result<String, AllocError> {
-    let name = field.name();
-    format!(in alloc; "nothing has the number {number} of the field \"{name}\"")
+fn nothing(alloc: Global, field: Field, number: u64) -> Result<String, AllocError>
+    ensures { IfOk result (λ text. string_bytes text ≡ text_of (Nothing field number)) }
+{
+    let front = format!(in alloc; "nothing has the number {number} of the field ")?;
+    about(alloc, front.as_str(), field.name(), "")
 }
 
 /// The text of a call that isn't the open one.
-fn not_open(alloc: Global, number: u64) -> Result<String, AllocError> {
+fn not_open(alloc: Global, number: u64) -> Result<String, AllocError>
+    ensures { IfOk result (λ text. string_bytes text ≡ text_of (NotOpen number)) }
+{
     format!(in alloc; "call {number} is not open")
 }
 
-/// The text of what isn't UTF-8.
-fn not_text(alloc: Global, name: &Text) -> Result<String, AllocError> {
-    let name = name.as_str();
-    format!(in alloc; "\"{name}\" is not UTF-8")
-}
-
 /// The text of why no line comes or goes any more.
-fn line_text(fault: LineFault) -> &'static str {
+fn line_text(fault: LineFault) -> &'static str
+    ensures { result.now ≡ line_text fault }
+{
     match fault {
         LineFault::TooLong => "the line is longer than 67108864 bytes",
         LineFault::CutShort => "the input ends inside a line",
@@ -276,7 +314,9 @@ fn line_text(fault: LineFault) -> &'static str {
 }
 
 /// The text of why there was no run.
-fn run_text(refused: Refused) -> &'static str {
+fn run_text(refused: Refused) -> &'static str
+    ensures { result.now ≡ run_text refused }
+{
     match refused {
         Refused::Memory => "out of memory, and the tree is broken",
         Refused::Broken => "the tree is broken",
@@ -287,7 +327,9 @@ fn run_text(refused: Refused) -> &'static str {
 }
 
 /// The text of why nothing was replayed.
-fn play_text(unplayed: Unplayed) -> &'static str {
+fn play_text(unplayed: Unplayed) -> &'static str
+    ensures { result.now ≡ play_text unplayed }
+{
     match unplayed {
         Unplayed::Memory => "out of memory",
         Unplayed::CountTooLarge => "the count of steps would pass its limit",

@@ -1,38 +1,18 @@
 //! What a session keeps: trees, saved interpreters and records, under their numbers.
-use crate::acting::{
-    clear_alias, create, delete, limit_count, limit_depth, look, set_alias, set_client_alias,
-};
 use crate::answers::Answer;
 use crate::client::Client;
 use crate::evaluating::{evaluate, watch};
 use crate::fields::Field;
-use crate::hosts::ServedHost;
 use crate::keeping::replayed;
-use crate::messages::{Compare, Evaluate, Interpreter, MakeTree, Message, Replay, Watch};
+use crate::messages::{Ask, Compare, Evaluate, Interpreter, Message, Replay, Watch};
 use crate::numbered::Numbered;
 use crate::refusals::Refusal;
-use std::alloc::{AllocError, Global};
+use crate::served::ServedTree;
+use std::alloc::Global;
 use std::io::{BufRead, Write};
 use tcl_recorder::record::Record;
 use tcl_replay::saving::{Saved, save};
-use tcl_tree::tree::Tree;
-
-/// A tree, and its host.
-pub struct ServedTree {
-    /// The tree.
-    pub tree: Tree,
-    /// The host.
-    pub host: ServedHost,
-}
-
-impl Drop for ServedTree {
-    fn drop(self) {
-        let ServedTree {
-            tree: _tree,
-            host: _host,
-        } = self;
-    }
-}
+use tcl_text::integer::Integers;
 
 /// The trees, saved interpreters and records of a session.
 pub struct Session {
@@ -61,30 +41,6 @@ impl Session {
         }
     }
 
-    /// The tree of a number.
-    fn tree(&self, number: u64) -> Result<&ServedTree, Refusal> {
-        match self.trees.get(number) {
-            Some(served) => Ok(served),
-            None => Err(Refusal::Nothing(Field::Tree, number)),
-        }
-    }
-
-    /// The tree of a number, to be changed.
-    fn tree_mut(&mut self, number: u64) -> Result<&mut ServedTree, Refusal> {
-        match self.trees.get_mut(number) {
-            Some(served) => Ok(served),
-            None => Err(Refusal::Nothing(Field::Tree, number)),
-        }
-    }
-
-    /// The saved interpreter of a number.
-    fn saved(&self, number: u64, field: Field) -> Result<&Saved, Refusal> {
-        match self.saved.get(number) {
-            Some(saved) => Ok(saved),
-            None => Err(Refusal::Nothing(field, number)),
-        }
-    }
-
     /// Does what a message asks for, while no call is open.
     pub fn answer<R: BufRead + Drop, W: Write + Drop>(
         &mut self,
@@ -99,7 +55,10 @@ impl Session {
                 (client, answer)
             }
             Message::Watch(message) => self.watch(alloc, client, &message),
-            other => (client, self.act(alloc, other)),
+            other => {
+                let answer = self.act(alloc, &other);
+                (client, answer)
+            }
         }
     }
 
@@ -110,8 +69,11 @@ impl Session {
         client: &mut Client<R, W>,
         message: &Evaluate,
     ) -> Result<Answer, Refusal> {
-        let served = self.tree_mut(message.interpreter.tree)?;
-        evaluate(alloc, client, served, message)
+        let number = message.interpreter.tree;
+        match self.trees.held.get_mut(&number) {
+            Some(served) => evaluate(alloc, client, served, message),
+            None => Err(Refusal::Nothing(Field::Tree, number)),
+        }
     }
 
     /// Evaluates a script, and keeps the record of a boundary.
@@ -121,96 +83,57 @@ impl Session {
         client: Client<R, W>,
         message: &Watch,
     ) -> (Client<R, W>, Result<Answer, Refusal>) {
-        match self.trees.get_mut(message.evaluate.interpreter.tree) {
+        let number = message.evaluate.interpreter.tree;
+        match self.trees.held.get_mut(&number) {
             Some(served) => watch(alloc, client, served, message, &mut self.records),
-            None => {
-                let number = message.evaluate.interpreter.tree;
-                (client, Err(Refusal::Nothing(Field::Tree, number)))
-            }
+            None => (client, Err(Refusal::Nothing(Field::Tree, number))),
         }
     }
 
     /// Does what a message asks for that evaluates nothing.
-    fn act(&mut self, alloc: Global, message: Message) -> Result<Answer, Refusal> {
+    fn act(&mut self, alloc: Global, message: &Message) -> Result<Answer, Refusal> {
         match message {
-            Message::MakeTree(message) => self.make(alloc, &message),
-            Message::DropTree(number) => self.drop_tree(number),
-            Message::Create(message) => {
-                let served = self.tree_mut(message.interpreter.tree)?;
-                create(&mut served.tree, alloc, &message)
-            }
-            Message::Delete(message) => {
-                let served = self.tree_mut(message.tree)?;
-                delete(&mut served.tree, alloc, &message)
-            }
-            Message::Alias(message) => {
-                let served = self.tree_mut(message.interpreter.tree)?;
-                set_alias(&mut served.tree, alloc, &message)
-            }
-            Message::AliasToClient(message) => {
-                let served = self.tree_mut(message.interpreter.tree)?;
-                set_client_alias(&mut served.tree, alloc, &message)
-            }
-            Message::ClearAlias(message) => {
-                let served = self.tree_mut(message.interpreter.tree)?;
-                clear_alias(&mut served.tree, alloc, &message)
-            }
-            Message::LimitCount(message) => {
-                let served = self.tree_mut(message.interpreter.tree)?;
-                limit_count(&mut served.tree, alloc, &message)
-            }
-            Message::LimitDepth(message) => {
-                let served = self.tree_mut(message.interpreter.tree)?;
-                limit_depth(&mut served.tree, alloc, &message)
-            }
-            Message::Look(message) => {
-                let served = self.tree(message.tree)?;
-                look(&served.tree, alloc, message.path.as_slice())
-            }
-            Message::PutFile(message) => {
-                let served = self.tree_mut(message.tree)?;
-                served.host.put_file(alloc, &message)
-            }
-            Message::GetFile(message) => {
-                let served = self.tree(message.tree)?;
-                served.host.file(alloc, &message)
-            }
-            Message::PutInput(message) => {
-                let served = self.tree_mut(message.tree)?;
-                served.host.put_input(&message)
-            }
-            Message::TakeOutput(message) => {
-                let served = self.tree_mut(message.tree)?;
-                served.host.take(alloc, message.channel)
-            }
-            Message::Save(message) => self.save(&message),
-            Message::Compare(message) => self.compare(&message),
-            Message::Replay(message) => self.replay(alloc, &message),
-            Message::DropSaved(number) => self.drop_saved(number),
-            Message::DropRecord(number) => self.drop_record(number),
+            Message::MakeTree(integers) => self.make_tree(alloc, *integers),
+            Message::DropTree(number) => self.drop_tree(*number),
+            Message::OnTree(number, ask) => self.ask(alloc, *number, ask),
+            Message::Save(message) => self.save(message),
+            Message::Compare(message) => self.compare(*message),
+            Message::Replay(message) => self.replay(alloc, *message),
+            Message::DropSaved(number) => self.drop_saved(*number),
+            Message::DropRecord(number) => self.drop_record(*number),
             Message::Return(message) => Err(Refusal::NotOpen(message.call)),
-            Message::EndRun(call) => Err(Refusal::NotOpen(call)),
+            Message::EndRun(call) => Err(Refusal::NotOpen(*call)),
             Message::Evaluate(_) | Message::Watch(_) => Err(Refusal::CallOpen),
         }
     }
 
     /// Makes a tree.
-    fn make(&mut self, alloc: Global, message: &MakeTree) -> Result<Answer, Refusal> {
-        let served = served_tree(alloc, message)?;
+    fn make_tree(&mut self, alloc: Global, integers: Integers) -> Result<Answer, Refusal> {
+        let served = ServedTree::new(alloc, integers)?;
         Ok(Answer::Tree(self.trees.add(served)?))
     }
 
     /// Drops a tree.
     fn drop_tree(&mut self, number: u64) -> Result<Answer, Refusal> {
-        match self.trees.remove(number) {
+        match self.trees.held.remove(&number) {
             Some(_served) => Ok(Answer::Done),
+            None => Err(Refusal::Nothing(Field::Tree, number)),
+        }
+    }
+
+    /// Does what is asked of a tree.
+    fn ask(&mut self, alloc: Global, number: u64, ask: &Ask) -> Result<Answer, Refusal> {
+        match self.trees.held.get_mut(&number) {
+            Some(served) => served.act(alloc, ask),
             None => Err(Refusal::Nothing(Field::Tree, number)),
         }
     }
 
     /// Saves an interpreter.
     fn save(&mut self, message: &Interpreter) -> Result<Answer, Refusal> {
-        let served = self.tree(message.tree)?;
+        let Some(served) = self.trees.held.get(&message.tree) else {
+            return Err(Refusal::Nothing(Field::Tree, message.tree));
+        };
         match save(&served.tree, message.path.as_slice()) {
             Ok(saved) => Ok(Answer::Saved(self.saved.add(saved)?)),
             Err(refused) => Err(Refusal::of_saving(refused)),
@@ -218,26 +141,32 @@ impl Session {
     }
 
     /// Compares two saved interpreters.
-    fn compare(&self, message: &Compare) -> Result<Answer, Refusal> {
-        let one = self.saved(message.saved, Field::Saved)?;
-        let other = self.saved(message.with, Field::With)?;
+    fn compare(&self, message: Compare) -> Result<Answer, Refusal> {
+        let Some(one) = self.saved.held.get(&message.saved) else {
+            return Err(Refusal::Nothing(Field::Saved, message.saved));
+        };
+        let Some(other) = self.saved.held.get(&message.with) else {
+            return Err(Refusal::Nothing(Field::With, message.with));
+        };
         Ok(Answer::Same(one.same(other)))
     }
 
     /// Replays a record to a saved interpreter, and keeps what that leaves.
-    fn replay(&mut self, alloc: Global, message: &Replay) -> Result<Answer, Refusal> {
-        let saved = self.saved(message.saved, Field::Saved)?;
-        let Some(record) = self.records.get(message.record) else {
-            return Err(Refusal::Nothing(Field::Record, message.record));
+    fn replay(&mut self, alloc: Global, message: Replay) -> Result<Answer, Refusal> {
+        let Some(saved) = self.saved.held.get(&message.saved) else {
+            return Err(Refusal::Nothing(Field::Saved, message.saved));
         };
-        let replayed = replayed(alloc, saved, record, message.limit)?;
-        let number = self.saved.add(replayed.left)?;
-        Ok(Answer::Replayed(replayed.told.under(number)))
+        let Some(record) = self.records.held.get(&message.played) else {
+            return Err(Refusal::Nothing(Field::Record, message.played));
+        };
+        let replay = replayed(alloc, saved, record, message.limit)?;
+        let number = self.saved.add(replay.left)?;
+        Ok(Answer::Replayed(replay.told.under(number)))
     }
 
     /// Drops a saved interpreter.
     fn drop_saved(&mut self, number: u64) -> Result<Answer, Refusal> {
-        match self.saved.remove(number) {
+        match self.saved.held.remove(&number) {
             Some(_saved) => Ok(Answer::Done),
             None => Err(Refusal::Nothing(Field::Saved, number)),
         }
@@ -245,17 +174,9 @@ impl Session {
 
     /// Drops a record.
     fn drop_record(&mut self, number: u64) -> Result<Answer, Refusal> {
-        match self.records.remove(number) {
+        match self.records.held.remove(&number) {
             Some(_record) => Ok(Answer::Done),
             None => Err(Refusal::Nothing(Field::Record, number)),
         }
     }
-}
-
-/// A tree of a root alone, with a host that has nothing.
-fn served_tree(alloc: Global, message: &MakeTree) -> Result<ServedTree, AllocError> {
-    Ok(ServedTree {
-        tree: Tree::with_integers(alloc, message.integers)?,
-        host: ServedHost::new(alloc)?,
-    })
 }

@@ -5,9 +5,8 @@
 use std::io;
 use std::io::{BufReader, BufWriter};
 use std::process::ExitCode;
-use tcl_serve::client::Ending;
 use tcl_serve::lines::LineFault;
-use tcl_serve::serving::serve;
+use tcl_serve::serving::{Ending, serve};
 
 fn main(rt: HostRuntime) -> ExitCode {
     match ending(&rt) {
