@@ -101,8 +101,13 @@ abbrev pub refusal_line : Option ℕ → Refusal → List ℕ
 refusal_line id r = compact_text (object (member (codes "error") (error_data r)
     (member (codes "id") (number_data id) no_members)))
 
+-- of a call: its number, the tree's, who calls, and the words
+abbrev pub call_text : ℕ → ℕ → List Text → List Text → List ℕ
+call_text number tree interpreter words = compact_text (object
+    (member (codes "call") (number_data (Some number))
+    (member (codes "interpreter") (texts_data interpreter)
+    (member (codes "tree") (number_data (Some tree))
+    (member (codes "words") (texts_data words) no_members)))))
+
 abbrev pub call_line : Call → List ℕ
-call_line c = compact_text (object (member (codes "call") (number (unsigned c.number))
-    (member (codes "interpreter") (texts_data c.interpreter.items)
-    (member (codes "tree") (number (unsigned c.tree))
-    (member (codes "words") (texts_data c.words.items) no_members)))))
+call_line c = call_text c.number c.tree c.interpreter.items c.words.items

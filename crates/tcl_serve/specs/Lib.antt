@@ -1,6 +1,11 @@
+pub mod Acting
 pub mod Answers
+pub mod Clients
+pub mod Endings
 pub mod Fields
+pub mod Hosting
 pub mod Lines
 pub mod Messages
 pub mod Names
+pub mod Outside
 pub mod Refusals
