@@ -1,16 +1,16 @@
 -- What the client is told, and what is heard of it.
 use Rattle.std.specs.Io.KnownBytes.{Consumes, IsAtEnd}
-use Rattle.std.specs.Prelude.{◌≡◌, ◌⊎◌, ℕ, Bool, List, [], ◌∷◌, ◌++◌, Option, Some, None, Result, Ok, Err}
+use Rattle.std.specs.Prelude.{◌≡◌, ◌⊎◌, ℕ, Bool, List, [], ◌∷◌, ◌++◌, Option, Some, None, Result, Ok, Err, ⊤}
 use Rattle.tcl_serve.specs.Answers.{answer_line, refusal_line}
 use Rattle.tcl_serve.specs.Lines.{Traffic, WritesLine, out_of_memory}
-use Rattle.tcl_serve.specs.Messages.{Asks, Said, Says}
+use Rattle.tcl_serve.specs.Messages.{Asks, Said, Says, SaysOrWants}
 use Rattle.tcl_serve.specs.declared.answers.Answer.{Answer}
 use Rattle.tcl_serve.specs.declared.client.Awaited.{Awaited}
 use Rattle.tcl_serve.specs.declared.hosts.ServedHost.{ServedHost}
 use Rattle.tcl_serve.specs.declared.lines.LineFault.{LineFault}
 use Rattle.tcl_serve.specs.declared.lines.LineFault.TheVariants.{Unwritable}
 use Rattle.tcl_serve.specs.declared.refusals.Refusal.{Refusal}
-use Rattle.tcl_serve.specs.declared.refusals.Refusal.TheVariants.{Line, Memory}
+use Rattle.tcl_serve.specs.declared.refusals.Refusal.TheVariants.{Line}
 use Rattle.tcl_serve.specs.declared.serving.Ending.{Ending}
 use Rattle.tcl_serve.specs.declared.serving.Ending.TheVariants.{Finished, Failed}
 
@@ -50,7 +50,19 @@ reply_line id (Err e) = refusal_line (Some id) e
 abbrev pub Replies : Talking → ℕ → Result Answer Refusal → Talking → Type 0
 Replies o id r z = Answers o (Some id) (reply_line id r) z
 
+-- what becomes of it by a line that was to be written
+abbrev pub noted : Talking → Result ⊤ LineFault → Talking
+noted o (Ok u) = o
+noted o (Err fault) = record o { ending = Some (Failed fault) }
+
 -- ## What is heard of it
+
+-- bytes are no line that asks for something, and are answered so
+pub record Fails (o : Talking) (line : List ℕ) (z : Talking) : Type 0 where
+  pub id : Option ℕ
+  pub refusal : Refusal
+  pub says : SaysOrWants line (record { id = id; asks = Err refusal })
+  pub answers : Answers o id (refusal_line id refusal) z
 
 -- A line is read, which says this.
 pub record Reads (o : Talking) (said : Said) (z : Talking) : Type 0 where
@@ -65,16 +77,13 @@ pub record Reads (o : Talking) (said : Said) (z : Talking) : Type 0 where
 abbrev pub Hears : Talking → ℕ → Asks → Talking → Type 0
 Hears o id asks z = Reads o (record { id = Some id; asks = Ok asks }) z
 
--- Nothing is heard: a line isn't understood, and is answered so; memory is wanted for it; no line
--- is left; or none can be read, which the client is told.
+-- Nothing is heard: a line isn't understood, and is answered so; no line is left; or none can be
+-- read, which the client is told.
 pub data HearsNone (o z : Talking) : Type 0 where
-  refused : (u : Talking) (id : Option ℕ) (e : Refusal) →
-      Reads o (record { id = id; asks = Err e }) u → Answers u id (refusal_line id e) z →
-      HearsNone o z
-  wanting : (lines : Traffic) (line : List ℕ) (id : Option ℕ) →
+  refused : (line : List ℕ) (lines : Traffic) →
       Consumes o.lines.unread lines.unread (line ++ 10 ∷ []) →
-      lines.written ≡ o.lines.written →
-      Answers (record o { lines = lines }) id (refusal_line id Memory) z → HearsNone o z
+      lines.written ≡ o.lines.written → Fails (record o { lines = lines }) line z →
+      HearsNone o z
   finished : (lines : Traffic) → IsAtEnd o.lines.unread → lines.written ≡ o.lines.written →
       z ≡ record o { lines = lines; ending = Some Finished } → HearsNone o z
   failed : (lines : Traffic) (u : Talking) (fault : LineFault) →

@@ -1,5 +1,5 @@
 -- How evaluations end, as the client is told.
-use Rattle.std.specs.Prelude.{ℕ, zero, ℤ, pos, Bool, true, false, List, Option, Some, None}
+use Rattle.std.specs.Prelude.{◌≡◌, ◌⊎◌, ℕ, zero, ℤ, pos, Bool, true, false, List, Option, Some, None}
 use Rattle.std.specs.Prelude.{Result, Ok, Err}
 use Rattle.tcl_core.specs.Endings.{Meter, Reply}
 use Rattle.tcl_core.specs.Endings.Meter.{Count, Depth}
@@ -14,7 +14,7 @@ use Rattle.tcl_serve.specs.declared.answers.Answer.TheVariants as answer
 use Rattle.tcl_serve.specs.declared.answers.Ended.{Ended}
 use Rattle.tcl_serve.specs.declared.answers.Ended.TheVariants as ended
 use Rattle.tcl_serve.specs.declared.refusals.Refusal.{Refusal}
-use Rattle.tcl_serve.specs.declared.refusals.Refusal.TheVariants.{Told}
+use Rattle.tcl_serve.specs.declared.refusals.Refusal.TheVariants.{Memory, Told}
 
 abbrev pub kind_of : Meter → StopKind
 kind_of Count = stop.Count
@@ -41,3 +41,7 @@ abbrev pub entry_answer : Bool → Path → Reply → Result Answer Refusal
 entry_answer true p r = Ok (evaluation_answer p r)
 entry_answer false p (Completed c) = own_answer c.code c.text
 entry_answer false p r = Ok (evaluation_answer p r)
+
+-- what is said, or that memory was wanted to say it
+abbrev pub Tells : Result Answer Refusal → Result Answer Refusal → Type 0
+Tells said r = (r ≡ said) ⊎ (r ≡ Err Memory)

@@ -1,11 +1,23 @@
 -- The host of a served tree.
-use Rattle.std.specs.Prelude.{◌≡◌, ℕ, List, Option, Some, None, drop, length}
-use Rattle.tcl_host.specs.MemoryHost.{errors_of, output_of, respond}
+use Rattle.std.specs.Prelude.{◌≡◌, ℕ, List, Option, Some, None, IsUtf8, drop, length}
+use Rattle.tcl_host.specs.MemoryHost.{errors_of, new_host, output_of, respond}
 use Rattle.tcl_host.specs.declared.reply.HostReply.{HostReply}
 use Rattle.tcl_host.specs.declared.request.Request.{Request}
 use Rattle.tcl_serve.specs.declared.hosts.ServedHost.{ServedHost}
 use Rattle.tcl_serve.specs.declared.messages.Channel.{Channel}
 use Rattle.tcl_serve.specs.declared.messages.Channel.TheVariants as channel
+use Rattle.tcl_serve.specs.declared.refusals.Refusal.{Refusal}
+use Rattle.tcl_serve.specs.declared.refusals.Refusal.TheVariants.{Memory, NotText}
+
+-- one that has nothing
+abbrev pub fresh_host : ServedHost
+fresh_host = record { host = new_host; output_taken = 0; errors_taken = 0 }
+
+-- why bytes aren't told as a text
+abbrev pub IfUnreadable : List ℕ → Refusal → Type 0
+IfUnreadable bytes Memory = Unit {0}
+IfUnreadable bytes (NotText name) = IsUtf8 bytes → Prim.⊥
+IfUnreadable bytes e = Prim.⊥
 
 -- it replies to a request as the host in memory does
 pub record RepliesSo (o : ServedHost) (q : Request) (a : HostReply) (z : ServedHost) : Type 0 where

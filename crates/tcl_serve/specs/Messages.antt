@@ -20,6 +20,7 @@ use Rattle.tcl_serve.specs.declared.messages.Channel.TheVariants as channel
 use Rattle.tcl_serve.specs.declared.messages.Evaluate.{Evaluate as DeclaredEvaluate}
 use Rattle.tcl_serve.specs.declared.messages.Interpreter.{Interpreter}
 use Rattle.tcl_serve.specs.declared.messages.Line.{Line}
+use Rattle.tcl_serve.specs.declared.messages.Line.TheVariants as line
 use Rattle.tcl_serve.specs.declared.messages.Message.{Message}
 use Rattle.tcl_serve.specs.declared.messages.Message.TheVariants as message
 use Rattle.tcl_serve.specs.declared.refusals.Refusal.{Refusal}
@@ -241,7 +242,8 @@ pub record Said : Type 0 where
   pub asks : Result Asks Refusal
 
 abbrev pub said_of : Line → Said
-said_of line = record { id = line.id; asks = mapped asks_of line.message }
+said_of (line.Asks id m) = record { id = Some id; asks = Ok (asks_of m) }
+said_of (line.Fails id e) = record { id = id; asks = Err e }
 
 abbrev pub id_in : Data → Result ℕ Refusal
 id_in d = followed (object_of (as_object d)) (λ _. in_field number_of field.Id d)
@@ -255,18 +257,18 @@ said_in (Some d) = said_under d (id_in d)
 said_in None = record { id = None; asks = Err NotJson }
 
 -- A line says what its JSON does, where it is UTF-8.
-pub data Says (line : List ℕ) (said : Said) : Type 0 where
-  text : IsUtf8 line → said ≡ said_in (read line) → Says line said
-  no_text : (IsUtf8 line → Prim.⊥) → said ≡ record { id = None; asks = Err NotUtf8 } →
-      Says line said
+pub data Says (bytes : List ℕ) (said : Said) : Type 0 where
+  text : IsUtf8 bytes → said ≡ said_in (read bytes) → Says bytes said
+  no_text : (IsUtf8 bytes → Prim.⊥) → said ≡ record { id = None; asks = Err NotUtf8 } →
+      Says bytes said
 
 -- why no JSON is read of a line
 abbrev pub IsNoJson : List ℕ → Refusal → Type 0
-IsNoJson line Memory = Unit {0}
-IsNoJson line NotUtf8 = IsUtf8 line → Prim.⊥
-IsNoJson line NotJson = IsUtf8 line × (read line ≡ None)
-IsNoJson line e = Prim.⊥
+IsNoJson bytes Memory = Unit {0}
+IsNoJson bytes NotUtf8 = IsUtf8 bytes → Prim.⊥
+IsNoJson bytes NotJson = IsUtf8 bytes × (read bytes ≡ None)
+IsNoJson bytes e = Prim.⊥
 
 -- or memory was wanted to read it
 abbrev pub SaysOrWants : List ℕ → Said → Type 0
-SaysOrWants line said = Says line said ⊎ (said.asks ≡ Err Memory)
+SaysOrWants bytes said = Says bytes said ⊎ (said.asks ≡ Err Memory)

@@ -17,8 +17,13 @@ use Rattle.tcl_host.specs.declared.reply.HostReply.{HostReply}
 use Rattle.tcl_host.specs.declared.request.Request.{Request}
 use Rattle.tcl_interpreter.specs.Commands.{AliasView, way_between}
 use Rattle.tcl_language.specs.Interpreters.{no_interpreter}
-use Rattle.tcl_run.specs.Entering.{request_of}
+use Rattle.tcl_flow.specs.View.{completion_of}
+use Rattle.tcl_run.specs.Ends.{Interrupts}
+use Rattle.tcl_run.specs.Entering.{request_of, whole_entry}
 use Rattle.tcl_run.specs.Outsides.{Going, reply_of}
+use Rattle.tcl_run.specs.declared.interruption.Interruption.{Interruption}
+use Rattle.tcl_run.specs.declared.outside.Turn.{Turn}
+use Rattle.tcl_run.specs.declared.outside.Turn.TheVariants as turn
 use Rattle.tcl_serve.specs.Acting.{AtChild, client_way}
 use Rattle.tcl_serve.specs.Answers.{call_text}
 use Rattle.tcl_serve.specs.Clients.{Hears, HearsNone, Puts, Replies, Talking}
@@ -30,8 +35,11 @@ use Rattle.tcl_serve.specs.Messages.{Ask, Asks}
 use Rattle.tcl_serve.specs.declared.answers.Answer as answers
 use Rattle.tcl_serve.specs.declared.answers.Answer.TheVariants as answer
 use Rattle.tcl_serve.specs.declared.client.Awaited.{Awaited}
+use Rattle.tcl_serve.specs.declared.client.Next.{Next}
+use Rattle.tcl_serve.specs.declared.client.Next.TheVariants as next
 use Rattle.tcl_serve.specs.declared.hosts.ServedHost.{ServedHost}
 use Rattle.tcl_serve.specs.declared.refusals.Refusal.{Refusal}
+use Rattle.tcl_serve.specs.declared.refusals.Refusal.TheVariants as refusal
 use Rattle.tcl_tree.specs.Own.{Own}
 
 -- ## Messages as entries
@@ -62,6 +70,19 @@ IsEntry (Evaluate e) tree t i evaluates = (e.place.tree ≡ tree) × (t ≡ e.pl
 IsEntry (OnTree n a) tree t i evaluates = (n ≡ tree) × AsksEntry a t i × (evaluates ≡ false)
 IsEntry m tree t i evaluates = Prim.⊥
 
+-- why a message isn't one
+abbrev pub NoEntry : Refusal → Type 0
+NoEntry refusal.Memory = Unit {0}
+NoEntry refusal.TooLong = Unit {0}
+NoEntry refusal.EntryLimit = Unit {0}
+NoEntry refusal.Root = Unit {0}
+NoEntry e = Prim.⊥
+
+-- whether it evaluates a script
+abbrev pub is_script : Entry → Bool
+is_script (entry.Eval text) = true
+is_script i = false
+
 -- ## While a call is open
 
 -- A line is read and one is written: it isn't understood; or it is answered at once, by which the
@@ -83,6 +104,15 @@ pub record Calls (o : Talking) (p : Path) (words : List Text) (z : Talking) : Ty
   pub puts : Puts (record o { calls = o.calls ++ number ∷ []; last_call = number })
       (call_text number o.tree p words) z
 
+-- a message is awaited more, and one entry less may be handed in
+abbrev pub awaiting : Awaited → ℕ → Talking → Talking
+awaiting a left o = record o { awaited = o.awaited ++ a ∷ []; entries = left }
+
+-- this comes next: the entry
+abbrev pub entering : Path → Entry → Result Turn Interruption → Type 0
+entering t i (Ok (turn.Entry target inner)) = (target.items ≡ t) × (whole_entry inner ≡ i)
+entering t i r = Prim.⊥
+
 -- After some lines one is an entry. Its message is answered later.
 pub record HandsIn (o : Talking) (t : Path) (i : Entry) (z : Talking) : Type 0 where
   pub before : Talking
@@ -93,12 +123,9 @@ pub record HandsIn (o : Talking) (t : Path) (i : Entry) (z : Talking) : Type 0 w
   pub hears : Hears before id asks heard
   pub evaluates : Bool
   pub enters : IsEntry asks heard.tree t i evaluates
-  pub awaited : Awaited
-  pub is_of : awaited.id ≡ id
-  pub is_so : awaited.evaluates ≡ evaluates
   pub left : ℕ
   pub fewer : heard.entries ≡ left + 1
-  pub awaits : z ≡ record heard { awaited = heard.awaited ++ awaited ∷ []; entries = left }
+  pub awaits : z ≡ awaiting (record { id = id; evaluates = evaluates }) left heard
 
 -- the last open call is closed
 abbrev pub closed : Talking → Talking
@@ -133,6 +160,25 @@ pub record HearsHost (o : Talking) (q : entries.Request) (a : entries.HostReply)
   pub host : ServedHost
   pub replies : RepliesSo o.host request reply host
   pub rest : z ≡ record o { host = host }
+
+-- what comes next to the open call
+abbrev pub Serves : Talking → Talking → Result Turn Interruption → Type 0
+Serves o z (Ok (turn.Entry target entry)) = HandsIn o target.items (whole_entry entry) z
+Serves o z (Ok (turn.Completed text)) = Prim.⊥
+Serves o z (Ok (turn.Heard reply)) = Prim.⊥
+Serves o z (Err e) = Interrupts e (λ r. EndsCall o r z)
+
+-- what a message comes to
+abbrev pub Comes : Talking → Asks → Result Next Refusal → Talking → Type 0
+Comes o m (Ok (next.Says a)) z = (host : ServedHost) × (z ≡ record o { host = host })
+Comes o m (Ok (next.Enters asked)) z = (evaluates : Bool) × (z ≡ o) ×
+    IsEntry m o.tree asked.0.items (whole_entry asked.1) evaluates ×
+    (is_script (whole_entry asked.1) ≡ evaluates)
+Comes o m (Ok (next.Returns c)) z = (number : ℕ) × (code : ℤ) × (text : Text) ×
+    (below : List ℕ) × (z ≡ o) × (m ≡ Return number code text) ×
+    (o.calls ≡ below ++ number ∷ []) × (completion_of c ≡ completion code text)
+Comes o m (Ok next.Ends) z = z ≡ o
+Comes o m (Err e) z = z ≡ o
 
 -- ## What it makes of what it is told
 

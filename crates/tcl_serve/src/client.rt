@@ -1,14 +1,40 @@
 //! The client, who is reached by lines.
+ghost use Rattle.std.specs.Prelude.{◌≡◌, ◌⊎◌, ◌↔◌, ◌+◌, ◌<◌, ◌≤◌, ◌++◌, ◌∷◌, [], ℕ, List};
+ghost use Rattle.std.specs.Prelude.{Err, IfOk, IsSome, IsTrue, MatchBool, MatchOption, None, Ok};
+ghost use Rattle.std.specs.Prelude.{OnErr, OnOk, Some, false, true};
+ghost use Rattle.tcl_core.specs.Lives.{end_at};
+ghost use Rattle.tcl_core.specs.Endings as core;
+ghost use Rattle.tcl_core.specs.Paths.{Path};
+ghost use Rattle.tcl_flow.specs.Stopping.{reply_of};
+ghost use Rattle.tcl_flow.specs.View.{completion_of};
+ghost use Rattle.tcl_run.specs.Ends.{IfEnded};
+ghost use Rattle.tcl_run.specs.Entering.{whole_entry};
+ghost use Rattle.tcl_run.specs.Outsides.{OnEntry};
+ghost use Rattle.tcl_serve.specs.Answers as answers;
+ghost use Rattle.tcl_serve.specs.Clients.{Answers, Fails, Hears, HearsNone, Puts, Replies, noted};
+ghost use Rattle.tcl_serve.specs.Endings as endings;
+ghost use Rattle.tcl_serve.specs.Endings.{Tells, ended_as, evaluation_answer};
+ghost use Rattle.tcl_serve.specs.Hosting.{RepliesSo, fresh_host};
+ghost use Rattle.tcl_serve.specs.Lines.{out_of_memory};
+ghost use Rattle.tcl_serve.specs.Messages.Asks as asks;
+ghost use Rattle.tcl_serve.specs.Messages.{Says, ask_of, asks_of};
+ghost use Rattle.tcl_serve.specs.Outside.{Calls, Comes, EntryEnds, Exchanges, Serves, closed};
+ghost use Rattle.tcl_serve.specs.Outside.{awaiting, entering, is_script};
+ghost use Rattle.tcl_serve.specs.declared.hosts.ServedHost.{ServedHost};
+ghost use Rattle.tcl_serve.specs.declared.refusals.Refusal.{Refusal};
+ghost use Rattle.tcl_tree.specs.TreeOf.{Names};
+
 use crate::acting::{look, refused_at};
 use crate::answers::{Answer, Call, Ended, answer_line, call_line, refusal_line};
 use crate::entering::{Asked, alias_entry, client_alias_entry, creation, deletion, evaluation};
 use crate::hosts::ServedHost;
 use crate::lines::{LineFault, Lines};
-use crate::messages::{Ask, ClearAlias, LimitCount, LimitDepth, Message, Return, read_line};
+use crate::messages::{Ask, ClearAlias, LimitCount, LimitDepth, Line, Message, Return, read_line};
 use crate::refusals::Refusal;
 use crate::serving::Ending;
 use std::alloc::{AllocError, Global};
 use std::io::{BufRead, Write};
+use std::marker::Model;
 use std::mem;
 use tcl_eval::running::Refused;
 use tcl_flow::completion::{Completion, OK};
@@ -80,7 +106,9 @@ impl<R: BufRead + Drop, W: Write + Drop> Drop for Client<R, W> {
 }
 
 /// The texts of these values.
-fn texts_of(alloc: Global, values: &[Value]) -> Result<Vec<Text>, AllocError> {
+fn texts_of(alloc: Global, values: &[Value]) -> Result<Vec<Text>, AllocError>
+    ensures { IfOk result (λ texts. texts.items ≡ values.now) }
+{
     let mut texts = Vec::new(alloc);
     'values: for value in values {
         texts.push(value.text(alloc)?)?;
@@ -89,14 +117,19 @@ fn texts_of(alloc: Global, values: &[Value]) -> Result<Vec<Text>, AllocError> {
 }
 
 /// How an evaluation ends that completes so.
-fn completed(alloc: Global, completion: &Completion) -> Result<Ended, AllocError> {
+fn completed(alloc: Global, completion: &Completion) -> Result<Ended, AllocError>
+    ensures { IfOk result (λ e. (p : Path) →
+        e ≡ ended_as (end_at p (core.Reply.Completed (completion_of completion.now)))) }
+{
     let text = completion.text.text(alloc)?;
     Ok(Ended::Completed(completion.code, text))
 }
 
 /// How an evaluation in the interpreter at the path ends by a stop: an error, where the stop names
 /// one below the root.
-fn stopped(alloc: Global, path: &[Text], stop: Stop) -> Result<Ended, AllocError> {
+fn stopped(alloc: Global, path: &[Text], stop: Stop) -> Result<Ended, AllocError>
+    ensures { IfOk result (λ e. e ≡ ended_as (end_at path.now (reply_of stop))) }
+{
     if stop.levels_up < path.len() {
         let completion = stop.kind.error(alloc)?;
         return completed(alloc, &completion);
@@ -109,7 +142,9 @@ fn entry_ended(
     alloc: Global,
     path: &[Text],
     ended: &Result<Value, Interruption>,
-) -> Result<Answer, Refusal> {
+) -> Result<Answer, Refusal>
+    ensures { IfEnded ended.now (λ r. Tells (Ok (evaluation_answer path.now r)) result) }
+{
     match ended {
         Ok(value) => Ok(Answer::Ended(Ended::Completed(OK, value.text(alloc)?))),
         Err(Interruption::Completed(completion)) => {
@@ -127,7 +162,10 @@ fn entry_done(
     alloc: Global,
     path: &[Text],
     ended: &Result<Value, Interruption>,
-) -> Result<Answer, Refusal> {
+) -> Result<Answer, Refusal>
+    ensures { IfEnded ended.now
+        (λ r. Tells (endings.entry_answer false path.now r) result) }
+{
     match ended {
         Ok(_) => Ok(Answer::Done),
         Err(Interruption::Completed(completion)) => {
@@ -143,7 +181,10 @@ fn entry_answer(
     evaluates: bool,
     path: &[Text],
     ended: &Result<Value, Interruption>,
-) -> Result<Answer, Refusal> {
+) -> Result<Answer, Refusal>
+    ensures { IfEnded ended.now
+        (λ r. Tells (endings.entry_answer evaluates path.now r) result) }
+{
     if evaluates {
         return entry_ended(alloc, path, ended);
     }
@@ -158,12 +199,42 @@ fn nobody(alloc: Global, target: &[Text], entry: &Entry) -> Refusal {
     }
 }
 
+impl<R: BufRead + Drop, W: Write + Drop> Model for Client<R, W> {
+    ghost use Rattle.tcl_serve.specs.Clients.{Talking};
+
+    ghost Value = { Talking };
+
+    ghost view = { λ c. record {
+      lines = c.lines;
+      tree = c.tree;
+      host = c.host;
+      calls = c.calls.items;
+      awaited = c.awaited.items;
+      last_call = c.last_call;
+      entries = c.entries;
+      cut = c.cut;
+      ending = c.ending;
+    } };
+}
+
 impl<R: BufRead + Drop, W: Write + Drop> Client<R, W> {
     /// The client at the other end of a reader and a writer.
     ///
     /// # Errors
     /// Want of memory.
-    pub fn new(alloc: Global, reader: R, writer: W) -> Result<Client<R, W>, AllocError> {
+    pub fn new(alloc: Global, reader: R, writer: W) -> Result<Client<R, W>, AllocError>
+        ensures { IfOk result (λ made. made ≡ record {
+          lines = record { unread = R.remaining reader; written = W.contents writer };
+          tree = 0;
+          host = fresh_host;
+          calls = [];
+          awaited = [];
+          last_call = 0;
+          entries = 18446744073709551615;
+          cut = false;
+          ending = None;
+        }) }
+    {
         Ok(Client {
             host: ServedHost::new(alloc)?,
             lines: Lines::new(reader, writer),
@@ -178,12 +249,18 @@ impl<R: BufRead + Drop, W: Write + Drop> Client<R, W> {
     }
 
     /// Why no line is read any more, where none is.
-    pub fn ending(&self) -> Option<Ending> {
+    pub fn ending(&self) -> Option<Ending>
+        ensures { result ≡ self.now.ending }
+    {
         self.ending
     }
 
     /// A run begins in the tree of this number, which has this host.
-    pub fn begin(&mut self, tree: u64, host: &mut ServedHost) {
+    pub fn begin(&mut self, tree: u64, host: &mut ServedHost)
+        ensures begun { self.new
+            ≡ record self.old { tree = tree; cut = false; host = host.old } }
+        ensures host { host.new ≡ self.old.host }
+    {
         self.tree = tree;
         self.cut = false;
         mem::swap(&mut self.host, host);
@@ -191,7 +268,12 @@ impl<R: BufRead + Drop, W: Write + Drop> Client<R, W> {
 
     /// The run is over, and its tree has its host again. Messages for which memory was wanted in it
     /// are answered.
-    pub fn finish(&mut self, alloc: Global, host: &mut ServedHost) {
+    pub fn finish(&mut self, alloc: Global, host: &mut ServedHost)
+        ensures host { host.new ≡ self.old.host }
+        ensures idle { (self.new.calls ≡ []) × (self.new.awaited ≡ []) }
+        ensures quiet { self.old.awaited ≡ [] → self.new
+            ≡ record self.old { calls = []; host = host.old } }
+    {
         mem::swap(&mut self.host, host);
         self.calls.clear();
         'awaited: while let Some(awaited) = self.awaited.pop() {
@@ -201,7 +283,10 @@ impl<R: BufRead + Drop, W: Write + Drop> Client<R, W> {
 
     /// Hears a message. A line that isn't understood is answered, and gives none; and where no line
     /// can be read, that is the end.
-    pub fn hear(&mut self, alloc: Global) -> Option<(u64, Message)> {
+    pub fn hear(&mut self, alloc: Global) -> Option<(u64, Message)>
+        ensures { MatchOption result (HearsNone self.old self.new)
+            (λ m. Hears self.old m.0 (asks_of m.1) self.new) }
+    {
         match self.lines.read(alloc) {
             Ok(Some(line)) => self.understand(alloc, line.as_slice()),
             Ok(None) => {
@@ -217,20 +302,24 @@ impl<R: BufRead + Drop, W: Write + Drop> Client<R, W> {
     }
 
     /// The message that a line is.
-    fn understand(&mut self, alloc: Global, line: &[u8]) -> Option<(u64, Message)> {
-        let line = read_line(alloc, line);
-        match (line.id, line.message) {
-            (Some(id), Ok(message)) => Some((id, message)),
-            (id, Err(refusal)) => {
+    fn understand(&mut self, alloc: Global, line: &[u8]) -> Option<(u64, Message)>
+        ensures { MatchOption result (Fails self.old line.now self.new)
+            (λ m. (self.new ≡ self.old) × Says line.now
+            (record { id = Some m.0; asks = Ok (asks_of m.1) })) }
+    {
+        match read_line(alloc, line) {
+            Line::Asks(id, message) => Some((id, message)),
+            Line::Fails(id, refusal) => {
                 self.refuse(alloc, id, &refusal);
                 None
             }
-            (None, Ok(_message)) => None,
         }
     }
 
     /// Answers a message.
-    pub fn reply(&mut self, alloc: Global, id: u64, answer: Result<Answer, Refusal>) {
+    pub fn reply(&mut self, alloc: Global, id: u64, answer: Result<Answer, Refusal>)
+        ensures { Replies self.old id answer self.new }
+    {
         match answer {
             Ok(answer) => match answer_line(alloc, id, &answer) {
                 Ok(line) => self.put(line.as_str()),
@@ -241,7 +330,9 @@ impl<R: BufRead + Drop, W: Write + Drop> Client<R, W> {
     }
 
     /// Answers a line that isn't done.
-    fn refuse(&mut self, alloc: Global, id: Option<u64>, refusal: &Refusal) {
+    fn refuse(&mut self, alloc: Global, id: Option<u64>, refusal: &Refusal)
+        ensures { Answers self.old id (answers.refusal_line id refusal.now) self.new }
+    {
         match refusal_line(alloc, id, refusal) {
             Ok(line) => self.put(line.as_str()),
             Err(_) => self.want_memory(id),
@@ -249,19 +340,25 @@ impl<R: BufRead + Drop, W: Write + Drop> Client<R, W> {
     }
 
     /// Answers a line for which memory was wanted. This takes no memory.
-    fn want_memory(&mut self, id: Option<u64>) {
+    fn want_memory(&mut self, id: Option<u64>)
+        ensures { Puts self.old (out_of_memory id) self.new }
+    {
         let written = self.lines.write_out_of_memory(id);
         self.note(written);
     }
 
     /// Writes a line.
-    fn put(&mut self, line: &str) {
+    fn put(&mut self, line: &str)
+        ensures { Puts self.old line.now self.new }
+    {
         let written = self.lines.write(line);
         self.note(written);
     }
 
     /// Takes note of a line that can't be written, which is the end.
-    fn note(&mut self, written: Result<(), LineFault>) {
+    fn note(&mut self, written: Result<(), LineFault>)
+        ensures { self.new ≡ noted self.old written }
+    {
         if let Err(fault) = written {
             self.ending = Some(Ending::Failed(fault));
         }
@@ -277,7 +374,11 @@ impl<R: BufRead + Drop, W: Write + Drop> Client<R, W> {
         tree: &Tree,
         caller: Place,
         words: &[Value],
-    ) -> Result<(), AllocError> {
+    ) -> Result<(), AllocError>
+        ensures calls { OnOk result ((p : Path) → Names tree.now caller p →
+            Calls self.old p words.now self.new) }
+        ensures left { self.new.entries ≡ self.old.entries }
+    {
         let interpreter = tree.last_names(alloc, caller, usize::MAX)?;
         let words = texts_of(alloc, words)?;
         let number = self.last_call.saturating_add(1);
@@ -295,7 +396,9 @@ impl<R: BufRead + Drop, W: Write + Drop> Client<R, W> {
     }
 
     /// Closes the last open call.
-    pub fn close(&mut self) {
+    pub fn close(&mut self)
+        ensures { self.new ≡ closed self.old }
+    {
         let _ = self.calls.pop();
     }
 
@@ -303,31 +406,35 @@ impl<R: BufRead + Drop, W: Write + Drop> Client<R, W> {
     ///
     /// # Errors
     /// How the call ends; want of memory.
-    pub fn serve(&mut self, alloc: Global, tree: &Tree) -> Result<Turn, Interruption> {
+    pub fn serve(&mut self, alloc: Global, tree: &Tree) -> Result<Turn, Interruption>
+        ensures serves { Serves self.old self.new result }
+        ensures fewer { OnEntry result (self.new.entries < self.old.entries) }
+        ensures left { self.new.entries ≤ self.old.entries }
+    {
         'lines: for _ in 0..u64::MAX {
             if self.is_over() {
-                return self.cut_off();
+                self.close();
+                return Err(Interruption::Cut(Cause::Over));
             }
             if let Some(turn) = self.turn(alloc, tree) {
                 return turn;
             }
         }
-        self.cut_off()
+        // So many lines take longer than anybody waits.
+        Err(Interruption::Memory)
     }
 
     /// Whether the run is over, since the client ended it or is gone.
-    fn is_over(&self) -> bool {
+    fn is_over(&self) -> bool
+        ensures { IsTrue result ↔ ((self.now.cut ≡ true) ⊎ IsSome self.now.ending) }
+    {
         self.cut || self.ending.is_some()
     }
 
-    /// The last open call is cut off.
-    fn cut_off(&mut self) -> Result<Turn, Interruption> {
-        self.close();
-        Err(Interruption::Cut(Cause::Over))
-    }
-
     /// Hears a line while a call is open; what comes next to the call then, if anything does.
-    fn turn(&mut self, alloc: Global, tree: &Tree) -> Option<Result<Turn, Interruption>> {
+    fn turn(&mut self, alloc: Global, tree: &Tree) -> Option<Result<Turn, Interruption>>
+        ensures { MatchOption result (Exchanges self.old self.new) (Serves self.old self.new) }
+    {
         let (id, message) = self.hear(alloc)?;
         match self.next_of(alloc, tree, message) {
             Ok(Next::Enters((target, entry))) => self.enter(alloc, tree, id, target, entry),
@@ -360,7 +467,13 @@ impl<R: BufRead + Drop, W: Write + Drop> Client<R, W> {
         id: u64,
         target: Vec<Text>,
         entry: Entry,
-    ) -> Option<Result<Turn, Interruption>> {
+    ) -> Option<Result<Turn, Interruption>>
+        ensures { MatchOption result
+            ((e : Refusal) × Replies self.old id (Err e) self.new)
+            (λ turn. entering target.items (whole_entry entry) turn × (left : ℕ) ×
+            (self.old.entries ≡ left + 1) × (self.new ≡ awaiting
+            (record { id = id; evaluates = is_script (whole_entry entry) }) left self.old)) }
+    {
         if !tree.exists(target.as_slice()) {
             let refusal = nobody(alloc, target.as_slice(), &entry);
             self.reply(alloc, id, Err(refusal));
@@ -376,7 +489,10 @@ impl<R: BufRead + Drop, W: Write + Drop> Client<R, W> {
 
     /// Awaits an entry, and says whether there is memory for that. (So many entries as are counted
     /// take longer than anybody waits.)
-    fn await_entry(&mut self, awaited: Awaited) -> bool {
+    fn await_entry(&mut self, awaited: Awaited) -> bool
+        ensures { MatchBool result ((left : ℕ) × (self.old.entries ≡ left + 1) ×
+            (self.new ≡ awaiting awaited left self.old)) (self.new ≡ self.old) }
+    {
         if self.entries == 0 {
             return false;
         }
@@ -391,7 +507,9 @@ impl<R: BufRead + Drop, W: Write + Drop> Client<R, W> {
     ///
     /// # Errors
     /// 510, 511, 512; those of what is asked; want of memory.
-    fn next_of(&mut self, alloc: Global, tree: &Tree, message: Message) -> Result<Next, Refusal> {
+    fn next_of(&mut self, alloc: Global, tree: &Tree, message: Message) -> Result<Next, Refusal>
+        ensures { Comes self.old (asks_of message) result self.new }
+    {
         match message {
             Message::Evaluate(message) => {
                 self.is_here(message.interpreter.tree)?;
@@ -414,7 +532,9 @@ impl<R: BufRead + Drop, W: Write + Drop> Client<R, W> {
     ///
     /// # Errors
     /// 510.
-    fn is_here(&self, tree: u64) -> Result<(), Refusal> {
+    fn is_here(&self, tree: u64) -> Result<(), Refusal>
+        ensures { OnOk result (tree ≡ self.now.tree) }
+    {
         if tree == self.tree {
             return Ok(());
         }
@@ -425,7 +545,9 @@ impl<R: BufRead + Drop, W: Write + Drop> Client<R, W> {
     ///
     /// # Errors
     /// 511.
-    fn is_open(&self, number: u64) -> Result<(), Refusal> {
+    fn is_open(&self, number: u64) -> Result<(), Refusal>
+        ensures { OnOk result ((below : List ℕ) × (self.now.calls ≡ below ++ number ∷ [])) }
+    {
         if self.calls.as_slice().last() == Some(&number) {
             return Ok(());
         }
@@ -436,7 +558,10 @@ impl<R: BufRead + Drop, W: Write + Drop> Client<R, W> {
     ///
     /// # Errors
     /// 511; 122; want of memory.
-    fn completion_of(&self, answer: Return) -> Result<Completion, Refusal> {
+    fn completion_of(&self, answer: Return) -> Result<Completion, Refusal>
+        ensures { IfOk result (λ c. (completion_of c ≡ core.completion answer.code answer.text) ×
+            (below : List ℕ) × (self.now.calls ≡ below ++ answer.call ∷ [])) }
+    {
         let Return { call, code, text } = answer;
         self.is_open(call)?;
         let text = Value::from_text(text)?;
@@ -447,7 +572,9 @@ impl<R: BufRead + Drop, W: Write + Drop> Client<R, W> {
     ///
     /// # Errors
     /// Those of what is asked; want of memory.
-    fn ask_open(&mut self, alloc: Global, tree: &Tree, ask: Ask) -> Result<Next, Refusal> {
+    fn ask_open(&mut self, alloc: Global, tree: &Tree, ask: Ask) -> Result<Next, Refusal>
+        ensures { Comes self.old (asks.OnTree self.old.tree (ask_of ask)) result self.new }
+    {
         match ask {
             Ask::Create(ask) => Ok(Next::Enters(creation(ask)?)),
             Ask::Delete(path) => Ok(Next::Enters(deletion(path)?)),
@@ -474,18 +601,21 @@ impl<R: BufRead + Drop, W: Write + Drop> Client<R, W> {
     ///
     /// # Errors
     /// Want of memory.
-    pub fn ask(&mut self, alloc: Global, request: &Request) -> Result<HostReply, AllocError> {
+    pub fn ask(&mut self, alloc: Global, request: &Request) -> Result<HostReply, AllocError>
+        ensures replies { IfOk result (λ reply. (host : ServedHost) ×
+            RepliesSo self.old.host request.now reply host ×
+            (self.new ≡ record self.old { host = host })) }
+        ensures unchanged { OnErr result (self.new ≡ self.old) }
+    {
         self.host.ask(alloc, request)
     }
 
     /// An entry into the interpreter at the path ended, which answers the message that was last
     /// handed in.
-    pub fn entry_ends(
-        &mut self,
-        alloc: Global,
-        path: &[Text],
-        ended: &Result<Value, Interruption>,
-    ) {
+    pub fn entry_ends(&mut self, alloc: Global, path: &[Text], ended: &Result<Value, Interruption>)
+        ensures ends { IfEnded ended.now (λ r. EntryEnds self.old path.now r self.new) }
+        ensures left { self.new.entries ≡ self.old.entries }
+    {
         if let Some(awaited) = self.awaited.pop() {
             let answer = entry_answer(alloc, awaited.evaluates, path, ended);
             self.reply(alloc, awaited.id, answer);

@@ -1,4 +1,11 @@
 //! Messages as entries, while a call is open.
+ghost use Rattle.std.specs.Prelude.{◌≡◌, IfErr, IfOk, true};
+ghost use Rattle.tcl_run.specs.Entering.{whole_entry};
+ghost use Rattle.tcl_serve.specs.Messages.Asks as asks;
+ghost use Rattle.tcl_serve.specs.Messages.{ask_of, evaluation_of};
+ghost use Rattle.tcl_serve.specs.Outside.{AsksEntry, IsEntry, NoEntry};
+ghost use Rattle.tcl_serve.specs.declared.messages.Ask.TheVariants as ask;
+
 use crate::acting::{client_alias, values_of};
 use crate::messages::{Alias, AliasToClient, Create, Evaluate};
 use crate::refusals::Refusal;
@@ -15,7 +22,11 @@ pub type Asked = (Vec<Text>, Entry);
 ///
 /// # Errors
 /// 512; 122; want of memory.
-pub fn evaluation(evaluate: Evaluate) -> Result<Asked, Refusal> {
+pub fn evaluation(evaluate: Evaluate) -> Result<Asked, Refusal>
+    ensures entry { IfOk result (λ asked. IsEntry (asks.Evaluate (evaluation_of evaluate))
+        evaluate.interpreter.tree asked.0.items (whole_entry asked.1) true) }
+    ensures fault { IfErr result NoEntry }
+{
     let Evaluate {
         interpreter,
         script,
@@ -32,7 +43,11 @@ pub fn evaluation(evaluate: Evaluate) -> Result<Asked, Refusal> {
 ///
 /// # Errors
 /// 513.
-pub fn creation(create: Create) -> Result<Asked, Refusal> {
+pub fn creation(create: Create) -> Result<Asked, Refusal>
+    ensures entry { IfOk result
+        (λ asked. AsksEntry (ask_of (ask.Create create)) asked.0.items (whole_entry asked.1)) }
+    ensures fault { IfErr result NoEntry }
+{
     let Create { path, safe } = create;
     let mut target = path;
     match target.pop() {
@@ -48,7 +63,11 @@ pub fn creation(create: Create) -> Result<Asked, Refusal> {
 ///
 /// # Errors
 /// 513.
-pub fn deletion(path: Vec<Text>) -> Result<Asked, Refusal> {
+pub fn deletion(path: Vec<Text>) -> Result<Asked, Refusal>
+    ensures entry { IfOk result
+        (λ asked. AsksEntry (ask_of (ask.Delete path)) asked.0.items (whole_entry asked.1)) }
+    ensures fault { IfErr result NoEntry }
+{
     let mut target = path;
     match target.pop() {
         Some(name) => Ok((target, Entry::Own(OwnEntry::Delete(name)))),
@@ -60,7 +79,11 @@ pub fn deletion(path: Vec<Text>) -> Result<Asked, Refusal> {
 ///
 /// # Errors
 /// 122; want of memory.
-pub fn alias_entry(alloc: Global, alias: Alias) -> Result<Asked, Refusal> {
+pub fn alias_entry(alloc: Global, alias: Alias) -> Result<Asked, Refusal>
+    ensures entry { IfOk result
+        (λ asked. AsksEntry (ask_of (ask.Alias alias)) asked.0.items (whole_entry asked.1)) }
+    ensures fault { IfErr result NoEntry }
+{
     let Alias {
         path,
         name,
@@ -76,7 +99,11 @@ pub fn alias_entry(alloc: Global, alias: Alias) -> Result<Asked, Refusal> {
 ///
 /// # Errors
 /// 122; want of memory.
-pub fn client_alias_entry(alloc: Global, alias: AliasToClient) -> Result<Asked, Refusal> {
+pub fn client_alias_entry(alloc: Global, alias: AliasToClient) -> Result<Asked, Refusal>
+    ensures entry { IfOk result
+        (λ asked. AsksEntry (ask_of (ask.AliasToClient alias)) asked.0.items (whole_entry asked.1)) }
+    ensures fault { IfErr result NoEntry }
+{
     let AliasToClient { path, name, words } = alias;
     let alias = client_alias(alloc, path.as_slice(), words.as_slice())?;
     Ok((path, Entry::Own(OwnEntry::SetAlias { name, alias })))

@@ -2,6 +2,7 @@
 ghost use Rattle.serde_json.specs.Read.{read};
 ghost use Rattle.serde_json.specs.View.{view};
 ghost use Rattle.std.specs.Prelude.{◌≡◌, ◌≢◌, ◌⊎◌, Err, IfErr, IfOk, IsUtf8, Ok, Some};
+ghost use Rattle.tcl_serve.specs.Fields.{mapped};
 ghost use Rattle.tcl_serve.specs.Messages.{IsNoJson, SaysOrWants, alias_in, alias_to_client_in};
 ghost use Rattle.tcl_serve.specs.Messages.{ask_of, asked, asks_in, asks_of, channel_of};
 ghost use Rattle.tcl_serve.specs.Messages.{clear_alias_in, compare_in, create_in, evaluation_in};
@@ -212,13 +213,13 @@ pub enum Message {
     EndRun(u64),
 }
 
-/// A line that was read: its id, if that can be read, and what it asks for.
+/// A line that was read.
 #[derive(Drop)]
-pub struct Line {
-    /// The id.
-    pub id: Option<u64>,
-    /// What it asks for, or why it isn't understood.
-    pub message: Result<Message, Refusal>,
+pub enum Line {
+    /// It has this id, and asks for something.
+    Asks(u64, Message),
+    /// It isn't understood. It has this id, if that can be read.
+    Fails(Option<u64>, Refusal),
 }
 
 /// What a line says.
@@ -227,10 +228,7 @@ pub fn read_line(alloc: Global, line: &[u8]) -> Line
 {
     match json_of(alloc, line) {
         Ok(value) => line_of(alloc, &value),
-        Err(refusal) => Line {
-            id: None,
-            message: Err(refusal),
-        },
+        Err(refusal) => Line::Fails(None, refusal),
     }
 }
 
@@ -259,14 +257,18 @@ fn line_of(alloc: Global, line: &Value) -> Line
         ((said_of result).asks ≡ Err Memory) }
 {
     match id_of(line) {
-        Ok(id) => Line {
-            id: Some(id),
-            message: message_of(alloc, line),
-        },
-        Err(refusal) => Line {
-            id: None,
-            message: Err(refusal),
-        },
+        Ok(id) => line_under(id, message_of(alloc, line)),
+        Err(refusal) => Line::Fails(None, refusal),
+    }
+}
+
+/// The line of an id that asks for this.
+fn line_under(id: u64, message: Result<Message, Refusal>) -> Line
+    ensures { said_of result ≡ record { id = Some id; asks = mapped asks_of message } }
+{
+    match message {
+        Ok(message) => Line::Asks(id, message),
+        Err(refusal) => Line::Fails(Some(id), refusal),
     }
 }
 

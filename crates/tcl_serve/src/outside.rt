@@ -1,4 +1,7 @@
 //! The client as what stands outside of a tree.
+ghost use Rattle.std.specs.Prelude.{true};
+ghost use Rattle.tcl_serve.specs.Outside.{going};
+
 use crate::client::Client;
 use std::alloc::{AllocError, Global};
 use std::io::{BufRead, Write};
@@ -11,8 +14,9 @@ use tcl_tree::tree::{Place, Tree};
 use tcl_value::value::Value;
 
 impl<R: BufRead + Drop, W: Write + Drop> Outside for Client<R, W> {
-    ghost goes = { λ T o s ev z. Unit {0} };
+    ghost goes = { λ T o s ev z. going T o s ev z };
 
+    // what was done until an evaluation is given up is not spoken of
     ghost loses = { λ o z. Unit {0} };
 
     ghost entries_left = { λ o. o.entries };
@@ -123,11 +127,16 @@ impl<R: BufRead + Drop, W: Write + Drop> Outside for Client<R, W> {
         _alloc: Global,
         _tree: &Tree,
         _caller: Place,
-        _up: Option<usize>,
-        _entry: &Entry,
+        up: Option<usize>,
+        entry: &Entry,
         _status: i64,
     ) -> Result<(), AllocError> {
-        self.close();
-        Ok(())
+        match (up, entry) {
+            (Some(_), Entry::CallWords(_)) => {
+                self.close();
+                Ok(())
+            }
+            _ => Err(AllocError),
+        }
     }
 }
