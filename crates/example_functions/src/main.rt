@@ -2,13 +2,10 @@
 #![tactic(auto)]
 
 use std::alloc::{AllocError, Global};
-use tcl_embed::errors::EmbedError;
-use tcl_embed::evaluation::{open_run, open_text};
 use tcl_embed::functions::{Action, Call, Functions, WithFunctions, set_function};
-use tcl_embed::hosts::MemoryHost;
-use tcl_embed::texts::Text;
-use tcl_embed::trees::Tree;
+use tcl_embed::{EmbedError, MemoryHost, Path, Text, Tree, open_run, open_run_text};
 
+/// A shop, which keeps nothing.
 #[derive(Drop)]
 struct Shop {}
 
@@ -36,22 +33,22 @@ fn twice(alloc: Global, call: &Call) -> Result<Action, AllocError> {
     }
 }
 
-/// A safe child, which has two doors to the shop.
-fn admit(tree: &mut Tree, alloc: Global, guest: &[Text; 1]) -> Result<(), EmbedError> {
-    tree.create(alloc, &[], &guest[0], true)?;
-    set_function(tree, alloc, guest, Text::new(alloc, "price")?, "price")?;
-    Ok(set_function(tree, alloc, guest, Text::new(alloc, "twice")?, "twice")?)
+/// Gives an interpreter a command that calls the shop's function of the same name.
+fn open_door(tree: &mut Tree, alloc: Global, path: &Path, name: &str) -> Result<(), EmbedError> {
+    Ok(set_function(tree, alloc, path.names(), name, name)?)
 }
 
 fn main(rt: HostRuntime) -> Result<(), EmbedError> {
     let alloc = rt.alloc();
-    let guest = [Text::new(alloc, "guest")?];
     let mut tree = Tree::new(alloc)?;
-    admit(&mut tree, alloc, &guest)?;
+    tree.create(alloc, &[], &Text::new(alloc, "guest")?, true)?;
+    let guest = Path::parse(alloc, "guest")?;
+    open_door(&mut tree, alloc, &guest, "price")?;
+    open_door(&mut tree, alloc, &guest, "twice")?;
     let mut shop = WithFunctions::new(alloc, Shop {}, MemoryHost::new(alloc)?);
     'scripts: for script in ["price tea", "twice {twice {incr n}}", "twice"] {
-        let run = open_run(&mut tree, alloc, &mut shop, &guest, script, 1_000);
-        println!(rt; "{}", open_text(alloc, &run)?)?;
+        let run = open_run(&mut tree, alloc, &mut shop, guest.names(), script, 1_000);
+        println!(rt; "{}", open_run_text(alloc, &run)?)?;
     }
     Ok(())
 }

@@ -3,11 +3,7 @@
 #![tactic(auto)]
 
 use std::alloc::{AllocError, Global};
-use tcl_embed::errors::EmbedError;
-use tcl_embed::evaluation::{eval, run_text};
-use tcl_embed::hosts::MemoryHost;
-use tcl_embed::texts::Text;
-use tcl_embed::trees::Tree;
+use tcl_embed::{EmbedError, MemoryHost, Path, Text, Tree, eval, run_text};
 
 /// The strangers, and their scripts.
 const STRANGERS: [(&str, &str); 4] = [
@@ -22,32 +18,33 @@ const STRANGERS: [(&str, &str); 4] = [
 ];
 
 /// Makes a safe child of this name, which may make 1,000 steps and evaluate 50 deep.
-fn admit(tree: &mut Tree, alloc: Global, name: &str) -> Result<(), EmbedError> {
-    let path = [Text::new(alloc, name)?];
-    tree.create(alloc, &[], &path[0], true)?;
-    tree.set_limit(&[], &path, Some(1_000))?;
-    Ok(tree.set_depth_limit(&[], &path, 50)?)
+fn admit(tree: &mut Tree, alloc: Global, name: &str) -> Result<Path, EmbedError> {
+    tree.create(alloc, &[], &Text::new(alloc, name)?, true)?;
+    let path = Path::parse(alloc, name)?;
+    tree.set_limit(&[], path.names(), Some(1_000))?;
+    tree.set_depth_limit(&[], path.names(), 50)?;
+    Ok(path)
 }
 
 /// How a script of a stranger ends, and how many steps the stranger has made by then.
-fn ending(tree: &mut Tree, alloc: Global, name: &str, script: &str) -> Result<String, AllocError> {
-    let path = [Text::new(alloc, name)?];
+fn ending(tree: &mut Tree, alloc: Global, path: &Path, script: &str) -> Result<String, AllocError> {
     let mut host = MemoryHost::new(alloc)?;
-    let run = eval(tree, alloc, &mut host, &path, script, 100_000);
+    let run = eval(tree, alloc, &mut host, path.names(), script, 100_000);
     let text = run_text(alloc, &run)?;
-    let count = tree.count(&path).unwrap_or(0);
-    format!(in alloc; "{name}: {text}, {count} steps")
+    let count = tree.count(path.names()).unwrap_or(0);
+    format!(in alloc; "{path}: {text}, {count} steps")
 }
 
 fn main(rt: HostRuntime) -> Result<(), EmbedError> {
     let alloc = rt.alloc();
     let mut tree = Tree::new(alloc)?;
     'strangers: for (name, script) in STRANGERS {
-        admit(&mut tree, alloc, name)?;
-        println!(rt; "{}", ending(&mut tree, alloc, name, script)?)?;
+        let path = admit(&mut tree, alloc, name)?;
+        println!(rt; "{}", ending(&mut tree, alloc, &path, script)?)?;
     }
     'again: for (name, _) in STRANGERS {
-        println!(rt; "{}", ending(&mut tree, alloc, name, "set a 2")?)?;
+        let path = Path::parse(alloc, name)?;
+        println!(rt; "{}", ending(&mut tree, alloc, &path, "set a 2")?)?;
     }
     Ok(())
 }

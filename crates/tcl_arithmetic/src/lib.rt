@@ -11,16 +11,22 @@ ghost use Rattle.tcl_arithmetic.specs.Powers.{power, reduced};
 ghost use Rattle.tcl_arithmetic.specs.Digits.{digit, DigitsTell};
 ghost use Rattle.tcl_arithmetic.specs.Results.{IsChecked};
 
+use thiserror::Error;
+
 /// Why an operator has no result.
-#[derive(Clone, Copy, Debug, PartialEq, Eq)]
+#[derive(Clone, Copy, Debug, Eq, Error, PartialEq)]
 pub enum ArithmeticFault {
     /// The result doesn't fit 64 bits.
+    #[error("212: integer overflow")]
     Overflow,
     /// The divisor is zero.
+    #[error("213: divide by zero")]
     DivideByZero,
     /// A number is to be shifted by less than no places.
+    #[error("215: negative shift argument")]
     NegativeShift,
     /// A whole number has no power below zero.
+    #[error("216: negative exponent")]
     NegativeExponent,
 }
 

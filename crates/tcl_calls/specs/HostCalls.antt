@@ -1,5 +1,5 @@
--- What contracts see of calls of the host: what the words of a command ask for, and what the reply is
--- to the script.
+-- What contracts see of calls of the host: what the words of a command ask for, and what the reply
+-- is to the script.
 use Rattle.std.specs.Prelude.{◌≡◌, ℕ, true, false, List, Result, Ok, Err, MatchResult}
 use Rattle.tcl_core.specs.Endings.{Reply, unreturned}
 use Rattle.tcl_core.specs.Endings.Reply.{Completed}

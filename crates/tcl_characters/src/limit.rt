@@ -5,14 +5,18 @@ ghost use Rattle.tcl_characters.specs.Texts.{joined};
 
 use std::alloc::{AllocError, AllocFailed, Global};
 use tcl_text::limit::MOST_BYTES;
+use tcl_text::messages::{OUT_OF_MEMORY, TOO_LONG};
 use tcl_text::text::Text;
+use thiserror::Error;
 
 /// Why a text isn't made.
-#[derive(Clone, Copy, Debug, Drop)]
+#[derive(Clone, Copy, Debug, Drop, Error)]
 pub enum LimitError {
     /// Want of memory.
+    #[error("{}", OUT_OF_MEMORY)]
     Memory,
     /// The text would be longer than [`MOST_BYTES`] (122).
+    #[error("122: {}", TOO_LONG)]
     TooLong,
 }
 

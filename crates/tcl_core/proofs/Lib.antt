@@ -32,4 +32,5 @@ pub mod Safeguards
 pub mod Standing
 pub mod Beginnings
 pub mod Inward
+pub mod LifeMoves
 pub mod Reactions

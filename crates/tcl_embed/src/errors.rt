@@ -1,268 +1,184 @@
-//! What is said of errors: their numbers and texts, as docs/REFUSALS.md has them.
-//!
-//! Each function gives a line without the word that the error is about; `TreeError::text`,
-//! `ListFault::message` and `HostRefusal::message` give the text that a script sees, with it.
-//!
-//! - `EmbedError`: any of these errors; `?` makes it of each, and it is printed by `{}`.
-ghost use Rattle.std.specs.Prelude.{◌≡◌, Some};
-ghost use Rattle.tcl_embed.specs.Messages.{error_text, fault_text, refused_text, stop_text};
-ghost use Rattle.tcl_embed.specs.Messages.{tree_text, unplayed_text, unwatched_text, value_text};
-
-use std::alloc::{AllocError, AllocFailed};
-use std::error::Error;
-use std::{fmt, io};
-use tcl_characters::limit::LimitError;
+//! One error for a program that embeds.
+use std::alloc::AllocError;
+use std::io;
 use tcl_eval::running::Refused;
-use tcl_flow::stop::StopKind;
+use tcl_host::reply::HostError;
+use tcl_open_watching::watching::OpenUnwatched;
 use tcl_replay::replaying::Unplayed;
 use tcl_replay::watching::Unwatched;
-use tcl_text::list::{ListError, ListFault};
-use tcl_text::messages::{COUNT_LIMIT, DEPTH_LIMIT};
+use tcl_text::boolean::BooleanFault;
+use tcl_text::integer::IntegerFault;
+use tcl_text::list::ListError;
 use tcl_tree::refusal::TreeError;
-use tcl_value::value::ValueError;
+use tcl_value::dict_fault::{DictError, EntryError};
+use tcl_value::value::{ChangeError, ValueError};
+use thiserror::Error;
 
-/// The text of a limit that was met.
-pub fn stop_text(kind: StopKind) -> &'static str
-    ensures { result.now ≡ stop_text kind }
-{
-    match kind {
-        StopKind::Count => COUNT_LIMIT,
-        StopKind::Depth => DEPTH_LIMIT,
-    }
-}
-
-/// Why there was no run, or none that came to its end.
-pub fn refused_text(refused: Refused) -> &'static str
-    ensures { result.now ≡ refused_text refused }
-{
-    match refused {
-        Refused::Memory => "401: out of memory, and the tree is broken",
-        Refused::Broken => "402: the tree is broken",
-        Refused::NoInterpreter => "403: no interpreter stands at the path",
-        Refused::CountTooLarge => "404: the count of steps would pass its limit",
-        Refused::TooLong => "122: value longer than 16777216 bytes",
-    }
-}
-
-/// Why there is no record of an evaluation.
-pub fn unwatched_text(unwatched: &Unwatched) -> &'static str
-    ensures { result.now ≡ unwatched_text unwatched.now }
-{
-    match unwatched {
-        Unwatched::Refused(refused) => refused_text(*refused),
-        Unwatched::Deleted(_) => "411: the watched interpreter was deleted",
-    }
-}
-
-/// Why nothing was replayed.
-pub fn unplayed_text(unplayed: Unplayed) -> &'static str
-    ensures { result.now ≡ unplayed_text unplayed }
-{
-    match unplayed {
-        Unplayed::Memory => "401: out of memory",
-        Unplayed::CountTooLarge => "404: the count of steps would pass its limit",
-        Unplayed::Waits => "412: it waits for an answer",
-    }
-}
-
-/// Why a call on a tree did nothing.
-pub fn tree_text(error: TreeError) -> &'static str
-    ensures { result.now ≡ tree_text error }
-{
-    match error {
-        TreeError::Memory => "out of memory",
-        TreeError::BadName => "238: bad name",
-        TreeError::BadCount => "245: bad count",
-        TreeError::NoInterpreter => "301: could not find interpreter",
-        TreeError::Exists => "302: already exists",
-        TreeError::InUse => "303: interpreter is in use",
-        TreeError::Denied => "304: permission denied",
-        TreeError::NoCommand => "305: invalid command name",
-        TreeError::NoHidden => "306: invalid hidden command name",
-        TreeError::TooMany => "307: too many interpreters",
-        TreeError::CountLimit(_) => "308: command count limit exceeded",
-        TreeError::DepthLimit(_) => "308: too many nested evaluations (infinite loop?)",
-        TreeError::BadDepthLimit => "309: recursion limit must be between 1 and 1000",
-    }
-}
-
-/// Why a text spells no list.
-pub fn fault_text(fault: &ListFault) -> &'static str
-    ensures { result.now ≡ fault_text fault.now }
-{
-    match fault {
-        ListFault::UnmatchedBrace => "101: unmatched open brace in list",
-        ListFault::UnmatchedQuote => "102: unmatched open quote in list",
-        ListFault::AfterBrace(_) => "103: list element in braces followed by other text",
-        ListFault::AfterQuote(_) => "104: list element in quotes followed by other text",
-    }
-}
-
-/// Why a value isn't made.
-pub fn value_text(error: ValueError) -> &'static str
-    ensures { result.now ≡ value_text error }
-{
-    match error {
-        ValueError::Memory => "out of memory",
-        ValueError::TooLong => "122: value longer than 16777216 bytes",
-    }
-}
-
-/// Any error of a call of this crate, for a program that only says it.
-#[derive(Debug, Drop)]
+/// Any error of the calls of this crate: `?` makes it of each of them, and `{}` prints it with its
+/// number. An error of printing becomes one, too, so that a `main` can return it.
+#[derive(Debug, Drop, Error)]
 pub enum EmbedError {
-    /// Want of memory, where no evaluation ended by it.
-    Memory,
-    /// There was no run, or none that came to its end.
-    Refused(Refused),
-    /// 411: the watched interpreter was deleted in the run.
-    Deleted,
-    /// Nothing was replayed.
-    Unplayed(Unplayed),
-    /// A call on a tree did nothing.
-    Tree(TreeError),
-    /// A text spells no list.
-    List(ListFault),
-    /// A value isn't made.
-    Value(ValueError),
-    /// A program couldn't print.
-    Output,
+    /// Memory is wanted.
+    #[error(transparent)]
+    Memory(#[from(alloc)] AllocError),
+    /// There was no run, or none that came to its end (122, 401 to 404).
+    #[error(transparent)]
+    Refused(#[from] Refused),
+    /// There is no record (122, 401 to 404, 411).
+    #[error(transparent)]
+    Unwatched(#[from] Unwatched),
+    /// There is no record of an open evaluation (122, 401 to 404, 411).
+    #[error(transparent)]
+    OpenUnwatched(#[from] OpenUnwatched),
+    /// Nothing was replayed (401, 404, 412).
+    #[error(transparent)]
+    Unplayed(#[from] Unplayed),
+    /// A call on a tree did nothing (238, 245, 301 to 309).
+    #[error(transparent)]
+    Tree(#[from] TreeError),
+    /// A host refused, or wants memory (261, 262, 267).
+    #[error(transparent)]
+    Host(#[from] HostError),
+    /// A text spells no list (101 to 104).
+    #[error(transparent)]
+    List(#[from] ListError),
+    /// A list is no dict (101 to 104, 121).
+    #[error(transparent)]
+    Dict(#[from] DictError),
+    /// A text is no integer (111, 112).
+    #[error(transparent)]
+    Integer(#[from] IntegerFault),
+    /// A text is no truth value (113).
+    #[error(transparent)]
+    Boolean(#[from] BooleanFault),
+    /// A value isn't made (122).
+    #[error(transparent)]
+    Value(#[from] ValueError),
+    /// A value isn't changed as a list (101 to 104, 122, 243).
+    #[error(transparent)]
+    Change(#[from] ChangeError),
+    /// A value isn't changed as a dict (101 to 104, 121, 122).
+    #[error(transparent)]
+    Entry(#[from] EntryError),
+    /// Something isn't printed or read.
+    #[error(transparent)]
+    Io(#[from] io::Error),
 }
 
-impl EmbedError {
-    /// What is said of it.
-    pub fn text(&self) -> &'static str
-        ensures { result.now ≡ error_text self.now }
-    {
-        match self {
-            EmbedError::Memory => "out of memory",
-            EmbedError::Refused(refused) => refused_text(*refused),
-            EmbedError::Deleted => "411: the watched interpreter was deleted",
-            EmbedError::Unplayed(unplayed) => unplayed_text(*unplayed),
-            EmbedError::Tree(error) => tree_text(*error),
-            EmbedError::List(fault) => fault_text(fault),
-            EmbedError::Value(error) => value_text(*error),
-            EmbedError::Output => "the output can't be written",
+#[cfg(test)]
+mod tests {
+    use super::*;
+    use std::alloc::Global;
+    use std::test::Fail;
+    use tcl_eval::running::OpenEnd;
+    use tcl_host::reply::HostRefusal;
+    use tcl_text::list::ListFault;
+    use tcl_text::text::Text;
+    use tcl_value::dict_fault::DictFault;
+
+    /// An error is printed so.
+    fn see(alloc: Global, error: EmbedError, wanted: &str) -> Result<(), Fail> {
+        let found = error.to_string(alloc)?;
+        if found.as_str() == wanted {
+            return Ok(());
         }
+        Err(Fail::new(format_args!("found {found}, of {wanted}")))
     }
-}
 
-impl fmt::Display for EmbedError {
-    ghost output = { λ e. Some (error_text e) };
-
-    fn fmt<W: fmt::Write>(&self, f: &mut fmt::Formatter<W>) -> fmt::Result {
-        let text = self.text();
-        write!(f, "{text}")
+    #[test]
+    fn errors_of_runs(rt: HostRuntime) -> Result<(), Fail> {
+        let alloc = rt.alloc();
+        let memory = "401: out of memory, and the tree is broken";
+        see(alloc, EmbedError::from(Refused::Memory), memory)?;
+        let broken = "402: the tree is broken";
+        see(alloc, EmbedError::from(Refused::Broken), broken)?;
+        let nobody = "403: no interpreter stands at the path";
+        see(alloc, EmbedError::from(Refused::NoInterpreter), nobody)?;
+        let count = "404: the count of steps would pass its limit";
+        see(alloc, EmbedError::from(Refused::CountTooLarge), count)?;
+        let long = "122: value longer than 16777216 bytes";
+        see(alloc, EmbedError::from(Refused::TooLong), long)?;
+        see(
+            alloc,
+            EmbedError::from(Unwatched::Refused(Refused::Broken)),
+            broken,
+        )?;
+        let deleted = OpenUnwatched::Deleted(OpenEnd::CutOff);
+        let told = "411: the watched interpreter was deleted in the run";
+        see(alloc, EmbedError::from(deleted), told)?;
+        let waits = "412: the interpreter waits for an answer";
+        see(alloc, EmbedError::from(Unplayed::Waits), waits)
     }
-}
 
-impl Error for EmbedError {}
-
-impl From<AllocError> for EmbedError {
-    ghost use Rattle.tcl_embed.specs.declared.errors.EmbedError.TheVariants.{Memory};
-
-    ghost from_gives = { λ _ e. e ≡ Memory };
-
-    fn from(_e: AllocError) -> EmbedError {
-        EmbedError::Memory
+    #[test]
+    fn errors_of_trees(rt: HostRuntime) -> Result<(), Fail> {
+        let alloc = rt.alloc();
+        see(alloc, EmbedError::from(TreeError::Memory), "out of memory")?;
+        see(alloc, EmbedError::from(TreeError::BadName), "238: bad name")?;
+        see(
+            alloc,
+            EmbedError::from(TreeError::BadCount),
+            "245: bad count",
+        )?;
+        let nobody = "301: could not find interpreter";
+        see(alloc, EmbedError::from(TreeError::NoInterpreter), nobody)?;
+        let exists = "302: a command of this name already exists";
+        see(alloc, EmbedError::from(TreeError::Exists), exists)?;
+        see(
+            alloc,
+            EmbedError::from(TreeError::InUse),
+            "303: interpreter is in use",
+        )?;
+        see(
+            alloc,
+            EmbedError::from(TreeError::Denied),
+            "304: permission denied",
+        )?;
+        let command = "305: invalid command name";
+        see(alloc, EmbedError::from(TreeError::NoCommand), command)?;
+        let hidden = "306: invalid hidden command name";
+        see(alloc, EmbedError::from(TreeError::NoHidden), hidden)?;
+        see(
+            alloc,
+            EmbedError::from(TreeError::TooMany),
+            "307: too many interpreters",
+        )?;
+        let count = "308: command count limit exceeded";
+        see(alloc, EmbedError::from(TreeError::CountLimit(2)), count)?;
+        let depth = "308: too many nested evaluations (infinite loop?)";
+        see(alloc, EmbedError::from(TreeError::DepthLimit(0)), depth)?;
+        let limit = "309: recursion limit must be between 1 and 1000";
+        see(alloc, EmbedError::from(TreeError::BadDepthLimit), limit)
     }
-}
 
-impl<T: Drop> From<AllocFailed<T>> for EmbedError {
-    ghost use Rattle.tcl_embed.specs.declared.errors.EmbedError.TheVariants.{Memory};
-
-    ghost from_gives = { λ _ e. e ≡ Memory };
-
-    fn from(_e: AllocFailed<T>) -> EmbedError {
-        EmbedError::Memory
-    }
-}
-
-impl From<io::Error> for EmbedError {
-    ghost use Rattle.tcl_embed.specs.declared.errors.EmbedError.TheVariants.{Output};
-
-    ghost from_gives = { λ _ e. e ≡ Output };
-
-    fn from(_e: io::Error) -> EmbedError {
-        EmbedError::Output
-    }
-}
-
-impl From<Refused> for EmbedError {
-    ghost use Rattle.tcl_embed.specs.declared.errors.EmbedError.TheVariants as embed;
-
-    ghost from_gives = { λ x e. e ≡ embed.Refused x };
-
-    fn from(refused: Refused) -> EmbedError {
-        EmbedError::Refused(refused)
-    }
-}
-
-impl From<Unwatched> for EmbedError {
-    ghost use Rattle.tcl_embed.specs.Conversions.{of_unwatched};
-
-    ghost from_gives = { λ x e. e ≡ of_unwatched x };
-
-    fn from(unwatched: Unwatched) -> EmbedError {
-        match unwatched {
-            Unwatched::Refused(refused) => EmbedError::Refused(refused),
-            Unwatched::Deleted(_end) => EmbedError::Deleted,
-        }
-    }
-}
-
-impl From<Unplayed> for EmbedError {
-    ghost use Rattle.tcl_embed.specs.declared.errors.EmbedError.TheVariants as embed;
-
-    ghost from_gives = { λ x e. e ≡ embed.Unplayed x };
-
-    fn from(unplayed: Unplayed) -> EmbedError {
-        EmbedError::Unplayed(unplayed)
-    }
-}
-
-impl From<TreeError> for EmbedError {
-    ghost use Rattle.tcl_embed.specs.declared.errors.EmbedError.TheVariants as embed;
-
-    ghost from_gives = { λ x e. e ≡ embed.Tree x };
-
-    fn from(error: TreeError) -> EmbedError {
-        EmbedError::Tree(error)
-    }
-}
-
-impl From<ListError> for EmbedError {
-    ghost use Rattle.tcl_embed.specs.Conversions.{of_list};
-
-    ghost from_gives = { λ x e. e ≡ of_list x };
-
-    fn from(error: ListError) -> EmbedError {
-        match error {
-            ListError::Memory => EmbedError::Memory,
-            ListError::Fault(fault) => EmbedError::List(fault),
-        }
-    }
-}
-
-impl From<ValueError> for EmbedError {
-    ghost use Rattle.tcl_embed.specs.declared.errors.EmbedError.TheVariants as embed;
-
-    ghost from_gives = { λ x e. e ≡ embed.Value x };
-
-    fn from(error: ValueError) -> EmbedError {
-        EmbedError::Value(error)
-    }
-}
-
-impl From<LimitError> for EmbedError {
-    ghost use Rattle.tcl_embed.specs.Conversions.{of_limit};
-
-    ghost from_gives = { λ x e. e ≡ of_limit x };
-
-    fn from(error: LimitError) -> EmbedError {
-        match error {
-            LimitError::Memory => EmbedError::Memory,
-            LimitError::TooLong => EmbedError::Value(ValueError::TooLong),
-        }
+    #[test]
+    fn errors_of_values(rt: HostRuntime) -> Result<(), Fail> {
+        let alloc = rt.alloc();
+        let brace = ListError::Fault(ListFault::UnmatchedBrace);
+        see(
+            alloc,
+            EmbedError::from(brace),
+            "101: unmatched open brace in list",
+        )?;
+        let after = ListFault::AfterQuote(Text::new(alloc, "x")?);
+        let told = "104: list element in quotes followed by \"x\" instead of space";
+        see(alloc, EmbedError::from(ListError::Fault(after)), told)?;
+        let missing = DictError::Fault(DictFault::MissingValue);
+        see(
+            alloc,
+            EmbedError::from(missing),
+            "121: missing value to go with key",
+        )?;
+        see(alloc, EmbedError::from(EntryError::Memory), "out of memory")?;
+        let long = "122: value longer than 16777216 bytes";
+        see(alloc, EmbedError::from(ValueError::TooLong), long)?;
+        let place = "243: list index out of range";
+        see(alloc, EmbedError::from(ChangeError::NoElement), place)?;
+        let large = "112: integer value too large to represent";
+        see(alloc, EmbedError::from(IntegerFault::TooLarge), large)?;
+        let boolean = "113: expected boolean value";
+        see(alloc, EmbedError::from(BooleanFault::NotBoolean), boolean)?;
+        let refused = HostError::Refused(HostRefusal::NoChannel);
+        see(alloc, EmbedError::from(refused), "261: no such channel")
     }
 }

@@ -1,45 +1,55 @@
 //! Evaluation of scripts.
-//!
-//! - `eval`: evaluates a script in an interpreter, with a host and a limit of counted steps.
-//! - `open_run`: the same over any outside, as functions and a host (see `functions`).
-//! - `refusal`: why a run would be refused.
-//! - `run_text`, `open_text`, `end_text`: what is said of how a run ended.
-//! - `End`, and of an open run `OpenEnd`: how a run ended; `Completion`, `Options`: a code, a text and options; `OK`, `ERROR`,
-//!   `RETURN`, `BREAK`, `CONTINUE`: the codes with names.
-//! - `Refused`: why there was no run, or none that came to its end (401 to 404, 122).
 ghost use Rattle.std.specs.Prelude.{◌≡◌, IfOk};
 ghost use Rattle.std.specs.String.{string_bytes};
-ghost use Rattle.tcl_embed.specs.Messages.{completion_text, end_text, open_text, run_text};
+ghost use Rattle.tcl_embed.specs.Ends.{completion_text, end_text, limit_text, open_end_text};
 
-use crate::errors::{refused_text, stop_text};
 use std::alloc::{AllocError, Global};
-pub use tcl_eval::running::{End, OpenEnd, Refused, eval, open_run, refusal};
-pub use tcl_flow::completion::{BREAK, CONTINUE, Completion, ERROR, OK, Options, RETURN};
+use tcl_flow::stop::StopKind;
+use tcl_text::messages::{COUNT_LIMIT, DEPTH_LIMIT};
 
-/// What is said of a run: how it ended, or why there was none.
+/// Evaluates a script in the interpreter at a path, with a host, in at most so many counted steps.
+pub use tcl_eval::running::eval;
+/// The same over any outside, as functions and a host (see `functions`).
+pub use tcl_eval::running::open_run;
+/// Why a run would be refused, before there is one.
+pub use tcl_eval::running::refusal;
+/// How a run ended: by a completion, by a limit of the root, or by an exit.
+pub use tcl_eval::running::End;
+/// How an open run ended: as a run does, or cut off by its outside.
+pub use tcl_eval::running::OpenEnd;
+/// Why there was no run, or none that came to its end (122, 401 to 404).
+pub use tcl_eval::running::Refused;
+/// A code, a text and options, by which a script completes.
+pub use tcl_flow::completion::Completion;
+/// The options of a completion: its code, level and errorcode.
+pub use tcl_flow::completion::Options;
+/// The codes that have names: 0, 1, 2, 3 and 4.
+pub use tcl_flow::completion::{BREAK, CONTINUE, ERROR, OK, RETURN};
+
+/// What is said of a run: how it ended (see `end_text`), or why there was none.
 ///
 /// # Errors
 /// Want of memory.
 pub fn run_text(alloc: Global, run: &Result<End, Refused>) -> Result<String, AllocError>
-    ensures { IfOk result (λ text. string_bytes text ≡ run_text run.now) }
+    ensures { IfOk result (λ text. IfOk run.now (λ end. string_bytes text ≡ end_text end)) }
 {
     match run {
         Ok(end) => end_text(alloc, end),
-        Err(refused) => String::from_str(alloc, refused_text(*refused)),
+        Err(refused) => refused.to_string(alloc),
     }
 }
 
-/// What is said of an open run: how it ended, also `cut off` by its outside, or why there was none.
+/// The same of an open run, also `cut off` where its outside ended it.
 ///
 /// # Errors
 /// Want of memory.
-pub fn open_text(alloc: Global, run: &Result<OpenEnd, Refused>) -> Result<String, AllocError>
-    ensures { IfOk result (λ text. string_bytes text ≡ open_text run.now) }
+pub fn open_run_text(alloc: Global, run: &Result<OpenEnd, Refused>) -> Result<String, AllocError>
+    ensures { IfOk result (λ text. IfOk run.now (λ end. string_bytes text ≡ open_end_text end)) }
 {
     match run {
         Ok(OpenEnd::Ran(end)) => end_text(alloc, end),
         Ok(OpenEnd::CutOff) => String::from_str(alloc, "cut off"),
-        Err(refused) => String::from_str(alloc, refused_text(*refused)),
+        Err(refused) => refused.to_string(alloc),
     }
 }
 
@@ -51,9 +61,9 @@ pub fn end_text(alloc: Global, end: &End) -> Result<String, AllocError>
     ensures { IfOk result (λ text. string_bytes text ≡ end_text end.now) }
 {
     match end {
-        End::Done(completion) => completed(alloc, completion),
+        End::Done(completion) => completion_text(alloc, completion),
         End::Stopped(kind) => {
-            let limit = stop_text(*kind);
+            let limit = limit_text(*kind);
             format!(in alloc; "stopped: {limit}")
         }
         End::Exit(status) => {
@@ -64,11 +74,21 @@ pub fn end_text(alloc: Global, end: &End) -> Result<String, AllocError>
 }
 
 /// How a script completed.
-fn completed(alloc: Global, completion: &Completion) -> Result<String, AllocError>
+fn completion_text(alloc: Global, completion: &Completion) -> Result<String, AllocError>
     ensures { IfOk result (λ text. string_bytes text ≡ completion_text completion.now) }
 {
     let code = completion.code;
     let text = completion.text.text(alloc)?;
     let text = text.as_str();
     format!(in alloc; "code {code}: {text}")
+}
+
+/// The text of a limit that was met.
+fn limit_text(kind: StopKind) -> &'static str
+    ensures { result.now ≡ limit_text kind }
+{
+    match kind {
+        StopKind::Count => COUNT_LIMIT,
+        StopKind::Depth => DEPTH_LIMIT,
+    }
 }

@@ -1,14 +1,22 @@
 //! Hosts: the files and channels that scripts reach.
-//!
-//! - `Host`: what an embedder implements for files and channels of its own; `ask` makes one request
-//!   of it.
-//! - `MemoryHost`: files, channels and standard streams in memory; `put_file`, `put_input`,
-//!   `output`, `errors` and `file` are for who made it, and `fail_at` plans a fault.
-//! - `Request`, `HostReply`, `HostRefusal`, `HostError`, `OpenMode`, `Bytes`: what is asked, and how
-//!   it is answered (261 to 267).
-pub use tcl_host::bytes::Bytes;
-pub use tcl_host::host::{Host, ask};
+
+/// What an embedder implements for files and channels of its own: open, read, write and close. A
+/// host can be lent: `&mut H` is one where `H` is.
+pub use tcl_host::host::Host;
+/// Makes one request of a host, and gives its reply.
+pub use tcl_host::host::ask;
+/// A host in memory. Who made it puts files and input in (`put_file`, `put_input`), reads what was
+/// written (`output`, `errors`, `file`), and can plan a fault (`fail_at`).
 pub use tcl_host::memory::MemoryHost;
-pub use tcl_host::open_mode::OpenMode;
-pub use tcl_host::reply::{HostError, HostRefusal, HostReply};
+/// What is asked of a host.
 pub use tcl_host::request::Request;
+/// What it replies.
+pub use tcl_host::reply::HostReply;
+/// Why it refuses: 261 no such channel, 262 a device fault, 267 a file that wasn't opened.
+pub use tcl_host::reply::HostRefusal;
+/// Why a call to a host gave nothing: memory is wanted, or it refuses.
+pub use tcl_host::reply::HostError;
+/// How a file is opened: to be read, written or appended to.
+pub use tcl_host::open_mode::OpenMode;
+/// The bytes that a read gives.
+pub use tcl_host::bytes::Bytes;

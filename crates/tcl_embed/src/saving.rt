@@ -1,5 +1,6 @@
 //! Interpreters that are saved by themselves.
-//!
-//! - `save`: the interpreter at a path with all below it, as it stands (401, 402, 403).
-//! - `Saved`: what it gives; `same` compares two, and `replay` plays moves to one.
-pub use tcl_replay::saving::{Saved, save};
+
+/// The interpreter at a path by itself, with all below it, as it stands (401, 402, 403).
+pub use tcl_replay::saving::save;
+/// What `save` gives: `same` compares two, and `replay` plays moves to one.
+pub use tcl_replay::saving::Saved;

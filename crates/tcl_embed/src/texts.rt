@@ -1,8 +1,16 @@
-//! Texts in UTF-8, and how texts are read as numbers.
-//!
-//! - `Text`: a shared text, such as a name; a clone shares the bytes.
-//! - `Integers`: whether `010` is read as Tcl 8 does or as Tcl 9 does; a tree has one style.
-//! - `read_int`, `read_bool`: what a text is as an integer (111, 112) and as a truth value (113).
-pub use tcl_text::boolean::{BooleanFault, read_bool};
-pub use tcl_text::integer::{IntegerFault, Integers, read_int, write_int};
+//! Texts in UTF-8, and how they are read as numbers and truth values.
+
+/// A shared text, as a name is one; a clone shares the bytes.
 pub use tcl_text::text::Text;
+/// How `010` is read: as Tcl 8 does (8) or as Tcl 9 does (10). A tree has one style.
+pub use tcl_text::integer::Integers;
+/// What a text is as an integer of 64 bits.
+pub use tcl_text::integer::read_int;
+/// Why it is none: it doesn't spell one (111), or it takes more than 64 bits (112).
+pub use tcl_text::integer::IntegerFault;
+/// The decimal digits of an integer.
+pub use tcl_text::integer::write_int;
+/// What a text is as a truth value: `true`, `yes`, `on` and their opposites, or an integer.
+pub use tcl_text::boolean::read_bool;
+/// Why it is none (113).
+pub use tcl_text::boolean::BooleanFault;

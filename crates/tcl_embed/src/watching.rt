@@ -1,11 +1,25 @@
-//! Evaluations whose crossings of one interpreter's boundary are recorded.
-//!
-//! - `eval_watched`: evaluates with a host, as `evaluation::eval`.
-//! - `Unwatched`: why there is no record (401 to 404, 122, 411).
-//! - `Record`, `Crossing`, `Reply`, `Answer`: what crossed the boundary, in order.
-//! - `lines_of`, `line_of`: crossings as lines of text; `LimitError`: why there are none (122).
-pub use tcl_characters::limit::LimitError;
-pub use tcl_record_texts::lines::{line_of, lines_of};
-pub use tcl_recorder::crossing::{Answer, Crossing, Reply};
+//! Evaluations of which is recorded what crosses the boundary of one interpreter.
+
+/// Evaluates with a host, as `evaluation::eval` does, and records. The host is given back; a host
+/// that is lent, `&mut host`, serves as well.
+pub use tcl_replay::watching::eval_watched;
+/// Why there is no record (122, 401 to 404, 411).
+pub use tcl_replay::watching::Unwatched;
+/// The same over any outside, as `evaluation::open_run`; the outside is given back.
+pub use tcl_open_watching::watching::open_watched;
+/// Why there is no record of an open evaluation (122, 401 to 404, 411).
+pub use tcl_open_watching::watching::OpenUnwatched;
+/// What crossed the boundary of the watched interpreter, in order.
 pub use tcl_recorder::record::Record;
-pub use tcl_replay::watching::{Unwatched, eval_watched};
+/// One crossing: an entry that comes in, its end, a call that goes out, or the answer to it.
+pub use tcl_recorder::crossing::Crossing;
+/// How an entry or a call ended.
+pub use tcl_recorder::crossing::Reply;
+/// What came back to a call: a reply, or what the host said.
+pub use tcl_recorder::crossing::Answer;
+/// A record as lines of text, one for each crossing.
+pub use tcl_record_texts::lines::record_lines;
+/// Crossings as lines of text, as those that `Replayed::outwards` gives.
+pub use tcl_record_texts::lines::crossing_lines;
+/// One crossing as a line of text.
+pub use tcl_record_texts::lines::crossing_line;

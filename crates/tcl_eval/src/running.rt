@@ -25,10 +25,12 @@ use tcl_run::interruption::Interruption;
 use tcl_run::outside::Outside;
 use tcl_run_laws::budgets::scripts_keep_budgets;
 use tcl_text::limit::MOST_BYTES;
+use tcl_text::messages::{COUNT_TOO_LARGE, OUT_OF_MEMORY, TOO_LONG};
 use tcl_text::text::Text;
 use tcl_tree::node::MOST_STEPS;
 use tcl_tree::tree::{Place, Tree};
 use tcl_value::value::Value;
+use thiserror::Error;
 
 /// How a run ended.
 #[derive(Drop)]
@@ -52,18 +54,23 @@ pub enum OpenEnd {
 }
 
 /// Why there was no run, or none that came to its end.
-#[derive(Clone, Copy, Debug, PartialEq, Eq)]
+#[derive(Clone, Copy, Debug, Eq, Error, PartialEq)]
 pub enum Refused {
     /// 401: memory was wanted. The tree is broken since then.
+    #[error("401: {}, and the tree is broken", OUT_OF_MEMORY)]
     Memory,
     /// 402: the tree was broken before.
+    #[error("402: the tree is broken")]
     Broken,
     /// 403: no interpreter stands at the path.
+    #[error("403: no interpreter stands at the path")]
     NoInterpreter,
     /// 404: the steps that were counted in the root and those of the run pass 9223372036854775807
     /// together.
+    #[error("404: {}", COUNT_TOO_LARGE)]
     CountTooLarge,
     /// 122: the script is longer than 16777216 bytes.
+    #[error("122: {}", TOO_LONG)]
     TooLong,
 }
 

@@ -7,21 +7,27 @@ use std::alloc::{AllocError, AllocFailed, Global};
 use tcl_parser::fault::Fault;
 use tcl_parser::reader::ReadError;
 use tcl_text::integer::too_large_message;
-use tcl_text::messages::{TOO_LONG, quoting};
+use tcl_text::messages::{OUT_OF_MEMORY, TOO_LARGE, TOO_LONG, quoting};
 use tcl_text::text::Text;
+use thiserror::Error;
 
 /// What is wrong with a text that is no expression.
-#[derive(Clone, Copy, Debug, PartialEq, Eq)]
+#[derive(Clone, Copy, Debug, Eq, Error, PartialEq)]
 pub enum ExprFault {
     /// 211: no expression begins so.
+    #[error("211: syntax error in expression")]
     Syntax,
     /// 217: only an expression that nests too deep begins so.
+    #[error("217: expression nested too deeply")]
     TooDeep,
     /// 112: an integer literal is out of range.
+    #[error("112: {}", TOO_LARGE)]
     TooLarge,
     /// 201 to 206: an operand ends too early, or a script in it is at fault.
+    #[error(transparent)]
     Operand(Fault),
     /// 122: the text is longer than a value may be.
+    #[error("122: {}", TOO_LONG)]
     TooLong,
 }
 
@@ -52,11 +58,13 @@ fn syntax_message(alloc: Global, expression: &str) -> Result<Text, AllocError>
 }
 
 /// Why an expression isn't read.
-#[derive(Clone, Copy, Debug, PartialEq, Eq)]
+#[derive(Clone, Copy, Debug, Eq, Error, PartialEq)]
 pub enum ExprError {
     /// Memory ran out.
+    #[error("{}", OUT_OF_MEMORY)]
     Memory,
     /// The text is no expression.
+    #[error(transparent)]
     Fault(ExprFault),
 }
 

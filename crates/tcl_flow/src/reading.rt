@@ -14,17 +14,21 @@ use crate::completion::{Completion, Options};
 use crate::returning::{OptionsFault, code_of, level_of, make_return};
 use std::alloc::{AllocError, AllocFailed, Global};
 use tcl_text::integer::Integers;
+use tcl_text::messages::OUT_OF_MEMORY;
 use tcl_text::text::Text;
 use tcl_value::dict::Dict;
 use tcl_value::dict_fault::DictError;
 use tcl_value::value::Value;
+use thiserror::Error;
 
 /// Why no options are read.
-#[derive(Debug, Drop)]
+#[derive(Debug, Drop, Error)]
 pub enum OptionsError {
     /// Want of memory.
+    #[error("{}", OUT_OF_MEMORY)]
     Memory,
     /// A refusal (221).
+    #[error(transparent)]
     Fault(OptionsFault),
 }
 

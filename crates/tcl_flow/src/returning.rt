@@ -16,13 +16,16 @@ use tcl_text::list::write_list;
 use tcl_text::messages::{BAD_OPTION, quoting};
 use tcl_text::text::Text;
 use tcl_value::value::{Value, ValueError};
+use thiserror::Error;
 
 /// Why the options of a return are refused (221).
-#[derive(Debug, Drop)]
+#[derive(Debug, Drop, Error)]
 pub enum OptionsFault {
     /// A level that is no integer from 0 up, or options that are no dict.
+    #[error("221: bad option \"{0}\"")]
     BadOption(Text),
     /// A code that is neither a word nor an integer.
+    #[error("221: bad completion code \"{0}\"")]
     BadCode(Text),
 }
 

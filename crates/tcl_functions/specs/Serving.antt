@@ -179,9 +179,9 @@ meets serves step o s p (Back h a) z = past (rise_to h p) o z (ComesBack serves 
 meets serves step o s p (Refused m None) z = Prim.⊥
 meets serves step o s p x z = z ≡ o
 
--- Functions and a host go from one state to the next by what passes the top of the tree: a call of a
--- function opens it, what the function does next hands in an entry or ends the call, an entry's end
--- is a reply to it, and a request is a step of the host. They refuse no step.
+-- Functions and a host go from one state to the next by what passes the top of the tree: a call of
+-- a function opens it, what the function does next hands in an entry or ends the call, an entry's
+-- end is a reply to it, and a request is a step of the host. They refuse no step.
 abbrev pub going : {F H : Type 0} → Serving F → Hosting H → Going (WithFunctions F H)
 going serves step T o s ev z = meets serves step o s ev.place ev.what z
 

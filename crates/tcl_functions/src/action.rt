@@ -20,9 +20,14 @@ use tcl_value::value::{Value, ValueError};
 pub enum Action {
     /// It ends the call, by this completion.
     Complete(Completion),
-    /// It asks this of the interpreter at the path, which begins at the root of the tree. Once that
-    /// is done, the function is asked again, with one reply more.
-    Enter(Vec<Text>, Entry),
+    /// It asks something of an interpreter first. Once that is done, the function is asked again,
+    /// with one reply more.
+    Enter {
+        /// The path of the interpreter, from the root of the tree downward.
+        target: Vec<Text>,
+        /// What is asked of it.
+        entry: Entry,
+    },
     /// It ends the whole run with this status.
     Exit(i64),
 }
@@ -89,5 +94,8 @@ fn enter(alloc: Global, path: &[Text], script: Value) -> Result<Action, AllocErr
     ensures { IfOk result (λ action. action_of action ≡ Enters path.now (Eval script)) }
 {
     let target = Vec::from_clones(alloc, path)?;
-    Ok(Action::Enter(target, Entry::Eval(script)))
+    Ok(Action::Enter {
+        target,
+        entry: Entry::Eval(script),
+    })
 }

@@ -21,20 +21,20 @@ pub fn set_function(
     tree: &mut Tree,
     alloc: Global,
     path: &[Text],
-    name: Text,
+    name: &str,
     function: &str,
 ) -> Result<(), TreeError>
     ensures there { OnOk result (IsSome (tree_of tree.old path.now)) }
     ensures set { OnOk result
-        (Aliases (tree_of tree.old) (tree_of tree.new) path.now name function.now) }
+        (Aliases (tree_of tree.old) (tree_of tree.new) path.now name.now function.now) }
     ensures refused { IfErr result
-        (λ e. RefusesAlias e (tree_of tree.old) path.now name function.now) }
+        (λ e. RefusesAlias e (tree_of tree.old) path.now name.now function.now) }
     ensures unchanged { OnErr result (tree_of tree.new ≡ tree_of tree.old) }
     ensures keys { (q : List (List ℕ)) → key_of tree.new q ≡ key_of tree.old q }
     ensures marks { marks_of tree.new ≡ marks_of tree.old }
 {
     match Value::from_text(Text::new(alloc, function)?) {
-        Ok(function) => alias_to(tree, alloc, path, name, function),
+        Ok(function) => alias_to(tree, alloc, path, Text::new(alloc, name)?, function),
         Err(ValueError::TooLong) => Err(TreeError::BadName),
         Err(ValueError::Memory) => Err(TreeError::Memory),
     }

@@ -1,5 +1,6 @@
 //! Functions and a host, which stand outside of a tree together.
-ghost use Rattle.std.specs.Prelude.{◌≡◌, ◌<◌, ◌≤◌, [], true, IfErr, MatchResult, OnOk};
+ghost use Rattle.std.specs.Prelude.{◌≡◌, ◌<◌, ◌≤◌, [], false, true, IfErr, MatchResult};
+ghost use Rattle.std.specs.Prelude.{OnOk};
 ghost use Rattle.tcl_core.specs.Paths.{Path};
 ghost use Rattle.tcl_functions.specs.Actions.{action_of};
 ghost use Rattle.tcl_functions.specs.Actions.ActionView.{Enters};
@@ -30,7 +31,7 @@ use tcl_value::value::Value;
 pub const TOO_MANY_ENTRIES: &str = "too many entries";
 
 /// Functions of an embedder, and a host: the functions answer the calls of aliases that lead past
-/// the top of the tree, and the host all requests.
+/// the top of the tree, and the host all requests. They refuse no step, and answer no call by a cut.
 ///
 /// In all, the functions may hand in 18446744073709551615 entries; what would be one more ends its
 /// call by the error [`TOO_MANY_ENTRIES`].
@@ -64,6 +65,7 @@ impl<F: Functions, H: Host> WithFunctions<F, H> {
         ensures host { result.host ≡ host }
         ensures calls { result.calls.items ≡ [] }
         ensures entries { result.entries ≡ most_entries }
+        ensures exits { result.exits ≡ false }
     {
         WithFunctions {
             functions,
@@ -203,7 +205,7 @@ fn entry_of(alloc: Global, action: Action) -> Result<(Vec<Text>, Entry), Interru
 {
     match action {
         Action::Complete(completion) => Err(Interruption::of_completion(alloc, completion)),
-        Action::Enter(target, entry) => Ok((target, entry)),
+        Action::Enter { target, entry } => Ok((target, entry)),
         Action::Exit(status) => Err(Interruption::Exited(status)),
     }
 }

@@ -4,6 +4,7 @@ ghost use Rattle.tcl_host.specs.Modes.{mode_of, bad_mode_text};
 
 use std::alloc::{AllocError, Global};
 use tcl_text::text::Text;
+use thiserror::Error;
 
 /// What a channel to a file is for.
 #[derive(Clone, Copy, Debug, PartialEq, Eq)]
@@ -17,7 +18,8 @@ pub enum OpenMode {
 }
 
 /// 266: a word names no mode.
-#[derive(Clone, Copy, Debug, PartialEq, Eq)]
+#[derive(Clone, Copy, Debug, Eq, Error, PartialEq)]
+#[error("266: bad mode")]
 pub struct BadMode;
 
 impl OpenMode {

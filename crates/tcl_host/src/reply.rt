@@ -6,17 +6,21 @@ ghost use Rattle.tcl_host.specs.declared.reply.HostError.TheVariants.{Memory};
 use crate::bytes::Bytes;
 use crate::request::Request;
 use std::alloc::{AllocError, AllocFailed, Global};
-use tcl_text::messages::{DEVICE_FAULT, NO_CHANNEL, quoting};
+use tcl_text::messages::{DEVICE_FAULT, NO_CHANNEL, OUT_OF_MEMORY, quoting};
 use tcl_text::text::Text;
+use thiserror::Error;
 
 /// Why a host refuses a call.
-#[derive(Clone, Copy, Debug, PartialEq, Eq)]
+#[derive(Clone, Copy, Debug, Eq, Error, PartialEq)]
 pub enum HostRefusal {
     /// 261: no channel of that name is open for such a call.
+    #[error("261: no such channel")]
     NoChannel,
     /// 262: the device failed.
+    #[error("262: device fault")]
     DeviceFault,
     /// 267: the file couldn't be opened.
+    #[error("267: the file was not opened")]
     NotOpened,
 }
 
@@ -40,11 +44,13 @@ pub enum HostReply {
 }
 
 /// Why a call to a host gave nothing.
-#[derive(Clone, Copy, Debug, PartialEq, Eq)]
+#[derive(Clone, Copy, Debug, Eq, Error, PartialEq)]
 pub enum HostError {
     /// Memory was wanting, and the host is as it was.
+    #[error("{}", OUT_OF_MEMORY)]
     Memory,
     /// The host refused.
+    #[error(transparent)]
     Refused(HostRefusal),
 }
 

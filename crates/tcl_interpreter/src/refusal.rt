@@ -5,37 +5,51 @@ ghost use Rattle.tcl_interpreter.specs.declared.refusal.TreeError.TheVariants.{M
 
 use std::alloc::{AllocError, AllocFailed, Global};
 use tcl_text::messages::{
-    ALREADY_EXISTS, BAD_DEPTH_LIMIT, COUNT_LIMIT, DENIED, DEPTH_LIMIT, TOO_MANY,
+    ALREADY_EXISTS, BAD_DEPTH_LIMIT, COUNT_LIMIT, DENIED, DEPTH_LIMIT, OUT_OF_MEMORY, TOO_MANY,
 };
+use thiserror::Error;
 
 /// Why a call on the tree did nothing.
-#[derive(Clone, Copy, Debug, Drop)]
+#[derive(Clone, Copy, Debug, Drop, Error)]
 pub enum TreeError {
     /// Want of memory.
+    #[error("{}", OUT_OF_MEMORY)]
     Memory,
     /// No name of a command may be this (238).
+    #[error("238: bad name")]
     BadName,
     /// No number of steps may be this (245).
+    #[error("245: bad count")]
     BadCount,
     /// There is no such interpreter (301).
+    #[error("301: could not find interpreter")]
     NoInterpreter,
     /// There is a command of this name (302).
+    #[error("302: a command of this name already exists")]
     Exists,
     /// An evaluation is in progress in the interpreter, or it is the one that asks (303).
+    #[error("303: interpreter is in use")]
     InUse,
     /// The interpreter may not do this (304).
+    #[error("304: {}", DENIED)]
     Denied,
     /// There is no such command (305).
+    #[error("305: invalid command name")]
     NoCommand,
     /// There is no such hidden command (306).
+    #[error("306: invalid hidden command name")]
     NoHidden,
     /// The parent has as many children as it may have (307).
+    #[error("307: {}", TOO_MANY)]
     TooMany,
     /// A step would pass the limit of the interpreter so many levels up (308).
+    #[error("308: {}", COUNT_LIMIT)]
     CountLimit(usize),
     /// An evaluation would pass the limit of the interpreter so many levels up (308).
+    #[error("308: {}", DEPTH_LIMIT)]
     DepthLimit(usize),
     /// No limit of depth may be this (309).
+    #[error("309: {}", BAD_DEPTH_LIMIT)]
     BadDepthLimit,
 }
 
@@ -78,7 +92,7 @@ impl TreeError {
         ensures { IfOk result (λ text. string_bytes text ≡ text_of self word.now) }
     {
         match self {
-            TreeError::Memory => format!(in alloc; "out of memory"),
+            TreeError::Memory => String::from_str(alloc, OUT_OF_MEMORY),
             TreeError::BadName => format!(in alloc; "bad name \"{word}\""),
             TreeError::BadCount => format!(in alloc; "bad count \"{word}\""),
             TreeError::NoInterpreter => format!(in alloc; "could not find interpreter \"{word}\""),

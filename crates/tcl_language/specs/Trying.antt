@@ -63,7 +63,8 @@ keeps (result ∷ options ∷ rest) c k = sets result c.text
 abbrev pub handled_by : Completion → List Handler → Program
 handled_by c [] = done c
 handled_by c (h ∷ hs) = either (is_handled c h.handles)
-    (or_fails fault_message (list_of h.names) (λ xs. keeps xs c (runs_last (first_script (h ∷ hs)))))
+    (or_fails fault_message (list_of h.names)
+    (λ xs. keeps xs c (runs_last (first_script (h ∷ hs)))))
     (handled_by c hs)
 
 -- a body, and what its handlers make of its completion

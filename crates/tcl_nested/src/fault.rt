@@ -4,34 +4,43 @@ ghost use Rattle.std.specs.Prelude.{◌≡◌, ◌++◌, IfOk, codes};
 use std::alloc::{AllocError, AllocFailed, Global};
 use tcl_text::index::bad_index_message;
 use tcl_text::list::{ListError, ListFault};
-use tcl_text::messages::OUT_OF_RANGE;
+use tcl_text::messages::{OUT_OF_MEMORY, OUT_OF_RANGE, TOO_LONG};
 use tcl_text::text::Text;
 use tcl_value::dict_fault::{DictError, DictFault, EntryError};
 use tcl_value::value::{ChangeError, ValueError};
+use thiserror::Error;
 
 /// What is at fault in a text, or in the path of indexes or keys into it.
-#[derive(Debug, Drop)]
+#[derive(Debug, Drop, Error)]
 pub enum NestedFault {
     /// A text on the way spells no list (101 to 104).
+    #[error(transparent)]
     List(ListFault),
     /// A text on the way spells no dict (101 to 104, 121).
+    #[error(transparent)]
     Dict(DictFault),
     /// This is no index (114).
+    #[error("114: bad index \"{0}\"")]
     BadIndex(Text),
     /// A list on the way has no such place (243).
+    #[error("243: {}", OUT_OF_RANGE)]
     NoPlace,
     /// A dict on the way hasn't this key (242).
+    #[error("242: key \"{0}\" not known in dictionary")]
     UnknownKey(Text),
 }
 
 /// Why nothing is changed.
-#[derive(Debug, Drop)]
+#[derive(Debug, Drop, Error)]
 pub enum NestedError {
     /// Want of memory.
+    #[error("{}", OUT_OF_MEMORY)]
     Memory,
     /// The changed text would be longer than a value may be (122).
+    #[error("122: {}", TOO_LONG)]
     TooLong,
     /// The text or the path has a fault.
+    #[error(transparent)]
     Fault(NestedFault),
 }
 

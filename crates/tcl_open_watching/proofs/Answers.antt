@@ -11,7 +11,8 @@ use Rattle.tcl_eval.specs.declared.running.Refused.{Refused}
 use Rattle.tcl_eval.specs.declared.running.Refused.TheVariants as refused
 use Rattle.tcl_isolation.specs.Visits.{visit}
 use Rattle.tcl_open_watching.proofs.Entered.{entry, plain}
-use Rattle.tcl_open_watching.specs.OpenWatched.{IfEnds, IfRefused, IsOpenRecord, IsOpenRecorded, Watches, answer_if, answer_of}
+use Rattle.tcl_open_watching.proofs.GivenUp.{Lost, not_begun}
+use Rattle.tcl_open_watching.specs.OpenWatched.{IfDeleted, IfEnds, IfRefused, IsOpenDeletion, IsOpenRecord, IsOpenRecorded, Watches, answer_if, answer_of}
 use Rattle.tcl_open_watching.specs.declared.watching.OpenUnwatched.{OpenUnwatched}
 use Rattle.tcl_open_watching.specs.declared.watching.OpenUnwatched.TheVariants as unwatched
 use Rattle.tcl_recorder.proofs.Fates as fates
@@ -30,27 +31,38 @@ ends_so (Ok e) kept true P p = p
 ends_so (Ok e) kept false P p = p
 ends_so (Err f) kept deleted P p = tt
 
-module _ {S : Type 0} (goes : Going S) (old : Table) (o : S) (path : Path) (script : Text) (limit : ℕ) (watched : Path) (new : Table) (z : S) where
+module _ {S : Type 0} (goes : Going S) (loses : S → S → Type 0) (old : Table) (o : S) (path : Path) (script : Text) (limit : ℕ) (watched : Path) (new : Table) (z : S) where
   abbrev ended_with : RecordView → Bool → Recorder S
   ended_with kept deleted = record { outside = z; kept = kept; deleted = deleted; incomplete = false }
 
   abbrev Ran : RecordView → Bool → OpenEnd → Type 0
   Ran kept deleted e = IsOpenRun (recorded goes) old (noted (recorder_of o watched) (event path (In None (Eval script)))) path script (root_count old + limit) new (ended_with kept deleted) e
 
-  no_refusal : (deleted : Bool) (e : OpenEnd) (kept : RecordView) → IfRefused (answer_if deleted e kept) (λ f. (f ≡ refused.Memory) × ((marks_of new).broken ≡ true))
-  no_refusal true e kept = tt
-  no_refusal false e kept = tt
+  no_refusal : (P : Refused → Type 0) (deleted : Bool) (e : OpenEnd) (kept : RecordView) → IfRefused (answer_if deleted e kept) P
+  no_refusal P true e kept = tt
+  no_refusal P false e kept = tt
 
   ended_so : (deleted : Bool) (e : OpenEnd) (kept : RecordView) → Ran kept deleted e → IfEnds (answer_if deleted e kept) (λ x. (k : RecordView) × (d : Bool) × (answer_if deleted e kept ≡ answer_if d x k) × Ran k d x)
   ended_so true e kept run = (kept, true, refl, run)
   ended_so false e kept run = (kept, false, refl, run)
 
-  pub watches : (ended : Result OpenEnd Refused) (kept : RecordView) (deleted : Bool) → IfErr ended (λ f. f ≡ refused.Memory) → (IsErrOf ended refused.Memory → (marks_of new).broken ≡ true) → IfOk ended (Ran kept deleted) →
-      Watches goes old o path script limit watched new z (answer_of ended kept deleted)
-  watches (Ok e) kept deleted m b run = record { memory = no_refusal deleted e kept; made = ended_so deleted e kept run }
-  watches (Err f) kept deleted m b run = record { memory = (m, b (ap (λ (x : Refused). Err x) m)); made = tt }
+  abbrev Given_up : Type 0
+  Given_up = Lost goes loses old path script (root_count old + limit) o z
 
-  pub runs : (result : Result (OpenEnd × RecordView) OpenUnwatched) → Watches goes old o path script limit watched new z result → IfEnds result (IsOpenRun goes old o path script (root_count old + limit) new z)
+  pub watches : (ended : Result OpenEnd Refused) (kept : RecordView) (deleted : Bool) → IfErr ended (λ f. f ≡ refused.Memory) → (IsErrOf ended refused.Memory → (marks_of new).broken ≡ true) → IfErr ended (λ f. Given_up) → IfOk ended (Ran kept deleted) →
+      Watches goes loses old o path script limit watched new z (answer_of ended kept deleted)
+  watches (Ok e) kept deleted m b g run = record {
+    memory = no_refusal (λ f. (f ≡ refused.Memory) × ((marks_of new).broken ≡ true)) deleted e kept;
+    given_up = no_refusal (λ f. Given_up) deleted e kept;
+    made = ended_so deleted e kept run;
+  }
+  watches (Err f) kept deleted m b g run = record { memory = (m, b (ap (λ (x : Refused). Err x) m)); given_up = g; made = tt }
+
+  -- memory was wanted before anything was done
+  pub wants : (marks_of new).broken ≡ true → z ≡ o → Watches goes loses old o path script limit watched new z (Err (unwatched.Refused refused.Memory))
+  wants b same = record { memory = (refl, b); given_up = subst (λ (u : S). Lost goes loses old path script (root_count old + limit) o u) (sym same) (not_begun goes loses old path script (root_count old + limit) o); made = tt }
+
+  pub runs : (result : Result (OpenEnd × RecordView) OpenUnwatched) → Watches goes loses old o path script limit watched new z result → IfEnds result (IsOpenRun goes old o path script (root_count old + limit) new z)
   runs (Ok r) w = plain goes old (recorder_of o watched) path script limit new (ended_with w.made.0 w.made.1) r.0 w.made.3
   runs (Err (unwatched.Deleted e)) w = plain goes old (recorder_of o watched) path script limit new (ended_with w.made.0 w.made.1) e w.made.3
   runs (Err (unwatched.Refused f)) w = tt
@@ -60,8 +72,7 @@ module _ {S : Type 0} (goes : Going S) (old : Table) (o : S) (path : Path) (scri
       let n = stands (tree_of old watched) seen in
       let w = entry goes old (recorder_of o watched) path script limit new (ended_with kept deleted) e there run in
       let told = run.told.keeps refl in
-      let kept_so = told.kept ∙ w.kept in
-      (
+      let kept_so = told.kept ∙ w.kept in (
         ap (λ (k : RecordView). k.watched) kept_so,
         record {
           during = run.during;
@@ -82,11 +93,38 @@ module _ {S : Type 0} (goes : Going S) (old : Table) (o : S) (path : Path) (scri
         },
       )
 
+  its_deletion : (kept : RecordView) (deleted : Bool) (e : OpenEnd) → is_some (tree_of old path) ≡ true → Ran kept deleted e → deleted ≡ true → IsOpenDeletion goes old o path script limit watched new z e
+  its_deletion kept deleted e there run f =
+      let w = entry goes old (recorder_of o watched) path script limit new (ended_with kept deleted) e there run in
+      let told = run.told.keeps refl in
+      record {
+        during = run.during;
+        between = run.between.outside;
+        reply = run.reply;
+        events = w.events;
+        visits = w.visits;
+        outside = w.outside;
+        dropped = λ spared. let both : true ≡ false = sym f ∙ told.fate ∙ w.fate ∙ fates.stands watched (visit path (Eval script) w.events run.reply) spared in absurd cc;
+        told = run.told.outside;
+        after = run.after;
+        ends = run.ends;
+      }
+
   ok_is : (r : OpenEnd × RecordView) (kept : RecordView) (deleted : Bool) → ◌≡◌ {A = Result (OpenEnd × RecordView) OpenUnwatched} (Ok r) (answer_if deleted r.0 kept) → (deleted ≡ false) × (kept ≡ r.1)
   ok_is r kept true e = absurd cc
   ok_is r kept false e = let f : r ≡ (r.0, kept) = cc in (refl, sym (ap (λ (x : OpenEnd × RecordView). x.1) f))
 
-  pub records : (result : Result (OpenEnd × RecordView) OpenUnwatched) → is_some (tree_of old path) ≡ true → is_some (tree_of old watched) ≡ true → Watches goes old o path script limit watched new z result →
+  deleted_is : (x : OpenEnd) (kept : RecordView) (deleted : Bool) → ◌≡◌ {A = Result (OpenEnd × RecordView) OpenUnwatched} (Err (unwatched.Deleted x)) (answer_if deleted x kept) → deleted ≡ true
+  deleted_is x kept true e = refl
+  deleted_is x kept false e = absurd cc
+
+  pub deletions : (result : Result (OpenEnd × RecordView) OpenUnwatched) → is_some (tree_of old path) ≡ true → Watches goes loses old o path script limit watched new z result →
+      IfDeleted result (IsOpenDeletion goes old o path script limit watched new z)
+  deletions (Ok r) there w = tt
+  deletions (Err (unwatched.Deleted x)) there w = its_deletion w.made.0 w.made.1 x there w.made.3 (deleted_is x w.made.0 w.made.1 w.made.2)
+  deletions (Err (unwatched.Refused f)) there w = tt
+
+  pub records : (result : Result (OpenEnd × RecordView) OpenUnwatched) → is_some (tree_of old path) ≡ true → is_some (tree_of old watched) ≡ true → Watches goes loses old o path script limit watched new z result →
       IfOk result (λ r. IsOpenRecord goes old o path script limit watched r.1 new z r.0)
   records (Ok r) there seen w =
       let is = ok_is r w.made.0 w.made.1 w.made.2 in

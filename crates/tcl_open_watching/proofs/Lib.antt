@@ -2,4 +2,5 @@ mod Answers
 mod Before
 mod Below
 mod Entered
+mod GivenUp
 mod Recorded

@@ -1,17 +1,20 @@
 -- What contracts see of an evaluation that is watched over any outside.
-use Rattle.std.specs.Prelude.{◌≡◌, ℕ, ◌+◌, true, false, Bool, List, Some, None, Result, Ok, Err}
+use Rattle.std.specs.Prelude.{◌≡◌, ℕ, ◌+◌, true, false, Bool, List, [], Some, None, Result, Ok}
+use Rattle.std.specs.Prelude.{Err}
 use Rattle.tcl_core.specs.Endings.{Reply}
 use Rattle.tcl_core.specs.Entries.Entry.{Eval}
-use Rattle.tcl_core.specs.Execution.{event}
+use Rattle.tcl_core.specs.Execution.{Chain, Crossings, before, event}
+use Rattle.tcl_core.specs.Laws.{IsSpared}
 use Rattle.tcl_core.specs.Lives.{end_at, limited}
 use Rattle.tcl_core.specs.Paths.{Path, Text}
+use Rattle.tcl_core.specs.Runs.{Runs, Visits}
 use Rattle.tcl_core.specs.Trees.{Event, Node, Tree, effect}
 use Rattle.tcl_core.specs.Trees.What.{Done, In, Limited}
-use Rattle.tcl_eval.specs.Running.{IsOpenRun, open_ending, root_count, root_limit}
+use Rattle.tcl_eval.specs.Running.{IsGivenUp, IsOpenRun, open_ending, root_count, root_limit}
 use Rattle.tcl_eval.specs.declared.running.OpenEnd.{OpenEnd}
 use Rattle.tcl_eval.specs.declared.running.Refused.{Refused}
 use Rattle.tcl_eval.specs.declared.running.Refused.TheVariants as refused
-use Rattle.tcl_isolation.specs.Visits.{WatchedVisit}
+use Rattle.tcl_isolation.specs.Visits.{WatchedVisit, visit}
 use Rattle.tcl_language_laws.specs.Language.{language}
 use Rattle.tcl_recorder.specs.Recording.{noted, recorded}
 use Rattle.tcl_recorder.specs.Records.{RecordView}
@@ -19,6 +22,7 @@ use Rattle.tcl_open_watching.specs.declared.watching.OpenUnwatched.{OpenUnwatche
 use Rattle.tcl_open_watching.specs.declared.watching.OpenUnwatched.TheVariants as unwatched
 use Rattle.tcl_replay.specs.Watched.{recorder_of}
 use Rattle.tcl_run.specs.Outsides.{Going}
+use Rattle.tcl_run.specs.Runs.{ways}
 use Rattle.tcl_tree.specs.Own.{Own}
 use Rattle.tcl_tree.specs.TreeOf.{marks_of, tree_of}
 use Rattle.tcl_tree.specs.declared.tree.Tree.{Tree as Table}
@@ -42,6 +46,12 @@ abbrev pub IfEnds : Result (OpenEnd × RecordView) OpenUnwatched → (OpenEnd �
 IfEnds (Ok r) P = P r.0
 IfEnds (Err (unwatched.Deleted e)) P = P e
 IfEnds (Err (unwatched.Refused f)) P = Unit {0}
+
+-- where the watched interpreter was deleted in it
+abbrev pub IfDeleted : Result (OpenEnd × RecordView) OpenUnwatched → (OpenEnd → Type 0) → Type 0
+IfDeleted (Ok r) P = Unit {0}
+IfDeleted (Err (unwatched.Deleted e)) P = P e
+IfDeleted (Err (unwatched.Refused f)) P = Unit {0}
 
 -- of the refusal where there was none
 abbrev pub IfRefused : Result (OpenEnd × RecordView) OpenUnwatched → (Refused → Type 0) → Type 0
@@ -75,14 +85,33 @@ abbrev pub IsOpenRecord : {S : Type 0} → Going S → Table → S → Path → 
 IsOpenRecord goes old o path script limit watched r new z e = (r.watched ≡ watched) ×
     IsOpenRecorded goes old o path script limit watched r.crossings new z e
 
--- what an evaluation answers that was recorded: memory was wanted, or there was a run with a
--- recorder, which was told of the entry and of its end
-pub record Watches {S : Type 0} (goes : Going S) (old : Table) (o : S) (path : Path)
-    (script : Text) (limit : ℕ) (watched : Path) (new : Table) (z : S)
+-- There is such a run in which the watched interpreter is dropped.
+pub record IsOpenDeletion {S : Type 0} (goes : Going S) (old : Table) (o : S) (path : Path)
+    (script : Text) (limit : ℕ) (watched : Path) (new : Table) (z : S) (e : OpenEnd) : Type 0 where
+  pub during : Tree Own
+  pub between : S
+  pub reply : Reply
+  pub events : List (Event Own)
+  pub visits : Visits (language (marks_of old).integers) (Runs (language (marks_of old).integers))
+      (before (limited limit (tree_of old)) (visit path (Eval script) events reply)) None path
+      (Eval script) (before during []) (Some reply)
+  pub outside : Chain (Crossings goes) (limited limit (tree_of old)) o events during between
+  pub dropped : IsSpared watched (visit path (Eval script) events reply) → Prim.⊥
+  pub told : goes during between None (event path (Done None reply)) z
+  pub after : tree_of new ≡ effect [] (Limited (root_limit old)) during
+  pub ends : end_at path reply ≡ open_ending e
+
+-- What an evaluation answers that was recorded: memory was wanted, and it was given up on its way;
+-- or there was a run with a recorder, which was told of the entry and of its end.
+pub record Watches {S : Type 0} (goes : Going S) (loses : S → S → Type 0) (old : Table) (o : S)
+    (path : Path) (script : Text) (limit : ℕ) (watched : Path) (new : Table) (z : S)
     (result : Result (OpenEnd × RecordView) OpenUnwatched) : Type 0 where
   pub memory : IfRefused result (λ f. (f ≡ refused.Memory) × ((marks_of new).broken ≡ true))
+  pub given_up : IfRefused result (λ f. IsGivenUp (ways goes loses) old o path script
+      (root_count old + limit) z)
   pub made : IfEnds result (λ e. (kept : RecordView) × (deleted : Bool) ×
       (result ≡ answer_if deleted e kept) ×
       IsOpenRun (recorded goes) old
       (noted (recorder_of o watched) (event path (In None (Eval script)))) path script
-      (root_count old + limit) new (record { outside = z; kept = kept; deleted = deleted; incomplete = false }) e)
+      (root_count old + limit) new
+      (record { outside = z; kept = kept; deleted = deleted; incomplete = false }) e)

@@ -4,18 +4,21 @@ ghost use Rattle.std.specs.Prelude.{OnOk, true};
 ghost use Rattle.tcl_core.specs.Entries.Entry.{Eval};
 ghost use Rattle.tcl_core.specs.Execution.{event};
 ghost use Rattle.tcl_core.specs.Trees.What.{In};
-ghost use Rattle.tcl_eval.specs.Running.{IsOpenRun, root_count, unfit};
+ghost use Rattle.tcl_eval.specs.Running.{IsGivenUp, IsOpenRun, root_count, unfit};
 ghost use Rattle.tcl_eval.specs.declared.running.Refused.TheVariants.{Memory};
 ghost use Rattle.tcl_language.specs.Instructions.{fits};
-ghost use Rattle.tcl_open_watching.specs.OpenWatched.{IfEnds, IfRefused, IsOpenRecord, Watches};
+ghost use Rattle.tcl_open_watching.specs.OpenWatched.{IfDeleted, IfEnds, IfRefused};
+ghost use Rattle.tcl_open_watching.specs.OpenWatched.{IsOpenDeletion, IsOpenRecord, Watches};
 ghost use Rattle.tcl_open_watching.specs.OpenWatched.{answer_of};
 ghost use Rattle.tcl_open_watching.specs.declared.watching.OpenUnwatched.TheVariants as unwatched;
 ghost use Rattle.tcl_recorder.specs.Recording.{noted, recorded};
 ghost use Rattle.tcl_replay.specs.Watched.{AsksTheHostNothing, CountStaysWithin, Reacts, ReactsSo};
 ghost use Rattle.tcl_replay.specs.Watched.{ReactsUntil, unwatchable};
+ghost use Rattle.tcl_run.specs.Runs.{ways};
 ghost use Rattle.tcl_tree.specs.TreeOf.{marks_of, tree_of};
 
 use std::alloc::{AllocError, Global};
+use std::fmt;
 use tcl_eval::running::{OpenEnd, Refused, open_run, refusal};
 use tcl_isolation::laws::{asks_the_host_nothing, scripts_stay_within};
 use tcl_recorder::record::Record;
@@ -25,14 +28,24 @@ use tcl_run::outside::Outside;
 use tcl_text::text::Text;
 use tcl_tree::tree::Tree;
 use tcl_value::value::Value;
+use thiserror::Error;
 
 /// Why there is no record of an open evaluation.
-#[derive(Drop)]
+#[derive(Drop, Error)]
 pub enum OpenUnwatched {
     /// 401, 402, 403, 404 or 122: there was no run, or none that came to its end.
+    #[error(transparent)]
     Refused(Refused),
     /// 411: the watched interpreter was deleted in the run, which ended so.
+    #[error("411: the watched interpreter was deleted in the run")]
     Deleted(OpenEnd),
+}
+
+/// As it is printed by `{}`.
+impl fmt::Debug for OpenUnwatched {
+    fn fmt<W: fmt::Write>(&self, f: &mut fmt::Formatter<W>) -> fmt::Result {
+        write!(f, "{self}")
+    }
 }
 
 /// Evaluates a script in the interpreter at the path over an outside, as `open_run` does, and
@@ -60,6 +73,9 @@ pub fn open_watched<O: Outside>(
     ensures begun { IfNone (unwatchable tree.old path.now script.now limit watched.now)
         (IfRefused result.1 (λ e. e ≡ Memory)) }
     ensures broken { IfRefused result.1 (λ e. e ≡ Memory → (marks_of tree.new).broken ≡ true) }
+    ensures given_up { IfNone (unwatchable tree.old path.now script.now limit watched.now)
+        (IfRefused result.1 (λ _. IsGivenUp (ways O.goes O.loses) tree.old outside path.now
+        script.now (root_count tree.old + limit) result.0)) }
     ensures marks { IfEnds result.1 (λ _. marks_of tree.new ≡ marks_of tree.old) }
     ensures runs { IfEnds result.1
         (λ end. IsOpenRun O.goes tree.old outside path.now script.now
@@ -67,6 +83,9 @@ pub fn open_watched<O: Outside>(
     ensures recorded { IfOk result.1
         (λ r. IsOpenRecord O.goes tree.old outside path.now script.now limit watched.now r.1
         tree.new result.0 r.0) }
+    ensures deleted { IfDeleted result.1
+        (λ end. IsOpenDeletion O.goes tree.old outside path.now script.now limit watched.now
+        tree.new result.0 end) }
     ensures reacts { IfOk result.1 (λ r. Reacts tree.old watched.now r.1.crossings tree.new) }
     ensures reacts_so { IfOk result.1 (λ r. ReactsSo tree.old watched.now r.1.crossings tree.new) }
     ensures reacts_until { IfOk result.1
@@ -115,8 +134,8 @@ fn watch<O: Outside>(
     watched: &[Text],
 ) -> (O, Result<(OpenEnd, Record), OpenUnwatched>)
     requires fit { unfit tree.old path.now script.now limit ≡ None }
-    ensures watches { Watches O.goes tree.old outside path.now script.now limit watched.now tree.new
-        result.0 result.1 }
+    ensures watches { Watches O.goes O.loses tree.old outside path.now script.now limit watched.now
+        tree.new result.0 result.1 }
     ensures marks { IfEnds result.1 (λ _. marks_of tree.new ≡ marks_of tree.old) }
 {
     let names = match Vec::from_clones(alloc, watched) {
@@ -145,6 +164,9 @@ fn run<O: Outside>(
     ensures memory { IfErr result (λ e. e ≡ Memory) }
     ensures broken { IsErrOf result Memory → (marks_of tree.new).broken ≡ true }
     ensures marks { IfOk result (λ _. marks_of tree.new ≡ marks_of tree.old) }
+    ensures given_up { IfErr result
+        (λ _. IsGivenUp (ways O.goes O.loses) tree.old recorder.old.outside path.now script.now
+        (root_count tree.old + limit) recorder.new.outside) }
     ensures runs { IfOk result
         (λ end. IsOpenRun (recorded O.goes) tree.old
         (noted recorder.old (event path.now (In None (Eval script.now)))) path.now script.now
@@ -167,8 +189,9 @@ fn begin<O: Outside>(
     script: &str,
 ) -> Result<(), AllocError>
     requires short { fits script.now ≡ true }
-    ensures { OnOk result
+    ensures noted { OnOk result
         (recorder.new ≡ noted recorder.old (event path.now (In None (Eval script.now)))) }
+    ensures outside { recorder.new.outside ≡ recorder.old.outside }
 {
     let entry = Entry::Eval(Value::from_short_text(Text::new(alloc, script)?));
     recorder.entry_begins(alloc, path, &entry)

@@ -10,8 +10,9 @@ use tcl_expr::operator::{BinaryOperator, Function, UnaryOperator};
 use tcl_text::boolean::not_boolean_message;
 use tcl_text::integer::too_large_message;
 use tcl_text::list::{ListError, ListFault};
-use tcl_text::messages::{OVERFLOW, quoting};
+use tcl_text::messages::{OUT_OF_MEMORY, OVERFLOW, TOO_LARGE, quoting};
 use tcl_text::text::Text;
+use thiserror::Error;
 
 /// What is applied to values.
 #[derive(Clone, Copy, Debug, PartialEq, Eq)]
@@ -25,26 +26,33 @@ pub enum Operator {
 }
 
 /// Why values have no result.
-#[derive(Debug, Drop, PartialEq)]
+#[derive(Debug, Drop, Error, PartialEq)]
 pub enum OperatorFault {
     /// 112: an operand is an integer text whose number takes more than 64 bits.
+    #[error("112: {}", TOO_LARGE)]
     TooLarge,
     /// 113: this text has no truth value.
+    #[error("113: expected boolean value but got \"{0}\"")]
     NotBoolean(Text),
     /// 214: this needs a whole number, and an operand isn't one.
+    #[error("214: can't use non-numeric string as operand of \"{}\"", .0.symbol())]
     NotNumeric(Operator),
     /// 212, 213, 215 and 216: the whole numbers have no result.
+    #[error(transparent)]
     Arithmetic(ArithmeticFault),
     /// 101 to 104: an operand spells no list.
+    #[error(transparent)]
     List(ListFault),
 }
 
 /// Why nothing was computed.
-#[derive(Debug, Drop, PartialEq)]
+#[derive(Debug, Drop, Error, PartialEq)]
 pub enum ApplyError {
     /// Memory ran out.
+    #[error("{}", OUT_OF_MEMORY)]
     Memory,
     /// The values have no result.
+    #[error(transparent)]
     Fault(OperatorFault),
 }
 

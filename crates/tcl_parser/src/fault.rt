@@ -1,24 +1,34 @@
 //! What a script can be wrong in.
 ghost use Rattle.std.specs.Prelude.{◌≡◌};
 
+use thiserror::Error;
+
 /// Why the text of a script can't be read on.
-#[derive(Clone, Copy, Debug, PartialEq, Eq)]
+#[derive(Clone, Copy, Debug, Eq, Error, PartialEq)]
 pub enum Fault {
     /// Refusal 201: the text ends inside a word in braces.
+    #[error("201: missing close-brace")]
     CloseBrace,
     /// Refusal 201: the text ends inside the name of a variable in braces.
+    #[error("201: missing close-brace for variable name")]
     VariableBrace,
     /// Refusal 202: the text ends inside a word in quotes.
+    #[error("202: missing \"")]
     CloseQuote,
     /// Refusal 203: the text ends inside a script in brackets.
+    #[error("203: missing close-bracket")]
     CloseBracket,
     /// Refusal 204: something follows a word's close brace.
+    #[error("204: extra characters after close-brace")]
     AfterBrace,
     /// Refusal 204: something follows a word's close quote.
+    #[error("204: extra characters after close-quote")]
     AfterQuote,
     /// Refusal 205: the text ends inside the index of a variable.
+    #[error("205: missing )")]
     CloseParenthesis,
     /// Refusal 206: brackets stand inside one another more than 200 deep.
+    #[error("206: too many nested brackets")]
     TooDeep,
 }
 

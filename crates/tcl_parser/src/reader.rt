@@ -18,14 +18,18 @@ use crate::script::{Command, Part, Script, Word};
 use crate::skip::{Piece, Seen, closed, next_part};
 use std::alloc::{AllocError, AllocFailed, Global};
 use std::mem;
+use tcl_text::messages::OUT_OF_MEMORY;
 use tcl_text::text::Text;
+use thiserror::Error;
 
 /// Why reading stops.
-#[derive(Drop)]
+#[derive(Debug, Drop, Error)]
 pub enum ReadError {
     /// Want of memory.
+    #[error("{}", OUT_OF_MEMORY)]
     Memory,
     /// The text can't be read on.
+    #[error(transparent)]
     Fault(Fault),
 }
 

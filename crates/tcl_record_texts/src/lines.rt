@@ -1,14 +1,24 @@
-//! Lines of text for crossings.
+//! Records and replays as lines of text, for people and logs.
 //!
 //! A line is a list. Its first word is `in`, `done`, `out` or `back`, and the second the path of
-//! the interpreter, from the watched one downward. Of `out` and `back` it goes on with the levels
-//! that the call leads up, or `host`; of `out` with the names down. Then an entry is `eval` and a
-//! script, `call` and words, `invokehidden` and words, or another command's words; a reply `code`,
-//! its number and its text, `stop`, the levels up and the limit, `exit` and a status, or `ended`;
-//! and what the host says a word or two. In place of a newline stand a backslash and an `n`.
+//! the interpreter where that is seen, from the watched one downward. What follows depends on it:
+//!
+//! - `in` (an entry comes in): what is asked.
+//! - `done` (an entry is done): how it ended.
+//! - `out` (a call goes out): the levels that it leads up, or `host`; the names down from there;
+//!   and what is asked.
+//! - `back` (an answer comes back): the levels, or `host`; and how the call ended, or what the host
+//!   says.
+//!
+//! What is asked is `eval` and a script, `call` and words, `invokehidden` and words, or the name
+//! of another command and its words. How it ended is `code`, a number and a text; `stop`, the
+//! levels up to the interpreter whose limit it is, and `commands` or `recursionlimit`; `exit` and a
+//! status; or `ended`, by the outside. What the host says is a word, and what belongs to it: of
+//! bytes that it read how many they are. In place of each newline stand a backslash and an `n`.
 ghost use Rattle.std.specs.Prelude.{◌≡◌, ◌++◌, ◌∷◌, IfOk, OnOk};
 ghost use Rattle.std.specs.String.{string_bytes};
-ghost use Rattle.tcl_record_texts.specs.Lines.{line, lines, one_line, outcome_text, replay_lines};
+ghost use Rattle.tcl_record_texts.specs.Lines.{event_lines, line, lines, one_line, outcome_text};
+ghost use Rattle.tcl_record_texts.specs.Lines.{replay_lines};
 ghost use Rattle.tcl_record_texts.specs.Words.{crossing_words, height_word};
 ghost use Rattle.tcl_recorder.specs.Crossings.{event_of};
 ghost use Rattle.tcl_text.specs.Writing.{written_list};
@@ -17,18 +27,17 @@ use crate::entries::entry_words;
 use crate::replies::{answer_words, reply_words};
 use crate::words::{count_text, list_text, one};
 use std::alloc::{AllocError, Global};
-use tcl_characters::limit::LimitError;
-use tcl_characters::mapping::map;
 use tcl_player::player::Outcome;
 use tcl_recorder::crossing::Crossing;
+use tcl_recorder::record::Record;
 use tcl_text::list::write_list;
 use tcl_text::text::Text;
 
-/// A crossing, in a line without its newline.
+/// A crossing as a line, without a newline.
 ///
 /// # Errors
-/// 122 where the line would be longer than a value may be; want of memory.
-pub fn line_of(alloc: Global, crossing: &Crossing) -> Result<String, LimitError>
+/// Want of memory.
+pub fn crossing_line(alloc: Global, crossing: &Crossing) -> Result<String, AllocError>
     ensures { IfOk result (λ text. string_bytes text ≡ line crossing.now) }
 {
     let words = crossing_words(alloc, crossing)?;
@@ -36,20 +45,31 @@ pub fn line_of(alloc: Global, crossing: &Crossing) -> Result<String, LimitError>
     one_line(alloc, text.as_str())
 }
 
-/// Crossings, as those of a record, a line for each.
+/// Crossings in their order, each as a line with a newline.
 ///
 /// # Errors
-/// 122 where one of the lines would be longer than a value may be; want of memory.
-pub fn lines_of(alloc: Global, crossings: &[Crossing]) -> Result<String, LimitError>
+/// Want of memory.
+pub fn crossing_lines(alloc: Global, crossings: &[Crossing]) -> Result<String, AllocError>
     ensures { IfOk result (λ text. string_bytes text ≡ lines crossings.now) }
 {
     let mut text = String::new(alloc);
     'crossings: for crossing in crossings {
-        let line = line_of(alloc, crossing)?;
+        let line = crossing_line(alloc, crossing)?;
         text.push_str(line.as_str())?;
         text.push('\n')?;
     }
     Ok(text)
+}
+
+/// What crossed the boundary of the watched interpreter, in order, each crossing as a line with a
+/// newline.
+///
+/// # Errors
+/// Want of memory.
+pub fn record_lines(alloc: Global, record: &Record) -> Result<String, AllocError>
+    ensures { IfOk result (λ text. string_bytes text ≡ event_lines record.now.crossings) }
+{
+    crossing_lines(alloc, record.crossings())
 }
 
 /// What came of moves that were played: `finished`, `waiting`, `ended`, `exited STATUS`, `spent` or
@@ -70,18 +90,19 @@ pub fn outcome_text(alloc: Global, outcome: Outcome) -> Result<String, AllocErro
     }
 }
 
-/// A replay's result: what the interpreter told, a line for each, and what came of the moves.
+/// A replay's result: what the interpreter told, in order, each crossing as a line; and a last line
+/// with what came of the moves.
 ///
 /// # Errors
-/// 122 where one of the lines would be longer than a value may be; want of memory.
+/// Want of memory.
 pub fn replay_lines(
     alloc: Global,
     outwards: &[Crossing],
     outcome: Outcome,
-) -> Result<String, LimitError>
+) -> Result<String, AllocError>
     ensures { IfOk result (λ text. string_bytes text ≡ replay_lines outwards.now outcome) }
 {
-    let mut text = lines_of(alloc, outwards)?;
+    let mut text = crossing_lines(alloc, outwards)?;
     let outcome = outcome_text(alloc, outcome)?;
     text.push_str(outcome.as_str())?;
     text.push('\n')?;
@@ -89,11 +110,18 @@ pub fn replay_lines(
 }
 
 /// A text with a backslash and an `n` in place of each newline.
-fn one_line(alloc: Global, text: &str) -> Result<String, LimitError>
+fn one_line(alloc: Global, text: &str) -> Result<String, AllocError>
     ensures { IfOk result (λ made. string_bytes made ≡ one_line text.now) }
 {
-    let mapping = [Text::new(alloc, "\n")?, Text::new(alloc, "\\n")?];
-    map(alloc, &mapping, text, false)
+    let mut made = String::new(alloc);
+    let mut rest = text;
+    'newlines: while let Some((before, behind)) = rest.split_once('\n') {
+        made.push_str(before)?;
+        made.push_str("\\n")?;
+        rest = behind;
+    }
+    made.push_str(rest)?;
+    Ok(made)
 }
 
 /// To whom a call goes.

@@ -7,7 +7,7 @@ use Rattle.tcl_host.specs.declared.request.Request.{Request}
 use Rattle.tcl_isolation.specs.Laws.{IsWithin}
 use Rattle.tcl_isolation.specs.Scripts as laws
 use Rattle.tcl_isolation.specs.Visits.{IsBelowTheTop}
-use Rattle.tcl_replay.specs.Series.{Between, InTurn, Run}
+use Rattle.tcl_replay.specs.Series.{InTurn, Run}
 use Rattle.tcl_replay.specs.Series.InTurn.{none, changed, ran}
 use Rattle.tcl_replay.proofs.Recorded as recorded
 use Rattle.tcl_run.specs.Outsides.{hosted}

@@ -85,22 +85,10 @@ if_memory (Ok open_end.CutOff) c u fit p = elim c [ ]
 if_memory (Err e) c None fit p = p
 if_memory (Err e) c (Some f) fit p = let clash : Some f ≡ None = fit in absurd cc
 
-pub if_broken : (r : Result OpenEnd Refused) (P : Type 0) → IsUncut r → (IsErrOf r refused.Memory → P) → IsErrOf (ran_of r) refused.Memory → P
-if_broken (Ok (open_end.Ran e)) P u p m = let clash : ◌≡◌ {A = Result End Refused} (Ok e) (Err refused.Memory) = m in absurd cc
-if_broken (Ok open_end.CutOff) P u p m = elim u [ ]
-if_broken (Err e) P u p m =
-    let told : ◌≡◌ {A = Result End Refused} (Err e) (Err refused.Memory) = m in
-    let same : e ≡ refused.Memory = cc in p (ap Err same)
-
 pub if_ended : (r : Result OpenEnd Refused) (P : Type 0) → IfOk r (λ _. P) → IfOk (ran_of r) (λ _. P)
 if_ended (Ok (open_end.Ran e)) P p = p
 if_ended (Ok open_end.CutOff) P p = tt
 if_ended (Err e) P p = tt
-
--- what holds anyway
-pub at_none : {A : Type 0} (o : Option A) (P : Type 0) → P → IfNone o P
-at_none None P p = p
-at_none (Some a) P p = tt
 
 -- ## What the host was asked
 

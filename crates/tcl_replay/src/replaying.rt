@@ -26,10 +26,12 @@ use tcl_recorder::crossing::Crossing;
 use tcl_run::entry::Entry;
 use tcl_run::interruption::Interruption;
 use tcl_run::outside::Outside;
+use tcl_text::messages::{COUNT_TOO_LARGE, OUT_OF_MEMORY};
 use tcl_text::text::Text;
 use tcl_tree::node::MOST_STEPS;
 use tcl_tree::tree::Tree;
 use tcl_value::value::Value;
+use thiserror::Error;
 
 /// What came of moves that were played to a saved interpreter.
 #[derive(Drop)]
@@ -75,14 +77,17 @@ impl Replayed {
 }
 
 /// Why nothing was replayed.
-#[derive(Clone, Copy, Debug, PartialEq, Eq)]
+#[derive(Clone, Copy, Debug, Eq, Error, PartialEq)]
 pub enum Unplayed {
     /// 401: memory was wanted.
+    #[error("401: {}", OUT_OF_MEMORY)]
     Memory,
     /// 404: the steps that were counted in the interpreter and those of the replay pass
     /// 9223372036854775807 together.
+    #[error("404: {}", COUNT_TOO_LARGE)]
     CountTooLarge,
     /// 412: it was left by a replay at an open call, and waits there.
+    #[error("412: the interpreter waits for an answer")]
     Waits,
 }
 

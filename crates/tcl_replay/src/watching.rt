@@ -18,6 +18,7 @@ ghost use Rattle.tcl_replay.specs.Watched.{ReactsUntil, Stops, Watches, answer_o
 ghost use Rattle.tcl_replay.specs.declared.watching.Unwatched.TheVariants as unwatched;
 
 use std::alloc::{AllocError, Global};
+use std::fmt;
 use tcl_eval::running::{End, Refused, open_run, ran, refusal};
 use tcl_host::host::Host;
 use tcl_isolation::laws::{asks_the_host_nothing, limits_stay, scripts_stay_within};
@@ -27,14 +28,23 @@ use tcl_run::entry::Entry;
 use tcl_text::text::Text;
 use tcl_tree::tree::Tree;
 use tcl_value::value::Value;
+use thiserror::Error;
 
 /// Why there is no record of an evaluation.
-#[derive(Drop)]
+#[derive(Drop, Error)]
 pub enum Unwatched {
     /// 401, 402, 403, 404 or 122: there was no run, or none that came to its end.
+    #[error(transparent)]
     Refused(Refused),
     /// 411: the watched interpreter was deleted in the run, which ended so.
+    #[error("411: the watched interpreter was deleted in the run")]
     Deleted(End),
+}
+
+impl fmt::Debug for Unwatched {
+    fn fmt<W: fmt::Write>(&self, f: &mut fmt::Formatter<W>) -> fmt::Result {
+        write!(f, "{self}")
+    }
 }
 
 /// Evaluates a script in the interpreter at the path, as `eval` does, and records what crosses the

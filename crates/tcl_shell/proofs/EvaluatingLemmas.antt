@@ -3,7 +3,7 @@ use Rattle.std.proofs.Common.{◌≡◌, ◌∙◌, ◌+◌, ◌≤◌, ℕ, len
 use Rattle.std.specs.Str.{IsUtf8}
 use Rattle.tcl_core.specs.Paths.{Path, Text}
 use Rattle.tcl_tree.specs.declared.tree.Tree.{Tree}
-use Rattle.std.specs.Prelude.{map, Result, Ok, Err, IfErr, IfNone, IfSome}
+use Rattle.std.specs.Prelude.{map, Result, Err, IfErr, IfNone, IfSome}
 use Rattle.tcl_eval.specs.Running.{AsksFirst, IsRun, root_count, unfit}
 use Rattle.tcl_eval.specs.declared.running.End.{End}
 use Rattle.tcl_eval.specs.declared.running.Refused.{Refused}

@@ -3,7 +3,7 @@ ghost use Rattle.std.specs.Prelude.{◌≡◌, ℕ, List, [], IfOk, IfErr, map, 
 ghost use Rattle.std.specs.Prelude.{false};
 ghost use Rattle.std.specs.Borrow.{Bor};
 ghost use Rattle.clap.specs.Words.{app_of, rule_of, found_of, rows_of};
-ghost use Rattle.tcl_shell.specs.CommandLine.{command, styles, limit_rule, safe_rule};
+ghost use Rattle.tcl_shell.specs.CommandLine.{command, named, styles, limit_rule, safe_rule};
 ghost use Rattle.tcl_shell.specs.CommandLine.{integers_rule, file_rule, arguments_rule, IsRead};
 ghost use Rattle.tcl_shell.specs.CommandLine.{IsNotRead, IsParsed, IsMisparsed, Tells, Says};
 ghost use Rattle.tcl_shell.specs.CommandLine.{LimitIs, style_of};
@@ -20,6 +20,17 @@ const USUAL_LIMIT: u64 = 10_000_000;
 
 /// What stands for the standard input in the place of a file's name.
 pub const STANDARD_INPUT: &str = "-";
+
+/// The version of the program and of its libraries.
+const VERSION: &str = "0.1.0";
+
+/// What help says of the program above its usage.
+const ABOUT: &str = "Runs a Tcl script that nobody has to trust, within a limit of steps";
+
+/// What help shows below the options.
+const EXAMPLES: &str = "Examples:
+  tclsafe sums.tcl 3 4                 the script's argv is 3 4
+  tclsafe --safe --limit 1000 - <job   a stranger's script, from standard input";
 
 /// The two styles of integers, by their words.
 static STYLES: [&str; 2] = ["8", "9"];
@@ -43,7 +54,7 @@ impl<'a> Options<'a> {
     /// What the words ask for, of which the first is the program's name.
     ///
     /// # Errors
-    /// Help where it is asked for, a mistake in the words, and want of memory.
+    /// Help or the version where that is asked for, a mistake in the words, and want of memory.
     pub fn read(alloc: Global, words: &'a [&'a str]) -> Result<Options<'a>, Ending>
         ensures read { IfOk result
             (λ options. IsRead (map (λ word. word.now) words.entry.now) options) }
@@ -115,12 +126,22 @@ fn arguments_argument<'a>(alloc: Global) -> Arg<'a>
         .help("The script's arguments, its list argv")
 }
 
+/// The program's name, its version, and what help says besides the options.
+fn named<'a>(alloc: Global) -> Command<'a>
+    ensures { app_of result ≡ named }
+{
+    Command::new(alloc, "tclsafe")
+        .version(VERSION)
+        .about(ABOUT)
+        .after_help(EXAMPLES)
+}
+
 /// The command line's own description.
 fn command<'a>(alloc: Global) -> Result<Command<'a>, AllocError>
     ensures { IfOk result (λ made. (names : Bor (List (Bor (List ℕ)))) ×
         (map (λ name. name.now) names.now ≡ styles) × (app_of made ≡ command names)) }
 {
-    Command::new(alloc, "tclsafe")
+    named(alloc)
         .arg(limit_option(alloc))?
         .arg(safe_option(alloc))?
         .arg(integers_option(alloc))?
@@ -187,7 +208,8 @@ fn arguments_of<'a>(alloc: Global, words: Option<&[&'a str]>) -> Result<Vec<&'a 
     }
 }
 
-/// What is told of an error of the command line: help, where that was asked for, or what is wrong.
+/// What is told of an error of the command line: help or the version, where that was asked for, or
+/// what is wrong.
 fn misread(alloc: Global, error: &Error) -> Ending
     ensures { Tells error.now result }
 {

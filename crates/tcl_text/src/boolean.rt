@@ -7,11 +7,13 @@ use crate::messages::quoting;
 use crate::text::Text;
 use std::alloc::{AllocError, Global};
 use std::cmp::{Eq, PartialEq};
+use thiserror::Error;
 
 /// Why a text has no truth value.
-#[derive(Clone, Copy, Debug, PartialEq, Eq)]
+#[derive(Clone, Copy, Debug, Eq, Error, PartialEq)]
 pub enum BooleanFault {
     /// It is no boolean text (113).
+    #[error("113: expected boolean value")]
     NotBoolean,
 }
 

@@ -13,6 +13,7 @@ use crate::messages::quoting;
 use crate::text::Text;
 use std::alloc::{AllocError, Global};
 use std::cmp::{Eq, PartialEq};
+use thiserror::Error;
 
 /// The greatest place: no value has more bytes.
 const LAST: i64 = 16_777_216;
@@ -29,9 +30,10 @@ pub enum Index {
 }
 
 /// Why a text is no index.
-#[derive(Clone, Copy, Debug, PartialEq, Eq)]
+#[derive(Clone, Copy, Debug, Eq, Error, PartialEq)]
 pub enum IndexFault {
     /// It is no index text (114).
+    #[error("114: bad index")]
     BadIndex,
 }
 

@@ -10,11 +10,12 @@ ghost use Rattle.tcl_text.specs.Numbers.{signed, integer_of, in_64_bits, in_unsi
 ghost use Rattle.tcl_text.specs.declared.integer.Integers.{Integers};
 
 use crate::list::is_white;
-use crate::messages::quoting;
+use crate::messages::{TOO_LARGE, quoting};
 use crate::text::Text;
 use itoa::Buffer;
 use std::alloc::{AllocError, Global};
 use std::cmp::{Eq, PartialEq};
+use thiserror::Error;
 
 /// How the digits of an integer text are read.
 #[derive(Clone, Copy, Debug, PartialEq, Eq)]
@@ -26,11 +27,13 @@ pub enum Integers {
 }
 
 /// Why a text has no integer of 64 bits.
-#[derive(Clone, Copy, Debug, PartialEq, Eq)]
+#[derive(Clone, Copy, Debug, Eq, Error, PartialEq)]
 pub enum IntegerFault {
     /// It is no integer text (111).
+    #[error("111: expected integer")]
     NotInteger,
     /// Its number takes more than 64 bits (112).
+    #[error("112: {}", TOO_LARGE)]
     TooLarge,
 }
 
@@ -202,5 +205,5 @@ pub fn not_integer_message(alloc: Global, text: &str) -> Result<Text, AllocError
 pub fn too_large_message(alloc: Global) -> Result<Text, AllocError>
     ensures { IfOk result (λ made. made ≡ codes "integer value too large to represent") }
 {
-    Text::new(alloc, "integer value too large to represent")
+    Text::new(alloc, TOO_LARGE)
 }

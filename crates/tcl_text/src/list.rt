@@ -14,19 +14,25 @@ ghost use Rattle.tcl_text.specs.declared.list.ListError.TheVariants.{Memory};
 use crate::backslash::read_escape;
 use crate::characters::first_characters;
 pub use crate::list_writing::{write_element, write_list, written_len, written_list_spells_it};
+use crate::messages::OUT_OF_MEMORY;
 use crate::text::Text;
 use std::alloc::{AllocError, AllocFailed, Global};
+use thiserror::Error;
 
 /// What is at fault in a text that spells no list.
-#[derive(Debug, Drop, PartialEq)]
+#[derive(Debug, Drop, Error, PartialEq)]
 pub enum ListFault {
     /// 101: an open brace has no close brace.
+    #[error("101: unmatched open brace in list")]
     UnmatchedBrace,
     /// 102: an open quote has no close quote.
+    #[error("102: unmatched open quote in list")]
     UnmatchedQuote,
     /// 103: this text follows an element in braces in place of white space.
+    #[error("103: list element in braces followed by \"{0}\" instead of space")]
     AfterBrace(Text),
     /// 104: this text follows an element in quotes in place of white space.
+    #[error("104: list element in quotes followed by \"{0}\" instead of space")]
     AfterQuote(Text),
 }
 
@@ -59,11 +65,13 @@ fn followed_message(alloc: Global, kind: &str, shown: &Text) -> Result<Text, All
 }
 
 /// Why no list was read.
-#[derive(Debug, Drop, PartialEq)]
+#[derive(Debug, Drop, Error, PartialEq)]
 pub enum ListError {
     /// Memory ran out.
+    #[error("{}", OUT_OF_MEMORY)]
     Memory,
     /// The text spells no list.
+    #[error(transparent)]
     Fault(ListFault),
 }
 

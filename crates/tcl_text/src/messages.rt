@@ -7,6 +7,12 @@ use std::alloc::{AllocError, Global};
 /// A value would have more bytes than a value may have (122).
 pub const TOO_LONG: &str = "value longer than 16777216 bytes";
 
+/// There is no room for what is to be made. No script is told of it.
+pub const OUT_OF_MEMORY: &str = "out of memory";
+
+/// An integer takes more than 64 bits (112).
+pub const TOO_LARGE: &str = "integer value too large to represent";
+
 /// A key has no value (121).
 pub const MISSING_VALUE: &str = "missing value to go with key";
 
@@ -39,6 +45,9 @@ pub const DEPTH_LIMIT: &str = "too many nested evaluations (infinite loop?)";
 
 /// No limit of depth may be this (309).
 pub const BAD_DEPTH_LIMIT: &str = "recursion limit must be between 1 and 1000";
+
+/// The steps of a run and those before it would pass 9223372036854775807 together (404).
+pub const COUNT_TOO_LARGE: &str = "the count of steps would pass its limit";
 
 /// What stands before the name of a channel that there isn't (261).
 pub const NO_CHANNEL: &str = "can not find channel named \"";

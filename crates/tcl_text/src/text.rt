@@ -131,3 +131,9 @@ impl fmt::Debug for Text {
         write!(f, "{text:?}")
     }
 }
+
+impl fmt::Display for Text {
+    fn fmt<W: fmt::Write>(&self, f: &mut fmt::Formatter<W>) -> fmt::Result {
+        f.write_str(self.shared.as_str())
+    }
+}

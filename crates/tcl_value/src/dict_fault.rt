@@ -4,15 +4,18 @@ ghost use Rattle.std.specs.Prelude.{◌≡◌, IfOk};
 use crate::value::ValueError;
 use std::alloc::{AllocError, AllocFailed, Global};
 use tcl_text::list::{ListError, ListFault};
-use tcl_text::messages::MISSING_VALUE;
+use tcl_text::messages::{MISSING_VALUE, OUT_OF_MEMORY, TOO_LONG};
 use tcl_text::text::Text;
+use thiserror::Error;
 
 /// What is at fault in a text that spells no dict.
-#[derive(Debug, Drop, PartialEq)]
+#[derive(Debug, Drop, Error, PartialEq)]
 pub enum DictFault {
     /// The text spells no list (101 to 104).
+    #[error(transparent)]
     List(ListFault),
     /// 121: the last key has no value.
+    #[error("121: {}", MISSING_VALUE)]
     MissingValue,
 }
 
@@ -34,11 +37,13 @@ impl DictFault {
 }
 
 /// Why no dict was read.
-#[derive(Debug, Drop, PartialEq)]
+#[derive(Debug, Drop, Error, PartialEq)]
 pub enum DictError {
     /// Memory ran out.
+    #[error("{}", OUT_OF_MEMORY)]
     Memory,
     /// The text spells no dict.
+    #[error(transparent)]
     Fault(DictFault),
 }
 
@@ -79,13 +84,16 @@ impl From<ListError> for DictError {
 }
 
 /// Why a dict in a value isn't changed.
-#[derive(Debug, Drop)]
+#[derive(Debug, Drop, Error)]
 pub enum EntryError {
     /// Memory ran out.
+    #[error("{}", OUT_OF_MEMORY)]
     Memory,
     /// The text would be longer than [`MOST_BYTES`](tcl_text::limit::MOST_BYTES) (refusal 122).
+    #[error("122: {}", TOO_LONG)]
     TooLong,
     /// The text spells no dict.
+    #[error(transparent)]
     Fault(DictFault),
 }
 

@@ -35,14 +35,18 @@ use tcl_text::integer::{IntegerFault, Integers, int_len, push_int, read_int, wri
 use tcl_text::limit::MOST_BYTES;
 use tcl_text::list::{ListError, ListFault};
 use tcl_text::list_comparing::is_int;
+use tcl_text::messages::{OUT_OF_MEMORY, OUT_OF_RANGE, TOO_LONG};
 use tcl_text::text::Text;
+use thiserror::Error;
 
 /// Why a value isn't made or changed.
-#[derive(Clone, Copy, Debug, Drop)]
+#[derive(Clone, Copy, Debug, Drop, Error)]
 pub enum ValueError {
     /// Want of memory.
+    #[error("{}", OUT_OF_MEMORY)]
     Memory,
     /// The text would be longer than [`MOST_BYTES`] (refusal 122).
+    #[error("122: {}", TOO_LONG)]
     TooLong,
 }
 
@@ -69,15 +73,19 @@ impl<T: Drop> From<AllocFailed<T>> for ValueError {
 }
 
 /// Why a list or dict in a value isn't changed.
-#[derive(Debug, Drop)]
+#[derive(Debug, Drop, Error)]
 pub enum ChangeError {
     /// Want of memory.
+    #[error("{}", OUT_OF_MEMORY)]
     Memory,
     /// The text would be longer than [`MOST_BYTES`] (refusal 122).
+    #[error("122: {}", TOO_LONG)]
     TooLong,
     /// The text spells no list (101 to 104).
+    #[error(transparent)]
     List(ListFault),
     /// The list has no element at that place (243).
+    #[error("243: {}", OUT_OF_RANGE)]
     NoElement,
 }
 

@@ -10,9 +10,10 @@ ghost use Rattle.std.specs.Prelude.{IfOk};
 
 use crate::name::element_text;
 use std::alloc::{AllocError, AllocFailed, Global};
-use tcl_text::messages::ALREADY_EXISTS;
+use tcl_text::messages::{ALREADY_EXISTS, OUT_OF_MEMORY};
 use tcl_text::text::Text;
 use tcl_value::value::Value;
+use thiserror::Error;
 
 /// What a call was about to do.
 #[derive(Clone, Copy, Debug, Drop)]
@@ -23,23 +24,31 @@ pub enum Verb {
 }
 
 /// Why a call on the variables is refused. Each text is the name as it was written.
-#[derive(Debug, Drop)]
+#[derive(Debug, Drop, Error)]
 pub enum FrameFault {
     /// There is no such variable (231).
+    #[error("231: can't {} \"{}\": no such variable", .0.word(), .1)]
     NoVariable(Verb, Text),
     /// The variable is an array (232).
+    #[error("232: can't {} \"{}\": variable is array", .0.word(), .1)]
     IsArray(Verb, Text),
     /// The variable isn't an array (233).
+    #[error("233: can't {} \"{}\": variable isn't array", .0.word(), .1)]
     NotArray(Verb, Text),
     /// The array has no such element (234).
+    #[error("234: can't {} \"{}\": no such element in array", .0.word(), .1)]
     NoElement(Verb, Text),
     /// There is no such level (235).
+    #[error("235: bad level \"{0}\"")]
     BadLevel(usize),
     /// The variable holds a value already (236).
+    #[error("236: variable \"{}\"{}", .0, ALREADY_EXISTS)]
     Exists(Text),
     /// A link would lead through its own name (237).
+    #[error("237: can't upvar from variable to itself")]
     Itself,
     /// No variable may have this name (238).
+    #[error("238: bad name \"{0}\"")]
     BadName(Text),
 }
 
@@ -118,11 +127,13 @@ impl FrameFault {
 }
 
 /// Why a call on the variables did nothing.
-#[derive(Debug, Drop)]
+#[derive(Debug, Drop, Error)]
 pub enum FrameError {
     /// Want of memory.
+    #[error("{}", OUT_OF_MEMORY)]
     Memory,
     /// A refusal.
+    #[error(transparent)]
     Fault(FrameFault),
 }
 

@@ -6,15 +6,18 @@ ghost use Rattle.tcl_words.specs.Faults.{wrong_arguments, bad_option, bad_count}
 ghost use Rattle.tcl_words.specs.Faults.{unknown_subcommand, missing_value, too_long};
 
 use std::alloc::{AllocError, AllocFailed, Global};
-use tcl_text::messages::{BAD_OPTION, MISSING_VALUE, TOO_LONG, quoting};
+use tcl_text::messages::{BAD_OPTION, MISSING_VALUE, OUT_OF_MEMORY, TOO_LONG, quoting};
 use tcl_text::text::Text;
+use thiserror::Error;
 
 /// Why a command gives nothing.
-#[derive(Debug, Drop)]
+#[derive(Debug, Drop, Error)]
 pub enum Refusal {
     /// Want of memory.
+    #[error("{}", OUT_OF_MEMORY)]
     Memory,
     /// The error with this text.
+    #[error("{0}")]
     Fault(Text),
 }
 

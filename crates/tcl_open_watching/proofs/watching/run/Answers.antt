@@ -1,6 +1,7 @@
-use Rattle.std.proofs.Common.{subst, ◌+◌}
+use Rattle.std.proofs.Common.{◌+◌, subst, sym}
 use Rattle.std.specs.Prelude.{IfOk}
-use Rattle.tcl_eval.specs.Running.{IsOpenRun, root_count}
+use Rattle.tcl_eval.specs.Running.{IsOpenRun, root_count, unfit}
+use Rattle.tcl_open_watching.proofs.GivenUp.{Lost, if_unwatched, not_begun}
 use Rattle.tcl_recorder.specs.Recording.{recorded}
 use Rattle.tcl_recorder.specs.declared.recorder.Recorder.{Recorder}
 use Rattle.tcl_open_watching.proofs.watching.run.Goals as goal
@@ -8,4 +9,13 @@ use Rattle.tcl_open_watching.proofs.watching.run.Goals as goal
 pub returns-in-Ok-clause-runs : goal.returns-in-Ok-clause-runs
 returns-in-Ok-clause-runs g c =
     subst (λ (r : Recorder g.row.O.Denot). IfOk c.open_run.result (λ end. IsOpenRun (recorded g.O.Outside.goes) c.args.tree.now r c.args.path.now c.args.script.now (root_count c.args.tree.now + c.args.limit) c.open_run.new.tree c.open_run.new.outside end))
-    c.in-Ok.ensures c.open_run.ensures.runs
+    c.in-Ok.ensures.noted c.open_run.ensures.runs
+
+pub returns-in-Ok-clause-given_up : goal.returns-in-Ok-clause-given_up
+returns-in-Ok-clause-given_up g c =
+    if_unwatched g.O.Outside.goes g.O.Outside.loses c.args.tree.now c.args.path.now c.args.script.now (root_count c.args.tree.now + c.args.limit) c.open_run.result (unfit c.args.tree.now c.args.path.now c.args.script.now c.args.limit) c.begin.new.recorder c.open_run.new.outside c.args.recorder.now.outside c.requires.fit c.begin.ensures.outside c.open_run.ensures.given_up
+
+pub returns-in-Err-clause-given_up : goal.returns-in-Err-clause-given_up
+returns-in-Err-clause-given_up g c =
+    subst (λ (u : g.row.O.Denot). Lost g.O.Outside.goes g.O.Outside.loses c.args.tree.now c.args.path.now c.args.script.now (root_count c.args.tree.now + c.args.limit) c.args.recorder.now.outside u) (sym c.begin.ensures.outside)
+    (not_begun g.O.Outside.goes g.O.Outside.loses c.args.tree.now c.args.path.now c.args.script.now (root_count c.args.tree.now + c.args.limit) c.args.recorder.now.outside)

@@ -2,7 +2,8 @@ use Rattle.std.proofs.Common.{◌∙◌, sym}
 use Rattle.tcl_replay.specs.Watched.{AsksTheHostNothing, Counts, CountStaysWithin, LeavesTheOutside, LimitsStay, Reacts, ReactsSo, ReactsUntil, unwatchable}
 use Rattle.tcl_replay.proofs.Answers.{both_there, deletions, follows, records, stops, wholes}
 use Rattle.tcl_replay.proofs.Recorded as recorded
-use Rattle.tcl_replay.proofs.Unfinished.{at_none, if_refused_so}
+use Rattle.tcl_eval.proofs.Starting.{at_none}
+use Rattle.tcl_replay.proofs.Unfinished.{if_refused_so}
 use Rattle.tcl_replay.proofs.watching.eval_watched.Goals as goal
 
 pub returns-clause-given_up : goal.returns-clause-given_up

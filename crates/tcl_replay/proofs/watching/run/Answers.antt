@@ -9,7 +9,8 @@ use Rattle.tcl_recorder.specs.Recording.{recorded}
 use Rattle.tcl_recorder.specs.declared.recorder.Recorder.{Recorder}
 use Rattle.tcl_replay.specs.Watched.{IsEntryRun}
 use Rattle.tcl_replay.proofs.Entered.{if_entry, is_uncut}
-use Rattle.tcl_replay.proofs.Unfinished.{Lost, if_broken, if_ended, if_memory, if_refusal, if_unwatched, not_begun}
+use Rattle.tcl_eval.proofs.Hosted.{if_broken}
+use Rattle.tcl_replay.proofs.Unfinished.{Lost, if_ended, if_memory, if_refusal, if_unwatched, not_begun}
 use Rattle.tcl_tree.specs.TreeOf.{marks_of}
 use Rattle.tcl_replay.proofs.watching.run.Goals as goal
 
