@@ -1,14 +1,14 @@
 //! Evaluations, with the client outside.
-use crate::answers::{Answer, Ended, Watched};
-use crate::client::Client;
 use crate::keeping::lines_of;
-use crate::messages::{Evaluate, STEPS, Watch};
 use crate::numbered::Numbered;
-use crate::refusals::Refusal;
-use crate::served::ServedTree;
 use std::alloc::{AllocError, Global};
 use std::io::{BufRead, Write};
-use tcl_eval::running::{End, OpenEnd, open_run};
+use tcl_client::answers::{Answer, Ended, Watched};
+use tcl_client::client::Client;
+use tcl_client::messages::{Evaluate, STEPS, Watch};
+use tcl_client::refusals::Refusal;
+use tcl_client::served::ServedTree;
+use tcl_eval::running::{End, OpenEnd, Refused, open_run};
 use tcl_open_watching::watching::{OpenUnwatched, open_watched};
 use tcl_recorder::record::Record;
 
@@ -30,7 +30,7 @@ pub fn evaluate<R: BufRead + Drop, W: Write + Drop>(
     client.finish(alloc, &mut served.host);
     match run {
         Ok(end) => Ok(Answer::Ended(ended(alloc, &end)?)),
-        Err(refused) => Err(Refusal::Run(refused)),
+        Err(refused) => Err(refusal_of(refused)),
     }
 }
 
@@ -94,7 +94,18 @@ fn recorded(
                 lines,
             }))
         }
-        Err(OpenUnwatched::Refused(refused)) => Err(Refusal::Run(refused)),
+        Err(OpenUnwatched::Refused(refused)) => Err(refusal_of(refused)),
         Err(OpenUnwatched::Deleted(_end)) => Err(Refusal::Deleted),
+    }
+}
+
+/// Why there was no run, or none that came to its end.
+pub fn refusal_of(refused: Refused) -> Refusal {
+    match refused {
+        Refused::Memory => Refusal::Breaks,
+        Refused::Broken => Refusal::Broken,
+        Refused::NoInterpreter => Refusal::Nobody,
+        Refused::CountTooLarge => Refusal::TooManySteps,
+        Refused::TooLong => Refusal::TooLong,
     }
 }

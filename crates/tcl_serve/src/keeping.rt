@@ -1,12 +1,15 @@
 //! Records, and what they come to when they are replayed.
-use crate::answers::Replayed;
-use crate::refusals::Refusal;
+use crate::evaluating::refusal_of;
 use std::alloc::{AllocError, Global};
 use tcl_characters::limit::LimitError;
+use tcl_client::answers::Replayed;
+use tcl_client::refusals::Refusal;
+use tcl_eval::running::Refused;
 use tcl_player::moves::moves_of;
 use tcl_record_texts::lines::{line_of, outcome_text};
 use tcl_recorder::crossing::Crossing;
 use tcl_recorder::record::Record;
+use tcl_replay::replaying::Unplayed;
 use tcl_replay::saving::Saved;
 use tcl_text::text::Text;
 
@@ -73,7 +76,7 @@ pub fn replayed(
                 left,
             })
         }
-        Err(unplayed) => Err(Refusal::of_replaying(unplayed)),
+        Err(unplayed) => Err(unplayed_refusal(unplayed)),
     }
 }
 
@@ -130,5 +133,22 @@ fn is_line_of(alloc: Global, crossing: &Crossing, line: &Option<Text>) -> Result
     match (crossing_line(alloc, crossing)?, line) {
         (Some(here), Some(line)) => Ok(here.as_str() == line.as_str()),
         _ => Ok(false),
+    }
+}
+
+/// Why nothing was replayed.
+fn unplayed_refusal(unplayed: Unplayed) -> Refusal {
+    match unplayed {
+        Unplayed::Memory => Refusal::Memory,
+        Unplayed::CountTooLarge => Refusal::TooManySteps,
+        Unplayed::Waits => Refusal::Waits,
+    }
+}
+
+/// Why an interpreter isn't saved. Want of memory breaks nothing then.
+pub fn unsaved_refusal(refused: Refused) -> Refusal {
+    match refused {
+        Refused::Memory => Refusal::Memory,
+        other => refusal_of(other),
     }
 }

@@ -1,31 +1,10 @@
 //! A session, from its first line to its last.
-use crate::client::Client;
-use crate::lines::LineFault;
 use crate::session::Session;
 use std::alloc::Global;
 use std::io::{BufRead, Write};
-
-/// Why no line is read any more.
-#[derive(Clone, Copy, Debug, PartialEq, Eq)]
-pub enum Ending {
-    /// The input is at its end.
-    Finished,
-    /// A line can't be read or written.
-    Failed(LineFault),
-}
-
-impl Ending {
-    /// The exit status of a program whose session ended so: 0 where the input is at its end, 1 where
-    /// a line can't be written, 2 where one can't be read, 4 for want of memory.
-    pub fn status(self) -> u8 {
-        match self {
-            Ending::Finished => 0,
-            Ending::Failed(LineFault::Unwritable) => 1,
-            Ending::Failed(LineFault::TooLong | LineFault::CutShort | LineFault::Unreadable) => 2,
-            Ending::Failed(LineFault::Memory) => 4,
-        }
-    }
-}
+use tcl_client::client::Client;
+use tcl_client::ending::Ending;
+use tcl_client::lines::LineFault;
 
 /// Serves a client: each line that is read is answered by one that is written, until no line is
 /// left to be read, or none can be read or written.

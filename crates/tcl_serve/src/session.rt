@@ -1,15 +1,15 @@
 //! What a session keeps: trees, saved interpreters and records, under their numbers.
-use crate::answers::Answer;
-use crate::client::Client;
 use crate::evaluating::{evaluate, watch};
-use crate::fields::Field;
-use crate::keeping::replayed;
-use crate::messages::{Ask, Compare, Evaluate, Interpreter, Message, Replay, Watch};
+use crate::keeping::{replayed, unsaved_refusal};
 use crate::numbered::Numbered;
-use crate::refusals::Refusal;
-use crate::served::ServedTree;
 use std::alloc::Global;
 use std::io::{BufRead, Write};
+use tcl_client::answers::Answer;
+use tcl_client::client::Client;
+use tcl_client::fields::Field;
+use tcl_client::messages::{Ask, Compare, Evaluate, Interpreter, Message, Replay, Watch};
+use tcl_client::refusals::Refusal;
+use tcl_client::served::ServedTree;
 use tcl_recorder::record::Record;
 use tcl_replay::saving::{Saved, save};
 use tcl_text::integer::Integers;
@@ -136,7 +136,7 @@ impl Session {
         };
         match save(&served.tree, message.path.as_slice()) {
             Ok(saved) => Ok(Answer::Saved(self.saved.add(saved)?)),
-            Err(refused) => Err(Refusal::of_saving(refused)),
+            Err(refused) => Err(unsaved_refusal(refused)),
         }
     }
 

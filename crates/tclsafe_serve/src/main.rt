@@ -5,8 +5,9 @@
 use std::io;
 use std::io::{BufReader, BufWriter};
 use std::process::ExitCode;
-use tcl_serve::lines::LineFault;
-use tcl_serve::serving::{Ending, serve};
+use tcl_client::ending::Ending;
+use tcl_client::lines::LineFault;
+use tcl_serve::serving::serve;
 
 fn main(rt: HostRuntime) -> ExitCode {
     match ending(&rt) {

@@ -2,17 +2,17 @@
 ghost use Rattle.serde_json.specs.Read.{read};
 ghost use Rattle.serde_json.specs.View.{view};
 ghost use Rattle.std.specs.Prelude.{◌≡◌, ◌≢◌, ◌⊎◌, Err, IfErr, IfOk, IsUtf8, Ok, Some};
-ghost use Rattle.tcl_serve.specs.Fields.{mapped};
-ghost use Rattle.tcl_serve.specs.Messages.{IsNoJson, SaysOrWants, alias_in, alias_to_client_in};
-ghost use Rattle.tcl_serve.specs.Messages.{ask_of, asked, asks_in, asks_of, channel_of};
-ghost use Rattle.tcl_serve.specs.Messages.{clear_alias_in, compare_in, create_in, evaluation_in};
-ghost use Rattle.tcl_serve.specs.Messages.{evaluation_of, id_in, kind_in, limit_count_in};
-ghost use Rattle.tcl_serve.specs.Messages.{limit_depth_in, make_tree_in, on_tree, place_in};
-ghost use Rattle.tcl_serve.specs.Messages.{place_of, put_file_in, replay_in, return_in, said_of};
-ghost use Rattle.tcl_serve.specs.Messages.{said_under, take_output_in, watch_in};
-ghost use Rattle.tcl_serve.specs.declared.messages.Ask.TheVariants as ask;
-ghost use Rattle.tcl_serve.specs.declared.messages.Message.TheVariants as message;
-ghost use Rattle.tcl_serve.specs.declared.refusals.Refusal.TheVariants.{Memory};
+ghost use Rattle.tcl_client.specs.Fields.{mapped};
+ghost use Rattle.tcl_client.specs.Messages.{IsNoJson, SaysOrWants, alias_in, alias_to_client_in};
+ghost use Rattle.tcl_client.specs.Messages.{ask_of, asked, asks_in, asks_of, channel_of};
+ghost use Rattle.tcl_client.specs.Messages.{clear_alias_in, compare_in, create_in, evaluation_in};
+ghost use Rattle.tcl_client.specs.Messages.{evaluation_of, id_in, kind_in, limit_count_in};
+ghost use Rattle.tcl_client.specs.Messages.{limit_depth_in, make_tree_in, on_tree, place_in};
+ghost use Rattle.tcl_client.specs.Messages.{place_of, put_file_in, replay_in, return_in, said_of};
+ghost use Rattle.tcl_client.specs.Messages.{said_under, take_output_in, watch_in};
+ghost use Rattle.tcl_client.specs.declared.messages.Ask.TheVariants as ask;
+ghost use Rattle.tcl_client.specs.declared.messages.Message.TheVariants as message;
+ghost use Rattle.tcl_client.specs.declared.refusals.Refusal.TheVariants.{Memory};
 
 use crate::fields::{
     Field, flag_in, integer_in, number_in, number_or_null_in, only, optional_number_in, str_in,

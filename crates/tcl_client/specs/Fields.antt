@@ -6,12 +6,12 @@ use Rattle.std.specs.Prelude.{ℕ, ℤ, Bool, true, false, List, [], ◌∷◌, 
 use Rattle.std.specs.Option.{option_and_then}
 use Rattle.std.specs.Str.{bytes_eq}
 use Rattle.tcl_core.specs.Paths.{Text}
-use Rattle.tcl_serve.specs.Names.{name_of}
-use Rattle.tcl_serve.specs.declared.fields.Field.{Field}
-use Rattle.tcl_serve.specs.declared.fields.Field.TheVariants as field
-use Rattle.tcl_serve.specs.declared.refusals.Refusal.{Refusal}
-use Rattle.tcl_serve.specs.declared.refusals.Refusal.TheVariants.{Missing, NotObject, OutOfRange}
-use Rattle.tcl_serve.specs.declared.refusals.Refusal.TheVariants.{UnknownField, WrongType}
+use Rattle.tcl_client.specs.Names.{name_of}
+use Rattle.tcl_client.specs.declared.fields.Field.{Field}
+use Rattle.tcl_client.specs.declared.fields.Field.TheVariants as field
+use Rattle.tcl_client.specs.declared.refusals.Refusal.{Refusal}
+use Rattle.tcl_client.specs.declared.refusals.Refusal.TheVariants.{Missing, NotObject, OutOfRange}
+use Rattle.tcl_client.specs.declared.refusals.Refusal.TheVariants.{UnknownField, WrongType}
 
 -- what is read of one thing, and then of what follows from it
 abbrev pub followed : {A B : Type 0} → Result A Refusal → (A → Result B Refusal) → Result B Refusal

@@ -1,12 +1,12 @@
 -- The names of fields, and of what messages do.
 use Rattle.std.specs.Prelude.{List, [], ◌∷◌, codes}
 use Rattle.tcl_core.specs.Paths.{Text}
-use Rattle.tcl_serve.specs.declared.fields.Field.{Field}
-use Rattle.tcl_serve.specs.declared.fields.Field.TheVariants as field
-use Rattle.tcl_serve.specs.declared.fields.FieldType.{FieldType}
-use Rattle.tcl_serve.specs.declared.fields.FieldType.TheVariants as type
-use Rattle.tcl_serve.specs.declared.kinds.Kind.{Kind}
-use Rattle.tcl_serve.specs.declared.kinds.Kind.TheVariants as kind
+use Rattle.tcl_client.specs.declared.fields.Field.{Field}
+use Rattle.tcl_client.specs.declared.fields.Field.TheVariants as field
+use Rattle.tcl_client.specs.declared.fields.FieldType.{FieldType}
+use Rattle.tcl_client.specs.declared.fields.FieldType.TheVariants as type
+use Rattle.tcl_client.specs.declared.kinds.Kind.{Kind}
+use Rattle.tcl_client.specs.declared.kinds.Kind.TheVariants as kind
 
 abbrev pub name_of : Field → Text
 name_of field.Id = codes "id"

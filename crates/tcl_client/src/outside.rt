@@ -1,6 +1,6 @@
 //! The client as what stands outside of a tree.
 ghost use Rattle.std.specs.Prelude.{true};
-ghost use Rattle.tcl_serve.specs.Outside.{going};
+ghost use Rattle.tcl_client.specs.Outside.{going};
 
 use crate::client::Client;
 use std::alloc::{AllocError, Global};

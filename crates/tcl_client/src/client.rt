@@ -10,33 +10,32 @@ ghost use Rattle.tcl_flow.specs.View.{completion_of};
 ghost use Rattle.tcl_run.specs.Ends.{IfEnded};
 ghost use Rattle.tcl_run.specs.Entering.{whole_entry};
 ghost use Rattle.tcl_run.specs.Outsides.{OnEntry};
-ghost use Rattle.tcl_serve.specs.Answers as answers;
-ghost use Rattle.tcl_serve.specs.Clients.{Answers, Fails, Hears, HearsNone, Puts, Replies, noted};
-ghost use Rattle.tcl_serve.specs.Endings as endings;
-ghost use Rattle.tcl_serve.specs.Endings.{Tells, ended_as, evaluation_answer};
-ghost use Rattle.tcl_serve.specs.Hosting.{RepliesSo, fresh_host};
-ghost use Rattle.tcl_serve.specs.Lines.{out_of_memory};
-ghost use Rattle.tcl_serve.specs.Messages.Asks as asks;
-ghost use Rattle.tcl_serve.specs.Messages.{Says, ask_of, asks_of};
-ghost use Rattle.tcl_serve.specs.Outside.{Calls, Comes, EntryEnds, Exchanges, Serves, closed};
-ghost use Rattle.tcl_serve.specs.Outside.{awaiting, entering, is_script};
-ghost use Rattle.tcl_serve.specs.declared.hosts.ServedHost.{ServedHost};
-ghost use Rattle.tcl_serve.specs.declared.refusals.Refusal.{Refusal};
+ghost use Rattle.tcl_client.specs.Answers as answers;
+ghost use Rattle.tcl_client.specs.Clients.{Answers, Fails, Hears, HearsNone, Puts, Replies, noted};
+ghost use Rattle.tcl_client.specs.Endings as endings;
+ghost use Rattle.tcl_client.specs.Endings.{Tells, ended_as, evaluation_answer};
+ghost use Rattle.tcl_client.specs.Hosting.{RepliesSo, fresh_host};
+ghost use Rattle.tcl_client.specs.Lines.{out_of_memory};
+ghost use Rattle.tcl_client.specs.Messages.Asks as asks;
+ghost use Rattle.tcl_client.specs.Messages.{Says, ask_of, asks_of};
+ghost use Rattle.tcl_client.specs.Outside.{Calls, Comes, EntryEnds, Exchanges, Serves, closed};
+ghost use Rattle.tcl_client.specs.Outside.{awaiting, entering, is_script};
+ghost use Rattle.tcl_client.specs.declared.hosts.ServedHost.{ServedHost};
+ghost use Rattle.tcl_client.specs.declared.refusals.Refusal.{Refusal};
 ghost use Rattle.tcl_tree.specs.TreeOf.{Names};
 
 use crate::acting::{look, refused_at};
 use crate::answers::{Answer, Call, Ended, answer_line, call_line, refusal_line};
+use crate::ending::Ending;
 use crate::entering::{Asked, alias_entry, client_alias_entry, creation, deletion, evaluation};
 use crate::hosts::ServedHost;
 use crate::lines::{LineFault, Lines};
 use crate::messages::{Ask, ClearAlias, LimitCount, LimitDepth, Line, Message, Return, read_line};
 use crate::refusals::Refusal;
-use crate::serving::Ending;
 use std::alloc::{AllocError, Global};
 use std::io::{BufRead, Write};
 use std::marker::Model;
 use std::mem;
-use tcl_eval::running::Refused;
 use tcl_flow::completion::{Completion, OK};
 use tcl_flow::stop::Stop;
 use tcl_host::reply::HostReply;
@@ -153,7 +152,7 @@ fn entry_ended(
         Err(Interruption::Stopped(stop)) => Ok(Answer::Ended(stopped(alloc, path, *stop)?)),
         Err(Interruption::Exited(status)) => Ok(Answer::Ended(Ended::Exited(*status))),
         Err(Interruption::Cut(_)) => Ok(Answer::Ended(Ended::Cut)),
-        Err(Interruption::Memory) => Err(Refusal::Run(Refused::Memory)),
+        Err(Interruption::Memory) => Err(Refusal::Breaks),
     }
 }
 
@@ -194,13 +193,13 @@ fn entry_answer(
 /// The refusal of an entry into an interpreter that isn't there.
 fn nobody(alloc: Global, target: &[Text], entry: &Entry) -> Refusal {
     match entry {
-        Entry::Eval(_) => Refusal::Run(Refused::NoInterpreter),
+        Entry::Eval(_) => Refusal::Nobody,
         _ => refused_at(alloc, TreeError::NoInterpreter, target),
     }
 }
 
 impl<R: BufRead + Drop, W: Write + Drop> Model for Client<R, W> {
-    ghost use Rattle.tcl_serve.specs.Clients.{Talking};
+    ghost use Rattle.tcl_client.specs.Clients.{Talking};
 
     ghost Value = { Talking };
 
@@ -277,7 +276,7 @@ impl<R: BufRead + Drop, W: Write + Drop> Client<R, W> {
         mem::swap(&mut self.host, host);
         self.calls.clear();
         'awaited: while let Some(awaited) = self.awaited.pop() {
-            self.reply(alloc, awaited.id, Err(Refusal::Run(Refused::Memory)));
+            self.reply(alloc, awaited.id, Err(Refusal::Breaks));
         }
     }
 

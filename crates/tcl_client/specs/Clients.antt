@@ -1,18 +1,18 @@
 -- What the client is told, and what is heard of it.
 use Rattle.std.specs.Io.KnownBytes.{Consumes, IsAtEnd}
 use Rattle.std.specs.Prelude.{◌≡◌, ◌⊎◌, ℕ, Bool, List, [], ◌∷◌, ◌++◌, Option, Some, None, Result, Ok, Err, ⊤}
-use Rattle.tcl_serve.specs.Answers.{answer_line, refusal_line}
-use Rattle.tcl_serve.specs.Lines.{Traffic, WritesLine, out_of_memory}
-use Rattle.tcl_serve.specs.Messages.{Asks, Said, Says, SaysOrWants}
-use Rattle.tcl_serve.specs.declared.answers.Answer.{Answer}
-use Rattle.tcl_serve.specs.declared.client.Awaited.{Awaited}
-use Rattle.tcl_serve.specs.declared.hosts.ServedHost.{ServedHost}
-use Rattle.tcl_serve.specs.declared.lines.LineFault.{LineFault}
-use Rattle.tcl_serve.specs.declared.lines.LineFault.TheVariants.{Unwritable}
-use Rattle.tcl_serve.specs.declared.refusals.Refusal.{Refusal}
-use Rattle.tcl_serve.specs.declared.refusals.Refusal.TheVariants.{Line}
-use Rattle.tcl_serve.specs.declared.serving.Ending.{Ending}
-use Rattle.tcl_serve.specs.declared.serving.Ending.TheVariants.{Finished, Failed}
+use Rattle.tcl_client.specs.Answers.{answer_line, refusal_line}
+use Rattle.tcl_client.specs.Lines.{Traffic, WritesLine, out_of_memory}
+use Rattle.tcl_client.specs.Messages.{Asks, Said, Says, SaysOrWants}
+use Rattle.tcl_client.specs.declared.answers.Answer.{Answer}
+use Rattle.tcl_client.specs.declared.client.Awaited.{Awaited}
+use Rattle.tcl_client.specs.declared.hosts.ServedHost.{ServedHost}
+use Rattle.tcl_client.specs.declared.lines.LineFault.{LineFault}
+use Rattle.tcl_client.specs.declared.lines.LineFault.TheVariants.{Unwritable}
+use Rattle.tcl_client.specs.declared.refusals.Refusal.{Refusal}
+use Rattle.tcl_client.specs.declared.refusals.Refusal.TheVariants.{Line}
+use Rattle.tcl_client.specs.declared.ending.Ending.{Ending}
+use Rattle.tcl_client.specs.declared.ending.Ending.TheVariants.{Finished, Failed}
 
 -- A client, and what is between the lines: the number of the tree that is evaluated in and its
 -- host; the calls that are open and the messages that are done as entries, the last ones last; the

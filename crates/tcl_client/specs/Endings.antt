@@ -9,12 +9,12 @@ use Rattle.tcl_core.specs.Lives.End.{Completed_as, Stopped, Exits}
 use Rattle.tcl_core.specs.Paths.{Path}
 use Rattle.tcl_flow.specs.declared.stop.StopKind.{StopKind}
 use Rattle.tcl_flow.specs.declared.stop.StopKind.TheVariants as stop
-use Rattle.tcl_serve.specs.declared.answers.Answer.{Answer}
-use Rattle.tcl_serve.specs.declared.answers.Answer.TheVariants as answer
-use Rattle.tcl_serve.specs.declared.answers.Ended.{Ended}
-use Rattle.tcl_serve.specs.declared.answers.Ended.TheVariants as ended
-use Rattle.tcl_serve.specs.declared.refusals.Refusal.{Refusal}
-use Rattle.tcl_serve.specs.declared.refusals.Refusal.TheVariants.{Memory, Told}
+use Rattle.tcl_client.specs.declared.answers.Answer.{Answer}
+use Rattle.tcl_client.specs.declared.answers.Answer.TheVariants as answer
+use Rattle.tcl_client.specs.declared.answers.Ended.{Ended}
+use Rattle.tcl_client.specs.declared.answers.Ended.TheVariants as ended
+use Rattle.tcl_client.specs.declared.refusals.Refusal.{Refusal}
+use Rattle.tcl_client.specs.declared.refusals.Refusal.TheVariants.{Memory, Told}
 
 abbrev pub kind_of : Meter → StopKind
 kind_of Count = stop.Count

@@ -5,10 +5,10 @@ use Rattle.tcl_interpreter.specs.Commands.{AliasView}
 use Rattle.tcl_interpreter.specs.Nodes.{NodeView}
 use Rattle.tcl_interpreter.specs.declared.refusal.TreeError.{TreeError}
 use Rattle.tcl_interpreter.specs.declared.refusal.TreeError.TheVariants.{NoInterpreter}
-use Rattle.tcl_serve.specs.declared.answers.Answer.{Answer}
-use Rattle.tcl_serve.specs.declared.answers.Answer.TheVariants as answer
-use Rattle.tcl_serve.specs.declared.refusals.Refusal.{Refusal}
-use Rattle.tcl_serve.specs.declared.refusals.Refusal.TheVariants as refusal
+use Rattle.tcl_client.specs.declared.answers.Answer.{Answer}
+use Rattle.tcl_client.specs.declared.answers.Answer.TheVariants as answer
+use Rattle.tcl_client.specs.declared.refusals.Refusal.{Refusal}
+use Rattle.tcl_client.specs.declared.refusals.Refusal.TheVariants as refusal
 
 -- the path is that of a child, of this name, of the interpreter at another
 abbrev pub AtChild : Path → (Path → Text → Type 0) → Type 0

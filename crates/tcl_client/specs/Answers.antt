@@ -7,16 +7,16 @@ use Rattle.std.specs.Prelude.{ℕ, List, [], ◌∷◌, Option, Some, None, code
 use Rattle.tcl_core.specs.Paths.{Text}
 use Rattle.tcl_flow.specs.declared.stop.StopKind.{StopKind}
 use Rattle.tcl_flow.specs.declared.stop.StopKind.TheVariants as stop
-use Rattle.tcl_serve.specs.Refusals.{number_of, text_of}
-use Rattle.tcl_serve.specs.declared.answers.Answer.{Answer}
-use Rattle.tcl_serve.specs.declared.answers.Answer.TheVariants as answer
-use Rattle.tcl_serve.specs.declared.answers.Call.{Call}
-use Rattle.tcl_serve.specs.declared.answers.Ended.{Ended}
-use Rattle.tcl_serve.specs.declared.answers.Ended.TheVariants as ended
-use Rattle.tcl_serve.specs.declared.answers.Replayed.{Replayed}
-use Rattle.tcl_serve.specs.declared.answers.Standing.{Standing}
-use Rattle.tcl_serve.specs.declared.answers.Watched.{Watched}
-use Rattle.tcl_serve.specs.declared.refusals.Refusal.{Refusal}
+use Rattle.tcl_client.specs.Refusals.{number_of, text_of}
+use Rattle.tcl_client.specs.declared.answers.Answer.{Answer}
+use Rattle.tcl_client.specs.declared.answers.Answer.TheVariants as answer
+use Rattle.tcl_client.specs.declared.answers.Call.{Call}
+use Rattle.tcl_client.specs.declared.answers.Ended.{Ended}
+use Rattle.tcl_client.specs.declared.answers.Ended.TheVariants as ended
+use Rattle.tcl_client.specs.declared.answers.Replayed.{Replayed}
+use Rattle.tcl_client.specs.declared.answers.Standing.{Standing}
+use Rattle.tcl_client.specs.declared.answers.Watched.{Watched}
+use Rattle.tcl_client.specs.declared.refusals.Refusal.{Refusal}
 
 -- a number, or null
 abbrev pub number_data : Option ℕ → Data

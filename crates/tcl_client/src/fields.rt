@@ -3,12 +3,12 @@ ghost use Rattle.serde_json.specs.Find.{as_number, as_object, get};
 ghost use Rattle.serde_json.specs.View.{items_view, view};
 ghost use Rattle.std.specs.Option.{option_and_then, option_map};
 ghost use Rattle.std.specs.Prelude.{◌≡◌, ◌≢◌, Err, IfErr, IfOk, Ok, OnOk, Some};
-ghost use Rattle.tcl_serve.specs.Fields.{flag_of, in_field, integer_of, is_field, items_of, no_number};
-ghost use Rattle.tcl_serve.specs.Fields.{number_of, number_or_null_of, only, optional_in, present};
-ghost use Rattle.tcl_serve.specs.Fields.{text_of, texts_of};
-ghost use Rattle.tcl_serve.specs.Names.{name_of, type_name, type_of};
-ghost use Rattle.tcl_serve.specs.declared.refusals.Refusal.TheVariants.{Memory, OutOfRange};
-ghost use Rattle.tcl_serve.specs.declared.refusals.Refusal.TheVariants.{WrongType};
+ghost use Rattle.tcl_client.specs.Fields.{flag_of, in_field, integer_of, is_field, items_of, no_number};
+ghost use Rattle.tcl_client.specs.Fields.{number_of, number_or_null_of, only, optional_in, present};
+ghost use Rattle.tcl_client.specs.Fields.{text_of, texts_of};
+ghost use Rattle.tcl_client.specs.Names.{name_of, type_name, type_of};
+ghost use Rattle.tcl_client.specs.declared.refusals.Refusal.TheVariants.{Memory, OutOfRange};
+ghost use Rattle.tcl_client.specs.declared.refusals.Refusal.TheVariants.{WrongType};
 
 use crate::refusals::Refusal;
 use serde_json::Value;

@@ -24,22 +24,22 @@ use Rattle.tcl_run.specs.Outsides.{Going, reply_of}
 use Rattle.tcl_run.specs.declared.interruption.Interruption.{Interruption}
 use Rattle.tcl_run.specs.declared.outside.Turn.{Turn}
 use Rattle.tcl_run.specs.declared.outside.Turn.TheVariants as turn
-use Rattle.tcl_serve.specs.Acting.{AtChild, client_way}
-use Rattle.tcl_serve.specs.Answers.{call_text}
-use Rattle.tcl_serve.specs.Clients.{Hears, HearsNone, Puts, Replies, Talking}
-use Rattle.tcl_serve.specs.Endings.{entry_answer}
-use Rattle.tcl_serve.specs.Hosting.{RepliesSo}
-use Rattle.tcl_serve.specs.Messages.Ask as ask
-use Rattle.tcl_serve.specs.Messages.Asks.{Evaluate, OnTree, Return}
-use Rattle.tcl_serve.specs.Messages.{Ask, Asks}
-use Rattle.tcl_serve.specs.declared.answers.Answer as answers
-use Rattle.tcl_serve.specs.declared.answers.Answer.TheVariants as answer
-use Rattle.tcl_serve.specs.declared.client.Awaited.{Awaited}
-use Rattle.tcl_serve.specs.declared.client.Next.{Next}
-use Rattle.tcl_serve.specs.declared.client.Next.TheVariants as next
-use Rattle.tcl_serve.specs.declared.hosts.ServedHost.{ServedHost}
-use Rattle.tcl_serve.specs.declared.refusals.Refusal.{Refusal}
-use Rattle.tcl_serve.specs.declared.refusals.Refusal.TheVariants as refusal
+use Rattle.tcl_client.specs.Acting.{AtChild, client_way}
+use Rattle.tcl_client.specs.Answers.{call_text}
+use Rattle.tcl_client.specs.Clients.{Hears, HearsNone, Puts, Replies, Talking}
+use Rattle.tcl_client.specs.Endings.{entry_answer}
+use Rattle.tcl_client.specs.Hosting.{RepliesSo}
+use Rattle.tcl_client.specs.Messages.Ask as ask
+use Rattle.tcl_client.specs.Messages.Asks.{Evaluate, OnTree, Return}
+use Rattle.tcl_client.specs.Messages.{Ask, Asks}
+use Rattle.tcl_client.specs.declared.answers.Answer as answers
+use Rattle.tcl_client.specs.declared.answers.Answer.TheVariants as answer
+use Rattle.tcl_client.specs.declared.client.Awaited.{Awaited}
+use Rattle.tcl_client.specs.declared.client.Next.{Next}
+use Rattle.tcl_client.specs.declared.client.Next.TheVariants as next
+use Rattle.tcl_client.specs.declared.hosts.ServedHost.{ServedHost}
+use Rattle.tcl_client.specs.declared.refusals.Refusal.{Refusal}
+use Rattle.tcl_client.specs.declared.refusals.Refusal.TheVariants as refusal
 use Rattle.tcl_tree.specs.Own.{Own}
 
 -- ## Messages as entries

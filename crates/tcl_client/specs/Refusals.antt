@@ -2,26 +2,22 @@
 use Rattle.std.specs.List.{starts_with}
 use Rattle.std.specs.Prelude.{ℕ, ◌++◌, [], codes, decimal, nat_eq, if◌then◌else◌}
 use Rattle.tcl_core.specs.Paths.{Text}
-use Rattle.tcl_eval.specs.declared.running.Refused.{Refused}
-use Rattle.tcl_eval.specs.declared.running.Refused.TheVariants as run
 use Rattle.tcl_interpreter.specs.Refusals as tree
 use Rattle.tcl_interpreter.specs.declared.refusal.TreeError.{TreeError}
 use Rattle.tcl_interpreter.specs.declared.refusal.TreeError.TheVariants as tree_error
-use Rattle.tcl_replay.specs.declared.replaying.Unplayed.{Unplayed}
-use Rattle.tcl_replay.specs.declared.replaying.Unplayed.TheVariants as unplayed
-use Rattle.tcl_serve.specs.Names.{name_of, type_name, type_of}
-use Rattle.tcl_serve.specs.declared.fields.Field.{Field}
-use Rattle.tcl_serve.specs.declared.lines.LineFault.{LineFault}
-use Rattle.tcl_serve.specs.declared.lines.LineFault.TheVariants as line
-use Rattle.tcl_serve.specs.declared.refusals.Refusal.{Refusal}
-use Rattle.tcl_serve.specs.declared.refusals.Refusal.TheVariants.{Memory, NotUtf8, NotJson}
-use Rattle.tcl_serve.specs.declared.refusals.Refusal.TheVariants.{NotObject, UnknownMessage}
-use Rattle.tcl_serve.specs.declared.refusals.Refusal.TheVariants.{UnknownField, Missing, WrongType}
-use Rattle.tcl_serve.specs.declared.refusals.Refusal.TheVariants.{OutOfRange, Nothing, CallOpen}
-use Rattle.tcl_serve.specs.declared.refusals.Refusal.TheVariants.{NotOpen, EntryLimit, Root, Line}
-use Rattle.tcl_serve.specs.declared.refusals.Refusal.TheVariants.{Tree, TooLong, Run, Deleted}
-use Rattle.tcl_serve.specs.declared.refusals.Refusal.TheVariants.{Unplayed as NotPlayed, NotText}
-use Rattle.tcl_serve.specs.declared.refusals.Refusal.TheVariants.{Told}
+use Rattle.tcl_client.specs.Names.{name_of, type_name, type_of}
+use Rattle.tcl_client.specs.declared.fields.Field.{Field}
+use Rattle.tcl_client.specs.declared.lines.LineFault.{LineFault}
+use Rattle.tcl_client.specs.declared.lines.LineFault.TheVariants as line
+use Rattle.tcl_client.specs.declared.refusals.Refusal.{Refusal}
+use Rattle.tcl_client.specs.declared.refusals.Refusal.TheVariants.{Memory, NotUtf8, NotJson}
+use Rattle.tcl_client.specs.declared.refusals.Refusal.TheVariants.{NotObject, UnknownMessage}
+use Rattle.tcl_client.specs.declared.refusals.Refusal.TheVariants.{UnknownField, Missing, WrongType}
+use Rattle.tcl_client.specs.declared.refusals.Refusal.TheVariants.{OutOfRange, Nothing, CallOpen}
+use Rattle.tcl_client.specs.declared.refusals.Refusal.TheVariants.{NotOpen, EntryLimit, Root, Line}
+use Rattle.tcl_client.specs.declared.refusals.Refusal.TheVariants.{Tree, TooLong, Breaks}
+use Rattle.tcl_client.specs.declared.refusals.Refusal.TheVariants.{Broken, Nobody, TooManySteps}
+use Rattle.tcl_client.specs.declared.refusals.Refusal.TheVariants.{Deleted, Waits, NotText, Told}
 use Rattle.tcl_value.specs.declared.value.ValueError.{ValueError}
 use Rattle.tcl_value.specs.declared.value.ValueError.TheVariants as value
 
@@ -48,18 +44,6 @@ tree_number tree_error.TooMany = 307
 tree_number (tree_error.CountLimit n) = 308
 tree_number (tree_error.DepthLimit n) = 308
 tree_number tree_error.BadDepthLimit = 309
-
-abbrev pub run_number : Refused → ℕ
-run_number run.Memory = 401
-run_number run.Broken = 402
-run_number run.NoInterpreter = 403
-run_number run.CountTooLarge = 404
-run_number run.TooLong = 122
-
-abbrev pub play_number : Unplayed → ℕ
-play_number unplayed.Memory = 500
-play_number unplayed.CountTooLarge = 404
-play_number unplayed.Waits = 412
 
 -- How an interpreter begins to tell each of the refusals of what evaluates nothing.
 abbrev pub told_number : Text → ℕ
@@ -90,9 +74,12 @@ number_of Root = 513
 number_of (Line fault) = line_number fault
 number_of (Tree error word) = tree_number error
 number_of TooLong = 122
-number_of (Run refused) = run_number refused
+number_of Breaks = 401
+number_of Broken = 402
+number_of Nobody = 403
+number_of TooManySteps = 404
 number_of Deleted = 411
-number_of (NotPlayed why) = play_number why
+number_of Waits = 412
 number_of (NotText name) = 265
 number_of (Told text) = told_number text
 
@@ -102,15 +89,6 @@ abbrev pub of_value : ValueError → Refusal
 of_value value.Memory = Memory
 of_value value.TooLong = TooLong
 
--- why an interpreter isn't saved: want of memory breaks nothing
-abbrev pub of_saving : Refused → Refusal
-of_saving run.Memory = Memory
-of_saving r = Run r
-
-abbrev pub of_replaying : Unplayed → Refusal
-of_replaying unplayed.Memory = Memory
-of_replaying u = NotPlayed u
-
 -- ## Texts
 
 abbrev pub line_text : LineFault → Text
@@ -119,18 +97,6 @@ line_text line.CutShort = codes "the input ends inside a line"
 line_text line.Unreadable = codes "the input can't be read"
 line_text line.Unwritable = codes "the output can't be written"
 line_text line.Memory = codes "out of memory"
-
-abbrev pub run_text : Refused → Text
-run_text run.Memory = codes "out of memory, and the tree is broken"
-run_text run.Broken = codes "the tree is broken"
-run_text run.NoInterpreter = codes "no interpreter stands at the path"
-run_text run.CountTooLarge = codes "the count of steps would pass its limit"
-run_text run.TooLong = codes "value longer than 16777216 bytes"
-
-abbrev pub play_text : Unplayed → Text
-play_text unplayed.Memory = codes "out of memory"
-play_text unplayed.CountTooLarge = codes "the count of steps would pass its limit"
-play_text unplayed.Waits = codes "it waits for an answer"
 
 -- a name in quotation marks, and what stands before and behind it
 abbrev pub about : Text → Text → Text → Text
@@ -156,8 +122,11 @@ text_of Root = codes "the root is neither made nor deleted"
 text_of (Line fault) = line_text fault
 text_of (Tree error word) = tree.text_of error word
 text_of TooLong = codes "value longer than 16777216 bytes"
-text_of (Run refused) = run_text refused
+text_of Breaks = codes "out of memory, and the tree is broken"
+text_of Broken = codes "the tree is broken"
+text_of Nobody = codes "no interpreter stands at the path"
+text_of TooManySteps = codes "the count of steps would pass its limit"
 text_of Deleted = codes "the watched interpreter was deleted"
-text_of (NotPlayed why) = play_text why
+text_of Waits = codes "it waits for an answer"
 text_of (NotText name) = about [] name (codes " is not UTF-8")
 text_of (Told text) = text

@@ -1,7 +1,7 @@
 //! The kinds of messages.
 ghost use Rattle.std.specs.Prelude.{◌≡◌};
-ghost use Rattle.tcl_serve.specs.Messages.{kind_named};
-ghost use Rattle.tcl_serve.specs.Names.{fields_of, kind_name};
+ghost use Rattle.tcl_client.specs.Messages.{kind_named};
+ghost use Rattle.tcl_client.specs.Names.{fields_of, kind_name};
 
 use crate::fields::Field;
 

@@ -1,18 +1,14 @@
 //! Why a message isn't done.
 ghost use Rattle.std.specs.Prelude.{◌≡◌, IfOk};
 ghost use Rattle.std.specs.String.{string_bytes};
-ghost use Rattle.tcl_serve.specs.Refusals.{about, line_number, line_text, number_of, of_replaying};
-ghost use Rattle.tcl_serve.specs.Refusals.{of_saving, of_value, play_number, play_text};
-ghost use Rattle.tcl_serve.specs.Refusals.{run_number, run_text, text_of, told_number};
-ghost use Rattle.tcl_serve.specs.Refusals.{tree_number};
-ghost use Rattle.tcl_serve.specs.declared.refusals.Refusal.TheVariants.{Memory, Nothing, NotOpen};
-ghost use Rattle.tcl_serve.specs.declared.refusals.Refusal.TheVariants.{WrongType};
+ghost use Rattle.tcl_client.specs.Refusals.{about, line_number, line_text, number_of, of_value};
+ghost use Rattle.tcl_client.specs.Refusals.{text_of, told_number, tree_number};
+ghost use Rattle.tcl_client.specs.declared.refusals.Refusal.TheVariants.{Memory, Nothing, NotOpen};
+ghost use Rattle.tcl_client.specs.declared.refusals.Refusal.TheVariants.{WrongType};
 
 use crate::fields::Field;
 use crate::lines::LineFault;
 use std::alloc::{AllocError, AllocFailed, Global};
-use tcl_eval::running::Refused;
-use tcl_replay::replaying::Unplayed;
 use tcl_text::messages::TOO_LONG;
 use tcl_text::text::Text;
 use tcl_tree::refusal::TreeError;
@@ -55,12 +51,18 @@ pub enum Refusal {
     Tree(TreeError, Text),
     /// 122: a text is longer than a value may be.
     TooLong,
-    /// There was no run, or none that came to its end.
-    Run(Refused),
+    /// 401: memory ran out in an evaluation, and the tree is broken.
+    Breaks,
+    /// 402: the tree is broken.
+    Broken,
+    /// 403: no interpreter stands at the path.
+    Nobody,
+    /// 404: the count of steps would pass its limit.
+    TooManySteps,
     /// 411: the watched interpreter was deleted in the run.
     Deleted,
-    /// Nothing was replayed.
-    Unplayed(Unplayed),
+    /// 412: what is to be replayed to waits for an answer.
+    Waits,
     /// 265: what a file or a channel holds isn't UTF-8.
     NotText(Text),
     /// What an interpreter said to an entry.
@@ -127,30 +129,6 @@ fn tree_number(error: TreeError) -> u64
     }
 }
 
-/// The number of why there was no run.
-fn run_number(refused: Refused) -> u64
-    ensures { result ≡ run_number refused }
-{
-    match refused {
-        Refused::Memory => 401,
-        Refused::Broken => 402,
-        Refused::NoInterpreter => 403,
-        Refused::CountTooLarge => 404,
-        Refused::TooLong => 122,
-    }
-}
-
-/// The number of why nothing was replayed.
-fn play_number(unplayed: Unplayed) -> u64
-    ensures { result ≡ play_number unplayed }
-{
-    match unplayed {
-        Unplayed::Memory => 500,
-        Unplayed::CountTooLarge => 404,
-        Unplayed::Waits => 412,
-    }
-}
-
 /// The number of what an interpreter says to an entry that evaluates nothing.
 fn told_number(text: &str) -> u64
     ensures { result ≡ told_number text.now }
@@ -183,26 +161,6 @@ fn told_number(text: &str) -> u64
 }
 
 impl Refusal {
-    /// Why an interpreter isn't saved.
-    pub fn of_saving(refused: Refused) -> Refusal
-        ensures { result ≡ of_saving refused }
-    {
-        match refused {
-            Refused::Memory => Refusal::Memory,
-            other => Refusal::Run(other),
-        }
-    }
-
-    /// Why nothing was replayed.
-    pub fn of_replaying(unplayed: Unplayed) -> Refusal
-        ensures { result ≡ of_replaying unplayed }
-    {
-        match unplayed {
-            Unplayed::Memory => Refusal::Memory,
-            other => Refusal::Unplayed(other),
-        }
-    }
-
     /// Its number.
     pub fn number(&self) -> u64
         ensures { result ≡ number_of self.now }
@@ -225,9 +183,12 @@ impl Refusal {
             Refusal::Line(fault) => line_number(*fault),
             Refusal::Tree(error, _) => tree_number(*error),
             Refusal::TooLong => 122,
-            Refusal::Run(refused) => run_number(*refused),
+            Refusal::Breaks => 401,
+            Refusal::Broken => 402,
+            Refusal::Nobody => 403,
+            Refusal::TooManySteps => 404,
             Refusal::Deleted => 411,
-            Refusal::Unplayed(unplayed) => play_number(*unplayed),
+            Refusal::Waits => 412,
             Refusal::NotText(_) => 265,
             Refusal::Told(text) => told_number(text.as_str()),
         }
@@ -260,9 +221,14 @@ impl Refusal {
             Refusal::Line(fault) => String::from_str(alloc, line_text(*fault)),
             Refusal::Tree(error, word) => error.text(alloc, word.as_str()),
             Refusal::TooLong => String::from_str(alloc, TOO_LONG),
-            Refusal::Run(refused) => String::from_str(alloc, run_text(*refused)),
+            Refusal::Breaks => String::from_str(alloc, "out of memory, and the tree is broken"),
+            Refusal::Broken => String::from_str(alloc, "the tree is broken"),
+            Refusal::Nobody => String::from_str(alloc, "no interpreter stands at the path"),
+            Refusal::TooManySteps => {
+                String::from_str(alloc, "the count of steps would pass its limit")
+            }
             Refusal::Deleted => String::from_str(alloc, "the watched interpreter was deleted"),
-            Refusal::Unplayed(unplayed) => String::from_str(alloc, play_text(*unplayed)),
+            Refusal::Waits => String::from_str(alloc, "it waits for an answer"),
             Refusal::NotText(name) => about(alloc, "", name.as_str(), " is not UTF-8"),
             Refusal::Told(text) => String::from_str(alloc, text.as_str()),
         }
@@ -310,29 +276,5 @@ fn line_text(fault: LineFault) -> &'static str
         LineFault::Unreadable => "the input can't be read",
         LineFault::Unwritable => "the output can't be written",
         LineFault::Memory => "out of memory",
-    }
-}
-
-/// The text of why there was no run.
-fn run_text(refused: Refused) -> &'static str
-    ensures { result.now ≡ run_text refused }
-{
-    match refused {
-        Refused::Memory => "out of memory, and the tree is broken",
-        Refused::Broken => "the tree is broken",
-        Refused::NoInterpreter => "no interpreter stands at the path",
-        Refused::CountTooLarge => "the count of steps would pass its limit",
-        Refused::TooLong => TOO_LONG,
-    }
-}
-
-/// The text of why nothing was replayed.
-fn play_text(unplayed: Unplayed) -> &'static str
-    ensures { result.now ≡ play_text unplayed }
-{
-    match unplayed {
-        Unplayed::Memory => "out of memory",
-        Unplayed::CountTooLarge => "the count of steps would pass its limit",
-        Unplayed::Waits => "it waits for an answer",
     }
 }

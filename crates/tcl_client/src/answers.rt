@@ -2,10 +2,10 @@
 ghost use Rattle.serde_json.specs.View.{view};
 ghost use Rattle.std.specs.Prelude.{◌≡◌, IfOk};
 ghost use Rattle.std.specs.String.{string_bytes};
-ghost use Rattle.tcl_serve.specs.Answers as written;
-ghost use Rattle.tcl_serve.specs.Answers.{answer_data, ended_data, limit_name, lines_data};
-ghost use Rattle.tcl_serve.specs.Answers.{replayed_data, standing_data, text_data, texts_data};
-ghost use Rattle.tcl_serve.specs.Answers.{watched_data};
+ghost use Rattle.tcl_client.specs.Answers as written;
+ghost use Rattle.tcl_client.specs.Answers.{answer_data, ended_data, limit_name, lines_data};
+ghost use Rattle.tcl_client.specs.Answers.{replayed_data, standing_data, text_data, texts_data};
+ghost use Rattle.tcl_client.specs.Answers.{watched_data};
 
 use crate::refusals::Refusal;
 use serde_json::{Value, json};

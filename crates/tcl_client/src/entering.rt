@@ -1,10 +1,10 @@
 //! Messages as entries, while a call is open.
 ghost use Rattle.std.specs.Prelude.{◌≡◌, IfErr, IfOk, true};
 ghost use Rattle.tcl_run.specs.Entering.{whole_entry};
-ghost use Rattle.tcl_serve.specs.Messages.Asks as asks;
-ghost use Rattle.tcl_serve.specs.Messages.{ask_of, evaluation_of};
-ghost use Rattle.tcl_serve.specs.Outside.{AsksEntry, IsEntry, NoEntry};
-ghost use Rattle.tcl_serve.specs.declared.messages.Ask.TheVariants as ask;
+ghost use Rattle.tcl_client.specs.Messages.Asks as asks;
+ghost use Rattle.tcl_client.specs.Messages.{ask_of, evaluation_of};
+ghost use Rattle.tcl_client.specs.Outside.{AsksEntry, IsEntry, NoEntry};
+ghost use Rattle.tcl_client.specs.declared.messages.Ask.TheVariants as ask;
 
 use crate::acting::{client_alias, values_of};
 use crate::messages::{Alias, AliasToClient, Create, Evaluate};

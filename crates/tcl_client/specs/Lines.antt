@@ -2,10 +2,10 @@
 use Rattle.std.specs.Io.KnownBytes.{Appends, Consumes, IsAtEnd}
 use Rattle.std.specs.Prelude.{◌≡◌, ◌≢◌, ℕ, ◌+◌, ◌<◌, ◌≤◌, List, [], ◌∷◌, ◌++◌, length, All, Option, Some, None, Result, Ok, Err, IfSome, Vec, codes, decimal}
 use Rattle.std.specs.declared.alloc.Global.{Global}
-use Rattle.tcl_serve.specs.declared.lines.LineFault.{LineFault}
-use Rattle.tcl_serve.specs.declared.lines.LineFault.TheVariants.{TooLong, CutShort, Unreadable, Unwritable, Memory}
-use Rattle.tcl_serve.specs.declared.lines.Step.{Step}
-use Rattle.tcl_serve.specs.declared.lines.Step.TheVariants.{More, Whole, AtEnd}
+use Rattle.tcl_client.specs.declared.lines.LineFault.{LineFault}
+use Rattle.tcl_client.specs.declared.lines.LineFault.TheVariants.{TooLong, CutShort, Unreadable, Unwritable, Memory}
+use Rattle.tcl_client.specs.declared.lines.Step.{Step}
+use Rattle.tcl_client.specs.declared.lines.Step.TheVariants.{More, Whole, AtEnd}
 
 -- the bytes that are left to be read, and those that were written, where they are known
 pub record Traffic : Type 0 where

@@ -1,9 +1,9 @@
 //! Lines, as they are read and written.
 ghost use Rattle.std.specs.Prelude.{◌≡◌, ◌⊎◌, ◌+◌, ◌<◌, ◌≤◌, ◌++◌, IfErr, OnOk, length, vec_len};
 ghost use Rattle.std.specs.Io.KnownBytes.{Keeps};
-ghost use Rattle.tcl_serve.specs.Lines.{Reads, ReadsLine, WritesLine, most_line, out_of_memory};
-ghost use Rattle.tcl_serve.specs.declared.lines.LineFault.TheVariants.{Memory, TooLong};
-ghost use Rattle.tcl_serve.specs.declared.lines.LineFault.TheVariants.{Unwritable};
+ghost use Rattle.tcl_client.specs.Lines.{Reads, ReadsLine, WritesLine, most_line, out_of_memory};
+ghost use Rattle.tcl_client.specs.declared.lines.LineFault.TheVariants.{Memory, TooLong};
+ghost use Rattle.tcl_client.specs.declared.lines.LineFault.TheVariants.{Unwritable};
 
 use memchr::memchr;
 use std::alloc::{AllocError, Global};
@@ -112,7 +112,7 @@ impl<R: BufRead + Drop, W: Write + Drop> Drop for Lines<R, W> {
 }
 
 impl<R: BufRead + Drop, W: Write + Drop> Model for Lines<R, W> {
-    ghost use Rattle.tcl_serve.specs.Lines.{Traffic};
+    ghost use Rattle.tcl_client.specs.Lines.{Traffic};
 
     ghost Value = { Traffic };
 

@@ -6,26 +6,26 @@ use Rattle.std.specs.Option.{option_and_then, option_map, unwrap_or}
 use Rattle.std.specs.Prelude.{◌≡◌, ℕ, ℤ, ◌==◌, ◌⊎◌, Bool, List, Option, Some, None, Result, Ok, Err, IsUtf8, codes, find, if◌then◌else◌, nat_lt}
 use Rattle.std.specs.Str.{bytes_eq}
 use Rattle.tcl_core.specs.Paths.{Path, Text}
-use Rattle.tcl_serve.specs.Fields.{flag_of, followed, in_field, integer_of, mapped, number_of}
-use Rattle.tcl_serve.specs.Fields.{number_or_null_of, object_of, only, optional_in, text_of}
-use Rattle.tcl_serve.specs.Fields.{texts_of}
-use Rattle.tcl_serve.specs.Names.{fields_of, kind_name, kinds}
-use Rattle.tcl_serve.specs.declared.fields.Field.TheVariants as field
-use Rattle.tcl_serve.specs.declared.kinds.Kind.{Kind}
-use Rattle.tcl_serve.specs.declared.kinds.Kind.TheVariants as kind
-use Rattle.tcl_serve.specs.declared.messages.Ask.{Ask as DeclaredAsk}
-use Rattle.tcl_serve.specs.declared.messages.Ask.TheVariants as ask
-use Rattle.tcl_serve.specs.declared.messages.Channel.{Channel}
-use Rattle.tcl_serve.specs.declared.messages.Channel.TheVariants as channel
-use Rattle.tcl_serve.specs.declared.messages.Evaluate.{Evaluate as DeclaredEvaluate}
-use Rattle.tcl_serve.specs.declared.messages.Interpreter.{Interpreter}
-use Rattle.tcl_serve.specs.declared.messages.Line.{Line}
-use Rattle.tcl_serve.specs.declared.messages.Line.TheVariants as line
-use Rattle.tcl_serve.specs.declared.messages.Message.{Message}
-use Rattle.tcl_serve.specs.declared.messages.Message.TheVariants as message
-use Rattle.tcl_serve.specs.declared.refusals.Refusal.{Refusal}
-use Rattle.tcl_serve.specs.declared.refusals.Refusal.TheVariants.{Memory, NotJson, NotUtf8}
-use Rattle.tcl_serve.specs.declared.refusals.Refusal.TheVariants.{OutOfRange, UnknownMessage}
+use Rattle.tcl_client.specs.Fields.{flag_of, followed, in_field, integer_of, mapped, number_of}
+use Rattle.tcl_client.specs.Fields.{number_or_null_of, object_of, only, optional_in, text_of}
+use Rattle.tcl_client.specs.Fields.{texts_of}
+use Rattle.tcl_client.specs.Names.{fields_of, kind_name, kinds}
+use Rattle.tcl_client.specs.declared.fields.Field.TheVariants as field
+use Rattle.tcl_client.specs.declared.kinds.Kind.{Kind}
+use Rattle.tcl_client.specs.declared.kinds.Kind.TheVariants as kind
+use Rattle.tcl_client.specs.declared.messages.Ask.{Ask as DeclaredAsk}
+use Rattle.tcl_client.specs.declared.messages.Ask.TheVariants as ask
+use Rattle.tcl_client.specs.declared.messages.Channel.{Channel}
+use Rattle.tcl_client.specs.declared.messages.Channel.TheVariants as channel
+use Rattle.tcl_client.specs.declared.messages.Evaluate.{Evaluate as DeclaredEvaluate}
+use Rattle.tcl_client.specs.declared.messages.Interpreter.{Interpreter}
+use Rattle.tcl_client.specs.declared.messages.Line.{Line}
+use Rattle.tcl_client.specs.declared.messages.Line.TheVariants as line
+use Rattle.tcl_client.specs.declared.messages.Message.{Message}
+use Rattle.tcl_client.specs.declared.messages.Message.TheVariants as message
+use Rattle.tcl_client.specs.declared.refusals.Refusal.{Refusal}
+use Rattle.tcl_client.specs.declared.refusals.Refusal.TheVariants.{Memory, NotJson, NotUtf8}
+use Rattle.tcl_client.specs.declared.refusals.Refusal.TheVariants.{OutOfRange, UnknownMessage}
 use Rattle.tcl_text.specs.declared.integer.Integers.{Integers}
 use Rattle.tcl_text.specs.declared.integer.Integers.TheVariants as style
 

@@ -9,3 +9,4 @@ pub mod Messages
 pub mod Names
 pub mod Outside
 pub mod Refusals
+pub mod Statuses

@@ -3,11 +3,11 @@ use Rattle.std.specs.Prelude.{◌≡◌, ℕ, List, Option, Some, None, IsUtf8, 
 use Rattle.tcl_host.specs.MemoryHost.{errors_of, new_host, output_of, respond}
 use Rattle.tcl_host.specs.declared.reply.HostReply.{HostReply}
 use Rattle.tcl_host.specs.declared.request.Request.{Request}
-use Rattle.tcl_serve.specs.declared.hosts.ServedHost.{ServedHost}
-use Rattle.tcl_serve.specs.declared.messages.Channel.{Channel}
-use Rattle.tcl_serve.specs.declared.messages.Channel.TheVariants as channel
-use Rattle.tcl_serve.specs.declared.refusals.Refusal.{Refusal}
-use Rattle.tcl_serve.specs.declared.refusals.Refusal.TheVariants.{Memory, NotText}
+use Rattle.tcl_client.specs.declared.hosts.ServedHost.{ServedHost}
+use Rattle.tcl_client.specs.declared.messages.Channel.{Channel}
+use Rattle.tcl_client.specs.declared.messages.Channel.TheVariants as channel
+use Rattle.tcl_client.specs.declared.refusals.Refusal.{Refusal}
+use Rattle.tcl_client.specs.declared.refusals.Refusal.TheVariants.{Memory, NotText}
 
 -- one that has nothing
 abbrev pub fresh_host : ServedHost

@@ -3,10 +3,10 @@ ghost use Rattle.std.specs.Option.{option_map};
 ghost use Rattle.std.specs.Prelude.{◌≡◌, IfErr, IfOk, IsUtf8, MatchOption, OnErr, OnOk};
 ghost use Rattle.std.specs.Prelude.{Some, drop};
 ghost use Rattle.tcl_host.specs.MemoryHost.{file_of, with_file, with_input};
-ghost use Rattle.tcl_serve.specs.Hosting.{IfUnreadable, RepliesSo, all_taken, fresh_host, untaken};
-ghost use Rattle.tcl_serve.specs.declared.answers.Answer.TheVariants as answer;
-ghost use Rattle.tcl_serve.specs.declared.messages.Channel.TheVariants as channel;
-ghost use Rattle.tcl_serve.specs.declared.refusals.Refusal.TheVariants.{Memory};
+ghost use Rattle.tcl_client.specs.Hosting.{IfUnreadable, RepliesSo, all_taken, fresh_host, untaken};
+ghost use Rattle.tcl_client.specs.declared.answers.Answer.TheVariants as answer;
+ghost use Rattle.tcl_client.specs.declared.messages.Channel.TheVariants as channel;
+ghost use Rattle.tcl_client.specs.declared.refusals.Refusal.TheVariants.{Memory};
 
 use crate::answers::Answer;
 use crate::messages::{Channel, PutFile};
