@@ -103,8 +103,8 @@ refusal_line id r = compact_text (object (member (codes "error") (error_data r)
 
 -- of a call: its number, the tree's, who calls, and the words
 abbrev pub call_text : ℕ → ℕ → List Text → List Text → List ℕ
-call_text number tree interpreter words = compact_text (object
-    (member (codes "call") (number_data (Some number))
+call_text n tree interpreter words = compact_text (object
+    (member (codes "call") (number_data (Some n))
     (member (codes "interpreter") (texts_data interpreter)
     (member (codes "tree") (number_data (Some tree))
     (member (codes "words") (texts_data words) no_members)))))

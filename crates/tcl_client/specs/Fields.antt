@@ -4,6 +4,7 @@ use Rattle.serde_json.specs.Find.{as_array, as_bool, as_i64, as_null, as_number,
 use Rattle.serde_json.specs.Find.{as_u64, get}
 use Rattle.std.specs.Prelude.{ℕ, ℤ, Bool, true, false, List, [], ◌∷◌, Option, Some, None, Result, Ok, Err, ⊤, ◌||◌, if◌then◌else◌}
 use Rattle.std.specs.Option.{option_and_then}
+use Rattle.std.specs.List.{list_any}
 use Rattle.std.specs.Str.{bytes_eq}
 use Rattle.tcl_core.specs.Paths.{Text}
 use Rattle.tcl_client.specs.Names.{name_of}
@@ -91,12 +92,11 @@ optional_in read f line = if_present read f (get (name_of f) line)
 -- ## All fields
 
 abbrev pub is_among : List Field → Text → Bool
-is_among [] name = false
-is_among (f ∷ fs) name = bytes_eq (name_of f) name || is_among fs name
+is_among fs name = list_any (λ f. bytes_eq (name_of f) name) fs
 
 -- a message may have these fields, its id, and what it does
 abbrev pub is_field : List Field → Text → Bool
-is_field fs name = bytes_eq (name_of field.Id) name || bytes_eq (name_of field.Do) name ||
+is_field fs name = bytes_eq name (name_of field.Id) || bytes_eq name (name_of field.Do) ||
     is_among fs name
 
 -- the members are these fields alone; the first one that isn't, in their order

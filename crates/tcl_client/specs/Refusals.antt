@@ -46,15 +46,17 @@ tree_number (tree_error.DepthLimit n) = 308
 tree_number tree_error.BadDepthLimit = 309
 
 -- How an interpreter begins to tell each of the refusals of what evaluates nothing.
+abbrev pub told_later : Text → ℕ
+told_later text = if starts_with nat_eq text (codes "permission") then 304 else
+    if starts_with nat_eq text (codes "invalid command") then 305 else
+    if starts_with nat_eq text (codes "too many") then 307 else
+    if starts_with nat_eq text (codes "recursion limit") then 309 else 302
+
 abbrev pub told_number : Text → ℕ
 told_number text = if starts_with nat_eq text (codes "value longer") then 122 else
     if starts_with nat_eq text (codes "bad name") then 238 else
     if starts_with nat_eq text (codes "could not find") then 301 else
-    if starts_with nat_eq text (codes "interpreter") then 303 else
-    if starts_with nat_eq text (codes "permission") then 304 else
-    if starts_with nat_eq text (codes "invalid command") then 305 else
-    if starts_with nat_eq text (codes "too many") then 307 else
-    if starts_with nat_eq text (codes "recursion limit") then 309 else 302
+    if starts_with nat_eq text (codes "interpreter") then 303 else told_later text
 
 abbrev pub number_of : Refusal → ℕ
 number_of Memory = 500

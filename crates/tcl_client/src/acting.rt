@@ -266,7 +266,7 @@ pub fn look(tree: &Tree, alloc: Global, path: &[Text]) -> Result<Answer, Refusal
 
 /// These names.
 fn names_of(alloc: Global, names: Keys<'_, Text, usize>) -> Result<Vec<Text>, AllocError>
-    ensures { IfOk result (λ made. made.items ≡ names) }
+    ensures { IfOk result (λ made. made.items ≡ names.entry) }
 {
     let mut made = Vec::new(alloc);
     'names: for name in names {

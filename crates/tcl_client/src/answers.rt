@@ -209,6 +209,7 @@ fn answer_value(alloc: Global, answer: &Answer) -> Result<Value, AllocError>
 ///
 /// # Errors
 /// Want of memory.
+#[tactic(auto, using(crate::proofs::Written::answer_plain))]
 pub fn answer_line(alloc: Global, id: u64, answer: &Answer) -> Result<String, AllocError>
     ensures { IfOk result (λ line. string_bytes line ≡ written.answer_line id answer.now) }
 {
@@ -247,6 +248,7 @@ pub struct Call {
 ///
 /// # Errors
 /// Want of memory.
+#[tactic(auto, using(crate::proofs::Written::texts_plain))]
 pub fn call_line(alloc: Global, call: &Call) -> Result<String, AllocError>
     ensures { IfOk result (λ line. string_bytes line ≡ written.call_line call.now) }
 {

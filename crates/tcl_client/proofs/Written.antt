@@ -1,0 +1,64 @@
+-- Nothing that is written has a float.
+use Rattle.serde_json.specs.Data.{Data, array}
+use Rattle.serde_json.specs.Written.{has_float, items_have_float}
+use Rattle.std.proofs.Common.{◌≡◌, ℕ, List, [], ◌∷◌, Option, Some, None, false, refl}
+use Rattle.std.proofs.Common.{ap, ◌∙◌, ◌||◌}
+use Rattle.tcl_client.specs.Answers.{answer_data, ended_data, replayed_data, standing_data, watched_data}
+use Rattle.tcl_client.specs.declared.answers.Answer.{Answer}
+use Rattle.tcl_client.specs.declared.answers.Answer.TheVariants as answer
+use Rattle.tcl_client.specs.declared.answers.Ended.{Ended}
+use Rattle.tcl_client.specs.declared.answers.Ended.TheVariants as ended
+use Rattle.tcl_client.specs.declared.answers.Replayed.{Replayed}
+use Rattle.tcl_client.specs.declared.answers.Standing.{Standing}
+use Rattle.tcl_client.specs.declared.answers.Watched.{Watched}
+use Rattle.serde_json.specs.Find.{is_float, of_integer}
+use Rattle.std.proofs.Common.{ℤ, pos, negsuc}
+use Rattle.tcl_client.specs.Answers.{lines_data, lines_items, number_data, text_data, texts_data, texts_items}
+use Rattle.tcl_core.specs.Paths.{Text}
+
+pub number_plain : (o : Option ℕ) → has_float (number_data o) ≡ false
+number_plain None = refl
+number_plain (Some n) = refl
+
+pub text_plain : (o : Option Text) → has_float (text_data o) ≡ false
+text_plain None = refl
+text_plain (Some t) = refl
+
+pub texts_plain : (texts : List Text) → has_float (texts_data texts) ≡ false
+texts_plain [] = refl
+texts_plain (t ∷ ts) = texts_plain ts
+
+pub lines_plain : (lines : List (Option Text)) → has_float (lines_data lines) ≡ false
+lines_plain [] = refl
+lines_plain (None ∷ ls) = lines_plain ls
+lines_plain (Some t ∷ ls) = lines_plain ls
+
+integer_plain : (z : ℤ) → is_float (of_integer z) ≡ false
+integer_plain (pos n) = refl
+integer_plain (negsuc n) = refl
+
+pub ended_plain : (e : Ended) → has_float (ended_data e) ≡ false
+ended_plain (ended.Completed code text) = rw (integer_plain code)
+ended_plain (ended.Stopped kind) = refl
+ended_plain (ended.Exited status) = rw (integer_plain status)
+ended_plain ended.Cut = refl
+
+pub standing_plain : (s : Standing) → has_float (standing_data s) ≡ false
+standing_plain s = rw (texts_plain s.children.items, number_plain s.count_limit)
+
+pub watched_plain : (w : Watched) → has_float (watched_data w) ≡ false
+watched_plain w = rw (ended_plain w.ended, lines_plain w.lines.items)
+
+pub replayed_plain : (r : Replayed) → has_float (replayed_data r) ≡ false
+replayed_plain r = rw (lines_plain r.lines.items)
+
+pub answer_plain : (a : Answer) → has_float (answer_data a) ≡ false
+answer_plain answer.Done = refl
+answer_plain (answer.Tree n) = refl
+answer_plain (answer.Saved n) = refl
+answer_plain (answer.Text text) = rw (text_plain text)
+answer_plain (answer.Standing s) = standing_plain s
+answer_plain (answer.Ended e) = ended_plain e
+answer_plain (answer.Watched w) = watched_plain w
+answer_plain (answer.Replayed r) = replayed_plain r
+answer_plain (answer.Same same) = refl
