@@ -1,8 +1,9 @@
 -- Nothing that is written has a float.
-use Rattle.serde_json.specs.Data.{Data, array}
-use Rattle.serde_json.specs.Written.{has_float, items_have_float}
+use Rattle.serde_json.specs.Written.{has_float}
 use Rattle.std.proofs.Common.{◌≡◌, ℕ, List, [], ◌∷◌, Option, Some, None, false, refl}
-use Rattle.std.proofs.Common.{ap, ◌∙◌, ◌||◌}
+use Rattle.std.proofs.Common.{◌||◌}
+use Rattle.tcl_client.specs.declared.answers.Call.{Call}
+use Rattle.tcl_client.specs.declared.refusals.Refusal.{Refusal}
 use Rattle.tcl_client.specs.Answers.{answer_data, ended_data, replayed_data, standing_data, watched_data}
 use Rattle.tcl_client.specs.declared.answers.Answer.{Answer}
 use Rattle.tcl_client.specs.declared.answers.Answer.TheVariants as answer
@@ -13,7 +14,7 @@ use Rattle.tcl_client.specs.declared.answers.Standing.{Standing}
 use Rattle.tcl_client.specs.declared.answers.Watched.{Watched}
 use Rattle.serde_json.specs.Find.{is_float, of_integer}
 use Rattle.std.proofs.Common.{ℤ, pos, negsuc}
-use Rattle.tcl_client.specs.Answers.{lines_data, lines_items, number_data, text_data, texts_data, texts_items}
+use Rattle.tcl_client.specs.Answers.{answer_object, call_object, lines_data, number_data, refusal_object, text_data, texts_data}
 use Rattle.tcl_core.specs.Paths.{Text}
 
 pub number_plain : (o : Option ℕ) → has_float (number_data o) ≡ false
@@ -62,3 +63,14 @@ answer_plain (answer.Ended e) = ended_plain e
 answer_plain (answer.Watched w) = watched_plain w
 answer_plain (answer.Replayed r) = replayed_plain r
 answer_plain (answer.Same same) = refl
+
+-- ## Lines
+
+pub answer_object-plain : (id : ℕ) (a : Answer) → has_float (answer_object id a) ≡ false
+answer_object-plain id a = rw (answer_plain a)
+
+pub refusal_object-plain : (id : Option ℕ) (r : Refusal) → has_float (refusal_object id r) ≡ false
+refusal_object-plain id r = rw (number_plain id)
+
+pub call_object-plain : (c : Call) → has_float (call_object c) ≡ false
+call_object-plain c = rw (texts_plain c.interpreter.items, texts_plain c.words.items)

@@ -1,9 +1,10 @@
 -- What is written, as JSON has it.
-use Rattle.serde_json.specs.Data.{Data, Items, array, boolean, item, member, no_items, no_members}
+use Rattle.serde_json.specs.Data.{Data, array, boolean, member, no_members}
 use Rattle.serde_json.specs.Data.{null, number, object, string, unsigned}
 use Rattle.serde_json.specs.Find.{of_integer}
+use Rattle.serde_json.specs.View.{items_of}
 use Rattle.serde_json.specs.Written.{compact_text}
-use Rattle.std.specs.Prelude.{ℕ, List, [], ◌∷◌, Option, Some, None, codes}
+use Rattle.std.specs.Prelude.{ℕ, List, Option, Some, None, codes, map}
 use Rattle.tcl_core.specs.Paths.{Text}
 use Rattle.tcl_flow.specs.declared.stop.StopKind.{StopKind}
 use Rattle.tcl_flow.specs.declared.stop.StopKind.TheVariants as stop
@@ -29,20 +30,12 @@ text_data (Some text) = string text
 text_data None = null
 
 -- texts, in order
-abbrev pub texts_items : List Text → Items
-texts_items [] = no_items
-texts_items (text ∷ texts) = item (string text) (texts_items texts)
-
 abbrev pub texts_data : List Text → Data
-texts_data texts = array (texts_items texts)
+texts_data texts = array (items_of (map string texts))
 
 -- texts and nulls, in order
-abbrev pub lines_items : List (Option Text) → Items
-lines_items [] = no_items
-lines_items (line ∷ lines) = item (text_data line) (lines_items lines)
-
 abbrev pub lines_data : List (Option Text) → Data
-lines_data lines = array (lines_items lines)
+lines_data lines = array (items_of (map text_data lines))
 
 abbrev pub limit_name : StopKind → Text
 limit_name stop.Count = codes "count"
@@ -89,25 +82,30 @@ answer_data (answer.Same same) = object (member (codes "same") (boolean same) no
 
 -- ## Lines
 
+abbrev pub answer_object : ℕ → Answer → Data
+answer_object id a = object (member (codes "id") (number (unsigned id))
+    (member (codes "ok") (answer_data a) no_members))
+
 abbrev pub answer_line : ℕ → Answer → List ℕ
-answer_line id a = compact_text (object (member (codes "id") (number (unsigned id))
-    (member (codes "ok") (answer_data a) no_members)))
+answer_line id a = compact_text (answer_object id a)
 
 abbrev pub error_data : Refusal → Data
 error_data r = object (member (codes "number") (number (unsigned (number_of r)))
     (member (codes "text") (string (text_of r)) no_members))
 
+abbrev pub refusal_object : Option ℕ → Refusal → Data
+refusal_object id r = object (member (codes "error") (error_data r)
+    (member (codes "id") (number_data id) no_members))
+
 abbrev pub refusal_line : Option ℕ → Refusal → List ℕ
-refusal_line id r = compact_text (object (member (codes "error") (error_data r)
-    (member (codes "id") (number_data id) no_members)))
+refusal_line id r = compact_text (refusal_object id r)
 
 -- of a call: its number, the tree's, who calls, and the words
-abbrev pub call_text : ℕ → ℕ → List Text → List Text → List ℕ
-call_text n tree interpreter words = compact_text (object
-    (member (codes "call") (number_data (Some n))
-    (member (codes "interpreter") (texts_data interpreter)
-    (member (codes "tree") (number_data (Some tree))
-    (member (codes "words") (texts_data words) no_members)))))
+abbrev pub call_object : Call → Data
+call_object c = object (member (codes "call") (number (unsigned c.number))
+    (member (codes "interpreter") (texts_data c.interpreter.items)
+    (member (codes "tree") (number (unsigned c.tree))
+    (member (codes "words") (texts_data c.words.items) no_members))))
 
 abbrev pub call_line : Call → List ℕ
-call_line c = call_text c.number c.tree c.interpreter.items c.words.items
+call_line c = compact_text (call_object c)

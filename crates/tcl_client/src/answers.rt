@@ -205,17 +205,33 @@ fn answer_value(alloc: Global, answer: &Answer) -> Result<Value, AllocError>
     }
 }
 
+/// What answers a message of this id.
+fn answer_object(alloc: Global, id: u64, answer: &Answer) -> Result<Value, AllocError>
+    ensures { IfOk result (λ value. view value ≡ written.answer_object id answer.now) }
+{
+    let answer = answer_value(alloc, answer)?;
+    json!(in alloc; {"id": id, "ok": answer})
+}
+
 /// The line that answers a message of this id.
 ///
 /// # Errors
 /// Want of memory.
-#[tactic(auto, using(crate::proofs::Written::answer_plain))]
 pub fn answer_line(alloc: Global, id: u64, answer: &Answer) -> Result<String, AllocError>
     ensures { IfOk result (λ line. string_bytes line ≡ written.answer_line id answer.now) }
 {
-    let answer = answer_value(alloc, answer)?;
-    let line = json!(in alloc; {"id": id, "ok": answer})?;
-    line.to_string(alloc)
+    let object = answer_object(alloc, id, answer)?;
+    let line = object.to_string(alloc)?;
+    Ok(line)
+}
+
+/// What answers a message of this id, or of none that can be read, which isn't done.
+fn refusal_object(alloc: Global, id: Option<u64>, refusal: &Refusal) -> Result<Value, AllocError>
+    ensures { IfOk result (λ value. view value ≡ written.refusal_object id refusal.now) }
+{
+    let number = refusal.number();
+    let text = refusal.text(alloc)?;
+    json!(in alloc; {"id": id, "error": {"number": number, "text": text}})
 }
 
 /// The line that answers a message of this id, or of none that can be read, which isn't done.
@@ -225,10 +241,9 @@ pub fn answer_line(alloc: Global, id: u64, answer: &Answer) -> Result<String, Al
 pub fn refusal_line(alloc: Global, id: Option<u64>, refusal: &Refusal) -> Result<String, AllocError>
     ensures { IfOk result (λ line. string_bytes line ≡ written.refusal_line id refusal.now) }
 {
-    let number = refusal.number();
-    let text = refusal.text(alloc)?;
-    let line = json!(in alloc; {"id": id, "error": {"number": number, "text": text}})?;
-    line.to_string(alloc)
+    let object = refusal_object(alloc, id, refusal)?;
+    let line = object.to_string(alloc)?;
+    Ok(line)
 }
 
 /// A call of the client.
@@ -244,21 +259,28 @@ pub struct Call {
     pub words: Vec<Text>,
 }
 
-/// The line that calls the client.
-///
-/// # Errors
-/// Want of memory.
-#[tactic(auto, using(crate::proofs::Written::texts_plain))]
-pub fn call_line(alloc: Global, call: &Call) -> Result<String, AllocError>
-    ensures { IfOk result (λ line. string_bytes line ≡ written.call_line call.now) }
+/// What calls the client.
+fn call_object(alloc: Global, call: &Call) -> Result<Value, AllocError>
+    ensures { IfOk result (λ value. view value ≡ written.call_object call.now) }
 {
     let interpreter = texts_value(alloc, call.interpreter.as_slice())?;
     let words = texts_value(alloc, call.words.as_slice())?;
-    let line = json!(in alloc; {
+    json!(in alloc; {
         "call": call.number,
         "tree": call.tree,
         "interpreter": interpreter,
         "words": words
-    })?;
-    line.to_string(alloc)
+    })
+}
+
+/// The line that calls the client.
+///
+/// # Errors
+/// Want of memory.
+pub fn call_line(alloc: Global, call: &Call) -> Result<String, AllocError>
+    ensures { IfOk result (λ line. string_bytes line ≡ written.call_line call.now) }
+{
+    let object = call_object(alloc, call)?;
+    let line = object.to_string(alloc)?;
+    Ok(line)
 }

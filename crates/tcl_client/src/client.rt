@@ -273,6 +273,7 @@ impl<R: BufRead + Drop, W: Write + Drop> Client<R, W> {
     /// Answers a message.
     pub fn reply(&mut self, alloc: Global, id: u64, answer: Result<Answer, Refusal>)
         ensures left { self.new.entries ≡ self.old.entries }
+        ensures awaited { self.new.awaited ≡ self.old.awaited }
     {
         match answer {
             Ok(answer) => match answer_line(alloc, id, &answer) {
@@ -286,6 +287,7 @@ impl<R: BufRead + Drop, W: Write + Drop> Client<R, W> {
     /// Answers a line that isn't done.
     fn refuse(&mut self, alloc: Global, id: Option<u64>, refusal: &Refusal)
         ensures left { self.new.entries ≡ self.old.entries }
+        ensures awaited { self.new.awaited ≡ self.old.awaited }
     {
         match refusal_line(alloc, id, refusal) {
             Ok(line) => self.put(line.as_str()),
@@ -296,6 +298,7 @@ impl<R: BufRead + Drop, W: Write + Drop> Client<R, W> {
     /// Answers a line for which memory was wanted. This takes no memory.
     fn want_memory(&mut self, id: Option<u64>)
         ensures left { self.new.entries ≡ self.old.entries }
+        ensures awaited { self.new.awaited ≡ self.old.awaited }
     {
         let written = self.lines.write_out_of_memory(id);
         self.note(written);
@@ -304,6 +307,7 @@ impl<R: BufRead + Drop, W: Write + Drop> Client<R, W> {
     /// Writes a line.
     fn put(&mut self, line: &str)
         ensures left { self.new.entries ≡ self.old.entries }
+        ensures awaited { self.new.awaited ≡ self.old.awaited }
     {
         let written = self.lines.write(line);
         self.note(written);
@@ -312,6 +316,7 @@ impl<R: BufRead + Drop, W: Write + Drop> Client<R, W> {
     /// Takes note of a line that can't be written, which is the end.
     fn note(&mut self, written: Result<(), LineFault>)
         ensures left { self.new.entries ≡ self.old.entries }
+        ensures awaited { self.new.awaited ≡ self.old.awaited }
     {
         if let Err(fault) = written {
             self.ending = Some(Ending::Failed(fault));

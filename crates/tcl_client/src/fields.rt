@@ -3,7 +3,8 @@ ghost use Rattle.serde_json.specs.Find.{as_number, as_object, get};
 ghost use Rattle.serde_json.specs.View.{items_view, view};
 ghost use Rattle.std.specs.Option.{option_and_then, option_map};
 ghost use Rattle.std.specs.Prelude.{◌≡◌, ◌≢◌, Err, IfErr, IfOk, Ok, OnOk, Some};
-ghost use Rattle.tcl_client.specs.Fields.{flag_of, in_field, integer_of, is_field, items_of, no_number};
+ghost use Rattle.tcl_client.specs.Fields.{flag_of, in_field, integer_of, is_among, is_field, items_of};
+ghost use Rattle.tcl_client.specs.Fields.{no_number};
 ghost use Rattle.tcl_client.specs.Fields.{number_of, number_or_null_of, only, optional_in, present};
 ghost use Rattle.tcl_client.specs.Fields.{text_of, texts_of};
 ghost use Rattle.tcl_client.specs.Names.{name_of, type_name, type_of};
@@ -298,6 +299,7 @@ fn texts_of(alloc: Global, items: &[Value], field: Field) -> Result<Vec<Text>, R
 ///
 /// # Errors
 /// 505 of the first field, in the order of their names, that is another one; want of memory.
+#[tactic(auto, using(crate::proofs::Readings::members_names))]
 pub fn only(alloc: Global, line: &Value, fields: &[Field]) -> Result<(), Refusal>
     ensures ok { OnOk result (only fields.now (view line.now) ≡ Ok tt) }
     ensures err { IfErr result (λ e. e ≢ Memory → only fields.now (view line.now) ≡ Err e) }
@@ -323,5 +325,12 @@ fn is_among(name: &str, fields: &[Field]) -> bool
     if name == Field::Do.name() {
         return true;
     }
+    any_named(fields, name)
+}
+
+/// Whether one of these fields has this name.
+fn any_named(fields: &[Field], name: &str) -> bool
+    ensures { result ≡ is_among fields.now name.now }
+{
     fields.iter().any(|field| field.name() == name)
 }

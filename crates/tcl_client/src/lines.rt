@@ -94,6 +94,27 @@ fn append_shown<R: BufRead>(reader: &mut R, line: &mut Vec<u8>) -> Result<Step, 
     }
 }
 
+/// Reads a line, without its newline; none where the input is at its end.
+fn read_line<R: BufRead>(alloc: Global, reader: &mut R) -> Result<Option<Vec<u8>>, LineFault> {
+    let mut line = Vec::new(alloc);
+    'steps: for _ in 0..u64::MAX {
+        match append_shown(reader, &mut line)? {
+            Step::More => {}
+            Step::Whole => return Ok(Some(line)),
+            Step::AtEnd => return ended(line),
+        }
+    }
+    Err(LineFault::Unreadable)
+}
+
+/// What is read where the input is at its end, behind these bytes of a line.
+fn ended(line: Vec<u8>) -> Result<Option<Vec<u8>>, LineFault> {
+    if line.is_empty() {
+        return Ok(None);
+    }
+    Err(LineFault::CutShort)
+}
+
 /// A reader of lines, and a writer.
 pub struct Lines<R: BufRead + Drop, W: Write + Drop> {
     reader: R,
@@ -135,21 +156,7 @@ impl<R: BufRead + Drop, W: Write + Drop> Lines<R, W> {
     pub fn read(&mut self, alloc: Global) -> Result<Option<Vec<u8>>, LineFault>
         ensures written { self.new.written ≡ self.old.written }
     {
-        let mut line = Vec::new(alloc);
-        'steps: for _ in 0..u64::MAX {
-            match append_shown(&mut self.reader, &mut line)? {
-                Step::More => {}
-                Step::Whole => return Ok(Some(line)),
-                Step::AtEnd => {
-                    return if line.is_empty() {
-                        Ok(None)
-                    } else {
-                        Err(LineFault::CutShort)
-                    };
-                }
-            }
-        }
-        Err(LineFault::Unreadable)
+        read_line(alloc, &mut self.reader)
     }
 
     /// Writes a line and its newline, and hands it on.

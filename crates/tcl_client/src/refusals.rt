@@ -1,5 +1,6 @@
 //! Why a message isn't done.
-ghost use Rattle.std.specs.Prelude.{◌≡◌, IfOk};
+ghost use Rattle.std.specs.List.{starts_with};
+ghost use Rattle.std.specs.Prelude.{◌≡◌, IfOk, nat_eq};
 ghost use Rattle.std.specs.String.{string_bytes};
 ghost use Rattle.tcl_client.specs.Refusals.{about, line_number, line_text, number_of, of_value};
 ghost use Rattle.tcl_client.specs.Refusals.{text_of, told_later, told_number, tree_number};
@@ -129,20 +130,27 @@ fn tree_number(error: TreeError) -> u64
     }
 }
 
+/// Whether a text begins with another one.
+fn begins(text: &str, front: &str) -> bool
+    ensures { result ≡ starts_with nat_eq text.now front.now }
+{
+    text.as_bytes().starts_with(front.as_bytes())
+}
+
 /// The number of what an interpreter says to an entry that evaluates nothing.
 fn told_number(text: &str) -> u64
     ensures { result ≡ told_number text.now }
 {
-    if text.starts_with("value longer") {
+    if begins(text, "value longer") {
         return 122;
     }
-    if text.starts_with("bad name") {
+    if begins(text, "bad name") {
         return 238;
     }
-    if text.starts_with("could not find") {
+    if begins(text, "could not find") {
         return 301;
     }
-    if text.starts_with("interpreter") {
+    if begins(text, "interpreter") {
         return 303;
     }
     told_later(text)
@@ -152,16 +160,16 @@ fn told_number(text: &str) -> u64
 fn told_later(text: &str) -> u64
     ensures { result ≡ told_later text.now }
 {
-    if text.starts_with("permission") {
+    if begins(text, "permission") {
         return 304;
     }
-    if text.starts_with("invalid command") {
+    if begins(text, "invalid command") {
         return 305;
     }
-    if text.starts_with("too many") {
+    if begins(text, "too many") {
         return 307;
     }
-    if text.starts_with("recursion limit") {
+    if begins(text, "recursion limit") {
         return 309;
     }
     302
