@@ -9,6 +9,9 @@ use Rattle.tcl_core.specs.Lives.End.{Completed_as, Stopped, Exits}
 use Rattle.tcl_core.specs.Paths.{Path}
 use Rattle.tcl_flow.specs.declared.stop.StopKind.{StopKind}
 use Rattle.tcl_flow.specs.declared.stop.StopKind.TheVariants as stop
+use Rattle.tcl_run.specs.declared.interruption.Interruption.{Interruption}
+use Rattle.tcl_run.specs.declared.outside.Turn.{Turn}
+use Rattle.tcl_run.specs.declared.outside.Turn.TheVariants as turn
 use Rattle.tcl_client.specs.declared.answers.Answer.{Answer}
 use Rattle.tcl_client.specs.declared.answers.Answer.TheVariants as answer
 use Rattle.tcl_client.specs.declared.answers.Ended.{Ended}
@@ -45,3 +48,9 @@ entry_answer false p r = Ok (evaluation_answer p r)
 -- what is said, or that memory was wanted to say it
 abbrev pub Tells : Result Answer Refusal → Result Answer Refusal → Type 0
 Tells said r = (r ≡ said) ⊎ (r ≡ Err Memory)
+
+-- what comes next to a call of the client: an entry, or how the call ends
+abbrev pub EntersOrEnds : Result Turn Interruption → Type 0
+EntersOrEnds (Ok (turn.Entry target entry)) = Unit {0}
+EntersOrEnds (Ok t) = Prim.⊥
+EntersOrEnds (Err e) = Unit {0}

@@ -3,11 +3,12 @@ ghost use Rattle.std.specs.Bool.{OnTrue};
 ghost use Rattle.std.specs.Prelude.{◌≡◌, ◌<◌, ◌≤◌, ◌⊎◌, ◌↔◌, IfOk, IfSome, IsSome, IsTrue, Ok, Some, false};
 ghost use Rattle.std.specs.Prelude.{true};
 ghost use Rattle.tcl_client.specs.Endings as endings;
-ghost use Rattle.tcl_client.specs.Endings.{Tells, ended_as, evaluation_answer};
+ghost use Rattle.tcl_client.specs.Endings.{EntersOrEnds, Tells, ended_as, evaluation_answer};
 ghost use Rattle.tcl_core.specs.Lives.{end_at};
 ghost use Rattle.tcl_core.specs.Lives.End.{Completed_as};
 ghost use Rattle.tcl_flow.specs.Stopping.{reply_of};
 ghost use Rattle.tcl_flow.specs.View.{completion_of};
+ghost use Rattle.tcl_host.specs.Replies.{is_reply_to};
 ghost use Rattle.tcl_run.specs.Ends.{IfEnded};
 ghost use Rattle.tcl_run.specs.Outsides.{OnEntry};
 
@@ -364,6 +365,7 @@ impl<R: BufRead + Drop, W: Write + Drop> Client<R, W> {
     /// # Errors
     /// How the call ends; want of memory.
     pub fn serve(&mut self, alloc: Global, tree: &Tree) -> Result<Turn, Interruption>
+        ensures comes { EntersOrEnds result }
         ensures fewer { OnEntry result (self.new.entries < self.old.entries) }
         ensures left { self.new.entries ≤ self.old.entries }
     {
@@ -389,6 +391,7 @@ impl<R: BufRead + Drop, W: Write + Drop> Client<R, W> {
 
     /// Hears a line while a call is open; what comes next to the call then, if anything does.
     fn turn(&mut self, alloc: Global, tree: &Tree) -> Option<Result<Turn, Interruption>>
+        ensures comes { IfSome result EntersOrEnds }
         ensures fewer { IfSome result (λ turn. OnEntry turn (self.new.entries < self.old.entries)) }
         ensures left { self.new.entries ≤ self.old.entries }
     {
@@ -425,6 +428,7 @@ impl<R: BufRead + Drop, W: Write + Drop> Client<R, W> {
         target: Vec<Text>,
         entry: Entry,
     ) -> Option<Result<Turn, Interruption>>
+        ensures comes { IfSome result EntersOrEnds }
         ensures fewer { IfSome result (λ turn. OnEntry turn (self.new.entries < self.old.entries)) }
         ensures left { self.new.entries ≤ self.old.entries }
     {
@@ -549,6 +553,7 @@ impl<R: BufRead + Drop, W: Write + Drop> Client<R, W> {
     /// # Errors
     /// Want of memory.
     pub fn ask(&mut self, alloc: Global, request: &Request) -> Result<HostReply, AllocError>
+        ensures fits { IfOk result (λ reply. IsTrue (is_reply_to reply request.now)) }
         ensures left { self.new.entries ≡ self.old.entries }
     {
         self.host.ask(alloc, request)
@@ -556,12 +561,9 @@ impl<R: BufRead + Drop, W: Write + Drop> Client<R, W> {
 
     /// An entry into the interpreter at the path ended, which answers the message that was last
     /// handed in.
-    pub fn entry_ends(
-        &mut self,
-        alloc: Global,
-        path: &[Text],
-        ended: &Result<Value, Interruption>,
-    ) {
+    pub fn entry_ends(&mut self, alloc: Global, path: &[Text], ended: &Result<Value, Interruption>)
+        ensures left { self.new.entries ≡ self.old.entries }
+    {
         if let Some(awaited) = self.awaited.pop() {
             let answer = entry_answer(alloc, awaited.evaluates, path, ended);
             self.reply(alloc, awaited.id, answer);

@@ -1,8 +1,9 @@
 //! The host of a served tree, which is in memory.
 ghost use Rattle.std.specs.Option.{option_map};
-ghost use Rattle.std.specs.Prelude.{◌≡◌, IfErr, IfOk, IsUtf8, MatchOption, OnErr, OnOk};
+ghost use Rattle.std.specs.Prelude.{◌≡◌, IfErr, IfOk, IsTrue, MatchOption, OnErr, OnOk};
 ghost use Rattle.std.specs.Prelude.{Some, drop};
 ghost use Rattle.tcl_host.specs.MemoryHost.{file_of, with_file, with_input};
+ghost use Rattle.tcl_host.specs.Replies.{is_reply_to};
 ghost use Rattle.tcl_client.specs.Hosting.{IfUnreadable, RepliesSo, all_taken, fresh_host, untaken};
 ghost use Rattle.tcl_client.specs.declared.answers.Answer.TheVariants as answer;
 ghost use Rattle.tcl_client.specs.declared.messages.Channel.TheVariants as channel;
@@ -73,6 +74,7 @@ impl ServedHost {
     /// # Errors
     /// Want of memory.
     pub fn ask(&mut self, alloc: Global, request: &Request) -> Result<HostReply, AllocError>
+        ensures fits { IfOk result (λ reply. IsTrue (is_reply_to reply request.now)) }
         ensures replies { IfOk result (λ reply. RepliesSo self.old request.now reply self.new) }
         ensures unchanged { OnErr result (self.new ≡ self.old) }
     {
