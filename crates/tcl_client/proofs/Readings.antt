@@ -3,7 +3,7 @@ use Rattle.serde_json.specs.Data.{Num}
 use Rattle.serde_json.specs.Find.{as_u64}
 use Rattle.serde_json.specs.View.{members_view}
 use Rattle.serde_json.specs.declared.value.Value.{Value}
-use Rattle.std.proofs.Common.{◌≡◌, ℕ, List, [], ◌∷◌, String, Global, Option, Some, None, Result, Ok, Err, string_bytes, if◌then◌else◌, refl, ap}
+use Rattle.std.proofs.Common.{◌≡◌, List, [], ◌∷◌, String, Global, Option, Some, None, Result, Ok, Err, string_bytes, if◌then◌else◌, refl, ap}
 use Rattle.std.specs.Map.{keys_of}
 use Rattle.std.specs.Prelude.{⊤}
 use Rattle.std.specs.Option.{option_and_then}

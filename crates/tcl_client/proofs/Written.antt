@@ -1,7 +1,6 @@
 -- Nothing that is written has a float.
 use Rattle.serde_json.specs.Written.{has_float}
 use Rattle.std.proofs.Common.{◌≡◌, ℕ, List, [], ◌∷◌, Option, Some, None, false, refl}
-use Rattle.std.proofs.Common.{◌||◌}
 use Rattle.tcl_client.specs.declared.answers.Call.{Call}
 use Rattle.tcl_client.specs.declared.refusals.Refusal.{Refusal}
 use Rattle.tcl_client.specs.Answers.{answer_data, ended_data, replayed_data, standing_data, watched_data}

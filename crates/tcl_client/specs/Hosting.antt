@@ -1,5 +1,5 @@
 -- The host of a served tree.
-use Rattle.std.specs.Prelude.{◌≡◌, ℕ, List, Option, Some, None, IsUtf8, drop, length}
+use Rattle.std.specs.Prelude.{◌≡◌, ℕ, List, IsUtf8, drop, length}
 use Rattle.tcl_host.specs.MemoryHost.{errors_of, new_host, output_of, respond}
 use Rattle.tcl_host.specs.declared.reply.HostReply.{HostReply}
 use Rattle.tcl_host.specs.declared.request.Request.{Request}

@@ -3,7 +3,7 @@ use Rattle.std.specs.Io.KnownBytes.{Appends, Consumes, IsAtEnd}
 use Rattle.std.specs.Prelude.{◌≡◌, ◌≢◌, ℕ, ◌+◌, ◌<◌, ◌≤◌, List, [], ◌∷◌, ◌++◌, length, All, Option, Some, None, Result, Ok, Err, IfSome, Vec, codes, decimal}
 use Rattle.std.specs.declared.alloc.Global.{Global}
 use Rattle.tcl_client.specs.declared.lines.LineFault.{LineFault}
-use Rattle.tcl_client.specs.declared.lines.LineFault.TheVariants.{TooLong, CutShort, Unreadable, Unwritable, Memory}
+use Rattle.tcl_client.specs.declared.lines.LineFault.TheVariants.{TooLong, CutShort, Unwritable}
 use Rattle.tcl_client.specs.declared.lines.Step.{Step}
 use Rattle.tcl_client.specs.declared.lines.Step.TheVariants.{More, Whole, AtEnd}
 

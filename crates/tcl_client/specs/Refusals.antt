@@ -6,7 +6,6 @@ use Rattle.tcl_interpreter.specs.Refusals as tree
 use Rattle.tcl_interpreter.specs.declared.refusal.TreeError.{TreeError}
 use Rattle.tcl_interpreter.specs.declared.refusal.TreeError.TheVariants as tree_error
 use Rattle.tcl_client.specs.Names.{name_of, type_name, type_of}
-use Rattle.tcl_client.specs.declared.fields.Field.{Field}
 use Rattle.tcl_client.specs.declared.lines.LineFault.{LineFault}
 use Rattle.tcl_client.specs.declared.lines.LineFault.TheVariants as line
 use Rattle.tcl_client.specs.declared.refusals.Refusal.{Refusal}
