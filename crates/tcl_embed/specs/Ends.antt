@@ -1,6 +1,6 @@
 -- What is said of how runs ended.
 use Rattle.std.specs.Fmt.{signed_decimal}
-use Rattle.std.specs.Prelude.{◌++◌, codes}
+use Rattle.std.specs.Prelude.{ℤ, ◌++◌, codes}
 use Rattle.tcl_core.specs.Paths.{Text}
 use Rattle.tcl_eval.specs.declared.running.End.{End}
 use Rattle.tcl_eval.specs.declared.running.End.TheVariants as end
@@ -17,8 +17,11 @@ limit_text stop.Count = messages.count_limit
 limit_text stop.Depth = messages.depth_limit
 
 -- a code and a text
+abbrev pub code_text : ℤ → Text → Text
+code_text code text = codes "code " ++ signed_decimal code ++ codes ": " ++ text
+
 abbrev pub completion_text : Completion → Text
-completion_text c = codes "code " ++ signed_decimal c.code ++ codes ": " ++ c.text
+completion_text c = code_text c.code c.text
 
 -- how a run ended
 abbrev pub end_text : End → Text

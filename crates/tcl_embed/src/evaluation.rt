@@ -1,7 +1,8 @@
 //! Evaluation of scripts.
 ghost use Rattle.std.specs.Prelude.{◌≡◌, IfOk};
 ghost use Rattle.std.specs.String.{string_bytes};
-ghost use Rattle.tcl_embed.specs.Ends.{completion_text, end_text, limit_text, open_end_text};
+ghost use Rattle.tcl_embed.specs.Ends.{code_text, completion_text, end_text, limit_text};
+ghost use Rattle.tcl_embed.specs.Ends.{open_end_text};
 
 use std::alloc::{AllocError, Global};
 use tcl_flow::stop::StopKind;
@@ -77,10 +78,18 @@ pub fn end_text(alloc: Global, end: &End) -> Result<String, AllocError>
 fn completion_text(alloc: Global, completion: &Completion) -> Result<String, AllocError>
     ensures { IfOk result (λ text. string_bytes text ≡ completion_text completion.now) }
 {
-    let code = completion.code;
     let text = completion.text.text(alloc)?;
-    let text = text.as_str();
-    format!(in alloc; "code {code}: {text}")
+    code_text(alloc, completion.code, text.as_str())
+}
+
+/// A code and a text.
+fn code_text(alloc: Global, code: i64, text: &str) -> Result<String, AllocError>
+    ensures { IfOk result (λ made. string_bytes made ≡ code_text code text.now) }
+{
+    let mut made = format!(in alloc; "code {code}")?;
+    made.push_str(": ")?;
+    made.push_str(text)?;
+    Ok(made)
 }
 
 /// The text of a limit that was met.

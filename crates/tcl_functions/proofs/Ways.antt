@@ -1,5 +1,5 @@
 -- What functions and a host make of what they are told.
-use Rattle.std.proofs.Common.{◌≡◌, ℕ, ℤ, ◌+◌, true, false, List, [], ◌∷◌, ◌++◌, length, Option, Some, None, refl, sym, ap, subst, ◌∙◌}
+use Rattle.std.proofs.Common.{◌≡◌, ℕ, ℤ, true, List, [], ◌∷◌, ◌++◌, length, Option, Some, None, refl, sym, ap, subst, ◌∙◌}
 use Rattle.std.specs.Option.{option_map}
 use Rattle.std.specs.Prelude.{Result, Ok, Err}
 use Rattle.tcl_core.proofs.PathLaws.{rise_back}
@@ -14,7 +14,6 @@ use Rattle.tcl_flow.specs.View.{completion_of}
 use Rattle.tcl_flow.specs.declared.completion.Completion as code
 use Rattle.tcl_functions.specs.Actions.{ActionView}
 use Rattle.tcl_functions.specs.Actions.ActionView.{Completes, Enters as EntersFirst, Exits}
-use Rattle.tcl_functions.specs.Calls.{words_of}
 use Rattle.tcl_functions.specs.Replies.{Sees, seen}
 use Rattle.tcl_functions.specs.Serving.{Begins, Closes, ClosesByExit, ComesBack, EndsBy, EndsCall, EndsSo, GoesOut, HandsIn, HearsEnd, Hosting, IsSpent, Keeps, Reopens, Serves, Serving, TakesReply, going, past}
 use Rattle.tcl_functions.specs.Serving.EndsCall.{served, exited, unopened}
@@ -23,11 +22,8 @@ use Rattle.tcl_functions.specs.declared.serving.WithFunctions.{WithFunctions}
 use Rattle.tcl_language.specs.Interpreters.{no_interpreter}
 use Rattle.tcl_run.proofs.Endings.{Interrupts-more, IfEnded-more}
 use Rattle.tcl_run.specs.Ends.{IfEnded, Interrupts}
-use Rattle.tcl_run.specs.Entering.{whole_entry}
 use Rattle.tcl_run.specs.Outsides.{Answers, ComesNext, Enters, Misses, Returns}
-use Rattle.tcl_run.specs.declared.entry.Entry as declared_entry
 use Rattle.tcl_run.specs.declared.interruption.Interruption.{Interruption}
-use Rattle.tcl_run.specs.declared.interruption.Interruption.TheVariants as interruption
 use Rattle.tcl_run.specs.declared.outside.Turn.{Turn}
 use Rattle.tcl_run.specs.declared.outside.Turn.TheVariants as turn
 use Rattle.tcl_tree.specs.Own.{Own}

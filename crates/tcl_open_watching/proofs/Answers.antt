@@ -138,7 +138,7 @@ module _ {S : Type 0} (goes : Going S) (loses : S → S → Type 0) (old : Table
   follows P (Err f) w k = tt
 
 -- the recorder at the end of a run, told of as one from which nothing is missing
-pub as_whole : {S : Type 0} → S → RecordView → Bool → Recorder S
+abbrev pub as_whole : {S : Type 0} → S → RecordView → Bool → Recorder S
 as_whole o k d = record { outside = o; kept = k; deleted = d; incomplete = false }
 
 whole_is : {S : Type 0} (b : Bool) (o : S) (k : RecordView) (d : Bool) → b ≡ false → ◌≡◌ {A = Recorder S} (record { outside = o; kept = k; deleted = d; incomplete = b }) (as_whole o k d)

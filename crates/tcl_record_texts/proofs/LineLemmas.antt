@@ -1,11 +1,9 @@
 -- Lines, part by part.
-use Rattle.std.proofs.Common.{◌≡◌, ◌≢◌, ◌∙◌, ℕ, suc, ◌+◌, ◌<◌, List, [], ◌∷◌, ◌++◌, length, get_or, drop, refl, sym, ap, arith, append_assoc}
+use Rattle.std.proofs.Common.{◌≡◌, ◌≢◌, ◌∙◌, ℕ, suc, ◌<◌, List, [], ◌∷◌, ◌++◌, length, get_or, refl, sym, ap, arith, append_assoc}
 use Rattle.std.specs.Prelude.{◌==◌, false}
-use Rattle.std.specs.List.{flat_map}
 use Rattle.std.proofs.lemmas.Bool.{ne_eqb}
 use Rattle.std.proofs.lemmas.List.Concat.{flat_map-append}
-use Rattle.tcl_record_texts.specs.Lines.{line, line_byte, lines, one_line}
-use Rattle.tcl_recorder.specs.declared.crossing.Crossing.{Crossing}
+use Rattle.tcl_record_texts.specs.Lines.{line_byte, one_line}
 
 -- no byte of these is a newline
 abbrev pub NoNewline : List ℕ → Type 0
@@ -31,9 +29,3 @@ line_on made next whole rest x y h is none e =
 
 pub line_ends : (made next whole rest : List ℕ) → made ++ one_line rest ≡ whole → NoNewline rest → next ≡ made ++ rest → next ≡ whole
 line_ends made next whole rest h none e = e ∙ ap (λ t. made ++ t) (sym (plain rest none)) ∙ h
-
--- one crossing more
-pub lines_on : (text next whole : List ℕ) (x : Crossing) (xs rest : List Crossing) → text ++ lines xs ≡ whole → xs ≡ x ∷ rest → next ≡ (text ++ line x) ++ 10 ∷ [] → next ++ lines rest ≡ whole
-lines_on text next whole x xs rest h is e =
-    ap (λ t. t ++ lines rest) e ∙ append_assoc (text ++ line x) (10 ∷ []) (lines rest) ∙ append_assoc text (line x) (10 ∷ lines rest)
-    ∙ ap (λ ys. text ++ lines ys) (sym is) ∙ h
