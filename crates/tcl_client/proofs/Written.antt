@@ -13,7 +13,7 @@ use Rattle.tcl_client.specs.declared.answers.Standing.{Standing}
 use Rattle.tcl_client.specs.declared.answers.Watched.{Watched}
 use Rattle.serde_json.specs.Find.{is_float, of_integer}
 use Rattle.std.proofs.Common.{ℤ, pos, negsuc}
-use Rattle.tcl_client.specs.Answers.{answer_object, call_object, lines_data, number_data, refusal_object, text_data, texts_data}
+use Rattle.tcl_client.specs.Answers.{answer_object, call_object, number_data, refusal_object, text_data, texts_data}
 use Rattle.tcl_core.specs.Paths.{Text}
 
 pub number_plain : (o : Option ℕ) → has_float (number_data o) ≡ false
@@ -27,11 +27,6 @@ text_plain (Some t) = refl
 pub texts_plain : (texts : List Text) → has_float (texts_data texts) ≡ false
 texts_plain [] = refl
 texts_plain (t ∷ ts) = texts_plain ts
-
-pub lines_plain : (lines : List (Option Text)) → has_float (lines_data lines) ≡ false
-lines_plain [] = refl
-lines_plain (None ∷ ls) = lines_plain ls
-lines_plain (Some t ∷ ls) = lines_plain ls
 
 integer_plain : (z : ℤ) → is_float (of_integer z) ≡ false
 integer_plain (pos n) = refl
@@ -47,10 +42,10 @@ pub standing_plain : (s : Standing) → has_float (standing_data s) ≡ false
 standing_plain s = rw (texts_plain s.children.items, number_plain s.count_limit)
 
 pub watched_plain : (w : Watched) → has_float (watched_data w) ≡ false
-watched_plain w = rw (ended_plain w.ended, lines_plain w.lines.items)
+watched_plain w = rw (ended_plain w.ended, texts_plain w.lines.items)
 
 pub replayed_plain : (r : Replayed) → has_float (replayed_data r) ≡ false
-replayed_plain r = rw (lines_plain r.lines.items)
+replayed_plain r = rw (texts_plain r.lines.items)
 
 pub answer_plain : (a : Answer) → has_float (answer_data a) ≡ false
 answer_plain answer.Done = refl

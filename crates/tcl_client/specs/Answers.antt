@@ -33,10 +33,6 @@ text_data None = null
 abbrev pub texts_data : List Text → Data
 texts_data texts = array (items_of (map string texts))
 
--- texts and nulls, in order
-abbrev pub lines_data : List (Option Text) → Data
-lines_data lines = array (items_of (map text_data lines))
-
 abbrev pub limit_name : StopKind → Text
 limit_name stop.Count = codes "count"
 limit_name stop.Depth = codes "depth"
@@ -61,11 +57,11 @@ standing_data s = object (member (codes "children") (texts_data s.children.items
 
 abbrev pub watched_data : Watched → Data
 watched_data w = object (member (codes "ended") (ended_data w.ended)
-    (member (codes "lines") (lines_data w.lines.items)
+    (member (codes "lines") (texts_data w.lines.items)
     (member (codes "record") (number (unsigned w.record)) no_members)))
 
 abbrev pub replayed_data : Replayed → Data
-replayed_data r = object (member (codes "lines") (lines_data r.lines.items)
+replayed_data r = object (member (codes "lines") (texts_data r.lines.items)
     (member (codes "outcome") (string r.outcome) (member (codes "same") (boolean r.same)
     (member (codes "saved") (number (unsigned r.saved)) no_members))))
 

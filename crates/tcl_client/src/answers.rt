@@ -3,7 +3,7 @@ ghost use Rattle.serde_json.specs.View.{view};
 ghost use Rattle.std.specs.Prelude.{◌≡◌, IfOk};
 ghost use Rattle.std.specs.String.{string_bytes};
 ghost use Rattle.tcl_client.specs.Answers as written;
-ghost use Rattle.tcl_client.specs.Answers.{answer_data, ended_data, limit_name, lines_data};
+ghost use Rattle.tcl_client.specs.Answers.{answer_data, ended_data, limit_name};
 ghost use Rattle.tcl_client.specs.Answers.{replayed_data, standing_data, text_data, texts_data};
 ghost use Rattle.tcl_client.specs.Answers.{watched_data};
 
@@ -50,8 +50,8 @@ pub struct Watched {
     pub ended: Ended,
     /// The number of the record.
     pub record: u64,
-    /// The lines of the record; none in the place of one that would be longer than a value may be.
-    pub lines: Vec<Option<Text>>,
+    /// The lines of the record.
+    pub lines: Vec<Text>,
 }
 
 /// A replay.
@@ -63,8 +63,8 @@ pub struct Replayed {
     pub same: bool,
     /// The number under which it is kept as it was left.
     pub saved: u64,
-    /// What it told; none in the place of a line that would be longer than a value may be.
-    pub lines: Vec<Option<Text>>,
+    /// What it told, a line for each crossing.
+    pub lines: Vec<Text>,
 }
 
 /// What is said of a message that was done.
@@ -109,17 +109,6 @@ fn text_value(alloc: Global, text: &Option<Text>) -> Result<Value, AllocError>
         Some(text) => Value::try_from_str(alloc, text.as_str()),
         None => Ok(Value::Null),
     }
-}
-
-/// A list of texts and nulls.
-fn lines_value(alloc: Global, lines: &[Option<Text>]) -> Result<Value, AllocError>
-    ensures { IfOk result (λ value. view value ≡ lines_data lines.now) }
-{
-    let mut items = Vec::new(alloc);
-    'lines: for line in lines {
-        items.push(text_value(alloc, line)?)?;
-    }
-    Ok(Value::Array(items))
 }
 
 /// The name of a limit.
@@ -168,7 +157,7 @@ fn watched_value(alloc: Global, watched: &Watched) -> Result<Value, AllocError>
     ensures { IfOk result (λ value. view value ≡ watched_data watched.now) }
 {
     let ended = ended_value(alloc, &watched.ended)?;
-    let lines = lines_value(alloc, watched.lines.as_slice())?;
+    let lines = texts_value(alloc, watched.lines.as_slice())?;
     json!(in alloc; {"ended": ended, "record": watched.record, "lines": lines})
 }
 
@@ -176,7 +165,7 @@ fn watched_value(alloc: Global, watched: &Watched) -> Result<Value, AllocError>
 fn replayed_value(alloc: Global, replayed: &Replayed) -> Result<Value, AllocError>
     ensures { IfOk result (λ value. view value ≡ replayed_data replayed.now) }
 {
-    let lines = lines_value(alloc, replayed.lines.as_slice())?;
+    let lines = texts_value(alloc, replayed.lines.as_slice())?;
     json!(in alloc; {
         "outcome": replayed.outcome.as_str(),
         "same": replayed.same,

@@ -1,12 +1,11 @@
 //! Records, and what they come to when they are replayed.
 use crate::evaluating::refusal_of;
 use std::alloc::{AllocError, Global};
-use tcl_characters::limit::LimitError;
 use tcl_client::answers::Replayed;
 use tcl_client::refusals::Refusal;
 use tcl_eval::running::Refused;
 use tcl_player::moves::moves_of;
-use tcl_record_texts::lines::{line_of, outcome_text};
+use tcl_record_texts::lines::{crossing_line, outcome_text};
 use tcl_recorder::crossing::Crossing;
 use tcl_recorder::record::Record;
 use tcl_replay::replaying::Unplayed;
@@ -20,8 +19,8 @@ pub struct Told {
     pub outcome: Text,
     /// Whether it is what it tells in the record.
     pub same: bool,
-    /// The lines; none in the place of one that would be longer than a value may be.
-    pub lines: Vec<Option<Text>>,
+    /// A line for each crossing.
+    pub lines: Vec<Text>,
 }
 
 impl Told {
@@ -80,23 +79,15 @@ pub fn replayed(
     }
 }
 
-/// The line of a crossing; none where it would be longer than a value may be.
-fn crossing_line(alloc: Global, crossing: &Crossing) -> Result<Option<Text>, AllocError> {
-    match line_of(alloc, crossing) {
-        Ok(line) => Ok(Some(Text::from_string(alloc, line)?)),
-        Err(LimitError::TooLong) => Ok(None),
-        Err(LimitError::Memory) => Err(AllocError),
-    }
-}
-
-/// The lines of crossings; none in the place of one that would be longer than a value may be.
+/// The lines of crossings.
 ///
 /// # Errors
 /// Want of memory.
-pub fn lines_of(alloc: Global, crossings: &[Crossing]) -> Result<Vec<Option<Text>>, AllocError> {
+pub fn lines_of(alloc: Global, crossings: &[Crossing]) -> Result<Vec<Text>, AllocError> {
     let mut lines = Vec::new(alloc);
     'crossings: for crossing in crossings {
-        lines.push(crossing_line(alloc, crossing)?)?;
+        let line = crossing_line(alloc, crossing)?;
+        lines.push(Text::from_string(alloc, line)?)?;
     }
     Ok(lines)
 }
@@ -107,33 +98,20 @@ fn leads_out(crossing: &Crossing) -> bool {
 }
 
 /// Whether the crossings that lead outwards have these lines.
-fn tells_same(
-    alloc: Global,
-    crossings: &[Crossing],
-    lines: &[Option<Text>],
-) -> Result<bool, AllocError> {
+fn tells_same(alloc: Global, crossings: &[Crossing], lines: &[Text]) -> Result<bool, AllocError> {
     let mut rest = lines;
     'crossings: for crossing in crossings {
         if leads_out(crossing) {
             let Some((line, later)) = rest.split_first() else {
                 return Ok(false);
             };
-            if !is_line_of(alloc, crossing, line)? {
+            if crossing_line(alloc, crossing)?.as_str() != line.as_str() {
                 return Ok(false);
             }
             rest = later;
         }
     }
     Ok(rest.is_empty())
-}
-
-/// Whether this is the line of a crossing. One that would be longer than a value may be is never
-/// known to be.
-fn is_line_of(alloc: Global, crossing: &Crossing, line: &Option<Text>) -> Result<bool, AllocError> {
-    match (crossing_line(alloc, crossing)?, line) {
-        (Some(here), Some(line)) => Ok(here.as_str() == line.as_str()),
-        _ => Ok(false),
-    }
 }
 
 /// Why nothing was replayed.
