@@ -29,7 +29,7 @@ use Rattle.std_heap.specs.contracts.Global as heap
 use Rattle.std_heap.proofs.Global.TheLaws as heap_laws
 use Rattle.std_heap.specs.contracts.GlobalAllocator.TheImpl.{ghosts}
 use Rattle.tcl_c.specs.Held.{held}
-use Rattle.tcl_c.specs.contracts.object.Object as object
+use Rattle.tcl_c.specs.contracts.object.Kept as object
 use Rattle.tcl_c.specs.contracts.sealed.Sealed as sealed
 
 abbrev pub both : Val → Val → Val

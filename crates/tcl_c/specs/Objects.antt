@@ -1,5 +1,5 @@
 -- What becomes of what a handle holds.
-use Rattle.std.specs.Prelude.{◌≡◌, Option, Some, None}
+use Rattle.std.specs.Prelude.{◌≡◌}
 use Rattle.tcl_c.specs.declared.object.Object.{Object}
 use Rattle.tcl_c.specs.declared.object.Object.TheVariants.{Tree}
 use Rattle.tcl_sessions.specs.Sessions.{SameSession, SameTree}
@@ -10,25 +10,12 @@ abbrev pub OnTrees : (Session → Session → Type 0) → Object → Object → 
 OnTrees act (Tree s) (Tree z) = act s z
 OnTrees act o z = Prim.⊥
 
--- both in a handle
-abbrev pub OnHeld : (Session → Session → Type 0) → Option Object → Option Object → Type 0
-OnHeld act (Some o) (Some z) = OnTrees act o z
-OnHeld act o z = Prim.⊥
-
 -- a tree shows what it showed, and everything else is as it was
 abbrev pub IsUnchanged : Object → Object → Type 0
 IsUnchanged (Tree s) (Tree z) = SameSession s z
 IsUnchanged o z = z ≡ o
 
-abbrev pub Unchanged : Option Object → Option Object → Type 0
-Unchanged (Some o) (Some z) = IsUnchanged o z
-Unchanged o z = z ≡ o
-
 -- a tree has the interpreters that it had, and everything else is as it was
 abbrev pub KeepsTree : Object → Object → Type 0
 KeepsTree (Tree s) (Tree z) = SameTree s z
 KeepsTree o z = z ≡ o
-
-abbrev pub TreeKept : Option Object → Option Object → Type 0
-TreeKept (Some o) (Some z) = KeepsTree o z
-TreeKept o z = z ≡ o

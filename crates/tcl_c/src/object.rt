@@ -1,4 +1,5 @@
 //! What handles hold.
+use std::marker::Model;
 use tcl_recorder::record::Record;
 use tcl_replay::replaying::Replayed;
 use tcl_replay::saving::Saved;
@@ -18,6 +19,18 @@ pub enum Object {
     Saved(Saved),
     /// An interpreter by itself, to which a record was replayed.
     Replayed(Replayed),
+}
+
+/// An object in a box of a handle. Contracts see only that it is there.
+#[derive(Drop)]
+pub struct Kept {
+    pub(crate) object: Object,
+}
+
+impl Model for Kept {
+    ghost Value = { Unit {0} };
+
+    ghost view = { λ _. tt };
 }
 
 impl Object {

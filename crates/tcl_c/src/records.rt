@@ -1,5 +1,7 @@
 //! Records, and interpreters that are saved by themselves.
-ghost use Rattle.std.specs.Prelude.{◌≡◌, None, is_some, pos};
+ghost use Rattle.std.specs.Prelude.{◌≡◌, None, OnErr, is_some, pos};
+ghost use Rattle.tcl_c.specs.Objects.{IsUnchanged};
+ghost use Rattle.tcl_sessions.specs.Sessions.{SameSession};
 
 use crate::codes::{DONE, NOTHING_HELD};
 use crate::files::write_length;
@@ -76,7 +78,7 @@ pub extern "C" fn tclsafe_take_record(alloc: Global, tree: &mut Handle, record: 
     });
     match taken {
         Ok(taken) => {
-            *room = Object::Record(taken);
+            room.object = Object::Record(taken);
             record.put(room);
             DONE
         }
@@ -127,7 +129,7 @@ pub extern "C" fn tclsafe_save(
     });
     match made {
         Ok(made) => {
-            *room = Object::Saved(made);
+            room.object = Object::Saved(made);
             saved.put(room);
             DONE
         }
@@ -161,13 +163,13 @@ pub extern "C" fn tclsafe_replay(
     };
     let replayed = with_object!(alloc, saved, Err(Refusal::NothingHeld), one => {
         with_object!(alloc, record, Err(Refusal::NothingHeld), other => {
-            replay(alloc, &one, &other, limit)
+            replay(alloc, one, other, limit)
         })
     });
     match replayed {
         Ok(replayed) => {
             let number = replay_number(replayed.outcome());
-            *room = Object::Replayed(replayed);
+            room.object = Object::Replayed(replayed);
             after.put(room);
             number
         }
@@ -210,7 +212,7 @@ pub extern "C" fn tclsafe_same(
     ensures other { is_some other.new.sealed.value ≡ is_some other.old.sealed.value }
 {
     let compared = with_object!(alloc, one, Err(Refusal::NothingHeld), first => {
-        with_object!(alloc, other, Err(Refusal::NothingHeld), second => equal(&first, &second))
+        with_object!(alloc, other, Err(Refusal::NothingHeld), second => equal(first, second))
     });
     match compared {
         Ok(compared) => {

