@@ -1,0 +1,5 @@
+pub mod Acts
+pub mod Codes
+pub mod Handles
+pub mod Held
+pub mod Objects

@@ -1,0 +1,11 @@
+pub mod Calls
+pub mod Evaluations
+pub mod Files
+pub mod Limits
+pub mod Outcomes
+pub mod Records
+pub mod Refusals
+pub mod Sessions
+pub mod Standing
+pub mod Texts
+pub mod Trees
