@@ -1,7 +1,7 @@
 -- What is done to a tree by texts that are bytes.
 use Rattle.std.specs.Option.{option_map}
-use Rattle.std.specs.Prelude.{◌≡◌, ℕ, ℤ, ◌==◌, ◌∷◌, ◌++◌, [], Bool, List, Option, Some, None, IsSome}
-use Rattle.std.specs.Prelude.{Ok, if◌then◌else◌}
+use Rattle.std.specs.Prelude.{◌≡◌, ℕ, ℤ, ◌==◌, ◌∷◌, ◌++◌, [], Bool, List, Option, Some, None}
+use Rattle.std.specs.Prelude.{IsSome, Ok, if◌then◌else◌}
 use Rattle.tcl_core.specs.Paths.{Path}
 use Rattle.tcl_core.specs.Trees.{effect}
 use Rattle.tcl_core.specs.Trees.What.{DepthLimited, Limited}

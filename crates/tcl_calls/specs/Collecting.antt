@@ -35,7 +35,8 @@ abbrev pub EndsBehind : List Text → Completion → Reply → Type 0
 EndsBehind before c e = (k : List Text → Program) → EndsBy (after_result c.code c before k) e
 
 -- What comes of a body that completed so: the loop goes on, is over, or ends so.
-abbrev pub CollectsCompleted : Completion → List Text → List Text → Result Bool Interruption → Type 0
+abbrev pub CollectsCompleted : Completion → List Text → List Text → Result Bool Interruption →
+    Type 0
 CollectsCompleted c before after (Ok on) = GoesWith c before after on
 CollectsCompleted c before after (Err i) = Interrupts i (EndsBehind before c)
 

@@ -35,7 +35,8 @@ pub fn keep_caught(
     completion: &Completion,
 ) -> Result<(), Interruption>
     requires { (p : Path) × Names tree.old place p }
-    ensures kept { Steps tree.old place (kept_in names.now (completion_of completion.now)) tree.new result }
+    ensures kept { Steps tree.old place
+        (kept_in names.now (completion_of completion.now)) tree.new result }
     ensures level { IsLevel tree.old tree.new }
 {
     let [result, rest @ ..] = names else {

@@ -56,7 +56,8 @@ fn closed_behind(
     bytes: Bytes,
     closed: &HostReply,
 ) -> Result<Value, Interruption>
-    ensures { IsScript (sourcing.closed file.now (core.HostReply.Bytes bytes) (reply_of closed.now)) result }
+    ensures { IsScript
+        (sourcing.closed file.now (core.HostReply.Bytes bytes) (reply_of closed.now)) result }
 {
     match closed {
         HostReply::Refused(why) => Err(refused_by_host(alloc, *why, file)),

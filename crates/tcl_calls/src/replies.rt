@@ -34,8 +34,8 @@ use tcl_value::value::Value;
 /// What the host's reply to a call is to the script that made it.
 ///
 /// # Errors
-/// 261, 262 and 267 of the host; 122 and 265 of what was read; 232, 233 and 238 of the variable that
-/// a line is read for; want of memory.
+/// 261, 262 and 267 of the host; 122 and 265 of what was read; 232, 233 and 238 of the variable
+/// that a line is read for; want of memory.
 pub fn answer(
     tree: &mut Tree,
     alloc: Global,
@@ -44,7 +44,8 @@ pub fn answer(
     reply: HostReply,
 ) -> Result<Value, Interruption>
     requires { (p : Path) × Names tree.old place p }
-    ensures acts { Acts tree.old place (λ style. heard_by call.now (reply_of reply)) tree.new result }
+    ensures acts { Acts tree.old place
+        (λ style. heard_by call.now (reply_of reply)) tree.new result }
     ensures level { IsLevel tree.old tree.new }
 {
     match call {

@@ -1,5 +1,17 @@
 //! The lists that loops walk through.
-ghost use Rattle.std.specs.Prelude.{◌≡◌, ◌+◌, ◌*◌, [], ◌∷◌, false, drop, get_or, length, IfOk, IfErr};
+ghost use Rattle.std.specs.Prelude.{
+  ◌≡◌,
+  ◌+◌,
+  ◌*◌,
+  [],
+  ◌∷◌,
+  false,
+  drop,
+  get_or,
+  length,
+  IfOk,
+  IfErr,
+};
 ghost use Rattle.std.specs.Prelude.{MatchOption, MatchResult, IsOkAnd};
 ghost use Rattle.tcl_core.specs.Paths.{Path};
 ghost use Rattle.tcl_language.specs.Control.{is_over, sets_names, sets_walks};
@@ -119,8 +131,8 @@ fn read_entries(alloc: Global, names: &Value, dict: &Value) -> Result<Walk, Inte
     Ok(Walk { names, elements })
 }
 
-/// Reads the words of a loop over a dict: its one walk, through the keys, each with its value behind
-/// it, and its body. A repeated key has its first place and its last value. (dict(n))
+/// Reads the words of a loop over a dict: its one walk, through the keys, each with its value
+/// behind it, and its body. A repeated key has its first place and its last value. (dict(n))
 ///
 /// # Errors
 /// 241 of the number of words; 101 to 104 of the names, and 241 where they aren't two; 101 to 104

@@ -70,7 +70,8 @@ fn behind_some_key<'a>(text: &'a str, key: &str, nocase: bool) -> Option<&'a str
 pub fn map(alloc: Global, mapping: &[Text], text: &str, nocase: bool) -> Result<String, LimitError>
     ensures mapped { IfOk result
         (λ made. string_bytes made ≡ mapped nocase mapping.now (chars text.now) 0) }
-    ensures within { OnOk result (length (mapped nocase mapping.now (chars text.now) 0) ≤ 16777216) }
+    ensures within { OnOk result
+        (length (mapped nocase mapping.now (chars text.now) 0) ≤ 16777216) }
     ensures refused { IsErrOf result LimitError.TooLong →
         16777216 < length (mapped nocase mapping.now (chars text.now) 0) }
 {

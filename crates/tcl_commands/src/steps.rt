@@ -185,7 +185,8 @@ pub(crate) fn integer(
     alloc: Global,
     value: &mut Value,
 ) -> Result<i64, Interruption>
-    ensures read { Gave (integer_message value.old) (in_64_bits (integer_of style value.old)) result }
+    ensures read { Gave (integer_message value.old)
+        (in_64_bits (integer_of style value.old)) result }
     ensures text { value.new ≡ value.old }
 {
     match value.as_int(style) {

@@ -41,7 +41,8 @@ pub fn ask<O: Outside>(
     entry: OwnEntry,
 ) -> Result<Value, Interruption>
     requires { IsRunning tree.old place }
-    ensures asks { Asks O.goes tree.old outside.old place path.now (entry_of entry) tree.new outside.new
+    ensures asks { Asks O.goes tree.old outside.old place path.now
+        (entry_of entry) tree.new outside.new
         result }
     ensures lost { IsLoss O.loses outside.old outside.new }
     ensures steady { IsSteady tree.old tree.new }
@@ -65,7 +66,8 @@ fn ask_below<O: Outside>(
 ) -> Result<Value, Interruption>
     requires running { IsRunning tree.old place }
     requires own { IsOwn entry }
-    ensures calls { AsksBelow O.goes tree.old outside.old place path.now (whole_entry entry) tree.new
+    ensures calls { AsksBelow O.goes tree.old outside.old place path.now
+        (whole_entry entry) tree.new
         outside.new result }
     ensures lost { IsLoss O.loses outside.old outside.new }
     ensures steady { IsSteady tree.old tree.new }

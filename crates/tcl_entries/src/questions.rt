@@ -211,7 +211,8 @@ fn alias_text(alloc: Global, node: &Node, name: &Text) -> Result<Text, Interrupt
 /// # Errors
 /// 238 of the name of an alias; want of memory.
 fn answer_text(alloc: Global, node: &Node, question: &Question) -> Result<Text, Interruption>
-    ensures { Gave itself (interpreters.answer (question_of question.now) (view_of node.now)) result }
+    ensures { Gave itself
+        (interpreters.answer (question_of question.now) (view_of node.now)) result }
 {
     match question {
         Question::Exists => Ok(truth_text(alloc, true)?),

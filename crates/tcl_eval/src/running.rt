@@ -102,7 +102,8 @@ pub fn eval<H: Host>(
     ensures refused { IfSome (unfit tree.old path.now script.now limit) (λ e. result ≡ Err e) }
     ensures unchanged { IfSome (unfit tree.old path.now script.now limit)
         (λ _. (tree.new ≡ tree.old) × (host.new ≡ host.old)) }
-    ensures begun { IfNone (unfit tree.old path.now script.now limit) (IfErr result (λ e. e ≡ Memory)) }
+    ensures begun { IfNone (unfit tree.old path.now script.now limit)
+        (IfErr result (λ e. e ≡ Memory)) }
     ensures broken { IsErrOf result Memory → (marks_of tree.new).broken ≡ true }
     ensures marks { IfOk result (λ _. marks_of tree.new ≡ marks_of tree.old) }
     ensures style { (marks_of tree.new).integers ≡ (marks_of tree.old).integers }
@@ -156,7 +157,8 @@ pub fn open_run<O: Outside>(
     ensures refused { IfSome (unfit tree.old path.now script.now limit) (λ e. result ≡ Err e) }
     ensures unchanged { IfSome (unfit tree.old path.now script.now limit)
         (λ _. (tree.new ≡ tree.old) × (outside.new ≡ outside.old)) }
-    ensures begun { IfNone (unfit tree.old path.now script.now limit) (IfErr result (λ e. e ≡ Memory)) }
+    ensures begun { IfNone (unfit tree.old path.now script.now limit)
+        (IfErr result (λ e. e ≡ Memory)) }
     ensures broken { IsErrOf result Memory → (marks_of tree.new).broken ≡ true }
     ensures marks { IfOk result (λ _. marks_of tree.new ≡ marks_of tree.old) }
     ensures style { (marks_of tree.new).integers ≡ (marks_of tree.old).integers }

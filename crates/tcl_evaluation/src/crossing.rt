@@ -77,7 +77,8 @@ fn miss_alias<O: Outside>(
     word: &Value,
 ) -> Result<Value, Interruption>
     ensures told { IfEnded result (λ r. r ≡ Completed (failing (faults.lost_alias word.now))) }
-    ensures misses { FindsNobody O.goes tree.now outside.old place up down.now (whole_entry entry) outside.new
+    ensures misses { FindsNobody O.goes tree.now outside.old place up down.now
+        (whole_entry entry) outside.new
         result }
     ensures lost { IsLoss O.loses outside.old outside.new }
     ensures left { O.entries_left outside.new ≤ O.entries_left outside.old }
@@ -101,7 +102,8 @@ fn find_nobody<O: Outside>(
     lost: Interruption,
 ) -> Result<Value, Interruption>
     ensures told { IfEnded result (EndedBy (Err lost)) }
-    ensures misses { FindsNobody O.goes tree.now outside.old caller up down.now (whole_entry entry) outside.new
+    ensures misses { FindsNobody O.goes tree.now outside.old caller up down.now
+        (whole_entry entry) outside.new
         result }
     ensures lost { IsLoss O.loses outside.old outside.new }
     ensures left { O.entries_left outside.new ≤ O.entries_left outside.old }
@@ -128,7 +130,8 @@ fn call_there<O: Outside>(
     requires running { IsRunning tree.old caller }
     requires leads { (p : Path) → Names tree.old caller p →
         Leads tree.old p up down.now (There target) }
-    ensures runs { CallsThere (ways O.goes O.loses) tree.old outside.old caller up down.now (whole_entry entry)
+    ensures runs { CallsThere (ways O.goes O.loses) tree.old outside.old caller up down.now
+        (whole_entry entry)
         tree.new outside.new result }
     ensures steady { IsSteady tree.old tree.new }
     ensures left { O.entries_left outside.new ≤ O.entries_left outside.old }
@@ -298,7 +301,8 @@ fn invoke_at<O: Outside>(
     words: &[Value],
 ) -> Result<Value, Interruption>
     requires { (p : Path) × Names tree.old place p }
-    ensures runs { Invokes (ways O.goes O.loses) tree.old outside.old place is_global words.now tree.new
+    ensures runs { Invokes
+        (ways O.goes O.loses) tree.old outside.old place is_global words.now tree.new
         outside.new result }
     ensures steady { IsSteady tree.old tree.new }
     ensures left { O.entries_left outside.new ≤ O.entries_left outside.old }
@@ -350,7 +354,8 @@ pub fn ask_entry<O: Outside>(
     entry: Entry,
 ) -> Result<Value, Interruption>
     requires { IsRunning tree.old place }
-    ensures asks { Asks (ways O.goes O.loses) tree.old outside.old place path.now (whole_entry entry) tree.new
+    ensures asks { Asks (ways O.goes O.loses) tree.old outside.old place path.now
+        (whole_entry entry) tree.new
         outside.new result }
     ensures steady { IsSteady tree.old tree.new }
     ensures left { O.entries_left outside.new ≤ O.entries_left outside.old }
@@ -373,7 +378,8 @@ fn ask_below<O: Outside>(
     entry: Entry,
 ) -> Result<Value, Interruption>
     requires { IsRunning tree.old place }
-    ensures asks { AsksBelow (ways O.goes O.loses) tree.old outside.old place path.now (whole_entry entry)
+    ensures asks { AsksBelow (ways O.goes O.loses) tree.old outside.old place path.now
+        (whole_entry entry)
         tree.new outside.new result }
     ensures steady { IsSteady tree.old tree.new }
     ensures left { O.entries_left outside.new ≤ O.entries_left outside.old }

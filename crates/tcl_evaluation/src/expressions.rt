@@ -37,7 +37,8 @@ fn expression<O: Outside>(
     kept: &ExprTree,
 ) -> Result<Value, Interruption>
     requires { IsRunning tree.old place }
-    ensures runs { Computes (ways O.goes O.loses) tree.old outside.old place kept.now tree.new outside.new
+    ensures runs { Computes
+        (ways O.goes O.loses) tree.old outside.old place kept.now tree.new outside.new
         result }
     ensures steady { IsSteady tree.old tree.new }
     ensures left { O.entries_left outside.new ≤ O.entries_left outside.old }

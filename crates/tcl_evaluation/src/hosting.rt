@@ -35,7 +35,8 @@ pub fn ask<O: Outside>(
     request: Request,
 ) -> Result<HostReply, Interruption>
     requires { IsRunning tree.old place }
-    ensures runs { Hears (ways O.goes O.loses) tree.old outside.old place (request_of request) tree.new
+    ensures runs { Hears (ways O.goes O.loses) tree.old outside.old place
+        (request_of request) tree.new
         outside.new result }
     ensures steady { IsSteady tree.old tree.new }
     ensures left { O.entries_left outside.new ≤ O.entries_left outside.old }

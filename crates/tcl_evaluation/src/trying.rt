@@ -47,8 +47,8 @@ fn run_handler<O: Outside>(
 /// Sets the variables of the first handler that handles a completion, and evaluates its script.
 ///
 /// # Errors
-/// The completion where no handler handles it; 101 to 104 of the list of the variables; 232, 233 and
-/// 238 of the variables; 122 of the options; those of the script; want of memory.
+/// The completion where no handler handles it; 101 to 104 of the list of the variables; 232, 233
+/// and 238 of the variables; 122 of the options; those of the script; want of memory.
 #[cycle(eval)]
 #[inline(never)]
 fn handle<O: Outside>(

@@ -46,7 +46,8 @@ pub fn wait<O: Outside>(
     requires running { IsRunning tree.old place }
     requires above { (p : Path) → Names tree.old place p → rise_to up p ≡ None }
     requires asked { IsAsked up (whole_entry entry.now) }
-    ensures runs { Waits (ways O.goes O.loses) tree.old outside.old place up (whole_entry entry.now) tree.new
+    ensures runs { Waits (ways O.goes O.loses) tree.old outside.old place up
+        (whole_entry entry.now) tree.new
         outside.new result }
     ensures own { IfOk result (λ said. IsAnswer up (whole_entry entry.now) said) }
     ensures steady { IsSteady tree.old tree.new }
@@ -82,7 +83,8 @@ fn hand_in<O: Outside>(
 ) -> Result<(), Interruption>
     requires running { IsRunning tree.old place }
     requires handed { O.hands_in }
-    ensures runs { HandsIn (ways O.goes O.loses) tree.old outside.old place up (whole_entry entry.now)
+    ensures runs { HandsIn (ways O.goes O.loses) tree.old outside.old place up
+        (whole_entry entry.now)
         target.items (whole_entry inner) tree.new outside.new result }
     ensures steady { IsSteady tree.old tree.new }
     ensures left { O.entries_left outside.new ≤ O.entries_left outside.old }
@@ -121,7 +123,8 @@ pub fn enter<O: Outside>(
     target: &[Text],
     entry: Entry,
 ) -> Result<Value, Interruption>
-    ensures runs { EndsEntry (ways O.goes O.loses) tree.old outside.old target.now (whole_entry entry) tree.new
+    ensures runs { EndsEntry (ways O.goes O.loses) tree.old outside.old target.now
+        (whole_entry entry) tree.new
         outside.new result }
     ensures steady { IsSteady tree.old tree.new }
     ensures left { O.entries_left outside.new ≤ O.entries_left outside.old }

@@ -118,7 +118,8 @@ impl Evaluation {
         operator: BinaryOperator,
         style: Integers,
     ) -> Result<(), ApplyError>
-        ensures pushes { Pushes result (apply_binary style operator (top (below self.old.values.items))
+        ensures pushes { Pushes result
+            (apply_binary style operator (top (below self.old.values.items))
             (top self.old.values.items)) (below (below self.old.values.items))
             self.new.values.items }
         ensures next { self.new.next ≡ self.old.next }
@@ -151,7 +152,8 @@ impl Evaluation {
         operator: BinaryOperator,
         style: Integers,
     ) -> Result<bool, ApplyError>
-        ensures needs { Needs result style operator (top self.old.values.items) (below self.old.values.items)
+        ensures needs { Needs result style operator (top self.old.values.items)
+            (below self.old.values.items)
             self.new.values.items }
         ensures next { self.new.next ≡ self.old.next }
     {
@@ -278,7 +280,8 @@ impl Evaluation {
         nodes: &'t [Node],
         style: Integers,
     ) -> Result<Progress<'t>, ApplyError>
-        ensures nearer { Nears result (length nodes.now - self.old.next) (length nodes.now - self.new.next) }
+        ensures nearer { Nears result (length nodes.now - self.old.next)
+            (length nodes.now - self.new.next) }
         ensures computes { Advances result (from style nodes.now self.old.next self.old.values.items)
             (λ v. from style nodes.now self.new.next (self.new.values.items ++ v ∷ [])) }
     {

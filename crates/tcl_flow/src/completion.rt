@@ -92,7 +92,8 @@ fn lower(completion: &mut Completion)
 /// # Errors
 /// Want of memory.
 pub fn leave_proc(alloc: Global, completion: &mut Completion) -> Result<(), AllocError>
-    ensures left { OnOk result (completion_of completion.new ≡ leave_proc (completion_of completion.old)) }
+    ensures left { OnOk result
+        (completion_of completion.new ≡ leave_proc (completion_of completion.old)) }
     ensures unchanged { OnErr result (completion.new ≡ completion.old) }
 {
     match completion.code {
@@ -121,7 +122,8 @@ pub fn leave_file(completion: &mut Completion)
 /// # Errors
 /// Want of memory; a return is lowered then all the same.
 pub fn settle(alloc: Global, completion: &mut Completion) -> Result<(), AllocError>
-    ensures settled { OnOk result (completion_of completion.new ≡ settle (completion_of completion.old)) }
+    ensures settled { OnOk result
+        (completion_of completion.new ≡ settle (completion_of completion.old)) }
     ensures lowered { OnErr result (completion_of completion.new
         ≡ unreturned completion.old.code (completion_of completion.old)) }
 {

@@ -320,7 +320,8 @@ impl Frames {
 
     /// Changes what a name stands for.
     fn change(&mut self, alloc: Global, name: &Text, change: Change) -> Result<(), FrameError>
-        ensures ok { OnOk result (with_frames self.old (change_named change self.old.frames name.now)
+        ensures ok { OnOk result
+            (with_frames self.old (change_named change self.old.frames name.now)
             ≡ Ok self.new) }
         ensures err { IfErr result (λ e. Refuses e (change_named change self.old.frames name.now)) }
         ensures unchanged { OnErr result (self.new ≡ self.old) }
@@ -364,7 +365,8 @@ impl Frames {
         name: &Text,
         elements: Vec<(Text, Value)>,
     ) -> Result<(), FrameError>
-        ensures ok { OnOk result (after_set_elements self.old name.now elements.items ≡ Ok self.new) }
+        ensures ok { OnOk result
+            (after_set_elements self.old name.now elements.items ≡ Ok self.new) }
         ensures err { IfErr result
             (λ e. Refuses e (after_set_elements self.old name.now elements.items)) }
         ensures unchanged { OnErr result (self.new ≡ self.old) }
@@ -384,7 +386,8 @@ impl Frames {
         name: &Text,
         pattern: Option<&Text>,
     ) -> Result<(), FrameError>
-        ensures ok { OnOk result (after_unset_elements self.old name.now (option_copied pattern.entry)
+        ensures ok { OnOk result
+            (after_unset_elements self.old name.now (option_copied pattern.entry)
             ≡ Ok self.new) }
         ensures err { IfErr result
             (λ e. Refuses e (after_unset_elements self.old name.now
@@ -415,7 +418,8 @@ impl Frames {
         key: &Text,
         change: Change,
     ) -> Result<(), FrameError>
-        ensures ok { OnOk result (with_frames self.old (change_key change self.old.frames name.now key.now)
+        ensures ok { OnOk result
+            (with_frames self.old (change_key change self.old.frames name.now key.now)
             ≡ Ok self.new) }
         ensures err { IfErr result
             (λ e. Refuses e (change_key change self.old.frames name.now key.now)) }

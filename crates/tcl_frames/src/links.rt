@@ -18,8 +18,8 @@ use tcl_variables::frame::Frame;
 use tcl_variables::name::{is_plain_name, read_name};
 use tcl_variables::variable::{LinkTarget, Variable};
 
-/// Whether the links from a name at a level, which lead to this target, end at a local name or at an
-/// element of it. Where there is no target, they end where they begin.
+/// Whether the links from a name at a level, which lead to this target, end at a local name or at
+/// an element of it. Where there is no target, they end where they begin.
 fn ends_at(target: &Option<Target>, level: usize, base: &str, here: usize, local: &Text) -> bool
     ensures { (part : Part) → result
         ≡ is_at here local.now (target_or (start level base.now) part target.now) }

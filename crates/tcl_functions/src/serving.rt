@@ -31,7 +31,8 @@ use tcl_value::value::Value;
 pub const TOO_MANY_ENTRIES: &str = "too many entries";
 
 /// Functions of an embedder, and a host: the functions answer the calls of aliases that lead past
-/// the top of the tree, and the host all requests. They refuse no step, and answer no call by a cut.
+/// the top of the tree, and the host all requests. They refuse no step, and answer no call by a
+/// cut.
 ///
 /// In all, the functions may hand in 18446744073709551615 entries; what would be one more ends its
 /// call by the error [`TOO_MANY_ENTRIES`].

@@ -78,10 +78,10 @@ named Exit = codes "exit"
 -- the commands of the language, in the order of a new interpreter
 abbrev pub language : Sequence Builtin
 language =
-    Set ∷ Unset ∷ Incr ∷ Append ∷ Lappend ∷ Array ∷ Global ∷ Upvar ∷ Uplevel ∷ Proc ∷ Rename ∷ Eval ∷ Expr ∷
-    If ∷ While ∷ For ∷ Foreach ∷ Lmap ∷ Switch ∷ Break ∷ Continue ∷ Catch ∷ Error ∷ Throw ∷ Return ∷ Try ∷
-    Info ∷ List ∷ Llength ∷ Lindex ∷ Lrange ∷ Linsert ∷ Lreplace ∷ Lset ∷ Lassign ∷ Lrepeat ∷ Lreverse ∷
-    Concat ∷ Join ∷ Split ∷ Lsearch ∷ Lsort ∷ Dict ∷ String ∷ Format ∷ Interp ∷ []
+    Set ∷ Unset ∷ Incr ∷ Append ∷ Lappend ∷ Array ∷ Global ∷ Upvar ∷ Uplevel ∷ Proc ∷ Rename ∷
+    Eval ∷ Expr ∷ If ∷ While ∷ For ∷ Foreach ∷ Lmap ∷ Switch ∷ Break ∷ Continue ∷ Catch ∷ Error ∷
+    Throw ∷ Return ∷ Try ∷ Info ∷ List ∷ Llength ∷ Lindex ∷ Lrange ∷ Linsert ∷ Lreplace ∷ Lset ∷
+    Lassign ∷ Lrepeat ∷ Lreverse ∷ Concat ∷ Join ∷ Split ∷ Lsearch ∷ Lsort ∷ Dict ∷ String ∷ Format ∷ Interp ∷ []
 
 -- the commands that reach the host, in that order
 abbrev pub host : Sequence Builtin

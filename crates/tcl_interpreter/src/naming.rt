@@ -31,7 +31,8 @@ pub enum Naming<'a> {
 // Gives a command another name, which is free, and puts it last.
 fn move_name(commands: &mut Commands, name: &Text, new_name: Text) -> Result<(), AllocError>
     requires { lookup (bytes_eq new_name) commands.old.entries ≡ None }
-    ensures moved { OnOk result ((c : Command) → lookup (bytes_eq name.now) commands.old.entries ≡ Some c →
+    ensures moved { OnOk result
+        ((c : Command) → lookup (bytes_eq name.now) commands.old.entries ≡ Some c →
         commands.new.entries ≡ remove_entry (bytes_eq name.now)
         commands.old.entries ++ (new_name, c) ∷ []) }
     ensures kept { OnErr result (commands.new.entries ≡ commands.old.entries) }
@@ -54,9 +55,11 @@ fn move_command(
     new_name: Text,
 ) -> Result<(), AllocError>
     requires { lookup (bytes_eq new_name) to.old.entries ≡ None }
-    ensures taken { OnOk result ((c : Command) → lookup (bytes_eq name.now) from.old.entries ≡ Some c →
+    ensures taken { OnOk result
+        ((c : Command) → lookup (bytes_eq name.now) from.old.entries ≡ Some c →
         from.new.entries ≡ remove_entry (bytes_eq name.now) from.old.entries) }
-    ensures put { OnOk result ((c : Command) → lookup (bytes_eq name.now) from.old.entries ≡ Some c →
+    ensures put { OnOk result
+        ((c : Command) → lookup (bytes_eq name.now) from.old.entries ≡ Some c →
         to.new.entries ≡ to.old.entries ++ (new_name, c) ∷ []) }
     ensures from_kept { OnErr result (from.new.entries ≡ from.old.entries) }
     ensures to_kept { OnErr result (to.new.entries ≡ to.old.entries) }
@@ -106,7 +109,8 @@ impl State {
     }
 
     fn rename(&mut self, name: &Text, new_name: Text) -> Result<(), TreeError>
-        ensures done { OnOk result (Follows (λ own. renamed own name.now new_name) self.old self.new) }
+        ensures done { OnOk result
+            (Follows (λ own. renamed own name.now new_name) self.old self.new) }
         ensures refused { IfErr result
             (λ e. Stays (λ own. renamed own name.now new_name) e self.old self.new) }
         ensures safe { self.new.safe ≡ self.old.safe }
@@ -144,7 +148,8 @@ impl State {
     }
 
     fn hide(&mut self, name: &Text, hidden: Text) -> Result<(), TreeError>
-        ensures done { OnOk result (Follows (λ own. hidden_under own name.now hidden) self.old self.new) }
+        ensures done { OnOk result
+            (Follows (λ own. hidden_under own name.now hidden) self.old self.new) }
         ensures refused { IfErr result
             (λ e. Stays (λ own. hidden_under own name.now hidden) e self.old self.new) }
         ensures safe { self.new.safe ≡ self.old.safe }
@@ -166,7 +171,8 @@ impl State {
     }
 
     fn expose(&mut self, hidden: &Text, name: Text) -> Result<(), TreeError>
-        ensures done { OnOk result (Follows (λ own. exposed_under own hidden.now name) self.old self.new) }
+        ensures done { OnOk result
+            (Follows (λ own. exposed_under own hidden.now name) self.old self.new) }
         ensures refused { IfErr result
             (λ e. Stays (λ own. exposed_under own hidden.now name) e self.old self.new) }
         ensures safe { self.new.safe ≡ self.old.safe }

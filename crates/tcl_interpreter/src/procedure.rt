@@ -25,7 +25,8 @@ impl Model for Procedure {
 
     ghost Value = { ProcedureView };
 
-    ghost view = { λ a. record { parameters = a.shared.value.parameters.items; body = a.shared.value.body } };
+    ghost view = { λ a. record
+        { parameters = a.shared.value.parameters.items; body = a.shared.value.body } };
 }
 
 impl Procedure {

@@ -84,7 +84,8 @@ fn add_key(up: &mut Node, label: Text, key: usize) -> Result<(), AllocError>
     ensures name { up.new.name ≡ up.old.name }
     ensures level { up.new.level ≡ up.old.level }
     ensures state { up.new.state ≡ up.old.state }
-    ensures names { OnOk result (map.keys up.new.children ≡ map.keys up.old.children ++ label ∷ []) }
+    ensures names { OnOk result
+        (map.keys up.new.children ≡ map.keys up.old.children ++ label ∷ []) }
     ensures gets { OnOk result ((q : List ℕ) →
         map.get bytes_eq up.new.children q
         ≡ cond (bytes_eq label q) (Some key) (map.get bytes_eq up.old.children q)) }

@@ -1,5 +1,6 @@
 -- Worked scripts, each run in a new interpreter, by the commands of a table.
-use Rattle.std.specs.Prelude.{◌≡◌, ℕ, pos, true, false, List, [], ◌∷◌, Option, Some, None, codes}
+use Rattle.std.specs.Prelude.{◌≡◌, ℕ, pos, true, false, List, [], ◌∷◌, ◌++◌, Option, Some, None}
+use Rattle.std.specs.Prelude.{codes}
 use Rattle.tcl_core.specs.Paths.{Text}
 use Rattle.tcl_core.specs.Endings.{Reply, ok, error}
 use Rattle.tcl_core.specs.Endings.Reply.{Completed, Stop, Exit}
@@ -91,9 +92,21 @@ module _ (language : Integers → Table Own Instr) where
     pub within_limit : Gives (codes
         "interp create -safe c; c limit commands -value 3; c eval {set a 1; set b 2; set d 3}")
         (codes "3")
-    pub past_limit : Gives (codes "interp create -safe c; c limit commands -value 3; catch {c eval {set a 1; set b 2; set d 3; set e 4}} m; c limit commands -value {}; list $m [c eval {info vars}]") (codes "{command count limit exceeded} {a b d}")
-    pub nested_limit : Gives (codes "interp create c; c eval {interp create g}; c limit commands -value 4; set r [catch {c eval {g eval {set a 1; set b 2; set d 3}}} m]; c limit commands -value {}; list $r $m [c eval {g eval {info cmdcount}}]") (codes "1 {command count limit exceeded} 3")
-    pub wider_limit : Gives (codes "interp create c; c eval {interp create g}; c limit commands -value 5; set r [catch {c eval {g eval {set a 1; set b 2; set d 3}}} m]; c limit commands -value {}; list $r $m [c eval {g eval {info cmdcount}}]") (codes "0 3 4")
+    pub past_limit : Gives
+        (codes "interp create -safe c; c limit commands -value 3; catch {c eval {set a 1; set "
+        ++ codes "b 2; set d 3; set e 4}} m; c limit commands -value {}; list $m [c eval {info "
+        ++ codes "vars}]")
+        (codes "{command count limit exceeded} {a b d}")
+    pub nested_limit : Gives
+        (codes "interp create c; c eval {interp create g}; c limit commands -value 4; set r "
+        ++ codes "[catch {c eval {g eval {set a 1; set b 2; set d 3}}} m]; c limit commands "
+        ++ codes "-value {}; list $r $m [c eval {g eval {info cmdcount}}]")
+        (codes "1 {command count limit exceeded} 3")
+    pub wider_limit : Gives
+        (codes "interp create c; c eval {interp create g}; c limit commands -value 5; set r "
+        ++ codes "[catch {c eval {g eval {set a 1; set b 2; set d 3}}} m]; c limit commands "
+        ++ codes "-value {}; list $r $m [c eval {g eval {info cmdcount}}]")
+        (codes "0 3 4")
     pub own_limit : Gives (codes
         "interp create -safe c; catch {c eval {interp limit {} commands -value 5}} m; set m")
         (codes "permission denied")
@@ -111,8 +124,14 @@ module _ (language : Integers → Table Own Instr) where
     pub by_hidden_door : Gives (codes
         "interp create -safe c; catch {c eval {exit}} m; interp invokehidden c puts hi; set m")
         (codes "invalid command name \"exit\"")
-    pub no_exposing : Gives (codes "interp create -safe c; c eval {interp create g; list [interp issafe g] [catch {interp expose g exit} m] $m}") (codes "1 1 {permission denied}")
-    pub in_use : Gives (codes "interp create -safe c; proc kill {} {interp delete c}; interp alias c kill {} kill; c eval {list [catch kill m] $m}") (codes "1 {interpreter \"c\" is in use}")
+    pub no_exposing : Gives
+        (codes "interp create -safe c; c eval {interp create g; list [interp issafe g] [catch "
+        ++ codes "{interp expose g exit} m] $m}")
+        (codes "1 1 {permission denied}")
+    pub in_use : Gives
+        (codes "interp create -safe c; proc kill {} {interp delete c}; interp alias c kill {} "
+        ++ codes "kill; c eval {list [catch kill m] $m}")
+        (codes "1 {interpreter \"c\" is in use}")
     pub parameters : Gives (codes
         "proc f {a {b 2} args} {list $a $b $args}; list [f 1] [f 1 3 4 5] [catch f m] $m")
         (codes "{1 2 {}} {1 3 {4 5}} 1 {wrong # args: should be \"f a ?b? ?arg ...?\"}")
@@ -122,7 +141,10 @@ module _ (language : Integers → Table Own Instr) where
         (codes "5")
     pub level_words : Gives (codes "proc f args {info level 0}; f a {b c}") (codes "f a {b c}")
     pub link_makes_none : Gives (codes "proc h {} {upvar #0 nope v; info vars}; h") []
-    pub alias_counts : Gives (codes "interp create -safe c; proc answer k {interp eval c [list set seen $k]; list yes}; interp alias c ask {} answer; c eval {list [ask q] $seen}") (codes "yes q")
+    pub alias_counts : Gives
+        (codes "interp create -safe c; proc answer k {interp eval c [list set seen $k]; list "
+        ++ codes "yes}; interp alias c ask {} answer; c eval {list [ask q] $seen}")
+        (codes "yes q")
     pub alias_words : Gives (codes "interp alias {} p {} list x; p {a b} c") (codes "x {a b} c")
     pub turns_counted : Gives (codes "foreach x {a b c} {set y $x}; info cmdcount") (codes "8")
     pub hidden_below : Gives (codes
@@ -140,13 +162,22 @@ module _ (language : Integers → Table Own Instr) where
     pub returned_level : Fails (codes "return -level 2 x") (codes "command returned bad code: 2")
     pub caught_return : Gives (codes "list [catch {return -code 7 -level 2 x} m o] $m $o")
         (codes "2 x {-code 7 -level 2}")
-    pub returned_options : Gives (codes "proc f {} {return -code 9 -options {-code error -errorcode {A 1}} x}; list [catch f m o] $m $o") (codes "1 x {-code 1 -level 0 -errorcode {A 1}}")
+    pub returned_options : Gives
+        (codes "proc f {} {return -code 9 -options {-code error -errorcode {A 1}} x}; list "
+        ++ codes "[catch f m o] $m $o")
+        (codes "1 x {-code 1 -level 0 -errorcode {A 1}}")
     pub later_options_win : Gives (codes
         "proc f {} {return -options {-code error} -code ok x}; catch f") (codes "0")
     pub bad_code : Fails (codes "return -code broke x") (codes "bad completion code \"broke\"")
     pub bad_return_level : Fails (codes "return -level -1 x") (codes "bad option \"-1\"")
-    pub redefined : Gives (codes "interp create -safe c; proc redo {} {c eval {proc f {} {return new}}}; interp alias c redo {} redo; c eval {proc f {} {redo; return old}; list [f] [f]}") (codes "old new")
-    pub asked : Gives (codes "interp create -safe c; proc answer k {interp eval c [list set seen $k]; return yes}; interp alias c ask {} answer; c eval {list [ask q] $seen}") (codes "yes q")
+    pub redefined : Gives
+        (codes "interp create -safe c; proc redo {} {c eval {proc f {} {return new}}}; interp "
+        ++ codes "alias c redo {} redo; c eval {proc f {} {redo; return old}; list [f] [f]}")
+        (codes "old new")
+    pub asked : Gives
+        (codes "interp create -safe c; proc answer k {interp eval c [list set seen $k]; "
+        ++ codes "return yes}; interp alias c ask {} answer; c eval {list [ask q] $seen}")
+        (codes "yes q")
     pub division : Gives (codes "list [expr {-7 / 2}] [expr {-7 % 2}] [expr {-2 ** 2}]")
         (codes "-4 1 4")
     pub sum_overflow : Fails (codes "expr {9223372036854775807 + 1}") (codes "integer overflow")
@@ -182,8 +213,14 @@ module _ (language : Integers → Table Own Instr) where
         (codes "c")
     pub elseif_branch : Gives (codes "if no {list a} elseif yes then {list b} {list c}") (codes "b")
     pub no_branch : Gives (codes "if 0 {list a}") []
-    pub words_first : Gives (codes "set z 0; list [catch {if {[set z 1]} {list a} elseif} m] $m $z") (codes "1 {wrong # args: should be \"if expr1 ?then? body1 ?elseif expr2 ?then? body2 ...? ?else? ?bodyN?\"} 0")
-    pub behind_else : Fails (codes "if 0 {list a} else {list b} {list c}") (codes "wrong # args: should be \"if expr1 ?then? body1 ?elseif expr2 ?then? body2 ...? ?else? ?bodyN?\"")
+    pub words_first : Gives
+        (codes "set z 0; list [catch {if {[set z 1]} {list a} elseif} m] $m $z")
+        (codes "1 {wrong # args: should be \"if expr1 ?then? body1 ?elseif expr2 ?then? body2 "
+        ++ codes "...? ?else? ?bodyN?\"} 0")
+    pub behind_else : Fails
+        (codes "if 0 {list a} else {list b} {list c}")
+        (codes "wrong # args: should be \"if expr1 ?then? body1 ?elseif expr2 ?then? body2 "
+        ++ codes "...? ?else? ?bodyN?\"")
     pub later_condition : Gives (codes "set z 0; if 1 {list a} elseif {[set z 1]} {list b}; set z")
         (codes "0")
     pub no_boolean : Fails (codes "if {\"maybe\"} {list a}")
@@ -196,7 +233,11 @@ module _ (language : Integers → Table Own Instr) where
     pub next_continues : Gives (codes "catch {for {} 1 continue {}}") (codes "4")
     pub start_ends : Gives (codes "set z 0; list [catch {for {error a} 1 {} {set z 1}} m] $m $z")
         (codes "1 a 0")
-    pub stopped_loop : Gives (codes "interp create -safe c; c limit commands -value 20; set r [catch {c eval {catch {while 1 {}} y}} m]; c limit commands -value {}; list $r $m [c eval {info cmdcount}] [c eval {info exists y}]") (codes "1 {command count limit exceeded} 21 0")
+    pub stopped_loop : Gives
+        (codes "interp create -safe c; c limit commands -value 20; set r [catch {c eval "
+        ++ codes "{catch {while 1 {}} y}} m]; c limit commands -value {}; list $r $m [c eval "
+        ++ codes "{info cmdcount}] [c eval {info exists y}]")
+        (codes "1 {command count limit exceeded} 21 0")
     pub loop_stopped : Stops 50 (codes "catch {while 1 {}}")
     pub turns_refused : Stops 6 (codes "foreach x {a b c} {set y $x}")
     pub turns_made : GivesWithin 7 (codes "foreach x {a b c} {set y $x}") []
@@ -208,7 +249,8 @@ module _ (language : Integers → Table Own Instr) where
         "list [switch b default {list a} b {list c}] [switch -nocase -- B b {list d}]")
         (codes "c d")
     pub switch_words : Gives (codes "list [catch {switch a b} m] $m [catch {switch -x a b c} m] $m")
-        (codes "1 {wrong # args: should be \"switch ?option ...? string ?pattern body ...?\"} 1 {bad option \"-x\"}")
+        (codes "1 {wrong # args: should be \"switch ?option ...? string ?pattern body ...?\"} "
+        ++ codes "1 {bad option \"-x\"}")
     pub lmap : Gives (codes "lmap a {1 2 3} b {4 5} {list $a $b}") (codes "{1 4} {2 5} {3 {}}")
     pub lmap_ends : Gives (codes
         "lmap x {a b c d} {if {$x eq {b}} continue; if {$x eq {d}} break; set x}") (codes "a c")
@@ -244,12 +286,24 @@ module _ (language : Integers → Table Own Instr) where
         (codes "1 4 1 {k 1 k 2}")
     pub kept_list : Gives (codes "set l {a  b}; llength $l; append l {  c}; list [llength $l] $l")
         (codes "3 {a  b  c}")
-    pub string_parts : Gives (codes "list [string length h\\u00e9llo] [string first {} abc] [string compare a B] [string compare -nocase a B]") (codes "5 -1 1 -1")
-    pub string_is : Gives (codes "list [string is digit 12] [string is alpha {}] [string is alpha -strict {}] [string is list -strict {}]") (codes "1 1 0 1")
+    pub string_parts : Gives
+        (codes "list [string length h\\u00e9llo] [string first {} abc] [string compare a B] "
+        ++ codes "[string compare -nocase a B]")
+        (codes "5 -1 1 -1")
+    pub string_is : Gives
+        (codes "list [string is digit 12] [string is alpha {}] [string is alpha -strict {}] "
+        ++ codes "[string is list -strict {}]")
+        (codes "1 1 0 1")
     pub lassign : Gives (codes "list [lassign {a b c} x y] $x $y [lassign {a} x y] $x $y")
         (codes "c a b {} a {}")
-    pub insertion : Gives (codes "list [linsert {a b} end c] [lreplace {a b c} 1 1 x y] [lreverse {a b c}] [lrepeat 2 a b] [concat {a b} { c }] [join {a b} -]") (codes "{a b c} {a x y c} {c b a} {a b a b} {a b c} a-b")
-    pub dict_built : Gives (codes "set d [dict create a 1 b 2 a 3]; list $d [dict exists $d b] [dict exists $d c] [dict replace $d c 4] [dict remove $d a]") (codes "{a 3 b 2} 1 0 {a 3 b 2 c 4} {b 2}")
+    pub insertion : Gives
+        (codes "list [linsert {a b} end c] [lreplace {a b c} 1 1 x y] [lreverse {a b c}] "
+        ++ codes "[lrepeat 2 a b] [concat {a b} { c }] [join {a b} -]")
+        (codes "{a b c} {a x y c} {c b a} {a b a b} {a b c} a-b")
+    pub dict_built : Gives
+        (codes "set d [dict create a 1 b 2 a 3]; list $d [dict exists $d b] [dict exists $d "
+        ++ codes "c] [dict replace $d c 4] [dict remove $d a]")
+        (codes "{a 3 b 2} 1 0 {a 3 b 2 c 4} {b 2}")
     pub missing_key : Fails (codes "dict get {a 1} b") (codes "key \"b\" not known in dictionary")
     pub other_subcommand : Fails (codes "dict nosuch") (codes "unknown subcommand \"nosuch\"")
     pub lset : Gives (codes "set l {a {b c}}; lset l 1 0 z; set l") (codes "a {z c}")
@@ -264,7 +318,8 @@ module _ (language : Integers → Table Own Instr) where
         (codes "{k 1} {k 5} 1 {k 5}")
     pub dict_grown : Gives (codes "dict append d a x y; dict lappend d l p {q r}; set d")
         (codes "a xy l {p {q r}}")
-    pub lsort : Gives (codes "list [lsort -integer -unique {3 0x3 1 03 2}] [lsort -decreasing {b a B}]")
+    pub lsort : Gives
+        (codes "list [lsort -integer -unique {3 0x3 1 03 2}] [lsort -decreasing {b a B}]")
         (codes "{1 2 03} {b a B}")
     pub lsearch : Gives (codes "list [lsearch -all -inline {ab b ac} a*] [lsearch {a b} c]")
         (codes "{ab ac} -1")
@@ -277,7 +332,10 @@ module _ (language : Integers → Table Own Instr) where
     pub array : Gives (codes
         "array set t {x 1 y 2}; set t(z) 3; unset t(x); set t(x) 4; array get t")
         (codes "y 2 z 3 x 4")
-    pub array_patterns : Gives (codes "array set t {ab 1 c 2 ad 3}; list [array names t] [array names t a*] [array get t c] [array unset t a?] [array size t]") (codes "{ab c ad} {ab ad} {c 2} {} 1")
+    pub array_patterns : Gives
+        (codes "array set t {ab 1 c 2 ad 3}; list [array names t] [array names t a*] [array "
+        ++ codes "get t c] [array unset t a?] [array size t]")
+        (codes "{ab c ad} {ab ad} {c 2} {} 1")
     pub no_array : Gives (codes
         "set s 1; list [array exists s] [array get s] [array names s] [array size s] $s")
         (codes "0 {} {} 0 1")
@@ -289,7 +347,8 @@ module _ (language : Integers → Table Own Instr) where
         (codes "1 {missing value to go with key} 0")
     pub no_elements : Gives (codes
         "set s 1; list [catch {array set s {k 2}} m] $m [catch {array set s {}} m] $m")
-        (codes "1 {can't set \"s(k)\": variable isn't array} 1 {can't set \"s\": variable isn't array}")
+        (codes "1 {can't set \"s(k)\": variable isn't array} 1 {can't set \"s\": variable "
+        ++ codes "isn't array}")
     pub info_args : Gives (codes
         "proc f {a {b 2} args} {list $a $b}; list [info args f] [info body f]")
         (codes "{a b args} {list $a $b}")
@@ -298,7 +357,10 @@ module _ (language : Integers → Table Own Instr) where
         (codes "1 2 0 {}")
     pub no_default : Fails (codes "proc f a {}; info default f b x") (codes "bad name \"b\"")
     pub no_procedure : Fails (codes "info args set") (codes "\"set\" isn't a procedure")
-    pub info_commands : Gives (codes "interp hide {} lset; proc lf {} {}; list [info commands l*] [info procs]") (codes "{lappend lmap list llength lindex lrange linsert lreplace lassign lrepeat lreverse lsearch lsort lf} lf")
+    pub info_commands : Gives
+        (codes "interp hide {} lset; proc lf {} {}; list [info commands l*] [info procs]")
+        (codes "{lappend lmap list llength lindex lrange linsert lreplace lassign lrepeat "
+        ++ codes "lreverse lsearch lsort lf} lf")
     pub info_complete : Gives (codes
         "list [info complete {list a}] [info complete \\{] [info complete \"{a}b\"]")
         (codes "1 0 1")

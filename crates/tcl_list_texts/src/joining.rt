@@ -34,7 +34,8 @@ fn text_value(alloc: Global, made: String) -> Result<Value, Refusal>
 /// Adds a separator and a text.
 fn add(alloc: Global, made: &mut String, separator: &str, more: &str) -> Result<(), Refusal>
     requires { length (string_bytes made.old) ≤ 16777216 }
-    ensures added { OnOk result (string_bytes made.new ≡ string_bytes made.old ++ (separator.now ++ more.now)) }
+    ensures added { OnOk result
+        (string_bytes made.new ≡ string_bytes made.old ++ (separator.now ++ more.now)) }
     ensures within { OnOk result (length (string_bytes made.new) ≤ 16777216) }
     ensures refused { (rest : Bytes ℕ) → IfErr result
         (λ e. Refuses e (limited

@@ -66,7 +66,8 @@ fn put_in_place(
     path: &[Value],
     value: &Value,
 ) -> bool
-    ensures changed { OnTrue result (element_changed style path.now value.now own.old ≡ Ok own.new) }
+    ensures changed { OnTrue result
+        (element_changed style path.now value.now own.old ≡ Ok own.new) }
     ensures unchanged { OnFalse result (own.new ≡ own.old) }
 {
     if path.len() < 2 || path.len() > MOST_LEVELS {

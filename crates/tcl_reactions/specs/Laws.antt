@@ -26,8 +26,9 @@ PlayedIsReact O I = (prog : Table O I) (S V : Tree O) (ms : List (Move O)) (n : 
     Lived prog S (beginner ms n) V z → IsOver z →
     React prog S ms n (outcome z) z.outs (tree_left z V)
 
--- What is played leaves each depth as it was, where above each interpreter that stands all stand and
--- are in use as deeply: all entries came to their end by then, also where the playing was cut short.
+-- What is played leaves each depth as it was, where above each interpreter that stands all stand
+-- and are in use as deeply: all entries came to their end by then, also where the playing was cut
+-- short.
 abbrev pub DepthsStay : Type 0 → Type 0 → Type 0
 DepthsStay O I = (prog : Table O I) (S V : Tree O) (o z : Player O) →
     Lived prog S o V z → IsUpright S → (q : Place) → depth_of (V q) ≡ depth_of (S q)
@@ -38,10 +39,10 @@ AreFromAbove [] = Unit {0}
 AreFromAbove (Come (Replied (Cut Over)) ∷ ms) = Prim.⊥
 AreFromAbove (m ∷ ms) = AreFromAbove ms
 
--- A tree, moves and a budget come to one outcome, whichever of the six it is: all that the tree does
--- by itself with these moves and this budget is the same, what it tells and what it leaves. (Why a
--- call is ended from outside is told to nobody. Of moves as they are recorded and played each such
--- end is one by what is above; so the law is said of these.)
+-- A tree, moves and a budget come to one outcome, whichever of the six it is: all that the tree
+-- does by itself with these moves and this budget is the same, what it tells and what it leaves.
+-- (Why a call is ended from outside is told to nobody. Of moves as they are recorded and played
+-- each such end is one by what is above; so the law is said of these.)
 abbrev pub OneOutcome : Type 0 → Type 0 → Type 0
 OneOutcome O I = (prog : Table O I) (S : Tree O) (ms : List (Move O)) (n : ℕ) (x y : Outcome)
     (outs told : List (Event O)) (V W : Tree O) → AreFromAbove ms → React prog S ms n x outs V →

@@ -56,8 +56,9 @@ abbrev pub IsLeft : What Own → Type 0
 IsLeft (Done None r) = Unit {0}
 IsLeft x = Prim.⊥
 
--- A recorder goes as the outside that it holds. Where nothing is missing from the record afterwards,
--- the happening is recorded; and that an entry is done is told only where nothing is missing.
+-- A recorder goes as the outside that it holds. Where nothing is missing from the record
+-- afterwards, the happening is recorded; and that an entry is done is told only where nothing is
+-- missing.
 pub record Records {S : Type 0} (goes : Going S) (T : Tree Own) (o : Recorder S) (s : Wait)
     (ev : Event Own) (z : Recorder S) : Type 0 where
   pub outside : goes T o.outside s ev z.outside

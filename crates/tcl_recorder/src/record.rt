@@ -35,7 +35,8 @@ impl Model for Record {
 
     ghost Value = { RecordView };
 
-    ghost view = { λ a. record { watched = a.watched.items; crossings = events_of a.crossings.items } };
+    ghost view = { λ a. record
+        { watched = a.watched.items; crossings = events_of a.crossings.items } };
 }
 
 impl Record {

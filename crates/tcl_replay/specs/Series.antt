@@ -31,8 +31,8 @@ pub record Run {S : Type 0} (step : S → Request → HostReply → S → Type 0
   pub lowering : (l : ℕ) → limit_at (tree_of old c) ≡ Some l →
       AreLowering l (moves_of kept.crossings)
 
--- What whoever holds the tree does with it between two runs: nothing by which the limit is raised or
--- taken away, or the count falls.
+-- What whoever holds the tree does with it between two runs: nothing by which the limit is raised
+-- or taken away, or the count falls.
 pub record Between (c : Path) (was is : Table) : Type 0 where
   pub limit : (l : ℕ) → limit_at (tree_of was c) ≡ Some l → (k : ℕ) ×
       (limit_at (tree_of is c) ≡ Some k) × (k ≤ l)
@@ -47,8 +47,8 @@ pub data InTurn {S : Type 0} (step : S → Request → HostReply → S → Type 
   ran : {n k : ℕ} {t u : Table} → InTurn step c first n t → Run step c t k u →
       InTurn step c first (n + k) u
 
--- With a count limit at first, no more steps are made in all of them than lead to the greater of the
--- limit and the count before: to each number that both are at most.
+-- With a count limit at first, no more steps are made in all of them than lead to the greater of
+-- the limit and the count before: to each number that both are at most.
 abbrev pub RunsStayWithin : {S : Type 0} → (S → Request → HostReply → S → Type 0) → Type 0
 RunsStayWithin {S} step = (c : Path) (first last : Table) (n l b : ℕ) → IsBelowTheTop c →
     InTurn step c first n last → limit_at (tree_of first c) ≡ Some l → l ≤ b →

@@ -206,9 +206,9 @@ module _ {S : Type 0} (step : S → Request → HostReply → S → Type 0) (old
       AsLimited (tree_of old (c ++ q)) (tree_of new (c ++ q)) ×
       (IsStanding (c ++ q) τ → KeepsLimits (tree_of old (c ++ q)) (tree_of new (c ++ q))))
 
--- With a count limit that no entry of the record raises or takes away, the watched interpreter, safe
--- or trusted, is counted at most to the greater of the limit and the count before: to each number
--- that both are at most.
+-- With a count limit that no entry of the record raises or takes away, the watched interpreter,
+-- safe or trusted, is counted at most to the greater of the limit and the count before: to each
+-- number that both are at most.
 abbrev pub CountStaysWithin : Table → Path → List (Event Own) → Table → Type 0
 CountStaysWithin old c crossings new = IsBelowTheTop c → (l b : ℕ) →
     limit_at (tree_of old c) ≡ Some l → AreLowering l (moves_of crossings) → l ≤ b →

@@ -20,8 +20,8 @@ pub fn records_agree_until<G: Host, H: Host>()
 {}
 
 /// A watched interpreter with a count limit makes, in any number of evaluations, no more steps than
-/// lead from its count to that limit, and none where its count is past it; where neither an entry of
-/// a record nor whoever holds the tree raises the limit or takes it away.
+/// lead from its count to that limit, and none where its count is past it; where neither an entry
+/// of a record nor whoever holds the tree raises the limit or takes it away.
 pub fn runs_stay_within<H: Host>()
     ensures { RunsStayWithin H.step }
 {

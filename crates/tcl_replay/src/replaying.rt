@@ -248,7 +248,8 @@ fn play_entry<'a>(
     target: Vec<Text>,
     entry: Entry,
 ) -> Result<(), AllocError>
-    ensures serves { OnOk result (Serves (marks_of tree.old).integers (tree_of tree.old) (player_of player.old)
+    ensures serves { OnOk result
+        (Serves (marks_of tree.old).integers (tree_of tree.old) (player_of player.old)
         target.items (whole_entry entry) (tree_of tree.new) (player_of player.new)) }
     ensures marks { OnOk result (marks_of tree.new ≡ marks_of tree.old) }
     ensures left { length (player_of player.new).left ≤ length (player_of player.old).left }

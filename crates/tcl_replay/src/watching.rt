@@ -150,7 +150,8 @@ fn watch<H: Host>(
     watched: &[Text],
 ) -> (H, Result<(End, Record), Unwatched>)
     requires fit { unfit tree.old path.now script.now limit ≡ None }
-    ensures watches { Watches H.step tree.old host path.now script.now limit watched.now tree.new result.0
+    ensures watches { Watches H.step tree.old host path.now script.now limit watched.now
+        tree.new result.0
         result.1 }
     ensures marks { IfEnds result.1 (λ _. marks_of tree.new ≡ marks_of tree.old) }
 {

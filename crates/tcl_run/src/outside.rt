@@ -106,7 +106,8 @@ pub trait Outside {
         down: &[Text],
         entry: &Entry,
     ) -> Result<(), AllocError>
-        ensures told { OnOk result ((p a : Path) → Names tree.now caller p → rise_to (Some up) p ≡ Some a →
+        ensures told { OnOk result
+            ((p a : Path) → Names tree.now caller p → rise_to (Some up) p ≡ Some a →
             Enters goes (tree_of tree.now) self.old p up a down.now (whole_entry entry.now)
             self.new) }
         ensures lost { loses self.old self.new }
@@ -225,7 +226,8 @@ pub trait Outside {
         entry: &Entry,
         status: i64,
     ) -> Result<(), AllocError>
-        ensures told { OnOk result (hands_in → (p : Path) → Names tree.now caller p → rise_to up p ≡ None →
+        ensures told { OnOk result
+            (hands_in → (p : Path) → Names tree.now caller p → rise_to up p ≡ None →
             goes (tree_of tree.now) self.old (Some (up, whole_entry entry.now))
             (event p (Back up (Replied (Exit status)))) self.new) }
         ensures lost { loses self.old self.new }

@@ -200,7 +200,8 @@ impl Standing {
         entry: &Entry,
     ) -> Result<Turn, Interruption>
         requires { IsFresh self.old }
-        ensures comes { (p : Path) → Names tree.now caller p → ComesNext goes Prim.⊥ (tree_of tree.now)
+        ensures comes { (p : Path) → Names tree.now caller p → ComesNext goes Prim.⊥
+            (tree_of tree.now)
             self.old p up (whole_entry entry.now) self.new result }
         ensures no_entry { OnEntry result Prim.⊥ }
     {

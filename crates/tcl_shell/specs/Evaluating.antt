@@ -61,8 +61,8 @@ IsRefused TooLong e = (e ≡ Failed too_long) ⊎ (e ≡ OutOfMemory)
 IsRefused _ e = e ≡ OutOfMemory
 
 -- The script ran in the interpreter at the path with so many steps, and this is what its end comes
--- to; or it was too long to be run; or memory was wanted, before it ran, on its way, or for the text
--- of its end, and the host was asked what the script asks it first.
+-- to; or it was too long to be run; or memory was wanted, before it ran, on its way, or for the
+-- text of its end, and the host was asked what the script asks it first.
 abbrev pub RunsIn : {S : Type 0} → Serving S → Tree → S → Path → Text → ℕ → Ending → Tree → S →
     Type 0
 RunsIn step t h path script limit e u z = (end : End) ×

@@ -50,7 +50,8 @@ fn run<H: Host>(alloc: Global, host: &mut H, options: &Options<'_>, script: &str
     }
 }
 
-/// How an evaluation ends. Where memory is wanted, the host was asked what the script asks it first.
+/// How an evaluation ends. Where memory is wanted, the host was asked what the script asks it
+/// first.
 fn ended<H: Host>(
     alloc: Global,
     host: &mut H,
@@ -58,7 +59,8 @@ fn ended<H: Host>(
     script: &str,
     limit: u64,
 ) -> Ending
-    ensures ends { EndsAs H.step begun.old.tree host.old begun.old.path.items script.now limit result
+    ensures ends { EndsAs H.step begun.old.tree host.old begun.old.path.items
+        script.now limit result
         begun.new.tree host.new }
     ensures path { begun.new.path ≡ begun.old.path }
 {

@@ -17,8 +17,8 @@ use tcl_host::host::Host;
 /// n.
 ///
 /// The first word is the program's name. The script makes at most N steps, from 0 to 1000000000000,
-/// or 10000000 where the words don't say. Where memory is wanted, the host was asked until then what
-/// reading the script, setting its variables and running it ask it first.
+/// or 10000000 where the words don't say. Where memory is wanted, the host was asked until then
+/// what reading the script, setting its variables and running it ask it first.
 pub fn run_args<H: Host>(alloc: Global, words: &[&str], host: &mut H) -> u8
     ensures { Runs H.step (map (λ word. word.now) words.now) host.old result host.new }
 {

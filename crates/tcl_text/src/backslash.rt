@@ -68,7 +68,8 @@ fn read_hexadecimal(letter: char, text: &str, width: usize, greatest: u32) -> (c
     requires ascii { letter < 128 }
     requires small { greatest ≤ 0x10_FFFF }
     ensures meaning { encode_utf8 result.0 ≡ (hexadecimal letter width greatest text.now).meaning }
-    ensures rest { result.1.now ≡ drop (hexadecimal letter width greatest text.now).taken (letter ∷ text.now) }
+    ensures rest { result.1.now ≡ drop (hexadecimal letter width greatest text.now).taken
+        (letter ∷ text.now) }
 {
     let (value, rest) = read_number(text, width, 16, greatest);
     if rest.len() == text.len() {

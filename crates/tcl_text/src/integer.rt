@@ -162,7 +162,8 @@ pub fn write_int(alloc: Global, number: i64) -> Result<String, AllocError>
 /// # Errors
 /// Want of memory, which leaves the text as it was.
 pub fn push_int(text: &mut String, number: i64) -> Result<(), AllocError>
-    ensures pushed { OnOk result (string_bytes text.new ≡ string_bytes text.old ++ signed_decimal number) }
+    ensures pushed { OnOk result
+        (string_bytes text.new ≡ string_bytes text.old ++ signed_decimal number) }
     ensures unchanged { OnErr result (string_bytes text.new ≡ string_bytes text.old) }
 {
     text.push_str(Buffer::new().format(number))

@@ -211,8 +211,10 @@ impl UnitEnd {
 
     /// The text before the first backslash or the end of the run, and from there on.
     fn split_plain(self, text: &str) -> (&str, &str)
-        ensures plain { result.0.now ≡ take (prefix_len (is_plain (stop_test self)) text.now) text.now }
-        ensures rest { result.1.now ≡ drop (prefix_len (is_plain (stop_test self)) text.now) text.now }
+        ensures plain { result.0.now ≡ take
+            (prefix_len (is_plain (stop_test self)) text.now) text.now }
+        ensures rest { result.1.now ≡ drop
+            (prefix_len (is_plain (stop_test self)) text.now) text.now }
     {
         let bytes = text.as_bytes();
         let mut count = 0;

@@ -140,7 +140,8 @@ fn push_hash_mark(out: &mut String, comment: bool) -> Result<(), AllocError>
 }
 
 fn push_element(out: &mut String, element: &str, first: bool) -> Result<(), AllocError>
-    ensures added { OnOk result (string_bytes out.new ≡ string_bytes out.old ++ written first element.now) }
+    ensures added { OnOk result
+        (string_bytes out.new ≡ string_bytes out.old ++ written first element.now) }
     ensures kept { Extends (string_bytes out.old) (string_bytes out.new) }
 {
     match form_of(element, first) {
@@ -162,7 +163,8 @@ fn push_element(out: &mut String, element: &str, first: bool) -> Result<(), Allo
 /// # Errors
 /// Want of memory, which leaves the text as it was.
 pub fn write_element(out: &mut String, element: &str, first: bool) -> Result<(), AllocError>
-    ensures added { OnOk result (string_bytes out.new ≡ string_bytes out.old ++ written first element.now) }
+    ensures added { OnOk result
+        (string_bytes out.new ≡ string_bytes out.old ++ written first element.now) }
     ensures unchanged { OnErr result (string_bytes out.new ≡ string_bytes out.old) }
 {
     let len = out.as_str().len();

@@ -128,7 +128,8 @@ impl Tree {
 
     /// Marks it as one in which an evaluation ended for want of memory.
     pub fn mark_broken(&mut self)
-        ensures marks { marks_of self.new ≡ record { integers = (marks_of self.old).integers; broken = true } }
+        ensures marks { marks_of self.new ≡ record
+            { integers = (marks_of self.old).integers; broken = true } }
         ensures tree { tree_of self.new ≡ tree_of self.old }
         ensures keys { key_of self.new ≡ key_of self.old }
     {

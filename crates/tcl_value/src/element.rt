@@ -244,7 +244,8 @@ impl Element {
         requires own { IsElement self.old }
         requires change { IsChange change }
         requires room { length (element_text self.old) + room ≤ 16777216 }
-        ensures change { OnTrue result (InnerChange (entry_changed path.now change (element_text self.old)) room
+        ensures change { OnTrue result
+            (InnerChange (entry_changed path.now change (element_text self.old)) room
             (element_text self.old) (element_text self.new)) }
         ensures element { IsElement self.new }
         ensures unchanged { OnFalse result (element_text self.new ≡ element_text self.old) }
@@ -340,7 +341,8 @@ pub(crate) fn change_shared(
 ) -> bool
     requires change { IsChange change }
     requires room { length (write (flat entries.old.value)) + room ≤ 16777216 }
-    ensures change { OnTrue result (DictChange path.now change room entries.old.value entries.new.value) }
+    ensures change { OnTrue result
+        (DictChange path.now change room entries.old.value entries.new.value) }
     ensures unchanged { OnFalse result (entries.new.value ≡ entries.old.value) }
 {
     match Rc::make_mut(entries) {
@@ -395,7 +397,8 @@ fn append_by(grown: &mut Rc<Measured>, change: Change, room: usize) -> bool
     requires own { IsWithin grown.old.value }
     requires change { IsChange change }
     requires room { length grown.old.value + room ≤ 16777216 }
-    ensures change { OnTrue result (InnerChange (changed_by change grown.old.value) room grown.old.value
+    ensures change { OnTrue result
+        (InnerChange (changed_by change grown.old.value) room grown.old.value
         grown.new.value) }
     ensures within { IsWithin grown.new.value }
     ensures unchanged { OnFalse result (grown.new.value ≡ grown.old.value) }

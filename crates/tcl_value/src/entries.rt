@@ -312,7 +312,8 @@ impl Entries {
     pub(crate) fn remove(&mut self, key: &Text) -> Result<(), ValueError>
         ensures removed { OnOk result (self.new ≡ without self.old key.now) }
         ensures within { OnOk result (IsWithin (write (flat self.new))) }
-        ensures refused { IsErrOf result ValueError.TooLong ↔ IsPast (write (flat (without self.old key.now))) }
+        ensures refused { IsErrOf result ValueError.TooLong ↔ IsPast
+            (write (flat (without self.old key.now))) }
         ensures unchanged { OnErr result (self.new ≡ self.old) }
     {
         match self.find(key) {
@@ -385,7 +386,8 @@ impl Entries {
     ) -> bool
         requires change { IsChange change }
         requires room { length (write (flat self.old)) + room ≤ 16777216 }
-        ensures change { OnTrue result (DictChange (key.now ∷ path.now) change room self.old self.new) }
+        ensures change { OnTrue result
+            (DictChange (key.now ∷ path.now) change room self.old self.new) }
         ensures unchanged { OnFalse result (self.new ≡ self.old) }
     {
         self.reads_back();
@@ -470,7 +472,8 @@ impl Entries {
     /// Want of memory, where a part of it may have been written.
     #[cycle(write)]
     pub(crate) fn write_to(&self, out: &mut String) -> Result<(), AllocError>
-        ensures written { OnOk result (string_bytes out.new ≡ string_bytes out.old ++ write (flat self.now)) }
+        ensures written { OnOk result
+            (string_bytes out.new ≡ string_bytes out.old ++ write (flat self.now)) }
         ensures kept { Extends (string_bytes out.old) (string_bytes out.new) }
     {
         'entries: for (index, value) in self.values.iter().enumerate() {

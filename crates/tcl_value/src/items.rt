@@ -89,7 +89,8 @@ impl Items {
     /// The element at a place.
     pub(crate) fn get(&self, index: usize) -> &Element
         requires { index < length self.now }
-        ensures text { element_text result.now ≡ slice_index_or self.now index (element_text result.now) }
+        ensures text { element_text result.now ≡ slice_index_or self.now index
+            (element_text result.now) }
         ensures element { IsElement result.now }
     {
         &self.elements[index]
@@ -133,7 +134,8 @@ impl Items {
     /// Want of memory, where a part of it may have been written.
     #[cycle(write)]
     pub(crate) fn write_to(&self, out: &mut String) -> Result<(), AllocError>
-        ensures written { OnOk result (string_bytes out.new ≡ string_bytes out.old ++ write self.now) }
+        ensures written { OnOk result
+            (string_bytes out.new ≡ string_bytes out.old ++ write self.now) }
         ensures kept { Extends (string_bytes out.old) (string_bytes out.new) }
     {
         'elements: for (index, element) in self.elements.iter().enumerate() {
@@ -280,7 +282,8 @@ impl Items {
         requires { AreElements elements.items }
         ensures extended { OnOk result (self.new ≡ self.old ++ texts elements.items) }
         ensures light { OnOk result (weight self.new ≤ most) }
-        ensures refused { IsErrOf result ValueError.TooLong ↔ (most < weight (self.old ++ texts elements.items)) }
+        ensures refused { IsErrOf result ValueError.TooLong ↔
+            (most < weight (self.old ++ texts elements.items)) }
         ensures unchanged { OnErr result (self.new ≡ self.old) }
     {
         let mut elements = elements;
@@ -304,7 +307,8 @@ impl Items {
         requires { AreElements elements.items }
         ensures extended { OnOk result (self.new ≡ self.old ++ texts elements.items) }
         ensures within { OnOk result (IsWithin (write self.new)) }
-        ensures refused { IsErrOf result ValueError.TooLong ↔ IsPast (write (self.old ++ texts elements.items)) }
+        ensures refused { IsErrOf result ValueError.TooLong ↔ IsPast
+            (write (self.old ++ texts elements.items)) }
         ensures unchanged { OnErr result (self.new ≡ self.old) }
     {
         self.extend_light(elements, MOST_WEIGHT)
@@ -331,7 +335,8 @@ impl Items {
         requires in_bounds { index < length self.old }
         ensures set { OnOk result (self.new ≡ slice_set self.old index (element_text element)) }
         ensures light { OnOk result (weight self.new ≤ most) }
-        ensures refused { IsErr result ↔ (most < weight (slice_set self.old index (element_text element))) }
+        ensures refused { IsErr result ↔
+            (most < weight (slice_set self.old index (element_text element))) }
         ensures error { IfErr result (λ e. e ≡ ValueError.TooLong) }
         ensures unchanged { OnErr result (self.new ≡ self.old) }
     {
@@ -355,7 +360,8 @@ impl Items {
         requires in_bounds { index < length self.old }
         ensures set { OnOk result (self.new ≡ slice_set self.old index (element_text element)) }
         ensures within { OnOk result (IsWithin (write self.new)) }
-        ensures refused { IsErr result ↔ IsPast (write (slice_set self.old index (element_text element))) }
+        ensures refused { IsErr result ↔ IsPast
+            (write (slice_set self.old index (element_text element))) }
         ensures error { IfErr result (λ e. e ≡ ValueError.TooLong) }
         ensures unchanged { OnErr result (self.new ≡ self.old) }
     {
@@ -367,7 +373,8 @@ impl Items {
     fn put_at(&mut self, place: usize, element: Element, room: usize) -> bool
         requires element { IsElement element }
         requires ends { ends_in_backslash (element_text element) ≡ false }
-        ensures put { OnTrue result (ListPut (place ∷ []) (element_text element) room self.old self.new) }
+        ensures put { OnTrue result
+            (ListPut (place ∷ []) (element_text element) room self.old self.new) }
         ensures unchanged { OnFalse result (self.new ≡ self.old) }
     {
         let most = self.weight + room as u128;
@@ -414,7 +421,8 @@ impl Items {
         requires element { IsElement element }
         requires ends { ends_in_backslash (element_text element) ≡ false }
         requires room { length (write self.old) + room ≤ 16777216 }
-        ensures put { OnTrue result (ListPut path.now (element_text element) room self.old self.new) }
+        ensures put { OnTrue result
+            (ListPut path.now (element_text element) room self.old self.new) }
         ensures unchanged { OnFalse result (self.new ≡ self.old) }
     {
         match path {

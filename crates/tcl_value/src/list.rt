@@ -194,7 +194,8 @@ impl List {
     /// memory.
     pub fn push_from(&mut self, list: &List, index: usize) -> Result<(), ValueError>
         requires { index < length list.now }
-        ensures pushed { OnOk result (self.new ≡ self.old ++ slice_index_or list.now index [] ∷ []) }
+        ensures pushed { OnOk result
+            (self.new ≡ self.old ++ slice_index_or list.now index [] ∷ []) }
         ensures within { OnOk result (IsWithin (write self.new)) }
         ensures refused { IsErrOf result ValueError.TooLong →
             IsPast (write (self.old ++ slice_index_or list.now index [] ∷ [])) }

@@ -694,7 +694,8 @@ impl Value {
     fn put_element(&mut self, path: &[usize], element: Element) -> bool
         requires element { IsElement element }
         requires ends { ends_in_backslash (element_text element) ≡ false }
-        ensures put { OnTrue result (element_put path.now (element_text element) self.old ≡ Some self.new) }
+        ensures put { OnTrue result
+            (element_put path.now (element_text element) self.old ≡ Some self.new) }
         ensures unchanged { OnFalse result (self.new ≡ self.old) }
     {
         let room = MOST_BYTES - self.text_len();
@@ -737,7 +738,8 @@ impl Value {
     /// is kept as a dict: in place where it isn't shared. Says whether it did; where it didn't,
     /// nothing is changed, and the change is one to be made otherwise.
     pub fn set_inside(&mut self, alloc: Global, path: &[Value], value: &Value) -> bool
-        ensures set { OnTrue result (entry_made path.now (λ _. Some value.now) self.old ≡ Some self.new) }
+        ensures set { OnTrue result
+            (entry_made path.now (λ _. Some value.now) self.old ≡ Some self.new) }
         ensures unchanged { OnFalse result (self.new ≡ self.old) }
     {
         match inner_element(alloc, value, path.len()) {
@@ -781,7 +783,8 @@ impl Value {
     /// and those on the way are kept as dicts: in place where they aren't shared. Says whether it
     /// did; where it didn't, nothing is changed, and the change is one to be made otherwise.
     pub fn remove_inside(&mut self, alloc: Global, path: &[Value], key: &Value) -> bool
-        ensures removed { OnTrue result (entry_made path.now (key_dropped key.now) self.old ≡ Some self.new) }
+        ensures removed { OnTrue result
+            (entry_made path.now (key_dropped key.now) self.old ≡ Some self.new) }
         ensures unchanged { OnFalse result (self.new ≡ self.old) }
     {
         match key.text(alloc) {
@@ -973,7 +976,8 @@ fn elements_of(alloc: Global, values: &[Value]) -> Result<Vec<Element>, AllocErr
 fn put_shared(entries: &mut Rc<Entries>, key: Text, element: Element) -> Result<(), EntryError>
     requires key { IsWithin key }
     requires element { IsElement element }
-    ensures set { OnOk result (entries.new.value ≡ put entries.old.value key (element_text element)) }
+    ensures set { OnOk result
+        (entries.new.value ≡ put entries.old.value key (element_text element)) }
     ensures within { OnOk result (IsWithin (write (flat entries.new.value))) }
     ensures refused { IfErr result
         (λ e. RefusesEntry e (Ok entries.old.value)

@@ -177,7 +177,8 @@ impl Variable {
         value: Value,
         name: &Text,
     ) -> Result<(), FrameError>
-        ensures ok { OnOk result (assigned (element key.now) (Some self.old) value name.now ≡ Ok self.new) }
+        ensures ok { OnOk result
+            (assigned (element key.now) (Some self.old) value name.now ≡ Ok self.new) }
         ensures err { IfErr result
             (λ e. Refuses e (assigned (element key.now) (Some self.old) value name.now)) }
         ensures unchanged { OnErr result (self.new ≡ self.old) }
@@ -246,7 +247,8 @@ impl Variable {
         elements: Vec<(Text, Value)>,
         name: &Text,
     ) -> Result<(), FrameError>
-        ensures ok { OnOk result (extended whole (Some self.old) elements.items name.now ≡ Ok self.new) }
+        ensures ok { OnOk result
+            (extended whole (Some self.old) elements.items name.now ≡ Ok self.new) }
         ensures err { IfErr result
             (λ e. Refuses e (extended whole (Some self.old) elements.items name.now)) }
         ensures unchanged { OnErr result (self.new ≡ self.old) }
@@ -275,7 +277,8 @@ impl Variable {
 
     /// Takes an element out.
     pub fn remove_element(&mut self, key: &str, name: &Text) -> Result<(), FrameError>
-        ensures ok { OnOk result (left_of (element key.now) (Some self.old) name.now ≡ Ok (Some self.new)) }
+        ensures ok { OnOk result
+            (left_of (element key.now) (Some self.old) name.now ≡ Ok (Some self.new)) }
         ensures err { IfErr result
             (λ e. Refuses e (left_of (element key.now) (Some self.old) name.now)) }
         ensures unchanged { OnErr result (self.new ≡ self.old) }

@@ -320,7 +320,8 @@ impl Frame {
         change: Change,
         name: &Text,
     ) -> Result<(), FrameError>
-        ensures ok { OnOk result (change_frame change self.old base.now (seen_part part.entry) name.now
+        ensures ok { OnOk result
+            (change_frame change self.old base.now (seen_part part.entry) name.now
             ≡ Ok self.new) }
         ensures err { IfErr result
             (λ e. Refuses e (change_frame change self.old base.now (seen_part part.entry)

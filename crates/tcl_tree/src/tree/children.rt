@@ -104,7 +104,8 @@ impl Tree {
         safe: bool,
     ) -> Result<(), TreeError>
         ensures may { OnOk result (MayMake (tree_of self.old) path.now name.now) }
-        ensures made { OnOk result (Makes (tree_of self.old) (tree_of self.new) path.now name.now safe) }
+        ensures made { OnOk result
+            (Makes (tree_of self.old) (tree_of self.new) path.now name.now safe) }
         ensures refused { IfErr result (λ e. RefusesMake e (tree_of self.old) path.now name.now) }
         ensures unchanged { OnErr result (tree_of self.new ≡ tree_of self.old) }
         ensures keys { (q : List (List ℕ)) (k : ℕ) → key_of self.old q ≡ Some k →
@@ -252,9 +253,11 @@ impl Tree {
     /// TreeError 301 where there is none, and 303 where an evaluation is in progress in it.
     pub fn delete(&mut self, path: &[Text], name: &Text) -> Result<(), TreeError>
         ensures there { OnOk result (IsSome (tree_of self.old (path.now ++ name.now ∷ []))) }
-        ensures idle { OnOk result ((v : NodeView) → tree_of self.old (path.now ++ name.now ∷ []) ≡ Some v →
+        ensures idle { OnOk result
+            ((v : NodeView) → tree_of self.old (path.now ++ name.now ∷ []) ≡ Some v →
             v.depth ≡ 0) }
-        ensures dropped { OnOk result (Drops (tree_of self.old) (tree_of self.new) path.now name.now) }
+        ensures dropped { OnOk result
+            (Drops (tree_of self.old) (tree_of self.new) path.now name.now) }
         ensures refused { IfErr result (λ e. RefusesDrop e (tree_of self.old) path.now name.now) }
         ensures unchanged { OnErr result (tree_of self.new ≡ tree_of self.old) }
         ensures kept { OnErr result ((q : List (List ℕ)) → key_of self.new q ≡ key_of self.old q) }

@@ -173,7 +173,8 @@ impl Tree {
     /// evaluation is in progress; 305. Want of memory, where it isn't.
     pub fn rename(&mut self, path: &[Text], name: &Text, new_name: Text) -> Result<(), TreeError>
         ensures there { OnOk result (IsSome (tree_of self.old path.now)) }
-        ensures renamed { OnOk result (Renames (tree_of self.old) (tree_of self.new) path.now name.now new_name) }
+        ensures renamed { OnOk result
+            (Renames (tree_of self.old) (tree_of self.new) path.now name.now new_name) }
         ensures refused { IfErr result
             (λ e. RefusesRename e (tree_of self.old) path.now name.now new_name) }
         ensures unchanged { OnErr result (tree_of self.new ≡ tree_of self.old) }

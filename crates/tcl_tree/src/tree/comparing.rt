@@ -76,7 +76,8 @@ impl Tree {
             p.0 p.1) }
         ensures less { IfSome result
             (λ p. left (get self.now.nodes) p.0 ≤ left_behind (get self.now.nodes) key) }
-        ensures none { IfNone result (SameBelow (get self.now.nodes) (get other.now.nodes) self.now.root
+        ensures none { IfNone result
+            (SameBelow (get self.now.nodes) (get other.now.nodes) self.now.root
             other.now.root) }
     {
         let mut at = key;
@@ -103,7 +104,8 @@ impl Tree {
             p.0 p.1) }
         ensures less { IfSome result
             (λ p. left (get self.now.nodes) p.0 < left (get self.now.nodes) key) }
-        ensures none { IfNone result (SameBelow (get self.now.nodes) (get other.now.nodes) self.now.root
+        ensures none { IfNone result
+            (SameBelow (get self.now.nodes) (get other.now.nodes) self.now.root
             other.now.root) }
     {
         let children = self.first_child(key).zip(other.first_child(twin));

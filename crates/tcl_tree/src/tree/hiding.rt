@@ -63,7 +63,8 @@ impl Tree {
     ) -> Result<(), TreeError>
         ensures trusted { OnOk result (IsTrusted (tree_of self.old) path.now) }
         ensures there { OnOk result (IsSome (tree_of self.old (path.now ++ down.now))) }
-        ensures moved { OnOk result (Becomes (tree_of self.old) (tree_of self.new) (path.now ++ down.now)
+        ensures moved { OnOk result
+            (Becomes (tree_of self.old) (tree_of self.new) (path.now ++ down.now)
             (λ own. hidden_under own name.now hidden)) }
         ensures refused { IfErr result
             (λ e. RefusesAsked e (tree_of self.old) path.now down.now
@@ -95,7 +96,8 @@ impl Tree {
     ) -> Result<(), TreeError>
         ensures trusted { OnOk result (IsTrusted (tree_of self.old) path.now) }
         ensures there { OnOk result (IsSome (tree_of self.old (path.now ++ down.now))) }
-        ensures moved { OnOk result (Becomes (tree_of self.old) (tree_of self.new) (path.now ++ down.now)
+        ensures moved { OnOk result
+            (Becomes (tree_of self.old) (tree_of self.new) (path.now ++ down.now)
             (λ own. exposed_under own hidden.now name)) }
         ensures refused { IfErr result
             (λ e. RefusesAsked e (tree_of self.old) path.now down.now

@@ -25,7 +25,8 @@ impl Tree {
         requires { (p : List (List ℕ)) × (key_of self.old p ≡ Some key) }
         ensures keys { (q : List (List ℕ)) → key_of self.new q ≡ key_of self.old q }
         ensures marks { marks_of self.new ≡ marks_of self.old }
-        ensures charged { OnOk result ((p : List (List ℕ)) → key_of self.old p ≡ Some key → (q : List (List ℕ)) →
+        ensures charged { OnOk result
+            ((p : List (List ℕ)) → key_of self.old p ≡ Some key → (q : List (List ℕ)) →
             tree_of self.new q ≡ charged (moved meter) (tree_of self.old) p q) }
         ensures room { OnOk result ((p : List (List ℕ)) → key_of self.old p ≡ Some key →
             NoneFull (full_of meter) (tree_of self.old) p) }
@@ -114,7 +115,8 @@ impl Tree {
         ensures marks { marks_of self.new ≡ marks_of self.old }
         ensures there { OnOk result (IsSome (tree_of self.old path.now)) }
         ensures room { OnOk result (blocked is_spent (tree_of self.old) path.now ≡ None) }
-        ensures charged { OnOk result (tree_of self.new ≡ effect path.now Charged (tree_of self.old)) }
+        ensures charged { OnOk result
+            (tree_of self.new ≡ effect path.now Charged (tree_of self.old)) }
         ensures refused { IfErr result (λ e. RefusesStep e (tree_of self.old) path.now) }
         ensures unchanged { OnErr result (tree_of self.new ≡ tree_of self.old) }
     {
@@ -138,7 +140,8 @@ impl Tree {
         ensures marks { marks_of self.new ≡ marks_of self.old }
         ensures place { IfOk result (λ place. Names self.new place path.now) }
         ensures room { OnOk result (blocked is_deep (tree_of self.old) path.now ≡ None) }
-        ensures nested { OnOk result (tree_of self.new ≡ effect path.now Nested (tree_of self.old)) }
+        ensures nested { OnOk result
+            (tree_of self.new ≡ effect path.now Nested (tree_of self.old)) }
         ensures refused { IfErr result (λ e. RefusesLevel e (tree_of self.old) path.now) }
         ensures unchanged { OnErr result (tree_of self.new ≡ tree_of self.old) }
     {

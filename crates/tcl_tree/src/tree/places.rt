@@ -67,7 +67,8 @@ impl Tree {
         ensures there { IfSome result
             (λ top. (p : List (List ℕ)) → key_of self.now p ≡ Some key → (a : List (List ℕ)) ×
             (rise up p ≡ Some a) × (key_of self.now a ≡ Some top)) }
-        ensures outside { IfNone result ((p : List (List ℕ)) → key_of self.now p ≡ Some key → rise up p ≡ None) }
+        ensures outside { IfNone result
+            ((p : List (List ℕ)) → key_of self.now p ≡ Some key → rise up p ≡ None) }
     {
         let mut at = key;
         let mut level = 0;
