@@ -567,7 +567,8 @@ impl Frames {
         name: &Text,
     ) -> Result<&mut Value, FrameError>
         requires { level < length self.old.frames }
-        ensures* writes_back { sem 𝓛 (LendsPartAt self.entry level base.now (seen_part part.entry) name.now result) }
+        ensures* writes_back { sem 𝓛
+            (LendsPartAt self.entry level base.now (seen_part part.entry) name.now result) }
         ensures ok { IfOk result
             (λ v. value_of (seen_part part.entry) (bound self.old.frames level base.now) name.now
             ≡ Ok v.now) }
@@ -593,7 +594,8 @@ impl Frames {
         name: &Text,
     ) -> Result<&mut Value, FrameError>
         requires { level < length self.old.frames }
-        ensures* writes_back { sem 𝓛 (LendsPartAt self.entry level base.now (seen_part part.entry) name.now result) }
+        ensures* writes_back { sem 𝓛
+            (LendsPartAt self.entry level base.now (seen_part part.entry) name.now result) }
         ensures ok { IfOk result
             (λ v. value_of (seen_part part.entry) (bound self.old.frames level base.now) name.now
             ≡ Ok v.now) }
@@ -619,7 +621,8 @@ impl Frames {
         name: &Text,
     ) -> Result<&mut Value, FrameError>
         requires { level < length self.old.frames }
-        ensures* writes_back { sem 𝓛 (LendsEnd self.entry level base.now (option_copied key.entry) name.now result) }
+        ensures* writes_back { sem 𝓛
+            (LendsEnd self.entry level base.now (option_copied key.entry) name.now result) }
         ensures ok { IfOk result
             (λ v. let p = end_of self.old.frames
             (over (start level base.now) (part_of (option_copied key.entry))) in value_of p.part
@@ -645,7 +648,8 @@ impl Frames {
         name: &Text,
     ) -> Result<&mut Value, FrameError>
         requires { level < length self.old.frames }
-        ensures* writes_back { sem 𝓛 (LendsEnd self.entry level base.now (option_copied key.entry) name.now result) }
+        ensures* writes_back { sem 𝓛
+            (LendsEnd self.entry level base.now (option_copied key.entry) name.now result) }
         ensures ok { IfOk result
             (λ v. let p = end_of self.old.frames
             (over (start level base.now) (part_of (option_copied key.entry))) in value_of p.part

@@ -405,7 +405,8 @@ impl Frame {
         part: Part<'_>,
         name: &Text,
     ) -> Result<&mut Value, FrameError>
-        ensures* writes_back { sem 𝓛 (LendsNamed self.entry base.now (seen_part part.entry) name.now result) }
+        ensures* writes_back { sem 𝓛
+            (LendsNamed self.entry base.now (seen_part part.entry) name.now result) }
         ensures ok { IfOk result
             (λ v. value_of (seen_part part.entry) (lookup (bytes_eq base.now) self.old.variables)
             name.now ≡ Ok v.now) }
@@ -444,7 +445,8 @@ impl Frame {
         part: Part<'_>,
         name: &Text,
     ) -> Result<&mut Value, FrameError>
-        ensures* writes_back { sem 𝓛 (LendsNamed self.entry base.now (seen_part part.entry) name.now result) }
+        ensures* writes_back { sem 𝓛
+            (LendsNamed self.entry base.now (seen_part part.entry) name.now result) }
         ensures ok { IfOk result
             (λ v. value_of (seen_part part.entry) (lookup (bytes_eq base.now) self.old.variables)
             name.now ≡ Ok v.now) }
