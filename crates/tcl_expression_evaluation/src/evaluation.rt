@@ -267,7 +267,8 @@ impl Evaluation {
     ) -> Result<Progress<'t>, ApplyError>
         ensures nearer { Nears result (length tree.now.nodes.items - self.old.next)
             (length tree.now.nodes.items - self.new.next) }
-        ensures computes { Advances result (from style tree.now.nodes.items self.old.next self.old.values.items)
+        ensures computes { Advances result
+            (from style tree.now.nodes.items self.old.next self.old.values.items)
             (λ v. from style tree.now.nodes.items self.new.next (self.new.values.items ++ v ∷ [])) }
     {
         self.run(alloc, tree.nodes.as_slice(), style)
@@ -282,7 +283,8 @@ impl Evaluation {
     ) -> Result<Progress<'t>, ApplyError>
         ensures nearer { Nears result (length nodes.now - self.old.next)
             (length nodes.now - self.new.next) }
-        ensures computes { Advances result (from style nodes.now self.old.next self.old.values.items)
+        ensures computes { Advances result
+            (from style nodes.now self.old.next self.old.values.items)
             (λ v. from style nodes.now self.new.next (self.new.values.items ++ v ∷ [])) }
     {
         'steps: while let Some(node) = nodes.get(self.next) {

@@ -87,7 +87,8 @@ impl Model for Frames {
 
     ghost view = { λ a. record { frames = a.frames.items; aside = reverse a.aside.items } };
 
-    ghost invariant = { λ a. IsSound (record { frames = a.frames.items; aside = reverse a.aside.items }) ×
+    ghost invariant = { λ a. IsSound
+        (record { frames = a.frames.items; aside = reverse a.aside.items }) ×
         HasRoom (vec_capacity a.frames) (reverse a.aside.items) };
 }
 

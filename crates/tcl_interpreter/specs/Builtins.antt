@@ -81,7 +81,8 @@ language =
     Set ∷ Unset ∷ Incr ∷ Append ∷ Lappend ∷ Array ∷ Global ∷ Upvar ∷ Uplevel ∷ Proc ∷ Rename ∷
     Eval ∷ Expr ∷ If ∷ While ∷ For ∷ Foreach ∷ Lmap ∷ Switch ∷ Break ∷ Continue ∷ Catch ∷ Error ∷
     Throw ∷ Return ∷ Try ∷ Info ∷ List ∷ Llength ∷ Lindex ∷ Lrange ∷ Linsert ∷ Lreplace ∷ Lset ∷
-    Lassign ∷ Lrepeat ∷ Lreverse ∷ Concat ∷ Join ∷ Split ∷ Lsearch ∷ Lsort ∷ Dict ∷ String ∷ Format ∷ Interp ∷ []
+    Lassign ∷ Lrepeat ∷ Lreverse ∷ Concat ∷ Join ∷ Split ∷ Lsearch ∷ Lsort ∷ Dict ∷ String ∷
+    Format ∷ Interp ∷ []
 
 -- the commands that reach the host, in that order
 abbrev pub host : Sequence Builtin

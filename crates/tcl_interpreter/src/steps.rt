@@ -29,7 +29,8 @@ pub fn make_room(nodes: &mut Slab<Node>, key: usize) -> Result<(), AllocError>
     ensures same { SameTable nodes.old nodes.new }
     ensures room { OnOk result (HasRoomFor nodes.new 1) }
     ensures spare { OnOk result (IfSome (get nodes.new key) (λ node. 0 < map.spare node.children)) }
-    ensures spare_commands { OnOk result (IfSome (get nodes.new key) (λ node. 0 < map.spare node.state.commands)) }
+    ensures spare_commands { OnOk result
+        (IfSome (get nodes.new key) (λ node. 0 < map.spare node.state.commands)) }
 {
     nodes.reserve(1)?;
     match nodes.get_mut(key) {

@@ -53,7 +53,8 @@ impl Model for Entries {
 
     ghost use Rattle.tcl_value.specs.Falls.{entries_fall};
 
-    ghost size_decreases = { λ a h. Prim.omega (arith, entries_fall a.weight a.keys.keys a.values.items h) };
+    ghost size_decreases = { λ a h.
+        Prim.omega (arith, entries_fall a.weight a.keys.keys a.values.items h) };
 }
 
 impl Entries {

@@ -61,7 +61,8 @@ fn insert_told(
     name: &Text,
     variable: Variable,
 ) -> Result<(), AllocError>
-    ensures inserted { OnOk result (variables.new ≡ insert_entry bytes_eq variables.old base.now variable) }
+    ensures inserted { OnOk result
+        (variables.new ≡ insert_entry bytes_eq variables.old base.now variable) }
     ensures unchanged { OnErr result (variables.new ≡ variables.old) }
 {
     if name.as_str() == base {

@@ -68,7 +68,8 @@ impl Tree {
 
     // The two keys to which a walk comes behind two equal subtrees.
     fn pair_behind(&self, key: usize, other: &Tree, twin: usize) -> Option<(usize, usize)>
-        requires reached { Reached (get self.now.nodes) (get other.now.nodes) self.now.root other.now.root key
+        requires reached { Reached (get self.now.nodes) (get other.now.nodes) self.now.root
+            other.now.root key
             twin }
         requires same { SameBelow (get self.now.nodes) (get other.now.nodes) key twin }
         ensures some { IfSome result
@@ -95,7 +96,8 @@ impl Tree {
 
     // The two keys to which a walk comes next, from two interpreters that are equal by themselves.
     fn next_pair(&self, key: usize, other: &Tree, twin: usize) -> Option<(usize, usize)>
-        requires reached { Reached (get self.now.nodes) (get other.now.nodes) self.now.root other.now.root key
+        requires reached { Reached (get self.now.nodes) (get other.now.nodes) self.now.root
+            other.now.root key
             twin }
         requires like { option_map view_of (get self.now.nodes key)
             ≡ option_map view_of (get other.now.nodes twin) }

@@ -33,7 +33,8 @@ impl Tree {
         ensures full { IfErr result
             (λ level. (p : List (List ℕ)) → key_of self.old p ≡ Some key →
             IsNearestFull (full_of meter) (tree_of self.old) p level) }
-        ensures unchanged { OnErr result ((q : List (List ℕ)) → tree_of self.new q ≡ tree_of self.old q) }
+        ensures unchanged { OnErr result
+            ((q : List (List ℕ)) → tree_of self.new q ≡ tree_of self.old q) }
     {
         if let Some(level) = self.full_level(key, meter) {
             return Err(level);
