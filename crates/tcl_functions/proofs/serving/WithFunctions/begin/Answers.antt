@@ -1,5 +1,5 @@
 use Rattle.std.proofs.Common.{refl, ◌∙◌}
-use Rattle.tcl_functions.proofs.Lengths.{whole_path}
+use Rattle.tcl_run.proofs.Lengths.{whole_path}
 use Rattle.tcl_functions.proofs.serving.WithFunctions.begin.Goals as goal
 
 pub returns-clause-begins : goal.returns-clause-begins

@@ -4,7 +4,7 @@ use Rattle.tcl_core.specs.Paths.{rise_to}
 use Rattle.tcl_core.specs.Execution.{event}
 use Rattle.tcl_core.specs.Trees.What.{Out}
 use Rattle.tcl_run.specs.Entering.{whole_entry}
-use Rattle.tcl_recorder.proofs.Lengths.{whole_path}
+use Rattle.tcl_run.proofs.Lengths.{whole_path}
 use Rattle.tcl_player.specs.Players.{player_of}
 use Rattle.tcl_player.proofs.Lists.{same_last, same_out, told_more}
 use Rattle.tcl_player.proofs.Played.{outer, told_on}

@@ -1,5 +1,5 @@
 use Rattle.std.proofs.Common.{◌≡◌, [], ◌∷◌, ◌++◌, ◌∙◌, ap}
-use Rattle.tcl_recorder.proofs.Lengths.{whole_path}
+use Rattle.tcl_run.proofs.Lengths.{whole_path}
 use Rattle.tcl_recorder.proofs.Recorders.{drops_another, drops_watched}
 use Rattle.tcl_recorder.proofs.recorder.RecorderOutside.drops.Goals.{then-falls_with, else-falls_with}
 use Rattle.tcl_recorder.proofs.recorder.RecorderOutside.drops.Goals as goal

@@ -8,7 +8,7 @@ use Rattle.tcl_core.specs.Trees.What.{Back}
 use Rattle.tcl_run.specs.Entering.{whole_entry}
 use Rattle.tcl_tree.specs.TreeOf.{tree_of}
 use Rattle.tcl_recorder.specs.Recording.{crossed}
-use Rattle.tcl_recorder.proofs.Lengths.{whole_path}
+use Rattle.tcl_run.proofs.Lengths.{whole_path}
 use Rattle.tcl_recorder.proofs.Recorders.{crosses}
 use Rattle.tcl_recorder.proofs.recorder.RecorderOutside.exit_comes_back.Goals as goal
 

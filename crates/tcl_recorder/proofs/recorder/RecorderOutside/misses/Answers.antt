@@ -11,7 +11,7 @@ use Rattle.tcl_run.specs.Outsides.{Misses}
 use Rattle.tcl_tree.specs.TreeOf.{Names, tree_of}
 use Rattle.tcl_recorder.specs.Recording.{crossed, recorded}
 use Rattle.tcl_recorder.specs.declared.recorder.Recorder.{Recorder}
-use Rattle.tcl_recorder.proofs.Lengths.{whole_path}
+use Rattle.tcl_run.proofs.Lengths.{whole_path}
 use Rattle.tcl_recorder.proofs.Recorders.{misses}
 use Rattle.tcl_recorder.proofs.recorder.RecorderOutside.misses.Goals as goal
 

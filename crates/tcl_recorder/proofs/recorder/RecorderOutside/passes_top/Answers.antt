@@ -3,7 +3,7 @@ use Rattle.std.proofs.lemmas.Result.{on_ok_weaker}
 use Rattle.tcl_core.specs.Trees.What.{Out}
 use Rattle.tcl_run.specs.Entering.{whole_entry}
 use Rattle.tcl_tree.specs.TreeOf.{tree_of}
-use Rattle.tcl_recorder.proofs.Lengths.{whole_path}
+use Rattle.tcl_run.proofs.Lengths.{whole_path}
 use Rattle.tcl_recorder.proofs.Recorders.{crosses}
 use Rattle.tcl_recorder.proofs.recorder.RecorderOutside.passes_top.Goals as goal
 

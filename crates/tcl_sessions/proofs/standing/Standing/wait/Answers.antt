@@ -1,5 +1,5 @@
 use Rattle.std.proofs.Common.{refl, ◌∙◌}
-use Rattle.tcl_sessions.proofs.Lengths.{whole_path}
+use Rattle.tcl_run.proofs.Lengths.{whole_path}
 use Rattle.tcl_sessions.proofs.standing.Standing.wait.Goals as goal
 
 pub returns : goal.returns
