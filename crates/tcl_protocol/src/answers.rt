@@ -1,0 +1,281 @@
+//! The lines that are written.
+ghost use Rattle.serde_json.specs.View.{view};
+ghost use Rattle.std.specs.Prelude.{◌≡◌, IfOk};
+ghost use Rattle.std.specs.String.{string_bytes};
+ghost use Rattle.tcl_protocol.specs.Answers as written;
+ghost use Rattle.tcl_protocol.specs.Answers.{answer_data, ended_data, limit_name};
+ghost use Rattle.tcl_protocol.specs.Answers.{replayed_data, standing_data, text_data, texts_data};
+ghost use Rattle.tcl_protocol.specs.Answers.{watched_data};
+
+use crate::refusals::Refusal;
+use serde_json::{Value, json};
+use std::alloc::{AllocError, Global};
+use tcl_flow::stop::StopKind;
+use tcl_text::text::Text;
+
+/// How an evaluation ended.
+#[derive(Drop)]
+pub enum Ended {
+    /// It completed, with this code and text.
+    Completed(i64, Text),
+    /// A limit of the root was met.
+    Stopped(StopKind),
+    /// It ended the whole run with this status.
+    Exited(i64),
+    /// The client ended the run, or is gone.
+    Cut,
+}
+
+/// How an interpreter stands.
+#[derive(Drop)]
+pub struct Standing {
+    /// Whether it is safe.
+    pub safe: bool,
+    /// How many steps were counted in it.
+    pub count: u64,
+    /// The limit of these.
+    pub count_limit: Option<u64>,
+    /// How many evaluations are in progress in it and below it.
+    pub depth: u64,
+    /// The limit of these.
+    pub depth_limit: u64,
+    /// The names of its children.
+    pub children: Vec<Text>,
+}
+
+/// An evaluation that was watched.
+#[derive(Drop)]
+pub struct Watched {
+    /// How it ended.
+    pub ended: Ended,
+    /// The number of the record.
+    pub record: u64,
+    /// The lines of the record.
+    pub lines: Vec<Text>,
+}
+
+/// A replay.
+#[derive(Drop)]
+pub struct Replayed {
+    /// What came of the moves.
+    pub outcome: Text,
+    /// Whether the interpreter told what it tells in the record.
+    pub same: bool,
+    /// The number under which it is kept as it was left.
+    pub saved: u64,
+    /// What it told, a line for each crossing.
+    pub lines: Vec<Text>,
+}
+
+/// What is said of a message that was done.
+#[derive(Drop)]
+pub enum Answer {
+    /// It was done.
+    Done,
+    /// The tree has this number.
+    Tree(u64),
+    /// The saved interpreter has this number.
+    Saved(u64),
+    /// The text that was asked for, if it is there.
+    Text(Option<Text>),
+    /// How the interpreter stands.
+    Standing(Standing),
+    /// How the evaluation ended.
+    Ended(Ended),
+    /// How the evaluation ended that was watched.
+    Watched(Watched),
+    /// What came of the replay.
+    Replayed(Replayed),
+    /// Whether the two are the same.
+    Same(bool),
+}
+
+/// A list of texts.
+fn texts_value(alloc: Global, texts: &[Text]) -> Result<Value, AllocError>
+    ensures { IfOk result (λ value. view value ≡ texts_data texts.now) }
+{
+    let mut items = Vec::new(alloc);
+    'texts: for text in texts {
+        items.push(Value::try_from_str(alloc, text.as_str())?)?;
+    }
+    Ok(Value::Array(items))
+}
+
+/// A text, or null.
+fn text_value(alloc: Global, text: &Option<Text>) -> Result<Value, AllocError>
+    ensures { IfOk result (λ value. view value ≡ text_data text.now) }
+{
+    match text {
+        Some(text) => Value::try_from_str(alloc, text.as_str()),
+        None => Ok(Value::Null),
+    }
+}
+
+/// The name of a limit.
+fn limit_name(kind: StopKind) -> &'static str
+    ensures { result.now ≡ limit_name kind }
+{
+    match kind {
+        StopKind::Count => "count",
+        StopKind::Depth => "depth",
+    }
+}
+
+/// How an evaluation ended.
+fn ended_value(alloc: Global, ended: &Ended) -> Result<Value, AllocError>
+    ensures { IfOk result (λ value. view value ≡ ended_data ended.now) }
+{
+    match ended {
+        Ended::Completed(code, text) => json!(in alloc; {
+            "end": "completed",
+            "code": *code,
+            "text": text.as_str()
+        }),
+        Ended::Stopped(kind) => json!(in alloc; {"end": "stopped", "limit": limit_name(*kind)}),
+        Ended::Exited(status) => json!(in alloc; {"end": "exited", "status": *status}),
+        Ended::Cut => json!(in alloc; {"end": "cut"}),
+    }
+}
+
+/// How an interpreter stands.
+fn standing_value(alloc: Global, standing: &Standing) -> Result<Value, AllocError>
+    ensures { IfOk result (λ value. view value ≡ standing_data standing.now) }
+{
+    let children = texts_value(alloc, standing.children.as_slice())?;
+    json!(in alloc; {
+        "safe": standing.safe,
+        "count": standing.count,
+        "count_limit": standing.count_limit,
+        "depth": standing.depth,
+        "depth_limit": standing.depth_limit,
+        "children": children
+    })
+}
+
+/// An evaluation that was watched.
+fn watched_value(alloc: Global, watched: &Watched) -> Result<Value, AllocError>
+    ensures { IfOk result (λ value. view value ≡ watched_data watched.now) }
+{
+    let ended = ended_value(alloc, &watched.ended)?;
+    let lines = texts_value(alloc, watched.lines.as_slice())?;
+    json!(in alloc; {"ended": ended, "record": watched.record, "lines": lines})
+}
+
+/// A replay.
+fn replayed_value(alloc: Global, replayed: &Replayed) -> Result<Value, AllocError>
+    ensures { IfOk result (λ value. view value ≡ replayed_data replayed.now) }
+{
+    let lines = texts_value(alloc, replayed.lines.as_slice())?;
+    json!(in alloc; {
+        "outcome": replayed.outcome.as_str(),
+        "same": replayed.same,
+        "saved": replayed.saved,
+        "lines": lines
+    })
+}
+
+/// What is said of a message that was done.
+fn answer_value(alloc: Global, answer: &Answer) -> Result<Value, AllocError>
+    ensures { IfOk result (λ value. view value ≡ answer_data answer.now) }
+{
+    match answer {
+        Answer::Done => json!(in alloc; {}),
+        Answer::Tree(number) => json!(in alloc; {"tree": *number}),
+        Answer::Saved(number) => json!(in alloc; {"saved": *number}),
+        Answer::Text(text) => {
+            let text = text_value(alloc, text)?;
+            json!(in alloc; {"text": text})
+        }
+        Answer::Standing(standing) => standing_value(alloc, standing),
+        Answer::Ended(ended) => ended_value(alloc, ended),
+        Answer::Watched(watched) => watched_value(alloc, watched),
+        Answer::Replayed(replayed) => replayed_value(alloc, replayed),
+        Answer::Same(same) => json!(in alloc; {"same": *same}),
+    }
+}
+
+/// What answers a message of this id.
+fn answer_object(alloc: Global, id: Option<u64>, answer: &Answer) -> Result<Value, AllocError>
+    ensures { IfOk result (λ value. view value ≡ written.answer_object id answer.now) }
+{
+    let answer = answer_value(alloc, answer)?;
+    json!(in alloc; {"id": id, "ok": answer})
+}
+
+/// What answers a message of this id, or of none that can be read, which isn't done.
+fn refusal_object(alloc: Global, id: Option<u64>, refusal: &Refusal) -> Result<Value, AllocError>
+    ensures { IfOk result (λ value. view value ≡ written.refusal_object id refusal.now) }
+{
+    let number = refusal.number();
+    let text = refusal.text(alloc)?;
+    json!(in alloc; {"id": id, "error": {"number": number, "text": text}})
+}
+
+/// What answers a message of this id, or a line of which none can be read.
+fn reply_object(
+    alloc: Global,
+    id: Option<u64>,
+    answer: &Result<Answer, Refusal>,
+) -> Result<Value, AllocError>
+    ensures { IfOk result (λ value. view value ≡ written.reply_object id answer.now) }
+{
+    match answer {
+        Ok(answer) => answer_object(alloc, id, answer),
+        Err(refusal) => refusal_object(alloc, id, refusal),
+    }
+}
+
+/// The line that answers a message of this id, or a line of which none can be read.
+///
+/// # Errors
+/// Want of memory.
+pub fn reply_line(
+    alloc: Global,
+    id: Option<u64>,
+    answer: &Result<Answer, Refusal>,
+) -> Result<String, AllocError>
+    ensures { IfOk result (λ line. string_bytes line ≡ written.reply_line id answer.now) }
+{
+    let object = reply_object(alloc, id, answer)?;
+    let line = object.to_string(alloc)?;
+    Ok(line)
+}
+
+/// A call of the client.
+#[derive(Drop)]
+pub struct ClientCall {
+    /// Its number.
+    pub number: u64,
+    /// The tree's number.
+    pub tree: u64,
+    /// The path of the interpreter that calls.
+    pub interpreter: Vec<Text>,
+    /// The alias's words, and behind them those of the call.
+    pub words: Vec<Text>,
+}
+
+/// What calls the client.
+fn call_object(alloc: Global, call: &ClientCall) -> Result<Value, AllocError>
+    ensures { IfOk result (λ value. view value ≡ written.call_object call.now) }
+{
+    let interpreter = texts_value(alloc, call.interpreter.as_slice())?;
+    let words = texts_value(alloc, call.words.as_slice())?;
+    json!(in alloc; {
+        "call": call.number,
+        "tree": call.tree,
+        "interpreter": interpreter,
+        "words": words
+    })
+}
+
+/// The line that calls the client.
+///
+/// # Errors
+/// Want of memory.
+pub fn call_line(alloc: Global, call: &ClientCall) -> Result<String, AllocError>
+    ensures { IfOk result (λ line. string_bytes line ≡ written.call_line call.now) }
+{
+    let object = call_object(alloc, call)?;
+    let line = object.to_string(alloc)?;
+    Ok(line)
+}
