@@ -1,3 +1,1 @@
-mod EndingLemmas
-mod Readings
-mod Written
+mod Turning

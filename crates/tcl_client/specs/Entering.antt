@@ -1,20 +1,28 @@
 -- Messages as entries.
-use Rattle.std.specs.Prelude.{◌≡◌, ℕ, Bool, true, false, Some, None}
-use Rattle.tcl_client.specs.Acting.{AtChild, client_way}
-use Rattle.tcl_client.specs.Messages as ask
-use Rattle.tcl_client.specs.Messages.{Ask, Asks, Evaluate, OnTree}
-use Rattle.tcl_client.specs.declared.refusals.Refusal.{Refusal}
-use Rattle.tcl_client.specs.declared.refusals.Refusal.TheVariants as refusal
+use Rattle.std.specs.Prelude.{◌≡◌, ℕ, ◌+◌, Bool, true, false, List, [], ◌∷◌, ◌++◌, length, Some}
+use Rattle.std.specs.Prelude.{None}
 use Rattle.tcl_core.specs.Entries as entry
 use Rattle.tcl_core.specs.Entries.{Entry}
 use Rattle.tcl_core.specs.Paths.{Path, Text}
 use Rattle.tcl_interpreter.specs.Commands.{AliasView, way_between}
+use Rattle.tcl_protocol.specs.Messages as ask
+use Rattle.tcl_protocol.specs.Messages.{Ask, Asks, Evaluate, OnTree}
+use Rattle.tcl_protocol.specs.declared.refusals.Refusal.{Refusal}
+use Rattle.tcl_protocol.specs.declared.refusals.Refusal.TheVariants as refusal
+
+-- the path is that of a child, of this name, of the interpreter at another
+abbrev pub AtChild : Path → (Path → Text → Type 0) → Type 0
+AtChild path P = (p : Path) × (n : Text) × (path ≡ p ++ n ∷ []) × P p n
+
+-- The way of an interpreter at p leads one level above the root, to the client.
+abbrev pub client_way : Path → List Text → AliasView
+client_way p words = record { up = length p + 1; down = []; words = words }
 
 -- an alias that leads so is set
 abbrev pub sets : Text → AliasView → Entry
 sets name way = entry.SetAlias name way.up way.down way.words
 
--- What is asked of a tree is an entry into the interpreter at t; the rest is done at once.
+-- What is asked of a tree is an entry into the interpreter at t; the rest is none.
 abbrev pub AsksEntry : Ask → Path → Entry → Type 0
 AsksEntry (ask.Create path safe) t i = AtChild path (λ p n.
     (t ≡ p) × (i ≡ entry.Create (Some n) safe))
@@ -36,10 +44,17 @@ IsEntry (Evaluate e) tree t i evaluates = (e.place.tree ≡ tree) × (t ≡ e.pl
 IsEntry (OnTree n a) tree t i evaluates = (n ≡ tree) × AsksEntry a t i × (evaluates ≡ false)
 IsEntry m tree t i evaluates = Prim.⊥
 
--- why a message isn't one
+-- a text is no value
+abbrev pub IsMisfit : Refusal → Type 0
+IsMisfit refusal.Memory = Unit {0}
+IsMisfit refusal.TooLong = Unit {0}
+IsMisfit e = Prim.⊥
+
+-- why a message about the tree isn't an entry
 abbrev pub NoEntry : Refusal → Type 0
 NoEntry refusal.Memory = Unit {0}
 NoEntry refusal.TooLong = Unit {0}
 NoEntry refusal.EntryLimit = Unit {0}
 NoEntry refusal.Root = Unit {0}
+NoEntry refusal.CallOpen = Unit {0}
 NoEntry e = Prim.⊥

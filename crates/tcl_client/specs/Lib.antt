@@ -1,11 +1,4 @@
-pub mod Acting
-pub mod Answers
-pub mod Endings
+pub mod Clients
 pub mod Entering
-pub mod Fields
-pub mod Hosting
-pub mod Lines
-pub mod Messages
-pub mod Names
-pub mod Refusals
-pub mod Statuses
+pub mod Opened
+pub mod Views

@@ -1,97 +1,58 @@
 //! The client, who is reached by lines.
-ghost use Rattle.std.specs.Bool.{OnTrue};
-ghost use Rattle.std.specs.Prelude.{◌≡◌, ◌<◌, ◌≤◌, ◌⊎◌, ◌↔◌, IfOk, IfSome, IsSome, IsTrue, Ok, Some, false};
-ghost use Rattle.std.specs.Prelude.{true};
-ghost use Rattle.tcl_client.specs.Endings as endings;
-ghost use Rattle.tcl_client.specs.Endings.{EntersOrEnds, Tells, ended_as, evaluation_answer};
-ghost use Rattle.tcl_core.specs.Lives.{end_at};
-ghost use Rattle.tcl_core.specs.Lives.End.{Completed_as};
-ghost use Rattle.tcl_flow.specs.Stopping.{reply_of};
-ghost use Rattle.tcl_flow.specs.View.{completion_of};
-ghost use Rattle.tcl_host.specs.Replies.{is_reply_to};
-ghost use Rattle.tcl_run.specs.Ends.{IfEnded};
-ghost use Rattle.tcl_run.specs.Outsides.{OnEntry};
+ghost use Rattle.std.specs.Prelude.{◌≡◌, ◌∷◌, ◌++◌, [], Err, IfOk, None, Ok, Some, false, pos};
+ghost use Rattle.std.specs.String.{string_bytes};
+ghost use Rattle.tcl_client.specs.Clients.{Acts, AllCut, Follows, HearsEntry, IsCallLine, IsOver};
+ghost use Rattle.tcl_client.specs.Clients.{IsQuiet, Opens, Serves, Stays, Tells, Turns, Waits};
+ghost use Rattle.tcl_client.specs.Clients.{entry_answer};
+ghost use Rattle.tcl_client.specs.Views.{ClientView};
+ghost use Rattle.tcl_client.specs.declared.open.Next.TheVariants as next;
+ghost use Rattle.tcl_functions.specs.Actions.{action_of};
+ghost use Rattle.tcl_protocol.specs.Talking.{Listens, Replies};
 
-use crate::acting::{look, refused_at};
-use crate::answers::{Answer, Call, Ended, answer_line, call_line, refusal_line};
-use crate::ending::Ending;
-use crate::entering::{Asked, alias_entry, client_alias_entry, creation, deletion, evaluation};
-use crate::hosts::ServedHost;
-use crate::lines::{LineFault, Lines};
-use crate::messages::{Ask, ClearAlias, LimitCount, LimitDepth, Line, Message, Return, read_line};
-use crate::refusals::Refusal;
+use crate::entering::Asked;
+use crate::open::{Awaited, Next, Talk};
 use std::alloc::{AllocError, Global};
 use std::io::{BufRead, Write};
-use std::mem;
+use std::marker::Model;
 use tcl_flow::completion::{Completion, OK};
-use tcl_flow::stop::Stop;
-use tcl_host::reply::HostReply;
-use tcl_host::request::Request;
-use tcl_run::entry::{Entry, OwnEntry};
-use tcl_run::interruption::{Cause, Interruption};
-use tcl_run::outside::Turn;
+use tcl_functions::action::Action;
+use tcl_functions::call::Call;
+use tcl_functions::functions::Functions;
+use tcl_protocol::answers::{Answer, ClientCall, Ended, call_line};
+use tcl_protocol::lines::{Ending, Lines};
+use tcl_protocol::messages::Message;
+use tcl_protocol::refusals::Refusal;
+use tcl_protocol::talking::{hear, reply};
 use tcl_text::text::Text;
-use tcl_tree::refusal::TreeError;
-use tcl_tree::tree::{Place, Tree};
 use tcl_value::value::Value;
 
-/// A message that is done as an entry, and is answered once the entry is.
-#[derive(Clone, Copy)]
-pub struct Awaited {
-    /// The message's id.
-    pub id: u64,
-    /// Whether the entry evaluates a script.
-    pub evaluates: bool,
-}
-
-/// What a message comes to while a call is open.
-pub enum Next {
-    /// It is done.
-    Says(Answer),
-    /// An interpreter does it.
-    Enters(Asked),
-    /// It answers the call.
-    Returns(Completion),
-    /// It ends the run.
-    Ends,
-}
-
-/// The client, and what is between the lines: the calls that are open and the messages that are
-/// done as entries, with the number and the host of the tree that they are of.
+/// The client at the other end of a reader and a writer of lines.
 pub struct Client<R: BufRead + Drop, W: Write + Drop> {
     lines: Lines<R, W>,
-    tree: u64,
-    host: ServedHost,
-    // the numbers of the open calls, the last one opened last
-    calls: Vec<u64>,
-    // the messages that are done as entries, the last one begun last
-    awaited: Vec<Awaited>,
-    // the number that was given last to a call
-    last_call: u64,
-    // how many entries may still be handed in
-    entries: u64,
-    // whether the client ended the run
-    cut: bool,
-    ending: Option<Ending>,
+    talk: Talk,
 }
 
 impl<R: BufRead + Drop, W: Write + Drop> Drop for Client<R, W> {
     fn drop(self) {
         let Client {
             lines: _lines,
-            tree: _,
-            host: _host,
-            calls: _calls,
-            awaited: _awaited,
-            last_call: _,
-            entries: _,
-            cut: _,
-            ending: _,
+            talk: _talk,
         } = self;
     }
 }
 
+impl<R: BufRead + Drop, W: Write + Drop> Model for Client<R, W> {
+    ghost use Rattle.tcl_client.specs.Views.{ClientView};
+
+    ghost Value = { ClientView };
+
+    ghost view = { λ c. record { lines = c.lines; talk = c.talk } };
+}
+
 /// The texts of these values.
+///
+/// # Errors
+/// Want of memory.
 fn texts_of(alloc: Global, values: &[Value]) -> Result<Vec<Text>, AllocError>
     ensures { IfOk result (λ texts. texts.items ≡ values.now) }
 {
@@ -102,471 +63,250 @@ fn texts_of(alloc: Global, values: &[Value]) -> Result<Vec<Text>, AllocError>
     Ok(texts)
 }
 
-/// How an evaluation ends that completes so.
-fn completed(alloc: Global, completion: &Completion) -> Result<Ended, AllocError>
-    ensures { IfOk result
-        (λ e. e ≡ ended_as (Some (Completed_as (completion_of completion.now)))) }
+/// The line that calls the client, by this number in the tree of that one.
+///
+/// # Errors
+/// Want of memory.
+fn line_of(alloc: Global, number: u64, tree: u64, call: &Call) -> Result<String, AllocError>
+    ensures { IfOk result (λ line. IsCallLine number tree call.now (string_bytes line)) }
 {
-    let text = completion.text.text(alloc)?;
-    Ok(Ended::Completed(completion.code, text))
+    let asked = ClientCall {
+        number,
+        tree,
+        interpreter: Vec::from_clones(alloc, call.caller.as_slice())?,
+        words: texts_of(alloc, call.words.as_slice())?,
+    };
+    call_line(alloc, &asked)
 }
 
-/// How an evaluation in the interpreter at the path ends by a stop: an error, where the stop names
-/// one below the root.
-fn stopped(alloc: Global, path: &[Text], stop: Stop) -> Result<Ended, AllocError>
-    ensures { IfOk result (λ e. e ≡ ended_as (end_at path.now (reply_of stop))) }
-{
-    if stop.levels_up < path.len() {
-        let completion = stop.kind.error(alloc)?;
-        let ended = completed(alloc, &completion)?;
-        return Ok(ended);
-    }
-    Ok(Ended::Stopped(stop.kind))
-}
-
-/// How an entry into the interpreter at the path ended.
-fn entry_ended(
-    alloc: Global,
-    path: &[Text],
-    ended: &Result<Value, Interruption>,
-) -> Result<Answer, Refusal>
-    ensures { IfEnded ended.now (λ r. Tells (Ok (evaluation_answer path.now r)) result) }
-{
-    match ended {
-        Ok(value) => Ok(Answer::Ended(Ended::Completed(OK, value.text(alloc)?))),
-        Err(Interruption::Completed(completion)) => {
-            let ended = completed(alloc, completion)?;
-            Ok(Answer::Ended(ended))
-        }
-        Err(Interruption::Stopped(stop)) => Ok(Answer::Ended(stopped(alloc, path, *stop)?)),
-        Err(Interruption::Exited(status)) => Ok(Answer::Ended(Ended::Exited(*status))),
-        Err(Interruption::Cut(_)) => Ok(Answer::Ended(Ended::Cut)),
-        Err(Interruption::Memory) => Err(Refusal::Breaks),
-    }
-}
-
-/// What is said of a completion by which an entry that evaluates nothing ended.
-fn own_completed(alloc: Global, completion: &Completion) -> Result<Answer, Refusal>
-    ensures { Tells (endings.own_answer completion.now.code completion.now.text) result }
-{
-    let text = completion.text.text(alloc)?;
-    if completion.code == OK {
-        return Ok(Answer::Done);
-    }
-    Err(Refusal::Told(text))
-}
-
-/// What came of an entry that evaluates nothing.
-fn entry_done(
-    alloc: Global,
-    path: &[Text],
-    ended: &Result<Value, Interruption>,
-) -> Result<Answer, Refusal>
-    ensures { IfEnded ended.now
-        (λ r. Tells (endings.entry_answer false path.now r) result) }
-{
-    match ended {
-        Ok(_) => Ok(Answer::Done),
-        Err(Interruption::Completed(completion)) => own_completed(alloc, completion),
-        _ => entry_ended(alloc, path, ended),
-    }
-}
-
-/// What is said of an entry that ended so.
+/// What is said of an entry that ended by this completion, and evaluates a script or not.
+///
+/// # Errors
+/// Want of memory.
 fn entry_answer(
     alloc: Global,
     evaluates: bool,
-    path: &[Text],
-    ended: &Result<Value, Interruption>,
-) -> Result<Answer, Refusal>
-    ensures { IfEnded ended.now
-        (λ r. Tells (endings.entry_answer evaluates path.now r) result) }
+    completion: &Completion,
+) -> Result<Result<Answer, Refusal>, AllocError>
+    ensures { IfOk result
+        (λ said. said ≡ entry_answer evaluates completion.now.code completion.now.text) }
 {
+    let text = completion.text.text(alloc)?;
     if evaluates {
-        return entry_ended(alloc, path, ended);
+        return Ok(Ok(Answer::Ended(Ended::Completed(completion.code, text))));
     }
-    entry_done(alloc, path, ended)
+    if completion.code == OK {
+        return Ok(Ok(Answer::Done));
+    }
+    Ok(Err(Refusal::Told(text)))
 }
 
-/// The refusal of an entry into an interpreter that isn't there.
-fn nobody(alloc: Global, target: &[Text], entry: &Entry) -> Refusal {
-    match entry {
-        Entry::Eval(_) => Refusal::Nobody,
-        _ => refused_at(alloc, TreeError::NoInterpreter, target),
+/// Answers messages whose entries won't come to an end, since their run is over.
+fn cut_off<R: BufRead + Drop, W: Write + Drop>(
+    lines: &mut Lines<R, W>,
+    alloc: Global,
+    awaited: &mut Vec<Awaited>,
+)
+    ensures cut { AllCut lines.old awaited.old.items lines.new }
+    ensures none { awaited.new.items ≡ [] }
+{
+    'awaited: while let Some(last) = awaited.pop() {
+        reply(lines, alloc, Some(last.id), &Ok(Answer::Ended(Ended::Cut)));
     }
 }
 
 impl<R: BufRead + Drop, W: Write + Drop> Client<R, W> {
-    /// The client at the other end of a reader and a writer.
-    ///
-    /// # Errors
-    /// Want of memory.
-    pub fn new(alloc: Global, reader: R, writer: W) -> Result<Client<R, W>, AllocError> {
-        Ok(Client {
-            host: ServedHost::new(alloc)?,
+    /// The client at the other end of this reader and this writer.
+    pub fn new(alloc: Global, reader: R, writer: W) -> Client<R, W>
+        ensures lines { result.lines ≡ record {
+          unread = R.remaining reader;
+          written = W.contents writer;
+          ending = None;
+        } }
+        ensures quiet { IsQuiet result.talk }
+    {
+        Client {
             lines: Lines::new(reader, writer),
-            tree: 0,
-            calls: Vec::new(alloc),
-            awaited: Vec::new(alloc),
-            last_call: 0,
-            entries: u64::MAX,
-            cut: false,
-            ending: None,
-        })
+            talk: Talk {
+                tree: 0,
+                calls: Vec::new(alloc),
+                awaited: Vec::new(alloc),
+                last_call: 0,
+                cut: false,
+            },
+        }
     }
 
     /// Why no line is read any more, where none is.
     pub fn ending(&self) -> Option<Ending>
-        ensures { result ≡ self.now.ending }
+        ensures { result ≡ self.now.lines.ending }
     {
-        self.ending
+        self.lines.ending()
     }
 
-    /// A run begins in the tree of this number, which has this host.
-    pub fn begin(&mut self, tree: u64, host: &mut ServedHost) {
-        self.tree = tree;
-        self.cut = false;
-        mem::swap(&mut self.host, host);
-    }
-
-    /// The run is over, and its tree has its host again. Messages for which memory was wanted in it
-    /// are answered.
-    pub fn finish(&mut self, alloc: Global, host: &mut ServedHost) {
-        mem::swap(&mut self.host, host);
-        self.calls.clear();
-        'awaited: while let Some(awaited) = self.awaited.pop() {
-            self.reply(alloc, awaited.id, Err(Refusal::Breaks));
-        }
-    }
-
-    /// Hears a message. A line that isn't understood is answered, and gives none; and where no line
-    /// can be read, that is the end.
+    /// Hears a message. A line that isn't understood is answered, and gives none; where no line
+    /// comes any more, there is an ending then, and a fault of the input is said.
     pub fn hear(&mut self, alloc: Global) -> Option<(u64, Message)>
-        ensures left { self.new.entries ≡ self.old.entries }
+        requires { self.old.lines.ending ≡ None }
+        ensures listens { Listens self.old.lines result self.new.lines }
+        ensures talk { self.new.talk ≡ self.old.talk }
     {
-        match self.lines.read(alloc) {
-            Ok(Some(line)) => self.understand(alloc, line.as_slice()),
-            Ok(None) => {
-                self.ending = Some(Ending::Finished);
-                None
-            }
-            Err(fault) => {
-                self.refuse(alloc, None, &Refusal::Line(fault));
-                self.ending = Some(Ending::Failed(fault));
-                None
-            }
-        }
-    }
-
-    /// The message that a line is.
-    fn understand(&mut self, alloc: Global, line: &[u8]) -> Option<(u64, Message)>
-        ensures left { self.new.entries ≡ self.old.entries }
-    {
-        match read_line(alloc, line) {
-            Line::Asks(id, message) => Some((id, message)),
-            Line::Fails(id, refusal) => {
-                self.refuse(alloc, id, &refusal);
-                None
-            }
-        }
+        hear(&mut self.lines, alloc)
     }
 
     /// Answers a message.
-    pub fn reply(&mut self, alloc: Global, id: u64, answer: Result<Answer, Refusal>)
-        ensures left { self.new.entries ≡ self.old.entries }
-        ensures awaited { self.new.awaited ≡ self.old.awaited }
+    pub fn reply(&mut self, alloc: Global, id: u64, answer: &Result<Answer, Refusal>)
+        ensures replies { Replies self.old.lines (Some id) answer.now self.new.lines }
+        ensures talk { self.new.talk ≡ self.old.talk }
     {
-        match answer {
-            Ok(answer) => match answer_line(alloc, id, &answer) {
-                Ok(line) => self.put(line.as_str()),
-                Err(_) => self.want_memory(Some(id)),
-            },
-            Err(refusal) => self.refuse(alloc, Some(id), &refusal),
+        reply(&mut self.lines, alloc, Some(id), answer);
+    }
+
+    /// A run begins in the tree of this number.
+    pub fn begin(&mut self, tree: u64)
+        ensures { self.new ≡ record self.old {
+          talk = record self.old.talk { tree = tree; cut = false };
+        } }
+    {
+        self.talk.tree = tree;
+        self.talk.cut = false;
+    }
+
+    /// The run is over. Messages that are done as entries, and that it left without an end, are
+    /// answered by that.
+    pub fn finish(&mut self, alloc: Global)
+        ensures { IsOver self.old self.new }
+    {
+        cut_off(&mut self.lines, alloc, &mut self.talk.awaited);
+        self.talk.calls.clear();
+    }
+
+    /// Whether the client ended the run, or was gone in it.
+    pub fn is_cut(&self) -> bool
+        ensures { result ≡ self.now.talk.cut }
+    {
+        self.talk.cut
+    }
+
+    /// Says what a call is about: that it is open, or how the entry ended that was handed in last
+    /// for it.
+    fn tell(&mut self, alloc: Global, call: &Call) -> Result<(), AllocError>
+        ensures { IfOk result (λ _. Tells self.old call.now self.new) }
+    {
+        match call.replies.as_slice().last() {
+            Some(completion) => self.entry_ends(alloc, completion),
+            None => self.open(alloc, call),
         }
     }
 
-    /// Answers a line that isn't done.
-    fn refuse(&mut self, alloc: Global, id: Option<u64>, refusal: &Refusal)
-        ensures left { self.new.entries ≡ self.old.entries }
-        ensures awaited { self.new.awaited ≡ self.old.awaited }
+    /// A call is opened.
+    fn open(&mut self, alloc: Global, call: &Call) -> Result<(), AllocError>
+        ensures { IfOk result (λ _. Opens self.old call.now self.new) }
     {
-        match refusal_line(alloc, id, refusal) {
-            Ok(line) => self.put(line.as_str()),
-            Err(_) => self.want_memory(id),
+        if self.talk.last_call == u64::MAX {
+            // So many calls take longer than anybody waits.
+            return Err(AllocError);
         }
-    }
-
-    /// Answers a line for which memory was wanted. This takes no memory.
-    fn want_memory(&mut self, id: Option<u64>)
-        ensures left { self.new.entries ≡ self.old.entries }
-        ensures awaited { self.new.awaited ≡ self.old.awaited }
-    {
-        let written = self.lines.write_out_of_memory(id);
-        self.note(written);
-    }
-
-    /// Writes a line.
-    fn put(&mut self, line: &str)
-        ensures left { self.new.entries ≡ self.old.entries }
-        ensures awaited { self.new.awaited ≡ self.old.awaited }
-    {
-        let written = self.lines.write(line);
-        self.note(written);
-    }
-
-    /// Takes note of a line that can't be written, which is the end.
-    fn note(&mut self, written: Result<(), LineFault>)
-        ensures left { self.new.entries ≡ self.old.entries }
-        ensures awaited { self.new.awaited ≡ self.old.awaited }
-    {
-        if let Err(fault) = written {
-            self.ending = Some(Ending::Failed(fault));
-        }
-    }
-
-    /// The interpreter that the place names calls the client by these words.
-    ///
-    /// # Errors
-    /// Want of memory.
-    pub fn open(
-        &mut self,
-        alloc: Global,
-        tree: &Tree,
-        caller: Place,
-        words: &[Value],
-    ) -> Result<(), AllocError>
-        ensures left { self.new.entries ≡ self.old.entries }
-    {
-        let interpreter = tree.last_names(alloc, caller, usize::MAX)?;
-        let words = texts_of(alloc, words)?;
-        let number = self.last_call.saturating_add(1);
-        let call = Call {
-            number,
-            tree: self.tree,
-            interpreter,
-            words,
-        };
-        let line = call_line(alloc, &call)?;
-        self.calls.push(number)?;
-        self.last_call = number;
-        self.put(line.as_str());
+        let number = self.talk.last_call + 1;
+        let line = line_of(alloc, number, self.talk.tree, call)?;
+        self.talk.calls.push(number)?;
+        self.talk.last_call = number;
+        self.lines.say(line.as_str());
         Ok(())
     }
 
-    /// Closes the last open call.
-    pub fn close(&mut self)
-        ensures left { self.new.entries ≡ self.old.entries }
+    /// The entry ended by which the message is done that is awaited last.
+    fn entry_ends(&mut self, alloc: Global, completion: &Completion) -> Result<(), AllocError>
+        ensures { IfOk result (λ _. HearsEntry self.old completion.now self.new) }
     {
-        let _ = self.calls.pop();
+        let Some(awaited) = self.talk.awaited.pop() else {
+            return Err(AllocError);
+        };
+        let answer = entry_answer(alloc, awaited.evaluates, completion)?;
+        self.reply(alloc, awaited.id, &answer);
+        Ok(())
     }
 
-    /// What comes next to the last open call.
-    ///
-    /// # Errors
-    /// How the call ends; want of memory.
-    pub fn serve(&mut self, alloc: Global, tree: &Tree) -> Result<Turn, Interruption>
-        ensures comes { EntersOrEnds result }
-        ensures fewer { OnEntry result (self.new.entries < self.old.entries) }
-        ensures left { self.new.entries ≤ self.old.entries }
-    {
-        'lines: for _ in 0..u64::MAX {
-            if self.is_over() {
-                self.close();
-                return Err(Interruption::Cut(Cause::Over));
-            }
-            if let Some(turn) = self.turn(alloc, tree) {
-                return turn;
-            }
-        }
-        // So many lines take longer than anybody waits.
-        Err(Interruption::Memory)
-    }
-
-    /// Whether the run is over, since the client ended it or is gone.
-    fn is_over(&self) -> bool
-        ensures { IsTrue result ↔ ((self.now.cut ≡ true) ⊎ IsSome self.now.ending) }
-    {
-        self.cut || self.ending.is_some()
-    }
-
-    /// Hears a line while a call is open; what comes next to the call then, if anything does.
-    fn turn(&mut self, alloc: Global, tree: &Tree) -> Option<Result<Turn, Interruption>>
-        ensures comes { IfSome result EntersOrEnds }
-        ensures fewer { IfSome result (λ turn. OnEntry turn (self.new.entries < self.old.entries)) }
-        ensures left { self.new.entries ≤ self.old.entries }
-    {
-        let (id, message) = self.hear(alloc)?;
-        match self.next_of(alloc, tree, message) {
-            Ok(Next::Enters((target, entry))) => self.enter(alloc, tree, id, target, entry),
-            Ok(Next::Returns(completion)) => {
-                self.reply(alloc, id, Ok(Answer::Done));
-                self.close();
-                Some(Err(Interruption::of_completion(alloc, completion)))
-            }
-            Ok(Next::Ends) => {
-                self.cut = true;
-                self.reply(alloc, id, Ok(Answer::Done));
-                None
-            }
-            Ok(Next::Says(answer)) => {
-                self.reply(alloc, id, Ok(answer));
-                None
-            }
-            Err(refusal) => {
-                self.reply(alloc, id, Err(refusal));
-                None
-            }
-        }
-    }
-
-    /// Hands in an entry by which a message is done, where the interpreter is there.
-    fn enter(
-        &mut self,
-        alloc: Global,
-        tree: &Tree,
-        id: u64,
-        target: Vec<Text>,
-        entry: Entry,
-    ) -> Option<Result<Turn, Interruption>>
-        ensures comes { IfSome result EntersOrEnds }
-        ensures fewer { IfSome result (λ turn. OnEntry turn (self.new.entries < self.old.entries)) }
-        ensures left { self.new.entries ≤ self.old.entries }
-    {
-        if !tree.exists(target.as_slice()) {
-            let refusal = nobody(alloc, target.as_slice(), &entry);
-            self.reply(alloc, id, Err(refusal));
-            return None;
-        }
-        let evaluates = matches!(entry, Entry::Eval(_));
-        if !self.await_entry(Awaited { id, evaluates }) {
-            self.reply(alloc, id, Err(Refusal::Memory));
-            return None;
-        }
-        Some(Ok(Turn::Entry(target, entry)))
-    }
-
-    /// Awaits an entry, and says whether there is memory for that. (So many entries as are counted
-    /// take longer than anybody waits.)
-    fn await_entry(&mut self, awaited: Awaited) -> bool
-        ensures fewer { OnTrue result (self.new.entries < self.old.entries) }
-        ensures left { self.new.entries ≤ self.old.entries }
-    {
-        if self.entries == 0 {
-            return false;
-        }
-        if self.awaited.push(awaited).is_err() {
-            return false;
-        }
-        self.entries -= 1;
-        true
-    }
-
-    /// What a message comes to while a call is open.
-    ///
-    /// # Errors
-    /// 510, 511, 512; those of what is asked; want of memory.
-    fn next_of(&mut self, alloc: Global, tree: &Tree, message: Message) -> Result<Next, Refusal>
-        ensures left { self.new.entries ≡ self.old.entries }
-    {
-        match message {
-            Message::Evaluate(message) => {
-                self.is_here(message.interpreter.tree)?;
-                Ok(Next::Enters(evaluation(message)?))
-            }
-            Message::OnTree(number, ask) => {
-                self.is_here(number)?;
-                self.ask_open(alloc, tree, ask)
-            }
-            Message::Return(message) => Ok(Next::Returns(self.completion_of(message)?)),
-            Message::EndRun(call) => {
-                self.is_open(call)?;
-                Ok(Next::Ends)
-            }
-            _ => Err(Refusal::CallOpen),
-        }
-    }
-
-    /// Looks whether a call is open in the tree of this number.
-    ///
-    /// # Errors
-    /// 510.
-    fn is_here(&self, tree: u64) -> Result<(), Refusal> {
-        if tree == self.tree {
-            return Ok(());
-        }
-        Err(Refusal::CallOpen)
-    }
-
-    /// Looks whether the call of this number is the one that is open.
-    ///
-    /// # Errors
-    /// 511.
-    fn is_open(&self, number: u64) -> Result<(), Refusal> {
-        if self.calls.as_slice().last() == Some(&number) {
-            return Ok(());
-        }
-        Err(Refusal::NotOpen(number))
-    }
-
-    /// The completion by which the open call is answered.
-    ///
-    /// # Errors
-    /// 511; 122; want of memory.
-    fn completion_of(&self, answer: Return) -> Result<Completion, Refusal> {
-        let Return { call, code, text } = answer;
-        self.is_open(call)?;
-        let text = Value::from_text(text)?;
-        Ok(Completion::new(code, text))
-    }
-
-    /// What comes of what is asked of the tree while a call is open.
-    ///
-    /// # Errors
-    /// Those of what is asked; want of memory.
-    fn ask_open(&mut self, alloc: Global, tree: &Tree, ask: Ask) -> Result<Next, Refusal>
-        ensures left { self.new.entries ≡ self.old.entries }
-    {
-        match ask {
-            Ask::Create(ask) => Ok(Next::Enters(creation(ask)?)),
-            Ask::Delete(path) => Ok(Next::Enters(deletion(path)?)),
-            Ask::Alias(ask) => Ok(Next::Enters(alias_entry(alloc, ask)?)),
-            Ask::AliasToClient(ask) => Ok(Next::Enters(client_alias_entry(alloc, ask)?)),
-            Ask::ClearAlias(ClearAlias { path, name }) => {
-                Ok(Next::Enters((path, Entry::Own(OwnEntry::ClearAlias(name)))))
-            }
-            Ask::LimitCount(LimitCount { path, count }) => {
-                Ok(Next::Enters((path, Entry::Own(OwnEntry::SetCountLimit(count)))))
-            }
-            Ask::LimitDepth(LimitDepth { path, depth }) => {
-                Ok(Next::Enters((path, Entry::Own(OwnEntry::SetDepthLimit(depth)))))
-            }
-            Ask::Look(path) => Ok(Next::Says(look(tree, alloc, path.as_slice())?)),
-            Ask::PutFile(file) => Ok(Next::Says(self.host.put_file(alloc, &file)?)),
-            Ask::GetFile(name) => Ok(Next::Says(self.host.file(alloc, &name)?)),
-            Ask::PutInput(text) => Ok(Next::Says(self.host.put_input(&text)?)),
-            Ask::TakeOutput(channel) => Ok(Next::Says(self.host.take(alloc, channel)?)),
-        }
-    }
-
-    /// Makes a request of the tree's host.
+    /// What is done next for the call that is open, by the lines that the client writes.
     ///
     /// # Errors
     /// Want of memory.
-    pub fn ask(&mut self, alloc: Global, request: &Request) -> Result<HostReply, AllocError>
-        ensures fits { IfOk result (λ reply. IsTrue (is_reply_to reply request.now)) }
-        ensures left { self.new.entries ≡ self.old.entries }
+    fn serve(&mut self, alloc: Global) -> Result<Action, AllocError>
+        ensures { IfOk result (λ action. (left : ClientView) × Waits self.old left ×
+            Acts left (action_of action) self.new) }
     {
-        self.host.ask(alloc, request)
+        'lines: for _ in 0..u64::MAX {
+            if let Some(action) = self.turn(alloc) {
+                return Ok(action);
+            }
+        }
+        // So many lines take longer than anybody waits.
+        Err(AllocError)
     }
 
-    /// An entry into the interpreter at the path ended, which answers the message that was last
-    /// handed in.
-    pub fn entry_ends(&mut self, alloc: Global, path: &[Text], ended: &Result<Value, Interruption>)
-        ensures left { self.new.entries ≡ self.old.entries }
+    /// Hears a line; what is done next for the open call then, if anything is. A client that is gone
+    /// ends the run.
+    fn turn(&mut self, alloc: Global) -> Option<Action>
+        ensures { Turns self.old result self.new }
     {
-        if let Some(awaited) = self.awaited.pop() {
-            let answer = entry_answer(alloc, awaited.evaluates, path, ended);
-            self.reply(alloc, awaited.id, answer);
+        if self.lines.ending().is_some() {
+            self.talk.cut = true;
+            return Some(Action::Exit(0));
         }
+        let (id, message) = self.hear(alloc)?;
+        match self.talk.next_of(alloc, message) {
+            Ok(next) => self.follow(alloc, id, next),
+            Err(refusal) => {
+                self.reply(alloc, id, &Err(refusal));
+                None
+            }
+        }
+    }
+
+    /// Does what the message of this id comes to.
+    fn follow(&mut self, alloc: Global, id: u64, next: Next) -> Option<Action>
+        ensures { Follows self.old id next result self.new }
+    {
+        match next {
+            Next::Enters(asked, evaluates) => {
+                self.enter(alloc, Awaited { id, evaluates }, asked)
+            }
+            Next::Returns(completion) => {
+                self.reply(alloc, id, &Ok(Answer::Done));
+                let _ = self.talk.calls.pop();
+                Some(Action::Complete(completion))
+            }
+            Next::Ends => {
+                self.reply(alloc, id, &Ok(Answer::Done));
+                self.talk.cut = true;
+                Some(Action::Exit(0))
+            }
+        }
+    }
+
+    /// Hands in the entry by which a message is done, where there is memory to await its end.
+    fn enter(&mut self, alloc: Global, awaited: Awaited, asked: Asked) -> Option<Action>
+        ensures { Follows self.old awaited.id (next.Enters asked awaited.evaluates) result
+            self.new }
+    {
+        match self.talk.awaited.push(awaited) {
+            Ok(()) => {
+                let (target, entry) = asked;
+                Some(Action::Enter { target, entry })
+            }
+            Err(_) => {
+                self.reply(alloc, awaited.id, &Err(Refusal::Memory));
+                None
+            }
+        }
+    }
+}
+
+impl<R: BufRead + Drop, W: Write + Drop> Functions for Client<R, W> {
+    ghost serves = { λ o call action z. Serves o call action z };
+
+    fn call(&mut self, alloc: Global, call: &Call) -> Result<Action, AllocError> {
+        self.tell(alloc, call)?;
+        self.serve(alloc)
     }
 }

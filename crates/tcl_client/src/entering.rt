@@ -1,15 +1,15 @@
 //! Messages as entries, while a call is open.
 ghost use Rattle.std.specs.Prelude.{◌≡◌, IfErr, IfOk, true};
+ghost use Rattle.tcl_client.specs.Entering.{AsksEntry, IsEntry, IsMisfit, NoEntry, client_way};
+ghost use Rattle.tcl_protocol.specs.Messages as asks;
+ghost use Rattle.tcl_protocol.specs.Messages.{ask_of, evaluation_of};
+ghost use Rattle.tcl_protocol.specs.declared.messages.Ask.TheVariants as ask;
 ghost use Rattle.tcl_run.specs.Entering.{whole_entry};
-ghost use Rattle.tcl_client.specs.Messages as asks;
-ghost use Rattle.tcl_client.specs.Messages.{ask_of, evaluation_of};
-ghost use Rattle.tcl_client.specs.Entering.{AsksEntry, IsEntry, NoEntry};
-ghost use Rattle.tcl_client.specs.declared.messages.Ask.TheVariants as ask;
 
-use crate::acting::{client_alias, values_of};
-use crate::messages::{Alias, AliasToClient, Create, Evaluate};
-use crate::refusals::Refusal;
 use std::alloc::Global;
+use tcl_protocol::messages::{Alias, AliasToClient, Ask, ClearAlias, Create, Evaluate};
+use tcl_protocol::messages::{LimitCount, LimitDepth};
+use tcl_protocol::refusals::Refusal;
 use tcl_run::entry::{Entry, OwnEntry};
 use tcl_text::text::Text;
 use tcl_tree::alias;
@@ -18,11 +18,39 @@ use tcl_value::value::Value;
 /// What the interpreter at a path is asked for.
 pub type Asked = (Vec<Text>, Entry);
 
+/// The values of these texts.
+///
+/// # Errors
+/// 122; want of memory.
+pub fn values_of(alloc: Global, texts: &[Text]) -> Result<Vec<Value>, Refusal>
+    ensures values { IfOk result (λ values. values.items ≡ texts.now) }
+    ensures fault { IfErr result IsMisfit }
+{
+    let mut values = Vec::new(alloc);
+    'texts: for text in texts {
+        values.push(Value::from_text(text.clone()?)?)?;
+    }
+    Ok(values)
+}
+
+/// The alias of an interpreter at the path to the client, whose calls begin with these words.
+///
+/// # Errors
+/// 122; want of memory.
+pub fn client_alias(alloc: Global, path: &[Text], words: &[Text]) -> Result<alias::Alias, Refusal>
+    ensures alias { IfOk result (λ made. made ≡ client_way path.now words.now) }
+    ensures fault { IfErr result IsMisfit }
+{
+    let words = values_of(alloc, words)?;
+    let down = Vec::new(alloc);
+    Ok(alias::Alias::new(alloc, path.len() + 1, down, words)?)
+}
+
 /// What a script is evaluated by.
 ///
 /// # Errors
 /// 512; 122; want of memory.
-pub fn evaluation(evaluate: Evaluate) -> Result<Asked, Refusal>
+pub(crate) fn evaluation(evaluate: Evaluate) -> Result<Asked, Refusal>
     ensures entry { IfOk result (λ asked. IsEntry (asks.Evaluate (evaluation_of evaluate))
         evaluate.interpreter.tree asked.0.items (whole_entry asked.1) true) }
     ensures fault { IfErr result NoEntry }
@@ -39,11 +67,38 @@ pub fn evaluation(evaluate: Evaluate) -> Result<Asked, Refusal>
     Ok((interpreter.path, Entry::Eval(script)))
 }
 
+/// What is asked of an interpreter by a message that evaluates no script.
+///
+/// # Errors
+/// 510 where it isn't done as an entry; 513; 122; want of memory.
+pub(crate) fn entry_of(alloc: Global, ask: Ask) -> Result<Asked, Refusal>
+    ensures entry { IfOk result
+        (λ asked. AsksEntry (ask_of ask) asked.0.items (whole_entry asked.1)) }
+    ensures fault { IfErr result NoEntry }
+{
+    match ask {
+        Ask::Create(ask) => creation(ask),
+        Ask::Delete(path) => deletion(path),
+        Ask::Alias(ask) => alias_entry(alloc, ask),
+        Ask::AliasToClient(ask) => client_alias_entry(alloc, ask),
+        Ask::ClearAlias(ClearAlias { path, name }) => {
+            Ok((path, Entry::Own(OwnEntry::ClearAlias(name))))
+        }
+        Ask::LimitCount(LimitCount { path, count }) => {
+            Ok((path, Entry::Own(OwnEntry::SetCountLimit(count))))
+        }
+        Ask::LimitDepth(LimitDepth { path, depth }) => {
+            Ok((path, Entry::Own(OwnEntry::SetDepthLimit(depth))))
+        }
+        _ => Err(Refusal::CallOpen),
+    }
+}
+
 /// What an interpreter is made by, of the one above it.
 ///
 /// # Errors
 /// 513.
-pub fn creation(create: Create) -> Result<Asked, Refusal>
+fn creation(create: Create) -> Result<Asked, Refusal>
     ensures entry { IfOk result
         (λ asked. AsksEntry (ask_of (ask.Create create)) asked.0.items (whole_entry asked.1)) }
     ensures fault { IfErr result NoEntry }
@@ -63,7 +118,7 @@ pub fn creation(create: Create) -> Result<Asked, Refusal>
 ///
 /// # Errors
 /// 513.
-pub fn deletion(path: Vec<Text>) -> Result<Asked, Refusal>
+fn deletion(path: Vec<Text>) -> Result<Asked, Refusal>
     ensures entry { IfOk result
         (λ asked. AsksEntry (ask_of (ask.Delete path)) asked.0.items (whole_entry asked.1)) }
     ensures fault { IfErr result NoEntry }
@@ -79,7 +134,7 @@ pub fn deletion(path: Vec<Text>) -> Result<Asked, Refusal>
 ///
 /// # Errors
 /// 122; want of memory.
-pub fn alias_entry(alloc: Global, alias: Alias) -> Result<Asked, Refusal>
+fn alias_entry(alloc: Global, alias: Alias) -> Result<Asked, Refusal>
     ensures entry { IfOk result
         (λ asked. AsksEntry (ask_of (ask.Alias alias)) asked.0.items (whole_entry asked.1)) }
     ensures fault { IfErr result NoEntry }
@@ -99,9 +154,10 @@ pub fn alias_entry(alloc: Global, alias: Alias) -> Result<Asked, Refusal>
 ///
 /// # Errors
 /// 122; want of memory.
-pub fn client_alias_entry(alloc: Global, alias: AliasToClient) -> Result<Asked, Refusal>
+fn client_alias_entry(alloc: Global, alias: AliasToClient) -> Result<Asked, Refusal>
     ensures entry { IfOk result
-        (λ asked. AsksEntry (ask_of (ask.AliasToClient alias)) asked.0.items (whole_entry asked.1)) }
+        (λ asked. AsksEntry (ask_of (ask.AliasToClient alias)) asked.0.items
+        (whole_entry asked.1)) }
     ensures fault { IfErr result NoEntry }
 {
     let AliasToClient { path, name, words } = alias;

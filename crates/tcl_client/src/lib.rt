@@ -1,17 +1,7 @@
-//! The client of a server: lines of JSON, what they ask for and how they are answered, and the client
-//! as what stands outside of a tree.
+//! The client of a server as functions of an embedder: a script's call of the client is a line to
+//! it, and the client's lines say what is done next for the call.
 #![tactic(auto)]
 
-pub mod acting;
-pub mod answers;
 pub mod client;
-pub mod ending;
 pub mod entering;
-pub mod fields;
-pub mod hosts;
-pub mod kinds;
-pub mod lines;
-pub mod messages;
-mod outside;
-pub mod refusals;
-pub mod served;
+pub mod open;

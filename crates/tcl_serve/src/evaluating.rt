@@ -1,93 +1,175 @@
-//! Evaluations, with the client outside.
+//! Evaluations, with the client outside of the tree.
+ghost use Rattle.std.specs.Prelude.{◌≡◌, IfOk, MatchResult};
+ghost use Rattle.tcl_client.specs.Clients.{IsOver};
+ghost use Rattle.tcl_eval.specs.Running.{open_ending};
+ghost use Rattle.tcl_protocol.specs.Messages.{evaluation_of};
+ghost use Rattle.tcl_protocol.specs.declared.answers.Ended.TheVariants.{Completed};
+ghost use Rattle.tcl_serve.specs.Evaluating.{Begins, Evaluates, Says, SaysRecord, Watches};
+ghost use Rattle.tcl_serve.specs.Evaluating.{ended_as, of_refused};
+
 use crate::keeping::lines_of;
 use crate::numbered::Numbered;
+use crate::served::ServedTree;
 use std::alloc::{AllocError, Global};
 use std::io::{BufRead, Write};
-use tcl_client::answers::{Answer, Ended, Watched};
+use std::mem::replace;
 use tcl_client::client::Client;
-use tcl_client::messages::{Evaluate, STEPS, Watch};
-use tcl_client::refusals::Refusal;
-use tcl_client::served::ServedTree;
 use tcl_eval::running::{End, OpenEnd, Refused, open_run};
+use tcl_flow::completion::Completion;
+use tcl_functions::serving::WithFunctions;
+use tcl_host::memory::MemoryHost;
 use tcl_open_watching::watching::{OpenUnwatched, open_watched};
+use tcl_protocol::answers::{Answer, Ended, Watched};
+use tcl_protocol::messages::{Evaluate, STEPS, Watch};
+use tcl_protocol::refusals::Refusal;
 use tcl_recorder::record::Record;
+
+/// The client and the host of a tree, as what stands outside of the tree.
+type Both<R, W> = WithFunctions<Client<R, W>, MemoryHost>;
+
+/// The client and the host of a served tree, for a run in that tree, which has this number; where
+/// memory is wanted, the client again.
+fn outside_of<R: BufRead + Drop, W: Write + Drop>(
+    alloc: Global,
+    client: Client<R, W>,
+    served: &mut ServedTree,
+    number: u64,
+) -> Result<Both<R, W>, Client<R, W>>
+    ensures { MatchResult result (λ both. Begins served.old client number both served.new)
+        (λ back. (back ≡ client) × (served.new ≡ served.old)) }
+{
+    let Ok(spare) = MemoryHost::new(alloc) else {
+        return Err(client);
+    };
+    let mut client = client;
+    client.begin(number);
+    let host = replace(&mut served.host.host, spare);
+    Ok(WithFunctions::new(alloc, client, host))
+}
+
+/// The client again, once the run is over; the tree has its host again.
+fn client_of<R: BufRead + Drop, W: Write + Drop>(
+    alloc: Global,
+    both: Both<R, W>,
+    served: &mut ServedTree,
+) -> Client<R, W>
+    ensures over { IsOver both.functions result }
+    ensures tree { served.new.tree ≡ served.old.tree }
+    ensures host { served.new.host ≡ record served.old.host { host = both.host } }
+{
+    let (mut client, host) = both.into_parts();
+    served.host.host = host;
+    client.finish(alloc);
+    client
+}
 
 /// Evaluates a script, with the client outside of the tree.
 ///
 /// # Errors
 /// 401 to 404 and 122; want of memory.
-pub fn evaluate<R: BufRead + Drop, W: Write + Drop>(
+pub(crate) fn evaluate<R: BufRead + Drop, W: Write + Drop>(
     alloc: Global,
-    client: &mut Client<R, W>,
+    client: Client<R, W>,
     served: &mut ServedTree,
     message: &Evaluate,
-) -> Result<Answer, Refusal> {
+) -> (Client<R, W>, Result<Answer, Refusal>)
+    ensures { Evaluates served.old client (evaluation_of message.now) served.new result.0 result.1 }
+{
     let path = message.interpreter.path.as_slice();
     let script = message.script.as_str();
     let limit = message.limit.unwrap_or(STEPS);
-    client.begin(message.interpreter.tree, &mut served.host);
-    let run = open_run(&mut served.tree, alloc, client, path, script, limit);
-    client.finish(alloc, &mut served.host);
+    match outside_of(alloc, client, served, message.interpreter.tree) {
+        Ok(mut both) => {
+            let run = open_run(&mut served.tree, alloc, &mut both, path, script, limit);
+            let client = client_of(alloc, both, served);
+            let answer = said(alloc, client.is_cut(), run);
+            (client, answer)
+        }
+        Err(client) => (client, Err(Refusal::Memory)),
+    }
+}
+
+/// What is said of a run, which the client cut off or not.
+///
+/// # Errors
+/// 401 to 404 and 122; want of memory.
+fn said(alloc: Global, cut: bool, run: Result<OpenEnd, Refused>) -> Result<Answer, Refusal>
+    ensures { Says cut run result }
+{
     match run {
-        Ok(end) => Ok(Answer::Ended(ended(alloc, &end)?)),
+        Ok(end) => Ok(Answer::Ended(ended(alloc, cut, &end)?)),
         Err(refused) => Err(refusal_of(refused)),
     }
 }
 
-/// How a run ended.
-fn ended(alloc: Global, end: &OpenEnd) -> Result<Ended, AllocError> {
+/// How a run ended, which the client cut off or not.
+fn ended(alloc: Global, cut: bool, end: &OpenEnd) -> Result<Ended, AllocError>
+    ensures { IfOk result (λ e. e ≡ ended_as cut (open_ending end.now)) }
+{
+    if cut {
+        return Ok(Ended::Cut);
+    }
     match end {
-        OpenEnd::Ran(End::Done(completion)) => {
-            let text = completion.text.text(alloc)?;
-            Ok(Ended::Completed(completion.code, text))
-        }
+        OpenEnd::Ran(End::Done(completion)) => completed(alloc, completion),
         OpenEnd::Ran(End::Stopped(kind)) => Ok(Ended::Stopped(*kind)),
         OpenEnd::Ran(End::Exit(status)) => Ok(Ended::Exited(*status)),
         OpenEnd::CutOff => Ok(Ended::Cut),
     }
 }
 
+/// How a run ended that completed so.
+fn completed(alloc: Global, completion: &Completion) -> Result<Ended, AllocError>
+    ensures { IfOk result (λ e. e ≡ Completed completion.now.code completion.now.text) }
+{
+    let text = completion.text.text(alloc)?;
+    Ok(Ended::Completed(completion.code, text))
+}
+
 /// Evaluates a script so, and keeps the record of what crosses the boundary of an interpreter.
 ///
 /// # Errors
 /// 401 to 404, 122 and 411; want of memory.
-pub fn watch<R: BufRead + Drop, W: Write + Drop>(
+pub(crate) fn watch<R: BufRead + Drop, W: Write + Drop>(
     alloc: Global,
     client: Client<R, W>,
     served: &mut ServedTree,
     message: &Watch,
     records: &mut Numbered<Record>,
-) -> (Client<R, W>, Result<Answer, Refusal>) {
-    let mut client = client;
-    let path = message.evaluate.interpreter.path.as_slice();
-    let script = message.evaluate.script.as_str();
-    let limit = message.evaluate.limit.unwrap_or(STEPS);
+) -> (Client<R, W>, Result<Answer, Refusal>)
+    ensures { Watches served.old client records.old (evaluation_of message.now.evaluate)
+        message.now.watched.items served.new result.0 records.new result.1 }
+{
+    let evaluate = &message.evaluate;
+    let path = evaluate.interpreter.path.as_slice();
+    let script = evaluate.script.as_str();
+    let limit = evaluate.limit.unwrap_or(STEPS);
     let watched = message.watched.as_slice();
-    client.begin(message.evaluate.interpreter.tree, &mut served.host);
-    let (mut client, run) = open_watched(
-        &mut served.tree,
-        alloc,
-        client,
-        path,
-        script,
-        limit,
-        watched,
-    );
-    client.finish(alloc, &mut served.host);
-    (client, recorded(alloc, run, records))
+    match outside_of(alloc, client, served, evaluate.interpreter.tree) {
+        Ok(both) => {
+            let tree = &mut served.tree;
+            let (both, run) = open_watched(tree, alloc, both, path, script, limit, watched);
+            let client = client_of(alloc, both, served);
+            let answer = recorded(alloc, client.is_cut(), run, records);
+            (client, answer)
+        }
+        Err(client) => (client, Err(Refusal::Memory)),
+    }
 }
 
 /// What is said of an evaluation that was watched, whose record is kept.
 fn recorded(
     alloc: Global,
+    cut: bool,
     run: Result<(OpenEnd, Record), OpenUnwatched>,
     records: &mut Numbered<Record>,
-) -> Result<Answer, Refusal> {
+) -> Result<Answer, Refusal>
+    ensures { SaysRecord cut run records.old result records.new }
+{
     match run {
-        Ok((end, record)) => {
-            let ended = ended(alloc, &end)?;
-            let lines = lines_of(alloc, record.crossings())?;
-            let number = records.add(record)?;
+        Ok((end, kept)) => {
+            let ended = ended(alloc, cut, &end)?;
+            let lines = lines_of(alloc, kept.crossings())?;
+            let number = records.add(kept)?;
             Ok(Answer::Watched(Watched {
                 ended,
                 record: number,
@@ -100,7 +182,9 @@ fn recorded(
 }
 
 /// Why there was no run, or none that came to its end.
-pub fn refusal_of(refused: Refused) -> Refusal {
+pub(crate) fn refusal_of(refused: Refused) -> Refusal
+    ensures { result ≡ of_refused refused }
+{
     match refused {
         Refused::Memory => Refusal::Breaks,
         Refused::Broken => Refusal::Broken,

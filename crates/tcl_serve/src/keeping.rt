@@ -1,10 +1,17 @@
 //! Records, and what they come to when they are replayed.
+ghost use Rattle.std.specs.Prelude.{◌≡◌, IfOk};
+ghost use Rattle.tcl_core.specs.Lives.{outs_of};
+ghost use Rattle.tcl_record_texts.specs.Lines.{line};
+ghost use Rattle.tcl_recorder.specs.Crossings.{event_of, events_of};
+ghost use Rattle.tcl_replay.specs.Saved.{saved_of};
+ghost use Rattle.tcl_serve.specs.Keeping.{Plays, leads_out, lines_in, of_unplayed, of_unsaved, under};
+
 use crate::evaluating::refusal_of;
 use std::alloc::{AllocError, Global};
-use tcl_client::answers::Replayed;
-use tcl_client::refusals::Refusal;
 use tcl_eval::running::Refused;
 use tcl_player::moves::moves_of;
+use tcl_protocol::answers::Replayed;
+use tcl_protocol::refusals::Refusal;
 use tcl_record_texts::lines::{crossing_line, outcome_text};
 use tcl_recorder::crossing::Crossing;
 use tcl_recorder::record::Record;
@@ -14,7 +21,7 @@ use tcl_text::text::Text;
 
 /// What an interpreter told in a replay.
 #[derive(Drop)]
-pub struct Told {
+pub(crate) struct Told {
     /// What came of the moves.
     pub outcome: Text,
     /// Whether it is what it tells in the record.
@@ -25,7 +32,9 @@ pub struct Told {
 
 impl Told {
     /// The same, and the number under which is kept what the replay left.
-    pub fn under(self, number: u64) -> Replayed {
+    pub fn under(self, number: u64) -> Replayed
+        ensures { result ≡ under self number }
+    {
         let Told {
             outcome,
             same,
@@ -42,80 +51,92 @@ impl Told {
 
 /// A replay: what was told in it, and what it left.
 #[derive(Drop)]
-pub struct Left {
+pub(crate) struct Left {
     /// What was told.
     pub told: Told,
     /// The interpreter as it was left.
-    pub left: Saved,
+    pub saved: Saved,
 }
 
 /// Replays a record to a saved interpreter.
 ///
 /// # Errors
 /// 404 and 412; want of memory.
-pub fn replayed(
+pub(crate) fn replayed(
     alloc: Global,
     saved: &Saved,
-    record: &Record,
+    kept: &Record,
     limit: u64,
-) -> Result<Left, Refusal> {
-    let moves = moves_of(alloc, record.crossings())?;
+) -> Result<Left, Refusal>
+    ensures { Plays (saved_of saved.now) kept.now.crossings limit result }
+{
+    let moves = moves_of(alloc, kept.crossings())?;
     match saved.replay(alloc, moves.as_slice(), limit) {
         Ok(replayed) => {
-            let (outcome, outwards, left) = replayed.into_parts();
+            let (outcome, outwards, saved) = replayed.into_parts();
             let outcome = Text::from_string(alloc, outcome_text(alloc, outcome)?)?;
             let lines = lines_of(alloc, outwards.as_slice())?;
-            let same = tells_same(alloc, record.crossings(), lines.as_slice())?;
+            let wanted = told_lines(alloc, kept.crossings())?;
+            let same = wanted.as_slice() == lines.as_slice();
             Ok(Left {
                 told: Told {
                     outcome,
                     same,
                     lines,
                 },
-                left,
+                saved,
             })
         }
         Err(unplayed) => Err(unplayed_refusal(unplayed)),
     }
 }
 
+/// The line of a crossing.
+fn line_of(alloc: Global, crossing: &Crossing) -> Result<Text, AllocError>
+    ensures { IfOk result (λ text. text ≡ line crossing.now) }
+{
+    let line = crossing_line(alloc, crossing)?;
+    Text::from_string(alloc, line)
+}
+
 /// The lines of crossings.
 ///
 /// # Errors
 /// Want of memory.
-pub fn lines_of(alloc: Global, crossings: &[Crossing]) -> Result<Vec<Text>, AllocError> {
+pub(crate) fn lines_of(alloc: Global, crossings: &[Crossing]) -> Result<Vec<Text>, AllocError>
+    ensures { IfOk result (λ made. made.items ≡ lines_in (events_of crossings.now)) }
+{
     let mut lines = Vec::new(alloc);
     'crossings: for crossing in crossings {
-        let line = crossing_line(alloc, crossing)?;
-        lines.push(Text::from_string(alloc, line)?)?;
+        lines.push(line_of(alloc, crossing)?)?;
     }
     Ok(lines)
 }
 
 /// Whether a crossing leads outwards: it is a call, or the end of an entry.
-fn leads_out(crossing: &Crossing) -> bool {
+fn leads_out(crossing: &Crossing) -> bool
+    ensures { result ≡ leads_out (event_of crossing.now) }
+{
     matches!(crossing, Crossing::Out { .. } | Crossing::Done { .. })
 }
 
-/// Whether the crossings that lead outwards have these lines.
-fn tells_same(alloc: Global, crossings: &[Crossing], lines: &[Text]) -> Result<bool, AllocError> {
-    let mut rest = lines;
+/// The lines of those crossings that lead outwards.
+fn told_lines(alloc: Global, crossings: &[Crossing]) -> Result<Vec<Text>, AllocError>
+    ensures { IfOk result (λ made. made.items ≡ lines_in (outs_of (events_of crossings.now))) }
+{
+    let mut lines = Vec::new(alloc);
     'crossings: for crossing in crossings {
         if leads_out(crossing) {
-            let Some((line, later)) = rest.split_first() else {
-                return Ok(false);
-            };
-            if crossing_line(alloc, crossing)?.as_str() != line.as_str() {
-                return Ok(false);
-            }
-            rest = later;
+            lines.push(line_of(alloc, crossing)?)?;
         }
     }
-    Ok(rest.is_empty())
+    Ok(lines)
 }
 
 /// Why nothing was replayed.
-fn unplayed_refusal(unplayed: Unplayed) -> Refusal {
+fn unplayed_refusal(unplayed: Unplayed) -> Refusal
+    ensures { result ≡ of_unplayed unplayed }
+{
     match unplayed {
         Unplayed::Memory => Refusal::Memory,
         Unplayed::CountTooLarge => Refusal::TooManySteps,
@@ -124,7 +145,9 @@ fn unplayed_refusal(unplayed: Unplayed) -> Refusal {
 }
 
 /// Why an interpreter isn't saved. Want of memory breaks nothing then.
-pub fn unsaved_refusal(refused: Refused) -> Refusal {
+pub(crate) fn unsaved_refusal(refused: Refused) -> Refusal
+    ensures { result ≡ of_unsaved refused }
+{
     match refused {
         Refused::Memory => Refusal::Memory,
         other => refusal_of(other),

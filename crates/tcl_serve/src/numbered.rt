@@ -1,4 +1,8 @@
 //! What is kept under numbers.
+ghost use Rattle.std.specs.Prelude.{◌≡◌, ℕ, None, IfOk, OnErr};
+ghost use Rattle.std.specs.Option.{option_copied};
+ghost use Rattle.tcl_serve.specs.Numbering.{Adds, Puts, kept_at};
+
 use std::alloc::{AllocError, Global};
 use std::collections::BTreeMap;
 
@@ -21,7 +25,10 @@ impl<T: Drop> Drop for Numbered<T> {
 
 impl<T: Drop> Numbered<T> {
     /// Nothing.
-    pub fn new(alloc: Global) -> Numbered<T> {
+    pub fn new(alloc: Global) -> Numbered<T>
+        ensures last { result.last ≡ 0 }
+        ensures empty { (k : ℕ) → kept_at result k ≡ None }
+    {
         Numbered {
             last: 0,
             held: BTreeMap::new(alloc),
@@ -31,8 +38,11 @@ impl<T: Drop> Numbered<T> {
     /// Keeps a thing, under the next number.
     ///
     /// # Errors
-    /// Want of memory.
-    pub fn add(&mut self, thing: T) -> Result<u64, AllocError> {
+    /// Want of memory, which changes nothing.
+    pub fn add(&mut self, thing: T) -> Result<u64, AllocError>
+        ensures adds { IfOk result (λ number. Adds self.old number thing self.new) }
+        ensures unchanged { OnErr result (self.new ≡ self.old) }
+    {
         if self.last == u64::MAX {
             // So many things fit no memory.
             return Err(AllocError);
@@ -41,5 +51,20 @@ impl<T: Drop> Numbered<T> {
         self.held.insert(number, thing)?;
         self.last = number;
         Ok(number)
+    }
+
+    /// What is kept under a number.
+    pub fn get(&self, number: u64) -> Option<&T>
+        ensures { option_copied result ≡ kept_at self.now number }
+    {
+        self.held.get(&number)
+    }
+
+    /// Takes out what is kept under a number.
+    pub fn remove(&mut self, number: u64) -> Option<T>
+        ensures taken { result ≡ kept_at self.old number }
+        ensures puts { Puts self.old number None self.new }
+    {
+        self.held.remove(&number)
     }
 }

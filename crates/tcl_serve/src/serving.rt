@@ -1,17 +1,21 @@
 //! A session, from its first line to its last.
+ghost use Rattle.std.specs.Prelude.{◌≡◌, None, Some};
+ghost use Rattle.tcl_client.specs.Views.{ClientView};
+ghost use Rattle.tcl_serve.specs.Serving.{IsServed, Turns};
+
 use crate::session::Session;
 use std::alloc::Global;
 use std::io::{BufRead, Write};
 use tcl_client::client::Client;
-use tcl_client::ending::Ending;
-use tcl_client::lines::LineFault;
+use tcl_protocol::lines::Ending;
 
-/// Serves a client: each line that is read is answered by one that is written, until no line is
-/// left to be read, or none can be read or written.
-pub fn serve<R: BufRead + Drop, W: Write + Drop>(alloc: Global, reader: R, writer: W) -> Ending {
-    let Ok(mut client) = Client::new(alloc, reader, writer) else {
-        return Ending::Failed(LineFault::Memory);
-    };
+/// Serves the client at the other end of a reader and a writer: each line that is read is answered
+/// by one that is written, and a call that leaves a tree is a line of its own, until no line can be
+/// read, or one can't be written. Says why.
+pub fn serve<R: BufRead + Drop, W: Write + Drop>(alloc: Global, reader: R, writer: W) -> Ending
+    ensures { IsServed (R.remaining reader) (W.contents writer) result }
+{
+    let mut client = Client::new(alloc, reader, writer);
     let mut session = Session::new(alloc);
     'lines: for _ in 0..u64::MAX {
         if let Some(ending) = client.ending() {
@@ -19,7 +23,8 @@ pub fn serve<R: BufRead + Drop, W: Write + Drop>(alloc: Global, reader: R, write
         }
         client = serve_line(alloc, client, &mut session);
     }
-    Ending::Finished
+    // So many lines take longer than anybody waits.
+    Ending::Memory
 }
 
 /// Serves a line.
@@ -27,12 +32,15 @@ fn serve_line<R: BufRead + Drop, W: Write + Drop>(
     alloc: Global,
     client: Client<R, W>,
     session: &mut Session,
-) -> Client<R, W> {
+) -> Client<R, W>
+    requires { client.lines.ending ≡ None }
+    ensures { Turns client session.old result session.new }
+{
     let mut client = client;
     match client.hear(alloc) {
         Some((id, message)) => {
             let (mut client, answer) = session.answer(alloc, client, message);
-            client.reply(alloc, id, answer);
+            client.reply(alloc, id, &answer);
             client
         }
         None => client,

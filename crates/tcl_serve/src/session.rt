@@ -1,15 +1,20 @@
 //! What a session keeps: trees, saved interpreters and records, under their numbers.
+ghost use Rattle.std.specs.Prelude.{◌≡◌};
+ghost use Rattle.tcl_protocol.specs.Messages.{asks_of, evaluation_of, place_of, ask_of};
+ghost use Rattle.tcl_protocol.specs.Messages as asks;
+ghost use Rattle.tcl_serve.specs.Sessions.{Answers, Does, IsEmpty};
+
 use crate::evaluating::{evaluate, watch};
 use crate::keeping::{replayed, unsaved_refusal};
 use crate::numbered::Numbered;
+use crate::served::ServedTree;
 use std::alloc::Global;
 use std::io::{BufRead, Write};
-use tcl_client::answers::Answer;
 use tcl_client::client::Client;
-use tcl_client::fields::Field;
-use tcl_client::messages::{Ask, Compare, Evaluate, Interpreter, Message, Replay, Watch};
-use tcl_client::refusals::Refusal;
-use tcl_client::served::ServedTree;
+use tcl_protocol::answers::Answer;
+use tcl_protocol::fields::Field;
+use tcl_protocol::messages::{Ask, Compare, Evaluate, Interpreter, Message, Replay, Watch};
+use tcl_protocol::refusals::Refusal;
 use tcl_recorder::record::Record;
 use tcl_replay::saving::{Saved, save};
 use tcl_text::integer::Integers;
@@ -33,7 +38,9 @@ impl Drop for Session {
 
 impl Session {
     /// Nothing is kept yet.
-    pub fn new(alloc: Global) -> Session {
+    pub(crate) fn new(alloc: Global) -> Session
+        ensures { IsEmpty result }
+    {
         Session {
             trees: Numbered::new(alloc),
             saved: Numbered::new(alloc),
@@ -42,18 +49,16 @@ impl Session {
     }
 
     /// Does what a message asks for, while no call is open.
-    pub fn answer<R: BufRead + Drop, W: Write + Drop>(
+    pub(crate) fn answer<R: BufRead + Drop, W: Write + Drop>(
         &mut self,
         alloc: Global,
         client: Client<R, W>,
         message: Message,
-    ) -> (Client<R, W>, Result<Answer, Refusal>) {
+    ) -> (Client<R, W>, Result<Answer, Refusal>)
+        ensures { Answers self.old client (asks_of message) self.new result.0 result.1 }
+    {
         match message {
-            Message::Evaluate(message) => {
-                let mut client = client;
-                let answer = self.evaluate(alloc, &mut client, &message);
-                (client, answer)
-            }
+            Message::Evaluate(message) => self.evaluate(alloc, client, &message),
             Message::Watch(message) => self.watch(alloc, client, &message),
             other => {
                 let answer = self.act(alloc, &other);
@@ -66,13 +71,16 @@ impl Session {
     fn evaluate<R: BufRead + Drop, W: Write + Drop>(
         &mut self,
         alloc: Global,
-        client: &mut Client<R, W>,
+        client: Client<R, W>,
         message: &Evaluate,
-    ) -> Result<Answer, Refusal> {
+    ) -> (Client<R, W>, Result<Answer, Refusal>)
+        ensures { Answers self.old client (asks.Evaluate (evaluation_of message.now)) self.new
+            result.0 result.1 }
+    {
         let number = message.interpreter.tree;
         match self.trees.held.get_mut(&number) {
             Some(served) => evaluate(alloc, client, served, message),
-            None => Err(Refusal::Nothing(Field::Tree, number)),
+            None => (client, Err(Refusal::Nothing(Field::Tree, number))),
         }
     }
 
@@ -82,7 +90,11 @@ impl Session {
         alloc: Global,
         client: Client<R, W>,
         message: &Watch,
-    ) -> (Client<R, W>, Result<Answer, Refusal>) {
+    ) -> (Client<R, W>, Result<Answer, Refusal>)
+        ensures { Answers self.old client
+            (asks.Watch (evaluation_of message.now.evaluate) message.now.watched.items) self.new
+            result.0 result.1 }
+    {
         let number = message.evaluate.interpreter.tree;
         match self.trees.held.get_mut(&number) {
             Some(served) => watch(alloc, client, served, message, &mut self.records),
@@ -91,7 +103,9 @@ impl Session {
     }
 
     /// Does what a message asks for that evaluates nothing.
-    fn act(&mut self, alloc: Global, message: &Message) -> Result<Answer, Refusal> {
+    fn act(&mut self, alloc: Global, message: &Message) -> Result<Answer, Refusal>
+        ensures { Does self.old (asks_of message.now) result self.new }
+    {
         match message {
             Message::MakeTree(integers) => self.make_tree(alloc, *integers),
             Message::DropTree(number) => self.drop_tree(*number),
@@ -108,21 +122,27 @@ impl Session {
     }
 
     /// Makes a tree.
-    fn make_tree(&mut self, alloc: Global, integers: Integers) -> Result<Answer, Refusal> {
+    fn make_tree(&mut self, alloc: Global, integers: Integers) -> Result<Answer, Refusal>
+        ensures { Does self.old (asks.MakeTree integers) result self.new }
+    {
         let served = ServedTree::new(alloc, integers)?;
         Ok(Answer::Tree(self.trees.add(served)?))
     }
 
     /// Drops a tree.
-    fn drop_tree(&mut self, number: u64) -> Result<Answer, Refusal> {
-        match self.trees.held.remove(&number) {
+    fn drop_tree(&mut self, number: u64) -> Result<Answer, Refusal>
+        ensures { Does self.old (asks.DropTree number) result self.new }
+    {
+        match self.trees.remove(number) {
             Some(_served) => Ok(Answer::Done),
             None => Err(Refusal::Nothing(Field::Tree, number)),
         }
     }
 
     /// Does what is asked of a tree.
-    fn ask(&mut self, alloc: Global, number: u64, ask: &Ask) -> Result<Answer, Refusal> {
+    fn ask(&mut self, alloc: Global, number: u64, ask: &Ask) -> Result<Answer, Refusal>
+        ensures { Does self.old (asks.OnTree number (ask_of ask.now)) result self.new }
+    {
         match self.trees.held.get_mut(&number) {
             Some(served) => served.act(alloc, ask),
             None => Err(Refusal::Nothing(Field::Tree, number)),
@@ -130,8 +150,10 @@ impl Session {
     }
 
     /// Saves an interpreter.
-    fn save(&mut self, message: &Interpreter) -> Result<Answer, Refusal> {
-        let Some(served) = self.trees.held.get(&message.tree) else {
+    fn save(&mut self, message: &Interpreter) -> Result<Answer, Refusal>
+        ensures { Does self.old (asks.Save (place_of message.now)) result self.new }
+    {
+        let Some(served) = self.trees.get(message.tree) else {
             return Err(Refusal::Nothing(Field::Tree, message.tree));
         };
         match save(&served.tree, message.path.as_slice()) {
@@ -141,40 +163,49 @@ impl Session {
     }
 
     /// Compares two saved interpreters.
-    fn compare(&self, message: Compare) -> Result<Answer, Refusal> {
-        let Some(one) = self.saved.held.get(&message.saved) else {
+    fn compare(&self, message: Compare) -> Result<Answer, Refusal>
+        ensures { Does self.now (asks.Compare message.saved message.with) result self.now }
+    {
+        let Some(one) = self.saved.get(message.saved) else {
             return Err(Refusal::Nothing(Field::Saved, message.saved));
         };
-        let Some(other) = self.saved.held.get(&message.with) else {
+        let Some(other) = self.saved.get(message.with) else {
             return Err(Refusal::Nothing(Field::With, message.with));
         };
         Ok(Answer::Same(one.same(other)))
     }
 
     /// Replays a record to a saved interpreter, and keeps what that leaves.
-    fn replay(&mut self, alloc: Global, message: Replay) -> Result<Answer, Refusal> {
-        let Some(saved) = self.saved.held.get(&message.saved) else {
+    fn replay(&mut self, alloc: Global, message: Replay) -> Result<Answer, Refusal>
+        ensures { Does self.old (asks.Replay message.saved message.played message.limit) result
+            self.new }
+    {
+        let Some(saved) = self.saved.get(message.saved) else {
             return Err(Refusal::Nothing(Field::Saved, message.saved));
         };
-        let Some(record) = self.records.held.get(&message.played) else {
+        let Some(kept) = self.records.get(message.played) else {
             return Err(Refusal::Nothing(Field::Record, message.played));
         };
-        let replay = replayed(alloc, saved, record, message.limit)?;
-        let number = self.saved.add(replay.left)?;
+        let replay = replayed(alloc, saved, kept, message.limit)?;
+        let number = self.saved.add(replay.saved)?;
         Ok(Answer::Replayed(replay.told.under(number)))
     }
 
     /// Drops a saved interpreter.
-    fn drop_saved(&mut self, number: u64) -> Result<Answer, Refusal> {
-        match self.saved.held.remove(&number) {
+    fn drop_saved(&mut self, number: u64) -> Result<Answer, Refusal>
+        ensures { Does self.old (asks.DropSaved number) result self.new }
+    {
+        match self.saved.remove(number) {
             Some(_saved) => Ok(Answer::Done),
             None => Err(Refusal::Nothing(Field::Saved, number)),
         }
     }
 
     /// Drops a record.
-    fn drop_record(&mut self, number: u64) -> Result<Answer, Refusal> {
-        match self.records.held.remove(&number) {
+    fn drop_record(&mut self, number: u64) -> Result<Answer, Refusal>
+        ensures { Does self.old (asks.DropRecord number) result self.new }
+    {
+        match self.records.remove(number) {
             Some(_record) => Ok(Answer::Done),
             None => Err(Refusal::Nothing(Field::Record, number)),
         }

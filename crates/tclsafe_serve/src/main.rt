@@ -5,19 +5,16 @@
 use std::io;
 use std::io::{BufReader, BufWriter};
 use std::process::ExitCode;
-use tcl_client::ending::Ending;
-use tcl_client::lines::LineFault;
+use tcl_protocol::lines::Ending;
 use tcl_serve::serving::serve;
 
 fn main(rt: HostRuntime) -> ExitCode {
-    match ending(&rt) {
-        Ok(ending) => ExitCode::from(ending.status()),
-        Err(_) => ExitCode::from(Ending::Failed(LineFault::Memory).status()),
-    }
+    let ending = serve_streams(&rt).unwrap_or(Ending::Memory);
+    ExitCode::from(ending.status())
 }
 
 /// How the session over the standard streams ended.
-fn ending(rt: &HostRuntime) -> io::Result<Ending> {
+fn serve_streams(rt: &HostRuntime) -> io::Result<Ending> {
     let reader = BufReader::new(rt.alloc(), rt.stdin())?;
     let writer = BufWriter::new(rt.alloc(), rt.stdout())?;
     Ok(serve(rt.alloc(), reader, writer))

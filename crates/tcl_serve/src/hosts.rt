@@ -1,27 +1,23 @@
 //! The host of a served tree, which is in memory.
-ghost use Rattle.std.specs.Option.{option_map};
-ghost use Rattle.std.specs.Prelude.{◌≡◌, IfErr, IfOk, IsTrue, MatchOption, OnErr, OnOk};
+ghost use Rattle.std.specs.Prelude.{◌≡◌, IfErr, IfOk, MatchOption, OnErr, OnOk};
 ghost use Rattle.std.specs.Prelude.{Some, drop};
 ghost use Rattle.tcl_host.specs.MemoryHost.{file_of, with_file, with_input};
-ghost use Rattle.tcl_host.specs.Replies.{is_reply_to};
-ghost use Rattle.tcl_client.specs.Hosting.{IfUnreadable, RepliesSo, all_taken, fresh_host, untaken};
-ghost use Rattle.tcl_client.specs.declared.answers.Answer.TheVariants as answer;
-ghost use Rattle.tcl_client.specs.declared.messages.Channel.TheVariants as channel;
-ghost use Rattle.tcl_client.specs.declared.refusals.Refusal.TheVariants.{Memory};
+ghost use Rattle.tcl_serve.specs.Hosting.{IfUnreadable, all_taken, fresh_host, untaken};
+ghost use Rattle.tcl_protocol.specs.declared.answers.Answer.TheVariants as answer;
+ghost use Rattle.tcl_protocol.specs.declared.messages.Channel.TheVariants as channel;
+ghost use Rattle.tcl_protocol.specs.declared.refusals.Refusal.TheVariants.{Memory};
 
-use crate::answers::Answer;
-use crate::messages::{Channel, PutFile};
-use crate::refusals::Refusal;
 use std::alloc::{AllocError, Global};
-use tcl_host::host::ask;
 use tcl_host::memory::MemoryHost;
-use tcl_host::reply::HostReply;
-use tcl_host::request::Request;
+use tcl_protocol::answers::Answer;
+use tcl_protocol::messages::{Channel, PutFile};
+use tcl_protocol::refusals::Refusal;
 use tcl_text::text::Text;
 
 /// A host in memory, and how much of what was written to its channels was taken.
 pub struct ServedHost {
-    host: MemoryHost,
+    /// The host.
+    pub host: MemoryHost,
     output_taken: usize,
     errors_taken: usize,
 }
@@ -67,18 +63,6 @@ impl ServedHost {
             output_taken: 0,
             errors_taken: 0,
         })
-    }
-
-    /// Makes a request of it.
-    ///
-    /// # Errors
-    /// Want of memory.
-    pub fn ask(&mut self, alloc: Global, request: &Request) -> Result<HostReply, AllocError>
-        ensures fits { IfOk result (λ reply. IsTrue (is_reply_to reply request.now)) }
-        ensures replies { IfOk result (λ reply. RepliesSo self.old request.now reply self.new) }
-        ensures unchanged { OnErr result (self.new ≡ self.old) }
-    {
-        ask(&mut self.host, alloc, request)
     }
 
     /// Puts a file into the place of any that has its name.

@@ -1,29 +1,27 @@
 //! What is done to a tree while nothing is evaluated in it.
-ghost use Rattle.std.specs.Option.{option_map};
-ghost use Rattle.std.specs.Prelude.{◌≡◌, ◌+◌, ◌++◌, ◌∷◌, [], IfErr, IfOk, Ok, OnErr, OnOk, Some, length};
-ghost use Rattle.tcl_core.specs.Paths.{Path, Text};
+ghost use Rattle.std.specs.Prelude.{◌≡◌, [], IfErr, IfOk, OnErr, OnOk};
 ghost use Rattle.tcl_core.specs.Trees.{effect};
 ghost use Rattle.tcl_core.specs.Trees.What.{DepthLimited, Limited};
 ghost use Rattle.tcl_interpreter.specs.Commands.{way_between};
 ghost use Rattle.tcl_interpreter.specs.declared.command.Command.TheVariants as command;
-ghost use Rattle.tcl_client.specs.Acting.{AtChild, IsRefused, IsStanding, client_way, nobody};
-ghost use Rattle.tcl_client.specs.declared.answers.Answer.TheVariants.{Done};
+ghost use Rattle.tcl_client.specs.Entering.{AtChild, client_way};
+ghost use Rattle.tcl_protocol.specs.declared.answers.Answer.TheVariants.{Done};
+ghost use Rattle.tcl_serve.specs.Acting.{IsRefused, IsStanding, nobody};
 ghost use Rattle.tcl_tree.specs.Changes.{Drops, Makes, RefusesDepthLimit, RefusesDrop};
 ghost use Rattle.tcl_tree.specs.Changes.{RefusesLimit, RefusesMake};
 ghost use Rattle.tcl_tree.specs.Naming.{Becomes, RefusesAt, RefusesThere, cleared, named};
-ghost use Rattle.tcl_tree.specs.TreeOf.{tree_of};
+ghost use Rattle.tcl_tree.specs.TreeOf.{marks_of, tree_of};
 
-use crate::answers::{Answer, Standing};
-use crate::messages::{Alias, AliasToClient, ClearAlias, Create, LimitCount, LimitDepth};
-use crate::refusals::Refusal;
 use indexmap::map::Keys;
 use std::alloc::{AllocError, Global};
+use tcl_client::entering::{client_alias, values_of};
+use tcl_protocol::answers::{Answer, Standing};
+use tcl_protocol::messages::{Alias, AliasToClient, ClearAlias, Create, LimitCount, LimitDepth};
+use tcl_protocol::refusals::Refusal;
 use tcl_text::list::write_list;
 use tcl_text::text::Text;
-use tcl_tree::alias;
 use tcl_tree::refusal::TreeError;
 use tcl_tree::tree::Tree;
-use tcl_value::value::Value;
 
 /// The text of a path.
 fn path_text(alloc: Global, path: &[Text]) -> Result<Text, AllocError> {
@@ -32,7 +30,7 @@ fn path_text(alloc: Global, path: &[Text]) -> Result<Text, AllocError> {
 }
 
 /// The refusal of a call on a tree about an interpreter.
-pub fn refused_at(alloc: Global, error: TreeError, path: &[Text]) -> Refusal
+fn refused_at(alloc: Global, error: TreeError, path: &[Text]) -> Refusal
     ensures { IsRefused (λ e. e ≡ error) result }
 {
     refused_about(error, path_text(alloc, path))
@@ -58,45 +56,18 @@ fn refused_about(error: TreeError, word: Result<Text, AllocError>) -> Refusal
     }
 }
 
-/// The values of these texts.
-///
-/// # Errors
-/// 122; want of memory.
-pub fn values_of(alloc: Global, texts: &[Text]) -> Result<Vec<Value>, Refusal>
-    ensures values { IfOk result (λ values. values.items ≡ texts.now) }
-    ensures fault { IfErr result (IsRefused (λ _. Prim.⊥)) }
-{
-    let mut values = Vec::new(alloc);
-    'texts: for text in texts {
-        values.push(Value::from_text(text.clone()?)?)?;
-    }
-    Ok(values)
-}
-
-/// The alias of an interpreter at the path to the client, whose calls begin with these words.
-///
-/// # Errors
-/// 122; want of memory.
-pub fn client_alias(alloc: Global, path: &[Text], words: &[Text]) -> Result<alias::Alias, Refusal>
-    ensures alias { IfOk result (λ made. made ≡ client_way path.now words.now) }
-    ensures fault { IfErr result (IsRefused (λ _. Prim.⊥)) }
-{
-    let words = values_of(alloc, words)?;
-    let down = Vec::new(alloc);
-    Ok(alias::Alias::new(alloc, path.len() + 1, down, words)?)
-}
-
 /// Makes an interpreter.
 ///
 /// # Errors
 /// 513; 301 of the one above; 238; 302; 307; want of memory.
-pub fn create(tree: &mut Tree, alloc: Global, create: &Create) -> Result<Answer, Refusal>
+pub(crate) fn create(tree: &mut Tree, alloc: Global, create: &Create) -> Result<Answer, Refusal>
     ensures answer { IfOk result (λ a. a ≡ Done) }
     ensures made { OnOk result (AtChild create.now.path.items
         (λ p n. Makes (tree_of tree.old) (tree_of tree.new) p n create.now.safe)) }
     ensures refused { IfErr result (IsRefused
         (λ e. AtChild create.now.path.items (RefusesMake e (tree_of tree.old)))) }
     ensures unchanged { OnErr result (tree_of tree.new ≡ tree_of tree.old) }
+    ensures marks { marks_of tree.new ≡ marks_of tree.old }
 {
     let Some((name, path)) = create.path.split_last() else {
         return Err(Refusal::Root);
@@ -111,13 +82,14 @@ pub fn create(tree: &mut Tree, alloc: Global, create: &Create) -> Result<Answer,
 ///
 /// # Errors
 /// 513; 301; 303; want of memory.
-pub fn delete(tree: &mut Tree, alloc: Global, path: &[Text]) -> Result<Answer, Refusal>
+pub(crate) fn delete(tree: &mut Tree, alloc: Global, path: &[Text]) -> Result<Answer, Refusal>
     ensures answer { IfOk result (λ a. a ≡ Done) }
     ensures dropped { OnOk result
         (AtChild path.now (λ p n. Drops (tree_of tree.old) (tree_of tree.new) p n)) }
     ensures refused { IfErr result (IsRefused
         (λ e. AtChild path.now (RefusesDrop e (tree_of tree.old)))) }
     ensures unchanged { OnErr result (tree_of tree.new ≡ tree_of tree.old) }
+    ensures marks { marks_of tree.new ≡ marks_of tree.old }
 {
     let Some((name, parent)) = path.split_last() else {
         return Err(Refusal::Root);
@@ -132,7 +104,7 @@ pub fn delete(tree: &mut Tree, alloc: Global, path: &[Text]) -> Result<Answer, R
 ///
 /// # Errors
 /// 122; 301; 238; 302; want of memory.
-pub fn set_alias(tree: &mut Tree, alloc: Global, alias: &Alias) -> Result<Answer, Refusal>
+pub(crate) fn set_alias(tree: &mut Tree, alloc: Global, alias: &Alias) -> Result<Answer, Refusal>
     ensures answer { IfOk result (λ a. a ≡ Done) }
     ensures set { OnOk result (Becomes (tree_of tree.old) (tree_of tree.new) alias.now.path.items
         (λ own. named own alias.now.name (command.Alias
@@ -142,6 +114,7 @@ pub fn set_alias(tree: &mut Tree, alloc: Global, alias: &Alias) -> Result<Answer
         (λ own. named own alias.now.name (command.Alias
         (way_between alias.now.path.items alias.now.to.items alias.now.words.items))))) }
     ensures unchanged { OnErr result (tree_of tree.new ≡ tree_of tree.old) }
+    ensures marks { marks_of tree.new ≡ marks_of tree.old }
 {
     let words = values_of(alloc, alias.words.as_slice())?;
     let path = alias.path.as_slice();
@@ -156,7 +129,7 @@ pub fn set_alias(tree: &mut Tree, alloc: Global, alias: &Alias) -> Result<Answer
 ///
 /// # Errors
 /// 122; 301; 238; 302; want of memory.
-pub fn set_client_alias(
+pub(crate) fn set_client_alias(
     tree: &mut Tree,
     alloc: Global,
     alias: &AliasToClient,
@@ -170,6 +143,7 @@ pub fn set_client_alias(
         (λ own. named own alias.now.name (command.Alias
         (client_way alias.now.path.items alias.now.words.items))))) }
     ensures unchanged { OnErr result (tree_of tree.new ≡ tree_of tree.old) }
+    ensures marks { marks_of tree.new ≡ marks_of tree.old }
 {
     let path = alias.path.as_slice();
     let made = client_alias(alloc, path, alias.words.as_slice())?;
@@ -184,7 +158,7 @@ pub fn set_client_alias(
 ///
 /// # Errors
 /// 301; 305; want of memory.
-pub fn clear_alias(tree: &mut Tree, alloc: Global, alias: &ClearAlias) -> Result<Answer, Refusal>
+pub(crate) fn clear_alias(tree: &mut Tree, alloc: Global, alias: &ClearAlias) -> Result<Answer, Refusal>
     ensures answer { IfOk result (λ a. a ≡ Done) }
     ensures cleared { OnOk result (Becomes (tree_of tree.old) (tree_of tree.new)
         alias.now.path.items (λ own. cleared own alias.now.name)) }
@@ -192,6 +166,7 @@ pub fn clear_alias(tree: &mut Tree, alloc: Global, alias: &ClearAlias) -> Result
         (λ e. RefusesThere e (tree_of tree.old) alias.now.path.items
         (λ own. cleared own alias.now.name))) }
     ensures unchanged { OnErr result (tree_of tree.new ≡ tree_of tree.old) }
+    ensures marks { marks_of tree.new ≡ marks_of tree.old }
 {
     let path = alias.path.as_slice();
     match tree.clear_alias(path, &alias.name) {
@@ -204,13 +179,14 @@ pub fn clear_alias(tree: &mut Tree, alloc: Global, alias: &ClearAlias) -> Result
 ///
 /// # Errors
 /// 304 of the root; 301; want of memory.
-pub fn limit_count(tree: &mut Tree, alloc: Global, limit: &LimitCount) -> Result<Answer, Refusal>
+pub(crate) fn limit_count(tree: &mut Tree, alloc: Global, limit: &LimitCount) -> Result<Answer, Refusal>
     ensures answer { IfOk result (λ a. a ≡ Done) }
     ensures limited { OnOk result (tree_of tree.new
         ≡ effect limit.now.path.items (Limited limit.now.count) (tree_of tree.old)) }
     ensures refused { IfErr result (IsRefused
         (λ e. RefusesLimit e (tree_of tree.old) [] limit.now.path.items limit.now.count)) }
     ensures unchanged { OnErr result (tree_of tree.new ≡ tree_of tree.old) }
+    ensures marks { marks_of tree.new ≡ marks_of tree.old }
 {
     let path = limit.path.as_slice();
     match tree.set_limit(&[], path, limit.count) {
@@ -223,13 +199,14 @@ pub fn limit_count(tree: &mut Tree, alloc: Global, limit: &LimitCount) -> Result
 ///
 /// # Errors
 /// 301; 304 of the root; 309; want of memory.
-pub fn limit_depth(tree: &mut Tree, alloc: Global, limit: &LimitDepth) -> Result<Answer, Refusal>
+pub(crate) fn limit_depth(tree: &mut Tree, alloc: Global, limit: &LimitDepth) -> Result<Answer, Refusal>
     ensures answer { IfOk result (λ a. a ≡ Done) }
     ensures limited { OnOk result (tree_of tree.new
         ≡ effect limit.now.path.items (DepthLimited limit.now.depth) (tree_of tree.old)) }
     ensures refused { IfErr result (IsRefused
         (λ e. RefusesDepthLimit e (tree_of tree.old) [] limit.now.path.items limit.now.depth)) }
     ensures unchanged { OnErr result (tree_of tree.new ≡ tree_of tree.old) }
+    ensures marks { marks_of tree.new ≡ marks_of tree.old }
 {
     let path = limit.path.as_slice();
     match tree.set_depth_limit(&[], path, limit.depth) {
@@ -242,7 +219,7 @@ pub fn limit_depth(tree: &mut Tree, alloc: Global, limit: &LimitDepth) -> Result
 ///
 /// # Errors
 /// 301; want of memory.
-pub fn look(tree: &Tree, alloc: Global, path: &[Text]) -> Result<Answer, Refusal>
+pub(crate) fn look(tree: &Tree, alloc: Global, path: &[Text]) -> Result<Answer, Refusal>
     ensures stands { IfOk result (IsStanding (tree_of tree.now path.now)) }
     ensures refused { IfErr result
         (IsRefused (λ e. nobody e (tree_of tree.now path.now))) }

@@ -1,13 +1,11 @@
 -- The host of a served tree.
-use Rattle.std.specs.Prelude.{◌≡◌, ℕ, List, IsUtf8, drop, length}
-use Rattle.tcl_host.specs.MemoryHost.{errors_of, new_host, output_of, respond}
-use Rattle.tcl_host.specs.declared.reply.HostReply.{HostReply}
-use Rattle.tcl_host.specs.declared.request.Request.{Request}
-use Rattle.tcl_client.specs.declared.hosts.ServedHost.{ServedHost}
-use Rattle.tcl_client.specs.declared.messages.Channel.{Channel}
-use Rattle.tcl_client.specs.declared.messages.Channel.TheVariants as channel
-use Rattle.tcl_client.specs.declared.refusals.Refusal.{Refusal}
-use Rattle.tcl_client.specs.declared.refusals.Refusal.TheVariants.{Memory, NotText}
+use Rattle.std.specs.Prelude.{ℕ, List, IsUtf8, drop, length}
+use Rattle.tcl_host.specs.MemoryHost.{errors_of, new_host, output_of}
+use Rattle.tcl_serve.specs.declared.hosts.ServedHost.{ServedHost}
+use Rattle.tcl_protocol.specs.declared.messages.Channel.{Channel}
+use Rattle.tcl_protocol.specs.declared.messages.Channel.TheVariants as channel
+use Rattle.tcl_protocol.specs.declared.refusals.Refusal.{Refusal}
+use Rattle.tcl_protocol.specs.declared.refusals.Refusal.TheVariants.{Memory, NotText}
 
 -- one that has nothing
 abbrev pub fresh_host : ServedHost
@@ -18,12 +16,6 @@ abbrev pub IfUnreadable : List ℕ → Refusal → Type 0
 IfUnreadable bytes Memory = Unit {0}
 IfUnreadable bytes (NotText name) = IsUtf8 bytes → Prim.⊥
 IfUnreadable bytes e = Prim.⊥
-
--- it replies to a request as the host in memory does
-pub record RepliesSo (o : ServedHost) (q : Request) (a : HostReply) (z : ServedHost) : Type 0 where
-  pub replies : respond o.host q ≡ (a, z.host)
-  pub output_taken : z.output_taken ≡ o.output_taken
-  pub errors_taken : z.errors_taken ≡ o.errors_taken
 
 -- what was written to a channel, and how much of it was taken
 abbrev pub written : Channel → ServedHost → List ℕ

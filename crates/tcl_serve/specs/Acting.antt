@@ -1,18 +1,12 @@
 -- What is done to a tree while nothing is evaluated in it.
-use Rattle.std.specs.Prelude.{◌≡◌, ◌+◌, List, [], ◌∷◌, ◌++◌, length, Option, Some, None}
-use Rattle.tcl_core.specs.Paths.{Path, Text}
-use Rattle.tcl_interpreter.specs.Commands.{AliasView}
+use Rattle.std.specs.Prelude.{◌≡◌, Option, Some, None}
 use Rattle.tcl_interpreter.specs.Nodes.{NodeView}
 use Rattle.tcl_interpreter.specs.declared.refusal.TreeError.{TreeError}
 use Rattle.tcl_interpreter.specs.declared.refusal.TreeError.TheVariants.{NoInterpreter}
-use Rattle.tcl_client.specs.declared.answers.Answer.{Answer}
-use Rattle.tcl_client.specs.declared.answers.Answer.TheVariants as answer
-use Rattle.tcl_client.specs.declared.refusals.Refusal.{Refusal}
-use Rattle.tcl_client.specs.declared.refusals.Refusal.TheVariants as refusal
-
--- the path is that of a child, of this name, of the interpreter at another
-abbrev pub AtChild : Path → (Path → Text → Type 0) → Type 0
-AtChild path P = (p : Path) × (n : Text) × (path ≡ p ++ n ∷ []) × P p n
+use Rattle.tcl_protocol.specs.declared.answers.Answer.{Answer}
+use Rattle.tcl_protocol.specs.declared.answers.Answer.TheVariants as answer
+use Rattle.tcl_protocol.specs.declared.refusals.Refusal.{Refusal}
+use Rattle.tcl_protocol.specs.declared.refusals.Refusal.TheVariants as refusal
 
 -- A message isn't done since a call on the tree is refused so; or memory was wanted, or a text is
 -- too long, or the root is meant.
@@ -22,10 +16,6 @@ IsRefused P refusal.Memory = Unit {0}
 IsRefused P refusal.TooLong = Unit {0}
 IsRefused P refusal.Root = Unit {0}
 IsRefused P r = Prim.⊥
-
--- The way of an interpreter at p leads one level above the root, to the client.
-abbrev pub client_way : Path → List Text → AliasView
-client_way p words = record { up = length p + 1; down = []; words = words }
 
 -- how an interpreter stands
 abbrev pub IsStanding : Option NodeView → Answer → Type 0
