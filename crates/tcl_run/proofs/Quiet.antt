@@ -1,5 +1,5 @@
 -- Outsides that stay as they are by what they are told.
-use Rattle.std.proofs.Common.{◌≡◌, ℕ, [], ◌∷◌, ◌++◌, Some, None, refl}
+use Rattle.std.proofs.Common.{◌≡◌, ℕ, [], ◌∷◌, ◌++◌, Some, None, refl, sym, subst}
 use Rattle.tcl_core.specs.Endings.{Reply}
 use Rattle.tcl_core.specs.Entries.{Entry}
 use Rattle.tcl_core.specs.Execution.{event}
@@ -49,14 +49,7 @@ module _ {S : Type 0} (goes : Going S) where
       ((p : Place) (h : Height) (down : Path) (i : Entry) → rise_to h p ≡ None → goes (tree_of t) o None (event p (Out h down i)) o) →
       ((q : Path) (r : Reply) → goes (tree_of t) o None (event q (Done None r)) o) →
       Notified goes Prim.⊥ t o w o
-  unchanged t o (happening.Dropped parent name) drops enters returns misses passes done = λ p at. drops (p ++ name.now ∷ [])
-  unchanged t o (happening.Entered caller up down entry) drops enters returns misses passes done = λ p a at e. enters p up a down.now (whole_entry entry.now) e
-  unchanged t o (happening.Returned caller up down ended told) drops enters returns misses passes done =
-      let Told : Reply → Reply → Type 0 = λ s r. (p a : Path) → Names t caller p → rise_to (Some up) p ≡ Some a → Returns goes (tree_of t) o p up a down.now s r o in
-      IfEnded-all ended.now (λ s. IfEnded told.now (Told s)) (λ s. IfEnded-all told.now (Told s) (λ r p a at e. returns p up a down.now s r e))
-  unchanged t o (happening.Missed caller up down entry told) drops enters returns misses passes done = IfEnded-all told.now
-      (λ r. (p a : Path) → Names t caller p → rise_to (Some up) p ≡ Some a → Misses goes (tree_of t) o p up down.now (whole_entry entry.now) r o)
-      (λ r p a at e. misses p up a down.now (whole_entry entry.now) r e)
-  unchanged t o (happening.PassedTop caller up down entry) drops enters returns misses passes done = λ p at e. passes p up down.now (whole_entry entry.now) e
-  unchanged t o (happening.EntryDone target ended) drops enters returns misses passes done = IfEnded-all ended.now (λ r. goes (tree_of t) o None (event target.now (Done None r)) o) (λ r. done target.now r)
-  unchanged t o (happening.ExitCameBack caller up entry status) drops enters returns misses passes done = λ h p at e. let nothing : Prim.⊥ = h in elim nothing [ ]
+  unchanged t o w drops enters returns misses passes done = within_unchanged Prim.⊥ t o w drops enters returns misses
+      (λ caller up down entry is. subst (λ (v : Happening). Notified goes Prim.⊥ t o v o) (sym is) (λ p at e. passes p up down.now (whole_entry entry.now) e))
+      (λ target ended is. subst (λ (v : Happening). Notified goes Prim.⊥ t o v o) (sym is) (IfEnded-all ended.now (λ r. goes (tree_of t) o None (event target.now (Done None r)) o) (λ r. done target.now r)))
+      (λ caller up entry status is. subst (λ (v : Happening). Notified goes Prim.⊥ t o v o) (sym is) (λ h p at e. let nothing : Prim.⊥ = h in elim nothing [ ]))
