@@ -104,6 +104,12 @@ module _ {O : Type 0} where
   plain_calls p (Back h a) cs f = absurd f
   plain_calls p x cs f = refl
 
+  pub plain_deed : (d : Act O) (T : Tree O) (p : Place) (x : Deed O) → Decides d T p x → IsPlain x.1
+  plain_deed d T p x f = decide_plain d T p _ x (f [])
+
+  pub plain_open : (b : Wrap O) (T : Tree O) (p : Place) (x : Deed O) → Opens_so b T p x → IsPlain x.1
+  plain_open b T p x f = opens_plain b T p _ x (f [])
+
 not_true : false ≡ true → Prim.⊥
 not_true e = cc
 
@@ -140,32 +146,26 @@ module _ {O S : Type 0} (step : Tree O → S → Wait → Event O → S → Type
   comes_back {cs} {ds} {T} {V} {o} {u} {z} {p} {c} {y} {τ} e s k =
       more (subst (λ w. step T o w (event p (Back c.0 y)) u) (ap (λ b. last_call b (c ∷ cs)) (sym e)) s) (subst (λ l. Chain step l T u τ ds V z) (ap (λ b. without_call b (c ∷ cs)) (sym e)) k)
 
+  -- what goes on as a program that calls only has the calls open that there are
+  pub called_on : {I : Type 0} {cs ds : Open} {T V : Tree O} {o z : S} {τ : List (Event O)} (x : Prog O I) → Calls_only x → Chain step (waiting x cs) T o τ ds V z → Chain step cs T o τ ds V z
+  called_on {I} {cs} {ds} {T} {V} {o} {z} {τ} x f c = subst (λ l. Chain step l T o τ ds V z) (waits_not x cs f) c
+
+  -- an answer comes to the call that is open
+  pub replied : {cs ds : Open} {T V : Tree O} {o u z : S} {τ : List (Event O)} (s : Wait) (p : Place) → rise_to (height_of s) p ≡ None → (a : Answer) → answers_call s a ≡ true →
+      step T o s (event p (Back (height_of s) a)) u → Chain step cs T u τ ds V z → Chain step (pending s cs) T o (event p (Back (height_of s) a) ∷ τ) ds V z
+  replied None p e a f j c = absurd (not_true f)
+  replied (Some d) p e a f j c = comes_back e j c
+
 module _ {O I S : Type 0} (step : Tree O → S → Wait → Event O → S → Type 0) (prog : Table O I) where
   pub record Says (T : Tree O) (o : S) (p : Place) (x : Prog O I) (V : Tree O) (z : S) (r : Reply) : Type 0 where
     pub events : List (Event O)
     pub chain : (cs : Open) → Chain step (waiting x cs) T o events cs V z
     pub runs : (y : Rest O) → Derives prog (ahead T events y) p x (ahead V [] y) (Some r)
 
-  -- what goes on as a program that calls only has the calls open that there are
-  called_on : {cs ds : Open} {T V : Tree O} {o z : S} {τ : List (Event O)} (x : Prog O I) → Calls_only x → Chain step (waiting x cs) T o τ ds V z → Chain step cs T o τ ds V z
-  called_on {cs} {ds} {T} {V} {o} {z} {τ} x f c = subst (λ l. Chain step l T o τ ds V z) (waits_not x cs f) c
-
   -- a run, and what follows it
   first : (T U : Tree O) (p : Place) (x : Prog O I) (r : Reply) (a b : List (Event O)) (z : Rest O) → Derives prog (ahead T a (later b z)) p x (ahead U [] (later b z)) (Some r) → Derives prog (ahead T (a ++ b) z) p x (ahead U b z) (Some r)
   first T U p x r a b z d =
       subst (λ y. Derives prog y p x (ahead U b z) (Some r)) (sym (ahead-append T a b z)) (subst (λ y. Derives prog (ahead T a (later b z)) p x y (Some r)) (ahead_later U b z) d)
-
-  plain_deed : (d : Act O) (T : Tree O) (p : Place) (x : Deed O) → Decides d T p x → IsPlain x.1
-  plain_deed d T p x f = decide_plain d T p _ x (f [])
-
-  plain_open : (b : Wrap O) (T : Tree O) (p : Place) (x : Deed O) → Opens_so b T p x → IsPlain x.1
-  plain_open b T p x f = opens_plain b T p _ x (f [])
-
-  -- an answer comes to the call that is open
-  replied : {cs ds : Open} {T V : Tree O} {o u z : S} {τ : List (Event O)} (s : Wait) (p : Place) → rise_to (height_of s) p ≡ None → (a : Answer) → answers_call s a ≡ true →
-      step T o s (event p (Back (height_of s) a)) u → Chain step cs T u τ ds V z → Chain step (pending s cs) T o (event p (Back (height_of s) a) ∷ τ) ds V z
-  replied None p e a f j c = absurd (not_true f)
-  replied (Some d) p e a f j c = comes_back step e j c
 
   pub follows : {T V : Tree O} {o z : S} {p : Place} {x : Prog O I} {r : Reply} → Fits x → Executes step prog T o p x V z r → Says T o p x V z r
   follows f (completed {T} {o} {p} {c}) = record { events = []; chain = λ cs. none; runs = λ y. Derives.completed (ahead T [] y) p c }
@@ -174,7 +174,7 @@ module _ {O I S : Type 0} (step : Tree O → S → Wait → Event O → S → Ty
       let h = follows (fit (k (at T p)) (f (at T p))) t in
       record {
         events = event (spot p x.0) x.1 ∷ h.events;
-        chain = λ cs. plain_more step (plain_deed d T p x is_so) s (called_on (k (at T p)) (f (at T p)) (h.chain cs));
+        chain = λ cs. plain_more step (plain_deed d T p x is_so) s (called_on step (k (at T p)) (f (at T p)) (h.chain cs));
         runs = λ y. Derives.acted _ p d k x (ahead (effect (spot p x.0) x.1 T) h.events y) _ _ (decided d T p x is_so h.events y) on (next T (spot p x.0) x.1 h.events y) (h.runs y);
       }
   follows f (refused {T} {o} {u} {p} {d} {k} {r} x is_so off s) =
@@ -188,19 +188,19 @@ module _ {O I S : Type 0} (step : Tree O → S → Wait → Event O → S → Ty
       let g = follows (fit (k c) (f c)) b in
       record {
         events = h.events ++ g.events;
-        chain = λ cs. chain-append step (called_on (prog.program i) (prog.programs_call i) (h.chain cs)) (called_on (k c) (f c) (g.chain cs));
+        chain = λ cs. chain-append step (called_on step (prog.program i) (prog.programs_call i) (h.chain cs)) (called_on step (k c) (f c) (g.chain cs));
         runs = λ y. Derives.went _ p i k (ahead U g.events y) c _ _ (first T U p (prog.program i) (Completed c) h.events g.events y (h.runs (later g.events y))) (g.runs y);
       }
   follows f (passed {T} {U} {o} {u} {p} {i} {k} {r} q a) =
       let h = follows (fit (prog.program i) (prog.programs_call i)) a in
-      record { events = h.events; chain = λ cs. called_on (prog.program i) (prog.programs_call i) (h.chain cs); runs = λ y. Derives.passed _ p i k (ahead U [] y) r q (h.runs y) }
+      record { events = h.events; chain = λ cs. called_on step (prog.program i) (prog.programs_call i) (h.chain cs); runs = λ y. Derives.passed _ p i k (ahead U [] y) r q (h.runs y) }
   follows f (wrapped {T} {U} {V} {o} {o1} {o2} {o3} {z} {p} {b} {i} {k} {c} {r} x is_so on s1 a s2 t) =
       let h = follows (fit (prog.program i) (prog.programs_call i)) a in
       let g = follows (fit (k c) (f c)) t in
       let tail : List (Event O) = event p (closes b (U p)) ∷ g.events in
       record {
         events = event (spot p x.0) x.1 ∷ (h.events ++ tail);
-        chain = λ cs. plain_more step (plain_open b T p x is_so) s1 (chain-append step (called_on (prog.program i) (prog.programs_call i) (h.chain cs)) (plain_more step (closes_plain b (U p)) s2 (called_on (k c) (f c) (g.chain cs))));
+        chain = λ cs. plain_more step (plain_open b T p x is_so) s1 (chain-append step (called_on step (prog.program i) (prog.programs_call i) (h.chain cs)) (plain_more step (closes_plain b (U p)) s2 (called_on step (k c) (f c) (g.chain cs))));
         runs = λ y. Derives.wrapped _ p b i k x (ahead (effect (spot p x.0) x.1 T) (h.events ++ tail) y) (ahead U tail y) (ahead (effect p (closes b (U p)) U) g.events y) _ c _
             (opened b T p x is_so (h.events ++ tail) y) on (next T (spot p x.0) x.1 (h.events ++ tail) y)
             (first (effect (spot p x.0) x.1 T) U p (prog.program i) (Completed c) h.events tail y (h.runs (later tail y)))
@@ -211,7 +211,7 @@ module _ {O I S : Type 0} (step : Tree O → S → Wait → Event O → S → Ty
       let tail : List (Event O) = event p (closes b (U p)) ∷ [] in
       record {
         events = event (spot p x.0) x.1 ∷ (h.events ++ tail);
-        chain = λ cs. plain_more step (plain_open b T p x is_so) s1 (chain-append step (called_on (prog.program i) (prog.programs_call i) (h.chain cs)) (plain_more step (closes_plain b (U p)) s2 none));
+        chain = λ cs. plain_more step (plain_open b T p x is_so) s1 (chain-append step (called_on step (prog.program i) (prog.programs_call i) (h.chain cs)) (plain_more step (closes_plain b (U p)) s2 none));
         runs = λ y. Derives.wrapped_passed _ p b i k x (ahead (effect (spot p x.0) x.1 T) (h.events ++ tail) y) (ahead U tail y) (ahead (effect p (closes b (U p)) U) [] y) r q
             (opened b T p x is_so (h.events ++ tail) y) on (next T (spot p x.0) x.1 (h.events ++ tail) y)
             (first (effect (spot p x.0) x.1 T) U p (prog.program i) r h.events tail y (h.runs (later tail y)))
@@ -221,7 +221,7 @@ module _ {O I S : Type 0} (step : Tree O → S → Wait → Event O → S → Ty
       let g = follows (fit (k (refusal Depth)) (f (refusal Depth))) t in
       record {
         events = event (spot p x.0) x.1 ∷ g.events;
-        chain = λ cs. plain_more step (plain_open b T p x is_so) s (called_on (k (refusal Depth)) (f (refusal Depth)) (g.chain cs));
+        chain = λ cs. plain_more step (plain_open b T p x is_so) s (called_on step (k (refusal Depth)) (f (refusal Depth)) (g.chain cs));
         runs = λ y. Derives.too_deep _ p b i k x (ahead (effect (spot p x.0) x.1 T) g.events y) _ _ (opened b T p x is_so g.events y) deep (next T (spot p x.0) x.1 g.events y) (g.runs y);
       }
   follows f (shut {T} {o} {u} {p} {b} {i} {k} {r} x is_so off s) =
@@ -237,7 +237,7 @@ module _ {O I S : Type 0} (step : Tree O → S → Wait → Event O → S → Ty
       let tail : List (Event O) = event t (Done (Some (length down)) s) ∷ last in
       record {
         events = event p (Out h down i) ∷ event t (In (Some (length down)) i) ∷ (f.events ++ tail);
-        chain = λ cs. goes_within step e s1 (more s2 (chain-append step (called_on (entering prog (T t) i) (entering_calls prog (T t) i) (f.chain cs)) (more s3 (back_within step e s4 (called_on (k (Finished c)) (calls (Finished c)) (g.chain cs))))));
+        chain = λ cs. goes_within step e s1 (more s2 (chain-append step (called_on step (entering prog (T t) i) (entering_calls prog (T t) i) (f.chain cs)) (more s3 (back_within step e s4 (called_on step (k (Finished c)) (calls (Finished c)) (g.chain cs))))));
         runs = λ y. Derives.called _ p h down i lost k a t (ahead T (event t (In (Some (length down)) i) ∷ (f.events ++ tail)) y) (ahead T (f.events ++ tail) y) (ahead U tail y) (ahead U last y) (ahead U g.events y) _ s c _ e
             (next T p (Out h down i) (event t (In (Some (length down)) i) ∷ (f.events ++ tail)) y) there (next T t (In (Some (length down)) i) (f.events ++ tail) y)
             (first T U t (entering prog (T t) i) s f.events tail y (f.runs (later tail y)))
@@ -249,7 +249,7 @@ module _ {O I S : Type 0} (step : Tree O → S → Wait → Event O → S → Ty
       let tail : List (Event O) = event t (Done (Some (length down)) s) ∷ last in
       record {
         events = event p (Out h down i) ∷ event t (In (Some (length down)) i) ∷ (f.events ++ tail);
-        chain = λ cs. goes_within step e s1 (more s2 (chain-append step (called_on (entering prog (T t) i) (entering_calls prog (T t) i) (f.chain cs)) (more s3 (back_within step e (subst (λ l. step U o4 None (event p (Back h (Replied l))) o5) (sym so) s4) none))));
+        chain = λ cs. goes_within step e s1 (more s2 (chain-append step (called_on step (entering prog (T t) i) (entering_calls prog (T t) i) (f.chain cs)) (more s3 (back_within step e (subst (λ l. step U o4 None (event p (Back h (Replied l))) o5) (sym so) s4) none))));
         runs = λ y. subst (λ l. Derives prog (ahead T (event p (Out h down i) ∷ event t (In (Some (length down)) i) ∷ (f.events ++ tail)) y) p (call h down i lost k) (ahead U [] y) (Some l)) so
             (Derives.called_passed _ p h down i lost k a t (ahead T (event t (In (Some (length down)) i) ∷ (f.events ++ tail)) y) (ahead T (f.events ++ tail) y) (ahead U tail y) (ahead U last y) (ahead U [] y) s e
             (next T p (Out h down i) (event t (In (Some (length down)) i) ∷ (f.events ++ tail)) y) there (next T t (In (Some (length down)) i) (f.events ++ tail) y)
@@ -261,7 +261,7 @@ module _ {O I S : Type 0} (step : Tree O → S → Wait → Event O → S → Ty
       let tail : List (Event O) = event p (Back h (Replied (Completed lost))) ∷ g.events in
       record {
         events = event p (Out h down i) ∷ tail;
-        chain = λ cs. goes_within step e s1 (back_within step e s2 (called_on (k (Finished lost)) (calls (Finished lost)) (g.chain cs)));
+        chain = λ cs. goes_within step e s1 (back_within step e s2 (called_on step (k (Finished lost)) (calls (Finished lost)) (g.chain cs)));
         runs = λ y. Derives.unreached _ p h down i lost k a (ahead T tail y) (ahead T g.events y) _ _ e (next T p (Out h down i) tail y) there (next T p (Back h (Replied (Completed lost))) g.events y) (g.runs y);
       }
   follows calls (called_out {T} {V} {o} {u} {z} {p} {h} {down} {i} {lost} {k} {r} e s t) =
@@ -275,20 +275,20 @@ module _ {O I S : Type 0} (step : Tree O → S → Wait → Event O → S → Ty
       let g = follows (fit (k (Finished c)) (calls (Finished c))) t in
       record {
         events = event p (Back (height_of s) (Replied (Completed c))) ∷ g.events;
-        chain = λ cs. replied s p e (Replied (Completed c)) own j (called_on (k (Finished c)) (calls (Finished c)) (g.chain cs));
+        chain = λ cs. replied step s p e (Replied (Completed c)) own j (called_on step (k (Finished c)) (calls (Finished c)) (g.chain cs));
         runs = λ y. Derives.answered _ p s k c (ahead T g.events y) _ _ e own (next T p (Back (height_of s) (Replied (Completed c))) g.events y) (g.runs y);
       }
   follows calls (heard {T} {V} {o} {u} {z} {p} {s} {k} {a} {r} e own j t) =
       let g = follows (fit (k (Told a)) (calls (Told a))) t in
       record {
         events = event p (Back (height_of s) (Heard a)) ∷ g.events;
-        chain = λ cs. replied s p e (Heard a) own j (called_on (k (Told a)) (calls (Told a)) (g.chain cs));
+        chain = λ cs. replied step s p e (Heard a) own j (called_on step (k (Told a)) (calls (Told a)) (g.chain cs));
         runs = λ y. Derives.heard _ p s k a (ahead T g.events y) _ _ e own (next T p (Back (height_of s) (Heard a)) g.events y) (g.runs y);
       }
   follows calls (answered_passed {T} {o} {u} {p} {s} {k} {r} q e own j) =
       record {
         events = event p (Back (height_of s) (Replied r)) ∷ [];
-        chain = λ cs. replied s p e (Replied r) own j none;
+        chain = λ cs. replied step s p e (Replied r) own j none;
         runs = λ y. Derives.answered_passed _ p s k r (ahead T [] y) q e own (next T p (Back (height_of s) (Replied r)) [] y);
       }
   follows calls (entered {T} {U} {V} {o} {o1} {o2} {o3} {z} {p} {s} {k} {y = j} {r} t i e s1 m s2 calm n) =
@@ -297,7 +297,7 @@ module _ {O I S : Type 0} (step : Tree O → S → Wait → Event O → S → Ty
       let tail : List (Event O) = event t (Done None j) ∷ g.events in
       record {
         events = event t (In None i) ∷ (f.events ++ tail);
-        chain = λ cs. more s1 (chain-append step (called_on (entering prog (T t) i) (entering_calls prog (T t) i) (f.chain (pending s cs))) (more s2 (g.chain cs)));
+        chain = λ cs. more s1 (chain-append step (called_on step (entering prog (T t) i) (entering_calls prog (T t) i) (f.chain (pending s cs))) (more s2 (g.chain cs)));
         runs = λ y. Derives.entered _ p s k t i (ahead T (f.events ++ tail) y) (ahead U tail y) (ahead U g.events y) _ j _ e
             (next T t (In None i) (f.events ++ tail) y) (first T U t (entering prog (T t) i) j f.events tail y (f.runs (later tail y))) (next U t (Done None j) g.events y) calm (g.runs y);
       }
@@ -307,7 +307,7 @@ module _ {O I S : Type 0} (step : Tree O → S → Wait → Event O → S → Ty
       let tail : List (Event O) = event t (Done None (Exit n)) ∷ last in
       record {
         events = event t (In None i) ∷ (f.events ++ tail);
-        chain = λ cs. more s1 (chain-append step (called_on (entering prog (T t) i) (entering_calls prog (T t) i) (f.chain (c ∷ cs))) (more s2 (comes_back step e s3 none)));
+        chain = λ cs. more s1 (chain-append step (called_on step (entering prog (T t) i) (entering_calls prog (T t) i) (f.chain (c ∷ cs))) (more s2 (comes_back step e s3 none)));
         runs = λ y. Derives.entered_exiting _ p (Some c) k t i (ahead T (f.events ++ tail) y) (ahead U tail y) (ahead U last y) (ahead U [] y) n (Some (Exit n)) e
             (next T t (In None i) (f.events ++ tail) y) (first T U t (entering prog (T t) i) (Exit n) f.events tail y (f.runs (later tail y))) (next U t (Done None (Exit n)) last y)
             (exit_answer (ahead U last y) p (Some c) n (ahead U [] y) e (is_exit_self n) (next U p (Back c.0 (Replied (Exit n))) [] y));
