@@ -278,9 +278,10 @@ class Interpreter:
         """Makes a name of it an alias to a function of the client's.
 
         The function is called with the interpreter that calls, and with the words of the call. It
-        returns the result, or raises TclError. It may use that interpreter and all others of the
-        tree before it returns. What else it raises ends the run, and is raised where that was
-        begun.
+        returns the result, or raises TclError. Before it returns it may evaluate scripts in all
+        interpreters of the tree, make and delete them, and set their aliases and limits; all else
+        is refused until the call has ended. What else it raises ends the run, and is raised where
+        that was begun.
         """
         words = [self.tree.server.add_function(function)]
         self.request("alias_to_client", name=name, words=words)
