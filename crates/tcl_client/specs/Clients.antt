@@ -1,8 +1,8 @@
 -- How the client serves the calls that scripts make of it: which lines are read and written.
-use Rattle.std.specs.Prelude.{◌≡◌, ◌⊎◌, ℕ, ℤ, zero, ◌+◌, ◌-◌, pos, Bool, true, false, List, [], ◌∷◌, ◌++◌, length}
-use Rattle.std.specs.Prelude.{take, slice_get, Option, Some, None, Result, Ok, Err, IsSome}
+use Rattle.std.specs.Prelude.{◌≡◌, ◌⊎◌, ℕ, ℤ, zero, ◌+◌, ◌-◌, pos, Bool, true, false, List, []}
+use Rattle.std.specs.Prelude.{◌∷◌, ◌++◌, length, take, Option, Some, None, Result, Ok, Err, IsSome}
 use Rattle.tcl_client.specs.Entering.{IsEntry}
-use Rattle.tcl_client.specs.Opened.{IsOpen, RefusesOpen}
+use Rattle.tcl_client.specs.Opened.{IsOpen, RefusesOpen, last_of}
 use Rattle.tcl_client.specs.Views.{ClientView}
 use Rattle.tcl_client.specs.declared.open.Awaited.{Awaited}
 use Rattle.tcl_client.specs.declared.open.Next.{Next}
@@ -102,10 +102,6 @@ pub record HearsEntry (o : ClientView) (c : code.Completion) (z : ClientView) : 
   pub stood : o.talk.awaited.items ≡ z.talk.awaited.items ++ awaited ∷ []
   pub replies : Replies o.lines (Some awaited.id) (entry_answer awaited.evaluates c.code c.text)
       z.lines
-
--- the last of them
-abbrev pub last_of : {A : Type 0} → List A → Option A
-last_of xs = slice_get xs (length xs - 1)
 
 -- A call that has no reply yet is opened; for another its last reply is heard.
 pub data Tells (o : ClientView) (call : Call) (z : ClientView) : Type 0 where

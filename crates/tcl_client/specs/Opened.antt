@@ -1,5 +1,5 @@
 -- What messages come to while a call is open.
-use Rattle.std.specs.Prelude.{◌≡◌, ◌⊎◌, ℕ, ℤ, ◌-◌, List, length, slice_get, Some}
+use Rattle.std.specs.Prelude.{◌≡◌, ◌⊎◌, ℕ, ℤ, ◌-◌, List, length, slice_get, Option, Some}
 use Rattle.tcl_client.specs.Entering.{IsEntry, IsMisfit, NoEntry}
 use Rattle.tcl_client.specs.declared.open.Next.{Next}
 use Rattle.tcl_client.specs.declared.open.Next.TheVariants as next
@@ -12,9 +12,13 @@ use Rattle.tcl_protocol.specs.declared.refusals.Refusal.{Refusal}
 use Rattle.tcl_protocol.specs.declared.refusals.Refusal.TheVariants.{CallOpen, NotOpen}
 use Rattle.tcl_run.specs.Entering.{whole_entry}
 
+-- the last of them
+abbrev pub last_of : {A : Type 0} → List A → Option A
+last_of xs = slice_get xs (length xs - 1)
+
 -- the call of this number is the one that was opened last, of those that are open
 abbrev pub IsOpen : Talk → ℕ → Type 0
-IsOpen t n = slice_get t.calls.items (length t.calls.items - 1) ≡ Some n
+IsOpen t n = last_of t.calls.items ≡ Some n
 
 -- an entry that a message asks for, the completion by which it answers the open call, or the end of
 -- the run

@@ -244,8 +244,8 @@ impl<R: BufRead + Drop, W: Write + Drop> Client<R, W> {
         Err(AllocError)
     }
 
-    /// Hears a line; what is done next for the open call then, if anything is. A client that is gone
-    /// ends the run.
+    /// Hears a line; what is done next for the open call then, if anything is. A client that is
+    /// gone ends the run.
     fn turn(&mut self, alloc: Global) -> Option<Action>
         ensures { Turns self.old result self.new }
     {

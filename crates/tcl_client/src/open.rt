@@ -1,7 +1,7 @@
 //! What messages come to while a call is open.
 ghost use Rattle.std.specs.Prelude.{◌≡◌, IfErr, IfOk, MatchResult};
 ghost use Rattle.tcl_client.specs.Entering.{IsEntry, IsMisfit};
-ghost use Rattle.tcl_client.specs.Opened.{IsNext, IsOpen, RefusesOpen};
+ghost use Rattle.tcl_client.specs.Opened.{IsNext, IsOpen, RefusesOpen, last_of};
 ghost use Rattle.tcl_core.specs.Endings.{completion};
 ghost use Rattle.tcl_flow.specs.View.{completion_of};
 ghost use Rattle.tcl_protocol.specs.Messages.{asks_of};
@@ -111,12 +111,20 @@ impl Talk {
         ensures { MatchResult result (λ _. IsOpen self.now number)
             (λ e. (e ≡ NotOpen number) × ¬ (IsOpen self.now number)) }
     {
-        if let Some(last) = self.calls.as_slice().last() {
-            if *last == number {
-                return Ok(());
-            }
+        let Some(last) = self.last_call() else {
+            return Err(Refusal::NotOpen(number));
+        };
+        if last != number {
+            return Err(Refusal::NotOpen(number));
         }
-        Err(Refusal::NotOpen(number))
+        Ok(())
+    }
+
+    /// The number of the call that was opened last, of those that are open.
+    fn last_call(&self) -> Option<u64>
+        ensures { result ≡ last_of self.now.calls.items }
+    {
+        self.calls.as_slice().last().copied()
     }
 }
 

@@ -8,7 +8,7 @@ use Rattle.tcl_core.specs.Endings.{Meter}
 use Rattle.tcl_core.specs.Endings.Meter.{Count, Depth}
 use Rattle.tcl_core.specs.Lives.{End}
 use Rattle.tcl_core.specs.Lives.End.{Completed_as, Stopped, Exits}
-use Rattle.tcl_core.specs.Paths.{Path}
+use Rattle.tcl_core.specs.Paths.{Path, Text}
 use Rattle.tcl_eval.specs.Running.{IsOpenRun, open_ending, root_count, unfit}
 use Rattle.tcl_eval.specs.declared.running.OpenEnd.{OpenEnd}
 use Rattle.tcl_eval.specs.declared.running.Refused.{Refused}
@@ -39,7 +39,8 @@ use Rattle.tcl_serve.specs.Keeping.{lines_in}
 use Rattle.tcl_serve.specs.Numbering.{Adds}
 use Rattle.tcl_serve.specs.declared.numbered.Numbered.{Numbered}
 use Rattle.tcl_serve.specs.declared.served.ServedTree.{ServedTree}
-use Rattle.tcl_tree.specs.TreeOf.{marks_of, tree_of}
+use Rattle.tcl_tree.specs.TreeOf.{marks_of}
+use Rattle.tcl_tree.specs.declared.tree.Tree.{Tree as Table}
 
 -- ## The outside
 
@@ -104,39 +105,48 @@ Says cut (Err u) r = r ≡ Err (of_refused u)
 
 -- ## An evaluation
 
--- how many steps it may make
-abbrev pub limit_of : Evaluation → ℕ
-limit_of e = unwrap_or e.limit steps
-
--- A run of the script over the client and the host; or it is refused, and nothing changes.
-pub record Evaluated (s : ServedTree) (c : ClientView) (e : Evaluation) (t : ServedTree)
-    (d : ClientView) (r : Result Answer Refusal) : Type 0 where
-  pub begun : Both
-  pub between : ServedTree
-  pub begins : Begins s c e.place.tree begun between
-  pub left : Both
-  pub run : Result OpenEnd Refused
-  pub refused : IfSome (unfit s.tree e.place.path e.script (limit_of e))
-      (λ u. (run ≡ Err u) × (t.tree ≡ s.tree) × (left ≡ begun))
-  pub memory : IfNone (unfit s.tree e.place.path e.script (limit_of e))
-      (IfErr run (λ u. u ≡ refused.Memory))
-  pub broken : IsErrOf run refused.Memory → (marks_of t.tree).broken ≡ true
-  pub marks : IfOk run (λ _. marks_of t.tree ≡ marks_of s.tree)
-  pub runs : IfOk run (λ end. IsOpenRun outside s.tree begun e.place.path e.script
-      (root_count s.tree + limit_of e) t.tree left end)
-  pub comes : Comes s left t d
-  pub says : Says d.talk.cut run r
-
--- or memory is wanted before it begins
+-- memory is wanted before it begins
 pub record IsUnbegun (s : ServedTree) (c : ClientView) (t : ServedTree) (d : ClientView)
     (r : Result Answer Refusal) : Type 0 where
   pub served : t ≡ s
   pub client : d ≡ c
   pub says : r ≡ Err refusal.Memory
 
-abbrev pub Evaluates : ServedTree → ClientView → Evaluation → ServedTree → ClientView →
+module _ (number : ℕ) (path : Path) (script : Text) (limit : ℕ) where
+  -- A run of the script over the client and the host; or it is refused, and nothing changes.
+  pub record Evaluated (s : ServedTree) (c : ClientView) (t : ServedTree) (d : ClientView)
+      (r : Result Answer Refusal) : Type 0 where
+    pub begun : Both
+    pub before : ServedTree
+    pub begins : Begins s c number begun before
+    pub left : Both
+    pub ran : Table
+    pub run : Result OpenEnd Refused
+    pub refused : IfSome (unfit before.tree path script limit) (λ u. run ≡ Err u)
+    pub unchanged : IfSome (unfit before.tree path script limit)
+        (λ _. (ran ≡ before.tree) × (left ≡ begun))
+    pub memory : IfNone (unfit before.tree path script limit)
+        (IfErr run (λ u. u ≡ refused.Memory))
+    pub broken : IsErrOf run refused.Memory → (marks_of ran).broken ≡ true
+    pub marks : IfOk run (λ _. marks_of ran ≡ marks_of before.tree)
+    pub runs : IfOk run (λ end. IsOpenRun outside before.tree begun path script
+        (root_count before.tree + limit) ran left end)
+    pub tree : t.tree ≡ ran
+    pub comes : Comes before left t d
+    pub says : Says d.talk.cut run r
+
+  -- or it doesn't begin
+  abbrev pub Evaluates : ServedTree → ClientView → ServedTree → ClientView →
+      Result Answer Refusal → Type 0
+  Evaluates s c t d r = Evaluated s c t d r ⊎ IsUnbegun s c t d r
+
+-- how many steps it may make
+abbrev pub limit_of : Evaluation → ℕ
+limit_of e = unwrap_or e.limit steps
+
+abbrev pub EvaluatesFor : Evaluation → ServedTree → ClientView → ServedTree → ClientView →
     Result Answer Refusal → Type 0
-Evaluates s c e t d r = Evaluated s c e t d r ⊎ IsUnbegun s c t d r
+EvaluatesFor e = Evaluates e.place.tree e.place.path e.script (limit_of e)
 
 -- ## A watched evaluation
 
@@ -159,29 +169,39 @@ SaysRecord cut (Ok x) old r new = SaysAnswer cut x.0 x.1 old r new
 SaysRecord cut (Err (unwatched.Refused u)) old r new = (r ≡ Err (of_refused u)) × (new ≡ old)
 SaysRecord cut (Err (unwatched.Deleted e)) old r new = (r ≡ Err refusal.Deleted) × (new ≡ old)
 
--- The run, and the record of what crossed the boundary of the interpreter at `watched`.
-pub record IsWatched (s : ServedTree) (c : ClientView) (old : Numbered RecordView)
-    (e : Evaluation) (watched : Path) (t : ServedTree) (d : ClientView)
-    (new : Numbered RecordView) (r : Result Answer Refusal) : Type 0 where
-  pub begun : Both
-  pub between : ServedTree
-  pub begins : Begins s c e.place.tree begun between
-  pub left : Both
-  pub run : Result (OpenEnd × RecordView) OpenUnwatched
-  pub refused : IfSome (unwatchable s.tree e.place.path e.script (limit_of e) watched)
-      (λ u. (run ≡ Err (unwatched.Refused u)) × (t.tree ≡ s.tree) × (left ≡ begun))
-  pub marks : IfEnds run (λ _. marks_of t.tree ≡ marks_of s.tree)
-  pub runs : IfEnds run (λ end. IsOpenRun outside s.tree begun e.place.path e.script
-      (root_count s.tree + limit_of e) t.tree left end)
-  pub recorded : IfOk run (λ x. IsOpenRecord outside s.tree begun e.place.path e.script
-      (limit_of e) watched x.1 t.tree left x.0)
-  pub deleted : IfDeleted run (λ end. IsOpenDeletion outside s.tree begun e.place.path e.script
-      (limit_of e) watched t.tree left end)
-  pub reacts : IfOk run (λ x. Reacts s.tree watched x.1.crossings t.tree)
-  pub comes : Comes s left t d
-  pub says : SaysRecord d.talk.cut run old r new
+module _ (number : ℕ) (path : Path) (script : Text) (limit : ℕ) (watched : Path) where
+  -- The run, and the record of what crossed the boundary of the interpreter at `watched`.
+  pub record IsWatched (s : ServedTree) (c : ClientView) (old : Numbered RecordView)
+      (t : ServedTree) (d : ClientView) (new : Numbered RecordView)
+      (r : Result Answer Refusal) : Type 0 where
+    pub begun : Both
+    pub before : ServedTree
+    pub begins : Begins s c number begun before
+    pub left : Both
+    pub ran : Table
+    pub run : Result (OpenEnd × RecordView) OpenUnwatched
+    pub refused : IfSome (unwatchable before.tree path script limit watched)
+        (λ u. run ≡ Err (unwatched.Refused u))
+    pub unchanged : IfSome (unwatchable before.tree path script limit watched)
+        (λ _. (ran ≡ before.tree) × (left ≡ begun))
+    pub marks : IfEnds run (λ _. marks_of ran ≡ marks_of before.tree)
+    pub runs : IfEnds run (λ end. IsOpenRun outside before.tree begun path script
+        (root_count before.tree + limit) ran left end)
+    pub recorded : IfOk run (λ x. IsOpenRecord outside before.tree begun path script limit watched
+        x.1 ran left x.0)
+    pub deleted : IfDeleted run (λ end. IsOpenDeletion outside before.tree begun path script limit
+        watched ran left end)
+    pub reacts : IfOk run (λ x. Reacts before.tree watched x.1.crossings ran)
+    pub tree : t.tree ≡ ran
+    pub comes : Comes before left t d
+    pub says : SaysRecord d.talk.cut run old r new
 
-abbrev pub Watches : ServedTree → ClientView → Numbered RecordView → Evaluation → Path →
+  -- or it doesn't begin
+  abbrev pub Watches : ServedTree → ClientView → Numbered RecordView → ServedTree → ClientView →
+      Numbered RecordView → Result Answer Refusal → Type 0
+  Watches s c old t d new r = IsWatched s c old t d new r ⊎
+      (IsUnbegun s c t d r × (new ≡ old))
+
+abbrev pub WatchesFor : Evaluation → Path → ServedTree → ClientView → Numbered RecordView →
     ServedTree → ClientView → Numbered RecordView → Result Answer Refusal → Type 0
-Watches s c old e watched t d new r = IsWatched s c old e watched t d new r ⊎
-    (IsUnbegun s c t d r × (new ≡ old))
+WatchesFor e watched = Watches e.place.tree e.place.path e.script (limit_of e) watched

@@ -1,6 +1,6 @@
 -- What messages do to what a session keeps.
-use Rattle.std.specs.Prelude.{◌≡◌, ◌⊎◌, ◌↔◌, ℕ, true, false, List, Option, Some, None, Result, Ok, Err}
-use Rattle.std.specs.Prelude.{IsSome, IsTrue}
+use Rattle.std.specs.Prelude.{◌≡◌, ◌⊎◌, ◌↔◌, ℕ, true, false, List, Option, Some, None, Result}
+use Rattle.std.specs.Prelude.{Ok, Err, IsSome}
 use Rattle.tcl_client.specs.Views.{ClientView}
 use Rattle.tcl_core.specs.Paths.{Path}
 use Rattle.tcl_core.specs.Trees.{at}
@@ -16,7 +16,7 @@ use Rattle.tcl_protocol.specs.declared.refusals.Refusal.TheVariants.{Memory, Not
 use Rattle.tcl_recorder.specs.Records.{RecordView}
 use Rattle.tcl_replay.specs.Saved.{SavedView, saved_of, unsavable}
 use Rattle.tcl_replay.specs.declared.saving.Saved.{Saved}
-use Rattle.tcl_serve.specs.Evaluating.{Evaluates, Watches}
+use Rattle.tcl_serve.specs.Evaluating.{EvaluatesFor, WatchesFor}
 use Rattle.tcl_serve.specs.Hosting.{fresh_host}
 use Rattle.tcl_serve.specs.Keeping.{Plays, of_unsaved, under}
 use Rattle.tcl_serve.specs.Numbering.{Adds, Puts, kept_at}
@@ -179,7 +179,7 @@ pub record Evaluated (o : Session) (c : ClientView) (e : Evaluation) (z : Sessio
   pub served : ServedTree
   pub stood : kept_at o.trees e.place.tree ≡ Some served
   pub after : ServedTree
-  pub evaluates : Evaluates served c e after d r
+  pub evaluates : EvaluatesFor e served c after d r
   pub puts : Puts o.trees e.place.tree (Some after) z.trees
   pub rest : OnlyTrees o z
 
@@ -189,7 +189,7 @@ pub record Watched (o : Session) (c : ClientView) (e : Evaluation) (watched : Pa
   pub served : ServedTree
   pub stood : kept_at o.trees e.place.tree ≡ Some served
   pub after : ServedTree
-  pub watches : Watches served c o.records e watched after d z.records r
+  pub watches : WatchesFor e watched served c o.records after d z.records r
   pub puts : Puts o.trees e.place.tree (Some after) z.trees
   pub saved : z.saved ≡ o.saved
 

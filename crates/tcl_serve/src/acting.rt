@@ -158,7 +158,11 @@ pub(crate) fn set_client_alias(
 ///
 /// # Errors
 /// 301; 305; want of memory.
-pub(crate) fn clear_alias(tree: &mut Tree, alloc: Global, alias: &ClearAlias) -> Result<Answer, Refusal>
+pub(crate) fn clear_alias(
+    tree: &mut Tree,
+    alloc: Global,
+    alias: &ClearAlias,
+) -> Result<Answer, Refusal>
     ensures answer { IfOk result (λ a. a ≡ Done) }
     ensures cleared { OnOk result (Becomes (tree_of tree.old) (tree_of tree.new)
         alias.now.path.items (λ own. cleared own alias.now.name)) }
@@ -179,7 +183,11 @@ pub(crate) fn clear_alias(tree: &mut Tree, alloc: Global, alias: &ClearAlias) ->
 ///
 /// # Errors
 /// 304 of the root; 301; want of memory.
-pub(crate) fn limit_count(tree: &mut Tree, alloc: Global, limit: &LimitCount) -> Result<Answer, Refusal>
+pub(crate) fn limit_count(
+    tree: &mut Tree,
+    alloc: Global,
+    limit: &LimitCount,
+) -> Result<Answer, Refusal>
     ensures answer { IfOk result (λ a. a ≡ Done) }
     ensures limited { OnOk result (tree_of tree.new
         ≡ effect limit.now.path.items (Limited limit.now.count) (tree_of tree.old)) }
@@ -199,7 +207,11 @@ pub(crate) fn limit_count(tree: &mut Tree, alloc: Global, limit: &LimitCount) ->
 ///
 /// # Errors
 /// 301; 304 of the root; 309; want of memory.
-pub(crate) fn limit_depth(tree: &mut Tree, alloc: Global, limit: &LimitDepth) -> Result<Answer, Refusal>
+pub(crate) fn limit_depth(
+    tree: &mut Tree,
+    alloc: Global,
+    limit: &LimitDepth,
+) -> Result<Answer, Refusal>
     ensures answer { IfOk result (λ a. a ≡ Done) }
     ensures limited { OnOk result (tree_of tree.new
         ≡ effect limit.now.path.items (DepthLimited limit.now.depth) (tree_of tree.old)) }

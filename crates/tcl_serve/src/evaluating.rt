@@ -4,8 +4,8 @@ ghost use Rattle.tcl_client.specs.Clients.{IsOver};
 ghost use Rattle.tcl_eval.specs.Running.{open_ending};
 ghost use Rattle.tcl_protocol.specs.Messages.{evaluation_of};
 ghost use Rattle.tcl_protocol.specs.declared.answers.Ended.TheVariants.{Completed};
-ghost use Rattle.tcl_serve.specs.Evaluating.{Begins, Evaluates, Says, SaysRecord, Watches};
-ghost use Rattle.tcl_serve.specs.Evaluating.{ended_as, of_refused};
+ghost use Rattle.tcl_serve.specs.Evaluating.{Begins, Evaluates, EvaluatesFor, Says, SaysRecord};
+ghost use Rattle.tcl_serve.specs.Evaluating.{Watches, WatchesFor, ended_as, of_refused};
 
 use crate::keeping::lines_of;
 use crate::numbered::Numbered;
@@ -23,6 +23,7 @@ use tcl_protocol::answers::{Answer, Ended, Watched};
 use tcl_protocol::messages::{Evaluate, STEPS, Watch};
 use tcl_protocol::refusals::Refusal;
 use tcl_recorder::record::Record;
+use tcl_text::text::Text;
 
 /// The client and the host of a tree, as what stands outside of the tree.
 type Both<R, W> = WithFunctions<Client<R, W>, MemoryHost>;
@@ -73,12 +74,34 @@ pub(crate) fn evaluate<R: BufRead + Drop, W: Write + Drop>(
     served: &mut ServedTree,
     message: &Evaluate,
 ) -> (Client<R, W>, Result<Answer, Refusal>)
-    ensures { Evaluates served.old client (evaluation_of message.now) served.new result.0 result.1 }
+    ensures { EvaluatesFor (evaluation_of message.now) served.old client served.new result.0
+        result.1 }
 {
+    let number = message.interpreter.tree;
     let path = message.interpreter.path.as_slice();
     let script = message.script.as_str();
     let limit = message.limit.unwrap_or(STEPS);
-    match outside_of(alloc, client, served, message.interpreter.tree) {
+    run(alloc, client, served, number, path, script, limit)
+}
+
+/// Evaluates a script in the interpreter at the path, in the tree of this number, with at most so
+/// many steps.
+///
+/// # Errors
+/// 401 to 404 and 122; want of memory.
+fn run<R: BufRead + Drop, W: Write + Drop>(
+    alloc: Global,
+    client: Client<R, W>,
+    served: &mut ServedTree,
+    number: u64,
+    path: &[Text],
+    script: &str,
+    limit: u64,
+) -> (Client<R, W>, Result<Answer, Refusal>)
+    ensures { Evaluates number path.now script.now limit served.old client served.new result.0
+        result.1 }
+{
+    match outside_of(alloc, client, served, number) {
         Ok(mut both) => {
             let run = open_run(&mut served.tree, alloc, &mut both, path, script, limit);
             let client = client_of(alloc, both, served);
@@ -136,15 +159,39 @@ pub(crate) fn watch<R: BufRead + Drop, W: Write + Drop>(
     message: &Watch,
     records: &mut Numbered<Record>,
 ) -> (Client<R, W>, Result<Answer, Refusal>)
-    ensures { Watches served.old client records.old (evaluation_of message.now.evaluate)
-        message.now.watched.items served.new result.0 records.new result.1 }
+    ensures { WatchesFor (evaluation_of message.now.evaluate) message.now.watched.items served.old
+        client records.old served.new result.0 records.new result.1 }
 {
     let evaluate = &message.evaluate;
+    let number = evaluate.interpreter.tree;
     let path = evaluate.interpreter.path.as_slice();
     let script = evaluate.script.as_str();
     let limit = evaluate.limit.unwrap_or(STEPS);
     let watched = message.watched.as_slice();
-    match outside_of(alloc, client, served, evaluate.interpreter.tree) {
+    run_watched(
+        alloc, client, served, number, path, script, limit, watched, records,
+    )
+}
+
+/// Evaluates a script so, and keeps the record of the boundary of the interpreter at `watched`.
+///
+/// # Errors
+/// 401 to 404, 122 and 411; want of memory.
+fn run_watched<R: BufRead + Drop, W: Write + Drop>(
+    alloc: Global,
+    client: Client<R, W>,
+    served: &mut ServedTree,
+    number: u64,
+    path: &[Text],
+    script: &str,
+    limit: u64,
+    watched: &[Text],
+    records: &mut Numbered<Record>,
+) -> (Client<R, W>, Result<Answer, Refusal>)
+    ensures { Watches number path.now script.now limit watched.now served.old client records.old
+        served.new result.0 records.new result.1 }
+{
+    match outside_of(alloc, client, served, number) {
         Ok(both) => {
             let tree = &mut served.tree;
             let (both, run) = open_watched(tree, alloc, both, path, script, limit, watched);

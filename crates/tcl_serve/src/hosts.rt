@@ -131,7 +131,8 @@ impl ServedHost {
     }
 
     fn take_output(&mut self, alloc: Global) -> Result<Answer, Refusal>
-        ensures takes { IfOk result (λ a. a ≡ answer.Text (Some (untaken channel.Output self.old))) }
+        ensures takes { IfOk result
+            (λ a. a ≡ answer.Text (Some (untaken channel.Output self.old))) }
         ensures taken { OnOk result (self.new ≡ all_taken channel.Output self.old) }
         ensures fault { IfErr result (IfUnreadable (untaken channel.Output self.old)) }
         ensures unchanged { OnErr result (self.new ≡ self.old) }
@@ -143,7 +144,8 @@ impl ServedHost {
     }
 
     fn take_errors(&mut self, alloc: Global) -> Result<Answer, Refusal>
-        ensures takes { IfOk result (λ a. a ≡ answer.Text (Some (untaken channel.Errors self.old))) }
+        ensures takes { IfOk result
+            (λ a. a ≡ answer.Text (Some (untaken channel.Errors self.old))) }
         ensures taken { OnOk result (self.new ≡ all_taken channel.Errors self.old) }
         ensures fault { IfErr result (IfUnreadable (untaken channel.Errors self.old)) }
         ensures unchanged { OnErr result (self.new ≡ self.old) }

@@ -4,7 +4,8 @@ ghost use Rattle.tcl_core.specs.Lives.{outs_of};
 ghost use Rattle.tcl_record_texts.specs.Lines.{line};
 ghost use Rattle.tcl_recorder.specs.Crossings.{event_of, events_of};
 ghost use Rattle.tcl_replay.specs.Saved.{saved_of};
-ghost use Rattle.tcl_serve.specs.Keeping.{Plays, leads_out, lines_in, of_unplayed, of_unsaved, under};
+ghost use Rattle.tcl_serve.specs.Keeping.{Plays, leads_out, lines_in, of_unplayed, of_unsaved};
+ghost use Rattle.tcl_serve.specs.Keeping.{under};
 
 use crate::evaluating::refusal_of;
 use std::alloc::{AllocError, Global};
