@@ -76,7 +76,8 @@ fn line_of(alloc: Global, number: u64, tree: u64, call: &Call) -> Result<String,
         interpreter: Vec::from_clones(alloc, call.caller.as_slice())?,
         words: texts_of(alloc, call.words.as_slice())?,
     };
-    call_line(alloc, &asked)
+    let line = call_line(alloc, &asked)?;
+    Ok(line)
 }
 
 /// What is said of an entry that ended by this completion, and evaluates a script or not.
@@ -111,7 +112,7 @@ fn cut_off<R: BufRead + Drop, W: Write + Drop>(
     ensures none { awaited.new.items ≡ [] }
 {
     'awaited: while let Some(last) = awaited.pop() {
-        reply(lines, alloc, Some(last.id), &Ok(Answer::Ended(Ended::Cut)));
+        reply(lines, alloc, Some(last.id), Ok(Answer::Ended(Ended::Cut)));
     }
 }
 
@@ -155,8 +156,8 @@ impl<R: BufRead + Drop, W: Write + Drop> Client<R, W> {
     }
 
     /// Answers a message.
-    pub fn reply(&mut self, alloc: Global, id: u64, answer: &Result<Answer, Refusal>)
-        ensures replies { Replies self.old.lines (Some id) answer.now self.new.lines }
+    pub fn reply(&mut self, alloc: Global, id: u64, answer: Result<Answer, Refusal>)
+        ensures replies { Replies self.old.lines (Some id) answer self.new.lines }
         ensures talk { self.new.talk ≡ self.old.talk }
     {
         reply(&mut self.lines, alloc, Some(id), answer);
@@ -223,7 +224,7 @@ impl<R: BufRead + Drop, W: Write + Drop> Client<R, W> {
             return Err(AllocError);
         };
         let answer = entry_answer(alloc, awaited.evaluates, completion)?;
-        self.reply(alloc, awaited.id, &answer);
+        self.reply(alloc, awaited.id, answer);
         Ok(())
     }
 
@@ -257,7 +258,7 @@ impl<R: BufRead + Drop, W: Write + Drop> Client<R, W> {
         match self.talk.next_of(alloc, message) {
             Ok(next) => self.follow(alloc, id, next),
             Err(refusal) => {
-                self.reply(alloc, id, &Err(refusal));
+                self.reply(alloc, id, Err(refusal));
                 None
             }
         }
@@ -272,12 +273,12 @@ impl<R: BufRead + Drop, W: Write + Drop> Client<R, W> {
                 self.enter(alloc, Awaited { id, evaluates }, asked)
             }
             Next::Returns(completion) => {
-                self.reply(alloc, id, &Ok(Answer::Done));
+                self.reply(alloc, id, Ok(Answer::Done));
                 let _ = self.talk.calls.pop();
                 Some(Action::Complete(completion))
             }
             Next::Ends => {
-                self.reply(alloc, id, &Ok(Answer::Done));
+                self.reply(alloc, id, Ok(Answer::Done));
                 self.talk.cut = true;
                 Some(Action::Exit(0))
             }
@@ -295,7 +296,7 @@ impl<R: BufRead + Drop, W: Write + Drop> Client<R, W> {
                 Some(Action::Enter { target, entry })
             }
             Err(_) => {
-                self.reply(alloc, awaited.id, &Err(Refusal::Memory));
+                self.reply(alloc, awaited.id, Err(Refusal::Memory));
                 None
             }
         }

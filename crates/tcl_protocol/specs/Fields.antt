@@ -2,7 +2,8 @@
 use Rattle.serde_json.specs.Data.{Num, Data, Items, no_items, item, Members, no_members, member}
 use Rattle.serde_json.specs.Find.{as_array, as_bool, as_i64, as_null, as_number, as_object, as_str}
 use Rattle.serde_json.specs.Find.{as_u64, get}
-use Rattle.std.specs.Prelude.{ℕ, ℤ, Bool, List, [], ◌∷◌, Option, Some, None, Result, Ok, Err, ⊤, ◌||◌, if◌then◌else◌}
+use Rattle.std.specs.Prelude.{ℕ, ℤ, Bool, List, [], ◌∷◌, Option, Some, None, Result, Ok, Err, ⊤}
+use Rattle.std.specs.Prelude.{◌||◌, if◌then◌else◌}
 use Rattle.std.specs.List.{list_any}
 use Rattle.std.specs.Str.{bytes_eq}
 use Rattle.tcl_core.specs.Paths.{Text}
@@ -62,7 +63,8 @@ text_of f d = of_type f (as_str d)
 -- each item is a text
 abbrev pub items_of : Field → Items → Result (List Text) Refusal
 items_of f no_items = Ok []
-items_of f (item d ds) = followed (text_of f d) (λ text. mapped (λ texts. text ∷ texts) (items_of f ds))
+items_of f (item d ds) = followed (text_of f d) (λ text.
+    mapped (λ texts. text ∷ texts) (items_of f ds))
 
 abbrev pub texts_of : Field → Data → Result (List Text) Refusal
 texts_of f d = followed (of_type f (as_array d)) (items_of f)

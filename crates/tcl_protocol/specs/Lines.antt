@@ -1,7 +1,7 @@
 -- What lines are to the bytes that are read and written.
 use Rattle.std.specs.Io.KnownBytes.{Appends, Consumes, IsAtEnd}
-use Rattle.std.specs.Prelude.{◌≡◌, ◌≢◌, ◌⊎◌, ℕ, ◌+◌, ◌<◌, ◌≤◌, List, [], ◌∷◌, ◌++◌, length, take, All}
-use Rattle.std.specs.Prelude.{Option, Some, None, Result, Ok, Err, IfSome, Vec, codes, decimal}
+use Rattle.std.specs.Prelude.{◌≡◌, ◌≢◌, ◌⊎◌, ℕ, ◌+◌, ◌<◌, ◌≤◌, List, [], ◌∷◌, ◌++◌, length, take}
+use Rattle.std.specs.Prelude.{All, Option, Some, None, Result, Ok, Err, IfSome, Vec, codes, decimal}
 use Rattle.std.specs.declared.alloc.Global.{Global}
 use Rattle.tcl_protocol.specs.declared.lines.Ending.{Ending}
 use Rattle.tcl_protocol.specs.declared.lines.Ending.TheVariants.{Finished, TooLong, CutShort}

@@ -8,13 +8,13 @@ use Rattle.tcl_protocol.specs.Names.{name_of, type_name, type_of}
 use Rattle.tcl_protocol.specs.declared.refusals.Refusal.{Refusal}
 use Rattle.tcl_protocol.specs.declared.refusals.Refusal.TheVariants.{Memory, NotUtf8, NotJson}
 use Rattle.tcl_protocol.specs.declared.refusals.Refusal.TheVariants.{NotObject, UnknownMessage}
-use Rattle.tcl_protocol.specs.declared.refusals.Refusal.TheVariants.{UnknownField, Missing, WrongType}
-use Rattle.tcl_protocol.specs.declared.refusals.Refusal.TheVariants.{OutOfRange, Nothing, CallOpen}
-use Rattle.tcl_protocol.specs.declared.refusals.Refusal.TheVariants.{NotOpen, EntryLimit, Root, Told}
-use Rattle.tcl_protocol.specs.declared.refusals.Refusal.TheVariants.{Tree, TooLong, Breaks}
-use Rattle.tcl_protocol.specs.declared.refusals.Refusal.TheVariants.{Broken, Nobody, TooManySteps}
-use Rattle.tcl_protocol.specs.declared.refusals.Refusal.TheVariants.{Deleted, Waits, NotText}
-use Rattle.tcl_protocol.specs.declared.refusals.Refusal.TheVariants.{LineTooLong, CutShort}
+use Rattle.tcl_protocol.specs.declared.refusals.Refusal.TheVariants.{UnknownField, Missing}
+use Rattle.tcl_protocol.specs.declared.refusals.Refusal.TheVariants.{WrongType, OutOfRange, Nothing}
+use Rattle.tcl_protocol.specs.declared.refusals.Refusal.TheVariants.{CallOpen, NotOpen, EntryLimit}
+use Rattle.tcl_protocol.specs.declared.refusals.Refusal.TheVariants.{Root, Told, Tree, TooLong}
+use Rattle.tcl_protocol.specs.declared.refusals.Refusal.TheVariants.{Breaks, Broken, Nobody}
+use Rattle.tcl_protocol.specs.declared.refusals.Refusal.TheVariants.{TooManySteps, Deleted, Waits}
+use Rattle.tcl_protocol.specs.declared.refusals.Refusal.TheVariants.{NotText, LineTooLong, CutShort}
 use Rattle.tcl_protocol.specs.declared.refusals.Refusal.TheVariants.{Unreadable}
 use Rattle.tcl_value.specs.declared.value.ValueError.{ValueError}
 use Rattle.tcl_value.specs.declared.value.ValueError.TheVariants as value

@@ -1,7 +1,7 @@
 //! Lines, as they are read and written.
 ghost use Rattle.std.specs.Io.KnownBytes.{Appends};
-ghost use Rattle.std.specs.Prelude.{◌≡◌, ◌⊎◌, ◌+◌, ◌<◌, ◌≤◌, ◌++◌, ◌∷◌, [], IfErr, None, OnOk, length};
-ghost use Rattle.std.specs.Prelude.{vec_len};
+ghost use Rattle.std.specs.Prelude.{◌≡◌, ◌⊎◌, ◌+◌, ◌<◌, ◌≤◌, ◌++◌, ◌∷◌, [], IfErr, None, OnOk};
+ghost use Rattle.std.specs.Prelude.{length, vec_len};
 ghost use Rattle.tcl_protocol.specs.Lines.{HearsOrEnds, IsRest, Looks, Reads, ReadsLine, Says};
 ghost use Rattle.tcl_protocol.specs.Lines.{Traffic, id_text, most_line, out_of_memory, status_of};
 ghost use Rattle.tcl_protocol.specs.declared.lines.Ending.TheVariants.{Memory, TooLong};
@@ -40,8 +40,8 @@ impl From<AllocError> for Ending {
 }
 
 impl Ending {
-    /// The exit status of a program whose session ended so: 0 where the input is at its end, 1 where
-    /// a line can't be written, 2 where one can't be read, 4 for want of memory.
+    /// The exit status of a program whose session ended so: 0 where the input is at its end, 1
+    /// where a line can't be written, 2 where one can't be read, 4 for want of memory.
     pub fn status(self) -> u8
         ensures { result ≡ status_of self }
     {

@@ -412,7 +412,8 @@ fn alias_in(alloc: Global, line: &Value) -> Result<Alias, Refusal>
 
 /// An alias to the client.
 fn alias_to_client_in(alloc: Global, line: &Value) -> Result<AliasToClient, Refusal>
-    ensures ok { IfOk result (λ r. alias_to_client_in (view line.now) ≡ Ok (ask_of (ask.AliasToClient r))) }
+    ensures ok { IfOk result
+        (λ r. alias_to_client_in (view line.now) ≡ Ok (ask_of (ask.AliasToClient r))) }
     ensures err { IfErr result (λ e. e ≢ Memory → alias_to_client_in (view line.now) ≡ Err e) }
 {
     let path = texts_in(alloc, line, Field::Path)?;
@@ -423,7 +424,8 @@ fn alias_to_client_in(alloc: Global, line: &Value) -> Result<AliasToClient, Refu
 
 /// An alias that is to be taken away.
 fn clear_alias_in(alloc: Global, line: &Value) -> Result<ClearAlias, Refusal>
-    ensures ok { IfOk result (λ r. clear_alias_in (view line.now) ≡ Ok (ask_of (ask.ClearAlias r))) }
+    ensures ok { IfOk result
+        (λ r. clear_alias_in (view line.now) ≡ Ok (ask_of (ask.ClearAlias r))) }
     ensures err { IfErr result (λ e. e ≢ Memory → clear_alias_in (view line.now) ≡ Err e) }
 {
     let path = texts_in(alloc, line, Field::Path)?;
@@ -433,7 +435,8 @@ fn clear_alias_in(alloc: Global, line: &Value) -> Result<ClearAlias, Refusal>
 
 /// A limit of steps.
 fn limit_count_in(alloc: Global, line: &Value) -> Result<LimitCount, Refusal>
-    ensures ok { IfOk result (λ r. limit_count_in (view line.now) ≡ Ok (ask_of (ask.LimitCount r))) }
+    ensures ok { IfOk result
+        (λ r. limit_count_in (view line.now) ≡ Ok (ask_of (ask.LimitCount r))) }
     ensures err { IfErr result (λ e. e ≢ Memory → limit_count_in (view line.now) ≡ Err e) }
 {
     let count = number_or_null_in(line, Field::Count)?;
@@ -446,7 +449,8 @@ fn limit_count_in(alloc: Global, line: &Value) -> Result<LimitCount, Refusal>
 
 /// A limit of depth.
 fn limit_depth_in(alloc: Global, line: &Value) -> Result<LimitDepth, Refusal>
-    ensures ok { IfOk result (λ r. limit_depth_in (view line.now) ≡ Ok (ask_of (ask.LimitDepth r))) }
+    ensures ok { IfOk result
+        (λ r. limit_depth_in (view line.now) ≡ Ok (ask_of (ask.LimitDepth r))) }
     ensures err { IfErr result (λ e. e ≢ Memory → limit_depth_in (view line.now) ≡ Err e) }
 {
     let depth = number_in(line, Field::Depth)?;
@@ -466,7 +470,8 @@ fn put_file_in(alloc: Global, line: &Value) -> Result<PutFile, Refusal>
 
 /// The channel of a message.
 fn channel_in(line: &Value) -> Result<Channel, Refusal>
-    ensures ok { IfOk result (λ r. take_output_in (view line.now) ≡ Ok (ask_of (ask.TakeOutput r))) }
+    ensures ok { IfOk result
+        (λ r. take_output_in (view line.now) ≡ Ok (ask_of (ask.TakeOutput r))) }
     ensures err { IfErr result (λ e. take_output_in (view line.now) ≡ Err e) }
 {
     let name = str_in(line, Field::Channel)?;

@@ -2,7 +2,8 @@
 ghost use Rattle.std.specs.Prelude.{◌≡◌, IfOk};
 ghost use Rattle.std.specs.String.{string_bytes};
 ghost use Rattle.tcl_protocol.specs.Refusals.{about, number_of, of_value, text_of, tree_number};
-ghost use Rattle.tcl_protocol.specs.declared.refusals.Refusal.TheVariants.{Memory, Nothing, NotOpen};
+ghost use Rattle.tcl_protocol.specs.declared.refusals.Refusal.TheVariants.{Memory, Nothing};
+ghost use Rattle.tcl_protocol.specs.declared.refusals.Refusal.TheVariants.{NotOpen};
 ghost use Rattle.tcl_protocol.specs.declared.refusals.Refusal.TheVariants.{WrongType};
 
 use crate::fields::Field;

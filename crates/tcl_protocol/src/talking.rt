@@ -10,17 +10,17 @@ use crate::refusals::Refusal;
 use std::alloc::Global;
 use std::io::{BufRead, Write};
 
-/// Answers a message of this id, or a line of which none can be read. Where memory is wanted for the
-/// answer, that is the answer.
+/// Answers a message of this id, or a line of which none can be read. Where memory is wanted for
+/// the answer, that is the answer.
 pub fn reply<R: BufRead + Drop, W: Write + Drop>(
     lines: &mut Lines<R, W>,
     alloc: Global,
     id: Option<u64>,
-    answer: &Result<Answer, Refusal>,
+    answer: Result<Answer, Refusal>,
 )
-    ensures { Replies lines.old id answer.now lines.new }
+    ensures { Replies lines.old id answer lines.new }
 {
-    match reply_line(alloc, id, answer) {
+    match reply_line(alloc, id, &answer) {
         Ok(line) => lines.say(line.as_str()),
         Err(_) => lines.say_out_of_memory(id),
     }
@@ -55,7 +55,7 @@ fn understand<R: BufRead + Drop, W: Write + Drop>(
     match message_in(alloc, line) {
         Line::Asks(id, message) => Some((id, message)),
         Line::Fails(id, refusal) => {
-            reply(lines, alloc, id, &Err(refusal));
+            reply(lines, alloc, id, Err(refusal));
             None
         }
     }
@@ -83,6 +83,6 @@ fn say_fault<R: BufRead + Drop, W: Write + Drop>(
     ensures { SaysFault fault lines.old lines.new }
 {
     if let Some(refusal) = fault {
-        reply(lines, alloc, None, &Err(refusal));
+        reply(lines, alloc, None, Err(refusal));
     }
 }

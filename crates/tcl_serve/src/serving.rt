@@ -40,7 +40,7 @@ fn serve_line<R: BufRead + Drop, W: Write + Drop>(
     match client.hear(alloc) {
         Some((id, message)) => {
             let (mut client, answer) = session.answer(alloc, client, message);
-            client.reply(alloc, id, &answer);
+            client.reply(alloc, id, answer);
             client
         }
         None => client,
