@@ -1,4 +1,4 @@
-use Rattle.std.proofs.Common.{◌≡◌, FitsSigned, ℤ, [], ◌∷◌, ◌++◌, Some, None, length, refl, sym, ◌∙◌, subst, w64}
+use Rattle.std.proofs.Common.{◌≡◌, FitsSigned, ℤ, [], ◌∷◌, ◌++◌, Some, None, length, refl, sym, ◌∙◌, subst, w64, rules}
 use Rattle.std.specs.Prelude.{OnOk}
 use Rattle.std.proofs.lemmas.Int.{to_z-of_z}
 use Rattle.std.proofs.lemmas.Result.{on_ok_weaker}
