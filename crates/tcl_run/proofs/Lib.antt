@@ -2,7 +2,6 @@ pub mod Leads
 pub mod Levelling
 pub mod Endings
 pub mod Steady
-pub mod Lengths
 pub mod Plain
 pub mod Hosting
 pub mod Losing
