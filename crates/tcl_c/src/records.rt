@@ -1,5 +1,6 @@
 //! Records, and interpreters that are saved by themselves.
 ghost use Rattle.std.specs.Prelude.{◌≡◌, None, OnErr, is_some, pos};
+ghost use Rattle.tcl_c.specs.Handles.{Fills};
 ghost use Rattle.tcl_c.specs.Objects.{IsUnchanged};
 ghost use Rattle.tcl_sessions.specs.Sessions.{SameSession};
 
@@ -76,7 +77,8 @@ pub extern "C" fn tclsafe_take_record(
     tree: &mut Handle,
     recorded: &mut Handle,
 ) -> i32
-    ensures { is_some tree.new.sealed.value ≡ is_some tree.old.sealed.value }
+    ensures tree { is_some tree.new.sealed.value ≡ is_some tree.old.sealed.value }
+    ensures filled { Fills recorded.old.sealed.value result recorded.new.sealed.value }
 {
     let mut room = match recorded.room(alloc) {
         Ok(room) => room,
@@ -127,7 +129,8 @@ pub extern "C" fn tclsafe_save(
     path: &[u8],
     saved: &mut Handle,
 ) -> i32
-    ensures { is_some tree.new.sealed.value ≡ is_some tree.old.sealed.value }
+    ensures tree { is_some tree.new.sealed.value ≡ is_some tree.old.sealed.value }
+    ensures filled { Fills saved.old.sealed.value result saved.new.sealed.value }
 {
     let mut room = match saved.room(alloc) {
         Ok(room) => room,
