@@ -24,7 +24,7 @@ use Rattle.tcl_value.specs.declared.value.ValueError.{ValueError}
 use Rattle.tcl_value.specs.declared.value.ValueError.TheVariants as value
 
 -- the number of what a tree refuses
-abbrev pub tree_number : TreeError → ℤ
+unfoldable pub tree_number : TreeError → ℤ
 tree_number tree.BadName = pos 238
 tree_number tree.BadCount = pos 245
 tree_number tree.NoInterpreter = pos 301
@@ -39,7 +39,7 @@ tree_number (tree.DepthLimit n) = pos 308
 tree_number tree.BadDepthLimit = pos 309
 tree_number tree.Memory = pos 401
 
-abbrev pub number_of : Refusal → ℤ
+unfoldable pub number_of : Refusal → ℤ
 number_of UnmatchedBrace = pos 101
 number_of UnmatchedQuote = pos 102
 number_of AfterBrace = pos 103

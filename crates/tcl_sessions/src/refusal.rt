@@ -97,6 +97,7 @@ pub const ALL: [Refusal; 31] = [
 
 impl Refusal {
     /// Its number.
+    #[tactic(auto, unfolding(crate::specs::Refusals::number_of))]
     pub fn number(self) -> i32
         ensures { result ≡ number_of self }
     {
@@ -156,6 +157,7 @@ impl Refusal {
 }
 
 /// The number of what a tree refuses.
+#[tactic(auto, unfolding(crate::specs::Refusals::tree_number))]
 fn tree_number(error: TreeError) -> i32
     ensures { result ≡ tree_number error }
 {
