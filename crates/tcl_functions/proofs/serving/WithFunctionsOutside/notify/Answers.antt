@@ -16,7 +16,7 @@ returns-in_default-clause-told g c =
     let o = c.args.self.now in
     let serves = g.F.Functions.serves in
     let step = g.H.Host.step in
-    within_unchanged (going serves step) (Unit {0}) c.args.tree.now o c.args.happening (λ p. refl) (enters_unheard serves step T o) (returns_unheard serves step T o) (misses_unheard serves step T o)
+    within_unchanged (going serves step) (Unit {0}) c.args.tree.now o c.args.happening (λ S p. refl) (enters_unheard serves step T o) (returns_unheard serves step T o) (misses_unheard serves step T o)
     (λ caller up down entry is. absurd (c.in_default.not-PassedTop caller up down entry is))
     (λ target ended is. absurd (c.in_default.not-EntryDone target ended is))
     (λ caller up entry status is. absurd (c.in_default.not-ExitCameBack caller up entry status is))

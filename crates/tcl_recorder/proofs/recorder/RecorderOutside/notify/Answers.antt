@@ -28,8 +28,8 @@ returns-in-Dropped-clause-told g c =
     let told = subst (λ (h : Happening). Notified g.O.Outside.goes g.O.Outside.hands_in T old.outside h c.notify.new.self) c.in-Dropped.is c.in_ok-notify.ensures.told in
     subst (λ (h : Happening). OnOk c.note_drop.result (Notified (recorded g.O.Outside.goes) g.O.Outside.hands_in T old h new)) (sym c.in-Dropped.is)
     (on_ok_weaker c.note_drop.result
-    (λ e p at. drops g.O.Outside.goes (tree_of T) old new _ c.note_drop.ensures.kept c.note_drop.ensures.incomplete (e p at)
-    (subst (λ u. g.O.Outside.goes (tree_of T) old.outside None (event (p ++ c.in-Dropped.name.now ∷ []) Dropped) u) (sym c.note_drop.ensures.outside) (told p at)))
+    (λ e S p at. drops g.O.Outside.goes S old new _ c.note_drop.ensures.kept c.note_drop.ensures.incomplete (e p at)
+    (subst (λ u. g.O.Outside.goes S old.outside None (event (p ++ c.in-Dropped.name.now ∷ []) Dropped) u) (sym c.note_drop.ensures.outside) (told S p at)))
     c.note_drop.ensures.fate)
 
 pub returns-in_ok-path-in-Entered-clause-told : goal.returns-in_ok-path-in-Entered-clause-told
