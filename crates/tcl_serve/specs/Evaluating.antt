@@ -12,7 +12,7 @@ use Rattle.tcl_core.specs.Paths.{Path, Text}
 use Rattle.tcl_eval.specs.Running.{IsOpenRun, open_ending, root_count, unfit}
 use Rattle.tcl_eval.specs.declared.running.OpenEnd.{OpenEnd}
 use Rattle.tcl_eval.specs.declared.running.Refused.{Refused}
-use Rattle.tcl_eval.specs.declared.running.Refused.TheVariants as refused
+use Rattle.tcl_eval.specs.declared.running.Refused.TheVariants as why
 use Rattle.tcl_flow.specs.declared.stop.StopKind.{StopKind}
 use Rattle.tcl_flow.specs.declared.stop.StopKind.TheVariants as stop
 use Rattle.tcl_functions.specs.Serving.{going, most_entries}
@@ -36,7 +36,7 @@ use Rattle.tcl_recorder.specs.Records.{RecordView}
 use Rattle.tcl_replay.specs.Watched.{Reacts, unwatchable}
 use Rattle.tcl_run.specs.Outsides.{Going}
 use Rattle.tcl_serve.specs.Keeping.{lines_in}
-use Rattle.tcl_serve.specs.Numbering.{Adds}
+use Rattle.tcl_serve.specs.Numbering.{Adds, IsKept}
 use Rattle.tcl_serve.specs.declared.numbered.Numbered.{Numbered}
 use Rattle.tcl_serve.specs.declared.served.ServedTree.{ServedTree}
 use Rattle.tcl_tree.specs.TreeOf.{marks_of}
@@ -91,11 +91,11 @@ ended_as false (Some (Exits n)) = ended.Exited n
 ended_as false None = ended.Cut
 
 abbrev pub of_refused : Refused → Refusal
-of_refused refused.Memory = refusal.Breaks
-of_refused refused.Broken = refusal.Broken
-of_refused refused.NoInterpreter = refusal.Nobody
-of_refused refused.CountTooLarge = refusal.TooManySteps
-of_refused refused.TooLong = refusal.TooLong
+of_refused why.Memory = refusal.Breaks
+of_refused why.Broken = refusal.Broken
+of_refused why.NoInterpreter = refusal.Nobody
+of_refused why.CountTooLarge = refusal.TooManySteps
+of_refused why.TooLong = refusal.TooLong
 
 -- of its end, or that memory was wanted to say it; or why there was none
 abbrev pub Says : Bool → Result OpenEnd Refused → Result Answer Refusal → Type 0
@@ -126,8 +126,8 @@ module _ (number : ℕ) (path : Path) (script : Text) (limit : ℕ) where
     pub unchanged : IfSome (unfit before.tree path script limit)
         (λ _. (ran ≡ before.tree) × (left ≡ begun))
     pub memory : IfNone (unfit before.tree path script limit)
-        (IfErr run (λ u. u ≡ refused.Memory))
-    pub broken : IsErrOf run refused.Memory → (marks_of ran).broken ≡ true
+        (IfErr run (λ u. u ≡ why.Memory))
+    pub broken : IsErrOf run why.Memory → (marks_of ran).broken ≡ true
     pub marks : IfOk run (λ _. marks_of ran ≡ marks_of before.tree)
     pub runs : IfOk run (λ end. IsOpenRun outside before.tree begun path script
         (root_count before.tree + limit) ran left end)
@@ -161,7 +161,7 @@ abbrev pub SaysAnswer : Bool → OpenEnd → RecordView → Numbered RecordView 
     Result Answer Refusal → Numbered RecordView → Type 0
 SaysAnswer cut e kept old (Ok (answer.Watched w)) new = SaysWatched cut e kept old w new
 SaysAnswer cut e kept old (Ok a) new = Prim.⊥
-SaysAnswer cut e kept old (Err f) new = (f ≡ refusal.Memory) × (new ≡ old)
+SaysAnswer cut e kept old (Err f) new = (f ≡ refusal.Memory) × IsKept old new
 
 abbrev pub SaysRecord : Bool → Result (OpenEnd × RecordView) OpenUnwatched → Numbered RecordView →
     Result Answer Refusal → Numbered RecordView → Type 0

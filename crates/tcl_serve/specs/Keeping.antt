@@ -1,9 +1,9 @@
 -- Records, and what they come to when they are replayed.
-use Rattle.std.specs.Prelude.{◌≡◌, ◌⊎◌, ◌↔◌, ℕ, Bool, true, false, List, map, Some, Result, Ok, Err}
-use Rattle.std.specs.Prelude.{IsTrue}
-use Rattle.tcl_core.specs.Lives.{React, outs_of}
-use Rattle.tcl_core.specs.Paths.{Text}
-use Rattle.tcl_core.specs.Trees.{Event, What}
+use Rattle.std.specs.Prelude.{◌≡◌, ◌⊎◌, ◌↔◌, ℕ, Bool, true, false, List, [], ◌∷◌, map, Some, Result, Ok, Err}
+use Rattle.std.specs.Prelude.{IsTrue, if◌then◌else◌}
+use Rattle.tcl_core.specs.Lives.{React}
+use Rattle.tcl_core.specs.Paths.{Path, Text}
+use Rattle.tcl_core.specs.Trees.{Event, What, at}
 use Rattle.tcl_core.specs.Trees.What.{Done, Out}
 use Rattle.tcl_core.specs.Views.{moves_of}
 use Rattle.tcl_eval.specs.declared.running.Refused.{Refused}
@@ -18,12 +18,15 @@ use Rattle.tcl_record_texts.specs.Lines.{event_line, outcome_text}
 use Rattle.tcl_recorder.specs.Crossings.{events_of}
 use Rattle.tcl_recorder.specs.declared.crossing.Crossing.{Crossing}
 use Rattle.tcl_replay.specs.Replaying.{unfit}
-use Rattle.tcl_replay.specs.Saved.{SavedView, saved_of}
+use Rattle.tcl_replay.specs.Saved.{SavedView, saved_of, unsavable}
 use Rattle.tcl_replay.specs.declared.replaying.Unplayed.{Unplayed}
 use Rattle.tcl_replay.specs.declared.replaying.Unplayed.TheVariants as unplayed
 use Rattle.tcl_serve.specs.declared.keeping.Left.{Left}
 use Rattle.tcl_serve.specs.declared.keeping.Told.{Told}
+use Rattle.tcl_replay.specs.declared.saving.Saved.{Saved}
 use Rattle.tcl_tree.specs.Own.{Own}
+use Rattle.tcl_tree.specs.TreeOf.{marks_of, tree_of}
+use Rattle.tcl_tree.specs.declared.tree.Tree.{Tree as Table}
 
 -- a line for each crossing
 abbrev pub lines_in : List (Event Own) → List Text
@@ -37,6 +40,11 @@ leads x = false
 
 abbrev pub leads_out : Event Own → Bool
 leads_out ev = leads ev.what
+
+-- those that do
+abbrev pub outward : List (Event Own) → List (Event Own)
+outward [] = []
+outward (ev ∷ τ) = if leads_out ev then ev ∷ outward τ else outward τ
 
 -- what was told, and the number of what was left
 abbrev pub under : Told → ℕ → Replayed
@@ -71,9 +79,19 @@ pub record Played (v : SavedView) (crossings : List (Event Own)) (limit : ℕ) (
   pub style : (saved_of left.saved).integers ≡ v.integers
   pub came : left.told.outcome ≡ outcome_text outcome
   pub told : left.told.lines.items ≡ lines_in (events_of outwards)
-  pub same : IsTrue left.told.same ↔ (left.told.lines.items ≡ lines_in (outs_of crossings))
+  pub same : IsTrue left.told.same ↔ (left.told.lines.items ≡ lines_in (outward crossings))
 
 abbrev pub Plays : SavedView → List (Event Own) → ℕ → Result Left Refusal → Type 0
 Plays v crossings limit (Ok left) = Played v crossings limit left
 Plays v crossings limit (Err e) = (e ≡ refusal.Memory) ⊎
     ((u : Unplayed) × (e ≡ of_unplayed u) × (unfit v limit ≡ Some u))
+
+-- The interpreter at a path is saved by itself, as it stands; or why not.
+abbrev pub SavesAt : Table → Path → Result Saved Refusal → Type 0
+SavesAt t path (Ok s) = saved_of s ≡ record {
+  tree = at (tree_of t) path;
+  integers = (marks_of t).integers;
+  waits = false;
+}
+SavesAt t path (Err e) = (e ≡ refusal.Memory) ⊎
+    ((u : Refused) × (e ≡ of_unsaved u) × (unsavable t path ≡ Some u))

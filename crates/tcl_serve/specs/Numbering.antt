@@ -8,6 +8,11 @@ use Rattle.tcl_serve.specs.declared.numbered.Numbered.{Numbered}
 abbrev pub kept_at : {T : Type 0} → Numbered T → ℕ → Option T
 kept_at n k = get nat_cmp n.held k
 
+-- Under each number is kept what was, and no further one was given.
+pub record IsKept {T : Type 0} (o z : Numbered T) : Type 0 where
+  pub last : z.last ≡ o.last
+  pub same : (k : ℕ) → kept_at z k ≡ kept_at o k
+
 -- Under one number this is kept, and under each other one what was; no further number was given.
 pub record Puts {T : Type 0} (o : Numbered T) (k : ℕ) (w : Option T) (z : Numbered T) : Type 0 where
   pub last : z.last ≡ o.last

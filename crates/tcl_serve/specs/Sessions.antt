@@ -1,10 +1,8 @@
 -- What messages do to what a session keeps.
-use Rattle.std.specs.Prelude.{◌≡◌, ◌⊎◌, ◌↔◌, ℕ, true, false, List, Option, Some, None, Result}
-use Rattle.std.specs.Prelude.{Ok, Err, IsSome}
+use Rattle.std.specs.Prelude.{◌≡◌, ◌⊎◌, ◌↔◌, ℕ, Bool, false, Some, None, Result}
+use Rattle.std.specs.Prelude.{Ok, Err, IsSome, IsTrue}
 use Rattle.tcl_client.specs.Views.{ClientView}
 use Rattle.tcl_core.specs.Paths.{Path}
-use Rattle.tcl_core.specs.Trees.{at}
-use Rattle.tcl_eval.specs.declared.running.Refused.{Refused}
 use Rattle.tcl_protocol.specs.Messages as ask
 use Rattle.tcl_protocol.specs.Messages.{Asks, Evaluation}
 use Rattle.tcl_protocol.specs.declared.answers.Answer.{Answer}
@@ -12,14 +10,15 @@ use Rattle.tcl_protocol.specs.declared.answers.Answer.TheVariants as answer
 use Rattle.tcl_protocol.specs.declared.fields.Field.{Field}
 use Rattle.tcl_protocol.specs.declared.fields.Field.TheVariants as field
 use Rattle.tcl_protocol.specs.declared.refusals.Refusal.{Refusal}
-use Rattle.tcl_protocol.specs.declared.refusals.Refusal.TheVariants.{Memory, Nothing, NotOpen}
+use Rattle.tcl_protocol.specs.declared.refusals.Refusal.TheVariants.{CallOpen, Memory}
+use Rattle.tcl_protocol.specs.declared.refusals.Refusal.TheVariants.{Nothing, NotOpen}
 use Rattle.tcl_recorder.specs.Records.{RecordView}
-use Rattle.tcl_replay.specs.Saved.{SavedView, saved_of, unsavable}
+use Rattle.tcl_replay.specs.Saved.{saved_of}
 use Rattle.tcl_replay.specs.declared.saving.Saved.{Saved}
 use Rattle.tcl_serve.specs.Evaluating.{EvaluatesFor, WatchesFor}
 use Rattle.tcl_serve.specs.Hosting.{fresh_host}
-use Rattle.tcl_serve.specs.Keeping.{Plays, of_unsaved, under}
-use Rattle.tcl_serve.specs.Numbering.{Adds, Puts, kept_at}
+use Rattle.tcl_serve.specs.Keeping.{Plays, SavesAt, under}
+use Rattle.tcl_serve.specs.Numbering.{Adds, IsKept, Puts, kept_at}
 use Rattle.tcl_serve.specs.Served.{Acts}
 use Rattle.tcl_serve.specs.declared.keeping.Left.{Left}
 use Rattle.tcl_serve.specs.declared.numbered.Numbered.{Numbered}
@@ -86,19 +85,15 @@ pub record Saves (o : Session) (p : ask.Place) (k : ℕ) (z : Session) : Type 0 
   pub served : ServedTree
   pub stood : kept_at o.trees p.tree ≡ Some served
   pub saved : Saved
-  pub is : saved_of saved ≡ record {
-    tree = at (tree_of served.tree) p.path;
-    integers = (marks_of served.tree).integers;
-    waits = false;
-  }
+  pub is : SavesAt served.tree p.path (Ok saved)
   pub adds : Adds o.saved k saved z.saved
   pub rest : OnlySaved o z
 
 -- why not
 abbrev pub Unsaved : Session → ask.Place → Refusal → Type 0
 Unsaved o p e = IsMissing o.trees field.Tree p.tree e ⊎ (e ≡ Memory) ⊎
-    ((served : ServedTree) × (kept_at o.trees p.tree ≡ Some served) × (u : Refused) ×
-    (e ≡ of_unsaved u) × (unsavable served.tree p.path ≡ Some u))
+    ((served : ServedTree) × (kept_at o.trees p.tree ≡ Some served) ×
+    SavesAt served.tree p.path (Err e))
 
 -- two saved interpreters are the same, or not
 pub record Compares (o : Session) (n m : ℕ) (a : Answer) : Type 0 where
@@ -106,9 +101,10 @@ pub record Compares (o : Session) (n m : ℕ) (a : Answer) : Type 0 where
   pub other : Saved
   pub first : kept_at o.saved n ≡ Some one
   pub second : kept_at o.saved m ≡ Some other
-  pub same : a ≡ answer.Same true ↔ (((saved_of one).tree ≡ (saved_of other).tree) ×
+  pub same : Bool
+  pub says : a ≡ answer.Same same
+  pub is : IsTrue same ↔ (((saved_of one).tree ≡ (saved_of other).tree) ×
       ((saved_of one).integers ≡ (saved_of other).integers))
-  pub says : (a ≡ answer.Same true) ⊎ (a ≡ answer.Same false)
 
 -- a record is replayed to a saved interpreter, and what that leaves is kept
 pub record Replays (o : Session) (n m limit : ℕ) (a : Answer) (z : Session) : Type 0 where
@@ -141,7 +137,7 @@ Done o (ask.DropSaved n) a z = (a ≡ answer.Done) × Takes o.saved n z.saved ×
 Done o (ask.DropRecord n) a z = (a ≡ answer.Done) × Takes o.records n z.records × OnlyRecords o z
 Done o m a z = Prim.⊥
 
--- why it isn't
+-- why it isn't; an evaluation isn't done so
 abbrev pub Undone : Session → Asks → Refusal → Type 0
 Undone o (ask.MakeTree integers) e = e ≡ Memory
 Undone o (ask.DropTree n) e = IsMissing o.trees field.Tree n e
@@ -154,13 +150,13 @@ Undone o (ask.DropSaved n) e = IsMissing o.saved field.Saved n e
 Undone o (ask.DropRecord n) e = IsMissing o.records field.Record n e
 Undone o (ask.Return n code text) e = e ≡ NotOpen n
 Undone o (ask.EndRun n) e = e ≡ NotOpen n
-Undone o m e = Prim.⊥
+Undone o m e = e ≡ CallOpen
 
--- what is kept under each number is what was
+-- all is kept as it was
 pub record IsSame (o z : Session) : Type 0 where
-  pub trees : (k : ℕ) → kept_at z.trees k ≡ kept_at o.trees k
-  pub saved : (k : ℕ) → kept_at z.saved k ≡ kept_at o.saved k
-  pub records : (k : ℕ) → kept_at z.records k ≡ kept_at o.records k
+  pub trees : IsKept o.trees z.trees
+  pub saved : IsKept o.saved z.saved
+  pub records : IsKept o.records z.records
 
 -- what is asked of a tree is refused by it
 abbrev pub RefusedThere : Session → Asks → Refusal → Session → Type 0

@@ -1,11 +1,10 @@
 //! Records, and what they come to when they are replayed.
-ghost use Rattle.std.specs.Prelude.{◌≡◌, IfOk};
-ghost use Rattle.tcl_core.specs.Lives.{outs_of};
+ghost use Rattle.std.specs.Prelude.{◌≡◌, ◌↔◌, IfOk, IsTrue};
 ghost use Rattle.tcl_record_texts.specs.Lines.{line};
 ghost use Rattle.tcl_recorder.specs.Crossings.{event_of, events_of};
 ghost use Rattle.tcl_replay.specs.Saved.{saved_of};
 ghost use Rattle.tcl_serve.specs.Keeping.{Plays, leads_out, lines_in, of_unplayed, of_unsaved};
-ghost use Rattle.tcl_serve.specs.Keeping.{under};
+ghost use Rattle.tcl_serve.specs.Keeping.{SavesAt, outward, under};
 
 use crate::evaluating::refusal_of;
 use std::alloc::{AllocError, Global};
@@ -17,8 +16,9 @@ use tcl_record_texts::lines::{crossing_line, outcome_text};
 use tcl_recorder::crossing::Crossing;
 use tcl_recorder::record::Record;
 use tcl_replay::replaying::Unplayed;
-use tcl_replay::saving::Saved;
+use tcl_replay::saving::{Saved, save};
 use tcl_text::text::Text;
+use tcl_tree::tree::Tree;
 
 /// What an interpreter told in a replay.
 #[derive(Drop)]
@@ -77,8 +77,7 @@ pub(crate) fn replayed(
             let (outcome, outwards, saved) = replayed.into_parts();
             let outcome = Text::from_string(alloc, outcome_text(alloc, outcome)?)?;
             let lines = lines_of(alloc, outwards.as_slice())?;
-            let wanted = told_lines(alloc, kept.crossings())?;
-            let same = wanted.as_slice() == lines.as_slice();
+            let same = tells_same(alloc, kept.crossings(), lines.as_slice())?;
             Ok(Left {
                 told: Told {
                     outcome,
@@ -123,7 +122,7 @@ fn leads_out(crossing: &Crossing) -> bool
 
 /// The lines of those crossings that lead outwards.
 fn told_lines(alloc: Global, crossings: &[Crossing]) -> Result<Vec<Text>, AllocError>
-    ensures { IfOk result (λ made. made.items ≡ lines_in (outs_of (events_of crossings.now))) }
+    ensures { IfOk result (λ made. made.items ≡ lines_in (outward (events_of crossings.now))) }
 {
     let mut lines = Vec::new(alloc);
     'crossings: for crossing in crossings {
@@ -132,6 +131,22 @@ fn told_lines(alloc: Global, crossings: &[Crossing]) -> Result<Vec<Text>, AllocE
         }
     }
     Ok(lines)
+}
+
+/// Whether those crossings that lead outwards have these lines.
+fn tells_same(alloc: Global, crossings: &[Crossing], lines: &[Text]) -> Result<bool, AllocError>
+    ensures { IfOk result
+        (λ same. IsTrue same ↔ (lines.now ≡ lines_in (outward (events_of crossings.now)))) }
+{
+    let wanted = told_lines(alloc, crossings)?;
+    Ok(same_lines(lines, wanted.as_slice()))
+}
+
+/// Whether these lines are the others.
+fn same_lines(lines: &[Text], others: &[Text]) -> bool
+    ensures { IsTrue result ↔ (lines.now ≡ others.now) }
+{
+    lines == others
 }
 
 /// Why nothing was replayed.
@@ -145,8 +160,21 @@ fn unplayed_refusal(unplayed: Unplayed) -> Refusal
     }
 }
 
+/// Saves the interpreter at a path by itself.
+///
+/// # Errors
+/// 402 and 403; want of memory, which breaks nothing.
+pub(crate) fn save_at(tree: &Tree, path: &[Text]) -> Result<Saved, Refusal>
+    ensures { SavesAt tree.now path.now result }
+{
+    match save(tree, path) {
+        Ok(saved) => Ok(saved),
+        Err(refused) => Err(unsaved_refusal(refused)),
+    }
+}
+
 /// Why an interpreter isn't saved. Want of memory breaks nothing then.
-pub(crate) fn unsaved_refusal(refused: Refused) -> Refusal
+fn unsaved_refusal(refused: Refused) -> Refusal
     ensures { result ≡ of_unsaved refused }
 {
     match refused {

@@ -1,7 +1,7 @@
 //! What is kept under numbers.
-ghost use Rattle.std.specs.Prelude.{◌≡◌, ℕ, None, IfOk, OnErr};
+ghost use Rattle.std.specs.Prelude.{◌≡◌, ℕ, None, IfNone, IfOk, OnErr};
 ghost use Rattle.std.specs.Option.{option_copied};
-ghost use Rattle.tcl_serve.specs.Numbering.{Adds, Puts, kept_at};
+ghost use Rattle.tcl_serve.specs.Numbering.{Adds, IsKept, Puts, kept_at};
 
 use std::alloc::{AllocError, Global};
 use std::collections::BTreeMap;
@@ -41,7 +41,7 @@ impl<T: Drop> Numbered<T> {
     /// Want of memory, which changes nothing.
     pub fn add(&mut self, thing: T) -> Result<u64, AllocError>
         ensures adds { IfOk result (λ number. Adds self.old number thing self.new) }
-        ensures unchanged { OnErr result (self.new ≡ self.old) }
+        ensures unchanged { OnErr result (IsKept self.old self.new) }
     {
         if self.last == u64::MAX {
             // So many things fit no memory.
@@ -64,6 +64,7 @@ impl<T: Drop> Numbered<T> {
     pub fn remove(&mut self, number: u64) -> Option<T>
         ensures taken { result ≡ kept_at self.old number }
         ensures puts { Puts self.old number None self.new }
+        ensures unchanged { IfNone result (IsKept self.old self.new) }
     {
         self.held.remove(&number)
     }

@@ -5,7 +5,7 @@ ghost use Rattle.tcl_protocol.specs.Messages as asks;
 ghost use Rattle.tcl_serve.specs.Sessions.{Answers, Does, IsEmpty};
 
 use crate::evaluating::{evaluate, watch};
-use crate::keeping::{replayed, unsaved_refusal};
+use crate::keeping::{replayed, save_at};
 use crate::numbered::Numbered;
 use crate::served::ServedTree;
 use std::alloc::Global;
@@ -16,7 +16,7 @@ use tcl_protocol::fields::Field;
 use tcl_protocol::messages::{Ask, Compare, Evaluate, Interpreter, Message, Replay, Watch};
 use tcl_protocol::refusals::Refusal;
 use tcl_recorder::record::Record;
-use tcl_replay::saving::{Saved, save};
+use tcl_replay::saving::Saved;
 use tcl_text::integer::Integers;
 
 /// The trees, saved interpreters and records of a session.
@@ -156,10 +156,8 @@ impl Session {
         let Some(served) = self.trees.get(message.tree) else {
             return Err(Refusal::Nothing(Field::Tree, message.tree));
         };
-        match save(&served.tree, message.path.as_slice()) {
-            Ok(saved) => Ok(Answer::Saved(self.saved.add(saved)?)),
-            Err(refused) => Err(unsaved_refusal(refused)),
-        }
+        let saved = save_at(&served.tree, message.path.as_slice())?;
+        Ok(Answer::Saved(self.saved.add(saved)?))
     }
 
     /// Compares two saved interpreters.

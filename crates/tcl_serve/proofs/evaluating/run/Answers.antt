@@ -1,4 +1,5 @@
-use Rattle.std.proofs.Common.{inl, inr, refl}
+use Rattle.std.proofs.Common.{inl, sym, subst}
+use Rattle.tcl_serve.specs.Evaluating.{Says}
 use Rattle.tcl_serve.proofs.evaluating.run.Goals as goal
 
 pub returns-in-Ok : goal.returns-in-Ok
@@ -17,5 +18,5 @@ returns-in-Ok g c = inl (record {
   runs = c.open_run-run.ensures.runs;
   tree = c.client_of-client.ensures.tree;
   comes = record { over = c.client_of-client.ensures.over; host = c.client_of-client.ensures.host };
-  says = ?;
+  says = subst (λ b. Says b c.open_run-run.result c.said-answer.result) c.is_cut.ensures c.said-answer.ensures;
 })

@@ -1,0 +1,5 @@
+use Rattle.tcl_serve.specs.Serving.{Lines}
+use Rattle.tcl_serve.proofs.serving.serve.Given as goal
+
+abbrev pub invariant-lines : goal.invariant-lines
+invariant-lines g l = Lines l.initial.client l.initial.session l.client l.session
