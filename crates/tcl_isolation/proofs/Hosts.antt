@@ -7,7 +7,7 @@ use Rattle.tcl_core.specs.Laws.{NoLeaving, turn}
 use Rattle.tcl_core.specs.Laws.Turn.{Enters}
 use Rattle.tcl_core.specs.Paths.{Path, Place, Height, rise_to}
 use Rattle.tcl_core.specs.Programs.{Table, Wait}
-use Rattle.tcl_core.specs.Execution.{Chain, Crossings, Open, answers_to, before, event, hears, more, none, passing}
+use Rattle.tcl_core.specs.Execution.{Chain, Crossings, Open, answers_to, before, calls_after, event, hears, more, none, passing}
 use Rattle.tcl_core.specs.Trees.{Event, Tree, What, effect}
 use Rattle.tcl_core.specs.Trees.What.{Out, In, Done, Back, Refused}
 use Rattle.tcl_host.specs.declared.reply.HostReply.{HostReply}
@@ -51,7 +51,7 @@ module _ {S : Type 0} (step : S → Request → HostReply → S → Type 0) wher
 
   pub unasked : {cs ds : Open} (T V : Tree Own) (o z : S) (τ : List (Event Own)) → AreUnheard τ → Chain (Crossings (hosted step)) cs T o τ ds V z → z ≡ o
   unasked T V o z [] f none = refl
-  unasked {cs} T V o z (ev ∷ τ) f (more {u = u} a k) = unasked (effect ev.place ev.what T) V u z τ f.1 k ∙ still T o (answers_to ev.place ev.what cs) ev.place ev.what u f.0 a.told
+  unasked {cs} T V o z (ev ∷ τ) f (more {u = u} a k) = unasked {cs = calls_after ev.place ev.what cs} (effect ev.place ev.what T) V u z τ f.1 k ∙ still T o (answers_to ev.place ev.what cs) ev.place ev.what u f.0 a.told
 
   pub host_untouched : {I : Type 0} (prog : Table Own I) (T V : Tree Own) (o z : S) (u : Path) (i : Entry) (c : Place) (crossings : List (Event Own)) (r : Reply) →
       WatchedVisit (hosted step) prog T o (c ++ u) i c crossings V z r → CallsNobody crossings → z ≡ o

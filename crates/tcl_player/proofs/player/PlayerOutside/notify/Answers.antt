@@ -1,6 +1,13 @@
-use Rattle.std.proofs.Common.{refl, sym, subst}
+use Rattle.std.proofs.Common.{rules, refl, sym, subst, Some, ℤ, FitsSigned, w64}
 use Rattle.std.specs.Prelude.{OnOk}
+use Rattle.std.proofs.lemmas.Int.{to_z-of_z}
 use Rattle.std.proofs.lemmas.Result.{on_ok_weaker}
+use Rattle.tcl_core.specs.Endings.Reply.{Exit}
+use Rattle.tcl_core.specs.Entries.Answer.{Replied}
+use Rattle.tcl_core.specs.Execution.{event}
+use Rattle.tcl_core.specs.Programs.{Wait}
+use Rattle.tcl_core.specs.Trees.What.{Back}
+use Rattle.tcl_run.specs.Entering.{whole_entry}
 use Rattle.tcl_run.proofs.Quiet.{within_unchanged}
 use Rattle.tcl_run.specs.Notifying.{Notified}
 use Rattle.tcl_run.specs.declared.outside.Happening.{Happening}
@@ -20,8 +27,15 @@ returns-in-EntryDone-clause-told c =
 
 pub returns-in-ExitCameBack-clause-told : goal.returns-in-ExitCameBack-clause-told
 returns-in-ExitCameBack-clause-told c =
-    subst (λ (w : Happening). OnOk c.exit_comes.result (Notified played (Unit {0}) c.args.tree.now c.args.self.now w c.exit_comes.new.self)) (sym c.in-ExitCameBack.is)
-    (on_ok_weaker c.exit_comes.result (λ e may p at up. e p up) c.exit_comes.ensures.told)
+    let T = tree_of c.args.tree.now in
+    let o = c.args.self.now in
+    let z = c.exit_comes.new.self in
+    let up = c.in-ExitCameBack.up in
+    let call : Wait = Some (up, whole_entry c.in-ExitCameBack.entry.now) in
+    let fits_it : FitsSigned w64 c.in-ExitCameBack.status = search rules in
+    let same = to_z-of_z w64 c.in-ExitCameBack.status fits_it in
+    subst (λ (w : Happening). OnOk c.exit_comes.result (Notified played (Unit {0}) c.args.tree.now o w z)) (sym c.in-ExitCameBack.is)
+    (on_ok_weaker c.exit_comes.result (λ e may p at above. subst (λ (n : ℤ). played T o call (event p (Back up (Replied (Exit n)))) z) same (e p above)) c.exit_comes.ensures.told)
 
 pub returns-in_default-clause-told : goal.returns-in_default-clause-told
 returns-in_default-clause-told c =
