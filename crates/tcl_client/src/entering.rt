@@ -7,8 +7,9 @@ ghost use Rattle.tcl_protocol.specs.declared.messages.Ask.TheVariants as ask;
 ghost use Rattle.tcl_run.specs.Entering.{whole_entry};
 
 use std::alloc::Global;
-use tcl_protocol::messages::{Alias, AliasToClient, Ask, ClearAlias, Create, Evaluate};
-use tcl_protocol::messages::{LimitCount, LimitDepth};
+use tcl_protocol::messages::{
+    Alias, AliasToClient, Ask, ClearAlias, Create, Evaluate, LimitCount, LimitDepth,
+};
 use tcl_protocol::refusals::Refusal;
 use tcl_run::entry::{Entry, OwnEntry};
 use tcl_text::text::Text;

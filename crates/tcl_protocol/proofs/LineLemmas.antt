@@ -79,13 +79,14 @@ at_end_of (Some xs) h = h
 pub end_read : (a b c : Option (List ℕ)) (before after : List ℕ) (e : Ending) → ReadsMore b c before after AtEnd
     → IsWithin before → Consumes a b before → IsRest after e → IsEnd a e
 end_read a b c before after e r within had rest = by_rest rest
-    where
-      same : before ≡ after
-      same = sym (r.after_is ∙ ap (λ l. before ++ l) (r.at_end refl).0 ∙ append-nil before)
-      by_rest : IsRest after e → IsEnd a e
-      by_rest (inl (is, none)) = subst (IsEnd a) (sym is) (at_end_of a (all_read a b before (λ xs. xs ≡ []) had (r.at_end refl).1 (same ∙ none)))
-      by_rest (inr (is, some)) = subst (IsEnd a) (sym is)
-          (all_read a b before (λ xs. IsWithin xs × (0 < length xs)) had (r.at_end refl).1 (within, subst (λ l. 0 < length l) (sym same) some))
+  where
+    same : before ≡ after
+    same = sym (r.after_is ∙ ap (λ l. before ++ l) (r.at_end refl).0 ∙ append-nil before)
+
+    by_rest : IsRest after e → IsEnd a e
+    by_rest (inl (is, none)) = subst (IsEnd a) (sym is) (at_end_of a (all_read a b before (λ xs. xs ≡ []) had (r.at_end refl).1 (same ∙ none)))
+    by_rest (inr (is, some)) = subst (IsEnd a) (sym is)
+        (all_read a b before (λ xs. IsWithin xs × (0 < length xs)) had (r.at_end refl).1 (within, subst (λ l. 0 < length l) (sym same) some))
 
 -- an error behind a part
 pub error_read : (a b : Option (List ℕ)) (before : List ℕ) (e : Ending) → Consumes a b before → IsWithin before
@@ -93,14 +94,14 @@ pub error_read : (a b : Option (List ℕ)) (before : List ℕ) (e : Ending) → 
 error_read a b before e had within (inl is) = subst (IsEnd a) (sym is) tt
 error_read a b before e had within (inr (inl is)) = subst (IsEnd a) (sym is) tt
 error_read a b before e had within (inr (inr (is, p))) = subst (IsEnd a) (sym is) (too_long a b before had within p)
-    where
-      too_long : (a b : Option (List ℕ)) (before : List ℕ) → Consumes a b before → IsWithin before → PassesLimit b before → IfSome a BeginsTooLong
-      too_long None b before had within p = tt
-      too_long (Some x) None before had within p = absurd had
-      too_long (Some x) (Some y) before had within (front, rest, is, w, lt) = (
-        before ++ front,
-        rest,
-        had ∙ ap (λ l. before ++ l) is ∙ sym (append_assoc before front rest),
-        All-append (λ x. x ≢ 10) before front within w,
-        subst (λ n. most_line < n) (sym (length-append before front)) lt,
-      )
+  where
+    too_long : (a b : Option (List ℕ)) (before : List ℕ) → Consumes a b before → IsWithin before → PassesLimit b before → IfSome a BeginsTooLong
+    too_long None b before had within p = tt
+    too_long (Some x) None before had within p = absurd had
+    too_long (Some x) (Some y) before had within (front, rest, is, w, lt) = (
+      before ++ front,
+      rest,
+      had ∙ ap (λ l. before ++ l) is ∙ sym (append_assoc before front rest),
+      All-append (λ x. x ≢ 10) before front within w,
+      subst (λ n. most_line < n) (sym (length-append before front)) lt,
+    )

@@ -58,7 +58,7 @@ standing_data s = object (member (codes "children") (texts_data s.children.items
 abbrev pub watched_data : Watched → Data
 watched_data w = object (member (codes "ended") (ended_data w.ended)
     (member (codes "lines") (texts_data w.lines.items)
-    (member (codes "record") (number (unsigned w.record)) no_members)))
+    (member (codes "record") (number (unsigned w.number)) no_members)))
 
 abbrev pub replayed_data : Replayed → Data
 replayed_data r = object (member (codes "lines") (texts_data r.lines.items)

@@ -115,13 +115,13 @@ pub record Looks (bytes : List ℕ) (shown : Shown) : Type 0 where
 
 -- More of a line is read, that began with `before`.
 pub record ReadsMore (old new : Option (List ℕ)) (before after : List ℕ) (step : Step) : Type 0
-    where
-  pub more : List ℕ
-  pub after_is : after ≡ before ++ more
-  pub within : IsWithin more
-  pub short : length after ≤ most_line
-  pub unread : Consumes old new (through step more)
-  pub at_end : step ≡ AtEnd → (more ≡ []) × IsAtEnd old
+  where
+    pub more : List ℕ
+    pub after_is : after ≡ before ++ more
+    pub within : IsWithin more
+    pub short : length after ≤ most_line
+    pub unread : Consumes old new (through step more)
+    pub at_end : step ≡ AtEnd → (more ≡ []) × IsAtEnd old
 
 -- what is known to be left makes the line too long that has `before` before it
 abbrev pub PassesLimit : Option (List ℕ) → List ℕ → Type 0

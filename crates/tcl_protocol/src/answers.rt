@@ -49,7 +49,7 @@ pub struct Watched {
     /// How it ended.
     pub ended: Ended,
     /// The number of the record.
-    pub record: u64,
+    pub number: u64,
     /// The lines of the record.
     pub lines: Vec<Text>,
 }
@@ -158,7 +158,7 @@ fn watched_value(alloc: Global, watched: &Watched) -> Result<Value, AllocError>
 {
     let ended = ended_value(alloc, &watched.ended)?;
     let lines = texts_value(alloc, watched.lines.as_slice())?;
-    json!(in alloc; {"ended": ended, "record": watched.record, "lines": lines})
+    json!(in alloc; {"ended": ended, "record": watched.number, "lines": lines})
 }
 
 /// A replay.

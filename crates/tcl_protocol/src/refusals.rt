@@ -11,7 +11,6 @@ use std::alloc::{AllocError, AllocFailed, Global};
 use tcl_interpreter::refusal::TreeError;
 use tcl_text::messages::{COUNT_TOO_LARGE, OUT_OF_MEMORY, TOO_LONG};
 use tcl_text::text::Text;
-
 use tcl_value::value::ValueError;
 
 /// Why a message isn't done. Each has a number, which docs/PROTOCOL.md tells.

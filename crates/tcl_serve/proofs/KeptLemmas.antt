@@ -17,10 +17,10 @@ if_none_more None P Q f h = f h
 
 not_at : (k q : ℕ) → (q ≡ k → ⊥) → is_at (nat_cmp k) q ≡ false
 not_at k q ne = by_lt (nat_lt k q)
-    where
-      by_lt : (b : Bool) → is_eq (cond b Less (cond (eqb k q) Equal Greater)) ≡ false
-      by_lt true = refl
-      by_lt false = ap (λ b. is_eq (cond b Equal Greater)) (ne_eqb k q (λ e. ne (sym e)))
+  where
+    by_lt : (b : Bool) → is_eq (cond b Less (cond (eqb k q) Equal Greater)) ≡ false
+    by_lt true = refl
+    by_lt false = ap (λ b. is_eq (cond b Equal Greater)) (ne_eqb k q (λ e. ne (sym e)))
 
 module _ {T : Type 0} where
   pub kept : (o z : Numbered T) → z.last ≡ o.last → z.held ≡ o.held → IsKept o z

@@ -155,7 +155,7 @@ pub record SaysWatched (cut : Bool) (e : OpenEnd) (kept : RecordView) (old : Num
     (w : Watched) (new : Numbered RecordView) : Type 0 where
   pub ended : w.ended ≡ ended_as cut (open_ending e)
   pub lines : w.lines.items ≡ lines_in kept.crossings
-  pub adds : Adds old w.record kept new
+  pub adds : Adds old w.number kept new
 
 abbrev pub SaysAnswer : Bool → OpenEnd → RecordView → Numbered RecordView →
     Result Answer Refusal → Numbered RecordView → Type 0

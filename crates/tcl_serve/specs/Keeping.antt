@@ -1,6 +1,6 @@
 -- Records, and what they come to when they are replayed.
-use Rattle.std.specs.Prelude.{◌≡◌, ◌⊎◌, ◌↔◌, ℕ, Bool, true, false, List, [], ◌∷◌, map, Some, Result, Ok, Err}
-use Rattle.std.specs.Prelude.{IsTrue, if◌then◌else◌}
+use Rattle.std.specs.Prelude.{◌≡◌, ◌⊎◌, ◌↔◌, ℕ, Bool, true, false, List, [], ◌∷◌, map, Some}
+use Rattle.std.specs.Prelude.{Result, Ok, Err, IsTrue, if◌then◌else◌}
 use Rattle.tcl_core.specs.Lives.{React}
 use Rattle.tcl_core.specs.Paths.{Path, Text}
 use Rattle.tcl_core.specs.Trees.{Event, What, at}
@@ -71,15 +71,15 @@ of_unsaved refused.TooLong = refusal.TooLong
 -- The saved interpreter reacts by itself to the moves of a record; what it told is said, and
 -- whether that is what it tells in the record.
 pub record Played (v : SavedView) (crossings : List (Event Own)) (limit : ℕ) (left : Left) : Type 0
-    where
-  pub outcome : Outcome
-  pub outwards : List Crossing
-  pub reacts : React (language v.integers) v.tree (moves_of crossings) limit (result_of outcome)
-      (events_of outwards) (saved_of left.saved).tree
-  pub style : (saved_of left.saved).integers ≡ v.integers
-  pub came : left.told.outcome ≡ outcome_text outcome
-  pub told : left.told.lines.items ≡ lines_in (events_of outwards)
-  pub same : IsTrue left.told.same ↔ (left.told.lines.items ≡ lines_in (outward crossings))
+  where
+    pub outcome : Outcome
+    pub outwards : List Crossing
+    pub reacts : React (language v.integers) v.tree (moves_of crossings) limit (result_of outcome)
+        (events_of outwards) (saved_of left.saved).tree
+    pub style : (saved_of left.saved).integers ≡ v.integers
+    pub came : left.told.outcome ≡ outcome_text outcome
+    pub told : left.told.lines.items ≡ lines_in (events_of outwards)
+    pub same : IsTrue left.told.same ↔ (left.told.lines.items ≡ lines_in (outward crossings))
 
 abbrev pub Plays : SavedView → List (Event Own) → ℕ → Result Left Refusal → Type 0
 Plays v crossings limit (Ok left) = Played v crossings limit left

@@ -219,7 +219,7 @@ fn recorded(
             let number = records.add(kept)?;
             Ok(Answer::Watched(Watched {
                 ended,
-                record: number,
+                number,
                 lines,
             }))
         }
