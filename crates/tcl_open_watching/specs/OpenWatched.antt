@@ -95,7 +95,7 @@ pub record IsOpenDeletion {S : Type 0} (goes : Going S) (old : Table) (o : S) (p
   pub visits : Visits (language (marks_of old).integers) (Runs (language (marks_of old).integers))
       (before (limited limit (tree_of old)) (visit path (Eval script) events reply)) None path
       (Eval script) (before during []) (Some reply)
-  pub outside : Chain (Crossings goes) (limited limit (tree_of old)) o events during between
+  pub outside : Chain (Crossings goes) [] (limited limit (tree_of old)) o events [] during between
   pub dropped : IsSpared watched (visit path (Eval script) events reply) → Prim.⊥
   pub told : goes during between None (event path (Done None reply)) z
   pub after : tree_of new ≡ effect [] (Limited (root_limit old)) during
