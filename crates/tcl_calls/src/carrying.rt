@@ -16,7 +16,7 @@ use std::alloc::{AllocError, Global};
 use tcl_flow::completion::settle;
 use tcl_flow::stop::Stop;
 use tcl_run::interruption::Interruption;
-use tcl_run::outside::Outside;
+use tcl_run::outside::{Happening, Outside};
 use tcl_text::text::Text;
 use tcl_tree::alias::in_common;
 use tcl_tree::tree::{Place, Tree};
@@ -93,7 +93,14 @@ pub fn return_to_caller<O: Outside>(
     match stop_of(&ended) {
         Some(stop) => return_stop_to_caller(tree, alloc, outside, caller, up, down, stop),
         None => {
-            outside.returns(alloc, tree, caller, up, down, &ended, &ended)?;
+            let happening = Happening::Returned {
+                caller,
+                up,
+                down,
+                ended: &ended,
+                told: &ended,
+            };
+            outside.notify(alloc, tree, happening)?;
             ended
         }
     }
@@ -131,7 +138,14 @@ fn return_stop_to_caller<O: Outside>(
 {
     let ended = Err(Interruption::Stopped(stop));
     let told = Err(stop_for_caller(tree, alloc, caller, up, down, stop));
-    outside.returns(alloc, tree, caller, up, down, &ended, &told)?;
+    let happening = Happening::Returned {
+        caller,
+        up,
+        down,
+        ended: &ended,
+        told: &told,
+    };
+    outside.notify(alloc, tree, happening)?;
     told
 }
 

@@ -1,5 +1,7 @@
 //! Bytes that are read as a whole or line by line.
-ghost use Rattle.std.specs.Prelude.{◌≢◌, IfErr};
+ghost use Rattle.std.specs.Prelude.{◌≡◌, ◌≢◌, [], IfErr, IfOk, false};
+ghost use Rattle.std.specs.Io.Buffered.{reader_buffer, reader_inner};
+ghost use Rattle.std.specs.Io.Take.{take_inner};
 ghost use Rattle.tcl_host.specs.declared.reply.HostError.{HostError};
 ghost use Rattle.tcl_console.specs.Streams.{IsReadFault};
 
@@ -39,7 +41,12 @@ impl<R: Read + Drop> Input<R> {
     ///
     /// # Errors
     /// Want of memory.
-    pub fn new(alloc: Global, reader: R) -> Result<Input<R>, AllocError> {
+    pub fn new(alloc: Global, reader: R) -> Result<Input<R>, AllocError>
+        ensures reader { IfOk result (λ made. reader_inner (take_inner made.reader) ≡ reader) }
+        ensures unread { IfOk result (λ made. reader_buffer (take_inner made.reader) ≡ []) }
+        ensures pending { IfOk result (λ made. made.pending.items ≡ []) }
+        ensures ended { IfOk result (λ made. made.ended ≡ false) }
+    {
         let Ok(reader) = BufReader::new(alloc, reader) else {
             return Err(AllocError);
         };
@@ -51,7 +58,9 @@ impl<R: Read + Drop> Input<R> {
     }
 
     /// Whether the last read met the end.
-    pub fn is_at_end(&self) -> bool {
+    pub fn is_at_end(&self) -> bool
+        ensures { result ≡ self.now.ended }
+    {
         self.ended
     }
 

@@ -18,7 +18,7 @@ use tcl_calls::carrying::return_to_caller;
 use tcl_run::entry::{Entry, OwnEntry};
 use tcl_run::failure::no_interpreter;
 use tcl_run::interruption::Interruption;
-use tcl_run::outside::Outside;
+use tcl_run::outside::{Happening, Outside};
 use tcl_run::steps::list_failure;
 use tcl_text::list::read_list;
 use tcl_text::text::Text;
@@ -75,13 +75,26 @@ fn ask_below<O: Outside>(
 {
     match tree.reach(place, 0, path) {
         Reach::There(there) => {
-            outside.enters(alloc, tree, place, 0, path, &entry)?;
+            let happening = Happening::Entered {
+                caller: place,
+                up: 0,
+                down: path,
+                entry: &entry,
+            };
+            outside.notify(alloc, tree, happening)?;
             let ended = serve_own(tree, alloc, outside, there, &entry);
             return_to_caller(tree, alloc, outside, place, 0, path, ended)
         }
         Reach::Missing => {
             let told = Err(no_interpreter(alloc, ""));
-            outside.misses(alloc, tree, place, 0, path, &entry, &told)?;
+            let happening = Happening::Missed {
+                caller: place,
+                up: 0,
+                down: path,
+                entry: &entry,
+                told: &told,
+            };
+            outside.notify(alloc, tree, happening)?;
             told
         }
         Reach::Outside => unreachable!(),

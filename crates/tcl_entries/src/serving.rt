@@ -22,7 +22,7 @@ use std::alloc::{AllocError, Global};
 use tcl_run::entry::OwnEntry;
 use tcl_run::failure::{already_exists, denied, invalid_hidden, no_interpreter};
 use tcl_run::interruption::Interruption;
-use tcl_run::outside::Outside;
+use tcl_run::outside::{Happening, Outside};
 use tcl_text::list::write_element;
 use tcl_text::text::Text;
 use tcl_tree::alias::Alias;
@@ -273,7 +273,11 @@ pub fn delete<O: Outside>(
 {
     match tree.delete_at(place, name) {
         Ok(()) => {
-            outside.drops(alloc, tree, place, name)?;
+            let happening = Happening::Dropped {
+                parent: place,
+                name,
+            };
+            outside.notify(alloc, tree, happening)?;
             Ok(Value::empty())
         }
         Err(refusal) => Err(deleting_failure(alloc, refusal, name)),

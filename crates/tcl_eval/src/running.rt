@@ -22,7 +22,7 @@ use tcl_flow::completion::{self, Completion};
 use tcl_flow::stop::{Stop, StopKind};
 use tcl_host::host::Host;
 use tcl_run::interruption::Interruption;
-use tcl_run::outside::Outside;
+use tcl_run::outside::{Happening, Outside};
 use tcl_run_laws::budgets::scripts_keep_budgets;
 use tcl_text::limit::MOST_BYTES;
 use tcl_text::messages::{COUNT_TOO_LARGE, OUT_OF_MEMORY, TOO_LONG};
@@ -285,7 +285,11 @@ fn leave<O: Outside>(
         (λ _. IfEnded ended (λ r. O.goes (tree_of tree.now) outside.old None
         (event path.now (core.What.Done None r)) outside.new)) }
 {
-    outside.entry_leaves(alloc, tree, path, &ended)?;
+    let done = Happening::EntryDone {
+        target: path,
+        ended: &ended,
+    };
+    outside.notify(alloc, tree, done)?;
     end_of(alloc, path, ended)
 }
 

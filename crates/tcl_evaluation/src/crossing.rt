@@ -26,7 +26,7 @@ use tcl_entries::serving::serve;
 use tcl_run::entry::Entry;
 use tcl_run::failure::{lost_alias, no_interpreter, too_deep};
 use tcl_run::interruption::Interruption;
-use tcl_run::outside::Outside;
+use tcl_run::outside::{Happening, Outside};
 use tcl_run::steps::charge;
 use tcl_text::text::Text;
 use tcl_tree::alias::Alias;
@@ -109,7 +109,14 @@ fn find_nobody<O: Outside>(
     ensures left { O.entries_left outside.new ≤ O.entries_left outside.old }
 {
     let told = Err(lost);
-    outside.misses(alloc, tree, caller, up, down, &entry, &told)?;
+    let happening = Happening::Missed {
+        caller,
+        up,
+        down,
+        entry: &entry,
+        told: &told,
+    };
+    outside.notify(alloc, tree, happening)?;
     told
 }
 
@@ -136,7 +143,13 @@ fn call_there<O: Outside>(
     ensures steady { IsSteady tree.old tree.new }
     ensures left { O.entries_left outside.new ≤ O.entries_left outside.old }
 {
-    outside.enters(alloc, tree, caller, up, down, &entry)?;
+    let happening = Happening::Entered {
+        caller,
+        up,
+        down,
+        entry: &entry,
+    };
+    outside.notify(alloc, tree, happening)?;
     let ended = serve_entry(tree, alloc, outside, target, entry);
     return_to_caller(tree, alloc, outside, caller, up, down, ended)
 }
@@ -160,7 +173,13 @@ fn call_past_top<O: Outside>(
     ensures steady { IsSteady tree.old tree.new }
     ensures left { O.entries_left outside.new ≤ O.entries_left outside.old }
 {
-    outside.passes_top(alloc, tree, caller, Some(up), down, &entry)?;
+    let happening = Happening::PassedTop {
+        caller,
+        up: Some(up),
+        down,
+        entry: &entry,
+    };
+    outside.notify(alloc, tree, happening)?;
     match wait(tree, alloc, outside, caller, Some(up), &entry)? {
         Said::Completed(value) => Ok(value),
         Said::Heard(_) => unreachable!(),

@@ -16,7 +16,7 @@ use tcl_host::request::Request;
 use tcl_run::entry::Entry;
 use tcl_run::failure::{too_long, wrong_args};
 use tcl_run::interruption::Interruption;
-use tcl_run::outside::Outside;
+use tcl_run::outside::{Happening, Outside};
 use tcl_text::text::Text;
 use tcl_tree::tree::{Place, Tree};
 use tcl_value::value::{Value, ValueError};
@@ -42,7 +42,13 @@ pub fn ask<O: Outside>(
     ensures left { O.entries_left outside.new ≤ O.entries_left outside.old }
 {
     let entry = Entry::AskHost(request);
-    outside.passes_top(alloc, tree, place, None, &[], &entry)?;
+    let happening = Happening::PassedTop {
+        caller: place,
+        up: None,
+        down: &[],
+        entry: &entry,
+    };
+    outside.notify(alloc, tree, happening)?;
     match wait(tree, alloc, outside, place, None, &entry)? {
         Said::Heard(reply) => Ok(reply),
         Said::Completed(_) => unreachable!(),

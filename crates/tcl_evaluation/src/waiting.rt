@@ -13,7 +13,7 @@ use tcl_host::reply::HostReply;
 use tcl_run::entry::Entry;
 use tcl_run::failure::no_interpreter;
 use tcl_run::interruption::Interruption;
-use tcl_run::outside::{Outside, Turn};
+use tcl_run::outside::{Happening, Outside, Turn};
 use tcl_text::text::Text;
 use tcl_tree::tree::{Place, Tree};
 use tcl_value::value::Value;
@@ -91,11 +91,21 @@ fn hand_in<O: Outside>(
 {
     let path = target.as_slice();
     let ended = enter(tree, alloc, outside, path, inner);
-    outside.entry_leaves(alloc, tree, path, &ended)?;
+    let done = Happening::EntryDone {
+        target: path,
+        ended: &ended,
+    };
+    outside.notify(alloc, tree, done)?;
     let Some(status) = exit_of(&ended)? else {
         return Ok(());
     };
-    outside.exit_comes_back(alloc, tree, place, up, entry, status)?;
+    let exit = Happening::ExitCameBack {
+        caller: place,
+        up,
+        entry,
+        status,
+    };
+    outside.notify(alloc, tree, exit)?;
     Err(Interruption::Exited(status))
 }
 

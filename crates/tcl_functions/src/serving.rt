@@ -117,7 +117,7 @@ impl<F: Functions, H: Host> WithFunctions<F, H> {
             Begins self.old p (whole_entry entry.now) self.new) }
         ensures left { self.new.entries ≤ self.old.entries }
     {
-        let path = tree.last_names(alloc, caller, usize::MAX)?;
+        let path = tree.path_of(alloc, caller)?;
         let words = words_of(alloc, entry)?;
         self.calls.push(Call {
             caller: path,

@@ -1,5 +1,6 @@
 //! What texts were last read as.
 ghost use Rattle.std.specs.Prelude.{◌≡◌, Err, IfOk};
+ghost use Rattle.indexmap.specs.IndexMap.{IsEmpty};
 ghost use Rattle.tcl_expr.specs.Expressions.{expression_of};
 ghost use Rattle.tcl_parser.specs.Reading.{read_script};
 ghost use Rattle.tcl_value.specs.Limits.{IsWithin, IsPast};
@@ -43,7 +44,7 @@ struct ReadExpression {
 
 /// The scripts and expressions that texts were last read as.
 ///
-/// No contract sees what is kept: a reading is that of its text, whether it is made anew or not.
+/// No reading depends on what is kept: it is that of its text, whether it is made anew or not.
 /// When the texts come to more than 1,048,576 bytes, all readings are dropped; those of texts of
 /// more than 65,536 bytes aren't kept.
 pub struct Readings {
@@ -66,7 +67,11 @@ impl Drop for Readings {
 
 impl Readings {
     /// No reading is kept.
-    pub fn new(alloc: Global) -> Readings {
+    pub fn new(alloc: Global) -> Readings
+        ensures scripts { IsEmpty result.scripts }
+        ensures expressions { IsEmpty result.expressions }
+        ensures kept { result.kept ≡ 0 }
+    {
         Readings {
             scripts: IndexMap::new(alloc),
             expressions: IndexMap::new(alloc),

@@ -314,7 +314,7 @@ impl<'a> Outside for Player<'a> {
             return Ok(());
         }
         let call = Crossing::Out {
-            caller: tree.last_names(alloc, caller, usize::MAX)?,
+            caller: tree.path_of(alloc, caller)?,
             up,
             down: Vec::from_clones(alloc, down)?,
             entry: entry.copy(alloc)?,

@@ -2,7 +2,6 @@ pub mod Boundaries
 pub mod BoundaryLaws
 pub mod Fates
 pub mod GivenUp
-pub mod Lengths
 pub mod Notes
 pub mod Recorders
 pub mod Visits

@@ -144,7 +144,7 @@ impl<O: Outside> Outside for Recorder<O> {
         name: &Text,
     ) -> Result<(), AllocError> {
         self.outside.drops(alloc, tree, parent, name)?;
-        let mut path = tree.last_names(alloc, parent, usize::MAX)?;
+        let mut path = tree.path_of(alloc, parent)?;
         path.push(name.clone()?)?;
         if self.kept.falls_with(path.as_slice()) {
             self.deleted = true;
@@ -162,7 +162,7 @@ impl<O: Outside> Outside for Recorder<O> {
         entry: &Entry,
     ) -> Result<(), AllocError> {
         self.outside.enters(alloc, tree, caller, up, down, entry)?;
-        let path = tree.last_names(alloc, caller, usize::MAX)?;
+        let path = tree.path_of(alloc, caller)?;
         self.kept
             .call_enters(alloc, path.as_slice(), up, down, entry)
     }
@@ -179,7 +179,7 @@ impl<O: Outside> Outside for Recorder<O> {
     ) -> Result<(), AllocError> {
         self.outside
             .returns(alloc, tree, caller, up, down, ended, told)?;
-        let path = tree.last_names(alloc, caller, usize::MAX)?;
+        let path = tree.path_of(alloc, caller)?;
         self.kept
             .call_returns(alloc, path.as_slice(), up, down, ended, told)
     }
@@ -196,7 +196,7 @@ impl<O: Outside> Outside for Recorder<O> {
     ) -> Result<(), AllocError> {
         self.outside
             .misses(alloc, tree, caller, up, down, entry, told)?;
-        let path = tree.last_names(alloc, caller, usize::MAX)?;
+        let path = tree.path_of(alloc, caller)?;
         self.kept
             .call_misses(alloc, path.as_slice(), up, down, entry, told)
     }
@@ -213,7 +213,7 @@ impl<O: Outside> Outside for Recorder<O> {
         self.goes_on()?;
         self.outside
             .passes_top(alloc, tree, caller, up, down, entry)?;
-        let path = tree.last_names(alloc, caller, usize::MAX)?;
+        let path = tree.path_of(alloc, caller)?;
         self.kept.call_goes(alloc, path.as_slice(), up, down, entry)
     }
 
@@ -226,7 +226,7 @@ impl<O: Outside> Outside for Recorder<O> {
         entry: &Entry,
     ) -> Result<Turn, Interruption> {
         self.goes_on()?;
-        let path = tree.last_names(alloc, caller, usize::MAX)?;
+        let path = tree.path_of(alloc, caller)?;
         let turn = self.outside.next(alloc, tree, caller, up, entry);
         let noted = self.kept.turn_comes(alloc, path.as_slice(), up, &turn);
         self.incomplete = noted.is_err();
@@ -256,7 +256,7 @@ impl<O: Outside> Outside for Recorder<O> {
     ) -> Result<(), AllocError> {
         self.outside
             .exit_comes_back(alloc, tree, caller, up, entry, status)?;
-        let path = tree.last_names(alloc, caller, usize::MAX)?;
+        let path = tree.path_of(alloc, caller)?;
         self.kept.exit_comes(alloc, path.as_slice(), up, status)
     }
 }

@@ -25,7 +25,7 @@ use tcl_player::player::{Outcome, Player};
 use tcl_recorder::crossing::Crossing;
 use tcl_run::entry::Entry;
 use tcl_run::interruption::Interruption;
-use tcl_run::outside::Outside;
+use tcl_run::outside::{Happening, Outside};
 use tcl_text::messages::{COUNT_TOO_LARGE, OUT_OF_MEMORY};
 use tcl_text::text::Text;
 use tcl_tree::node::MOST_STEPS;
@@ -259,7 +259,11 @@ fn play_entry<'a>(
     if is_want(&ended) {
         return Err(AllocError);
     }
-    player.entry_leaves(alloc, tree, path, &ended)
+    let done = Happening::EntryDone {
+        target: path,
+        ended: &ended,
+    };
+    player.notify(alloc, tree, done)
 }
 
 /// Whether an evaluation ended for want of memory.

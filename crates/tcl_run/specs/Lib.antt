@@ -3,3 +3,4 @@ pub mod Ends
 pub mod Runs
 pub mod Plain
 pub mod Outsides
+pub mod Notifying

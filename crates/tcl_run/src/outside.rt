@@ -1,19 +1,16 @@
 //! What stands outside of a tree.
-ghost use Rattle.std.specs.Prelude.{◌≡◌, ℕ, ◌≤◌, ◌<◌, ◌&&◌, Bool, true, false, [], ◌∷◌, ◌++◌, Some};
-ghost use Rattle.std.specs.Prelude.{None, OnOk};
+ghost use Rattle.std.specs.Prelude.{◌≡◌, ℕ, ◌≤◌, ◌<◌, ◌&&◌, Bool, true, false, None, OnOk};
 ghost use Rattle.tcl_core.specs.Paths.{Path, rise_to};
 ghost use Rattle.tcl_core.specs.Programs.{Wait};
-ghost use Rattle.tcl_core.specs.Endings.Reply.{Exit};
-ghost use Rattle.tcl_core.specs.Entries.Answer.{Replied};
 ghost use Rattle.tcl_core.specs.Execution.{event};
 ghost use Rattle.tcl_core.specs.Trees as core;
 ghost use Rattle.tcl_core.specs.Trees.{Event};
 ghost use Rattle.tcl_core.specs.Endings.Meter.{Count};
-ghost use Rattle.tcl_core.specs.Trees.What.{Charged, Refused, Dropped, Out, Done, Back};
-ghost use Rattle.tcl_run.specs.Ends.{IfEnded, WhereMemory};
+ghost use Rattle.tcl_core.specs.Trees.What.{Charged, Refused};
+ghost use Rattle.tcl_run.specs.Ends.{WhereMemory};
 ghost use Rattle.tcl_run.specs.Entering.{whole_entry};
-ghost use Rattle.tcl_run.specs.Outsides.{ComesNext, Enters, IsAsked, Misses, OnEntry, Returns};
-ghost use Rattle.tcl_run.specs.Outsides.{hosted};
+ghost use Rattle.tcl_run.specs.Notifying.{Notified};
+ghost use Rattle.tcl_run.specs.Outsides.{ComesNext, IsAsked, OnEntry, hosted};
 ghost use Rattle.tcl_tree.specs.Own.{Own};
 ghost use Rattle.tcl_tree.specs.TreeOf.{tree_of, Names};
 
@@ -36,6 +33,84 @@ pub enum Turn {
     Completed(Value),
     /// What the host says to a request.
     Heard(HostReply),
+}
+
+/// What an outside is told of: what happened in the tree, or at its top.
+#[derive(Clone, Copy)]
+pub enum Happening<'a> {
+    /// The child of this name was dropped, with all below it.
+    Dropped {
+        /// The interpreter whose child it was.
+        parent: Place,
+        /// The child's name.
+        name: &'a Text,
+    },
+    /// The caller's call goes out, so many levels up and these names down, and comes in there.
+    Entered {
+        /// The interpreter that calls.
+        caller: Place,
+        /// How many levels up the call goes.
+        up: usize,
+        /// By which names it goes down from there.
+        down: &'a [Text],
+        /// What is asked for there.
+        entry: &'a Entry,
+    },
+    /// The caller's call is done there by one end, and answered by another.
+    Returned {
+        /// The interpreter that called.
+        caller: Place,
+        /// How many levels up the call went.
+        up: usize,
+        /// By which names it went down from there.
+        down: &'a [Text],
+        /// How it ended there.
+        ended: &'a Result<Value, Interruption>,
+        /// How the caller is answered.
+        told: &'a Result<Value, Interruption>,
+    },
+    /// The caller's call finds nobody, and is answered by that.
+    Missed {
+        /// The interpreter that calls.
+        caller: Place,
+        /// How many levels up the call goes.
+        up: usize,
+        /// By which names it goes down from there.
+        down: &'a [Text],
+        /// What is asked for.
+        entry: &'a Entry,
+        /// How the caller is answered.
+        told: &'a Result<Value, Interruption>,
+    },
+    /// The caller's call passes the top of the tree.
+    PassedTop {
+        /// The interpreter that calls.
+        caller: Place,
+        /// How many levels up the call goes; none where it goes to the host.
+        up: Option<usize>,
+        /// By which names it goes down from there.
+        down: &'a [Text],
+        /// What is asked for.
+        entry: &'a Entry,
+    },
+    /// An entry that was handed in is done by the interpreter at the path.
+    EntryDone {
+        /// The path of that interpreter.
+        target: &'a [Text],
+        /// How the entry ended.
+        ended: &'a Result<Value, Interruption>,
+    },
+    /// The caller's call, in which an entry that was handed in ended by this exit, ends by it too.
+    ExitCameBack {
+        /// The interpreter that called.
+        caller: Place,
+        /// How many levels up the call went; none where it went to the host.
+        up: Option<usize>,
+        /// What was asked for.
+        entry: &'a Entry,
+        /// The status of the exit.
+        status: i64,
+    },
 }
 
 /// What stands outside of a tree. It is told of each crossing between two interpreters of the tree,
@@ -77,102 +152,18 @@ pub trait Outside {
         ensures lost { loses self.old self.new }
         ensures left { entries_left self.new ≤ entries_left self.old };
 
-    /// The child of this name was dropped, with all below it.
+    /// It is told of what happened in the tree, or at its top.
     ///
     /// # Errors
     /// Want of memory.
-    fn drops(
+    fn notify(
         &mut self,
         alloc: Global,
         tree: &Tree,
-        parent: Place,
-        name: &Text,
-    ) -> Result<(), AllocError>
-        ensures told { OnOk result ((T : core.Tree Own) (p : Path) → Names tree.now parent p →
-            goes T self.old None (event (p ++ name.now ∷ []) Dropped) self.new) }
-        ensures lost { loses self.old self.new }
-        ensures left { entries_left self.new ≤ entries_left self.old };
-
-    /// The caller's call goes out, so many levels up and these names down, and comes in there.
-    ///
-    /// # Errors
-    /// Want of memory.
-    fn enters(
-        &mut self,
-        alloc: Global,
-        tree: &Tree,
-        caller: Place,
-        up: usize,
-        down: &[Text],
-        entry: &Entry,
+        happening: Happening<'_>,
     ) -> Result<(), AllocError>
         ensures told { OnOk result
-            ((p a : Path) → Names tree.now caller p → rise_to (Some up) p ≡ Some a →
-            Enters goes (tree_of tree.now) self.old p up a down.now (whole_entry entry.now)
-            self.new) }
-        ensures lost { loses self.old self.new }
-        ensures left { entries_left self.new ≤ entries_left self.old };
-
-    /// It is done there by one end, and answered by another.
-    ///
-    /// # Errors
-    /// Want of memory.
-    fn returns(
-        &mut self,
-        alloc: Global,
-        tree: &Tree,
-        caller: Place,
-        up: usize,
-        down: &[Text],
-        ended: &Result<Value, Interruption>,
-        told: &Result<Value, Interruption>,
-    ) -> Result<(), AllocError>
-        ensures told { OnOk result (IfEnded ended.now
-            (λ s. IfEnded told.now (λ r. (p a : Path) → Names tree.now caller p →
-            rise_to (Some up) p ≡ Some a →
-            Returns goes (tree_of tree.now) self.old p up a down.now s r self.new))) }
-        ensures lost { loses self.old self.new }
-        ensures left { entries_left self.new ≤ entries_left self.old };
-
-    /// The caller's call, so many levels up and these names down, finds nobody there, and is
-    /// answered by that.
-    ///
-    /// # Errors
-    /// Want of memory.
-    fn misses(
-        &mut self,
-        alloc: Global,
-        tree: &Tree,
-        caller: Place,
-        up: usize,
-        down: &[Text],
-        entry: &Entry,
-        told: &Result<Value, Interruption>,
-    ) -> Result<(), AllocError>
-        ensures told { OnOk result (IfEnded told.now
-            (λ r. (p a : Path) → Names tree.now caller p → rise_to (Some up) p ≡ Some a →
-            Misses goes (tree_of tree.now) self.old p up down.now (whole_entry entry.now) r
-            self.new)) }
-        ensures lost { loses self.old self.new }
-        ensures left { entries_left self.new ≤ entries_left self.old };
-
-    /// The caller's call passes the top of the tree, so many levels up, or to the host, and these
-    /// names down.
-    ///
-    /// # Errors
-    /// Want of memory.
-    fn passes_top(
-        &mut self,
-        alloc: Global,
-        tree: &Tree,
-        caller: Place,
-        up: Option<usize>,
-        down: &[Text],
-        entry: &Entry,
-    ) -> Result<(), AllocError>
-        ensures told { OnOk result ((p : Path) → Names tree.now caller p → rise_to up p ≡ None →
-            goes (tree_of tree.now) self.old None
-            (event p (Out up down.now (whole_entry entry.now))) self.new) }
+            (Notified goes hands_in tree.now self.old happening.entry self.new) }
         ensures lost { loses self.old self.new }
         ensures left { entries_left self.new ≤ entries_left self.old };
 
@@ -194,43 +185,6 @@ pub trait Outside {
             self.new result }
         ensures lost { WhereMemory result (loses self.old self.new) }
         ensures fewer { OnEntry result (entries_left self.new < entries_left self.old) }
-        ensures left { entries_left self.new ≤ entries_left self.old };
-
-    /// An entry that was handed in is done by the interpreter at the path.
-    ///
-    /// # Errors
-    /// Want of memory.
-    fn entry_leaves(
-        &mut self,
-        alloc: Global,
-        tree: &Tree,
-        target: &[Text],
-        ended: &Result<Value, Interruption>,
-    ) -> Result<(), AllocError>
-        ensures told { OnOk result (IfEnded ended.now
-            (λ r. goes (tree_of tree.now) self.old None (event target.now (Done None r))
-            self.new)) }
-        ensures lost { loses self.old self.new }
-        ensures left { entries_left self.new ≤ entries_left self.old };
-
-    /// The caller's call, in which an entry that was handed in ended by this exit, ends by it too.
-    ///
-    /// # Errors
-    /// Want of memory.
-    fn exit_comes_back(
-        &mut self,
-        alloc: Global,
-        tree: &Tree,
-        caller: Place,
-        up: Option<usize>,
-        entry: &Entry,
-        status: i64,
-    ) -> Result<(), AllocError>
-        ensures told { OnOk result
-            (hands_in → (p : Path) → Names tree.now caller p → rise_to up p ≡ None →
-            goes (tree_of tree.now) self.old (Some (up, whole_entry entry.now))
-            (event p (Back up (Replied (Exit status)))) self.new) }
-        ensures lost { loses self.old self.new }
         ensures left { entries_left self.new ≤ entries_left self.old };
 }
 
@@ -255,62 +209,11 @@ impl<H: Host> Outside for H {
 
     fn refuses_step(&mut self) {}
 
-    fn drops(
+    fn notify(
         &mut self,
         _alloc: Global,
         _tree: &Tree,
-        _parent: Place,
-        _name: &Text,
-    ) -> Result<(), AllocError> {
-        Ok(())
-    }
-
-    fn enters(
-        &mut self,
-        _alloc: Global,
-        _tree: &Tree,
-        _caller: Place,
-        _up: usize,
-        _down: &[Text],
-        _entry: &Entry,
-    ) -> Result<(), AllocError> {
-        Ok(())
-    }
-
-    fn returns(
-        &mut self,
-        _alloc: Global,
-        _tree: &Tree,
-        _caller: Place,
-        _up: usize,
-        _down: &[Text],
-        _ended: &Result<Value, Interruption>,
-        _told: &Result<Value, Interruption>,
-    ) -> Result<(), AllocError> {
-        Ok(())
-    }
-
-    fn misses(
-        &mut self,
-        _alloc: Global,
-        _tree: &Tree,
-        _caller: Place,
-        _up: usize,
-        _down: &[Text],
-        _entry: &Entry,
-        _told: &Result<Value, Interruption>,
-    ) -> Result<(), AllocError> {
-        Ok(())
-    }
-
-    fn passes_top(
-        &mut self,
-        _alloc: Global,
-        _tree: &Tree,
-        _caller: Place,
-        _up: Option<usize>,
-        _down: &[Text],
-        _entry: &Entry,
+        _happening: Happening<'_>,
     ) -> Result<(), AllocError> {
         Ok(())
     }
@@ -327,27 +230,5 @@ impl<H: Host> Outside for H {
             (None, Entry::AskHost(request)) => Ok(Turn::Heard(ask(self, alloc, request)?)),
             _ => Err(no_interpreter(alloc, "")),
         }
-    }
-
-    fn entry_leaves(
-        &mut self,
-        _alloc: Global,
-        _tree: &Tree,
-        _target: &[Text],
-        _ended: &Result<Value, Interruption>,
-    ) -> Result<(), AllocError> {
-        Ok(())
-    }
-
-    fn exit_comes_back(
-        &mut self,
-        _alloc: Global,
-        _tree: &Tree,
-        _caller: Place,
-        _up: Option<usize>,
-        _entry: &Entry,
-        _status: i64,
-    ) -> Result<(), AllocError> {
-        Ok(())
     }
 }

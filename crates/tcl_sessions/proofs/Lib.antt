@@ -1,5 +1,4 @@
 pub mod Coming
-pub mod Lengths
 pub mod Tellings
 pub mod Unfit
 pub mod Watching

@@ -177,7 +177,7 @@ impl Standing {
         ensures { OnOk result ((p : Path) → Names tree.now caller p →
             Waits self.old p (whole_entry entry.now) self.new) }
     {
-        let path = tree.last_names(alloc, caller, usize::MAX)?;
+        let path = tree.path_of(alloc, caller)?;
         let words = words_of(alloc, entry)?;
         self.call = Some(OpenCall {
             caller: path,

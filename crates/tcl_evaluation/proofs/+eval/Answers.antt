@@ -2325,21 +2325,21 @@ hosting::write-returns-clause-runs g t c =
 
 -- ## Requests
 
-pub hosting::ask-returns-in_err-passes_top-clause-runs : goal.hosting::ask-returns-in_err-passes_top-clause-runs
-hosting::ask-returns-in_err-passes_top-clause-runs g t c =
+pub hosting::ask-returns-in_err-notify-clause-runs : goal.hosting::ask-returns-in_err-notify-clause-runs
+hosting::ask-returns-in_err-notify-clause-runs g t c =
     let p = err_from_is_err_and c.from_residual.result c.from_residual.ensures.1 in
-    memory_err c.from_residual.result p.0 _ _ p.1 p.2 (λ q style at k. stopped_by (lost_once c.passes_top.ensures.lost))
+    memory_err c.from_residual.result p.0 _ _ p.1 p.2 (λ q style at k. stopped_by (lost_once c.notify.ensures.lost))
 
 pub hosting::ask-returns-in_err-reply-clause-runs : goal.hosting::ask-returns-in_err-reply-clause-runs
 hosting::ask-returns-in_err-reply-clause-runs g t c =
     let p = err_from_is_err_and c.from_residual-in_err-reply.result c.from_residual-in_err-reply.ensures.1 in
-    asks_over (ways g.O.Outside.goes g.O.Outside.loses) c.args.tree.now c.wait.new.tree c.args.outside.now c.passes_top.new.self c.wait.new.outside c.args.place (request_of c.args.request) (λ q at. c.in_ok-passes_top.ensures.told q at refl)
+    asks_over (ways g.O.Outside.goes g.O.Outside.loses) c.args.tree.now c.wait.new.tree c.args.outside.now c.notify.new.self c.wait.new.outside c.args.place (request_of c.args.request) (λ q at. c.in_ok-notify.ensures.told q at refl)
     c.from_residual-in_err-reply.result c.in_err-reply.field-0.0 p.0 p.1 p.2 c.in_err-reply.ensures.runs
 
 pub hosting::ask-returns-clause-runs : goal.hosting::ask-returns-clause-runs
 hosting::ask-returns-clause-runs g t c =
-    asks_heard (ways g.O.Outside.goes g.O.Outside.loses) c.args.tree.now c.wait.new.tree c.args.outside.now c.passes_top.new.self c.wait.new.outside c.args.place (request_of c.args.request) (λ q at. c.in_ok-passes_top.ensures.told q at refl) (reply_of c.in-Heard.reply)
-    (subst (SaysOn (ways g.O.Outside.goes g.O.Outside.loses) c.args.tree.now c.passes_top.new.self c.args.place None (AskHost (request_of c.args.request)) c.wait.new.tree c.wait.new.outside) c.in-Heard.is c.in_ok-reply.ensures.runs)
+    asks_heard (ways g.O.Outside.goes g.O.Outside.loses) c.args.tree.now c.wait.new.tree c.args.outside.now c.notify.new.self c.wait.new.outside c.args.place (request_of c.args.request) (λ q at. c.in_ok-notify.ensures.told q at refl) (reply_of c.in-Heard.reply)
+    (subst (SaysOn (ways g.O.Outside.goes g.O.Outside.loses) c.args.tree.now c.notify.new.self c.args.place None (AskHost (request_of c.args.request)) c.wait.new.tree c.wait.new.outside) c.in-Heard.is c.in_ok-reply.ensures.runs)
 
 pub hosting::make_call-returns-in_err-request-clause-runs : goal.hosting::make_call-returns-in_err-request-clause-runs
 hosting::make_call-returns-in_err-request-clause-runs g t c =
@@ -2561,37 +2561,37 @@ crossing::call_alias-returns-in-Outside-clause-runs g t c =
     (calls_past (ways g.O.Outside.goes g.O.Outside.loses) c.args.tree.now c.call_past_top.new.tree c.args.outside.now c.call_past_top.new.outside c.args.place c.up-up.result c.down-down.result.now (CallWords c.in_ok-target_words.field-0.items)
     c.call_past_top.result (failing (lost_alias c.args.word.now)) c.call_past_top.ensures.runs)
 
-pub crossing::call_past_top-returns-in_err-passes_top-clause-runs : goal.crossing::call_past_top-returns-in_err-passes_top-clause-runs
-crossing::call_past_top-returns-in_err-passes_top-clause-runs g t c =
+pub crossing::call_past_top-returns-in_err-notify-clause-runs : goal.crossing::call_past_top-returns-in_err-notify-clause-runs
+crossing::call_past_top-returns-in_err-notify-clause-runs g t c =
     let p = err_from_is_err_and c.from_residual.result c.from_residual.ensures.1 in
-    Awaited.calls_out_lost (ways g.O.Outside.goes g.O.Outside.loses) c.args.tree.now c.args.outside.now c.passes_top.new.self c.args.caller (Some c.args.up) c.args.down.now (whole_entry c.args.entry) c.from_residual.result p.0 p.1 p.2 (lost_once c.passes_top.ensures.lost)
+    Awaited.calls_out_lost (ways g.O.Outside.goes g.O.Outside.loses) c.args.tree.now c.args.outside.now c.notify.new.self c.args.caller (Some c.args.up) c.args.down.now (whole_entry c.args.entry) c.from_residual.result p.0 p.1 p.2 (lost_once c.notify.ensures.lost)
 
 pub crossing::call_past_top-returns-in_err-value-clause-runs : goal.crossing::call_past_top-returns-in_err-value-clause-runs
 crossing::call_past_top-returns-in_err-value-clause-runs g t c =
     let p = err_from_is_err_and c.from_residual-in_err-value.result c.from_residual-in_err-value.ensures.1 in
-    Awaited.calls_out_over (ways g.O.Outside.goes g.O.Outside.loses) c.args.tree.now c.wait.new.tree c.args.outside.now c.passes_top.new.self c.wait.new.outside c.args.caller (Some c.args.up) c.args.down.now (whole_entry c.args.entry)
-    (λ q at e. c.in_ok-passes_top.ensures.told q at e) c.requires.above c.from_residual-in_err-value.result c.in_err-value.field-0.0 p.0 p.1 p.2 c.in_err-value.ensures.runs
+    Awaited.calls_out_over (ways g.O.Outside.goes g.O.Outside.loses) c.args.tree.now c.wait.new.tree c.args.outside.now c.notify.new.self c.wait.new.outside c.args.caller (Some c.args.up) c.args.down.now (whole_entry c.args.entry)
+    (λ q at e. c.in_ok-notify.ensures.told q at e) c.requires.above c.from_residual-in_err-value.result c.in_err-value.field-0.0 p.0 p.1 p.2 c.in_err-value.ensures.runs
 
 pub crossing::call_past_top-returns-clause-runs : goal.crossing::call_past_top-returns-clause-runs
 crossing::call_past_top-returns-clause-runs g t c =
-    Awaited.calls_out_on (ways g.O.Outside.goes g.O.Outside.loses) c.args.tree.now c.wait.new.tree c.args.outside.now c.passes_top.new.self c.wait.new.outside c.args.caller (Some c.args.up) c.args.down.now (whole_entry c.args.entry)
-    (λ q at e. c.in_ok-passes_top.ensures.told q at e) c.requires.above c.in-Completed.value
-    (subst (SaysOn (ways g.O.Outside.goes g.O.Outside.loses) c.args.tree.now c.passes_top.new.self c.args.caller (Some c.args.up) (whole_entry c.args.entry) c.wait.new.tree c.wait.new.outside) c.in-Completed.is c.in_ok-value.ensures.runs)
+    Awaited.calls_out_on (ways g.O.Outside.goes g.O.Outside.loses) c.args.tree.now c.wait.new.tree c.args.outside.now c.notify.new.self c.wait.new.outside c.args.caller (Some c.args.up) c.args.down.now (whole_entry c.args.entry)
+    (λ q at e. c.in_ok-notify.ensures.told q at e) c.requires.above c.in-Completed.value
+    (subst (SaysOn (ways g.O.Outside.goes g.O.Outside.loses) c.args.tree.now c.notify.new.self c.args.caller (Some c.args.up) (whole_entry c.args.entry) c.wait.new.tree c.wait.new.outside) c.in-Completed.is c.in_ok-value.ensures.runs)
 
 pub crossing::call_there-return_to_caller-requires : goal.crossing::call_there-return_to_caller-requires
 crossing::call_there-return_to_caller-requires g t c =
     let p = c.requires.running.0 in
     (p, c.serve_entry-ended.ensures.steady.keys p _ c.requires.running.1 c.requires.running.2)
 
-pub crossing::call_there-returns-in_err-enters-clause-runs : goal.crossing::call_there-returns-in_err-enters-clause-runs
-crossing::call_there-returns-in_err-enters-clause-runs g t c =
+pub crossing::call_there-returns-in_err-notify-clause-runs : goal.crossing::call_there-returns-in_err-notify-clause-runs
+crossing::call_there-returns-in_err-notify-clause-runs g t c =
     let p = err_from_is_err_and c.from_residual.result c.from_residual.ensures.1 in
-    calls_untold (ways g.O.Outside.goes g.O.Outside.loses) c.args.tree.now c.args.outside.now c.enters.new.self c.args.caller c.args.up c.args.down.now (whole_entry c.args.entry) c.from_residual.result p.0 p.1 p.2 (lost_once c.enters.ensures.lost)
+    calls_untold (ways g.O.Outside.goes g.O.Outside.loses) c.args.tree.now c.args.outside.now c.notify.new.self c.args.caller c.args.up c.args.down.now (whole_entry c.args.entry) c.from_residual.result p.0 p.1 p.2 (lost_once c.notify.ensures.lost)
 
 pub crossing::call_there-returns-clause-runs : goal.crossing::call_there-returns-clause-runs
 crossing::call_there-returns-clause-runs g t c =
     calls_there (ways g.O.Outside.goes g.O.Outside.loses) c.args.tree.now c.serve_entry-ended.new.tree c.args.outside.now c.args.caller c.args.up c.args.down.now (whole_entry c.args.entry) c.return_to_caller.result
-    c.enters.new.self c.serve_entry-ended.new.outside c.return_to_caller.new.outside c.args.target c.serve_entry-ended.result c.requires.leads (λ p a at e. c.in_ok-enters.ensures.told p a at e)
+    c.notify.new.self c.serve_entry-ended.new.outside c.return_to_caller.new.outside c.args.target c.serve_entry-ended.result c.requires.leads (λ p a at e. c.in_ok-notify.ensures.told p a at e)
     c.serve_entry-ended.ensures.runs c.return_to_caller.ensures.comes c.return_to_caller.ensures.lost c.serve_entry-ended.ensures.steady
 
 pub crossing::serve_entry-returns-in-Own-clause-runs : goal.crossing::serve_entry-returns-in-Own-clause-runs
@@ -2614,36 +2614,36 @@ pub waiting::enter-returns-in-None-clause-runs : goal.waiting::enter-returns-in-
 waiting::enter-returns-in-None-clause-runs g t c =
     Awaited.enters_nobody (ways g.O.Outside.goes g.O.Outside.loses) c.args.tree.now c.args.outside.now c.args.target.now (whole_entry c.args.entry) c.no_interpreter.result c.in-None.ensures.missing c.no_interpreter.ensures
 
-pub waiting::hand_in-returns-in_err-entry_leaves-clause-runs : goal.waiting::hand_in-returns-in_err-entry_leaves-clause-runs
-waiting::hand_in-returns-in_err-entry_leaves-clause-runs g t c =
+pub waiting::hand_in-returns-in_err-notify-clause-runs : goal.waiting::hand_in-returns-in_err-notify-clause-runs
+waiting::hand_in-returns-in_err-notify-clause-runs g t c =
     let p = err_from_is_err_and c.from_residual.result c.from_residual.ensures.1 in
     Awaited.handed_over (ways g.O.Outside.goes g.O.Outside.loses) c.args.tree.now c.enter-ended.new.tree c.args.outside.now c.enter-ended.new.outside c.args.place c.args.up (whole_entry c.args.entry.now) c.as_slice-path.result.now c.args.target.items
-    (whole_entry c.args.inner) c.enter-ended.result c.entry_leaves.new.self c.from_residual.result p.0 p.1 p.2 c.as_slice-path.ensures.value c.enter-ended.ensures.runs (lost_once c.entry_leaves.ensures.lost)
+    (whole_entry c.args.inner) c.enter-ended.result c.notify.new.self c.from_residual.result p.0 p.1 p.2 c.as_slice-path.ensures.value c.enter-ended.ensures.runs (lost_once c.notify.ensures.lost)
 
 pub waiting::hand_in-returns-in_err-status-clause-runs : goal.waiting::hand_in-returns-in_err-status-clause-runs
 waiting::hand_in-returns-in_err-status-clause-runs g t c =
     let p = err_from_is_err_and c.from_residual-in_err-status.result c.from_residual-in_err-status.ensures.1 in
     Awaited.handed_over (ways g.O.Outside.goes g.O.Outside.loses) c.args.tree.now c.enter-ended.new.tree c.args.outside.now c.enter-ended.new.outside c.args.place c.args.up (whole_entry c.args.entry.now) c.as_slice-path.result.now c.args.target.items
-    (whole_entry c.args.inner) c.enter-ended.result c.entry_leaves.new.self c.from_residual-in_err-status.result p.0 p.1 p.2 c.as_slice-path.ensures.value c.enter-ended.ensures.runs (lost_once c.entry_leaves.ensures.lost)
+    (whole_entry c.args.inner) c.enter-ended.result c.notify.new.self c.from_residual-in_err-status.result p.0 p.1 p.2 c.as_slice-path.ensures.value c.enter-ended.ensures.runs (lost_once c.notify.ensures.lost)
 
 pub waiting::hand_in-returns-in_default-clause-runs : goal.waiting::hand_in-returns-in_default-clause-runs
 waiting::hand_in-returns-in_default-clause-runs g t c =
     Awaited.handed_on (ways g.O.Outside.goes g.O.Outside.loses) c.args.tree.now c.enter-ended.new.tree c.args.outside.now c.enter-ended.new.outside c.args.place c.args.up (whole_entry c.args.entry.now) c.as_slice-path.result.now c.args.target.items
-    (whole_entry c.args.inner) c.enter-ended.result c.entry_leaves.new.self c.in_ok-status.field-0 c.in_default.is c.as_slice-path.ensures.value c.enter-ended.ensures.runs c.in_ok-entry_leaves.ensures.told c.in_ok-status.ensures
+    (whole_entry c.args.inner) c.enter-ended.result c.notify.new.self c.in_ok-status.field-0 c.in_default.is c.as_slice-path.ensures.value c.enter-ended.ensures.runs c.in_ok-notify.ensures.told c.in_ok-status.ensures
 
-pub waiting::hand_in-returns-in_err-exit_comes_back-clause-runs : goal.waiting::hand_in-returns-in_err-exit_comes_back-clause-runs
-waiting::hand_in-returns-in_err-exit_comes_back-clause-runs g t c =
-    let p = err_from_is_err_and c.from_residual-in_err-exit_comes_back.result c.from_residual-in_err-exit_comes_back.ensures.1 in
+pub waiting::hand_in-returns-in_err-notify-2-clause-runs : goal.waiting::hand_in-returns-in_err-notify-2-clause-runs
+waiting::hand_in-returns-in_err-notify-2-clause-runs g t c =
+    let p = err_from_is_err_and c.from_residual-in_err-notify-2.result c.from_residual-in_err-notify-2.ensures.1 in
     Awaited.handed_over (ways g.O.Outside.goes g.O.Outside.loses) c.args.tree.now c.enter-ended.new.tree c.args.outside.now c.enter-ended.new.outside c.args.place c.args.up (whole_entry c.args.entry.now) c.as_slice-path.result.now c.args.target.items
-    (whole_entry c.args.inner) c.enter-ended.result c.exit_comes_back.new.self c.from_residual-in_err-exit_comes_back.result p.0 p.1 p.2 c.as_slice-path.ensures.value c.enter-ended.ensures.runs (lost_again c.entry_leaves.new.self c.entry_leaves.ensures.lost c.exit_comes_back.ensures.lost)
+    (whole_entry c.args.inner) c.enter-ended.result c.notify-2.new.self c.from_residual-in_err-notify-2.result p.0 p.1 p.2 c.as_slice-path.ensures.value c.enter-ended.ensures.runs (lost_again c.notify.new.self c.notify.ensures.lost c.notify-2.ensures.lost)
 
 pub waiting::hand_in-returns-clause-runs : goal.waiting::hand_in-returns-clause-runs
 waiting::hand_in-returns-clause-runs g t c =
     let fits_it : FitsSigned w64 c.in-Some.status = search rules in
     let same = to_z-of_z w64 c.in-Some.status fits_it in
     Awaited.handed_out (ways g.O.Outside.goes g.O.Outside.loses) c.args.tree.now c.enter-ended.new.tree c.args.outside.now c.enter-ended.new.outside c.args.place c.args.up (whole_entry c.args.entry.now) c.as_slice-path.result.now c.args.target.items
-    (whole_entry c.args.inner) c.enter-ended.result c.entry_leaves.new.self c.exit_comes_back.new.self _ c.in_ok-status.field-0 (c.in-Some.is ∙ ap (λ (n : ℤ). Some n) (sym same)) c.as_slice-path.ensures.value
-    c.enter-ended.ensures.runs c.in_ok-entry_leaves.ensures.told c.in_ok-status.ensures (λ p at e. c.in_ok-exit_comes_back.ensures.told c.requires.handed p at e) c.enter-ended.ensures.steady
+    (whole_entry c.args.inner) c.enter-ended.result c.notify.new.self c.notify-2.new.self _ c.in_ok-status.field-0 (c.in-Some.is ∙ ap (λ (n : ℤ). Some n) (sym same)) c.as_slice-path.ensures.value
+    c.enter-ended.ensures.runs c.in_ok-notify.ensures.told c.in_ok-status.ensures (λ p at e. c.in_ok-notify-2.ensures.told c.requires.handed p at e) c.enter-ended.ensures.steady
 
 pub waiting::wait-returns-in_err-target-clause-runs : goal.waiting::wait-returns-in_err-target-clause-runs
 waiting::wait-returns-in_err-target-clause-runs g t c =

@@ -80,6 +80,18 @@ impl Tree {
         Some(at)
     }
 
+    /// The interpreter's path, from the root downward.
+    ///
+    /// # Errors
+    /// Want of memory.
+    pub fn path_of(&self, alloc: Global, place: Place) -> Result<Vec<Text>, AllocError>
+        ensures { IfOk result (λ path. (p : List (List ℕ)) → Names self.now place p →
+            path.items ≡ p) }
+    {
+        let path = self.last_names(alloc, place, usize::MAX)?;
+        Ok(path)
+    }
+
     /// The last names of the interpreter's path, so many at most, in order.
     ///
     /// # Errors

@@ -10,5 +10,5 @@ pub returns-in-Some-clause-comes : goal.returns-in-Some-clause-comes
 returns-in-Some-clause-comes g c = subst (λ (x : Result (List ℕ) Interruption). IfEnded c.return_stop_to_caller.result (Comes g.O.Outside.goes (tree_of c.args.tree.now) (λ p. Names c.args.tree.now c.args.caller p) c.args.outside.now c.return_stop_to_caller.new.outside c.args.up c.args.down.now x))
     (sym c.in-Some.ensures.some) c.return_stop_to_caller.ensures.comes
 
-pub returns-in_ok-returns-in-None-clause-comes : goal.returns-in_ok-returns-in-None-clause-comes
-returns-in_ok-returns-in-None-clause-comes g c = told_as_it_is g.O.Outside.goes (tree_of c.args.tree.now) (λ p. Names c.args.tree.now c.args.caller p) c.args.outside.now c.returns.new.self c.args.up c.args.down.now c.args.ended c.in-None.ensures.none c.in_ok-returns-in-None.ensures.told
+pub returns-in_ok-notify-in-None-clause-comes : goal.returns-in_ok-notify-in-None-clause-comes
+returns-in_ok-notify-in-None-clause-comes g c = told_as_it_is g.O.Outside.goes (tree_of c.args.tree.now) (λ p. Names c.args.tree.now c.args.caller p) c.args.outside.now c.notify.new.self c.args.up c.args.down.now c.args.ended c.in-None.ensures.none c.in_ok-notify-in-None.ensures.told

@@ -3,5 +3,5 @@ use Rattle.tcl_replay.proofs.Serving.{serves}
 use Rattle.tcl_replay.proofs.replaying.play_entry.Goals as goal
 
 pub returns-clause-serves : goal.returns-clause-serves
-returns-clause-serves c = serves _ c.args.tree.now c.enter-ended.new.tree c.args.player.now c.enter-ended.new.outside c.entry_leaves.new.self c.as_slice-path.result.now c.args.target.items _ c.enter-ended.result
-    c.entry_leaves.result c.as_slice-path.ensures.value (sym c.is_want.ensures ∙ c.if-is_want.false) c.enter-ended.ensures.runs c.entry_leaves.ensures.told
+returns-clause-serves c = serves _ c.args.tree.now c.enter-ended.new.tree c.args.player.now c.enter-ended.new.outside c.notify.new.self c.as_slice-path.result.now c.args.target.items _ c.enter-ended.result
+    c.notify.result c.as_slice-path.ensures.value (sym c.is_want.ensures ∙ c.if-is_want.false) c.enter-ended.ensures.runs c.notify.ensures.told

@@ -11,7 +11,6 @@ use Rattle.tcl_run.specs.Outsides.{Misses}
 use Rattle.tcl_tree.specs.TreeOf.{Names, tree_of}
 use Rattle.tcl_recorder.specs.Recording.{crossed, recorded}
 use Rattle.tcl_recorder.specs.declared.recorder.Recorder.{Recorder}
-use Rattle.tcl_recorder.proofs.Lengths.{whole_path}
 use Rattle.tcl_recorder.proofs.Recorders.{misses}
 use Rattle.tcl_recorder.proofs.recorder.RecorderOutside.misses.Goals as goal
 
@@ -28,6 +27,6 @@ returns-clause-told g c =
     let Outer : Reply → Type 0 = λ r. (p a : Path) → Names c.args.tree.now c.args.caller p → rise_to (Some n) p ≡ Some a → Misses (recorded g.O.Outside.goes) (tree_of c.args.tree.now) old p n down i r new in
     on_ok_weaker c.call_misses.result
     (λ e. IfEnded-both c.args.told.now Kept Inner Outer
-    (λ r kept inner p a at up. misses g.O.Outside.goes (tree_of c.args.tree.now) old new q p n down i r (c.as_slice.ensures.value ∙ c.in_ok-path.ensures p at ∙ whole_path c.args.tree.now p _ at) kept refl refl (inner p a at up))
+    (λ r kept inner p a at up. misses g.O.Outside.goes (tree_of c.args.tree.now) old new q p n down i r (c.as_slice.ensures.value ∙ c.in_ok-path.ensures p at) kept refl refl (inner p a at up))
     e c.in_ok-misses.ensures.told)
     c.call_misses.ensures

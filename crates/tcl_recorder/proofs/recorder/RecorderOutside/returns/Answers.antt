@@ -11,7 +11,6 @@ use Rattle.tcl_run.specs.Outsides.{Returns}
 use Rattle.tcl_tree.specs.TreeOf.{Names, tree_of}
 use Rattle.tcl_recorder.specs.Recording.{crossed, recorded}
 use Rattle.tcl_recorder.specs.declared.recorder.Recorder.{Recorder}
-use Rattle.tcl_recorder.proofs.Lengths.{whole_path}
 use Rattle.tcl_recorder.proofs.Recorders.{returns}
 use Rattle.tcl_recorder.proofs.recorder.RecorderOutside.returns.Goals as goal
 
@@ -28,6 +27,6 @@ returns-clause-told g c =
     on_ok_weaker c.call_returns.result
     (λ e. IfEnded-both c.args.ended.now (λ s. IfEnded c.args.told.now (Kept s)) (λ s. IfEnded c.args.told.now (Inner s)) (λ s. IfEnded c.args.told.now (Outer s))
     (λ s x y. IfEnded-both c.args.told.now (Kept s) (Inner s) (Outer s)
-    (λ r kept inner p a at up. returns g.O.Outside.goes (tree_of c.args.tree.now) old new q p n a down s r (c.as_slice.ensures.value ∙ c.in_ok-path.ensures p at ∙ whole_path c.args.tree.now p _ at) up kept refl refl (inner p a at up)) x y)
+    (λ r kept inner p a at up. returns g.O.Outside.goes (tree_of c.args.tree.now) old new q p n a down s r (c.as_slice.ensures.value ∙ c.in_ok-path.ensures p at) up kept refl refl (inner p a at up)) x y)
     e c.in_ok-returns.ensures.told)
     c.call_returns.ensures

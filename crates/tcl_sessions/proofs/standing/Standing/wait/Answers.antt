@@ -1,11 +1,10 @@
 use Rattle.std.proofs.Common.{refl, ◌∙◌}
-use Rattle.tcl_sessions.proofs.Lengths.{whole_path}
 use Rattle.tcl_sessions.proofs.standing.Standing.wait.Goals as goal
 
 pub returns : goal.returns
 returns c = λ p at. record {
   call = record { caller = c.in_ok-path.path; words = c.in_ok-words.words };
-  caller = c.in_ok-path.ensures p at ∙ whole_path c.args.tree.now p _ at;
+  caller = c.in_ok-path.ensures p at;
   words = c.in_ok-words.ensures;
   after = refl;
 }

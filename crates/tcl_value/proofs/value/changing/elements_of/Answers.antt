@@ -2,7 +2,7 @@ use Rattle.std.proofs.Common.{arith, ◌≡◌, ◌∙◌, ◌++◌, ◌∷◌, 
 use Rattle.std.proofs.lemmas.List.{take_more}
 use Rattle.tcl_value.specs.Texts.{element_text, texts, AreElements}
 use Rattle.tcl_value.proofs.Weights.{texts-push, AreElements-push}
-use Rattle.tcl_value.proofs.value.elements_of.Goals as goal
+use Rattle.tcl_value.proofs.value.changing.elements_of.Goals as goal
 
 pub values-preserved : goal.values-preserved
 values-preserved c =

@@ -2,7 +2,7 @@ use Rattle.std.proofs.Common.{◌≡◌, ◌∙◌, ap, sym, subst, arith, lengt
 use Rattle.tcl_value.specs.Texts.{IsElement, element_text, texts, ends_in_backslash}
 use Rattle.tcl_value.proofs.Weights.{AreElements-get, texts-get, length-texts}
 use Rattle.tcl_value.proofs.Inner.{ends_write}
-use Rattle.tcl_value.proofs.value.may_come_last.Goals as goal
+use Rattle.tcl_value.proofs.value.changing.may_come_last.Goals as goal
 
 pub ends_in_backslash-requires : goal.ends_in_backslash-requires
 ends_in_backslash-requires c =

@@ -9,19 +9,27 @@ use Rattle.tcl_tree.specs.declared.tree.Tree.{Tree as Table}
 use Rattle.tcl_tree.proofs.FallLemmas.{falls_all}
 
 -- an interpreter's level is the length of its path
-level_is : (h : Heap) (root : ℕ) → IsSound h root → (p : Path) (k j : ℕ) → follow h k p ≡ Some j → level_in h j ≡ level_in h k + length p
+level_is : (h : Heap) (root : ℕ) → IsSound h root → (p : Path) (k j : ℕ)
+    → follow h k p ≡ Some j → level_in h j ≡ level_in h k + length p
 unfolding follow
 level_is h root s [] k j e = let same : k ≡ j = cc in let l = ap (level_in h) same in omega arith
 level_is h root s (n ∷ p) k j e = by (child_in h k n) refl e (λ c. level_is h root s p c j)
   where
-    by : (o : Option ℕ) → child_in h k n ≡ o → option_and_then (λ c. follow h c p) o ≡ Some j → ((c : ℕ) → follow h c p ≡ Some j → level_in h j ≡ level_in h c + length p) → level_in h j ≡ level_in h k + length (n ∷ p)
+    by : (o : Option ℕ) → child_in h k n ≡ o → option_and_then (λ c. follow h c p) o ≡ Some j
+        → ((c : ℕ) → follow h c p ≡ Some j → level_in h j ≡ level_in h c + length p)
+        → level_in h j ≡ level_in h k + length (n ∷ p)
     by None f g below = let x : None ≡ Some j = g in cc
     by (Some c) f g below = let a = s.levels k n c f in let b = below c g in omega arith
 
 -- so no path is longer than a number of the machine
-short_path : (t : Table) (p : Path) (k : ℕ) → key_of t p ≡ Some k → length p ≤ 18446744073709551615
-short_path t p k e = let a = level_is (get t.nodes) t.root t.sound p t.root k e in let b = t.sound.fits k in omega arith
+short_path : (t : Table) (p : Path) (k : ℕ) → key_of t p ≡ Some k
+    → length p ≤ 18446744073709551615
+short_path t p k e =
+    let a = level_is (get t.nodes) t.root t.sound p t.root k e in
+    let b = t.sound.fits k in
+    omega arith
 
 -- and its last names, at most as many as such a number, are all of it
-pub whole_path : (t : Table) (p : Path) (k : ℕ) → key_of t p ≡ Some k → falls 18446744073709551615 p ≡ p
+pub whole_path : (t : Table) (p : Path) (k : ℕ) → key_of t p ≡ Some k
+    → falls 18446744073709551615 p ≡ p
 whole_path t p k e = falls_all 18446744073709551615 p (short_path t p k e)
