@@ -1,11 +1,13 @@
--- The words of `interp exists` and `rename`, and the last name of a path.
-use Rattle.std.proofs.Common.{◌≡◌, ◌⊎◌, inl, inr, ◌<◌, ◌≤◌, ◌-◌, Bool, true, false, List, [], ◌∷◌, ◌++◌, length, take, get_or, Some, None, refl, sym, ◌∙◌, ap, arith}
+-- The forms of commands, and the last name of a path.
+use Rattle.std.proofs.Common.{◌≡◌, ◌⊎◌, inl, inr, ◌<◌, ◌≤◌, ◌-◌, Bool, true, false, List, [], ◌∷◌, ◌++◌, length, take, drop, get_or, Some, None, refl, sym, ◌∙◌, ap, subst, arith}
 use Rattle.std.specs.Prelude.{codes}
+use Rattle.std.proofs.Math.Seq.{take-length}
 use Rattle.tcl_core.specs.Endings.{ok}
 use Rattle.tcl_core.specs.Endings.Reply.{Completed}
-use Rattle.tcl_core.specs.Entries.Entry.{Ask}
-use Rattle.tcl_core.specs.Entries.Question.{Exists}
-use Rattle.tcl_core.specs.Paths.{Text, Path}
+use Rattle.tcl_core.specs.Entries.{Question}
+use Rattle.tcl_core.specs.Entries.Entry.{Ask, SetAlias}
+use Rattle.tcl_core.specs.Entries.Question.{DepthLimitOf, Exists}
+use Rattle.tcl_core.specs.Paths.{Text, Path, together}
 use Rattle.tcl_core.specs.Programs.Act.{Look}
 use Rattle.tcl_core.specs.Programs.Prog.{done, act}
 use Rattle.tcl_core.specs.Trees.{Node}
@@ -16,6 +18,8 @@ use Rattle.tcl_language.specs.Interpreters as interpreters
 use Rattle.tcl_language.specs.Interpreters.{asks_at, bit, done_so, renaming}
 use Rattle.tcl_language.specs.Naming as language
 use Rattle.tcl_run.proofs.Steady.{stands}
+use Rattle.tcl_text.specs.declared.integer.Integers.{Integers}
+use Rattle.tcl_tree.specs.Commands.{AliasView}
 use Rattle.tcl_tree.specs.Own.{Own}
 use Rattle.tcl_tree.specs.Reaching.{Leads as Leads_to}
 use Rattle.tcl_tree.specs.TreeOf.{tree_of, Names}
@@ -26,6 +30,8 @@ use Rattle.tcl_tree.proofs.CoreLemmas.{tree_there}
 use Rattle.tcl_entries.specs.Looking.{GetsTo, GetsToEnd, looked}
 use Rattle.tcl_entries.proofs.Looks.{is_program, looks_here}
 use Rattle.tcl_entries.proofs.Reached.{there_below, gone_below}
+use Rattle.tcl_interp.specs.Programs.{aliases, depth_form, depth_of, depths, exposes, given, gives_alias, hides, limits, questions}
+use Rattle.tcl_interp.specs.Subjects.{About, asks_of, form_of, on_child, on_itself, on_path}
 
 -- ## The last name of a path
 
@@ -138,3 +144,92 @@ pub child_is_named : (t : Table) (place : TablePlace) (name : Text) → (p : Pat
 child_is_named t place name p at child none =
     let n = stands (tree_of t p) (tree_there t p _ at) in
     let clash : true ≡ false = child p n.0 at n.1 ∙ ap (definitions.child_named n.0.own) none in cc
+
+-- ## Subcommands that both commands have
+
+-- what is asked with no word behind it
+pub asked_alone : (a : About) (form own : Text) (q : Question) (args : List Text) → length args ≡ 0 → questions a form own q args ≡ asks_of a (Ask q)
+asked_alone a form own q [] h = refl
+asked_alone a form own q (x ∷ xs) h = absurd (omega (arith, h))
+
+pub asked_wrongly : (a : About) (form own : Text) (q : Question) (args : List Text) → 1 ≤ length args → questions a form own q args ≡ fails (faults.wrong_args (form_of a form own))
+asked_wrongly a form own q [] h = absurd (omega arith)
+asked_wrongly a form own q (x ∷ xs) h = refl
+
+pub limit_wrong : (style : Integers) (a : About) (args : List Text) → (length args < 1) ⊎ ((length args ≡ 2) ⊎ (4 ≤ length args)) → limits style a args ≡ fails (faults.wrong_args (form_of a interpreters.limit_form (codes "limit commands ?-value n?")))
+limit_wrong style a [] h = refl
+limit_wrong style a (x ∷ []) (inl h) = absurd (omega arith)
+limit_wrong style a (x ∷ []) (inr (inl h)) = absurd (omega arith)
+limit_wrong style a (x ∷ []) (inr (inr h)) = absurd (omega arith)
+limit_wrong style a (x ∷ y ∷ []) h = refl
+limit_wrong style a (x ∷ y ∷ z ∷ []) (inl h) = absurd (omega arith)
+limit_wrong style a (x ∷ y ∷ z ∷ []) (inr (inl h)) = absurd (omega arith)
+limit_wrong style a (x ∷ y ∷ z ∷ []) (inr (inr h)) = absurd (omega arith)
+limit_wrong style a (x ∷ y ∷ z ∷ v ∷ rest) h = refl
+
+pub depth_of_path : (a : About) (text : Text) → a ≡ on_path text → depth_of a ≡ asks_of a (Ask DepthLimitOf)
+depth_of_path a text e = subst (λ (x : About). depth_of x ≡ asks_of x (Ask DepthLimitOf)) (sym e) refl
+
+pub depth_of_child : (a : About) (name : Text) → a ≡ on_child name → depth_of a ≡ asks_of a (Ask DepthLimitOf)
+depth_of_child a name e = subst (λ (x : About). depth_of x ≡ asks_of x (Ask DepthLimitOf)) (sym e) refl
+
+pub depth_wrong : (style : Integers) (a : About) (args : List Text) → 2 ≤ length args → depths style a args ≡ fails (faults.wrong_args (form_of a depth_form (codes "recursionlimit ?n?")))
+depth_wrong style a [] h = absurd (omega arith)
+depth_wrong style a (x ∷ []) h = absurd (omega arith)
+depth_wrong style a (x ∷ y ∷ rest) h = refl
+
+pub hide_wrong : (a : About) (args : List Text) → (length args < 1) ⊎ (3 ≤ length args) → hides a args ≡ fails (faults.wrong_args (form_of a (codes "interp hide path cmd ?hiddenName?") (codes "hide cmd ?hiddenName?")))
+hide_wrong a [] h = refl
+hide_wrong a (x ∷ []) (inl h) = absurd (omega arith)
+hide_wrong a (x ∷ []) (inr h) = absurd (omega arith)
+hide_wrong a (x ∷ y ∷ []) (inl h) = absurd (omega arith)
+hide_wrong a (x ∷ y ∷ []) (inr h) = absurd (omega arith)
+hide_wrong a (x ∷ y ∷ z ∷ rest) h = refl
+
+pub expose_wrong : (a : About) (args : List Text) → (length args < 1) ⊎ (3 ≤ length args) → exposes a args ≡ fails (faults.wrong_args (form_of a (codes "interp expose path hiddenName ?cmd?") (codes "expose hiddenName ?cmd?")))
+expose_wrong a [] h = refl
+expose_wrong a (x ∷ []) (inl h) = absurd (omega arith)
+expose_wrong a (x ∷ []) (inr h) = absurd (omega arith)
+expose_wrong a (x ∷ y ∷ []) (inl h) = absurd (omega arith)
+expose_wrong a (x ∷ y ∷ []) (inr h) = absurd (omega arith)
+expose_wrong a (x ∷ y ∷ z ∷ rest) h = refl
+
+-- ## Aliases
+
+pub alias_cleared : (a : About) (name target : Text) (words : List Text) → length words ≡ 0 → target ≡ [] → aliases a (name ∷ target ∷ words) ≡ aliases a (name ∷ [] ∷ [])
+alias_cleared a name target [] h e = ap (λ (x : Text). aliases a (name ∷ x ∷ [])) e
+alias_cleared a name target (w ∷ ws) h e = absurd (omega (arith, h))
+
+-- an alias is given where words follow the target, or that isn't empty
+pub alias_with : (a : About) (name target : Text) (words : List Text) → 1 ≤ length words → aliases a (name ∷ target ∷ words) ≡ gives_alias a name target words
+alias_with a name target [] h = absurd (omega arith)
+alias_with a name [] (w ∷ ws) h = refl
+alias_with a name (c ∷ cs) (w ∷ ws) h = refl
+
+pub alias_named : (a : About) (name target : Text) (words : List Text) → (target ≡ [] → Prim.⊥) → aliases a (name ∷ target ∷ words) ≡ gives_alias a name target words
+alias_named a name [] words h = absurd (h refl)
+alias_named a name (c ∷ cs) [] h = refl
+alias_named a name (c ∷ cs) (w ∷ ws) h = refl
+
+pub alias_many : (a : About) (args : List Text) (s t : Text) → 2 ≤ length args → s ≡ get_or args 0 s → t ≡ get_or args 1 t → aliases a args ≡ aliases a (s ∷ t ∷ take (length args - 2) (drop 2 args))
+alias_many a [] s t h d e = absurd (omega arith)
+alias_many a (x ∷ []) s t h d e = absurd (omega arith)
+alias_many a (x ∷ y ∷ rest) s t h d e =
+    let same : length (x ∷ y ∷ rest) - 2 ≡ length rest = omega arith in
+    (λ i. aliases a (sym d i ∷ sym e i ∷ rest)) ∙ ap (λ (ws : List Text). aliases a (s ∷ t ∷ ws)) (sym (ap (λ m. take m rest) same ∙ take-length rest))
+
+pub given_asked : (path goal : Path) (name x told : Text) (words own : List Text) (a : AliasView) → x ≡ name → told ≡ name → own ≡ words → a ≡ record { up = length path - together path goal; down = drop (together path goal) goal; words = own } →
+    given path goal name words ≡ asks_at path (SetAlias x a.up a.down a.words) (interpreters.with_text told)
+given_asked path goal name x told words own a en ed eo made =
+    let is : a ≡ record { up = length path - together path goal; down = drop (together path goal) goal; words = words } = made ∙ (λ i. record { up = length path - together path goal; down = drop (together path goal) goal; words = eo i }) in
+    (λ i. asks_at path (SetAlias (sym en i) (sym is i).up (sym is i).down (sym is i).words) (interpreters.with_text (sym ed i)))
+
+itself_gives : (name target : Text) (words : List Text) → gives_alias on_itself name target words ≡ gives_alias (on_path []) name target words
+itself_gives name target [] = refl
+itself_gives name target (w ∷ ws) = refl
+
+pub given_by_itself : (a : About) (text name target : Text) (words : List Text) → a ≡ on_itself → text ≡ [] → gives_alias a name target words ≡ gives_alias (on_path text) name target words
+given_by_itself a text name target words e f = ap (λ (x : About). gives_alias x name target words) e ∙ itself_gives name target words ∙ ap (λ (x : Text). gives_alias (on_path x) name target words) (sym f)
+
+pub given_by_child : (a : About) (child : Text) (path : Path) (name target : Text) (words : List Text) → a ≡ on_child child → path ≡ child ∷ [] → gives_alias a name target words ≡ given path [] name (target ∷ words)
+given_by_child a child path name target words e f = ap (λ (x : About). gives_alias x name target words) e ∙ ap (λ (x : Path). given x [] name (target ∷ words)) (sym f)

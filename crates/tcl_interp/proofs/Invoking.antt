@@ -5,64 +5,63 @@ use Rattle.tcl_core.specs.Endings.{Reply}
 use Rattle.tcl_core.specs.Entries.Entry.{InvokeHidden}
 use Rattle.tcl_core.specs.Paths.{Text}
 use Rattle.tcl_language.specs.Faults.{wrong_args}
-use Rattle.tcl_language.specs.Instructions.{either, fails}
+use Rattle.tcl_language.specs.Instructions.{Program, either, fails}
 use Rattle.tcl_language.specs.Interpreters.{invoked_as, asks_trusted, is_option, is_global, bad_option}
 use Rattle.tcl_run.specs.Ends.{Interrupts}
 use Rattle.tcl_run.specs.declared.interruption.Interruption.{Interruption}
 use Rattle.tcl_run.proofs.Endings.{Interrupts-more}
-use Rattle.tcl_child_commands.specs.HiddenCalls.{Pathed, Invokes, FailsSo, called_as}
+use Rattle.tcl_interp.specs.Failing.{FailsSo}
+use Rattle.tcl_interp.specs.Programs.{called_with, invoke_forms, invokes}
+use Rattle.tcl_interp.specs.Subjects.{About, path_text}
 
--- ## Where no more options are read
+module _ (a : About) where
+  -- ## Where no more options are read
 
-pub called_none : (form : Text) (global : Bool) (words : List Text) (path : Text) → length words ≡ 0 → called_as form global words path ≡ fails (wrong_args form)
-called_none form global [] path h = refl
-called_none form global (w ∷ ws) path h = absurd (omega (arith, h))
+  pub called_none : (global : Bool) (words : List Text) → length words ≡ 0 → called_with a global words ≡ fails (wrong_args (invoke_forms a))
+  called_none global [] h = refl
+  called_none global (w ∷ ws) h = absurd (omega (arith, h))
 
-pub called_some : (form : Text) (global : Bool) (words : List Text) (path : Text) → 1 ≤ length words → called_as form global words path ≡ asks_trusted path (InvokeHidden global words)
-called_some form global [] path h = absurd (omega arith)
-called_some form global (w ∷ ws) path h = refl
+  pub called_some : (global : Bool) (words : List Text) → 1 ≤ length words → called_with a global words ≡ asks_trusted (path_text a) (InvokeHidden global words)
+  called_some global [] h = absurd (omega arith)
+  called_some global (w ∷ ws) h = refl
 
--- ## The first word
+  -- ## The first word
 
--- behind `-global` nothing is an option
-behind_global : (path form : Text) (words : List Text) → invoked_as path form true words ≡ called_as form true words path
-behind_global path form [] = refl
-behind_global path form (w ∷ ws) = by (is_option w)
-  where
-    by : (b : Bool) → either (b && not true) (either (is_global w) (invoked_as path form true ws) (fails (bad_option w))) (asks_trusted path (InvokeHidden true (w ∷ ws))) ≡ asks_trusted path (InvokeHidden true (w ∷ ws))
-    by true = refl
-    by false = refl
+  after_option : Text → List Text → Bool → Program
+  after_option w words b = either (b && not false) (either (is_global w) (invoked_as (path_text a) (invoke_forms a) true words) (fails (bad_option w))) (asks_trusted (path_text a) (InvokeHidden false (w ∷ words)))
 
--- no option stands there
-pub plain_call : (form : Text) (args : List Text) (w : Text) (words : List Text) → args ≡ w ∷ words → is_option w ≡ false → (path : Text) → invoked_as path form false args ≡ called_as form false args path
-plain_call form args w words is o path =
-    ap (invoked_as path form false) is ∙ ap (λ (b : Bool). either (b && not false) (either (is_global w) (invoked_as path form true words) (fails (bad_option w))) (asks_trusted path (InvokeHidden false (w ∷ words)))) o
-    ∙ ap (λ (ws : List Text). called_as form false ws path) (sym is)
+  after_global : Text → List Text → Bool → Program
+  after_global w words b = either b (invoked_as (path_text a) (invoke_forms a) true words) (fails (bad_option w))
 
--- `-global` stands there
-pub global_call : (form : Text) (args : List Text) (w : Text) (words : List Text) → args ≡ w ∷ words → is_option w ≡ true → is_global w ≡ true → (path : Text) → invoked_as path form false args ≡ called_as form true words path
-global_call form args w words is o g path =
-    ap (invoked_as path form false) is ∙ ap (λ (b : Bool). either (b && not false) (either (is_global w) (invoked_as path form true words) (fails (bad_option w))) (asks_trusted path (InvokeHidden false (w ∷ words)))) o
-    ∙ ap (λ (b : Bool). either b (invoked_as path form true words) (fails (bad_option w))) g
-    ∙ behind_global path form words
+  -- behind `-global` nothing is an option
+  behind_global : (words : List Text) → invoked_as (path_text a) (invoke_forms a) true words ≡ called_with a true words
+  behind_global [] = refl
+  behind_global (w ∷ ws) = by (is_option w)
+    where
+      by : (b : Bool) → either (b && not true) (either (is_global w) (invoked_as (path_text a) (invoke_forms a) true ws) (fails (bad_option w))) (asks_trusted (path_text a) (InvokeHidden true (w ∷ ws))) ≡ asks_trusted (path_text a) (InvokeHidden true (w ∷ ws))
+      by true = refl
+      by false = refl
 
--- another option stands there
-pub wrong_call : (form : Text) (args : List Text) (w : Text) (words : List Text) → args ≡ w ∷ words → is_option w ≡ true → is_global w ≡ false → (path : Text) → invoked_as path form false args ≡ fails (bad_option w)
-wrong_call form args w words is o g path =
-    ap (invoked_as path form false) is ∙ ap (λ (b : Bool). either (b && not false) (either (is_global w) (invoked_as path form true words) (fails (bad_option w))) (asks_trusted path (InvokeHidden false (w ∷ words)))) o
-    ∙ ap (λ (b : Bool). either b (invoked_as path form true words) (fails (bad_option w))) g
+  -- no option stands there
+  pub plain_call : (args : List Text) (w : Text) (words : List Text) → args ≡ w ∷ words → is_option w ≡ false → invokes a args ≡ called_with a false args
+  plain_call args w words is o = ap (invokes a) is ∙ ap (after_option w words) o ∙ ap (called_with a false) (sym is)
 
-pub no_call : (form : Text) (args : List Text) → length args < 1 → (path : Text) → invoked_as path form false args ≡ fails (wrong_args form)
-no_call form [] h path = refl
-no_call form (w ∷ ws) h path = absurd (omega arith)
+  -- `-global` stands there
+  pub global_call : (args : List Text) (w : Text) (words : List Text) → args ≡ w ∷ words → is_option w ≡ true → is_global w ≡ true → invokes a args ≡ called_with a true words
+  global_call args w words is o g = ap (invokes a) is ∙ ap (after_option w words) o ∙ ap (after_global w words) g ∙ behind_global words
+
+  -- another option stands there
+  pub wrong_call : (args : List Text) (w : Text) (words : List Text) → args ≡ w ∷ words → is_option w ≡ true → is_global w ≡ false → invokes a args ≡ fails (bad_option w)
+  wrong_call args w words is o g = ap (invokes a) is ∙ ap (after_option w words) o ∙ ap (after_global w words) g
+
+  pub no_call : (args : List Text) → length args < 1 → invokes a args ≡ fails (wrong_args (invoke_forms a))
+  no_call [] h = refl
+  no_call (w ∷ ws) h = absurd (omega arith)
 
 -- ## The same program
 
-pub invokes_as : (x y : Pathed) (global : Bool) (words : List Text) → ((path : Text) → x path ≡ y path) → Invokes y global words → Invokes x global words
-invokes_as x y global words same h = λ path. same path ∙ h path
-
-pub fails_as : (x y : Pathed) (e : Reply) → ((path : Text) → x path ≡ y path) → FailsSo y e → FailsSo x e
-fails_as x y e same h = (h.0, λ path. same path ∙ h.1 path, h.2)
+pub fails_as : (x y : Program) (e : Reply) → x ≡ y → FailsSo y e → FailsSo x e
+fails_as x y e same h = record { message = h.message; way = same ∙ h.way; end = h.end }
 
 pub called_more : {A B : Type 0} (r : Result A B) (P Q : A → Type 0) → ((a : A) → P a → Q a) → IfOk r P → IfOk r Q
 called_more (Ok a) P Q f h = f a h

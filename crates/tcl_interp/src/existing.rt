@@ -5,9 +5,10 @@ ghost use Rattle.tcl_core.specs.Programs.Prog.{act};
 ghost use Rattle.tcl_language.specs.Interpreters as interpreters;
 ghost use Rattle.tcl_run.specs.Runs.{Evaluates, IsLoss, IsRunning, IsSteady};
 
+use crate::questions::ask_about;
 use std::alloc::Global;
 use tcl_entries::looking::names_of;
-use tcl_entries::requests::{ask_about, ask_at};
+use tcl_entries::requests::ask_at;
 use tcl_run::entry::{OwnEntry, Question};
 use tcl_run::interruption::Interruption;
 use tcl_run::outside::Outside;

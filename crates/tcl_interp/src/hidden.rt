@@ -1,11 +1,18 @@
 //! The words of `invokehidden`.
-ghost use Rattle.std.specs.Prelude.{◌≡◌, IfOk, IfErr, false};
+ghost use Rattle.std.specs.Prelude.{◌≡◌, IfOk, IfErr};
+ghost use Rattle.tcl_core.specs.Endings.Reply.{Completed};
+ghost use Rattle.tcl_core.specs.Entries.Entry.{InvokeHidden};
+ghost use Rattle.tcl_language.specs.Faults as faults;
 ghost use Rattle.tcl_language.specs.Interpreters as interpreters;
-ghost use Rattle.tcl_run.specs.Ends.{Interrupts};
-ghost use Rattle.tcl_child_commands.specs.HiddenCalls.{Invokes, FailsSo, called_as, ReadsOption};
+ghost use Rattle.tcl_run.specs.Ends.{Interrupts, failing};
+ghost use Rattle.tcl_interp.specs.Failing.{FailsSo};
+ghost use Rattle.tcl_interp.specs.HiddenCalls.{ReadsOption};
+ghost use Rattle.tcl_interp.specs.Programs.{called_with, invoke_forms, invokes};
+ghost use Rattle.tcl_interp.specs.Subjects.{about, path_text};
 
+use crate::subject::{Subject, wrong_words};
 use std::alloc::Global;
-use tcl_run::failure::{bad_option, wrong_args};
+use tcl_run::failure::bad_option;
 use tcl_run::interruption::Interruption;
 use tcl_text::text::Text;
 use tcl_value::value::Value;
@@ -29,9 +36,6 @@ fn is_option(word: &Text) -> bool
 }
 
 /// Whether the first word is the option `-global`, and not the hidden name.
-///
-/// # Errors
-/// 221 where it is another option; want of memory.
 fn reads_global(alloc: Global, word: &Value) -> Result<bool, Interruption>
     ensures { ReadsOption word.now result }
 {
@@ -45,45 +49,60 @@ fn reads_global(alloc: Global, word: &Value) -> Result<bool, Interruption>
     Ok(true)
 }
 
+/// The words don't have the form of `invokehidden`.
+fn wrong_call(alloc: Global, subject: Subject<'_>) -> Interruption
+    ensures { Interrupts result (λ e. e
+        ≡ Completed (failing (faults.wrong_args (invoke_forms (about subject.entry))))) }
+{
+    let form = "interp invokehidden path ?-global? hiddenName ?arg ...?";
+    wrong_words(alloc, subject, form, "invokehidden ?-global? hiddenName ?arg ...?")
+}
+
 /// The call of a hidden command with these words, where no more options are read.
 fn call_with(
     alloc: Global,
-    form: &str,
+    subject: Subject<'_>,
     is_global: bool,
     words: &[Value],
 ) -> Result<HiddenCall, Interruption>
     ensures called { IfOk result
-        (λ call. Invokes (called_as form.now is_global words.now) call.is_global call.words.items) }
+        (λ call. called_with (about subject.entry) is_global words.now
+        ≡ interpreters.asks_trusted (path_text (about subject.entry))
+        (InvokeHidden call.is_global call.words.items)) }
     ensures refused { IfErr result
-        (λ i. Interrupts i (FailsSo (called_as form.now is_global words.now))) }
+        (λ i. Interrupts i (FailsSo (called_with (about subject.entry) is_global words.now))) }
 {
     if words.is_empty() {
-        return Err(wrong_args(alloc, form));
+        return Err(wrong_call(alloc, subject));
     }
     let words = Vec::from_clones(alloc, words)?;
     Ok(HiddenCall { is_global, words })
 }
 
-/// The call that the words `?-global? hiddenName ?arg ...?` of `invokehidden` are. The form is that
-/// of the command that has them. An option is only looked for in front of the hidden name.
+/// The call that the words `?-global? hiddenName ?arg ...?` of `invokehidden` are. An option is only
+/// looked for in front of the hidden name.
 ///
 /// # Errors
-/// 241 where there is no hidden name, with the form; 221; want of memory.
-pub fn hidden_call(alloc: Global, form: &str, args: &[Value]) -> Result<HiddenCall, Interruption>
+/// 241 where there is no hidden name; 221; want of memory.
+pub fn hidden_call(
+    alloc: Global,
+    subject: Subject<'_>,
+    args: &[Value],
+) -> Result<HiddenCall, Interruption>
     ensures called { IfOk result
-        (λ call. Invokes (λ path. interpreters.invoked_as path form.now false args.now)
-        call.is_global call.words.items) }
+        (λ call. invokes (about subject.entry) args.now
+        ≡ interpreters.asks_trusted (path_text (about subject.entry))
+        (InvokeHidden call.is_global call.words.items)) }
     ensures refused { IfErr result
-        (λ i. Interrupts i (FailsSo
-        (λ path. interpreters.invoked_as path form.now false args.now))) }
+        (λ i. Interrupts i (FailsSo (invokes (about subject.entry) args.now))) }
 {
     match args {
-        [] => Err(wrong_args(alloc, form)),
+        [] => Err(wrong_call(alloc, subject)),
         [first, words @ ..] => {
             if reads_global(alloc, first)? {
-                call_with(alloc, form, true, words)
+                call_with(alloc, subject, true, words)
             } else {
-                call_with(alloc, form, false, args)
+                call_with(alloc, subject, false, args)
             }
         }
     }
