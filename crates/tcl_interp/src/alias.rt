@@ -155,7 +155,14 @@ fn clear_alias<O: Outside>(
     ensures left { O.entries_left outside.new ≤ O.entries_left outside.old }
 {
     let name = name.text(alloc)?;
-    ask_subject(tree, alloc, outside, place, subject, OwnEntry::ClearAlias(name))
+    ask_subject(
+        tree,
+        alloc,
+        outside,
+        place,
+        subject,
+        OwnEntry::ClearAlias(name),
+    )
 }
 
 /// Gives the subject an alias, or takes it away where one empty word is behind the name.
@@ -200,7 +207,14 @@ fn alias_of<O: Outside>(
     ensures left { O.entries_left outside.new ≤ O.entries_left outside.old }
 {
     let question = Question::AliasOf(name.text(alloc)?);
-    ask_subject(tree, alloc, outside, place, subject, OwnEntry::Ask(question))
+    ask_subject(
+        tree,
+        alloc,
+        outside,
+        place,
+        subject,
+        OwnEntry::Ask(question),
+    )
 }
 
 /// `interp alias srcPath srcCmd ?targetPath? ?targetCmd? ?arg ...?`, and

@@ -118,10 +118,26 @@ pub fn call_tree<O: Outside>(
         TreeSubcommand::Delete => delete(tree, alloc, outside, place, args),
         TreeSubcommand::Exists => exists(tree, alloc, outside, place, args),
         TreeSubcommand::Slaves => {
-            ask_about(tree, alloc, outside, place, "interp slaves ?path?", Question::Slaves, args)
+            ask_about(
+                tree,
+                alloc,
+                outside,
+                place,
+                "interp slaves ?path?",
+                Question::Slaves,
+                args,
+            )
         }
         TreeSubcommand::Children => {
-            ask_about(tree, alloc, outside, place, "interp children ?path?", Question::Slaves, args)
+            ask_about(
+                tree,
+                alloc,
+                outside,
+                place,
+                "interp children ?path?",
+                Question::Slaves,
+                args,
+            )
         }
     }
 }

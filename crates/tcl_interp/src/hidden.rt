@@ -55,7 +55,12 @@ fn wrong_call(alloc: Global, subject: Subject<'_>) -> Interruption
         ≡ Completed (failing (faults.wrong_args (invoke_forms (about subject.entry))))) }
 {
     let form = "interp invokehidden path ?-global? hiddenName ?arg ...?";
-    wrong_words(alloc, subject, form, "invokehidden ?-global? hiddenName ?arg ...?")
+    wrong_words(
+        alloc,
+        subject,
+        form,
+        "invokehidden ?-global? hiddenName ?arg ...?",
+    )
 }
 
 /// The call of a hidden command with these words, where no more options are read.

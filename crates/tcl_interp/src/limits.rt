@@ -36,12 +36,7 @@ pub enum Limit {
 }
 
 /// Sees to it that the word is `commands`, of which alone there are limits so.
-fn commands_only(
-    tree: &Tree,
-    alloc: Global,
-    place: Place,
-    word: &Value,
-) -> Result<(), Interruption>
+fn commands_only(tree: &Tree, alloc: Global, place: Place, word: &Value) -> Result<(), Interruption>
     ensures { Passes tree.now place
         (λ rest style. interpreters.commands_only word.now (rest style)) result }
 {
@@ -65,12 +60,7 @@ fn value_only(tree: &Tree, alloc: Global, place: Place, word: &Value) -> Result<
 }
 
 /// Sees to it that a path leads below the interpreter that asks.
-fn below_itself(
-    tree: &Tree,
-    alloc: Global,
-    place: Place,
-    path: &[Text],
-) -> Result<(), Interruption>
+fn below_itself(tree: &Tree, alloc: Global, place: Place, path: &[Text]) -> Result<(), Interruption>
     ensures { Passes tree.now place
         (λ rest style. interpreters.below_itself path.now (rest style)) result }
 {
@@ -82,12 +72,7 @@ fn below_itself(
 }
 
 /// Sees to it that a path leads not to the root.
-fn unless_root(
-    tree: &Tree,
-    alloc: Global,
-    place: Place,
-    path: &[Text],
-) -> Result<(), Interruption>
+fn unless_root(tree: &Tree, alloc: Global, place: Place, path: &[Text]) -> Result<(), Interruption>
     requires { (p : Path) × Names tree.now place p }
     ensures { Passes tree.now place
         (λ rest style. interpreters.unless_root path.now (rest style)) result }
@@ -149,12 +134,7 @@ fn depth_of(alloc: Global, n: i64) -> Result<u64, Interruption>
 }
 
 /// The limit of depth that a word is.
-fn depth_value(
-    tree: &Tree,
-    alloc: Global,
-    place: Place,
-    word: &Value,
-) -> Result<u64, Interruption>
+fn depth_value(tree: &Tree, alloc: Global, place: Place, word: &Value) -> Result<u64, Interruption>
     ensures { Finds tree.now place (λ limit. limit)
         (λ rest style. variables.integer style word.now
         (λ z. interpreters.depth_number z (λ limit. rest limit style))) result }

@@ -41,7 +41,14 @@ pub fn ask_question<O: Outside>(
     if !args.is_empty() {
         return Err(wrong_words(alloc, subject, form, own));
     }
-    ask_subject(tree, alloc, outside, place, subject, OwnEntry::Ask(question))
+    ask_subject(
+        tree,
+        alloc,
+        outside,
+        place,
+        subject,
+        OwnEntry::Ask(question),
+    )
 }
 
 /// Asks a question of the interpreter at the path that the word is, or of the one that asks where
@@ -67,5 +74,7 @@ pub fn ask_about<O: Outside>(
     ensures left { O.entries_left outside.new ≤ O.entries_left outside.old }
 {
     let (subject, words) = split_path(args);
-    ask_question(tree, alloc, outside, place, subject, form, form, question, words)
+    ask_question(
+        tree, alloc, outside, place, subject, form, form, question, words,
+    )
 }
