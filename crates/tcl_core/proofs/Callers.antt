@@ -1,22 +1,13 @@
 -- Programs that call, and wait for nothing.
 use Rattle.std.proofs.Common.{◌≡◌, Option, Some, None, refl}
-use Rattle.tcl_core.specs.Entries.{Entry, Said}
+use Rattle.tcl_core.specs.Entries.{Entry}
 use Rattle.tcl_core.specs.Trees.{Node}
-use Rattle.tcl_core.specs.Programs.{Calls_only, Prog, Table, Wait}
+use Rattle.tcl_core.specs.Programs.{Calls_only, Prog, Table}
+pub use Rattle.tcl_core.specs.Execution.{Fits, waits_for}
 use Rattle.tcl_core.specs.Programs.Prog.{done, exit, act, go, inside, call, wait}
 use Rattle.tcl_core.specs.Runs.{entering}
 
 module _ {O I : Type 0} where
-  -- the call that a program waits for
-  abbrev pub waits_for : Prog O I → Wait
-  waits_for (wait s k) = s
-  waits_for x = None
-
-  -- a program that calls only, or one that waits for such a call
-  abbrev pub Fits : Prog O I → Type 0
-  Fits (wait s k) = (a : Said) → Calls_only (k a)
-  Fits x = Calls_only x
-
   -- what calls waits for nothing
   pub no_wait : (x : Prog O I) → Calls_only x → waits_for x ≡ None
   no_wait (done c) f = refl

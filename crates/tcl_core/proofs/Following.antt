@@ -1,19 +1,24 @@
 -- What code executes is a run over the tape of what happened.
-use Rattle.std.proofs.Common.{◌≡◌, List, [], ◌∷◌, ◌++◌, Some, None, length, refl, sym, ◌∙◌, ap, subst, append_assoc, append-nil}
-use Rattle.tcl_core.specs.Paths.{Place}
-use Rattle.tcl_core.specs.Endings.{Reply, IsQuit}
+use Rattle.std.proofs.Common.{◌≡◌, true, false, List, [], ◌∷◌, ◌++◌, Some, None, length, refl, sym, ◌∙◌, ap, subst, append_assoc, append-nil}
+use Rattle.tcl_core.specs.Paths.{Height, Path, Place, rise_to}
+use Rattle.tcl_core.specs.Endings.{Reply, IsQuit, refusal}
+use Rattle.tcl_core.specs.Endings.Meter.{Depth}
+use Rattle.tcl_core.specs.Entries.{Answer, Entry}
+use Rattle.tcl_core.specs.Entries.Said.{Finished, Told}
 use Rattle.tcl_core.specs.Endings.Reply.{Completed, Exit}
 use Rattle.tcl_core.specs.Entries.Answer.{Replied, Heard}
-use Rattle.tcl_core.specs.Trees.{Tree, What, Event, Move, Grant, Grants, effect, asked, granted}
+use Rattle.tcl_core.specs.Trees.{Tree, What, Event, Move, Grant, Grants, at, effect, asked, granted}
 use Rattle.tcl_core.specs.Trees.Grants.{Listed}
 use Rattle.tcl_core.specs.Trees.What.{Out, In, Done, Back}
-use Rattle.tcl_core.specs.Programs.{Deed, Wait, spot, Act, Wrap, Prog, Table, decide, opens, closes}
+use Rattle.tcl_core.specs.Programs.{Calls_only, Deed, Wait, spot, Act, Wrap, Prog, Table, decide, opens, closes}
 use Rattle.tcl_core.specs.Programs.Prog.{call}
-use Rattle.tcl_core.specs.Runs.{World, Step, Runs, carried, entering, height_of}
+use Rattle.tcl_core.specs.Runs.{World, Step, Runs, answers_call, carried, entering, height_of}
 use Rattle.tcl_core.specs.Rules.{Derives}
-use Rattle.tcl_core.specs.Execution.{Executes, Chain, none, more, before, event, Makes, Decides, Opens_so}
+use Rattle.tcl_core.specs.Execution.{Executes, Chain, none, more, before, event, Makes, Decides, Open, Opens_so, answers_to, calls_after, last_call, pending, with_call, without_call}
 use Rattle.tcl_core.specs.Execution.Executes.{completed, exited, acted, refused, went, passed, wrapped, wrapped_passed, too_deep, shut, called, called_passed, unreached, called_out, answered, heard, answered_passed, entered, entered_exiting}
 use Rattle.tcl_core.specs.Views.{moves_of, grants_of}
+use Rattle.tcl_core.proofs.Callers.{Fits, entering_calls, fit, no_wait, waits_for}
+use Rattle.tcl_core.proofs.Plain.{IsPlain, closes_plain, decide_plain, opens_plain}
 use Rattle.tcl_core.proofs.TreeLaws.{listed_one}
 use Rattle.tcl_core.proofs.Seeing.{is_exit_self}
 use Rattle.tcl_core.proofs.Subtrees.{exit_answer}
@@ -87,15 +92,74 @@ module _ {O : Type 0} where
   opened : (b : Wrap O) (T : Tree O) (p : Place) (x : Deed O) → Opens_so b T p x → (τ : List (Event O)) (z : Rest O) → opens b T p (allowed (event (spot p x.0) x.1 ∷ τ) (Listed z.words)) ≡ Some x
   opened b T p x f τ z = ap (λ gs. opens b T p (granted (spot p x.0) x.1 gs)) (allowed_listed τ z.words).1 ∙ f (allowed_listed τ z.words).0
 
-module _ {O S : Type 0} where
-  pub chain-append : (step : Tree O → S → Wait → Event O → S → Type 0) {T U V : Tree O} {o u z : S} {a b : List (Event O)} → Chain step T o a U u → Chain step U u b V z → Chain step T o (a ++ b) V z
-  chain-append step none k = k
-  chain-append step (more g c) k = more g (chain-append step c k)
+module _ {O : Type 0} where
+  -- what is no crossing answers no call, and leaves those that are open
+  pub plain_answers : (p : Place) (x : What O) (cs : Open) → IsPlain x → answers_to p x cs ≡ None
+  plain_answers p (Out h d i) cs f = absurd f
+  plain_answers p (Back h a) cs f = absurd f
+  plain_answers p x cs f = refl
+
+  pub plain_calls : (p : Place) (x : What O) (cs : Open) → IsPlain x → calls_after p x cs ≡ cs
+  plain_calls p (Out h d i) cs f = absurd f
+  plain_calls p (Back h a) cs f = absurd f
+  plain_calls p x cs f = refl
+
+  pub plain_deed : (d : Act O) (T : Tree O) (p : Place) (x : Deed O) → Decides d T p x → IsPlain x.1
+  plain_deed d T p x f = decide_plain d T p _ x (f [])
+
+  pub plain_open : (b : Wrap O) (T : Tree O) (p : Place) (x : Deed O) → Opens_so b T p x → IsPlain x.1
+  plain_open b T p x f = opens_plain b T p _ x (f [])
+
+not_true : false ≡ true → Prim.⊥
+not_true e = cc
+
+module _ {O I : Type 0} where
+  -- the calls that are open where a program goes on, beside these
+  abbrev pub waiting : Prog O I → Open → Open
+  waiting x cs = pending (waits_for x) cs
+
+  pub waits_not : (x : Prog O I) (cs : Open) → Calls_only x → waiting x cs ≡ cs
+  waits_not x cs f = ap (λ w. pending w cs) (no_wait x f)
+
+module _ {O S : Type 0} (step : Tree O → S → Wait → Event O → S → Type 0) where
+  pub chain-append : {cs ds es : Open} {T U V : Tree O} {o u z : S} {a b : List (Event O)} → Chain step cs T o a ds U u → Chain step ds U u b es V z → Chain step cs T o (a ++ b) es V z
+  chain-append none k = k
+  chain-append (more g c) k = more g (chain-append c k)
+
+  pub plain_more : {cs ds : Open} {T V : Tree O} {o u z : S} {p : Place} {x : What O} {τ : List (Event O)} → IsPlain x → step T o None (event p x) u → Chain step cs (effect p x T) u τ ds V z → Chain step cs T o (event p x ∷ τ) ds V z
+  plain_more {cs} {ds} {T} {V} {o} {u} {z} {p} {x} {τ} f s c =
+      more (subst (λ w. step T o w (event p x) u) (sym (plain_answers p x cs f)) s) (subst (λ l. Chain step l (effect p x T) u τ ds V z) (sym (plain_calls p x cs f)) c)
+
+  -- a call of another interpreter of the tree, and its answer
+  pub goes_within : {cs ds : Open} {T V : Tree O} {o u z : S} {p a : Place} {h : Height} {down : Path} {i : Entry} {τ : List (Event O)} → rise_to h p ≡ Some a → step T o None (event p (Out h down i)) u → Chain step cs T u τ ds V z → Chain step cs T o (event p (Out h down i) ∷ τ) ds V z
+  goes_within {cs} {ds} {T} {V} {o} {u} {z} {p} {a} {h} {down} {i} {τ} e s c = more s (subst (λ l. Chain step l T u τ ds V z) (ap (λ y. with_call y (h, i) cs) (sym e)) c)
+
+  pub back_within : {cs ds : Open} {T V : Tree O} {o u z : S} {p a : Place} {h : Height} {y : Answer} {τ : List (Event O)} → rise_to h p ≡ Some a → step T o None (event p (Back h y)) u → Chain step cs T u τ ds V z → Chain step cs T o (event p (Back h y) ∷ τ) ds V z
+  back_within {cs} {ds} {T} {V} {o} {u} {z} {p} {a} {h} {y} {τ} e s c =
+      more (subst (λ w. step T o w (event p (Back h y)) u) (ap (λ b. last_call b cs) (sym e)) s) (subst (λ l. Chain step l T u τ ds V z) (ap (λ b. without_call b cs) (sym e)) c)
+
+  -- a call that leaves the tree, and its answer
+  pub goes_out : {cs ds : Open} {T V : Tree O} {o u z : S} {p : Place} {h : Height} {down : Path} {i : Entry} {τ : List (Event O)} → rise_to h p ≡ None → step T o None (event p (Out h down i)) u → Chain step ((h, i) ∷ cs) T u τ ds V z → Chain step cs T o (event p (Out h down i) ∷ τ) ds V z
+  goes_out {cs} {ds} {T} {V} {o} {u} {z} {p} {h} {down} {i} {τ} e s c = more s (subst (λ l. Chain step l T u τ ds V z) (ap (λ y. with_call y (h, i) cs) (sym e)) c)
+
+  pub comes_back : {cs ds : Open} {T V : Tree O} {o u z : S} {p : Place} {c : Height × Entry} {y : Answer} {τ : List (Event O)} → rise_to c.0 p ≡ None → step T o (Some c) (event p (Back c.0 y)) u → Chain step cs T u τ ds V z → Chain step (c ∷ cs) T o (event p (Back c.0 y) ∷ τ) ds V z
+  comes_back {cs} {ds} {T} {V} {o} {u} {z} {p} {c} {y} {τ} e s k =
+      more (subst (λ w. step T o w (event p (Back c.0 y)) u) (ap (λ b. last_call b (c ∷ cs)) (sym e)) s) (subst (λ l. Chain step l T u τ ds V z) (ap (λ b. without_call b (c ∷ cs)) (sym e)) k)
+
+  -- what goes on as a program that calls only has the calls open that there are
+  pub called_on : {I : Type 0} {cs ds : Open} {T V : Tree O} {o z : S} {τ : List (Event O)} (x : Prog O I) → Calls_only x → Chain step (waiting x cs) T o τ ds V z → Chain step cs T o τ ds V z
+  called_on {I} {cs} {ds} {T} {V} {o} {z} {τ} x f c = subst (λ l. Chain step l T o τ ds V z) (waits_not x cs f) c
+
+  -- an answer comes to the call that is open
+  pub replied : {cs ds : Open} {T V : Tree O} {o u z : S} {τ : List (Event O)} (s : Wait) (p : Place) → rise_to (height_of s) p ≡ None → (a : Answer) → answers_call s a ≡ true →
+      step T o s (event p (Back (height_of s) a)) u → Chain step cs T u τ ds V z → Chain step (pending s cs) T o (event p (Back (height_of s) a) ∷ τ) ds V z
+  replied None p e a f j c = absurd (not_true f)
+  replied (Some d) p e a f j c = comes_back e j c
 
 module _ {O I S : Type 0} (step : Tree O → S → Wait → Event O → S → Type 0) (prog : Table O I) where
   pub record Says (T : Tree O) (o : S) (p : Place) (x : Prog O I) (V : Tree O) (z : S) (r : Reply) : Type 0 where
     pub events : List (Event O)
-    pub chain : Chain step T o events V z
+    pub chain : (cs : Open) → Chain step (waiting x cs) T o events cs V z
     pub runs : (y : Rest O) → Derives prog (ahead T events y) p x (ahead V [] y) (Some r)
 
   -- a run, and what follows it
@@ -103,157 +167,157 @@ module _ {O I S : Type 0} (step : Tree O → S → Wait → Event O → S → Ty
   first T U p x r a b z d =
       subst (λ y. Derives prog y p x (ahead U b z) (Some r)) (sym (ahead-append T a b z)) (subst (λ y. Derives prog (ahead T a (later b z)) p x y (Some r)) (ahead_later U b z) d)
 
-  pub follows : {T V : Tree O} {o z : S} {p : Place} {x : Prog O I} {r : Reply} → Executes step prog T o p x V z r → Says T o p x V z r
-  follows (completed {T} {o} {p} {c}) = record { events = []; chain = none; runs = λ y. Derives.completed (ahead T [] y) p c }
-  follows (exited {T} {o} {p} {n}) = record { events = []; chain = none; runs = λ y. Derives.exited (ahead T [] y) p n }
-  follows (acted {T} {V} {o} {u} {z} {p} {d} {k} {r} x is_so on s t) =
-      let h = follows t in
+  pub follows : {T V : Tree O} {o z : S} {p : Place} {x : Prog O I} {r : Reply} → Fits x → Executes step prog T o p x V z r → Says T o p x V z r
+  follows f (completed {T} {o} {p} {c}) = record { events = []; chain = λ cs. none; runs = λ y. Derives.completed (ahead T [] y) p c }
+  follows f (exited {T} {o} {p} {n}) = record { events = []; chain = λ cs. none; runs = λ y. Derives.exited (ahead T [] y) p n }
+  follows f (acted {T} {V} {o} {u} {z} {p} {d} {k} {r} x is_so on s t) =
+      let h = follows (fit (k (at T p)) (f (at T p))) t in
       record {
         events = event (spot p x.0) x.1 ∷ h.events;
-        chain = more s h.chain;
+        chain = λ cs. plain_more step (plain_deed d T p x is_so) s (called_on step (k (at T p)) (f (at T p)) (h.chain cs));
         runs = λ y. Derives.acted _ p d k x (ahead (effect (spot p x.0) x.1 T) h.events y) _ _ (decided d T p x is_so h.events y) on (next T (spot p x.0) x.1 h.events y) (h.runs y);
       }
-  follows (refused {T} {o} {u} {p} {d} {k} {r} x is_so off s) =
+  follows f (refused {T} {o} {u} {p} {d} {k} {r} x is_so off s) =
       record {
         events = event (spot p x.0) x.1 ∷ [];
-        chain = more s none;
+        chain = λ cs. plain_more step (plain_deed d T p x is_so) s none;
         runs = λ y. Derives.refused _ p d k x r (ahead (effect (spot p x.0) x.1 T) [] y) (decided d T p x is_so [] y) off (next T (spot p x.0) x.1 [] y);
       }
-  follows (went {T} {U} {V} {o} {u} {z} {p} {i} {k} {c} {r} a b) =
-      let h = follows a in
-      let g = follows b in
+  follows f (went {T} {U} {V} {o} {u} {z} {p} {i} {k} {c} {r} a b) =
+      let h = follows (fit (prog.program i) (prog.programs_call i)) a in
+      let g = follows (fit (k c) (f c)) b in
       record {
         events = h.events ++ g.events;
-        chain = chain-append step h.chain g.chain;
+        chain = λ cs. chain-append step (called_on step (prog.program i) (prog.programs_call i) (h.chain cs)) (called_on step (k c) (f c) (g.chain cs));
         runs = λ y. Derives.went _ p i k (ahead U g.events y) c _ _ (first T U p (prog.program i) (Completed c) h.events g.events y (h.runs (later g.events y))) (g.runs y);
       }
-  follows (passed {T} {U} {o} {u} {p} {i} {k} {r} q a) =
-      let h = follows a in
-      record { events = h.events; chain = h.chain; runs = λ y. Derives.passed _ p i k (ahead U [] y) r q (h.runs y) }
-  follows (wrapped {T} {U} {V} {o} {o1} {o2} {o3} {z} {p} {b} {i} {k} {c} {r} x is_so on s1 a s2 t) =
-      let h = follows a in
-      let g = follows t in
+  follows f (passed {T} {U} {o} {u} {p} {i} {k} {r} q a) =
+      let h = follows (fit (prog.program i) (prog.programs_call i)) a in
+      record { events = h.events; chain = λ cs. called_on step (prog.program i) (prog.programs_call i) (h.chain cs); runs = λ y. Derives.passed _ p i k (ahead U [] y) r q (h.runs y) }
+  follows f (wrapped {T} {U} {V} {o} {o1} {o2} {o3} {z} {p} {b} {i} {k} {c} {r} x is_so on s1 a s2 t) =
+      let h = follows (fit (prog.program i) (prog.programs_call i)) a in
+      let g = follows (fit (k c) (f c)) t in
       let tail : List (Event O) = event p (closes b (U p)) ∷ g.events in
       record {
         events = event (spot p x.0) x.1 ∷ (h.events ++ tail);
-        chain = more s1 (chain-append step h.chain (more s2 g.chain));
+        chain = λ cs. plain_more step (plain_open b T p x is_so) s1 (chain-append step (called_on step (prog.program i) (prog.programs_call i) (h.chain cs)) (plain_more step (closes_plain b (U p)) s2 (called_on step (k c) (f c) (g.chain cs))));
         runs = λ y. Derives.wrapped _ p b i k x (ahead (effect (spot p x.0) x.1 T) (h.events ++ tail) y) (ahead U tail y) (ahead (effect p (closes b (U p)) U) g.events y) _ c _
             (opened b T p x is_so (h.events ++ tail) y) on (next T (spot p x.0) x.1 (h.events ++ tail) y)
             (first (effect (spot p x.0) x.1 T) U p (prog.program i) (Completed c) h.events tail y (h.runs (later tail y)))
             (next U p (closes b (U p)) g.events y) (g.runs y);
       }
-  follows (wrapped_passed {T} {U} {o} {o1} {o2} {o3} {p} {b} {i} {k} {r} x q is_so on s1 a s2) =
-      let h = follows a in
+  follows f (wrapped_passed {T} {U} {o} {o1} {o2} {o3} {p} {b} {i} {k} {r} x q is_so on s1 a s2) =
+      let h = follows (fit (prog.program i) (prog.programs_call i)) a in
       let tail : List (Event O) = event p (closes b (U p)) ∷ [] in
       record {
         events = event (spot p x.0) x.1 ∷ (h.events ++ tail);
-        chain = more s1 (chain-append step h.chain (more s2 none));
+        chain = λ cs. plain_more step (plain_open b T p x is_so) s1 (chain-append step (called_on step (prog.program i) (prog.programs_call i) (h.chain cs)) (plain_more step (closes_plain b (U p)) s2 none));
         runs = λ y. Derives.wrapped_passed _ p b i k x (ahead (effect (spot p x.0) x.1 T) (h.events ++ tail) y) (ahead U tail y) (ahead (effect p (closes b (U p)) U) [] y) r q
             (opened b T p x is_so (h.events ++ tail) y) on (next T (spot p x.0) x.1 (h.events ++ tail) y)
             (first (effect (spot p x.0) x.1 T) U p (prog.program i) r h.events tail y (h.runs (later tail y)))
             (next U p (closes b (U p)) [] y);
       }
-  follows (too_deep {T} {V} {o} {u} {z} {p} {b} {i} {k} {r} x is_so deep s t) =
-      let g = follows t in
+  follows f (too_deep {T} {V} {o} {u} {z} {p} {b} {i} {k} {r} x is_so deep s t) =
+      let g = follows (fit (k (refusal Depth)) (f (refusal Depth))) t in
       record {
         events = event (spot p x.0) x.1 ∷ g.events;
-        chain = more s g.chain;
+        chain = λ cs. plain_more step (plain_open b T p x is_so) s (called_on step (k (refusal Depth)) (f (refusal Depth)) (g.chain cs));
         runs = λ y. Derives.too_deep _ p b i k x (ahead (effect (spot p x.0) x.1 T) g.events y) _ _ (opened b T p x is_so g.events y) deep (next T (spot p x.0) x.1 g.events y) (g.runs y);
       }
-  follows (shut {T} {o} {u} {p} {b} {i} {k} {r} x is_so off s) =
+  follows f (shut {T} {o} {u} {p} {b} {i} {k} {r} x is_so off s) =
       record {
         events = event (spot p x.0) x.1 ∷ [];
-        chain = more s none;
+        chain = λ cs. plain_more step (plain_open b T p x is_so) s none;
         runs = λ y. Derives.shut _ p b i k x r (ahead (effect (spot p x.0) x.1 T) [] y) (opened b T p x is_so [] y) off (next T (spot p x.0) x.1 [] y);
       }
-  follows (called {T} {U} {V} {o} {o1} {o2} {o3} {o4} {o5} {z} {p} {h} {down} {i} {lost} {k} {s} {r} {c} a t e there s1 s2 m s3 so s4 n) =
-      let f = follows m in
-      let g = follows n in
+  follows calls (called {T} {U} {V} {o} {o1} {o2} {o3} {o4} {o5} {z} {p} {h} {down} {i} {lost} {k} {s} {r} {c} a t e there s1 s2 m s3 so s4 n) =
+      let f = follows (fit (entering prog (T t) i) (entering_calls prog (T t) i)) m in
+      let g = follows (fit (k (Finished c)) (calls (Finished c))) n in
       let last : List (Event O) = event p (Back h (Replied (carried h p down s))) ∷ g.events in
       let tail : List (Event O) = event t (Done (Some (length down)) s) ∷ last in
       record {
         events = event p (Out h down i) ∷ event t (In (Some (length down)) i) ∷ (f.events ++ tail);
-        chain = more s1 (more s2 (chain-append step f.chain (more s3 (more s4 g.chain))));
+        chain = λ cs. goes_within step e s1 (more s2 (chain-append step (called_on step (entering prog (T t) i) (entering_calls prog (T t) i) (f.chain cs)) (more s3 (back_within step e s4 (called_on step (k (Finished c)) (calls (Finished c)) (g.chain cs))))));
         runs = λ y. Derives.called _ p h down i lost k a t (ahead T (event t (In (Some (length down)) i) ∷ (f.events ++ tail)) y) (ahead T (f.events ++ tail) y) (ahead U tail y) (ahead U last y) (ahead U g.events y) _ s c _ e
             (next T p (Out h down i) (event t (In (Some (length down)) i) ∷ (f.events ++ tail)) y) there (next T t (In (Some (length down)) i) (f.events ++ tail) y)
             (first T U t (entering prog (T t) i) s f.events tail y (f.runs (later tail y)))
             (next U t (Done (Some (length down)) s) last y) so (next U p (Back h (Replied (carried h p down s))) g.events y) (g.runs y);
       }
-  follows (called_passed {T} {U} {o} {o1} {o2} {o3} {o4} {o5} {p} {h} {down} {i} {lost} {k} {s} {r} a t e there s1 s2 m s3 so q s4) =
-      let f = follows m in
+  follows calls (called_passed {T} {U} {o} {o1} {o2} {o3} {o4} {o5} {p} {h} {down} {i} {lost} {k} {s} {r} a t e there s1 s2 m s3 so q s4) =
+      let f = follows (fit (entering prog (T t) i) (entering_calls prog (T t) i)) m in
       let last : List (Event O) = event p (Back h (Replied (carried h p down s))) ∷ [] in
       let tail : List (Event O) = event t (Done (Some (length down)) s) ∷ last in
       record {
         events = event p (Out h down i) ∷ event t (In (Some (length down)) i) ∷ (f.events ++ tail);
-        chain = more s1 (more s2 (chain-append step f.chain (more s3 (more (subst (λ l. step U o4 None (event p (Back h (Replied l))) o5) (sym so) s4) none))));
+        chain = λ cs. goes_within step e s1 (more s2 (chain-append step (called_on step (entering prog (T t) i) (entering_calls prog (T t) i) (f.chain cs)) (more s3 (back_within step e (subst (λ l. step U o4 None (event p (Back h (Replied l))) o5) (sym so) s4) none))));
         runs = λ y. subst (λ l. Derives prog (ahead T (event p (Out h down i) ∷ event t (In (Some (length down)) i) ∷ (f.events ++ tail)) y) p (call h down i lost k) (ahead U [] y) (Some l)) so
             (Derives.called_passed _ p h down i lost k a t (ahead T (event t (In (Some (length down)) i) ∷ (f.events ++ tail)) y) (ahead T (f.events ++ tail) y) (ahead U tail y) (ahead U last y) (ahead U [] y) s e
             (next T p (Out h down i) (event t (In (Some (length down)) i) ∷ (f.events ++ tail)) y) there (next T t (In (Some (length down)) i) (f.events ++ tail) y)
             (first T U t (entering prog (T t) i) s f.events tail y (f.runs (later tail y)))
             (next U t (Done (Some (length down)) s) last y) (subst IsQuit (sym so) q) (next U p (Back h (Replied (carried h p down s))) [] y));
       }
-  follows (unreached {T} {V} {o} {o1} {o2} {z} {p} {h} {down} {i} {lost} {k} {r} a e there s1 s2 t) =
-      let g = follows t in
+  follows calls (unreached {T} {V} {o} {o1} {o2} {z} {p} {h} {down} {i} {lost} {k} {r} a e there s1 s2 t) =
+      let g = follows (fit (k (Finished lost)) (calls (Finished lost))) t in
       let tail : List (Event O) = event p (Back h (Replied (Completed lost))) ∷ g.events in
       record {
         events = event p (Out h down i) ∷ tail;
-        chain = more s1 (more s2 g.chain);
+        chain = λ cs. goes_within step e s1 (back_within step e s2 (called_on step (k (Finished lost)) (calls (Finished lost)) (g.chain cs)));
         runs = λ y. Derives.unreached _ p h down i lost k a (ahead T tail y) (ahead T g.events y) _ _ e (next T p (Out h down i) tail y) there (next T p (Back h (Replied (Completed lost))) g.events y) (g.runs y);
       }
-  follows (called_out {T} {V} {o} {u} {z} {p} {h} {down} {i} {lost} {k} {r} e s t) =
-      let g = follows t in
+  follows calls (called_out {T} {V} {o} {u} {z} {p} {h} {down} {i} {lost} {k} {r} e s t) =
+      let g = follows calls t in
       record {
         events = event p (Out h down i) ∷ g.events;
-        chain = more s g.chain;
+        chain = λ cs. goes_out step e s (g.chain cs);
         runs = λ y. Derives.called_out _ p h down i lost k (ahead T g.events y) _ _ e (next T p (Out h down i) g.events y) (g.runs y);
       }
-  follows (answered {T} {V} {o} {u} {z} {p} {s} {k} {c} {r} e fit j t) =
-      let g = follows t in
+  follows calls (answered {T} {V} {o} {u} {z} {p} {s} {k} {c} {r} e own j t) =
+      let g = follows (fit (k (Finished c)) (calls (Finished c))) t in
       record {
         events = event p (Back (height_of s) (Replied (Completed c))) ∷ g.events;
-        chain = more j g.chain;
-        runs = λ y. Derives.answered _ p s k c (ahead T g.events y) _ _ e fit (next T p (Back (height_of s) (Replied (Completed c))) g.events y) (g.runs y);
+        chain = λ cs. replied step s p e (Replied (Completed c)) own j (called_on step (k (Finished c)) (calls (Finished c)) (g.chain cs));
+        runs = λ y. Derives.answered _ p s k c (ahead T g.events y) _ _ e own (next T p (Back (height_of s) (Replied (Completed c))) g.events y) (g.runs y);
       }
-  follows (heard {T} {V} {o} {u} {z} {p} {s} {k} {a} {r} e fit j t) =
-      let g = follows t in
+  follows calls (heard {T} {V} {o} {u} {z} {p} {s} {k} {a} {r} e own j t) =
+      let g = follows (fit (k (Told a)) (calls (Told a))) t in
       record {
         events = event p (Back (height_of s) (Heard a)) ∷ g.events;
-        chain = more j g.chain;
-        runs = λ y. Derives.heard _ p s k a (ahead T g.events y) _ _ e fit (next T p (Back (height_of s) (Heard a)) g.events y) (g.runs y);
+        chain = λ cs. replied step s p e (Heard a) own j (called_on step (k (Told a)) (calls (Told a)) (g.chain cs));
+        runs = λ y. Derives.heard _ p s k a (ahead T g.events y) _ _ e own (next T p (Back (height_of s) (Heard a)) g.events y) (g.runs y);
       }
-  follows (answered_passed {T} {o} {u} {p} {s} {k} {r} q e fit j) =
+  follows calls (answered_passed {T} {o} {u} {p} {s} {k} {r} q e own j) =
       record {
         events = event p (Back (height_of s) (Replied r)) ∷ [];
-        chain = more j none;
-        runs = λ y. Derives.answered_passed _ p s k r (ahead T [] y) q e fit (next T p (Back (height_of s) (Replied r)) [] y);
+        chain = λ cs. replied step s p e (Replied r) own j none;
+        runs = λ y. Derives.answered_passed _ p s k r (ahead T [] y) q e own (next T p (Back (height_of s) (Replied r)) [] y);
       }
-  follows (entered {T} {U} {V} {o} {o1} {o2} {o3} {z} {p} {s} {k} {y = j} {r} t i e s1 m s2 calm n) =
-      let f = follows m in
-      let g = follows n in
+  follows calls (entered {T} {U} {V} {o} {o1} {o2} {o3} {z} {p} {s} {k} {y = j} {r} t i e s1 m s2 calm n) =
+      let f = follows (fit (entering prog (T t) i) (entering_calls prog (T t) i)) m in
+      let g = follows calls n in
       let tail : List (Event O) = event t (Done None j) ∷ g.events in
       record {
         events = event t (In None i) ∷ (f.events ++ tail);
-        chain = more s1 (chain-append step f.chain (more s2 g.chain));
+        chain = λ cs. more s1 (chain-append step (called_on step (entering prog (T t) i) (entering_calls prog (T t) i) (f.chain (pending s cs))) (more s2 (g.chain cs)));
         runs = λ y. Derives.entered _ p s k t i (ahead T (f.events ++ tail) y) (ahead U tail y) (ahead U g.events y) _ j _ e
             (next T t (In None i) (f.events ++ tail) y) (first T U t (entering prog (T t) i) j f.events tail y (f.runs (later tail y))) (next U t (Done None j) g.events y) calm (g.runs y);
       }
-  follows (entered_exiting {T} {U} {o} {o1} {o2} {o3} {o4} {p} {c} {k} {n} t i e s1 m s2 s3) =
-      let f = follows m in
+  follows calls (entered_exiting {T} {U} {o} {o1} {o2} {o3} {o4} {p} {c} {k} {n} t i e s1 m s2 s3) =
+      let f = follows (fit (entering prog (T t) i) (entering_calls prog (T t) i)) m in
       let last : List (Event O) = event p (Back c.0 (Replied (Exit n))) ∷ [] in
       let tail : List (Event O) = event t (Done None (Exit n)) ∷ last in
       record {
         events = event t (In None i) ∷ (f.events ++ tail);
-        chain = more s1 (chain-append step f.chain (more s2 (more s3 none)));
+        chain = λ cs. more s1 (chain-append step (called_on step (entering prog (T t) i) (entering_calls prog (T t) i) (f.chain (c ∷ cs))) (more s2 (comes_back step e s3 none)));
         runs = λ y. Derives.entered_exiting _ p (Some c) k t i (ahead T (f.events ++ tail) y) (ahead U tail y) (ahead U last y) (ahead U [] y) n (Some (Exit n)) e
             (next T t (In None i) (f.events ++ tail) y) (first T U t (entering prog (T t) i) (Exit n) f.events tail y (f.runs (later tail y))) (next U t (Done None (Exit n)) last y)
             (exit_answer (ahead U last y) p (Some c) n (ahead U [] y) e (is_exit_self n) (next U p (Back c.0 (Replied (Exit n))) [] y));
       }
 
-  pub makes : {T V : Tree O} {o z : S} {p : Place} {x : Prog O I} {r : Reply} → Executes step prog T o p x V z r → Makes step prog T o p x V z r
-  makes {T} {V} {o} {z} {p} {x} {r} t =
-      let h = follows t in
+  pub makes : {T V : Tree O} {o z : S} {p : Place} {x : Prog O I} {r : Reply} → Fits x → Executes step prog T o p x V z r → Makes step prog T o p x V z r
+  makes {T} {V} {o} {z} {p} {x} {r} f t =
+      let h = follows f t in
       record {
         events = h.events;
-        chain = h.chain;
+        chain = h.chain [];
         runs = subst (λ w. Runs prog w p x (before V []) (Some r)) (ahead-all T h.events) (derived_runs prog (h.runs nothing));
       }

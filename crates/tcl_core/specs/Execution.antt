@@ -14,7 +14,8 @@ use Rattle.tcl_core.specs.Trees.{Tree, Node, What, Event, Grant, effect, granted
 use Rattle.tcl_core.specs.Trees.Grants.{Listed}
 use Rattle.tcl_core.specs.Trees.What.{Charged, Refused, Dropped, Out, In, Done, Back}
 use Rattle.tcl_core.specs.Trees.Move.{Come}
-use Rattle.tcl_core.specs.Programs.{Deed, spot, Act, Wrap, Wait, Prog, Table, decide, opens, closes}
+use Rattle.tcl_core.specs.Programs.{Calls_only, Deed, spot, Act, Wrap, Wait, Prog, Table, decide}
+use Rattle.tcl_core.specs.Programs.{opens, closes}
 use Rattle.tcl_core.specs.Programs.Next.{On, TooDeep, Off}
 use Rattle.tcl_core.specs.Programs.Prog.{done, exit, act, go, inside, call, wait}
 use Rattle.tcl_core.specs.Runs.{World, Runs, carried, reached, entering, fits, height_of}
@@ -175,24 +176,76 @@ pub record Crossings {O S : Type 0} (goes : Tree O → S → Wait → Event O �
     (o : S) (s : Wait) (ev : Event O) (u : S) : Type 0 where
   pub told : hears goes T o s ev.place ev.what u
 
--- the outside goes through these happenings, by which the tree comes from one to the other
-pub data Chain {O S : Type 0} (step : Tree O → S → Wait → Event O → S → Type 0) : Tree O → S →
-    List (Event O) → Tree O → S → Type 0 where
-  none : {T : Tree O} {o : S} → Chain step T o [] T o
-  more : {T V : Tree O} {o u z : S} {s : Wait} {ev : Event O} {τ : List (Event O)} →
-      step T o s ev u → Chain step (effect ev.place ev.what T) u τ V z → Chain step T o (ev ∷ τ) V z
+-- ## The calls that are open
+
+-- The calls that left the tree and are open, the last one first: each is answered before one that
+-- was made earlier.
+abbrev pub Open : Type 0
+Open = List (Height × Entry)
+
+abbrev pub with_call : Option Place → Height × Entry → Open → Open
+with_call None c cs = c ∷ cs
+with_call (Some a) c cs = cs
+
+abbrev pub without_call : Option Place → Open → Open
+without_call None [] = []
+without_call None (c ∷ cs) = cs
+without_call (Some a) cs = cs
+
+abbrev pub last_call : Option Place → Open → Wait
+last_call None [] = None
+last_call None (c ∷ cs) = Some c
+last_call (Some a) cs = None
+
+module _ {O : Type 0} where
+  -- the call that a happening answers: an answer from outside is one to the last that is open
+  abbrev pub answers_to : Place → What O → Open → Wait
+  answers_to p (Back h a) cs = last_call (rise_to h p) cs
+  answers_to p x cs = None
+
+  -- which are open after it
+  abbrev pub calls_after : Place → What O → Open → Open
+  calls_after p (Out h down i) cs = with_call (rise_to h p) (h, i) cs
+  calls_after p (Back h a) cs = without_call (rise_to h p) cs
+  calls_after p x cs = cs
+
+-- where a program waits for an answer, its call is open
+abbrev pub pending : Wait → Open → Open
+pending None cs = cs
+pending (Some c) cs = c ∷ cs
+
+module _ {O I : Type 0} where
+  abbrev pub waits_for : Prog O I → Wait
+  waits_for (wait s k) = s
+  waits_for x = None
+
+  -- a program that calls only, or one that waits for an answer and then calls only
+  abbrev pub Fits : Prog O I → Type 0
+  Fits (wait s k) = (a : Said) → Calls_only (k a)
+  Fits x = Calls_only x
+
+-- The outside goes through these happenings, by which the tree comes from one to the other, and the
+-- calls that are open: an answer from outside comes with the call that it answers, all else with
+-- none.
+pub data Chain {O S : Type 0} (step : Tree O → S → Wait → Event O → S → Type 0) : Open → Tree O →
+    S → List (Event O) → Open → Tree O → S → Type 0 where
+  none : {cs : Open} {T : Tree O} {o : S} → Chain step cs T o [] cs T o
+  more : {cs ds : Open} {T V : Tree O} {o u z : S} {ev : Event O} {τ : List (Event O)} →
+      step T o (answers_to ev.place ev.what cs) ev u →
+      Chain step (calls_after ev.place ev.what cs) (effect ev.place ev.what T) u τ ds V z →
+      Chain step cs T o (ev ∷ τ) ds V z
 
 -- the world in which just this is yet to happen
 abbrev pub before : {O : Type 0} → Tree O → List (Event O) → World O
 before T τ = record { tree = T; moves = moves_of τ; grants = grants_of τ; tape = τ }
 
 -- Some happenings take the outside from one state to the other and the tree with it, and a run over
--- their tape does.
+-- their tape does. Where the program waits for an answer, its call is the one that is open.
 pub record Makes {O I S : Type 0} (step : Tree O → S → Wait → Event O → S → Type 0)
     (prog : Table O I) (T : Tree O) (o : S) (p : Place) (x : Prog O I) (V : Tree O) (z : S)
     (r : Reply) : Type 0 where
   pub events : List (Event O)
-  pub chain : Chain step T o events V z
+  pub chain : Chain step (pending (waits_for x) []) T o events [] V z
   pub runs : Runs prog (before T events) p x (before V []) (Some r)
 
 -- the depth of the top, and how many levels there may be

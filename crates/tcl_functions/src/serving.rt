@@ -4,10 +4,11 @@ ghost use Rattle.std.specs.Prelude.{OnOk};
 ghost use Rattle.tcl_core.specs.Paths.{Path};
 ghost use Rattle.tcl_functions.specs.Actions.{action_of};
 ghost use Rattle.tcl_functions.specs.Actions.ActionView.{Enters};
-ghost use Rattle.tcl_functions.specs.Serving.{Begins, ClosesByExit, EndsSo, IsSpent, Reopens};
-ghost use Rattle.tcl_functions.specs.Serving.{Serves, TakesReply, going, most_entries};
+ghost use Rattle.tcl_functions.specs.Replies.{seen};
+ghost use Rattle.tcl_functions.specs.Serving.{Begins, ClosesByExit, EndsSo, HearsEnd, IsSpent};
+ghost use Rattle.tcl_functions.specs.Serving.{Reopens, Serves, TakesReply, going, most_entries};
 ghost use Rattle.tcl_flow.specs.View.{completion_of};
-ghost use Rattle.tcl_run.specs.Ends.{Interrupts};
+ghost use Rattle.tcl_run.specs.Ends.{IfEnded, Interrupts};
 ghost use Rattle.tcl_run.specs.Entering.{whole_entry};
 ghost use Rattle.tcl_run.specs.Outsides.{OnEntry};
 ghost use Rattle.tcl_tree.specs.TreeOf.{Names};
@@ -22,7 +23,7 @@ use tcl_host::host::{Host, ask};
 use tcl_run::entry::Entry;
 use tcl_run::failure::{no_interpreter, plain_failure};
 use tcl_run::interruption::Interruption;
-use tcl_run::outside::{Outside, Turn};
+use tcl_run::outside::{Happening, Outside, Turn};
 use tcl_text::text::Text;
 use tcl_tree::tree::{Place, Tree};
 use tcl_value::value::Value;
@@ -141,6 +142,25 @@ impl<F: Functions, H: Host> WithFunctions<F, H> {
         Ok(())
     }
 
+    /// An entry ended so that a function handed in.
+    fn hear_end(
+        &mut self,
+        alloc: Global,
+        ended: &Result<Value, Interruption>,
+    ) -> Result<(), AllocError>
+        ensures hears { OnOk result
+            (IfEnded ended.now (λ r. HearsEnd (seen r) self.old self.new)) }
+        ensures left { self.new.entries ≤ self.old.entries }
+    {
+        match reply_of(alloc, ended)? {
+            Some(reply) => self.add_reply(reply),
+            None => {
+                self.exits = true;
+                Ok(())
+            }
+        }
+    }
+
     /// The last open call ends with its entry, which ended by an exit.
     fn close(&mut self) -> Result<(), AllocError>
         ensures closes { OnOk result (ClosesByExit self.old self.new) }
@@ -231,66 +251,28 @@ impl<F: Functions, H: Host> Outside for WithFunctions<F, H> {
 
     fn refuses_step(&mut self) {}
 
-    fn drops(
-        &mut self,
-        _alloc: Global,
-        _tree: &Tree,
-        _parent: Place,
-        _name: &Text,
-    ) -> Result<(), AllocError> {
-        Ok(())
-    }
-
-    fn enters(
-        &mut self,
-        _alloc: Global,
-        _tree: &Tree,
-        _caller: Place,
-        _up: usize,
-        _down: &[Text],
-        _entry: &Entry,
-    ) -> Result<(), AllocError> {
-        Ok(())
-    }
-
-    fn returns(
-        &mut self,
-        _alloc: Global,
-        _tree: &Tree,
-        _caller: Place,
-        _up: usize,
-        _down: &[Text],
-        _ended: &Result<Value, Interruption>,
-        _told: &Result<Value, Interruption>,
-    ) -> Result<(), AllocError> {
-        Ok(())
-    }
-
-    fn misses(
-        &mut self,
-        _alloc: Global,
-        _tree: &Tree,
-        _caller: Place,
-        _up: usize,
-        _down: &[Text],
-        _entry: &Entry,
-        _told: &Result<Value, Interruption>,
-    ) -> Result<(), AllocError> {
-        Ok(())
-    }
-
-    fn passes_top(
+    fn notify(
         &mut self,
         alloc: Global,
         tree: &Tree,
-        caller: Place,
-        up: Option<usize>,
-        _down: &[Text],
-        entry: &Entry,
+        happening: Happening<'_>,
     ) -> Result<(), AllocError> {
-        match up {
-            Some(_) => self.begin(alloc, tree, caller, entry),
-            None => Ok(()),
+        match happening {
+            Happening::PassedTop {
+                caller,
+                up,
+                entry,
+                ..
+            } => match up {
+                Some(_) => self.begin(alloc, tree, caller, entry),
+                None => Ok(()),
+            },
+            Happening::EntryDone { ended, .. } => self.hear_end(alloc, ended),
+            Happening::ExitCameBack { up, .. } => match up {
+                Some(_) => self.close(),
+                None => Err(AllocError),
+            },
+            _ => Ok(()),
         }
     }
 
@@ -308,37 +290,6 @@ impl<F: Functions, H: Host> Outside for WithFunctions<F, H> {
             }
             (None, _) => Err(no_interpreter(alloc, "")),
             (Some(_), _) => self.serve(alloc),
-        }
-    }
-
-    fn entry_leaves(
-        &mut self,
-        alloc: Global,
-        _tree: &Tree,
-        _target: &[Text],
-        ended: &Result<Value, Interruption>,
-    ) -> Result<(), AllocError> {
-        match reply_of(alloc, ended)? {
-            Some(reply) => self.add_reply(reply),
-            None => {
-                self.exits = true;
-                Ok(())
-            }
-        }
-    }
-
-    fn exit_comes_back(
-        &mut self,
-        _alloc: Global,
-        _tree: &Tree,
-        _caller: Place,
-        up: Option<usize>,
-        _entry: &Entry,
-        _status: i64,
-    ) -> Result<(), AllocError> {
-        match up {
-            Some(_) => self.close(),
-            None => Err(AllocError),
         }
     }
 }

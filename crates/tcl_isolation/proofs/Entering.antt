@@ -4,13 +4,14 @@ use Rattle.tcl_core.specs.Endings.{Reply}
 use Rattle.tcl_core.specs.Entries.{Entry}
 use Rattle.tcl_core.specs.Laws.{IsSpared}
 use Rattle.tcl_core.specs.Paths.{Path, Place}
-use Rattle.tcl_core.specs.Programs.{Table, Wait}
+use Rattle.tcl_core.specs.Programs.{Prog, Table, Wait}
 use Rattle.tcl_core.specs.Runs.{entering}
 use Rattle.tcl_core.specs.Execution.{Crossings, Executes, event}
 use Rattle.tcl_core.specs.Trees.{Event, Tree}
 use Rattle.tcl_core.specs.Trees.Grants.{Listed}
 use Rattle.tcl_core.specs.Trees.What.{Done}
-use Rattle.tcl_core.proofs.Following.{Rest, Says, ahead, allowed-all, allowed-append, follows, handed-all, handed-append}
+use Rattle.tcl_core.proofs.Callers.{entering_calls, fit}
+use Rattle.tcl_core.proofs.Following.{Rest, Says, ahead, allowed-all, allowed-append, called_on, follows, handed-all, handed-append}
 use Rattle.tcl_core.proofs.RuleLaws.{derived_runs}
 use Rattle.tcl_recorder.specs.Boundary.{boundary}
 use Rattle.tcl_isolation.specs.Visits.{WatchedVisit, visit}
@@ -23,7 +24,9 @@ module _ {O I S : Type 0} (goes : Tree O → S → Wait → Event O → S → Ty
   pub entry_visit : Executes (Crossings goes) prog T o t (entering prog (T t) i) V z r → (events : List (Event O)) × (IsSpared c (visit t i events r) → WatchedVisit goes prog T o t i c (boundary c (visit t i events r)) V z r)
   unfolding last
   entry_visit th =
-      let h : Says (Crossings goes) prog T o t (entering prog (T t) i) V z r = follows (Crossings goes) prog th in
+      let x : Prog O I = entering prog (T t) i in
+      let calls = entering_calls prog (T t) i in
+      let h : Says (Crossings goes) prog T o t (entering prog (T t) i) V z r = follows (Crossings goes) prog (fit x calls) th in
       let end : List (Event O) = event t (Done None r) ∷ [] in (
         h.events,
         λ spared. record {
@@ -40,7 +43,7 @@ module _ {O I S : Type 0} (goes : Tree O → S → Wait → Event O → S → Ty
             run = derived_runs prog (h.runs last);
             leaving = record { tape = refl; tree = refl; moves = refl; grants = refl };
           };
-          outside = h.chain;
+          outside = called_on (Crossings goes) x calls (h.chain []);
           recorded = refl;
           spared = spared;
         },

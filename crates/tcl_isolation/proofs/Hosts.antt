@@ -7,7 +7,7 @@ use Rattle.tcl_core.specs.Laws.{NoLeaving, turn}
 use Rattle.tcl_core.specs.Laws.Turn.{Enters}
 use Rattle.tcl_core.specs.Paths.{Path, Place, Height, rise_to}
 use Rattle.tcl_core.specs.Programs.{Table, Wait}
-use Rattle.tcl_core.specs.Execution.{Chain, Crossings, before, event, hears, more, none, passing}
+use Rattle.tcl_core.specs.Execution.{Chain, Crossings, Open, answers_to, before, event, hears, more, none, passing}
 use Rattle.tcl_core.specs.Trees.{Event, Tree, What, effect}
 use Rattle.tcl_core.specs.Trees.What.{Out, In, Done, Back, Refused}
 use Rattle.tcl_host.specs.declared.reply.HostReply.{HostReply}
@@ -49,9 +49,9 @@ module _ {S : Type 0} (step : S → Request → HostReply → S → Type 0) wher
   still T o s p (Refused m (Some n)) u f t = t
   still T o s p _ u f t = t
 
-  pub unasked : (T V : Tree Own) (o z : S) (τ : List (Event Own)) → AreUnheard τ → Chain (Crossings (hosted step)) T o τ V z → z ≡ o
+  pub unasked : {cs ds : Open} (T V : Tree Own) (o z : S) (τ : List (Event Own)) → AreUnheard τ → Chain (Crossings (hosted step)) cs T o τ ds V z → z ≡ o
   unasked T V o z [] f none = refl
-  unasked T V o z (ev ∷ τ) f (more {u = u} {s = s} a k) = unasked (effect ev.place ev.what T) V u z τ f.1 k ∙ still T o s ev.place ev.what u f.0 a.told
+  unasked {cs} T V o z (ev ∷ τ) f (more {u = u} a k) = unasked (effect ev.place ev.what T) V u z τ f.1 k ∙ still T o (answers_to ev.place ev.what cs) ev.place ev.what u f.0 a.told
 
   pub host_untouched : {I : Type 0} (prog : Table Own I) (T V : Tree Own) (o z : S) (u : Path) (i : Entry) (c : Place) (crossings : List (Event Own)) (r : Reply) →
       WatchedVisit (hosted step) prog T o (c ++ u) i c crossings V z r → CallsNobody crossings → z ≡ o
@@ -59,6 +59,6 @@ module _ {S : Type 0} (step : S → Request → HostReply → S → Type 0) wher
 
   -- from an entry into the subtree, or an answer to a call of it, to the next call or end that leaves it
   pub host_between : {I : Type 0} (prog : Table Own I) (T V : Tree Own) (o z : S) (t : Path) (i : Entry) (c : Place) (crossings : List (Event Own)) (r : Reply) (w : WatchedVisit (hosted step) prog T o t i c crossings V z r)
-      (first mid last : List (Event Own)) (ev : Event Own) (M N : Tree Own) (o1 o2 : S) → visit t i w.events r ≡ first ++ ev ∷ (mid ++ last) → turn c ev ≡ Enters → NoLeaving c mid → Chain (Crossings (hosted step)) M o1 mid N o2 → o2 ≡ o1
-  host_between prog T V o z t i c crossings r w first mid last ev M N o1 o2 e enters stays k =
+      (first mid last : List (Event Own)) (ev : Event Own) (cs ds : Open) (M N : Tree Own) (o1 o2 : S) → visit t i w.events r ≡ first ++ ev ∷ (mid ++ last) → turn c ev ≡ Enters → NoLeaving c mid → Chain (Crossings (hosted step)) cs M o1 mid ds N o2 → o2 ≡ o1
+  host_between prog T V o z t i c crossings r w first mid last ev cs ds M N o1 o2 e enters stays k =
       unasked M N o1 o2 mid (nothing_between prog c (before T (visit t i w.events r)) (before V []) None first mid last ev (life (hosted step) prog T V o z t i c crossings r w) refl e enters stays) k

@@ -9,7 +9,7 @@ use Rattle.tcl_core.specs.Lives.Outcome.{Finished}
 use Rattle.tcl_core.specs.Paths.{Path, Place}
 use Rattle.tcl_core.specs.Programs.{Table, Wait}
 use Rattle.tcl_core.specs.Runs.{entering}
-use Rattle.tcl_core.specs.Execution.{Chain, Crossings, Executes}
+use Rattle.tcl_core.specs.Execution.{Chain, Crossings, Executes, Open}
 use Rattle.tcl_core.specs.Trees.{Event, Move, Node, Tree, at}
 use Rattle.tcl_core.specs.Views.{moves_of, steps_of, view}
 use Rattle.tcl_host.specs.declared.reply.HostReply.{HostReply}
@@ -84,11 +84,11 @@ pub record QuietBetween {S : Type 0} (I : Type 0) (step : S → Request → Host
       rest (after mid (after (first ++ ev ∷ []) T)) c ≡ rest (after (first ++ ev ∷ []) T) c
   pub host : (prog : Table Own I) (T V : Tree Own) (o z : S) (t : Path) (i : Entry) (c : Place)
       (crossings : List (Event Own)) (r : Reply) (first mid last : List (Event Own))
-      (ev : Event Own) (m : Move Own) (M N : Tree Own) (o1 o2 : S) →
+      (ev : Event Own) (m : Move Own) (cs ds : Open) (M N : Tree Own) (o1 o2 : S) →
       (w : WatchedVisit (hosted step) prog T o t i c crossings V z r) →
       visit t i w.events r ≡ first ++ ev ∷ (mid ++ last) →
       moves_of (boundary c (ev ∷ [])) ≡ m ∷ [] → outs_of (boundary c mid) ≡ [] →
-      Chain (Crossings (hosted step)) M o1 mid N o2 → o2 ≡ o1
+      Chain (Crossings (hosted step)) cs M o1 mid ds N o2 → o2 ≡ o1
 
 -- Where the evaluation is in the watched subtree and nobody there calls outside it, all outside it
 -- is afterwards what it was.

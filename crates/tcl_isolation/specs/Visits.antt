@@ -41,6 +41,6 @@ pub record WatchedVisit {O I S : Type 0} (goes : Tree O → S → Wait → Event
   pub events : List (Event O)
   pub visits : Visits prog (Runs prog) (before T (visit t i events r)) None t i (before V [])
       (Some r)
-  pub outside : Chain (Crossings goes) T o events V z
+  pub outside : Chain (Crossings goes) [] T o events [] V z
   pub recorded : crossings ≡ boundary c (visit t i events r)
   pub spared : IsSpared c (visit t i events r)

@@ -54,7 +54,18 @@ pub fn set_element(
     if put_in_place(alloc, style, own, path, &value) {
         return Ok(());
     }
-    set_element_anew(alloc, style, own, path, value)
+    // Here the lists inside the outermost one are copied.
+    match path {
+        [] => {
+            *own = value;
+            Ok(())
+        }
+        [index, rest @ ..] => {
+            let (place, inner) = find_in(alloc, style, own, index)?;
+            let inner = element_changed(alloc, style, inner, rest, value)?;
+            put_element(alloc, own, place, inner)
+        }
+    }
 }
 
 /// Puts a value at a path of several indexes, where each list on the way is kept as one. Says
@@ -102,32 +113,6 @@ fn find_places(
     }
     let mut inner = inner;
     find_places(alloc, style, &mut inner, rest, places)
-}
-
-/// Puts a value at a path of indexes, where the lists inside the outermost one are copied.
-fn set_element_anew(
-    alloc: Global,
-    style: Integers,
-    own: &mut Value,
-    path: &[Value],
-    value: Value,
-) -> Result<(), NestedError>
-    ensures changed { OnOk result (element_changed style path.now value own.old ≡ Ok own.new) }
-    ensures refused { IfErr result
-        (λ e. RefusesText e (element_changed style path.now value own.old)) }
-    ensures unchanged { OnErr result (own.new ≡ own.old) }
-{
-    match path {
-        [] => {
-            *own = value;
-            Ok(())
-        }
-        [index, rest @ ..] => {
-            let (place, inner) = find_in(alloc, style, own, index)?;
-            let inner = element_changed(alloc, style, inner, rest, value)?;
-            put_element(alloc, own, place, inner)
-        }
-    }
 }
 
 /// Gives a value to a path of keys: the first is a key of the dict that a value reads as, the next

@@ -1,7 +1,9 @@
 -- What is told of a program until it is given up is what its runs begin with.
 use Rattle.std.proofs.Common.{◌≡◌, true, List, [], ◌∷◌, ◌++◌, Option, Some, None, length, refl, sym, ap, subst, append-nil}
 use Rattle.tcl_core.specs.Paths.{Path, Place, Height, rise_to}
-use Rattle.tcl_core.specs.Endings.{Completion, Reply}
+use Rattle.tcl_core.specs.Endings.{Completion, Reply, refusal}
+use Rattle.tcl_core.specs.Endings.Meter.{Depth}
+use Rattle.tcl_core.specs.Entries.Said.{Finished, Told}
 use Rattle.tcl_core.specs.Endings.Reply.{Completed, Stop, Exit, Cut}
 use Rattle.tcl_core.specs.Entries.{Entry, Answer, Said}
 use Rattle.tcl_core.specs.Entries.Answer.{Replied, Heard}
@@ -14,9 +16,11 @@ use Rattle.tcl_core.specs.Programs.Next.{On, TooDeep, Off}
 use Rattle.tcl_core.specs.Programs.Prog.{act, go, inside, call, wait}
 use Rattle.tcl_core.specs.Runs.{World, Ending, Runs, Then, Closes, Acted, Acts, Opened, Opens, Hears, Answered, Leaves, Visits, Returns, Reaches, Calls, Stays, Fitting, Waits, carried, reached, entering, fits, height_of}
 use Rattle.tcl_core.specs.Rules.{IsOn, IsNoExit}
-use Rattle.tcl_core.specs.Execution.{Executes, Chain, none, more, Decides, Opens_so, event}
+use Rattle.tcl_core.specs.Execution.{Executes, Chain, Open, none, more, Decides, Opens_so, event, pending, with_call}
 use Rattle.tcl_core.proofs.Folding.{unroll}
-use Rattle.tcl_core.proofs.Following.{chain-append}
+use Rattle.tcl_core.proofs.Callers.{Fits, entering_calls, fit}
+use Rattle.tcl_core.proofs.Following.{back_within, called_on, chain-append, goes_out, goes_within, plain_deed, plain_more, plain_open, replied, waiting}
+use Rattle.tcl_core.proofs.Plain.{closes_plain}
 use Rattle.tcl_partial_runs.specs.Beginnings.{Begun, handed, handing, Begins, BeginsEach}
 use Rattle.tcl_partial_runs.specs.Beginnings.Begun.{stopped, ended, acted, going, went, within, wrapped, too_deep, calling_out, calling, returning, called, unreached, called_out, answered, heard, entering_in, leaving, left, entered}
 use Rattle.tcl_partial_runs.proofs.Worlds.{Suits, suits_after, suits_next, decided, opened, after_step, after_run, Whole}
@@ -132,144 +136,156 @@ module _ {O I S : Type 0} (step : Tree O → S → Wait → Event O → S → Ty
   pub record Goes (T : Tree O) (o : S) (p : Place) (x : Prog O I) (z : S) : Type 0 where
     pub told : List (Event O)
     pub last : Tree O
-    pub chain : Chain step T o told last z
+    -- the calls that are open by then, beside those that were
+    pub calls : Open → Open
+    pub chain : (cs : Open) → Chain step (waiting x cs) T o told (calls cs) last z
     pub leads : Leads prog T p x told
 
   -- what came to its end
-  over : {T V : Tree O} {o z : S} {p : Place} {x : Prog O I} {r : Reply} → Executes step prog T o p x V z r → Goes T o p x z
-  over {T} {V} {o} {z} {p} {x} {r} t = let h = came step prog t in record { told = h.events; last = V; chain = h.chain; leads = λ ms g su s v e run. over_so h.events ms g su s v e h.whole run }
+  over : {T V : Tree O} {o z : S} {p : Place} {x : Prog O I} {r : Reply} → Fits x → Executes step prog T o p x V z r → Goes T o p x z
+  over {T} {V} {o} {z} {p} {x} {r} f t = let h = came step prog f t in record { told = h.events; last = V; calls = λ cs. cs; chain = h.chain; leads = λ ms g su s v e run. over_so h.events ms g su s v e h.whole run }
     where
       over_so : (a : List (Event O)) (ms : List (Move O)) (g : Grants) → Suits g a → (s : List (Event O)) (v : World O) (e : Ending) → Whole prog T p x V r a → Runs prog (handing T a ms g s) p x v e → Begins s a
       over_so a ms g su s v e whole run =
           let same : a ++ [] ≡ a = append-nil a in
           subst (Begins s) same (after_run prog (λ u o. Unit {0}) T V p x r a [] ms g s v e whole (subst (Suits g) (sym same) su) (subst (λ l. Runs prog (handing T l ms g s) p x v e) (sym same) run) tt (λ l q. (l, refl)))
 
-  pub goes : {T : Tree O} {o z : S} {p : Place} {x : Prog O I} → Begun step prog T o p x z → Goes T o p x z
-  goes (stopped {T}) = record { told = []; last = T; chain = none; leads = λ ms g su t v e y. (t, refl) }
-  goes (ended t) = over t
-  goes (acted {T} {p = p} {d = d} {k = k} x is_so on s b) =
-      let h = goes b in
-      record { told = event (spot p x.0) x.1 ∷ h.told; last = h.last; chain = more s h.chain; leads = act_leads prog T p d k x h.told is_so on h.leads }
-  goes (going {T} {p = p} {i = i} {k = k} b) = let h = goes b in record { told = h.told; last = h.last; chain = h.chain; leads = go_leads prog T p i k h.told h.leads }
-  goes (went {T} {U} {p = p} {i = i} {k = k} {c = c} t b) =
-      let f = came step prog t in
-      let h = goes b in
-      record { told = f.events ++ h.told; last = h.last; chain = chain-append step f.chain h.chain; leads = went_leads prog T U p i k c f.events h.told f.whole h.leads }
-  goes (within {T} {p = p} {b = b} {i = i} {k = k} x is_so on s c) =
-      let h = goes c in
+  pub goes : {T : Tree O} {o z : S} {p : Place} {x : Prog O I} → Fits x → Begun step prog T o p x z → Goes T o p x z
+  goes f (stopped {T} {x = x}) = record { told = []; last = T; calls = λ cs. waiting x cs; chain = λ cs. none; leads = λ ms g su t v e y. (t, refl) }
+  goes f (ended t) = over f t
+  goes f (acted {T} {p = p} {d = d} {k = k} x is_so on s b) =
+      let h = goes (fit (k (at T p)) (f (at T p))) b in
+      record { told = event (spot p x.0) x.1 ∷ h.told; last = h.last; calls = h.calls; chain = λ cs. plain_more step (plain_deed d T p x is_so) s (called_on step (k (at T p)) (f (at T p)) (h.chain cs)); leads = act_leads prog T p d k x h.told is_so on h.leads }
+  goes f (going {T} {p = p} {i = i} {k = k} b) = let h = goes (fit (prog.program i) (prog.programs_call i)) b in record { told = h.told; last = h.last; calls = h.calls; chain = λ cs. called_on step (prog.program i) (prog.programs_call i) (h.chain cs); leads = go_leads prog T p i k h.told h.leads }
+  goes calls (went {T} {U} {p = p} {i = i} {k = k} {c = c} t b) =
+      let f = came step prog (fit (prog.program i) (prog.programs_call i)) t in
+      let h = goes (fit (k c) (calls c)) b in
+      record { told = f.events ++ h.told; last = h.last; calls = h.calls; chain = λ cs. chain-append step (called_on step (prog.program i) (prog.programs_call i) (f.chain cs)) (called_on step (k c) (calls c) (h.chain cs)); leads = went_leads prog T U p i k c f.events h.told f.whole h.leads }
+  goes f (within {T} {p = p} {b = b} {i = i} {k = k} x is_so on s c) =
+      let h = goes (fit (prog.program i) (prog.programs_call i)) c in
       let T2 : Tree O = effect (spot p x.0) x.1 T in
-      record { told = event (spot p x.0) x.1 ∷ h.told; last = h.last; chain = more s h.chain; leads = open_leads prog T p b i k x On h.told is_so on (within_leads prog T2 p b i k h.told h.leads) }
-  goes (wrapped {T} {U} {p = p} {b = b} {i = i} {k = k} {c = c} x is_so on s1 t s2 d) =
-      let f = came step prog t in
-      let h = goes d in
+      record { told = event (spot p x.0) x.1 ∷ h.told; last = h.last; calls = h.calls; chain = λ cs. plain_more step (plain_open b T p x is_so) s (called_on step (prog.program i) (prog.programs_call i) (h.chain cs)); leads = open_leads prog T p b i k x On h.told is_so on (within_leads prog T2 p b i k h.told h.leads) }
+  goes calls (wrapped {T} {U} {p = p} {b = b} {i = i} {k = k} {c = c} x is_so on s1 t s2 d) =
+      let f = came step prog (fit (prog.program i) (prog.programs_call i)) t in
+      let h = goes (fit (k c) (calls c)) d in
       let T2 : Tree O = effect (spot p x.0) x.1 T in
       let tail : List (Event O) = event p (closes b (U p)) ∷ h.told in
       record {
         told = event (spot p x.0) x.1 ∷ (f.events ++ tail);
         last = h.last;
-        chain = more s1 (chain-append step f.chain (more s2 h.chain));
+        calls = h.calls;
+        chain = λ cs. plain_more step (plain_open b T p x is_so) s1 (chain-append step (called_on step (prog.program i) (prog.programs_call i) (f.chain cs)) (plain_more step (closes_plain b (U p)) s2 (called_on step (k c) (calls c) (h.chain cs))));
         leads = open_leads prog T p b i k x On (f.events ++ tail) is_so on (wrapped_leads prog T2 U p b i k c f.events h.told f.whole h.leads);
       }
-  goes (too_deep {T} {p = p} {b = b} {i = i} {k = k} x is_so deep s c) =
-      let h = goes c in
-      record { told = event (spot p x.0) x.1 ∷ h.told; last = h.last; chain = more s h.chain; leads = open_leads prog T p b i k x TooDeep h.told is_so deep h.leads }
-  goes (calling_out {T} {p = p} {h = h} {down = down} {i = i} {lost = lost} {k = k} s) =
-      record { told = event p (Out h down i) ∷ []; last = T; chain = more s none; leads = out_leads prog T p h down i lost k (rise_to h p) [] refl (at_end prog T (λ u v e. Calls prog (Runs prog) u p h down i lost k (rise_to h p) v e)) }
-  goes (calling {T} {p = p} {h = h} {down = down} {i = i} {lost = lost} {k = k} a t e there s1 s2 b) =
-      let f = goes b in
+  goes f (too_deep {T} {p = p} {b = b} {i = i} {k = k} x is_so deep s c) =
+      let h = goes (fit (k (refusal Depth)) (f (refusal Depth))) c in
+      record { told = event (spot p x.0) x.1 ∷ h.told; last = h.last; calls = h.calls; chain = λ cs. plain_more step (plain_open b T p x is_so) s (called_on step (k (refusal Depth)) (f (refusal Depth)) (h.chain cs)); leads = open_leads prog T p b i k x TooDeep h.told is_so deep h.leads }
+  goes f (calling_out {T} {p = p} {h = h} {down = down} {i = i} {lost = lost} {k = k} s) =
+      record { told = event p (Out h down i) ∷ []; last = T; calls = with_call (rise_to h p) (h, i); chain = λ cs. more s none; leads = out_leads prog T p h down i lost k (rise_to h p) [] refl (at_end prog T (λ u v e. Calls prog (Runs prog) u p h down i lost k (rise_to h p) v e)) }
+  goes calls (calling {T} {p = p} {h = h} {down = down} {i = i} {lost = lost} {k = k} a t e there s1 s2 b) =
+      let f = goes (fit (entering prog (T t) i) (entering_calls prog (T t) i)) b in
       let tail : List (Event O) = event t (In (Some (length down)) i) ∷ f.told in
       record {
         told = event p (Out h down i) ∷ tail;
         last = f.last;
-        chain = more s1 (more s2 f.chain);
+        calls = f.calls;
+        chain = λ cs. goes_within step e s1 (more s2 (called_on step (entering prog (T t) i) (entering_calls prog (T t) i) (f.chain cs)));
         leads = reach_leads prog T p h down i lost k a (Some t) tail e there (λ ms g su l v o y. visit_leads prog T (Some (length down)) t i f.told f.leads ms g su l y.0 y.1 y.2);
       }
-  goes (returning {T} {U} {p = p} {h = h} {down = down} {i = i} {lost = lost} {k = k} {s = s} a t e there s1 s2 m s3) =
-      let f = came step prog m in
+  goes calls (returning {T} {U} {p = p} {h = h} {down = down} {i = i} {lost = lost} {k = k} {s = s} a t e there s1 s2 m s3) =
+      let f = came step prog (fit (entering prog (T t) i) (entering_calls prog (T t) i)) m in
       let tail : List (Event O) = event t (In (Some (length down)) i) ∷ (f.events ++ event t (Done (Some (length down)) s) ∷ []) in
       record {
         told = event p (Out h down i) ∷ tail;
         last = U;
-        chain = more s1 (more s2 (chain-append step f.chain (more s3 none)));
+        calls = λ cs. cs;
+        chain = λ cs. goes_within step e s1 (more s2 (chain-append step (called_on step (entering prog (T t) i) (entering_calls prog (T t) i) (f.chain cs)) (more s3 none)));
         leads = reach_leads prog T p h down i lost k a (Some t) tail e there
             (visited_leads prog T U (Some (length down)) t i s f.events [] (λ u o v y. Returns (Runs prog) u p h down k o v y) f.whole (at_end prog U (λ u v y. Returns (Runs prog) u p h down k (Some s) v y)));
       }
-  goes (called {T} {U} {p = p} {h = h} {down = down} {i = i} {lost = lost} {k = k} {s = s} {c = c} a t e there s1 s2 m s3 so s4 b) =
-      let f = came step prog m in
-      let n = goes b in
+  goes calls (called {T} {U} {p = p} {h = h} {down = down} {i = i} {lost = lost} {k = k} {s = s} {c = c} a t e there s1 s2 m s3 so s4 b) =
+      let f = came step prog (fit (entering prog (T t) i) (entering_calls prog (T t) i)) m in
+      let n = goes (fit (k (Finished c)) (calls (Finished c))) b in
       let last : List (Event O) = event p (Back h (Replied (carried h p down s))) ∷ n.told in
       let tail : List (Event O) = event t (In (Some (length down)) i) ∷ (f.events ++ event t (Done (Some (length down)) s) ∷ last) in
       record {
         told = event p (Out h down i) ∷ tail;
         last = n.last;
-        chain = more s1 (more s2 (chain-append step f.chain (more s3 (more s4 n.chain))));
+        calls = n.calls;
+        chain = λ cs. goes_within step e s1 (more s2 (chain-append step (called_on step (entering prog (T t) i) (entering_calls prog (T t) i) (f.chain cs)) (more s3 (back_within step e s4 (called_on step (k (Finished c)) (calls (Finished c)) (n.chain cs))))));
         leads = reach_leads prog T p h down i lost k a (Some t) tail e there
             (visited_leads prog T U (Some (length down)) t i s f.events last (λ u o v y. Returns (Runs prog) u p h down k o v y) f.whole
             (back_leads prog U p h k (Replied (carried h p down s)) n.told (λ ms g su l v y z. n.leads ms g su l v y (subst (λ r. Hears (Runs prog) (handing U n.told ms g l) p k (Replied r) v y) so z))));
       }
-  goes (unreached {T} {p = p} {h = h} {down = down} {i = i} {lost = lost} {k = k} a e there s1 s2 b) =
-      let n = goes b in
+  goes calls (unreached {T} {p = p} {h = h} {down = down} {i = i} {lost = lost} {k = k} a e there s1 s2 b) =
+      let n = goes (fit (k (Finished lost)) (calls (Finished lost))) b in
       let tail : List (Event O) = event p (Back h (Replied (Completed lost))) ∷ n.told in
       record {
         told = event p (Out h down i) ∷ tail;
         last = n.last;
-        chain = more s1 (more s2 n.chain);
+        calls = n.calls;
+        chain = λ cs. goes_within step e s1 (back_within step e s2 (called_on step (k (Finished lost)) (calls (Finished lost)) (n.chain cs)));
         leads = reach_leads prog T p h down i lost k a None tail e there (back_leads prog T p h k (Replied (Completed lost)) n.told n.leads);
       }
-  goes (called_out {T} {p = p} {h = h} {down = down} {i = i} {lost = lost} {k = k} e s b) =
-      let n = goes b in
-      record { told = event p (Out h down i) ∷ n.told; last = n.last; chain = more s n.chain; leads = out_leads prog T p h down i lost k None n.told e n.leads }
-  goes (answered {T} {p = p} {s = s} {k = k} {c = c} e fit j b) =
-      let n = goes b in
-      record { told = event p (Back (height_of s) (Replied (Completed c))) ∷ n.told; last = n.last; chain = more j n.chain; leads = answer_leads prog T p s k (Replied (Completed c)) n.told e fit n.leads }
-  goes (heard {T} {p = p} {s = s} {k = k} {a = a} e fit j b) =
-      let n = goes b in
-      record { told = event p (Back (height_of s) (Heard a)) ∷ n.told; last = n.last; chain = more j n.chain; leads = answer_leads prog T p s k (Heard a) n.told e fit n.leads }
-  goes (entering_in {T} {p = p} {s = s} {k = k} t i e s1 b) =
-      let n = goes b in
+  goes calls (called_out {T} {p = p} {h = h} {down = down} {i = i} {lost = lost} {k = k} e s b) =
+      let n = goes calls b in
+      record { told = event p (Out h down i) ∷ n.told; last = n.last; calls = n.calls; chain = λ cs. goes_out step e s (n.chain cs); leads = out_leads prog T p h down i lost k None n.told e n.leads }
+  goes calls (answered {T} {p = p} {s = s} {k = k} {c = c} e own j b) =
+      let n = goes (fit (k (Finished c)) (calls (Finished c))) b in
+      record { told = event p (Back (height_of s) (Replied (Completed c))) ∷ n.told; last = n.last; calls = n.calls; chain = λ cs. replied step s p e (Replied (Completed c)) own j (called_on step (k (Finished c)) (calls (Finished c)) (n.chain cs)); leads = answer_leads prog T p s k (Replied (Completed c)) n.told e own n.leads }
+  goes calls (heard {T} {p = p} {s = s} {k = k} {a = a} e own j b) =
+      let n = goes (fit (k (Told a)) (calls (Told a))) b in
+      record { told = event p (Back (height_of s) (Heard a)) ∷ n.told; last = n.last; calls = n.calls; chain = λ cs. replied step s p e (Heard a) own j (called_on step (k (Told a)) (calls (Told a)) (n.chain cs)); leads = answer_leads prog T p s k (Heard a) n.told e own n.leads }
+  goes calls (entering_in {T} {p = p} {s = s} {k = k} t i e s1 b) =
+      let n = goes (fit (entering prog (T t) i) (entering_calls prog (T t) i)) b in
       record {
         told = event t (In None i) ∷ n.told;
         last = n.last;
-        chain = more s1 n.chain;
+        calls = λ cs. n.calls (pending s cs);
+        chain = λ cs. more s1 (called_on step (entering prog (T t) i) (entering_calls prog (T t) i) (n.chain (pending s cs)));
         leads = entry_leads prog T p s k t i n.told (λ ms g su l v o y. visit_leads prog T None t i n.told n.leads ms g su l y.0 y.1 y.2);
       }
-  goes (leaving {T} {U} {p = p} {s = s} {k = k} {y = y} t i e s1 m) =
-      let n = over m in
+  goes calls (leaving {T} {U} {p = p} {s = s} {k = k} {y = y} t i e s1 m) =
+      let n = over (fit (entering prog (T t) i) (entering_calls prog (T t) i)) m in
       record {
         told = event t (In None i) ∷ n.told;
         last = n.last;
-        chain = more s1 n.chain;
+        calls = λ cs. n.calls (pending s cs);
+        chain = λ cs. more s1 (called_on step (entering prog (T t) i) (entering_calls prog (T t) i) (n.chain (pending s cs)));
         leads = entry_leads prog T p s k t i n.told (λ ms g su l v o y. visit_leads prog T None t i n.told n.leads ms g su l y.0 y.1 y.2);
       }
-  goes (left {T} {U} {p = p} {s = s} {k = k} {y = y} t i e s1 m s2) =
-      let f = came step prog m in
+  goes calls (left {T} {U} {p = p} {s = s} {k = k} {y = y} t i e s1 m s2) =
+      let f = came step prog (fit (entering prog (T t) i) (entering_calls prog (T t) i)) m in
       record {
         told = event t (In None i) ∷ (f.events ++ event t (Done None y) ∷ []);
         last = U;
-        chain = more s1 (chain-append step f.chain (more s2 none));
+        calls = pending s;
+        chain = λ cs. more s1 (chain-append step (called_on step (entering prog (T t) i) (entering_calls prog (T t) i) (f.chain (pending s cs))) (more s2 none));
         leads = entry_leads prog T p s k t i (f.events ++ event t (Done None y) ∷ [])
             (visited_leads prog T U None t i y f.events [] (λ u o v z. Stays (Runs prog) u p s k o v z) f.whole (at_end prog U (λ u v z. Stays (Runs prog) u p s k (Some y) v z)));
       }
-  goes (entered {T} {U} {p = p} {s = s} {k = k} {y = y} t i e s1 m s2 calm b) =
-      let f = came step prog m in
-      let n = goes b in
+  goes calls (entered {T} {U} {p = p} {s = s} {k = k} {y = y} t i e s1 m s2 calm b) =
+      let f = came step prog (fit (entering prog (T t) i) (entering_calls prog (T t) i)) m in
+      let n = goes calls b in
       let tail : List (Event O) = event t (Done None y) ∷ n.told in
       record {
         told = event t (In None i) ∷ (f.events ++ tail);
         last = n.last;
-        chain = more s1 (chain-append step f.chain (more s2 n.chain));
+        calls = n.calls;
+        chain = λ cs. more s1 (chain-append step (called_on step (entering prog (T t) i) (entering_calls prog (T t) i) (f.chain (pending s cs))) (more s2 (n.chain cs)));
         leads = entry_leads prog T p s k t i (f.events ++ tail)
             (visited_leads prog T U None t i y f.events n.told (λ u o v z. Stays (Runs prog) u p s k o v z) f.whole
             (λ ms g su l v z q. n.leads ms g su l v z (stays_on prog (handing U n.told ms g l) p s k y v z calm q)));
       }
 
-  pub begins : {T : Tree O} {o z : S} {p : Place} {x : Prog O I} → Begun step prog T o p x z → BeginsEach step prog T o p x z
-  begins b =
-      let h = goes b in
+  pub begins : {T : Tree O} {o z : S} {p : Place} {x : Prog O I} → Fits x → Begun step prog T o p x z → BeginsEach step prog T o p x z
+  begins f b =
+      let h = goes f b in
       record {
         told = h.told;
         last = h.last;
-        chain = h.chain;
+        calls = h.calls [];
+        chain = h.chain [];
         first = λ ms gs t v e run. h.leads ms (Listed gs) (as_listed gs refl) t v e run;
         first_of_any = λ ms gs t v e calm run. h.leads ms gs (as_granted calm) t v e run;
       }

@@ -8,7 +8,7 @@ use Rattle.tcl_core.specs.Example.{first_tree}
 use Rattle.tcl_core.specs.Programs.Next.{On}
 use Rattle.tcl_core.specs.Rules.{Derives}
 use Rattle.tcl_core.specs.Runs.{World}
-use Rattle.tcl_core.specs.Execution.{event}
+use Rattle.tcl_core.specs.Execution.{Fits, event}
 use Rattle.tcl_core.specs.Trees.{effect}
 use Rattle.tcl_core.specs.Trees.Grants.{Listed, Budget}
 use Rattle.tcl_core.specs.Trees.Move.{Come}
@@ -16,7 +16,7 @@ use Rattle.tcl_core.specs.Trees.What.{Back, Charged, Out}
 use Rattle.tcl_core.proofs.RuleLaws.{derived_runs}
 use Rattle.tcl_partial_runs.specs.Beginnings.{Begun}
 use Rattle.tcl_partial_runs.specs.Beginnings.Begun.{acted, calling_out}
-use Rattle.tcl_partial_runs.specs.Example.{WorkedBeginning, finish, reading, reads_line, request, so_far, start}
+use Rattle.tcl_partial_runs.specs.Example.{WorkedBeginning, after_line_calls, finish, reading, reads_line, request, so_far, start}
 use Rattle.tcl_partial_runs.specs.Keeping.{keeps}
 use Rattle.tcl_partial_runs.proofs.Kept.{kept_begins}
 
@@ -34,11 +34,14 @@ whole = Derives.acted _ _ _ _ (None, Charged, On) charged _ _ refl tt (record { 
     (Derives.called_out _ _ _ _ _ _ _ asked _ _ refl (record { tape = refl; tree = refl; moves = refl; grants = refl })
     (Derives.heard _ _ _ _ TheEnd finish _ _ refl refl (record { tape = refl; tree = refl; moves = refl; grants = refl }) (Derives.completed _ _ _)))
 
+calls : Fits reads_line
+calls T a = after_line_calls a
+
 pub worked_beginning : WorkedBeginning
 worked_beginning = record {
   given_up = given_up;
   whole = derived_runs reading whole;
   stands_first = (event [] (Back None (Heard TheEnd)) ∷ [], refl);
-  each = λ ms gs tape v e run. kept_begins.listed reading first_tree [] reads_line so_far ms gs tape v e given_up run;
-  each_within = λ ms n tape v e run. kept_begins.any reading first_tree [] reads_line so_far ms (Budget n) tape v e given_up (tt, (tt, tt)) run;
+  each = λ ms gs tape v e run. kept_begins.listed reading first_tree [] reads_line so_far ms gs tape v e calls given_up run;
+  each_within = λ ms n tape v e run. kept_begins.any reading first_tree [] reads_line so_far ms (Budget n) tape v e calls given_up (tt, (tt, tt)) run;
 }

@@ -17,7 +17,8 @@ use Rattle.tcl_core.specs.Programs.Next.{On, TooDeep}
 use Rattle.tcl_core.specs.Programs.Prog.{act, go, inside, call, wait}
 use Rattle.tcl_core.specs.Runs.{World, Ending, Runs, carried, reached, entering, fits, height_of}
 use Rattle.tcl_core.specs.Rules.{IsOn, IsNoExit}
-use Rattle.tcl_core.specs.Execution.{Executes, Chain, Decides, Opens_so, event}
+use Rattle.tcl_core.specs.Execution.{Executes, Chain, Decides, Fits, Open, Opens_so, event}
+use Rattle.tcl_core.specs.Execution.{pending, waits_for}
 use Rattle.tcl_core.specs.Meaning.{by_test}
 
 -- From the tree T and the outside's state o the program at p went on for a while, and was then
@@ -180,7 +181,9 @@ pub record BeginsEach {O I S : Type 0} (step : Tree O → S → Wait → Event O
     (prog : Table O I) (T : Tree O) (o : S) (p : Place) (x : Prog O I) (z : S) : Type 0 where
   pub told : List (Event O)
   pub last : Tree O
-  pub chain : Chain step T o told last z
+  -- the calls that are open by then; where the program waits for an answer, its call was open
+  pub calls : Open
+  pub chain : Chain step (pending (waits_for x) []) T o told calls last z
   -- where it is told word by word which steps and evaluations are granted
   pub first : (ms : List (Move O)) (gs : List Grant) (tape : List (Event O)) (v : World O)
       (e : Ending) → Runs prog (handing T told ms (Listed gs) tape) p x v e → Begins tape told
@@ -195,5 +198,5 @@ pub record BeginsEach {O I S : Type 0} (step : Tree O → S → Wait → Event O
 -- they are those that a test lets through.)
 abbrev pub BeginningsBegin : Type 0 → Type 0 → Type 0 → Type 0
 BeginningsBegin O I S = (goes : Tree O → S → Wait → Event O → S → Bool) (prog : Table O I)
-    (T : Tree O) (o z : S) (p : Place) (x : Prog O I) →
+    (T : Tree O) (o z : S) (p : Place) (x : Prog O I) → Fits x →
     Begun (by_test goes) prog T o p x z → BeginsEach (by_test goes) prog T o p x z

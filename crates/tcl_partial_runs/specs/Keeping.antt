@@ -5,6 +5,7 @@ use Rattle.tcl_core.specs.Paths.{Place}
 use Rattle.tcl_core.specs.Trees.{Tree, Event, Move, Grant, Grants}
 use Rattle.tcl_core.specs.Trees.Grants.{Listed}
 use Rattle.tcl_core.specs.Programs.{Prog, Table, Wait}
+use Rattle.tcl_core.specs.Execution.{Fits}
 use Rattle.tcl_core.specs.Runs.{World, Ending, Runs}
 use Rattle.tcl_partial_runs.specs.Beginnings.{Begun, Begins, IsUnrefused, handing}
 
@@ -18,9 +19,9 @@ keeps T o s ev u = u ≡ o ++ ev ∷ []
 pub record KeptBegins (O I : Type 0) : Type 0 where
   pub listed : (prog : Table O I) (T : Tree O) (p : Place) (x : Prog O I) (kept : List (Event O))
       (ms : List (Move O)) (gs : List Grant) (tape : List (Event O)) (v : World O) (e : Ending) →
-      Begun keeps prog T [] p x kept → Runs prog (handing T kept ms (Listed gs) tape) p x v e →
+      Fits x → Begun keeps prog T [] p x kept → Runs prog (handing T kept ms (Listed gs) tape) p x v e →
       Begins tape kept
   pub any : (prog : Table O I) (T : Tree O) (p : Place) (x : Prog O I) (kept : List (Event O))
       (ms : List (Move O)) (gs : Grants) (tape : List (Event O)) (v : World O) (e : Ending) →
-      Begun keeps prog T [] p x kept → IsUnrefused kept →
+      Fits x → Begun keeps prog T [] p x kept → IsUnrefused kept →
       Runs prog (handing T kept ms gs tape) p x v e → Begins tape kept

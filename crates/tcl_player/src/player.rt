@@ -5,13 +5,17 @@ ghost use Rattle.tcl_core.specs.Entries.Answer.{Replied};
 ghost use Rattle.tcl_core.specs.Lives.{outcome_of};
 ghost use Rattle.tcl_core.specs.Lives.Outcome.{Finished};
 ghost use Rattle.tcl_core.specs.Execution.{event};
-ghost use Rattle.tcl_core.specs.Trees.What.{Out, Done};
+ghost use Rattle.tcl_core.specs.Paths.{Path, rise_to};
+ghost use Rattle.tcl_core.specs.Trees as core;
+ghost use Rattle.tcl_core.specs.Trees.What.{Back, Done, Out};
 ghost use Rattle.tcl_player.specs.Moves.{move_of};
 ghost use Rattle.tcl_player.specs.Answering.{cuts_off, last_outcome};
 ghost use Rattle.tcl_reactions.specs.Playing.{suits};
 ghost use Rattle.tcl_reactions.specs.Playing as playing;
+ghost use Rattle.tcl_run.specs.Ends.{IfEnded};
 ghost use Rattle.tcl_run.specs.Entering.{whole_entry};
-ghost use Rattle.tcl_tree.specs.TreeOf.{tree_of};
+ghost use Rattle.tcl_tree.specs.Own.{Own};
+ghost use Rattle.tcl_tree.specs.TreeOf.{Names, tree_of};
 ghost use Rattle.tcl_recorder.specs.Crossings.{events_of};
 
 use crate::answers::{answers_call, cuts, exits, turn_of};
@@ -21,7 +25,7 @@ use std::alloc::{AllocError, Global};
 use tcl_recorder::crossing::Crossing;
 use tcl_run::entry::Entry;
 use tcl_run::interruption::{Cause, Interruption};
-use tcl_run::outside::{Outside, Turn};
+use tcl_run::outside::{Happening, Outside, Turn};
 use tcl_text::text::Text;
 use tcl_tree::tree::{Place, Tree};
 use tcl_value::value::Value;
@@ -106,7 +110,7 @@ fn ends_above(next: &Move) -> bool
 impl<'a> Player<'a> {
     ghost use Rattle.tcl_player.specs.Moves.{moves_in};
     ghost use Rattle.tcl_player.specs.Players.{Begins, GoesOn, IsAtEnd, IsOverBy, Stands};
-    ghost use Rattle.tcl_player.specs.Players.{player_of, result_of};
+    ghost use Rattle.tcl_player.specs.Players.{played, player_of, result_of};
 
     /// Who is to play these moves, with so many counted steps.
     pub fn new(alloc: Global, moves: &'a [Move], steps: u64) -> Player<'a>
@@ -222,6 +226,89 @@ impl<'a> Player<'a> {
         }
         Ok(Some(first))
     }
+
+    /// The interpreter that the place names calls past the top of the tree, which is told unless
+    /// the playing is over.
+    ///
+    /// # Errors
+    /// Want of memory.
+    fn call_goes(
+        &mut self,
+        alloc: Global,
+        tree: &Tree,
+        caller: Place,
+        up: Option<usize>,
+        down: &[Text],
+        entry: &Entry,
+    ) -> Result<(), AllocError>
+        ensures told { OnOk result ((p : Path) → Names tree.now caller p → rise_to up p ≡ None →
+            played (tree_of tree.now) self.old None
+            (event p (Out up down.now (whole_entry entry.now))) self.new) }
+        ensures left { length (player_of self.new).left ≤ length (player_of self.old).left }
+    {
+        if self.fate.is_some() {
+            return Ok(());
+        }
+        let call = Crossing::Out {
+            caller: tree.path_of(alloc, caller)?,
+            up,
+            down: Vec::from_clones(alloc, down)?,
+            entry: entry.copy(alloc)?,
+        };
+        self.outs.push(call)?;
+        Ok(())
+    }
+
+    /// The last entry ended so at the path, which is told unless the playing is over.
+    ///
+    /// # Errors
+    /// Want of memory.
+    fn entry_ends(
+        &mut self,
+        alloc: Global,
+        target: &[Text],
+        ended: &Result<Value, Interruption>,
+    ) -> Result<(), AllocError>
+        ensures told { OnOk result ((T : core.Tree Own) → IfEnded ended.now
+            (λ r. played T self.old None (event target.now (Done None r)) self.new)) }
+        ensures left { length (player_of self.new).left ≤ length (player_of self.old).left }
+    {
+        if self.fate.is_some() {
+            return Ok(());
+        }
+        let reply = end_told(ended)?;
+        let exited = exit_of(&reply);
+        self.outs.push(Crossing::Done {
+            target: Vec::from_clones(alloc, target)?,
+            reply,
+        })?;
+        self.exited = exited;
+        Ok(())
+    }
+
+    /// The last entry ended by this exit. So what comes next to the open call is that exit, or the
+    /// playing is over: nothing else suits.
+    ///
+    /// # Errors
+    /// Want of memory.
+    fn exit_comes(
+        &mut self,
+        tree: &Tree,
+        up: Option<usize>,
+        entry: &Entry,
+        status: i64,
+    ) -> Result<(), AllocError>
+        ensures told { OnOk result ((p : Path) → rise_to up p ≡ None →
+            played (tree_of tree.now) self.old (Some (up, whole_entry entry.now))
+            (event p (Back up (Replied (Exit status)))) self.new) }
+        ensures left { length (player_of self.new).left ≤ length (player_of self.old).left }
+    {
+        match self.read_on(tree, up, entry)? {
+            None => Ok(()),
+            Some(Move::Come(answer)) if exits(status, answer) => Ok(()),
+            Some(_) => Err(AllocError),
+        }
+    }
 }
 
 impl<'a> Outside for Player<'a> {
@@ -253,74 +340,28 @@ impl<'a> Outside for Player<'a> {
         }
     }
 
-    fn drops(
-        &mut self,
-        _alloc: Global,
-        _tree: &Tree,
-        _parent: Place,
-        _name: &Text,
-    ) -> Result<(), AllocError> {
-        Ok(())
-    }
-
-    fn enters(
-        &mut self,
-        _alloc: Global,
-        _tree: &Tree,
-        _caller: Place,
-        _up: usize,
-        _down: &[Text],
-        _entry: &Entry,
-    ) -> Result<(), AllocError> {
-        Ok(())
-    }
-
-    fn returns(
-        &mut self,
-        _alloc: Global,
-        _tree: &Tree,
-        _caller: Place,
-        _up: usize,
-        _down: &[Text],
-        _ended: &Result<Value, Interruption>,
-        _told: &Result<Value, Interruption>,
-    ) -> Result<(), AllocError> {
-        Ok(())
-    }
-
-    fn misses(
-        &mut self,
-        _alloc: Global,
-        _tree: &Tree,
-        _caller: Place,
-        _up: usize,
-        _down: &[Text],
-        _entry: &Entry,
-        _told: &Result<Value, Interruption>,
-    ) -> Result<(), AllocError> {
-        Ok(())
-    }
-
-    fn passes_top(
+    fn notify(
         &mut self,
         alloc: Global,
         tree: &Tree,
-        caller: Place,
-        up: Option<usize>,
-        down: &[Text],
-        entry: &Entry,
+        happening: Happening<'_>,
     ) -> Result<(), AllocError> {
-        if self.fate.is_some() {
-            return Ok(());
+        match happening {
+            Happening::PassedTop {
+                caller,
+                up,
+                down,
+                entry,
+            } => self.call_goes(alloc, tree, caller, up, down, entry),
+            Happening::EntryDone { target, ended } => self.entry_ends(alloc, target, ended),
+            Happening::ExitCameBack {
+                up,
+                entry,
+                status,
+                ..
+            } => self.exit_comes(tree, up, entry, status),
+            _ => Ok(()),
         }
-        let call = Crossing::Out {
-            caller: tree.path_of(alloc, caller)?,
-            up,
-            down: Vec::from_clones(alloc, down)?,
-            entry: entry.copy(alloc)?,
-        };
-        self.outs.push(call)?;
-        Ok(())
     }
 
     fn next(
@@ -338,44 +379,6 @@ impl<'a> Outside for Player<'a> {
             )),
             Some(Move::Come(answer)) => turn_of(alloc, answer),
             None => Err(Interruption::Cut(Cause::Over)),
-        }
-    }
-
-    fn entry_leaves(
-        &mut self,
-        alloc: Global,
-        _tree: &Tree,
-        target: &[Text],
-        ended: &Result<Value, Interruption>,
-    ) -> Result<(), AllocError> {
-        if self.fate.is_some() {
-            return Ok(());
-        }
-        let reply = end_told(ended)?;
-        let exited = exit_of(&reply);
-        self.outs.push(Crossing::Done {
-            target: Vec::from_clones(alloc, target)?,
-            reply,
-        })?;
-        self.exited = exited;
-        Ok(())
-    }
-
-    // The last entry ended by this exit. So what comes next is that exit, or the playing is over:
-    // nothing else suits.
-    fn exit_comes_back(
-        &mut self,
-        _alloc: Global,
-        tree: &Tree,
-        _caller: Place,
-        up: Option<usize>,
-        entry: &Entry,
-        status: i64,
-    ) -> Result<(), AllocError> {
-        match self.read_on(tree, up, entry)? {
-            None => Ok(()),
-            Some(Move::Come(answer)) if exits(status, answer) => Ok(()),
-            Some(_) => Err(AllocError),
         }
     }
 }

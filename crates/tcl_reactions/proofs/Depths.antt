@@ -4,7 +4,7 @@ use Rattle.tcl_core.specs.Endings.{Meter, Reply}
 use Rattle.tcl_core.specs.Endings.Meter.{Count, Depth}
 use Rattle.tcl_core.specs.Endings.Reply.{Cut}
 use Rattle.tcl_core.specs.Endings.Cause.{Above, Over}
-use Rattle.tcl_core.specs.Execution.{Chain, Crossings, Decides, Executes, Opens_so, before, more, none}
+use Rattle.tcl_core.specs.Execution.{Chain, Crossings, Open, Decides, Executes, Opens_so, before, more, none}
 use Rattle.tcl_core.specs.Execution.Executes.{completed, exited, acted, refused, went, passed, wrapped, wrapped_passed, too_deep, shut, called, called_passed, unreached, called_out, answered, heard, answered_passed, entered, entered_exiting}
 use Rattle.tcl_core.specs.Laws.{IsSteady, IsUpright, KeepsTop, depth_of}
 use Rattle.tcl_core.specs.Paths.{Place, rise_to}
@@ -19,6 +19,8 @@ use Rattle.tcl_core.specs.Trees.Move.{Born, Fall, Enter, Come}
 use Rattle.tcl_core.specs.Trees.What.{Seen, Charged, Refused, Limited, DepthLimited, Nested, Made, Dropped, In, Back}
 use Rattle.tcl_core.specs.Views.{moves_of}
 use Rattle.tcl_core.proofs.Depths.{steady}
+use Rattle.tcl_core.specs.Runs.{entering}
+use Rattle.tcl_core.proofs.Callers.{Fits, entering_calls, fit}
 use Rattle.tcl_core.proofs.Following.{makes}
 use Rattle.tcl_core.proofs.PathLaws.{not_both, Some-inj, child_no_top}
 use Rattle.tcl_core.proofs.Reacting.{IsLasting, Lasting}
@@ -90,7 +92,7 @@ module _ {O S : Type 0} (step : Tree O → S → Wait → Event O → S → Type
   stays : (T : Tree O) (o : S) (s : Wait) (ev : Event O) (u : S) → step T o s ev u → Lasting ev.place ev.what → Lastingly step T o s ev u
   stays T o s ev u g f = record { goes = g; lasting = f }
 
-  all_last : {T V : Tree O} {o z : S} {τ : List (Event O)} → Chain (Lastingly step) T o τ V z → IsLasting τ
+  all_last : {cs ds : Open} {T V : Tree O} {o z : S} {τ : List (Event O)} → Chain (Lastingly step) cs T o τ ds V z → IsLasting τ
   all_last none = tt
   all_last (more a rest) = (a.lasting, all_last rest)
 
@@ -144,9 +146,9 @@ module _ {O : Type 0} where
 
 module _ {O I S : Type 0} (step : Tree O → S → Wait → Event O → S → Type 0) (prog : Table O I) where
   -- an entry that was done leaves each depth
-  run_steady : (T V : Tree O) (o z : S) (p : Place) (x : Prog O I) (r : Reply) → Executes step prog T o p x V z r → IsUpright T → IsUpright V × ((q : Place) → depth_of (V q) ≡ depth_of (T q))
-  run_steady T V o z p x r run up =
-      let made = makes (Lastingly step) prog (lasts step prog run) in
+  run_steady : (T V : Tree O) (o z : S) (p : Place) (x : Prog O I) (r : Reply) → Fits x → Executes step prog T o p x V z r → IsUpright T → IsUpright V × ((q : Place) → depth_of (V q) ≡ depth_of (T q))
+  run_steady T V o z p x r f run up =
+      let made = makes (Lastingly step) prog f (lasts step prog run) in
       let s : IsSteady (before T made.events) (before V []) (Some r) = steady prog (before T made.events) (before V []) p x (Some r) made.runs up (keeps_top made.events (all_last step made.chain)) in
       (s.upright r refl, s.depths r refl)
 
@@ -155,7 +157,7 @@ module _ {O I : Type 0} (prog : Table O I) where
   lived_steady begun up = (up, λ q. refl)
   lived_steady (came {U} {V} {u} {w} {v} {z} t i r l calm last enters run leaves) up =
       let h = lived_steady l up in
-      let k = run_steady (Crossings plays) prog U V w v t _ r run h.0 in
+      let k = run_steady (Crossings plays) prog U V w v t _ r (fit (entering prog (U t) i) (entering_calls prog (U t) i)) run h.0 in
       (k.0, λ q. k.1 q ∙ h.1 q)
 
 module _ {O I : Type 0} where

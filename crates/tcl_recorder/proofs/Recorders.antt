@@ -25,6 +25,17 @@ use Rattle.tcl_recorder.specs.Recording.{IsLeft, Records, Turns, crossed, falls,
 use Rattle.tcl_recorder.specs.declared.recorder.Recorder.{Recorder}
 use Rattle.tcl_recorder.proofs.Notes.{unchanged}
 
+-- whether the watched interpreter is dropped with another one, by the path that is at hand
+pub fate_watched : (c q p : Path) (b d e : Bool) → q ≡ p → b ≡ falls c (event q Dropped) → b ≡ true → e ≡ true → e ≡ either (falls c (event p Dropped)) d
+fate_watched c q p b d e same asked is so =
+    let falls_so : falls c (event p Dropped) ≡ true = ap (λ (r : Path). falls c (event r Dropped)) (sym same) ∙ sym asked ∙ is in
+    so ∙ sym (ap (λ x. either x d) falls_so)
+
+pub fate_another : (c q p : Path) (b d e : Bool) → q ≡ p → b ≡ falls c (event q Dropped) → b ≡ false → e ≡ d → e ≡ either (falls c (event p Dropped)) d
+fate_another c q p b d e same asked is so =
+    let stands : falls c (event p Dropped) ≡ false = ap (λ (r : Path). falls c (event r Dropped)) (sym same) ∙ sym asked ∙ is in
+    so ∙ sym (ap (λ x. either x d) stands)
+
 module _ {S : Type 0} (goes : Going S) where
   pub crosses : (T : Tree Own) (o z : Recorder S) (s : Wait) (q p : Path) (x : What Own) → q ≡ p → (z.incomplete ≡ false → o.incomplete ≡ false) → z.kept ≡ crossed o.kept (event q x) → z.deleted ≡ either (falls o.kept.watched (event p x)) o.deleted →
       (IsLeft x → z.incomplete ≡ false) → goes T o.outside s (event p x) z.outside → Records goes T o s (event p x) z
@@ -43,21 +54,9 @@ module _ {S : Type 0} (goes : Going S) where
   refuses_step T o u p g = record { outside = g; keeps = λ w. record { whole = w; kept = unchanged o.kept (event p (Refused Count None)) tt; fate = refl }; ends = λ f. absurd f }
 
   -- an interpreter is dropped, and the watched one with it, or not
-  drops : (T : Tree Own) (o : Recorder S) (u : S) (b : Bool) (p : Path) → b ≡ either (falls o.kept.watched (event p Dropped)) o.deleted → goes T o.outside None (event p Dropped) u →
-      Records goes T o None (event p Dropped) (record { outside = u; kept = o.kept; deleted = b; incomplete = o.incomplete })
-  drops T o u b p fate g = record { outside = g; keeps = λ w. record { whole = w; kept = unchanged o.kept (event p Dropped) tt; fate = fate }; ends = λ f. absurd f }
-
-  pub drops_watched : (T : Tree Own) (o z : Recorder S) (u : S) (q p : Path) (b : Bool) → q ≡ p → b ≡ falls o.kept.watched (event q Dropped) → b ≡ true → z ≡ record { outside = u; kept = o.kept; deleted = true; incomplete = o.incomplete } →
-      goes T o.outside None (event p Dropped) u → Records goes T o None (event p Dropped) z
-  drops_watched T o z u q p b same asked is e g =
-      let falls_so : falls o.kept.watched (event p Dropped) ≡ true = ap (λ (r : Path). falls o.kept.watched (event r Dropped)) (sym same) ∙ sym asked ∙ is in
-      subst (λ (w : Recorder S). Records goes T o None (event p Dropped) w) (sym e) (drops T o u true p (sym (ap (λ x. either x o.deleted) falls_so)) g)
-
-  pub drops_another : (T : Tree Own) (o z : Recorder S) (u : S) (q p : Path) (b : Bool) → q ≡ p → b ≡ falls o.kept.watched (event q Dropped) → b ≡ false → z ≡ record { outside = u; kept = o.kept; deleted = o.deleted; incomplete = o.incomplete } →
-      goes T o.outside None (event p Dropped) u → Records goes T o None (event p Dropped) z
-  drops_another T o z u q p b same asked is e g =
-      let stands : falls o.kept.watched (event p Dropped) ≡ false = ap (λ (r : Path). falls o.kept.watched (event r Dropped)) (sym same) ∙ sym asked ∙ is in
-      subst (λ (w : Recorder S). Records goes T o None (event p Dropped) w) (sym e) (drops T o u o.deleted p (sym (ap (λ x. either x o.deleted) stands)) g)
+  pub drops : (T : Tree Own) (o z : Recorder S) (p : Path) → z.kept ≡ o.kept → z.incomplete ≡ o.incomplete → z.deleted ≡ either (falls o.kept.watched (event p Dropped)) o.deleted → goes T o.outside None (event p Dropped) z.outside →
+      Records goes T o None (event p Dropped) z
+  drops T o z p same as_whole fate g = record { outside = g; keeps = λ w. record { whole = sym as_whole ∙ w; kept = same ∙ unchanged o.kept (event p Dropped) tt; fate = fate }; ends = λ f. absurd f }
 
   -- the recorder between two crossings
   abbrev between_at : S → Recorder S → Event Own → Recorder S

@@ -9,7 +9,8 @@ use Rattle.tcl_core.specs.Runs.{Runs, Visits, entering}
 use Rattle.tcl_core.specs.Execution.{Chain, Crossings, Executes, before, event, more, none}
 use Rattle.tcl_core.specs.Trees.{Event, Tree}
 use Rattle.tcl_core.specs.Trees.What.{In, Done}
-use Rattle.tcl_core.proofs.Following.{Says, ahead, ahead-all, ahead-append, ahead_later, chain-append, follows, later, nothing}
+use Rattle.tcl_core.proofs.Callers.{entering_calls, fit}
+use Rattle.tcl_core.proofs.Following.{Says, ahead, ahead-all, ahead-append, ahead_later, called_on, chain-append, follows, later, nothing}
 use Rattle.tcl_core.proofs.RuleLaws.{derived_runs}
 use Rattle.tcl_run.specs.Outsides.{Going}
 use Rattle.tcl_tree.specs.Own.{Own}
@@ -53,11 +54,14 @@ module _ {I S : Type 0} (goes : Going S) (prog : Table Own I) (T V : Tree Own) w
       recorded goes T o None (event t (In None i)) u → Executes (Crossings (recorded goes)) prog T u t (entering prog (T t) i) V w r → recorded goes V w None (event t (Done None r)) z →
       WatchedVisit goes prog T o t i V z r
   watched_visit o u w z t i r enters run leaves =
-      let made = follows (Crossings (recorded goes)) prog run in
+      let x : Prog Own I = entering prog (T t) i in
+      let calls = entering_calls prog (T t) i in
+      let made = follows (Crossings (recorded goes)) prog (fit x calls) run in
+      let told = called_on (Crossings (recorded goes)) x calls (made.chain []) in
       let entry : Crossings (recorded goes) T o None (event t (In None i)) u = record { told = enters } in
       let end : Crossings (recorded goes) V w None (event t (Done None r)) z = record { told = leaves } in
-      let chain : Chain (Crossings (recorded goes)) T o (visit t i made.events r) V z = more entry (chain-append (Crossings (recorded goes)) made.chain (more end none)) in
-      let all = watched goes T V o z (visit t i made.events r) chain in
+      let chain : Chain (Crossings (recorded goes)) [] T o (visit t i made.events r) [] V z = more entry (chain-append (Crossings (recorded goes)) told (more end none)) in
+      let all = watched goes [] [] T V o z (visit t i made.events r) chain in
       let kept : KeepsAll o (visit t i made.events r) z = all.keeps (leaves.ends tt) in
       record { events = made.events; visits = visits (Crossings (recorded goes)) prog t i made; outside = all.outside; kept = kept.kept; fate = kept.fate }
 
@@ -65,10 +69,13 @@ module _ {I S : Type 0} (goes : Going S) (prog : Table Own I) (T V : Tree Own) w
       Executes (Crossings (recorded goes)) prog T (noted o (event t (In None i))) t (entering prog (T t) i) V w r →
       WatchedEntry goes prog T o t i V (noted w (event t (Done None r))) r
   watched_entry o w t i r whole run =
-      let made = follows (Crossings (recorded goes)) prog run in
+      let x : Prog Own I = entering prog (T t) i in
+      let calls = entering_calls prog (T t) i in
+      let made = follows (Crossings (recorded goes)) prog (fit x calls) run in
+      let told = called_on (Crossings (recorded goes)) x calls (made.chain []) in
       let first = event t (In None i) in
       let last = event t (Done None r) in
-      let all = watched goes T V (noted o first) w made.events made.chain in
+      let all = watched goes [] [] T V (noted o first) w made.events told in
       let so : KeepsAll (noted o first) made.events w = all.keeps whole in
       record {
         events = made.events;

@@ -3,7 +3,7 @@ use Rattle.std.proofs.Common.{◌≡◌, false, List, [], ◌∷◌, ◌++◌, N
 use Rattle.tcl_core.specs.Endings.{Reply}
 use Rattle.tcl_core.specs.Paths.{Place}
 use Rattle.tcl_core.specs.Programs.{Prog, Table, Wait, either}
-use Rattle.tcl_core.specs.Execution.{Chain, Crossings, Executes, event, hears, more, none}
+use Rattle.tcl_core.specs.Execution.{Chain, Crossings, Executes, Fits, Open, answers_to, calls_after, pending, waits_for, event, hears, more, none}
 use Rattle.tcl_core.specs.Execution.Executes.{completed, exited, acted, refused, went, passed, wrapped, wrapped_passed, too_deep, shut, called, called_passed, unreached, called_out, answered, heard, answered_passed, entered, entered_exiting}
 use Rattle.tcl_core.specs.Trees.{Event, Tree, What, effect}
 use Rattle.tcl_core.specs.Trees.What.{Charged, Refused, Dropped, Out, In, Done, Back}
@@ -53,11 +53,11 @@ module _ {S : Type 0} (goes : Going S) where
   pub step : (T : Tree Own) (o : Recorder S) (s : Wait) (ev : Event Own) (u : Recorder S) → Crossings (recorded goes) T o s ev u → IsStep T o s ev u
   step T o s ev u t = one T o s ev.place ev.what u t.told
 
-  pub watched : (T V : Tree Own) (o z : Recorder S) (τ : List (Event Own)) → Chain (Crossings (recorded goes)) T o τ V z → IsWatched goes T o τ V z
-  watched T V o z [] none = record { outside = none; keeps = λ w. record { whole = w; kept = after_none o.kept; fate = refl } }
-  watched T V o z (ev ∷ τ) (more {u = u} {s = s} a rest) =
-      let first = step T o s ev u a in
-      let later = watched (effect ev.place ev.what T) V u z τ rest in
+  pub watched : (cs ds : Open) (T V : Tree Own) (o z : Recorder S) (τ : List (Event Own)) → Chain (Crossings (recorded goes)) cs T o τ ds V z → IsWatched goes cs T o τ ds V z
+  watched cs ds T V o z [] none = record { outside = none; keeps = λ w. record { whole = w; kept = after_none o.kept; fate = refl } }
+  watched cs ds T V o z (ev ∷ τ) (more {u = u} a rest) =
+      let first = step T o (answers_to ev.place ev.what cs) ev u a in
+      let later = watched (calls_after ev.place ev.what cs) ds (effect ev.place ev.what T) V u z τ rest in
       record {
         outside = more first.outside later.outside;
         keeps = λ w. (
@@ -71,11 +71,11 @@ module _ {S : Type 0} (goes : Going S) where
             );
       }
 
-  pub watched_run : {I : Type 0} (prog : Table Own I) (T V : Tree Own) (o z : Recorder S) (p : Place) (x : Prog Own I) (r : Reply) → z.incomplete ≡ false →
+  pub watched_run : {I : Type 0} (prog : Table Own I) (T V : Tree Own) (o z : Recorder S) (p : Place) (x : Prog Own I) (r : Reply) → z.incomplete ≡ false → Fits x →
       Executes (Crossings (recorded goes)) prog T o p x V z r → WatchedRun goes prog T o p x V z r
-  watched_run prog T V o z p x r w t =
-      let made = makes (Crossings (recorded goes)) prog t in
-      let all = watched T V o z made.events made.chain in
+  watched_run prog T V o z p x r w f t =
+      let made = makes (Crossings (recorded goes)) prog f t in
+      let all = watched (pending (waits_for x) []) [] T V o z made.events made.chain in
       let kept : KeepsAll o made.events z = all.keeps w in
       record { events = made.events; runs = made.runs; outside = all.outside; kept = kept.kept; fate = kept.fate }
 

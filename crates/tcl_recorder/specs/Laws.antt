@@ -7,7 +7,8 @@ use Rattle.tcl_core.specs.Lives.{outs_of}
 use Rattle.tcl_core.specs.Paths.{Path, Place, Height, strip, rise_to}
 use Rattle.tcl_core.specs.Programs.{Prog, Table}
 use Rattle.tcl_core.specs.Runs.{Runs, Visits, entering}
-use Rattle.tcl_core.specs.Execution.{Chain, Crossings, Executes, before, event}
+use Rattle.tcl_core.specs.Execution.{Chain, Crossings, Executes, Fits, Open, before, event}
+use Rattle.tcl_core.specs.Execution.{pending, waits_for}
 use Rattle.tcl_core.specs.Trees.{Event, Move, Tree, What}
 use Rattle.tcl_core.specs.Trees.Move.{Enter, Come}
 use Rattle.tcl_core.specs.Trees.What.{Out, In, Done, Back}
@@ -107,14 +108,15 @@ pub record KeepsAll {S : Type 0} (o : Recorder S) (τ : List (Event Own)) (z : R
 
 -- These happenings take the outside that the recorder holds from one state to the other, with the
 -- tree. Where nothing is missing from the record afterwards, they are recorded.
-pub record IsWatched {S : Type 0} (goes : Going S) (T : Tree Own) (o : Recorder S)
-    (τ : List (Event Own)) (V : Tree Own) (z : Recorder S) : Type 0 where
-  pub outside : Chain (Crossings goes) T o.outside τ V z.outside
+pub record IsWatched {S : Type 0} (goes : Going S) (cs : Open) (T : Tree Own) (o : Recorder S)
+    (τ : List (Event Own)) (ds : Open) (V : Tree Own) (z : Recorder S) : Type 0 where
+  pub outside : Chain (Crossings goes) cs T o.outside τ ds V z.outside
   pub keeps : z.incomplete ≡ false → KeepsAll o τ z
 
 abbrev pub RecordsTheBoundary : {S : Type 0} → Going S → Type 0
-RecordsTheBoundary {S} goes = (T V : Tree Own) (o z : Recorder S) (τ : List (Event Own)) → Chain
-    (Crossings (recorded goes)) T o τ V z → IsWatched goes T o τ V z
+RecordsTheBoundary {S} goes = (cs ds : Open) (T V : Tree Own) (o z : Recorder S)
+    (τ : List (Event Own)) → Chain (Crossings (recorded goes)) cs T o τ ds V z →
+    IsWatched goes cs T o τ ds V z
 
 -- A run takes the tree over a tape, which takes the outside that the recorder holds; the boundary
 -- of that very tape is added to the record, and it is told whether the watched interpreter was
@@ -124,13 +126,13 @@ pub record WatchedRun {I S : Type 0} (goes : Going S) (prog : Table Own I) (T : 
     0 where
   pub events : List (Event Own)
   pub runs : Runs prog (before T events) p x (before V []) (Some r)
-  pub outside : Chain (Crossings goes) T o.outside events V z.outside
+  pub outside : Chain (Crossings goes) (pending (waits_for x) []) T o.outside events [] V z.outside
   pub kept : z.kept ≡ after o.kept events
   pub fate : z.deleted ≡ fallen_after o.deleted o.kept.watched events
 
 abbrev pub RunsAreWatched : {S : Type 0} → Type 0 → Going S → Type 0
 RunsAreWatched {S} I goes = (prog : Table Own I) (T V : Tree Own) (o z : Recorder S) (p : Place)
-    (x : Prog Own I) (r : Reply) → z.incomplete ≡ false →
+    (x : Prog Own I) (r : Reply) → z.incomplete ≡ false → Fits x →
     Executes (Crossings (recorded goes)) prog T o p x V z r → WatchedRun goes prog T o p x V z r
 
 -- What comes of a program with a recorder comes of it with the outside that the recorder holds.
@@ -162,7 +164,7 @@ pub record WatchedVisit {I S : Type 0} (goes : Going S) (prog : Table Own I) (T 
     pub events : List (Event Own)
     pub visits : Visits prog (Runs prog) (before T (visit t i events r)) None t i (before V [])
         (Some r)
-    pub outside : Chain (Crossings goes) T o.outside (visit t i events r) V z.outside
+    pub outside : Chain (Crossings goes) [] T o.outside (visit t i events r) [] V z.outside
     pub kept : z.kept ≡ after o.kept (visit t i events r)
     pub fate : z.deleted ≡ fallen_after o.deleted o.kept.watched (visit t i events r)
 
@@ -183,7 +185,7 @@ pub record WatchedEntry {I S : Type 0} (goes : Going S) (prog : Table Own I) (T 
     pub events : List (Event Own)
     pub visits : Visits prog (Runs prog) (before T (visit t i events r)) None t i (before V [])
         (Some r)
-    pub outside : Chain (Crossings goes) T o.outside events V z.outside
+    pub outside : Chain (Crossings goes) [] T o.outside events [] V z.outside
     pub kept : z.kept ≡ after o.kept (visit t i events r)
     pub fate : z.deleted ≡ fallen_after o.deleted o.kept.watched (visit t i events r)
 

@@ -1,5 +1,5 @@
 //! The recorder of one boundary.
-ghost use Rattle.std.specs.Prelude.{◌≡◌, false, [], ◌∷◌, OnOk};
+ghost use Rattle.std.specs.Prelude.{◌≡◌, false, [], ◌∷◌, ◌++◌, OnOk};
 ghost use Rattle.tcl_core.specs.Execution.{event};
 ghost use Rattle.tcl_core.specs.Trees.What.{In, Done};
 ghost use Rattle.tcl_run.specs.Ends.{IfEnded};
@@ -9,7 +9,7 @@ use crate::record::Record;
 use std::alloc::{AllocError, Global};
 use tcl_run::entry::Entry;
 use tcl_run::interruption::Interruption;
-use tcl_run::outside::{Outside, Turn};
+use tcl_run::outside::{Happening, Outside, Turn};
 use tcl_text::text::Text;
 use tcl_tree::tree::{Place, Tree};
 use tcl_value::value::Value;
@@ -19,7 +19,7 @@ use tcl_value::value::Value;
 ///
 /// Where memory is wanted to record what the outside that it holds has answered, or handed in,
 /// that is passed on nevertheless, since the outside is past it. From then on the record is
-/// incomplete: no call goes out any more, and no entry is told to be done.
+/// incomplete, and whatever happens next is answered by want of memory.
 #[derive(Drop)]
 pub struct Recorder<O> {
     outside: O,
@@ -29,7 +29,11 @@ pub struct Recorder<O> {
 }
 
 impl<O: Outside> Recorder<O> {
-    ghost use Rattle.tcl_recorder.specs.Recording.{noted};
+    ghost use Rattle.tcl_core.specs.Paths.{Path};
+    ghost use Rattle.tcl_core.specs.Programs.{either};
+    ghost use Rattle.tcl_core.specs.Trees.What.{Dropped};
+    ghost use Rattle.tcl_tree.specs.TreeOf.{Names};
+    ghost use Rattle.tcl_recorder.specs.Recording.{falls, noted};
 
     /// A recorder of the interpreter at a path, which holds an outside. The interpreter wasn't
     /// dropped yet.
@@ -69,6 +73,29 @@ impl<O: Outside> Recorder<O> {
     {
         if self.incomplete {
             return Err(AllocError);
+        }
+        Ok(())
+    }
+
+    // The child of this name was dropped, with all below it.
+    fn note_drop(
+        &mut self,
+        alloc: Global,
+        tree: &Tree,
+        parent: Place,
+        name: &Text,
+    ) -> Result<(), AllocError>
+        ensures fate { OnOk result ((p : Path) → Names tree.now parent p →
+            self.new.deleted ≡ either
+            (falls self.old.kept.watched (event (p ++ name.now ∷ []) Dropped)) self.old.deleted) }
+        ensures kept { self.new.kept ≡ self.old.kept }
+        ensures outside { self.new.outside ≡ self.old.outside }
+        ensures incomplete { self.new.incomplete ≡ self.old.incomplete }
+    {
+        let mut path = tree.path_of(alloc, parent)?;
+        path.push(name.clone()?)?;
+        if self.kept.falls_with(path.as_slice()) {
+            self.deleted = true;
         }
         Ok(())
     }
@@ -136,85 +163,68 @@ impl<O: Outside> Outside for Recorder<O> {
         self.outside.refuses_step();
     }
 
-    fn drops(
+    fn notify(
         &mut self,
         alloc: Global,
         tree: &Tree,
-        parent: Place,
-        name: &Text,
-    ) -> Result<(), AllocError> {
-        self.outside.drops(alloc, tree, parent, name)?;
-        let mut path = tree.path_of(alloc, parent)?;
-        path.push(name.clone()?)?;
-        if self.kept.falls_with(path.as_slice()) {
-            self.deleted = true;
-        }
-        Ok(())
-    }
-
-    fn enters(
-        &mut self,
-        alloc: Global,
-        tree: &Tree,
-        caller: Place,
-        up: usize,
-        down: &[Text],
-        entry: &Entry,
-    ) -> Result<(), AllocError> {
-        self.outside.enters(alloc, tree, caller, up, down, entry)?;
-        let path = tree.path_of(alloc, caller)?;
-        self.kept
-            .call_enters(alloc, path.as_slice(), up, down, entry)
-    }
-
-    fn returns(
-        &mut self,
-        alloc: Global,
-        tree: &Tree,
-        caller: Place,
-        up: usize,
-        down: &[Text],
-        ended: &Result<Value, Interruption>,
-        told: &Result<Value, Interruption>,
-    ) -> Result<(), AllocError> {
-        self.outside
-            .returns(alloc, tree, caller, up, down, ended, told)?;
-        let path = tree.path_of(alloc, caller)?;
-        self.kept
-            .call_returns(alloc, path.as_slice(), up, down, ended, told)
-    }
-
-    fn misses(
-        &mut self,
-        alloc: Global,
-        tree: &Tree,
-        caller: Place,
-        up: usize,
-        down: &[Text],
-        entry: &Entry,
-        told: &Result<Value, Interruption>,
-    ) -> Result<(), AllocError> {
-        self.outside
-            .misses(alloc, tree, caller, up, down, entry, told)?;
-        let path = tree.path_of(alloc, caller)?;
-        self.kept
-            .call_misses(alloc, path.as_slice(), up, down, entry, told)
-    }
-
-    fn passes_top(
-        &mut self,
-        alloc: Global,
-        tree: &Tree,
-        caller: Place,
-        up: Option<usize>,
-        down: &[Text],
-        entry: &Entry,
+        happening: Happening<'_>,
     ) -> Result<(), AllocError> {
         self.goes_on()?;
-        self.outside
-            .passes_top(alloc, tree, caller, up, down, entry)?;
-        let path = tree.path_of(alloc, caller)?;
-        self.kept.call_goes(alloc, path.as_slice(), up, down, entry)
+        self.outside.notify(alloc, tree, happening)?;
+        match happening {
+            Happening::Dropped { parent, name } => self.note_drop(alloc, tree, parent, name),
+            Happening::Entered {
+                caller,
+                up,
+                down,
+                entry,
+            } => {
+                let path = tree.path_of(alloc, caller)?;
+                self.kept
+                    .call_enters(alloc, path.as_slice(), up, down, entry)
+            }
+            Happening::Returned {
+                caller,
+                up,
+                down,
+                ended,
+                told,
+            } => {
+                let path = tree.path_of(alloc, caller)?;
+                self.kept
+                    .call_returns(alloc, path.as_slice(), up, down, ended, told)
+            }
+            Happening::Missed {
+                caller,
+                up,
+                down,
+                entry,
+                told,
+            } => {
+                let path = tree.path_of(alloc, caller)?;
+                self.kept
+                    .call_misses(alloc, path.as_slice(), up, down, entry, told)
+            }
+            Happening::PassedTop {
+                caller,
+                up,
+                down,
+                entry,
+            } => {
+                let path = tree.path_of(alloc, caller)?;
+                self.kept.call_goes(alloc, path.as_slice(), up, down, entry)
+            }
+            Happening::EntryDone { target, ended } => self.kept.entry_ends(alloc, target, ended),
+            Happening::ExitCameBack {
+                caller,
+                up,
+                status,
+                ..
+            } => {
+                let path = tree.path_of(alloc, caller)?;
+                self.kept.exit_comes(alloc, path.as_slice(), up, status)
+            }
+        }
     }
 
     fn next(
@@ -231,32 +241,5 @@ impl<O: Outside> Outside for Recorder<O> {
         let noted = self.kept.turn_comes(alloc, path.as_slice(), up, &turn);
         self.incomplete = noted.is_err();
         turn
-    }
-
-    fn entry_leaves(
-        &mut self,
-        alloc: Global,
-        tree: &Tree,
-        target: &[Text],
-        ended: &Result<Value, Interruption>,
-    ) -> Result<(), AllocError> {
-        self.goes_on()?;
-        self.outside.entry_leaves(alloc, tree, target, ended)?;
-        self.kept.entry_ends(alloc, target, ended)
-    }
-
-    fn exit_comes_back(
-        &mut self,
-        alloc: Global,
-        tree: &Tree,
-        caller: Place,
-        up: Option<usize>,
-        entry: &Entry,
-        status: i64,
-    ) -> Result<(), AllocError> {
-        self.outside
-            .exit_comes_back(alloc, tree, caller, up, entry, status)?;
-        let path = tree.path_of(alloc, caller)?;
-        self.kept.exit_comes(alloc, path.as_slice(), up, status)
     }
 }

@@ -93,8 +93,8 @@ module _ {S : Type 0} (step : S → Request → HostReply → S → Type 0) (old
       (language_keeps_tops style) (stands (tree_of old []) (top_there old)) (entered e there run)
 
   -- what is recorded over that tape
-  watched_so : (e : OpenEnd) (run : Opened e) (w : Wholly e run) → IsWatched (hosted step) T0 (noted o first) w.says.events run.during run.between
-  watched_so e run w = watched (hosted step) T0 run.during (noted o first) run.between w.says.events w.outside
+  watched_so : (e : OpenEnd) (run : Opened e) (w : Wholly e run) → IsWatched (hosted step) [] T0 (noted o first) w.says.events [] run.during run.between
+  watched_so e run w = watched (hosted step) [] [] T0 run.during (noted o first) run.between w.says.events w.outside
 
   plain : (e : OpenEnd) (run : Opened e) → Comes (hosted step) (language style) T0 o.outside path (serve style (Eval script)) run.during z.outside run.reply
   plain e run =
@@ -115,7 +115,7 @@ module _ {S : Type 0} (step : S → Request → HostReply → S → Type 0) (old
         entry = record {
           events = τ;
           visits = visits (Taped (Crossings (recorded (hosted step)))) (language style) path (Eval script) w.says;
-          outside = subst (λ (u : S). Chain (Crossings (hosted step)) T0 o.outside τ run.during u) (sym run.told.outside) all.outside;
+          outside = subst (λ (u : S). Chain (Crossings (hosted step)) [] T0 o.outside τ [] run.during u) (sym run.told.outside) all.outside;
           kept = ends.kept ∙ ap (λ k. crossed k (last run.reply)) kept.kept ∙ after_parts (crossed o.kept first) τ (last run.reply ∷ []) ∙ after_one o.kept first (τ ++ last run.reply ∷ []);
           fate = ends.fate ∙ kept.fate ∙ sym (fate_parts o.deleted o.kept.watched τ (last run.reply ∷ []));
         };

@@ -1,15 +1,11 @@
 -- A host as the outside: it is told nothing of what happens within the tree.
 use Rattle.std.proofs.Common.{◌≡◌, ℕ, ◌++◌, length, Option, Some, None, refl, sym, subst}
 use Rattle.tcl_core.specs.Execution.{event}
-use Rattle.tcl_core.specs.Paths.{rise_to}
-use Rattle.tcl_core.specs.Trees.What.{Done, Out}
-use Rattle.tcl_run.specs.Ends.{IfEnded}
-use Rattle.tcl_run.specs.Entering.{whole_entry}
+use Rattle.tcl_core.specs.Trees.What.{Out}
 use Rattle.tcl_run.specs.Notifying.{Notified}
 use Rattle.tcl_run.specs.declared.outside.Happening.{Happening}
-use Rattle.tcl_run.specs.declared.outside.Happening.TheVariants as happening
-use Rattle.tcl_run.proofs.Endings.{IfEnded-all}
-use Rattle.tcl_tree.specs.TreeOf.{tree_of, Names}
+use Rattle.tcl_run.proofs.Quiet.{unchanged}
+use Rattle.tcl_tree.specs.TreeOf.{tree_of}
 use Rattle.tcl_tree.specs.declared.tree.Tree.{Tree as Table}
 use Rattle.tcl_core.specs.Endings.{Reply}
 use Rattle.tcl_core.specs.Entries.{Entry}
@@ -38,15 +34,5 @@ module _ {S : Type 0} (step : S → Request → HostReply → S → Type 0) wher
 
   -- nothing that it is told of changes it
   pub unheard : (t : Table) (o : S) (w : Happening) → Notified (hosted step) Prim.⊥ t o w o
-  unheard t o (happening.Dropped parent name) = λ p at. refl
-  unheard t o (happening.Entered caller up down entry) = λ p a at e. enters_unheard (tree_of t) o p up a down.now (whole_entry entry.now) e
-  unheard t o (happening.Returned caller up down ended told) =
-      let Told : Reply → Reply → Type 0 = λ s r. (p a : Path) → Names t caller p → rise_to (Some up) p ≡ Some a → Returns (hosted step) (tree_of t) o p up a down.now s r o in
-      IfEnded-all ended.now (λ s. IfEnded told.now (Told s)) (λ s. IfEnded-all told.now (Told s) (λ r p a at e. returns_unheard (tree_of t) o p up a down.now s r e))
-  unheard t o (happening.Missed caller up down entry told) = IfEnded-all told.now
-      (λ r. (p a : Path) → Names t caller p → rise_to (Some up) p ≡ Some a → Misses (hosted step) (tree_of t) o p up down.now (whole_entry entry.now) r o)
-      (λ r p a at e. misses_unheard (tree_of t) o p up a down.now (whole_entry entry.now) r e)
-  unheard t o (happening.PassedTop caller up down entry) = λ p at e.
-      subst (λ (x : Option Place). passing x (hosted_at step) (tree_of t) o None (event p (Out up down.now (whole_entry entry.now))) o) (sym e) refl
-  unheard t o (happening.EntryDone target ended) = IfEnded-all ended.now (λ r. hosted step (tree_of t) o None (event target.now (Done None r)) o) (λ r. refl)
-  unheard t o (happening.ExitCameBack caller up entry status) = λ h p at e. let nothing : Prim.⊥ = h in elim nothing [ ]
+  unheard t o w = unchanged (hosted step) t o w (λ p. refl) (enters_unheard (tree_of t) o) (returns_unheard (tree_of t) o) (misses_unheard (tree_of t) o)
+      (λ p h down i e. subst (λ (x : Option Place). passing x (hosted_at step) (tree_of t) o None (event p (Out h down i)) o) (sym e) refl) (λ q r. refl)

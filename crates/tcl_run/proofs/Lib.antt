@@ -6,3 +6,4 @@ pub mod Plain
 pub mod Hosting
 pub mod Losing
 pub mod Proceeding
+pub mod Quiet

@@ -21,7 +21,7 @@ use Rattle.tcl_core.proofs.RuleLaws.{derived_runs, runs_derived}
 use Rattle.tcl_core.proofs.SameRuns.{asked-inj}
 use Rattle.tcl_core.proofs.Unended.{NotCut}
 use Rattle.tcl_core.proofs.TreeLaws.{denied_budget}
-use Rattle.tcl_core.proofs.Callers.{entering_calls}
+use Rattle.tcl_core.proofs.Callers.{entering_calls, fit}
 use Rattle.tcl_partial_runs.specs.Beginnings.{Begins, BeginsEach, Begun, allowed, handed, handing}
 use Rattle.tcl_partial_runs.proofs.Begins.{begins}
 use Rattle.tcl_host.specs.declared.reply.HostReply.{HostReply as TheirReply}
@@ -112,7 +112,7 @@ module _ {I S : Type 0} (step : S → TheirRequest → TheirReply → S → Type
   -- what a host was asked until the script was given up is what the whole evaluation begins with
   pub is_beginning : {o z : S} → Begun (Crossings (hosted step)) prog (limited n T) o p script z → IsBeginning step prog T p s n o z
   is_beginning {o} {z} begun =
-      let b : BeginsEach (keeps_call step) prog (limited n T) (o, None) p script (z, None) = begins (keeps_call step) prog (kept step prog begun (entering_calls prog (limited n T p) (Eval s))) in
+      let b : BeginsEach (keeps_call step) prog (limited n T) (o, None) p script (z, None) = begins (keeps_call step) prog (fit script (entering_calls prog (limited n T p) (Eval s))) (kept step prog begun (entering_calls prog (limited n T p) (Eval s))) in
       let h : Hosts step (o, None) b.told z = hosts step (limited n T) b.last (o, None) (z, None) b.told b.chain refl in
       record {
         replies = h.replies;

@@ -9,7 +9,7 @@ use Rattle.tcl_core.specs.Laws.{IsSpared, IsLowering}
 use Rattle.tcl_core.specs.Lives.{IsUncut, Uncut, comes, outs_of, put}
 use Rattle.tcl_core.specs.Paths.{Path, Place, Height, rise_to}
 use Rattle.tcl_core.specs.Programs.{Wait}
-use Rattle.tcl_core.specs.Execution.{Chain, event, more, none}
+use Rattle.tcl_core.specs.Execution.{Chain, Open, event, more, none}
 use Rattle.tcl_core.specs.Trees.{Event, Tree, What, where_none, effect}
 use Rattle.tcl_core.specs.Trees.What.{Out, Done, Back}
 use Rattle.tcl_core.specs.Trees.Move.{Come}
@@ -138,7 +138,7 @@ module _ {S : Type 0} (step : S → TheirRequest → TheirReply → S → Type 0
   one w v p x τ z (ends h r e past f idle is) g = subst (λ y. Hosts w (event p y ∷ τ) z) (sym e) (ends_one w v p h r τ z past f idle is g)
 
   -- What such a host goes through reads its replies alone, which belong to it.
-  pub hosts : (T V : Tree Own) (w v : Holding S) (τ : List (Event Own)) → Chain keeps_call T w τ V v → v.open_call ≡ None → Hosts w τ v.state
+  pub hosts : {cs ds : Open} (T V : Tree Own) (w v : Holding S) (τ : List (Event Own)) → Chain keeps_call cs T w τ ds V v → v.open_call ≡ None → Hosts w τ v.state
   hosts T V w v [] none idle = record {
     replies = [];
     moves = refl;

@@ -16,7 +16,7 @@ use Rattle.tcl_core.specs.Trees.What.{In, Done}
 use Rattle.tcl_core.specs.Trees.Move.{Enter}
 use Rattle.tcl_core.specs.Views.{steps_of}
 use Rattle.tcl_core.proofs.Budgets.{budgeted, derived_budget}
-use Rattle.tcl_core.proofs.Following.{Rest, Says, ahead, chain-append, follows, handed, handed-all, handed-append}
+use Rattle.tcl_core.proofs.Following.{Rest, Says, ahead, called_on, chain-append, follows, handed, handed-all, handed-append}
 use Rattle.tcl_core.proofs.RuleLaws.{derived_runs}
 use Rattle.tcl_core.proofs.Unended.{NotCut}
 use Rattle.tcl_core.proofs.Callers.{entering_calls, fit}
@@ -56,8 +56,8 @@ module _ {I S : Type 0} (step : S → TheirRequest → TheirReply → S → Type
   leaving = record { moves = []; words = []; tape = last ∷ [] }
 
   -- all that happens in the entry, and its end, belongs to the host
-  belonging : NotCut r → (τ : List (Event Own)) → Chain (keeps_call step) (limited n T) (holding o None) τ V (holding z None) → Hosts step (holding o None) (τ ++ last ∷ []) z
-  belonging f τ c = hosts step (limited n T) V (holding o None) (holding z None) (τ ++ last ∷ []) (chain-append (keeps_call step) c (more {s = None} (ends None r refl refl f refl refl) none)) refl
+  belonging : NotCut r → (τ : List (Event Own)) → Chain (keeps_call step) [] (limited n T) (holding o None) τ [] V (holding z None) → Hosts step (holding o None) (τ ++ last ∷ []) z
+  belonging f τ c = hosts step (limited n T) V (holding o None) (holding z None) (τ ++ last ∷ []) (chain-append (keeps_call step) c (more (ends None r refl refl f refl refl) none)) refl
 
   module _ (τ : List (Event Own)) (d : Derives prog (ahead (limited n T) τ leaving) p script (ahead V [] leaving) (Some r)) (h : Hosts step (holding o None) (τ ++ last ∷ []) z) where
     handed_in : handed τ [] ≡ comes h.replies
@@ -105,7 +105,7 @@ module _ {I S : Type 0} (step : S → TheirRequest → TheirReply → S → Type
 pub record WholeTape {I S R : Type 0} (step : S → TheirRequest → TheirReply → S → Type 0) (goes : Going R) (host_of : R → S) (prog : Table Own I) (T : Tree Own) (p : Path) (s : Text) (n : ℕ) (o : R) (V : Tree Own) (z : R) (r : Reply) : Type 0 where
   pub tape : List (Event Own)
   pub says : Says (Taped goes) prog (limited n T) (o, []) p (entering prog (limited n T p) (Eval s)) V (z, tape) r
-  pub outside : Chain goes (limited n T) o says.events V z
+  pub outside : Chain goes [] (limited n T) o says.events [] V z
   pub whole : WholeRun step prog T p s n (host_of o) V (host_of z) r
   pub taped : whole.whole.tape ≡ event p (In None (Eval s)) ∷ (says.events ++ event p (Done None r) ∷ [])
 
@@ -121,16 +121,18 @@ module _ {I S R : Type 0} (step : S → TheirRequest → TheirReply → S → Ty
       let g : Held step goes host_of as_host fine prog keep (limited n T) (o, []) None p x V (z, k.tape) r =
       calm step goes host_of as_host fine prog keep (limited n T) (o, []) p x V (z, k.tape) r calls
       (held step goes host_of as_host fine prog keep k.executes (fit x calls) (entering_limits fine prog keep (limited n T p) (Eval s) p (λ e. refl)) (limited_top [] (Some (count_at (T []) + n)) T top)) in
-      let f = follows (Taped (keeps_call step)) prog g.executes in
-      let d = follows (Taped goes) prog k.executes in
-      let same : f.events ≡ d.events = sym (all_written (keeps_call step) f.chain) ∙ all_written goes d.chain in
+      let f = follows (Taped (keeps_call step)) prog (fit x calls) g.executes in
+      let told = called_on (Taped (keeps_call step)) x calls (f.chain []) in
+      let d = follows (Taped goes) prog (fit x calls) k.executes in
+      let heard = called_on (Taped goes) x calls (d.chain []) in
+      let same : f.events ≡ d.events = sym (all_written (keeps_call step) told) ∙ all_written goes heard in
       let h : Hosts step (holding (host_of o) None) (f.events ++ event p (Done None r) ∷ []) (host_of z) =
-      belonging step fine prog T V (host_of o) (host_of z) p s n r g.uncut f.events (unwritten (keeps_call step) f.chain) in
+      belonging step fine prog T V (host_of o) (host_of z) p s n r g.uncut f.events (unwritten (keeps_call step) told) in
       let e : (e : End) × (end_at p r ≡ Some e) = ending_at p r g.uncut in
       record {
         tape = k.tape;
         says = d;
-        outside = unwritten goes d.chain;
+        outside = unwritten goes heard;
         whole = record {
           replies = h.replies;
           outs = outs_of (f.events ++ event p (Done None r) ∷ []);

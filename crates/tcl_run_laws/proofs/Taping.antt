@@ -6,7 +6,7 @@ use Rattle.tcl_core.specs.Entries.Answer.{Replied, Heard}
 use Rattle.tcl_core.specs.Paths.{Place}
 use Rattle.tcl_core.specs.Programs.{Prog, Table, Wait, closes, spot}
 use Rattle.tcl_core.specs.Runs.{carried, height_of}
-use Rattle.tcl_core.specs.Execution.{Chain, Executes, event, more, none}
+use Rattle.tcl_core.specs.Execution.{Chain, Executes, Open, event, more, none}
 use Rattle.tcl_core.specs.Execution.Executes.{completed, exited, acted, refused, went, passed, wrapped, wrapped_passed, too_deep, shut, called, called_passed, unreached, called_out, answered, heard, answered_passed, entered, entered_exiting}
 use Rattle.tcl_core.specs.Trees.{Event, Tree}
 use Rattle.tcl_core.specs.Trees.What.{Out, In, Done, Back}
@@ -18,11 +18,11 @@ pub record Taped {O S : Type 0} (step : Tree O → S → Wait → Event O → S 
 
 module _ {O S : Type 0} (step : Tree O → S → Wait → Event O → S → Type 0) where
   -- what an outside goes through is what is written
-  pub all_written : {T V : Tree O} {o z : S × List (Event O)} {τ : List (Event O)} → Chain (Taped step) T o τ V z → z.1 ≡ o.1 ++ τ
+  pub all_written : {cs ds : Open} {T V : Tree O} {o z : S × List (Event O)} {τ : List (Event O)} → Chain (Taped step) cs T o τ ds V z → z.1 ≡ o.1 ++ τ
   all_written (none {o = o}) = sym (append-nil o.1)
   all_written (more {o = o} {ev = ev} {τ = τ} a rest) = all_written rest ∙ ap (λ xs. xs ++ τ) a.written ∙ append_assoc o.1 (ev ∷ []) τ
 
-  pub unwritten : {T V : Tree O} {o z : S × List (Event O)} {τ : List (Event O)} → Chain (Taped step) T o τ V z → Chain step T o.0 τ V z.0
+  pub unwritten : {cs ds : Open} {T V : Tree O} {o z : S × List (Event O)} {τ : List (Event O)} → Chain (Taped step) cs T o τ ds V z → Chain step cs T o.0 τ ds V z.0
   unwritten none = none
   unwritten (more a rest) = more a.goes (unwritten rest)
 

@@ -8,7 +8,7 @@ use Rattle.tcl_core.specs.Entries.Entry.{AskHost}
 use Rattle.tcl_core.specs.Lives.{comes, outs_of, put, told}
 use Rattle.tcl_core.specs.Paths.{Path, Place, Height, rise_to}
 use Rattle.tcl_core.specs.Programs.{Wait}
-use Rattle.tcl_core.specs.Execution.{Chain, event, more, none}
+use Rattle.tcl_core.specs.Execution.{Chain, Open, event, more, none}
 use Rattle.tcl_core.specs.Trees.{Event, Move, Tree, What, asked, at_top, effect, where_none}
 use Rattle.tcl_core.specs.Trees.What.{Made, Dropped, Out, In, Done, Back}
 use Rattle.tcl_core.specs.Trees.Move.{Born, Fall, Enter, Come}
@@ -132,7 +132,7 @@ module _ {S : Type 0} (step : S → TheirRequest → TheirReply → S → Type 0
   one w v p x τ z (misses n i e past is_open is) g = subst (λ y. Hosts w (event p y ∷ τ) z) (sym e) (misses_one w v p n i τ z past is_open is g)
 
   -- What such a host goes through, up to where no call is open to it.
-  pub hosts : (T V : Tree Own) (w v : Holding S) (τ : List (Event Own)) → Chain keeps_call T w τ V v → v.1 ≡ None → Hosts w τ v.0
+  pub hosts : {cs ds : Open} (T V : Tree Own) (w v : Holding S) (τ : List (Event Own)) → Chain keeps_call cs T w τ ds V v → v.1 ≡ None → Hosts w τ v.0
   hosts T V w v [] none idle = record {
     replies = [];
     moves = λ more. refl;

@@ -18,7 +18,7 @@ use tcl_host::request::Request;
 use tcl_recorder::crossing::{copy_completion, copy_heard};
 use tcl_run::entry::Entry;
 use tcl_run::interruption::{Cause, Interruption};
-use tcl_run::outside::{Outside, Turn};
+use tcl_run::outside::{Happening, Outside, Turn};
 use tcl_text::text::Text;
 use tcl_tree::tree::{Place, Tree};
 use tcl_value::value::Value;
@@ -312,62 +312,11 @@ impl Outside for Standing {
 
     fn refuses_step(&mut self) {}
 
-    fn drops(
+    fn notify(
         &mut self,
         _alloc: Global,
         _tree: &Tree,
-        _parent: Place,
-        _name: &Text,
-    ) -> Result<(), AllocError> {
-        Ok(())
-    }
-
-    fn enters(
-        &mut self,
-        _alloc: Global,
-        _tree: &Tree,
-        _caller: Place,
-        _up: usize,
-        _down: &[Text],
-        _entry: &Entry,
-    ) -> Result<(), AllocError> {
-        Ok(())
-    }
-
-    fn returns(
-        &mut self,
-        _alloc: Global,
-        _tree: &Tree,
-        _caller: Place,
-        _up: usize,
-        _down: &[Text],
-        _ended: &Result<Value, Interruption>,
-        _told: &Result<Value, Interruption>,
-    ) -> Result<(), AllocError> {
-        Ok(())
-    }
-
-    fn misses(
-        &mut self,
-        _alloc: Global,
-        _tree: &Tree,
-        _caller: Place,
-        _up: usize,
-        _down: &[Text],
-        _entry: &Entry,
-        _told: &Result<Value, Interruption>,
-    ) -> Result<(), AllocError> {
-        Ok(())
-    }
-
-    fn passes_top(
-        &mut self,
-        _alloc: Global,
-        _tree: &Tree,
-        _caller: Place,
-        _up: Option<usize>,
-        _down: &[Text],
-        _entry: &Entry,
+        _happening: Happening<'_>,
     ) -> Result<(), AllocError> {
         Ok(())
     }
@@ -384,27 +333,5 @@ impl Outside for Standing {
             Some(answer) => answer_again(alloc, up, entry, answer),
             None => self.turn(alloc, tree, caller, up, entry),
         }
-    }
-
-    fn entry_leaves(
-        &mut self,
-        _alloc: Global,
-        _tree: &Tree,
-        _target: &[Text],
-        _ended: &Result<Value, Interruption>,
-    ) -> Result<(), AllocError> {
-        Ok(())
-    }
-
-    fn exit_comes_back(
-        &mut self,
-        _alloc: Global,
-        _tree: &Tree,
-        _caller: Place,
-        _up: Option<usize>,
-        _entry: &Entry,
-        _status: i64,
-    ) -> Result<(), AllocError> {
-        Ok(())
     }
 }

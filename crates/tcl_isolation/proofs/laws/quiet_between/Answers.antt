@@ -11,5 +11,5 @@ pub returns : goal.returns
 returns g d = record {
   tree = λ prog T V o z t i c crossings r first mid last ev m w e f n.
       quiet_outside prog c (before T (visit t i w.events r)) (before V []) None first mid last ev (life _ prog T V o z t i c crossings r w) refl e (enters c ev m f) (stays c mid n);
-  host = λ prog T V o z t i c crossings r first mid last ev m M N o1 o2 w e f n k. host_between _ prog T V o z t i c crossings r w first mid last ev M N o1 o2 e (enters c ev m f) (stays c mid n) k;
+  host = λ prog T V o z t i c crossings r first mid last ev m cs ds M N o1 o2 w e f n k. host_between _ prog T V o z t i c crossings r w first mid last ev cs ds M N o1 o2 e (enters c ev m f) (stays c mid n) k;
 }

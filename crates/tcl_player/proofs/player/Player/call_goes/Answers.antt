@@ -7,7 +7,7 @@ use Rattle.tcl_run.specs.Entering.{whole_entry}
 use Rattle.tcl_player.specs.Players.{player_of}
 use Rattle.tcl_player.proofs.Lists.{same_last, same_out, told_more}
 use Rattle.tcl_player.proofs.Played.{outer, told_on}
-use Rattle.tcl_player.proofs.player.PlayerOutside.passes_top.Goals as goal
+use Rattle.tcl_player.proofs.player.Player.call_goes.Goals as goal
 
 pub invariant_of-self : goal.invariant_of-self
 invariant_of-self c = record { last = same_last (is_ok c.push.result) c.push.new.self.items c.args.self.now.outs.items _ c.args.self.now.exited c.push.ensures.items c.args.self.now.last (λ y. refl) }

@@ -13,15 +13,15 @@ use Rattle.tcl_player.specs.Moves.{move_of}
 use Rattle.tcl_player.specs.Players.{GoesOn, IsOverBy, player_of}
 use Rattle.std.proofs.Common.{Some}
 use Rattle.tcl_player.proofs.Played.{answered, outer, over_at, read_at}
-use Rattle.tcl_player.proofs.player.PlayerOutside.exit_comes_back.Goals as goal
+use Rattle.tcl_player.proofs.player.Player.exit_comes.Goals as goal
 
 pub returns-in-None-clause-told : goal.returns-in-None-clause-told
-returns-in-None-clause-told c = λ may p at up.
+returns-in-None-clause-told c = λ p up.
     outer (rise_to c.args.up p) (player_of c.args.self.now) (player_of c.read_on.new.self) _ up
     (over_at c.in_ok-read_on.field-0 (IsOverBy (tree_of c.args.tree.now) (player_of c.args.self.now) c.args.up (whole_entry c.args.entry.now) (player_of c.read_on.new.self)) c.in-None.is c.in_ok-read_on.ensures.over (Replied (Exit c.args.status)) tt)
 
 pub returns-in-Some-Come-clause-told : goal.returns-in-Some-Come-clause-told
-returns-in-Some-Come-clause-told c = λ may p at up.
+returns-in-Some-Come-clause-told c = λ p up.
     let T = tree_of c.args.tree.now in
     let o = player_of c.args.self.now in
     let z = player_of c.read_on.new.self in

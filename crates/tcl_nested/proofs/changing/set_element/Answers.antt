@@ -3,7 +3,7 @@ use Rattle.std.proofs.lemmas.Result.{err_from_is_err_and}
 use Rattle.tcl_nested.proofs.Placed.{given_on, first_and_rest}
 use Rattle.tcl_nested.specs.Nested.{element_changed, RefusesText}
 use Rattle.tcl_nested.proofs.Levels.{element_below}
-use Rattle.tcl_nested.proofs.changing.set_element_anew.Goals as goal
+use Rattle.tcl_nested.proofs.changing.set_element.Goals as goal
 
 pub returns-in_err-inner-in-len1-up-clause-refused : goal.returns-in_err-inner-in-len1-up-clause-refused
 returns-in_err-inner-in-len1-up-clause-refused c =

@@ -2,7 +2,7 @@ use Rattle.std.proofs.Common.{refl}
 use Rattle.tcl_recorder.specs.Crossings.{reply_of}
 use Rattle.tcl_player.proofs.Lists.{new_last}
 use Rattle.tcl_player.proofs.Played.{ends_by}
-use Rattle.tcl_player.proofs.player.PlayerOutside.entry_leaves.Goals as goal
+use Rattle.tcl_player.proofs.player.Player.entry_ends.Goals as goal
 
 pub invariant_of-self-2 : goal.invariant_of-self-2
 invariant_of-self-2 c = record {
