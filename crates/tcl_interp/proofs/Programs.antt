@@ -5,7 +5,7 @@ use Rattle.tcl_core.specs.Entries.{Question}
 use Rattle.tcl_core.specs.Paths.{Text}
 use Rattle.tcl_language.specs.Interpreters as interpreters
 use Rattle.tcl_text.specs.declared.integer.Integers.{Integers}
-use Rattle.tcl_interp.specs.Programs.{IsChilds, IsInterps, aliases, depths, evals, exposes, gives_alias, hides, invokes, limits, questions}
+use Rattle.tcl_interp.specs.Programs.{IsChilds, IsInterps, aliases, depths, evals, exposes, hides, invokes, limits, questions}
 use Rattle.tcl_interp.specs.Subjects.{on_child, split_path}
 use Rattle.tcl_interp.specs.declared.subcommand.Subcommand.TheVariants as sub
 

@@ -1,6 +1,6 @@
 -- The programs of the subcommands that `interp` and a child's own command have both: one for each,
 -- whichever of the two it is called by.
-use Rattle.std.specs.Prelude.{◌≡◌, Bool, true, false, List, [], ◌∷◌, ◌-◌, codes, length, drop}
+use Rattle.std.specs.Prelude.{◌≡◌, Bool, false, List, [], ◌∷◌, ◌-◌, codes, length, drop}
 use Rattle.tcl_core.specs.Entries.{Entry, Question}
 use Rattle.tcl_core.specs.Entries.Entry.{Ask, ClearAlias, Eval, Expose, Hide, InvokeHidden}
 use Rattle.tcl_core.specs.Entries.Entry.{SetAlias, SetCountLimit, SetDepthLimit}

@@ -1,5 +1,4 @@
-use Rattle.std.proofs.Common.{◌∙◌, [], ◌∷◌, sym, ap}
-use Rattle.tcl_core.specs.Paths.{Path, Text}
+use Rattle.std.proofs.Common.{[], ◌∷◌, ap}
 use Rattle.tcl_entries.proofs.Telling.{evaluates_as}
 use Rattle.tcl_interp.specs.Programs.{given, gives_alias}
 use Rattle.tcl_interp.specs.Subjects.{About, about, on_path}

@@ -1,4 +1,4 @@
-use Rattle.std.proofs.Common.{[], length, ap}
+use Rattle.std.proofs.Common.{[], ap}
 use Rattle.std.specs.Prelude.{codes}
 use Rattle.tcl_language.specs.Faults.{wrong_args}
 use Rattle.tcl_entries.proofs.Telling.{evaluates_as, fails_told}

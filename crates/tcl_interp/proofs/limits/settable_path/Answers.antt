@@ -1,5 +1,4 @@
-use Rattle.std.proofs.Common.{◌∙◌, [], ap, subst}
-use Rattle.tcl_core.specs.Paths.{Path, Text}
+use Rattle.std.proofs.Common.{ap}
 use Rattle.tcl_entries.proofs.Looks.{gets_as}
 use Rattle.tcl_interp.specs.Programs.{settable}
 use Rattle.tcl_interp.specs.Subjects.{About, about, on_path}

@@ -3,10 +3,8 @@ use Rattle.std.proofs.lemmas.Result.{err_from_is_err_and}
 use Rattle.tcl_core.specs.Paths.{Path}
 use Rattle.tcl_core.specs.Programs.Act.{Look}
 use Rattle.tcl_core.specs.Programs.Prog.{act}
-use Rattle.tcl_language.specs.Instructions.{Program}
 use Rattle.tcl_language.specs.Interpreters.{where_it_stands}
 use Rattle.tcl_run.proofs.Endings.{ended_err}
-use Rattle.tcl_text.specs.declared.integer.Integers.{Integers}
 use Rattle.tcl_entries.specs.Asking.{Styled}
 use Rattle.tcl_entries.specs.Looking.{GetsTo, GetsToEnd}
 use Rattle.tcl_entries.proofs.Looks.{gets_end, looks_then}

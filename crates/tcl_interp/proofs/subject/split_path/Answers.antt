@@ -1,8 +1,8 @@
-use Rattle.std.proofs.Common.{[], sym, ap, ◌∙◌}
+use Rattle.std.proofs.Common.{sym, ap, ◌∙◌}
 use Rattle.tcl_core.specs.Paths.{Text}
 use Rattle.std.proofs.Common.{List}
 use Rattle.tcl_text.proofs.Items.{no_item, split_first}
-use Rattle.tcl_interp.specs.Subjects.{About, on_itself, split_path}
+use Rattle.tcl_interp.specs.Subjects.{on_itself, split_path}
 use Rattle.tcl_interp.proofs.subject.split_path.Goals as goal
 
 pub returns-in-len1-up : goal.returns-in-len1-up
