@@ -22,7 +22,7 @@ use Rattle.tcl_entries.proofs.Looks.{gets_as, gets_end, gets_failed, is_program,
 use Rattle.tcl_interp.specs.Limits.{DepthGiven}
 use Rattle.tcl_interp.specs.Programs.{settable}
 use Rattle.tcl_interp.specs.Subjects.{About, on_child, on_itself, on_path}
-use Rattle.tcl_interp.specs.declared.limits.Limit.{Limit}
+use Rattle.tcl_interp.specs.declared.limits.LimitOf.{LimitOf}
 
 pub below_goes : (path : Path) (k : Program) → 1 ≤ length path → interpreters.below_itself path k ≡ k
 below_goes [] k h = absurd (omega arith)
@@ -79,8 +79,8 @@ limit_goes t place own word n rest other same read = λ p style at.
 
 -- ## The path at which a limit may be set
 
-pub settable_itself : (limit : Limit) (a : About) (text : Text) → a ≡ on_itself → text ≡ [] → (k : Path → Program) → settable limit a k ≡ settable limit (on_path text) k
+pub settable_itself : (limit : LimitOf) (a : About) (text : Text) → a ≡ on_itself → text ≡ [] → (k : Path → Program) → settable limit a k ≡ settable limit (on_path text) k
 settable_itself limit a text e f k = ap (λ (x : About). settable limit x k) e ∙ ap (λ (x : Text). settable limit (on_path x) k) (sym f)
 
-pub settable_child : (limit : Limit) (a : About) (name : Text) (path : Path) → a ≡ on_child name → path ≡ name ∷ [] → (k : Path → Program) → settable limit a k ≡ k path
+pub settable_child : (limit : LimitOf) (a : About) (name : Text) (path : Path) → a ≡ on_child name → path ≡ name ∷ [] → (k : Path → Program) → settable limit a k ≡ k path
 settable_child limit a name path e f k = ap (λ (x : About). settable limit x k) e ∙ ap k (sym f)

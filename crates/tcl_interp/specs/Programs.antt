@@ -23,8 +23,8 @@ use Rattle.tcl_text.specs.declared.integer.Integers.{Integers}
 use Rattle.tcl_interp.specs.Subcommands.{child_program_of, path_program_of}
 use Rattle.tcl_interp.specs.Subjects.{About, asks_of, form_of, on_child, on_itself, on_path}
 use Rattle.tcl_interp.specs.Subjects.{path_text, reached, split_path}
-use Rattle.tcl_interp.specs.declared.limits.Limit.{Limit}
-use Rattle.tcl_interp.specs.declared.limits.Limit.TheVariants.{Steps, Depth}
+use Rattle.tcl_interp.specs.declared.limits.LimitOf.{LimitOf}
+use Rattle.tcl_interp.specs.declared.limits.LimitOf.TheVariants.{Steps, Depth}
 use Rattle.tcl_interp.specs.declared.subcommand.Subcommand.{Subcommand}
 use Rattle.tcl_interp.specs.declared.subcommand.Subcommand.TheVariants as sub
 
@@ -74,27 +74,27 @@ questions about form own q (x ∷ xs) = fails (wrong_args (form_of about form ow
 -- ## Limits
 
 -- on with what sets a limit to what a word is
-abbrev pub to_limit : Integers → Limit → Text → (Entry → Program) → Program
+abbrev pub to_limit : Integers → LimitOf → Text → (Entry → Program) → Program
 to_limit style Steps value k = limit_value style value (λ limit. k (SetCountLimit limit))
 to_limit style Depth value k = integer style value
     (λ z. depth_number z (λ limit. k (SetDepthLimit limit)))
 
 -- on, where a limit may be set at a path
-abbrev pub allowed : Limit → Path → Program → Program
+abbrev pub allowed : LimitOf → Path → Program → Program
 allowed Steps path k = below_itself path k
 allowed Depth path k = unless_root path k
 
 -- on with the path at which a limit may be set
-abbrev pub settable_at : Limit → Text → (Path → Program) → Program
+abbrev pub settable_at : LimitOf → Text → (Path → Program) → Program
 settable_at limit text k = or_fails fault_message (list_of text) (λ path. allowed limit path
     (act Look (λ T. where_it_stands text (λ n. k path) (T path))))
 
-abbrev pub settable : Limit → About → (Path → Program) → Program
+abbrev pub settable : LimitOf → About → (Path → Program) → Program
 settable limit on_itself k = settable_at limit [] k
 settable limit (on_path text) k = settable_at limit text k
 settable limit (on_child name) k = k (name ∷ [])
 
-abbrev pub sets : Integers → Limit → About → Text → Program
+abbrev pub sets : Integers → LimitOf → About → Text → Program
 sets style limit about value = permitted (settable limit about
     (λ path. to_limit style limit value (λ entry. asks_at path entry done)))
 

@@ -9,7 +9,7 @@ use Rattle.tcl_interp.specs.declared.subject.Subject.{Subject}
 use Rattle.tcl_interp.specs.declared.subject.Subject.TheVariants as subject
 
 -- the interpreter that asks, the one at the path that a text is, or the child of a name
-data pub About : Type 0 where
+pub data About : Type 0 where
   on_itself : About
   on_path : Text → About
   on_child : Text → About

@@ -30,7 +30,7 @@ use tcl_value::value::Value;
 
 /// What a limit is of.
 #[derive(Clone, Copy, Debug, Drop)]
-pub enum Limit {
+pub enum LimitOf {
     Steps,
     Depth,
 }
@@ -149,15 +149,15 @@ fn setting(
     tree: &Tree,
     alloc: Global,
     place: Place,
-    limit: Limit,
+    limit: LimitOf,
     value: &Value,
 ) -> Result<OwnEntry, Interruption>
     ensures { Finds tree.now place (λ entry. entry_of entry)
         (λ rest style. to_limit style limit value.now (λ e. rest e style)) result }
 {
     match limit {
-        Limit::Steps => Ok(OwnEntry::SetCountLimit(limit_value(tree, alloc, place, value)?)),
-        Limit::Depth => Ok(OwnEntry::SetDepthLimit(depth_value(tree, alloc, place, value)?)),
+        LimitOf::Steps => Ok(OwnEntry::SetCountLimit(limit_value(tree, alloc, place, value)?)),
+        LimitOf::Depth => Ok(OwnEntry::SetDepthLimit(depth_value(tree, alloc, place, value)?)),
     }
 }
 
@@ -167,15 +167,15 @@ fn allow(
     tree: &Tree,
     alloc: Global,
     place: Place,
-    limit: Limit,
+    limit: LimitOf,
     path: &[Text],
 ) -> Result<(), Interruption>
     requires { (p : Path) × Names tree.now place p }
     ensures { Passes tree.now place (λ rest style. allowed limit path.now (rest style)) result }
 {
     match limit {
-        Limit::Steps => below_itself(tree, alloc, place, path),
-        Limit::Depth => unless_root(tree, alloc, place, path),
+        LimitOf::Steps => below_itself(tree, alloc, place, path),
+        LimitOf::Depth => unless_root(tree, alloc, place, path),
     }
 }
 
@@ -184,7 +184,7 @@ fn settable_word(
     tree: &Tree,
     alloc: Global,
     place: Place,
-    limit: Limit,
+    limit: LimitOf,
     word: &Value,
 ) -> Result<Vec<Text>, Interruption>
     requires { (p : Path) × Names tree.now place p }
@@ -202,7 +202,7 @@ fn settable_path(
     tree: &Tree,
     alloc: Global,
     place: Place,
-    limit: Limit,
+    limit: LimitOf,
     subject: Subject<'_>,
 ) -> Result<Vec<Text>, Interruption>
     requires { (p : Path) × Names tree.now place p }
@@ -223,7 +223,7 @@ fn set_limit<O: Outside>(
     outside: &mut O,
     place: Place,
     subject: Subject<'_>,
-    limit: Limit,
+    limit: LimitOf,
     value: &Value,
 ) -> Result<Value, Interruption>
     requires { IsRunning tree.old place }
@@ -281,7 +281,7 @@ fn limit_with<O: Outside>(
 {
     commands_only(tree, alloc, place, word)?;
     value_only(tree, alloc, place, option)?;
-    set_limit(tree, alloc, outside, place, subject, Limit::Steps, value)
+    set_limit(tree, alloc, outside, place, subject, LimitOf::Steps, value)
 }
 
 /// `interp limit path commands ?-value n?`, and `NAME limit commands ?-value n?`
@@ -364,7 +364,7 @@ pub fn recursion_limit<O: Outside>(
 {
     match args {
         [] => depth_limit_of(tree, alloc, outside, place, subject),
-        [value] => set_limit(tree, alloc, outside, place, subject, Limit::Depth, value),
+        [value] => set_limit(tree, alloc, outside, place, subject, LimitOf::Depth, value),
         _ => Err(wrong_words(alloc, subject, DEPTH_FORM, "recursionlimit ?n?")),
     }
 }

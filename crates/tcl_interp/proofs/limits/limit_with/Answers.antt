@@ -5,7 +5,7 @@ use Rattle.tcl_entries.specs.Asking.{Styled}
 use Rattle.tcl_entries.proofs.Looks.{gets_evaluates}
 use Rattle.tcl_interp.specs.Programs.{limits, sets}
 use Rattle.tcl_interp.specs.Subjects.{about}
-use Rattle.tcl_interp.specs.declared.limits.Limit.TheVariants.{Steps}
+use Rattle.tcl_interp.specs.declared.limits.LimitOf.TheVariants.{Steps}
 use Rattle.tcl_interp.proofs.Subjects.{passed_out}
 use Rattle.tcl_interp.proofs.limits.limit_with.Goals as goal
 

@@ -5,7 +5,7 @@ use Rattle.tcl_entries.proofs.Telling.{evaluates_as, fails_told}
 use Rattle.tcl_text.proofs.Items.{no_item, one_item}
 use Rattle.tcl_interp.specs.Programs.{depth_form, depths, sets}
 use Rattle.tcl_interp.specs.Subjects.{about, form_of}
-use Rattle.tcl_interp.specs.declared.limits.Limit.TheVariants.{Depth}
+use Rattle.tcl_interp.specs.declared.limits.LimitOf.TheVariants.{Depth}
 use Rattle.tcl_interp.proofs.Forms.{depth_wrong}
 use Rattle.tcl_interp.proofs.limits.recursion_limit.Goals as goal
 
