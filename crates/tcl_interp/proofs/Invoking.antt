@@ -27,10 +27,10 @@ module _ (a : About) where
 
   -- ## The first word
 
-  after_option : Text → List Text → Bool → Program
+  abbrev after_option : Text → List Text → Bool → Program
   after_option w words b = either (b && not false) (either (is_global w) (invoked_as (path_text a) (invoke_forms a) true words) (fails (bad_option w))) (asks_trusted (path_text a) (InvokeHidden false (w ∷ words)))
 
-  after_global : Text → List Text → Bool → Program
+  abbrev after_global : Text → List Text → Bool → Program
   after_global w words b = either b (invoked_as (path_text a) (invoke_forms a) true words) (fails (bad_option w))
 
   -- behind `-global` nothing is an option

@@ -33,5 +33,5 @@ returns-clause-evaluates g c =
     let reads : Path → Styled = λ path style. or_fails fault_message (list_of c.args.target.now) (λ goal. gives path goal style) in
     gets_evaluates g.O.Outside.goes c.args.tree.now c.args.outside.now c.args.place (λ style. alias_path c.args.source.now c.args.name.now c.args.target.now c.args.word.now c.args.words.now) (reads c.in_ok-found.found.path.items) c.set_alias.new.tree c.set_alias.new.outside c.set_alias.result (c.in_ok-found.ensures.read reads)
     (gets_evaluates g.O.Outside.goes c.args.tree.now c.args.outside.now c.args.place (reads c.in_ok-found.found.path.items) (gives c.in_ok-found.found.path.items c.in_ok-goal.goal.items) c.set_alias.new.tree c.set_alias.new.outside c.set_alias.result (c.in_ok-goal.ensures (gives c.in_ok-found.found.path.items))
-    (subst (λ (x : Path). Evaluates g.O.Outside.goes c.args.tree.now c.args.outside.now c.args.place (gives x c.in_ok-goal.goal.items) c.set_alias.new.tree c.set_alias.new.outside c.set_alias.result) c.as_slice.ensures.value
-    (subst (λ (x : Path). Evaluates g.O.Outside.goes c.args.tree.now c.args.outside.now c.args.place (gives c.as_slice.result.now x) c.set_alias.new.tree c.set_alias.new.outside c.set_alias.result) c.as_slice-2.ensures.value c.set_alias.ensures.evaluates)))
+    (subst (λ (x : Path). Evaluates g.O.Outside.goes c.args.tree.now c.args.outside.now c.args.place (gives x c.in_ok-goal.goal.items) c.set_alias.new.tree c.set_alias.new.outside c.set_alias.result) c.as_slice-from.ensures.value
+    (subst (λ (x : Path). Evaluates g.O.Outside.goes c.args.tree.now c.args.outside.now c.args.place (gives c.as_slice-from.result.now x) c.set_alias.new.tree c.set_alias.new.outside c.set_alias.result) c.as_slice-to.ensures.value c.set_alias.ensures.evaluates)))

@@ -18,8 +18,8 @@ returns-in_ok-depth_value-in-Depth c = λ rest p style at. looks_then (gets_as c
 
 pub returns-in_err-limit_value-in-Steps : goal.returns-in_err-limit_value-in-Steps
 returns-in_err-limit_value-in-Steps c =
-    let p = err_from_is_err_and c.from_residual-in_err-limit_value-in-Steps.result c.from_residual-in_err-limit_value-in-Steps.ensures.1 in
-    ended_err c.from_residual-in_err-limit_value-in-Steps.result c.in_err-limit_value-in-Steps.field-0.0 p.0 _ _ _ p.1 p.2 c.in_err-limit_value-in-Steps.ensures
+    let p = err_from_is_err_and c.from_residual.result c.from_residual.ensures.1 in
+    ended_err c.from_residual.result c.in_err-limit_value-in-Steps.field-0.0 p.0 _ _ _ p.1 p.2 c.in_err-limit_value-in-Steps.ensures
     (λ e f rest. gets_end c.args.tree.now c.args.place (λ style. to_limit style c.args.limit c.args.value.now (λ e. rest e style)) (λ style. to_limit style Steps c.args.value.now (λ e. rest e style)) e
     (gets_as c.args.tree.now c.args.place _ _ (λ style. ap (λ (x : LimitOf). to_limit style x c.args.value.now (λ e. rest e style)) c.in-Steps.is)) (f (λ limit style. rest (SetCountLimit limit) style)))
 
