@@ -261,7 +261,7 @@ module _ (language : Integers → Table Own Instr) where
         (codes "wrong # args: should be \"dict for {keyVar valueVar} dictionary body\"")
     pub trapped : Gives
         (codes "list [catch {try {error msg {} {A B}} trap A {m o} "
-            ++ codes "{list $m [dict get $o -errorcode]}} r] $r")
+        ++ codes "{list $m [dict get $o -errorcode]}} r] $r")
         (codes "0 {msg {A B}}")
     pub finally : Gives (codes "set n 0; set r [try {set n 5} finally {incr n}]; list $r $n")
         (codes "5 6")
