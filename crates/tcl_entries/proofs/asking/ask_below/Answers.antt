@@ -15,13 +15,13 @@ return_to_caller-requires g c = (c.requires.running.0, c.serve_own-ended.ensures
 
 pub returns-in-There-clause-calls : goal.returns-in-There-clause-calls
 returns-in-There-clause-calls g c = asks_there g.O.Outside.goes c.args.tree.now c.serve_own-ended.new.tree c.args.outside.now c.args.place c.args.path.now (whole_entry c.args.entry) c.return_to_caller.result
-    c.notify-in-There.new.self c.serve_own-ended.new.outside c.return_to_caller.new.outside c.in-There.there c.serve_own-ended.result (λ p at. c.in-There.ensures p at) c.in_ok-notify-in-There.ensures.told
+    c.notify.new.self c.serve_own-ended.new.outside c.return_to_caller.new.outside c.in-There.there c.serve_own-ended.result (λ p at. c.in-There.ensures p at) c.in_ok-notify-in-There.ensures.told
     c.serve_own-ended.ensures.runs
     c.return_to_caller.ensures.comes c.serve_own-ended.ensures.steady
 
 pub returns-in-There-clause-lost : goal.returns-in-There-clause-lost
 returns-in-There-clause-lost g c =
-    let told : IsLoss g.O.Outside.loses c.args.outside.now c.notify-in-There.new.self = lost_once c.notify-in-There.ensures.lost in
+    let told : IsLoss g.O.Outside.loses c.args.outside.now c.notify.new.self = lost_once c.notify.ensures.lost in
     lost_twice (lost_twice told c.serve_own-ended.ensures.lost) c.return_to_caller.ensures.lost
 
 pub returns-in-Missing-clause-calls : goal.returns-in-Missing-clause-calls
