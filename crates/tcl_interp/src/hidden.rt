@@ -84,8 +84,8 @@ fn call_with(
     Ok(HiddenCall { is_global, words })
 }
 
-/// The call that the words `?-global? hiddenName ?arg ...?` of `invokehidden` are. An option is only
-/// looked for in front of the hidden name.
+/// The call that the words `?-global? hiddenName ?arg ...?` of `invokehidden` are. An option is
+/// looked for in front of the hidden name alone.
 ///
 /// # Errors
 /// 241 where there is no hidden name; 221; want of memory.

@@ -9,7 +9,8 @@ ghost use Rattle.tcl_run.specs.Ends.{Interrupts, failing};
 ghost use Rattle.tcl_run.specs.Entering.{entry_of};
 ghost use Rattle.tcl_run.specs.Runs.{Evaluates, IsLoss, IsRunning, IsSteady};
 ghost use Rattle.tcl_entries.specs.Looking.{Finds};
-ghost use Rattle.tcl_interp.specs.Subjects.{about, asks_of, form_of, path_text, reached, split_path};
+ghost use Rattle.tcl_interp.specs.Subjects.{about, asks_of, form_of, path_text, reached};
+ghost use Rattle.tcl_interp.specs.Subjects.{split_path};
 
 use std::alloc::{AllocError, Global};
 use std::slice;
