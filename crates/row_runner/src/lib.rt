@@ -6,6 +6,8 @@
 //! written so too.
 #![tactic(auto)]
 
+ghost use Rattle.std.specs.Prelude.{◌≡◌, ◌≤◌, IfOk};
+
 use std::alloc::{AllocError, Global};
 use std::{fs, io};
 
@@ -29,12 +31,18 @@ const NEWLINE: &str = "␤";
 
 /// How many rows there were, and how many of them were answered otherwise.
 #[derive(Clone, Copy)]
-struct Tally {
-    rows: u64,
-    differ: u64,
+pub struct Tally {
+    /// How many there were.
+    pub rows: u64,
+    /// How many of them were answered otherwise.
+    pub differ: u64,
+    ghost within: { differ ≤ rows },
 }
 
 impl Tally {
+    /// No row.
+    const NONE: Tally = Tally { rows: 0, differ: 0 };
+
     /// One row more.
     fn with(self, is_met: bool) -> Tally {
         Tally {
@@ -119,18 +127,21 @@ fn rows_of(rt: &HostRuntime, name: &str) -> io::Result<String> {
 }
 
 /// Puts the rows of the file `NAME.rows` to a world. Each that is answered otherwise is printed,
-/// and last how many rows there were.
+/// and last how many rows there were, which is returned too.
 ///
 /// # Errors
 /// The file can't be read, the output can't be written, or out of memory.
-pub fn run<W: World>(rt: &HostRuntime, name: &str, world: &mut W) -> io::Result<()> {
+pub fn run<W: World>(rt: &HostRuntime, name: &str, world: &mut W) -> io::Result<Tally>
+    ensures { IfOk result (λ tally. tally.differ ≤ tally.rows) }
+{
     let rows = rows_of(rt, name)?;
-    let mut tally = Tally { rows: 0, differ: 0 };
+    let mut tally = Tally::NONE;
     'rows: for line in rows.lines() {
         tally = see_line(rt, world, tally, line)?;
     }
     let Tally { rows, differ } = tally;
-    println!(rt; "{name}: {rows} rows, {differ} answered otherwise")
+    println!(rt; "{name}: {rows} rows, {differ} answered otherwise")?;
+    Ok(tally)
 }
 
 /// Puts every beginning of a call to a world, all of it too, which must answer nothing, and returns
@@ -164,17 +175,20 @@ fn see_beginnings_of_line<W: World>(
 }
 
 /// Puts every beginning of each call in the file `NAME.rows` to a world, all of the call too, which
-/// must answer nothing. Each that is answered otherwise is printed, and last how many there were.
-/// No group begins.
+/// must answer nothing. Each that is answered otherwise is printed, and last how many there were,
+/// which is returned too. No group begins.
 ///
 /// # Errors
 /// The file can't be read, the output can't be written, or out of memory.
-pub fn run_beginnings<W: World>(rt: &HostRuntime, name: &str, world: &mut W) -> io::Result<()> {
+pub fn run_beginnings<W: World>(rt: &HostRuntime, name: &str, world: &mut W) -> io::Result<Tally>
+    ensures { IfOk result (λ tally. tally.differ ≤ tally.rows) }
+{
     let rows = rows_of(rt, name)?;
-    let mut tally = Tally { rows: 0, differ: 0 };
+    let mut tally = Tally::NONE;
     'rows: for line in rows.lines() {
         tally = see_beginnings_of_line(rt, world, tally, line)?;
     }
     let Tally { rows, differ } = tally;
-    println!(rt; "{name}: {rows} beginnings, {differ} answered otherwise")
+    println!(rt; "{name}: {rows} beginnings, {differ} answered otherwise")?;
+    Ok(tally)
 }

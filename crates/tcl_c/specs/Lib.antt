@@ -3,3 +3,4 @@ pub mod Codes
 pub mod Handles
 pub mod Held
 pub mod Objects
+pub mod Written

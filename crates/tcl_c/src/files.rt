@@ -2,6 +2,7 @@
 ghost use Rattle.std.specs.Prelude.{◌≡◌, None, OnErr, OnOk, pos, is_some};
 ghost use Rattle.tcl_c.specs.Acts.{PutsFile, PutsInput, RenewsHost};
 ghost use Rattle.tcl_c.specs.Objects.{IsUnchanged, OnTrees};
+ghost use Rattle.tcl_c.specs.Written.{WritesLength};
 ghost use Rattle.tcl_sessions.specs.Sessions.{SameSession};
 
 use crate::codes::{DONE, NOTHING_HELD, code_of};
@@ -84,7 +85,9 @@ impl Object {
 }
 
 /// Writes how long what was written is, if it was.
-pub(crate) fn write_length(written: Result<usize, Refusal>, length: &mut usize) -> i32 {
+pub(crate) fn write_length(written: Result<usize, Refusal>, length: &mut usize) -> i32
+    ensures { WritesLength written length.old result length.new }
+{
     match written {
         Ok(written) => {
             *length = written;

@@ -1,5 +1,6 @@
 //! Records, and interpreters that are saved by themselves.
 ghost use Rattle.std.specs.Prelude.{◌≡◌, None, OnErr, is_some, pos};
+ghost use Rattle.tcl_c.specs.Handles.{Fills};
 ghost use Rattle.tcl_c.specs.Objects.{IsUnchanged};
 ghost use Rattle.tcl_sessions.specs.Sessions.{SameSession};
 
@@ -50,8 +51,13 @@ impl Object {
 }
 
 /// What comes of a record that is replayed.
-fn replay(alloc: Global, saved: &Object, record: &Object, limit: u64) -> Result<Replayed, Refusal> {
-    replay_record(alloc, saved.saved()?, record.record()?, limit)
+fn replay(
+    alloc: Global,
+    saved: &Object,
+    recorded: &Object,
+    limit: u64,
+) -> Result<Replayed, Refusal> {
+    replay_record(alloc, saved.saved()?, recorded.record()?, limit)
 }
 
 /// Whether two interpreters that are saved are equal.
@@ -66,10 +72,15 @@ fn equal(one: &Object, other: &Object) -> Result<bool, Refusal> {
 /// changes nothing: 422, 401; 421, 423; 424; 427 where it wasn't watched, or its record was taken;
 /// 411 where the watched interpreter was deleted in it.
 #[unsafe(no_mangle)]
-pub extern "C" fn tclsafe_take_record(alloc: Global, tree: &mut Handle, record: &mut Handle) -> i32
-    ensures { is_some tree.new.sealed.value ≡ is_some tree.old.sealed.value }
+pub extern "C" fn tclsafe_take_record(
+    alloc: Global,
+    tree: &mut Handle,
+    recorded: &mut Handle,
+) -> i32
+    ensures tree { is_some tree.new.sealed.value ≡ is_some tree.old.sealed.value }
+    ensures filled { Fills recorded.old.sealed.value result recorded.new.sealed.value }
 {
-    let mut room = match record.room(alloc) {
+    let mut room = match recorded.room(alloc) {
         Ok(room) => room,
         Err(refusal) => return refusal.number(),
     };
@@ -79,7 +90,7 @@ pub extern "C" fn tclsafe_take_record(alloc: Global, tree: &mut Handle, record: 
     match taken {
         Ok(taken) => {
             room.object = Object::Record(taken);
-            record.put(room);
+            recorded.put(room);
             DONE
         }
         Err(refusal) => refusal.number(),
@@ -94,14 +105,14 @@ pub extern "C" fn tclsafe_take_record(alloc: Global, tree: &mut Handle, record: 
 #[unsafe(no_mangle)]
 pub extern "C" fn tclsafe_record_lines(
     alloc: Global,
-    record: &mut Handle,
+    recorded: &mut Handle,
     room: &mut [u8],
     length: &mut usize,
 ) -> i32
-    ensures held { is_some record.new.sealed.value ≡ is_some record.old.sealed.value }
-    ensures nothing { record.old.sealed.value ≡ None → result ≡ pos 421 }
+    ensures held { is_some recorded.new.sealed.value ≡ is_some recorded.old.sealed.value }
+    ensures nothing { recorded.old.sealed.value ≡ None → result ≡ pos 421 }
 {
-    with_object!(alloc, record, NOTHING_HELD, object => {
+    with_object!(alloc, recorded, NOTHING_HELD, object => {
         write_length(object.write_record(alloc, room), length)
     })
 }
@@ -118,7 +129,8 @@ pub extern "C" fn tclsafe_save(
     path: &[u8],
     saved: &mut Handle,
 ) -> i32
-    ensures { is_some tree.new.sealed.value ≡ is_some tree.old.sealed.value }
+    ensures tree { is_some tree.new.sealed.value ≡ is_some tree.old.sealed.value }
+    ensures filled { Fills saved.old.sealed.value result saved.new.sealed.value }
 {
     let mut room = match saved.room(alloc) {
         Ok(room) => room,
@@ -150,19 +162,19 @@ pub extern "C" fn tclsafe_save(
 pub extern "C" fn tclsafe_replay(
     alloc: Global,
     saved: &mut Handle,
-    record: &mut Handle,
+    recorded: &mut Handle,
     limit: u64,
     after: &mut Handle,
 ) -> i32
     ensures saved { is_some saved.new.sealed.value ≡ is_some saved.old.sealed.value }
-    ensures record { is_some record.new.sealed.value ≡ is_some record.old.sealed.value }
+    ensures recorded { is_some recorded.new.sealed.value ≡ is_some recorded.old.sealed.value }
 {
     let mut room = match after.room(alloc) {
         Ok(room) => room,
         Err(refusal) => return refusal.number(),
     };
     let replayed = with_object!(alloc, saved, Err(Refusal::NothingHeld), one => {
-        with_object!(alloc, record, Err(Refusal::NothingHeld), other => {
+        with_object!(alloc, recorded, Err(Refusal::NothingHeld), other => {
             replay(alloc, one, other, limit)
         })
     });

@@ -1,5 +1,7 @@
 //! Texts that need no tree.
-ghost use Rattle.std.specs.Prelude.{◌≡◌};
+ghost use Rattle.std.specs.Prelude.{◌≡◌, length};
+ghost use Rattle.tcl_c.specs.Written.{Quotes, WritesQuoted, said};
+ghost use Rattle.tcl_sessions.specs.Texts.{front};
 
 use crate::files::write_length;
 use std::alloc::Global;
@@ -12,7 +14,10 @@ use tcl_sessions::texts::{quoted, write_front};
 ///
 /// Writes the room. Answers the length of the whole text, without the NUL.
 #[unsafe(no_mangle)]
-pub extern "C" fn tclsafe_error_text(number: i32, room: &mut [u8]) -> usize {
+pub extern "C" fn tclsafe_error_text(number: i32, room: &mut [u8]) -> usize
+    ensures whole { result ≡ length (said ALL number) }
+    ensures written { room.new ≡ front (said ALL number) room.old }
+{
     match of_number(&ALL, number) {
         Some(refusal) => write_front(refusal.text().as_bytes(), room),
         None => write_front(b"", room),
@@ -30,12 +35,16 @@ pub extern "C" fn tclsafe_quote(
     text: &[u8],
     room: &mut [u8],
     length: &mut usize,
-) -> i32 {
+) -> i32
+    ensures { Quotes text.now room.old length.old result room.new length.new }
+{
     write_length(write_quoted(alloc, text, room), length)
 }
 
 /// Writes a text as one element of a list, and gives how long that is.
-fn write_quoted(alloc: Global, text: &[u8], room: &mut [u8]) -> Result<usize, Refusal> {
+fn write_quoted(alloc: Global, text: &[u8], room: &mut [u8]) -> Result<usize, Refusal>
+    ensures { WritesQuoted text.now room.old result room.new }
+{
     let quoted = quoted(alloc, text)?;
     Ok(write_front(quoted.as_str().as_bytes(), room))
 }

@@ -1,6 +1,7 @@
 //! Trees, their children, and aliases.
 ghost use Rattle.std.specs.Prelude.{◌≡◌, None, OnErr, OnOk, pos, is_some};
 ghost use Rattle.tcl_c.specs.Acts.{Aliases, AliasesOut, ClearsAlias, Creates, Deletes};
+ghost use Rattle.tcl_c.specs.Handles.{Fills};
 ghost use Rattle.tcl_c.specs.Objects.{IsUnchanged, OnTrees};
 ghost use Rattle.tcl_sessions.specs.Sessions.{SameSession};
 
@@ -153,7 +154,9 @@ impl Object {
 /// Reads and writes the handle; `tclsafe_free` frees what it holds. Answers 0, or a refusal, which
 /// changes nothing: 422, 426; 401.
 #[unsafe(no_mangle)]
-pub extern "C" fn tclsafe_new(alloc: Global, tree: &mut Handle, version: i32) -> i32 {
+pub extern "C" fn tclsafe_new(alloc: Global, tree: &mut Handle, version: i32) -> i32
+    ensures { Fills tree.old.sealed.value result tree.new.sealed.value }
+{
     let mut room = match tree.room(alloc) {
         Ok(room) => room,
         Err(refusal) => return refusal.number(),

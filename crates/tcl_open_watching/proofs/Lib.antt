@@ -1,6 +1,4 @@
 mod Answers
-mod Before
-mod Below
 mod Entered
 mod GivenUp
 mod Recorded

@@ -1,12 +1,11 @@
 //! Evaluations over any outside whose crossings of one boundary are recorded.
 ghost use Rattle.std.specs.Prelude.{◌≡◌, ◌+◌, Err, IfErr, IfNone, IfOk, IfSome, IsErrOf, None};
-ghost use Rattle.std.specs.Prelude.{OnOk, true};
+ghost use Rattle.std.specs.Prelude.{true};
 ghost use Rattle.tcl_core.specs.Entries.Entry.{Eval};
 ghost use Rattle.tcl_core.specs.Execution.{event};
 ghost use Rattle.tcl_core.specs.Trees.What.{In};
 ghost use Rattle.tcl_eval.specs.Running.{IsGivenUp, IsOpenRun, root_count, unfit};
 ghost use Rattle.tcl_eval.specs.declared.running.Refused.TheVariants.{Memory};
-ghost use Rattle.tcl_language.specs.Instructions.{fits};
 ghost use Rattle.tcl_open_watching.specs.OpenWatched.{IfDeleted, IfEnds, IfRefused};
 ghost use Rattle.tcl_open_watching.specs.OpenWatched.{IsOpenDeletion, IsOpenRecord, Watches};
 ghost use Rattle.tcl_open_watching.specs.OpenWatched.{answer_of};
@@ -17,17 +16,16 @@ ghost use Rattle.tcl_replay.specs.Watched.{ReactsUntil, unwatchable};
 ghost use Rattle.tcl_run.specs.Runs.{ways};
 ghost use Rattle.tcl_tree.specs.TreeOf.{marks_of, tree_of};
 
-use std::alloc::{AllocError, Global};
+use std::alloc::Global;
 use std::fmt;
-use tcl_eval::running::{OpenEnd, Refused, open_run, refusal};
+use tcl_eval::running::{OpenEnd, Refused, open_run};
 use tcl_isolation::laws::{asks_the_host_nothing, scripts_stay_within};
 use tcl_recorder::record::Record;
 use tcl_recorder::recorder::Recorder;
-use tcl_run::entry::Entry;
+use tcl_replay::watching::{DELETED, begin_record, refusal_to_watch};
 use tcl_run::outside::Outside;
 use tcl_text::text::Text;
 use tcl_tree::tree::Tree;
-use tcl_value::value::Value;
 use thiserror::Error;
 
 /// Why there is no record of an open evaluation.
@@ -37,7 +35,7 @@ pub enum OpenUnwatched {
     #[error(transparent)]
     Refused(Refused),
     /// 411: the watched interpreter was deleted in the run, which ended so.
-    #[error("411: the watched interpreter was deleted in the run")]
+    #[error("{}", DELETED)]
     Deleted(OpenEnd),
 }
 
@@ -103,26 +101,6 @@ pub fn open_watched<O: Outside>(
     watch(tree, alloc, outside, path, script, limit, watched)
 }
 
-/// Why an evaluation that is watched would be refused, want of memory aside. This takes no memory.
-fn refusal_to_watch(
-    tree: &Tree,
-    path: &[Text],
-    script: &str,
-    limit: u64,
-    watched: &[Text],
-) -> Option<Refused>
-    ensures { result ≡ unwatchable tree.now path.now script.now limit watched.now }
-{
-    let first = refusal(tree, path, script, limit);
-    if tree.is_broken() {
-        return first;
-    }
-    match tree.place(watched) {
-        Some(_) => first,
-        None => Some(Refused::NoInterpreter),
-    }
-}
-
 /// Evaluates the script and records it.
 fn watch<O: Outside>(
     tree: &mut Tree,
@@ -172,29 +150,13 @@ fn run<O: Outside>(
         (noted recorder.old (event path.now (In None (Eval script.now)))) path.now script.now
         (root_count tree.old + limit) tree.new recorder.new end) }
 {
-    match begin(alloc, recorder, path, script) {
+    match begin_record(alloc, recorder, path, script) {
         Ok(()) => open_run(tree, alloc, recorder, path, script, limit),
         Err(_) => {
             tree.mark_broken();
             Err(Refused::Memory)
         }
     }
-}
-
-/// Tells the recorder that the script comes to the interpreter at the path.
-fn begin<O: Outside>(
-    alloc: Global,
-    recorder: &mut Recorder<O>,
-    path: &[Text],
-    script: &str,
-) -> Result<(), AllocError>
-    requires short { fits script.now ≡ true }
-    ensures noted { OnOk result
-        (recorder.new ≡ noted recorder.old (event path.now (In None (Eval script.now)))) }
-    ensures outside { recorder.new.outside ≡ recorder.old.outside }
-{
-    let entry = Entry::Eval(Value::from_short_text(Text::new(alloc, script)?));
-    recorder.entry_begins(alloc, path, &entry)
 }
 
 /// What is answered where the run ended so, with this record, and the watched interpreter was

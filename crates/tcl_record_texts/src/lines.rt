@@ -66,10 +66,10 @@ pub fn crossing_lines(alloc: Global, crossings: &[Crossing]) -> Result<String, A
 ///
 /// # Errors
 /// Want of memory.
-pub fn record_lines(alloc: Global, record: &Record) -> Result<String, AllocError>
-    ensures { IfOk result (λ text. string_bytes text ≡ event_lines record.now.crossings) }
+pub fn record_lines(alloc: Global, recorded: &Record) -> Result<String, AllocError>
+    ensures { IfOk result (λ text. string_bytes text ≡ event_lines recorded.now.crossings) }
 {
-    crossing_lines(alloc, record.crossings())
+    crossing_lines(alloc, recorded.crossings())
 }
 
 /// What came of moves that were played: `finished`, `waiting`, `ended`, `exited STATUS`, `spent` or

@@ -1,18 +1,17 @@
 -- What an evaluation that is watched answers.
-use Rattle.std.proofs.Common.{◌≡◌, ◌∙◌, ℕ, ◌+◌, Bool, true, false, List, None, Some, refl, sym, ap, subst}
-use Rattle.std.specs.Prelude.{Result, Ok, Err, IfOk, IfErr, IsErrOf, is_some, ◌&&◌, nat_le}
+use Rattle.std.proofs.Common.{◌≡◌, ◌∙◌, ℕ, ◌+◌, Bool, true, false, List, None, refl, sym, ap, subst}
+use Rattle.std.specs.Prelude.{Result, Ok, Err, IfOk, IfErr, IsErrOf, is_some}
 use Rattle.tcl_core.specs.Entries.Entry.{Eval}
 use Rattle.tcl_core.specs.Paths.{Path, Text}
 use Rattle.tcl_core.specs.Trees.{Event}
 use Rattle.tcl_core.proofs.Stops.{stopping}
-use Rattle.tcl_eval.specs.Running.{IsRun, IsWhole, first_of, most_steps, root_count, unfit}
+use Rattle.tcl_eval.specs.Running.{IsRun, IsWhole, root_count}
 use Rattle.tcl_eval.specs.declared.running.End.{End}
 use Rattle.tcl_eval.specs.declared.running.Refused.{Refused}
 use Rattle.tcl_eval.specs.declared.running.Refused.TheVariants as refused
 use Rattle.tcl_host.specs.declared.reply.HostReply.{HostReply}
 use Rattle.tcl_host.specs.declared.request.Request.{Request}
 use Rattle.tcl_isolation.specs.Visits.{visit}
-use Rattle.tcl_language.specs.Instructions.{fits}
 use Rattle.tcl_language_laws.specs.Language.{language}
 use Rattle.tcl_run.specs.Outsides.{hosted}
 use Rattle.tcl_run.proofs.Steady.{stands}
@@ -22,49 +21,11 @@ use Rattle.tcl_tree.specs.declared.tree.Tree.{Tree as Table}
 use Rattle.tcl_recorder.specs.Records.{RecordView}
 use Rattle.tcl_recorder.specs.declared.recorder.Recorder.{Recorder}
 use Rattle.tcl_recorder.proofs.Fates as fates
-use Rattle.tcl_replay.specs.Watched.{IfDeleted, IfEnds, IfRefused, IsDeletion, IsEntryRun, IsRecord, IsRecorded, Stops, Watches, answer_if, answer_of, recorder_of, unwatchable}
+use Rattle.tcl_replay.specs.Watched.{IfDeleted, IfEnds, IfRefused, IsDeletion, IsEntryRun, IsRecord, IsRecorded, Stops, Watches, answer_if, answer_of, recorder_of}
 use Rattle.tcl_replay.specs.declared.watching.Unwatched.{Unwatched}
 use Rattle.tcl_replay.specs.declared.watching.Unwatched.TheVariants as unwatched
 use Rattle.tcl_replay.proofs.Stopped.{obeys_entry}
 use Rattle.tcl_replay.proofs.Unfinished.{Lost, not_begun}
-
--- ## Before it
-
-first_both : (b p w c s : Bool) → first_of b (p && w) c s ≡ None → (p ≡ true) × (w ≡ true)
-first_both true p w c s e = let x : Some refused.Broken ≡ None = e in absurd cc
-first_both false true true c s e = (refl, refl)
-first_both false true false c s e = let x : Some refused.NoInterpreter ≡ None = e in absurd cc
-first_both false false w c s e = let x : Some refused.NoInterpreter ≡ None = e in absurd cc
-
-pub both_there : (t : Table) (path : Path) (script : Text) (limit : ℕ) (watched : Path) → unwatchable t path script limit watched ≡ None → (is_some (tree_of t path) ≡ true) × (is_some (tree_of t watched) ≡ true)
-both_there t path script limit watched e = first_both (marks_of t).broken (is_some (tree_of t path)) (is_some (tree_of t watched)) (nat_le (root_count t + limit) most_steps) (fits script) e
-
--- where the tree is broken, that is told of both; and where it isn't and somebody stands where it is watched, what is told of the run is
-same_if : (b p w c s : Bool) → (b ≡ true) → first_of b p c s ≡ first_of b (p && w) c s
-same_if true p w c s e = refl
-same_if false p w c s e = let x : false ≡ true = e in absurd cc
-
-pub same_broken : (t : Table) (path : Path) (script : Text) (limit : ℕ) (watched : Path) → (marks_of t).broken ≡ true → unfit t path script limit ≡ unwatchable t path script limit watched
-same_broken t path script limit watched e = same_if (marks_of t).broken (is_some (tree_of t path)) (is_some (tree_of t watched)) (nat_le (root_count t + limit) most_steps) (fits script) e
-
-same_where : (b p w c s : Bool) → (w ≡ true) → first_of b p c s ≡ first_of b (p && w) c s
-same_where b true true c s e = refl
-same_where b false w c s e = refl
-same_where b true false c s e = let x : false ≡ true = e in absurd cc
-
-pub same_there : (t : Table) (path : Path) (script : Text) (limit : ℕ) (watched : Path) → is_some (tree_of t watched) ≡ true → unfit t path script limit ≡ unwatchable t path script limit watched
-same_there t path script limit watched e = same_where (marks_of t).broken (is_some (tree_of t path)) (is_some (tree_of t watched)) (nat_le (root_count t + limit) most_steps) (fits script) e
-
-nobody_so : (b p w c s : Bool) → b ≡ false → w ≡ false → Some refused.NoInterpreter ≡ first_of b (p && w) c s
-nobody_so false true false c s e f = refl
-nobody_so false false w c s e f = refl
-nobody_so true p w c s e f = let x : true ≡ false = e in absurd cc
-nobody_so b p true c s e f = let x : true ≡ false = f in absurd cc
-
-pub nobody : (t : Table) (path : Path) (script : Text) (limit : ℕ) (watched : Path) → (marks_of t).broken ≡ false → tree_of t watched ≡ None → Some refused.NoInterpreter ≡ unwatchable t path script limit watched
-nobody t path script limit watched e f = nobody_so (marks_of t).broken (is_some (tree_of t path)) (is_some (tree_of t watched)) (nat_le (root_count t + limit) most_steps) (fits script) e (ap is_some f)
-
--- ## The answer
 
 -- a recorder with these, from whose record nothing is missing
 abbrev pub as_whole : {S : Type 0} → S → RecordView → Bool → Recorder S

@@ -1,6 +1,6 @@
 -- A run with a recorder, and the run without it.
-use Rattle.std.proofs.Common.{◌≡◌, ◌∙◌, ℕ, ◌+◌, Bool, true, false, List, [], ◌∷◌, ◌++◌, None, Some, refl, sym, ap, subst}
-use Rattle.std.specs.Prelude.{Result, Ok, Err, IfOk, is_some, nat_le}
+use Rattle.std.proofs.Common.{◌≡◌, ◌∙◌, ℕ, ◌+◌, true, List, [], ◌∷◌, ◌++◌, None, Some, sym, ap, subst}
+use Rattle.std.specs.Prelude.{Result, Ok, Err, IfOk, is_some}
 use Rattle.tcl_core.specs.Endings.{Reply}
 use Rattle.tcl_core.specs.Entries.Entry.{Eval}
 use Rattle.tcl_core.specs.Lives.{End as Ending, limited}
@@ -20,7 +20,6 @@ use Rattle.tcl_run_laws.specs.Replies.{Belongs}
 use Rattle.tcl_run_laws.proofs.Limiting.{language_keeps_tops}
 use Rattle.tcl_run_laws.proofs.Taping.{Taped}
 use Rattle.tcl_run_laws.proofs.HostedWholes.{WholeTape, whole_tape}
-use Rattle.tcl_language.specs.Instructions.{fits}
 use Rattle.tcl_language_laws.specs.Language.{language}
 use Rattle.tcl_language.specs.Table.{serve}
 use Rattle.tcl_run.specs.Outsides.{hosted}
@@ -32,12 +31,11 @@ use Rattle.tcl_tree.specs.Own.{Own}
 use Rattle.tcl_tree.specs.TreeOf.{tree_of, marks_of}
 use Rattle.tcl_tree.specs.declared.tree.Tree.{Tree as Table}
 use Rattle.tcl_tree.proofs.CoreLemmas.{top_there}
-use Rattle.tcl_eval.specs.Running.{IsOpenRun, IsUncut, ending_of, first_of, most_steps, ran_of, root_count, unfit}
+use Rattle.tcl_eval.specs.Running.{IsOpenRun, IsUncut, ending_of, ran_of, root_count, unfit}
 use Rattle.tcl_eval.specs.declared.running.End.{End}
 use Rattle.tcl_eval.specs.declared.running.OpenEnd.{OpenEnd}
 use Rattle.tcl_eval.specs.declared.running.OpenEnd.TheVariants as open_end
 use Rattle.tcl_eval.specs.declared.running.Refused.{Refused}
-use Rattle.tcl_eval.specs.declared.running.Refused.TheVariants as refused
 use Rattle.tcl_recorder.specs.Laws.{IsWatched, KeepsAll}
 use Rattle.tcl_recorder.specs.Recording.{Keeps, crossed, noted, recorded}
 use Rattle.tcl_recorder.specs.declared.recorder.Recorder.{Recorder}
@@ -45,15 +43,7 @@ use Rattle.tcl_recorder.proofs.Fates.{fate_parts}
 use Rattle.tcl_recorder.proofs.Visits.{after_parts, visits}
 use Rattle.tcl_recorder.proofs.Watched.{after_one, step as recorder_step, unwatched, watched}
 use Rattle.tcl_replay.specs.Watched.{IsEntryRun}
-
--- where a run can begin, the interpreter stands, and the script is short
-first_there : (b t c s : Bool) → first_of b t c s ≡ None → t ≡ true
-first_there true t c s e = let x : Some refused.Broken ≡ None = e in absurd cc
-first_there false true c s e = refl
-first_there false false c s e = let x : Some refused.NoInterpreter ≡ None = e in absurd cc
-
-pub fit_there : (t : Table) (path : Path) (script : Text) (limit : ℕ) → unfit t path script limit ≡ None → is_some (tree_of t path) ≡ true
-fit_there t path script limit e = first_there (marks_of t).broken (is_some (tree_of t path)) (nat_le (root_count t + limit) most_steps) (fits script) e
+use Rattle.tcl_replay.proofs.Before.{fit_there}
 
 -- a recorder goes by steps of the host that it holds
 along : {S : Type 0} (step : S → Request → HostReply → S → Type 0) (T : Tree Own) (o : Recorder S) (s : Wait) (ev : Event Own) (u : Recorder S) → Crossings (recorded (hosted step)) T o s ev u → Crossings (hosted step) T o.outside s ev u.outside

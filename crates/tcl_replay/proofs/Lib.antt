@@ -1,7 +1,8 @@
 mod Entered
 mod Stopped
 mod Unfinished
-mod Below
+pub mod Below
+pub mod Before
 mod Recorded
 mod Answers
 mod Agreeing

@@ -25,10 +25,14 @@ use tcl_isolation::laws::{asks_the_host_nothing, limits_stay, scripts_stay_withi
 use tcl_recorder::record::Record;
 use tcl_recorder::recorder::Recorder;
 use tcl_run::entry::Entry;
+use tcl_run::outside::Outside;
 use tcl_text::text::Text;
 use tcl_tree::tree::Tree;
 use tcl_value::value::Value;
 use thiserror::Error;
+
+/// The watched interpreter was deleted in the run (411).
+pub const DELETED: &str = "411: the watched interpreter was deleted in the run";
 
 /// Why there is no record of an evaluation.
 #[derive(Drop, Error)]
@@ -37,7 +41,7 @@ pub enum Unwatched {
     #[error(transparent)]
     Refused(Refused),
     /// 411: the watched interpreter was deleted in the run, which ended so.
-    #[error("411: the watched interpreter was deleted in the run")]
+    #[error("{}", DELETED)]
     Deleted(End),
 }
 
@@ -119,8 +123,9 @@ pub fn eval_watched<H: Host>(
     watch(tree, alloc, host, path, script, limit, watched)
 }
 
-/// Why an evaluation that is watched would be refused, want of memory aside. This takes no memory.
-fn refusal_to_watch(
+/// Why an evaluation that is watched would be refused, want of memory aside: the first of 402; 403
+/// where no interpreter stands at the path, or none at `watched`; 404; 122. This takes no memory.
+pub fn refusal_to_watch(
     tree: &Tree,
     path: &[Text],
     script: &str,
@@ -188,7 +193,7 @@ fn run<H: Host>(
         (λ end. IsEntryRun H.step tree.old recorder.old path.now script.now limit tree.new
         recorder.new end) }
 {
-    match begin(alloc, recorder, path, script) {
+    match begin_record(alloc, recorder, path, script) {
         Ok(()) => {
             let opened = open_run(tree, alloc, recorder, path, script, limit);
             ran(opened)
@@ -200,10 +205,13 @@ fn run<H: Host>(
     }
 }
 
-/// Tells the recorder that the script comes to the interpreter at the path.
-fn begin<H: Host>(
+/// Tells a recorder that a script comes to the interpreter at the path. What it holds isn't told.
+///
+/// # Errors
+/// Want of memory.
+pub fn begin_record<O: Outside>(
     alloc: Global,
-    recorder: &mut Recorder<H>,
+    recorder: &mut Recorder<O>,
     path: &[Text],
     script: &str,
 ) -> Result<(), AllocError>

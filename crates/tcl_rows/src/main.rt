@@ -72,7 +72,8 @@ use tcl_text::integer::Integers;
 /// The rows of scripts that are read in a style of integers.
 fn run_scripts(rt: &HostRuntime, name: &str, integers: Integers) -> io::Result<()> {
     run(rt, name, &mut Scripts { integers })?;
-    run_beginnings(rt, name, &mut Beginnings)
+    run_beginnings(rt, name, &mut Beginnings)?;
+    Ok(())
 }
 
 /// The rows that are put to trees. Those of want of memory come first, so that few allocations come
@@ -81,7 +82,8 @@ fn run_calls(rt: &HostRuntime, world: &mut Trees) -> io::Result<()> {
     run(rt, "memory", world)?;
     run(rt, "evaluations", world)?;
     run(rt, "program", world)?;
-    run(rt, "replays", world)
+    run(rt, "replays", world)?;
+    Ok(())
 }
 
 fn main(rt: HostRuntime) -> io::Result<()> {

@@ -34,5 +34,5 @@ module _ {S : Type 0} (step : S → Request → HostReply → S → Type 0) wher
 
   -- nothing that it is told of changes it
   pub unheard : (t : Table) (o : S) (w : Happening) → Notified (hosted step) Prim.⊥ t o w o
-  unheard t o w = unchanged (hosted step) t o w (λ p. refl) (enters_unheard (tree_of t) o) (returns_unheard (tree_of t) o) (misses_unheard (tree_of t) o)
+  unheard t o w = unchanged (hosted step) t o w (λ T p. refl) (enters_unheard (tree_of t) o) (returns_unheard (tree_of t) o) (misses_unheard (tree_of t) o)
       (λ p h down i e. subst (λ (x : Option Place). passing x (hosted_at step) (tree_of t) o None (event p (Out h down i)) o) (sym e) refl) (λ q r. refl)

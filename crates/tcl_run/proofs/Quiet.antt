@@ -4,6 +4,7 @@ use Rattle.tcl_core.specs.Endings.{Reply}
 use Rattle.tcl_core.specs.Entries.{Entry}
 use Rattle.tcl_core.specs.Execution.{event}
 use Rattle.tcl_core.specs.Paths.{Height, Path, Place, rise, rise_to}
+use Rattle.tcl_core.specs.Trees as core
 use Rattle.tcl_core.specs.Trees.What.{Done, Dropped, Out}
 use Rattle.tcl_run.specs.Ends.{IfEnded}
 use Rattle.tcl_run.specs.Entering.{whole_entry}
@@ -12,6 +13,7 @@ use Rattle.tcl_run.specs.Outsides.{Enters, Going, Misses, Returns}
 use Rattle.tcl_run.specs.declared.outside.Happening.{Happening}
 use Rattle.tcl_run.specs.declared.outside.Happening.TheVariants as happening
 use Rattle.tcl_run.proofs.Endings.{IfEnded-all}
+use Rattle.tcl_tree.specs.Own.{Own}
 use Rattle.tcl_tree.specs.TreeOf.{Names, tree_of}
 use Rattle.tcl_tree.specs.declared.tree.Tree.{Tree as Table}
 
@@ -19,7 +21,7 @@ module _ {S : Type 0} (goes : Going S) where
   -- One that what happens within the tree doesn't change stays so by whatever else it is told, where
   -- that is named by itself.
   pub within_unchanged : (hands : Type 0) (t : Table) (o : S) (w : Happening) →
-      ((p : Path) → goes (tree_of t) o None (event p Dropped) o) →
+      ((T : core.Tree Own) (p : Path) → goes T o None (event p Dropped) o) →
       ((p : Place) (n : ℕ) (a : Place) (down : Path) (i : Entry) → rise n p ≡ Some a → Enters goes (tree_of t) o p n a down i o) →
       ((p : Place) (n : ℕ) (a : Place) (down : Path) (s r : Reply) → rise n p ≡ Some a → Returns goes (tree_of t) o p n a down s r o) →
       ((p : Place) (n : ℕ) (a : Place) (down : Path) (i : Entry) (r : Reply) → rise n p ≡ Some a → Misses goes (tree_of t) o p n down i r o) →
@@ -27,7 +29,7 @@ module _ {S : Type 0} (goes : Going S) where
       ((target ended : _) → w ≡ happening.EntryDone target ended → Notified goes hands t o w o) →
       ((caller up entry status : _) → w ≡ happening.ExitCameBack caller up entry status → Notified goes hands t o w o) →
       Notified goes hands t o w o
-  within_unchanged hands t o (happening.Dropped parent name) drops enters returns misses passes done exits = λ p at. drops (p ++ name.now ∷ [])
+  within_unchanged hands t o (happening.Dropped parent name) drops enters returns misses passes done exits = λ T p at. drops T (p ++ name.now ∷ [])
   within_unchanged hands t o (happening.Entered caller up down entry) drops enters returns misses passes done exits = λ p a at e. enters p up a down.now (whole_entry entry.now) e
   within_unchanged hands t o (happening.Returned caller up down ended told) drops enters returns misses passes done exits =
       let Told : Reply → Reply → Type 0 = λ s r. (p a : Path) → Names t caller p → rise_to (Some up) p ≡ Some a → Returns goes (tree_of t) o p up a down.now s r o in
@@ -42,7 +44,7 @@ module _ {S : Type 0} (goes : Going S) where
   -- one that hands in nothing, and that neither a call which passes the top changes nor the end of
   -- an entry
   pub unchanged : (t : Table) (o : S) (w : Happening) →
-      ((p : Path) → goes (tree_of t) o None (event p Dropped) o) →
+      ((T : core.Tree Own) (p : Path) → goes T o None (event p Dropped) o) →
       ((p : Place) (n : ℕ) (a : Place) (down : Path) (i : Entry) → rise n p ≡ Some a → Enters goes (tree_of t) o p n a down i o) →
       ((p : Place) (n : ℕ) (a : Place) (down : Path) (s r : Reply) → rise n p ≡ Some a → Returns goes (tree_of t) o p n a down s r o) →
       ((p : Place) (n : ℕ) (a : Place) (down : Path) (i : Entry) (r : Reply) → rise n p ≡ Some a → Misses goes (tree_of t) o p n down i r o) →

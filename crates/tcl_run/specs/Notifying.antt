@@ -4,23 +4,25 @@ use Rattle.tcl_core.specs.Endings.Reply.{Exit}
 use Rattle.tcl_core.specs.Entries.Answer.{Replied}
 use Rattle.tcl_core.specs.Execution.{event}
 use Rattle.tcl_core.specs.Paths.{Path, rise_to}
+use Rattle.tcl_core.specs.Trees as core
 use Rattle.tcl_core.specs.Trees.What.{Dropped, Out, Done, Back}
 use Rattle.tcl_run.specs.Ends.{IfEnded}
 use Rattle.tcl_run.specs.Entering.{whole_entry}
 use Rattle.tcl_run.specs.Outsides.{Going, Enters, Returns, Misses}
 use Rattle.tcl_run.specs.declared.outside.Happening.{Happening}
 use Rattle.tcl_run.specs.declared.outside.Happening.TheVariants as happening
+use Rattle.tcl_tree.specs.Own.{Own}
 use Rattle.tcl_tree.specs.TreeOf.{tree_of, Names}
 use Rattle.tcl_tree.specs.declared.tree.Tree.{Tree}
 
 -- Told of a child that was dropped; of a call within the tree, of its answer, or of one that finds
 -- nobody; of a call that passes the top; of the end of an entry that was handed in, and of an exit
 -- by which it ends the call too: an outside goes from one state to the next by those events, the
--- tree being what it is then.
+-- tree being what it is then; of a child that was dropped, whatever the tree was before.
 abbrev pub Notified : {S : Type 0} → Going S → Type 0 → Tree → S → Happening → S → Type 0
 Notified goes hands_in t o (happening.Dropped parent name) z =
-    (p : Path) → Names t parent p →
-    goes (tree_of t) o None (event (p ++ name.now ∷ []) Dropped) z
+    (T : core.Tree Own) (p : Path) → Names t parent p →
+    goes T o None (event (p ++ name.now ∷ []) Dropped) z
 Notified goes hands_in t o (happening.Entered caller up down entry) z =
     (p a : Path) → Names t caller p → rise_to (Some up) p ≡ Some a →
     Enters goes (tree_of t) o p up a down.now (whole_entry entry.now) z

@@ -9,7 +9,7 @@ use Rattle.tcl_core.specs.Laws.{IsSpared, IsLowering}
 use Rattle.tcl_core.specs.Lives.{IsUncut, Uncut, comes, outs_of, put}
 use Rattle.tcl_core.specs.Paths.{Path, Place, Height, rise_to}
 use Rattle.tcl_core.specs.Programs.{Wait}
-use Rattle.tcl_core.specs.Execution.{Chain, Open, event, more, none}
+use Rattle.tcl_core.specs.Execution.{Chain, Open, calls_after, event, more, none}
 use Rattle.tcl_core.specs.Trees.{Event, Tree, What, where_none, effect}
 use Rattle.tcl_core.specs.Trees.What.{Out, Done, Back}
 use Rattle.tcl_core.specs.Trees.Move.{Come}
@@ -147,4 +147,4 @@ module _ {S : Type 0} (step : S → TheirRequest → TheirReply → S → Type 0
     spared = tt;
     lowering = λ l. tt;
   }
-  hosts T V w v (ev ∷ τ) (more {u = u} a rest) idle = one w u ev.place ev.what τ v.state a (hosts (effect ev.place ev.what T) V u v τ rest idle)
+  hosts {cs = cs} {ds = ds} T V w v (ev ∷ τ) (more {u = u} a rest) idle = one w u ev.place ev.what τ v.state a (hosts {cs = calls_after ev.place ev.what cs} {ds = ds} (effect ev.place ev.what T) V u v τ rest idle)

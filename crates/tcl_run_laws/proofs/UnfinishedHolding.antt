@@ -8,7 +8,7 @@ use Rattle.tcl_core.specs.Entries.Entry.{AskHost}
 use Rattle.tcl_core.specs.Lives.{comes, outs_of, put, told}
 use Rattle.tcl_core.specs.Paths.{Path, Place, Height, rise_to}
 use Rattle.tcl_core.specs.Programs.{Wait}
-use Rattle.tcl_core.specs.Execution.{Chain, Open, event, more, none}
+use Rattle.tcl_core.specs.Execution.{Chain, Open, calls_after, event, more, none}
 use Rattle.tcl_core.specs.Trees.{Event, Move, Tree, What, asked, at_top, effect, where_none}
 use Rattle.tcl_core.specs.Trees.What.{Made, Dropped, Out, In, Done, Back}
 use Rattle.tcl_core.specs.Trees.Move.{Born, Fall, Enter, Come}
@@ -139,4 +139,4 @@ module _ {S : Type 0} (step : S → TheirRequest → TheirReply → S → Type 0
     belongs = subst (λ c. From c w.0 [] [] w.0) (sym idle) over;
     calm = tt;
   }
-  hosts T V w v (ev ∷ τ) (more {u = u} a rest) idle = one w u ev.place ev.what τ v.0 a (hosts (effect ev.place ev.what T) V u v τ rest idle)
+  hosts {cs = cs} {ds = ds} T V w v (ev ∷ τ) (more {u = u} a rest) idle = one w u ev.place ev.what τ v.0 a (hosts {cs = calls_after ev.place ev.what cs} {ds = ds} (effect ev.place ev.what T) V u v τ rest idle)

@@ -10,15 +10,12 @@ use Rattle.tcl_replay.specs.declared.replaying.Unplayed.TheVariants as unplayed
 use Rattle.tcl_sessions.specs.declared.refusal.Refusal.{Refusal}
 use Rattle.tcl_sessions.specs.declared.refusal.Refusal.TheVariants.{UnmatchedBrace, UnmatchedQuote}
 use Rattle.tcl_sessions.specs.declared.refusal.Refusal.TheVariants.{AfterBrace, AfterQuote, TooLong}
-use Rattle.tcl_sessions.specs.declared.refusal.Refusal.TheVariants.{BadName, BadCount, NotUtf8}
-use Rattle.tcl_sessions.specs.declared.refusal.Refusal.TheVariants.{NoFile, NoInterpreter, Exists}
-use Rattle.tcl_sessions.specs.declared.refusal.Refusal.TheVariants.{InUse, Denied, NoCommand}
-use Rattle.tcl_sessions.specs.declared.refusal.Refusal.TheVariants.{NoHidden, TooMany, LimitMet}
-use Rattle.tcl_sessions.specs.declared.refusal.Refusal.TheVariants.{BadDepthLimit, Memory, Broken}
-use Rattle.tcl_sessions.specs.declared.refusal.Refusal.TheVariants.{Nobody, CountTooLarge, Deleted}
-use Rattle.tcl_sessions.specs.declared.refusal.Refusal.TheVariants.{Waits, NothingHeld, AlreadyHeld}
-use Rattle.tcl_sessions.specs.declared.refusal.Refusal.TheVariants.{OtherKind, CallOpen, NoCallOpen}
-use Rattle.tcl_sessions.specs.declared.refusal.Refusal.TheVariants.{NoStyle, NoRecord}
+use Rattle.tcl_sessions.specs.declared.refusal.Refusal.TheVariants.{NotUtf8, NoFile, Tree, Memory}
+use Rattle.tcl_sessions.specs.declared.refusal.Refusal.TheVariants.{Broken, Nobody, CountTooLarge}
+use Rattle.tcl_sessions.specs.declared.refusal.Refusal.TheVariants.{Deleted, Waits, NothingHeld}
+use Rattle.tcl_sessions.specs.declared.refusal.Refusal.TheVariants.{AlreadyHeld, OtherKind, CallOpen}
+use Rattle.tcl_sessions.specs.declared.refusal.Refusal.TheVariants.{NoCallOpen, NoStyle, NoRecord}
+use Rattle.tcl_text.specs.Messages as messages
 use Rattle.tcl_text.specs.declared.list.ListError.{ListError}
 use Rattle.tcl_text.specs.declared.list.ListError.TheVariants as list
 use Rattle.tcl_text.specs.declared.list.ListFault.{ListFault}
@@ -26,25 +23,31 @@ use Rattle.tcl_text.specs.declared.list.ListFault.TheVariants as fault
 use Rattle.tcl_value.specs.declared.value.ValueError.{ValueError}
 use Rattle.tcl_value.specs.declared.value.ValueError.TheVariants as value
 
-abbrev pub number_of : Refusal → ℤ
+-- the number of what a tree refuses
+unfoldable pub tree_number : TreeError → ℤ
+tree_number tree.BadName = pos 238
+tree_number tree.BadCount = pos 245
+tree_number tree.NoInterpreter = pos 301
+tree_number tree.Exists = pos 302
+tree_number tree.InUse = pos 303
+tree_number tree.Denied = pos 304
+tree_number tree.NoCommand = pos 305
+tree_number tree.NoHidden = pos 306
+tree_number tree.TooMany = pos 307
+tree_number (tree.CountLimit n) = pos 308
+tree_number (tree.DepthLimit n) = pos 308
+tree_number tree.BadDepthLimit = pos 309
+tree_number tree.Memory = pos 401
+
+unfoldable pub number_of : Refusal → ℤ
 number_of UnmatchedBrace = pos 101
 number_of UnmatchedQuote = pos 102
 number_of AfterBrace = pos 103
 number_of AfterQuote = pos 104
 number_of TooLong = pos 122
-number_of BadName = pos 238
-number_of BadCount = pos 245
 number_of NotUtf8 = pos 265
 number_of NoFile = pos 267
-number_of NoInterpreter = pos 301
-number_of Exists = pos 302
-number_of InUse = pos 303
-number_of Denied = pos 304
-number_of NoCommand = pos 305
-number_of NoHidden = pos 306
-number_of TooMany = pos 307
-number_of LimitMet = pos 308
-number_of BadDepthLimit = pos 309
+number_of (Tree e) = tree_number e
 number_of Memory = pos 401
 number_of Broken = pos 402
 number_of Nobody = pos 403
@@ -59,25 +62,31 @@ number_of NoCallOpen = pos 425
 number_of NoStyle = pos 426
 number_of NoRecord = pos 427
 
+-- what is said of what a tree refuses
+abbrev pub tree_text : TreeError → Text
+tree_text tree.BadName = codes "bad name"
+tree_text tree.BadCount = codes "bad count"
+tree_text tree.NoInterpreter = codes "could not find interpreter"
+tree_text tree.Exists = codes "already exists"
+tree_text tree.InUse = codes "interpreter is in use"
+tree_text tree.Denied = messages.denied
+tree_text tree.NoCommand = codes "invalid command name"
+tree_text tree.NoHidden = codes "invalid hidden command name"
+tree_text tree.TooMany = messages.too_many
+tree_text (tree.CountLimit n) = codes "a limit is exceeded"
+tree_text (tree.DepthLimit n) = codes "a limit is exceeded"
+tree_text tree.BadDepthLimit = messages.bad_depth_limit
+tree_text tree.Memory = codes "out of memory"
+
 abbrev pub text_of : Refusal → Text
-text_of UnmatchedBrace = codes "unmatched open brace in list"
-text_of UnmatchedQuote = codes "unmatched open quote in list"
+text_of UnmatchedBrace = codes "unmatched open brace"
+text_of UnmatchedQuote = codes "unmatched open quote"
 text_of AfterBrace = codes "list element in braces followed by other text"
 text_of AfterQuote = codes "list element in quotes followed by other text"
-text_of TooLong = codes "value longer than 16777216 bytes"
-text_of BadName = codes "bad name"
-text_of BadCount = codes "bad count"
+text_of TooLong = messages.too_long
 text_of NotUtf8 = codes "not UTF-8"
 text_of NoFile = codes "no such file"
-text_of NoInterpreter = codes "could not find interpreter"
-text_of Exists = codes "already exists"
-text_of InUse = codes "interpreter is in use"
-text_of Denied = codes "permission denied"
-text_of NoCommand = codes "invalid command name"
-text_of NoHidden = codes "invalid hidden command name"
-text_of TooMany = codes "too many interpreters"
-text_of LimitMet = codes "a limit is exceeded"
-text_of BadDepthLimit = codes "recursion limit must be between 1 and 1000"
+text_of (Tree e) = tree_text e
 text_of Memory = codes "out of memory"
 text_of Broken = codes "the tree is broken"
 text_of Nobody = codes "no interpreter stands at the path"
@@ -108,20 +117,10 @@ abbrev pub of_value : ValueError → Refusal
 of_value value.Memory = Memory
 of_value value.TooLong = TooLong
 
+-- want of memory is the same wherever it comes from
 abbrev pub of_tree : TreeError → Refusal
 of_tree tree.Memory = Memory
-of_tree tree.BadName = BadName
-of_tree tree.BadCount = BadCount
-of_tree tree.NoInterpreter = NoInterpreter
-of_tree tree.Exists = Exists
-of_tree tree.InUse = InUse
-of_tree tree.Denied = Denied
-of_tree tree.NoCommand = NoCommand
-of_tree tree.NoHidden = NoHidden
-of_tree tree.TooMany = TooMany
-of_tree (tree.CountLimit n) = LimitMet
-of_tree (tree.DepthLimit n) = LimitMet
-of_tree tree.BadDepthLimit = BadDepthLimit
+of_tree e = Tree e
 
 abbrev pub of_refused : Refused → Refusal
 of_refused refused.Memory = Memory

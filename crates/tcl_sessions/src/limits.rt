@@ -10,6 +10,7 @@ ghost use Rattle.tcl_tree.specs.TreeOf.{marks_of, tree_of};
 use crate::refusal::Refusal;
 use crate::session::Session;
 use tcl_text::text::Text;
+use tcl_tree::refusal::TreeError;
 
 impl Session {
     /// Gives the interpreter at the path a limit of steps, which its count of all its life may not
@@ -59,7 +60,7 @@ impl Session {
     {
         match self.tree.count(path) {
             Some(count) => Ok(count),
-            None => Err(Refusal::NoInterpreter),
+            None => Err(Refusal::Tree(TreeError::NoInterpreter)),
         }
     }
 
@@ -72,7 +73,7 @@ impl Session {
     {
         match self.tree.limit(path) {
             Some(limit) => Ok(limit),
-            None => Err(Refusal::NoInterpreter),
+            None => Err(Refusal::Tree(TreeError::NoInterpreter)),
         }
     }
 
@@ -85,7 +86,7 @@ impl Session {
     {
         match self.tree.depth_limit(path) {
             Some(limit) => Ok(limit),
-            None => Err(Refusal::NoInterpreter),
+            None => Err(Refusal::Tree(TreeError::NoInterpreter)),
         }
     }
 }

@@ -66,10 +66,10 @@ impl Session {
 ///
 /// # Errors
 /// 401.
-pub fn lines_of_record(alloc: Global, record: &Record) -> Result<String, Refusal>
-    ensures { IfOk result (λ text. string_bytes text ≡ event_lines record.now.crossings) }
+pub fn lines_of_record(alloc: Global, recorded: &Record) -> Result<String, Refusal>
+    ensures { IfOk result (λ text. string_bytes text ≡ event_lines recorded.now.crossings) }
 {
-    Ok(record_lines(alloc, record)?)
+    Ok(record_lines(alloc, recorded)?)
 }
 
 /// Plays the moves of a record to a saved interpreter by itself, with at most so many steps.
@@ -79,18 +79,18 @@ pub fn lines_of_record(alloc: Global, record: &Record) -> Result<String, Refusal
 pub fn replay_record(
     alloc: Global,
     saved: &Saved,
-    record: &Record,
+    recorded: &Record,
     limit: u64,
 ) -> Result<Replayed, Refusal>
     ensures refused { IfErr result (IsUnplayed saved.now limit) }
     ensures reacts { IfOk result
         (λ r. React (language (saved_of saved.now).integers) (saved_of saved.now).tree
-        (moves_of record.now.crossings) limit (result_of r.outcome) (events_of r.outwards.items)
+        (moves_of recorded.now.crossings) limit (result_of r.outcome) (events_of r.outwards.items)
         (saved_of r.saved).tree) }
     ensures style { IfOk result
         (λ r. (saved_of r.saved).integers ≡ (saved_of saved.now).integers) }
 {
-    let moves = moves_of(alloc, record.crossings())?;
+    let moves = moves_of(alloc, recorded.crossings())?;
     Ok(saved.replay(alloc, moves.as_slice(), limit)?)
 }
 

@@ -1,12 +1,15 @@
 //! Why calls do nothing.
 ghost use Rattle.std.specs.Ordering.{int_eq};
 ghost use Rattle.std.specs.Prelude.{◌≡◌, find};
-ghost use Rattle.tcl_sessions.specs.Refusals.{number_of, text_of};
+ghost use Rattle.tcl_sessions.specs.Refusals.{number_of, text_of, tree_number, tree_text};
 
 use std::alloc::{AllocError, AllocFailed};
 use tcl_eval::running::Refused;
 use tcl_replay::replaying::Unplayed;
 use tcl_text::list::{ListError, ListFault};
+use tcl_text::messages::{
+    BAD_DEPTH_LIMIT, COUNT_TOO_LARGE, DENIED, OUT_OF_MEMORY, TOO_LONG, TOO_MANY,
+};
 use tcl_tree::refusal::TreeError;
 use tcl_value::value::ValueError;
 
@@ -23,32 +26,12 @@ pub enum Refusal {
     AfterQuote,
     /// 122: a text is longer than 16777216 bytes.
     TooLong,
-    /// 238: no name of a command may be this.
-    BadName,
-    /// 245: no number of steps may be this.
-    BadCount,
     /// 265: bytes aren't UTF-8.
     NotUtf8,
     /// 267: there is no such file.
     NoFile,
-    /// 301: there is no such interpreter.
-    NoInterpreter,
-    /// 302: a command of this name is there.
-    Exists,
-    /// 303: an evaluation is in progress in the interpreter.
-    InUse,
-    /// 304: this may not be done.
-    Denied,
-    /// 305: there is no such command.
-    NoCommand,
-    /// 306: there is no such hidden command.
-    NoHidden,
-    /// 307: the parent has as many children as it may have.
-    TooMany,
-    /// 308: a limit would be passed.
-    LimitMet,
-    /// 309: no limit of depth may be this.
-    BadDepthLimit,
+    /// 238, 245, 301 to 309: the tree refuses it so, but not for want of memory.
+    Tree(TreeError),
     /// 401: memory was wanted.
     Memory,
     /// 402: memory was wanted in an evaluation before.
@@ -84,19 +67,19 @@ pub const ALL: [Refusal; 31] = [
     Refusal::AfterBrace,
     Refusal::AfterQuote,
     Refusal::TooLong,
-    Refusal::BadName,
-    Refusal::BadCount,
+    Refusal::Tree(TreeError::BadName),
+    Refusal::Tree(TreeError::BadCount),
     Refusal::NotUtf8,
     Refusal::NoFile,
-    Refusal::NoInterpreter,
-    Refusal::Exists,
-    Refusal::InUse,
-    Refusal::Denied,
-    Refusal::NoCommand,
-    Refusal::NoHidden,
-    Refusal::TooMany,
-    Refusal::LimitMet,
-    Refusal::BadDepthLimit,
+    Refusal::Tree(TreeError::NoInterpreter),
+    Refusal::Tree(TreeError::Exists),
+    Refusal::Tree(TreeError::InUse),
+    Refusal::Tree(TreeError::Denied),
+    Refusal::Tree(TreeError::NoCommand),
+    Refusal::Tree(TreeError::NoHidden),
+    Refusal::Tree(TreeError::TooMany),
+    Refusal::Tree(TreeError::CountLimit(0)),
+    Refusal::Tree(TreeError::BadDepthLimit),
     Refusal::Memory,
     Refusal::Broken,
     Refusal::Nobody,
@@ -114,6 +97,7 @@ pub const ALL: [Refusal; 31] = [
 
 impl Refusal {
     /// Its number.
+    #[tactic(auto, unfolding(crate::specs::Refusals::number_of))]
     pub fn number(self) -> i32
         ensures { result ≡ number_of self }
     {
@@ -123,19 +107,9 @@ impl Refusal {
             Refusal::AfterBrace => 103,
             Refusal::AfterQuote => 104,
             Refusal::TooLong => 122,
-            Refusal::BadName => 238,
-            Refusal::BadCount => 245,
             Refusal::NotUtf8 => 265,
             Refusal::NoFile => 267,
-            Refusal::NoInterpreter => 301,
-            Refusal::Exists => 302,
-            Refusal::InUse => 303,
-            Refusal::Denied => 304,
-            Refusal::NoCommand => 305,
-            Refusal::NoHidden => 306,
-            Refusal::TooMany => 307,
-            Refusal::LimitMet => 308,
-            Refusal::BadDepthLimit => 309,
+            Refusal::Tree(error) => tree_number(error),
             Refusal::Memory => 401,
             Refusal::Broken => 402,
             Refusal::Nobody => 403,
@@ -157,28 +131,18 @@ impl Refusal {
         ensures { result.now ≡ text_of self }
     {
         match self {
-            Refusal::UnmatchedBrace => "unmatched open brace in list",
-            Refusal::UnmatchedQuote => "unmatched open quote in list",
+            Refusal::UnmatchedBrace => "unmatched open brace",
+            Refusal::UnmatchedQuote => "unmatched open quote",
             Refusal::AfterBrace => "list element in braces followed by other text",
             Refusal::AfterQuote => "list element in quotes followed by other text",
-            Refusal::TooLong => "value longer than 16777216 bytes",
-            Refusal::BadName => "bad name",
-            Refusal::BadCount => "bad count",
+            Refusal::TooLong => TOO_LONG,
             Refusal::NotUtf8 => "not UTF-8",
             Refusal::NoFile => "no such file",
-            Refusal::NoInterpreter => "could not find interpreter",
-            Refusal::Exists => "already exists",
-            Refusal::InUse => "interpreter is in use",
-            Refusal::Denied => "permission denied",
-            Refusal::NoCommand => "invalid command name",
-            Refusal::NoHidden => "invalid hidden command name",
-            Refusal::TooMany => "too many interpreters",
-            Refusal::LimitMet => "a limit is exceeded",
-            Refusal::BadDepthLimit => "recursion limit must be between 1 and 1000",
-            Refusal::Memory => "out of memory",
+            Refusal::Tree(error) => tree_text(error),
+            Refusal::Memory => OUT_OF_MEMORY,
             Refusal::Broken => "the tree is broken",
             Refusal::Nobody => "no interpreter stands at the path",
-            Refusal::CountTooLarge => "the count of steps would pass its limit",
+            Refusal::CountTooLarge => COUNT_TOO_LARGE,
             Refusal::Deleted => "the watched interpreter was deleted",
             Refusal::Waits => "it waits for an answer",
             Refusal::NothingHeld => "the handle holds nothing",
@@ -189,6 +153,47 @@ impl Refusal {
             Refusal::NoStyle => "no such style of integers",
             Refusal::NoRecord => "there is no record",
         }
+    }
+}
+
+/// The number of what a tree refuses.
+#[tactic(auto, unfolding(crate::specs::Refusals::tree_number))]
+fn tree_number(error: TreeError) -> i32
+    ensures { result ≡ tree_number error }
+{
+    match error {
+        TreeError::BadName => 238,
+        TreeError::BadCount => 245,
+        TreeError::NoInterpreter => 301,
+        TreeError::Exists => 302,
+        TreeError::InUse => 303,
+        TreeError::Denied => 304,
+        TreeError::NoCommand => 305,
+        TreeError::NoHidden => 306,
+        TreeError::TooMany => 307,
+        TreeError::CountLimit(_) | TreeError::DepthLimit(_) => 308,
+        TreeError::BadDepthLimit => 309,
+        TreeError::Memory => 401,
+    }
+}
+
+/// What is said of what a tree refuses.
+fn tree_text(error: TreeError) -> &'static str
+    ensures { result.now ≡ tree_text error }
+{
+    match error {
+        TreeError::BadName => "bad name",
+        TreeError::BadCount => "bad count",
+        TreeError::NoInterpreter => "could not find interpreter",
+        TreeError::Exists => "already exists",
+        TreeError::InUse => "interpreter is in use",
+        TreeError::Denied => DENIED,
+        TreeError::NoCommand => "invalid command name",
+        TreeError::NoHidden => "invalid hidden command name",
+        TreeError::TooMany => TOO_MANY,
+        TreeError::CountLimit(_) | TreeError::DepthLimit(_) => "a limit is exceeded",
+        TreeError::BadDepthLimit => BAD_DEPTH_LIMIT,
+        TreeError::Memory => OUT_OF_MEMORY,
     }
 }
 
@@ -258,18 +263,7 @@ impl From<TreeError> for Refusal {
     fn from(error: TreeError) -> Refusal {
         match error {
             TreeError::Memory => Refusal::Memory,
-            TreeError::BadName => Refusal::BadName,
-            TreeError::BadCount => Refusal::BadCount,
-            TreeError::NoInterpreter => Refusal::NoInterpreter,
-            TreeError::Exists => Refusal::Exists,
-            TreeError::InUse => Refusal::InUse,
-            TreeError::Denied => Refusal::Denied,
-            TreeError::NoCommand => Refusal::NoCommand,
-            TreeError::NoHidden => Refusal::NoHidden,
-            TreeError::TooMany => Refusal::TooMany,
-            TreeError::CountLimit(_) => Refusal::LimitMet,
-            TreeError::DepthLimit(_) => Refusal::LimitMet,
-            TreeError::BadDepthLimit => Refusal::BadDepthLimit,
+            error => Refusal::Tree(error),
         }
     }
 }

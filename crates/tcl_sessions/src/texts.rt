@@ -97,7 +97,8 @@ fn values_of(alloc: Global, texts: &[Text]) -> Result<Vec<Value>, Refusal>
 /// # Errors
 /// 122, 265; 401.
 pub fn quoted(alloc: Global, bytes: &[u8]) -> Result<String, Refusal>
-    ensures { IfOk result (λ text. string_bytes text ≡ written true bytes.now) }
+    ensures text { IfOk result (λ text. string_bytes text ≡ written true bytes.now) }
+    ensures refused { IfErr result (λ e. RefusesText e bytes.now) }
 {
     let text = text_of(bytes)?;
     let mut quoted = String::new(alloc);

@@ -49,8 +49,7 @@ named = record {
 }
 
 abbrev pub command : Bor (List (Bor (List ℕ))) → App
-command names = with_rule (with_rule
-    (with_rule (with_rule (with_rule named limit_rule) safe_rule)
+command names = with_rule (with_rule (with_rule (with_rule (with_rule named limit_rule) safe_rule)
     (integers_rule names)) file_rule) arguments_rule
 
 -- ## What is read of the words
@@ -102,7 +101,8 @@ Tells e (ending.Misused text) = (kind_of e ≢ DisplayHelp) × (kind_of e ≢ Di
 Tells e ending.OutOfMemory = Unit {0}
 Tells e _ = Prim.⊥
 
--- No options are read: help is asked for, the words have a mistake, or memory was wanted.
+-- No options are read: help or the version is asked for, the words have a mistake, or memory was
+-- wanted.
 abbrev pub IsNotRead : List Text → Ending → Type 0
 IsNotRead words ending.OutOfMemory = Unit {0}
 IsNotRead words e = (error : Error) × IsMisparsed words error × Tells error e

@@ -52,9 +52,9 @@ abbrev pub FinishesSo : {S : Type 0} → Serving S → List ℕ → S → ℕ �
 FinishesSo step [] old s new = (s ≡ 0) × (new ≡ old)
 FinishesSo step (b ∷ bs) old s new = Printed step ((b ∷ bs) ++ codes "\n") old s new
 
--- What is shown and told of each ending, and the status: 0 a result or help, 1 an error, 2 a
--- mistake in the command line or an unreadable script, 3 a limit, 4 want of memory, n an exit with
--- n.
+-- What is shown and told of each ending, and the status: 0 a result, help or the version, 1 an
+-- error, 2 a mistake in the command line or an unreadable script, 3 a limit, 4 want of memory, n an
+-- exit with n.
 abbrev pub ShowsSo : {S : Type 0} → Serving S → List ℕ → Ending → S → ℕ → S → Type 0
 ShowsSo step file (Finished text) old s new = FinishesSo step text old s new
 ShowsSo step file (Helped text) old s new = Printed step text old s new

@@ -7,7 +7,7 @@ use tcl_text::text::Text;
 pub enum Ending {
     /// The script's result.
     Finished(Text),
-    /// Help, which was asked for.
+    /// Help or the version, which was asked for.
     Helped(Text),
     /// The text of the error by which the script ended, or of its fault.
     Failed(Text),

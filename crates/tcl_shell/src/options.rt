@@ -54,7 +54,7 @@ impl<'a> Options<'a> {
     /// What the words ask for, of which the first is the program's name.
     ///
     /// # Errors
-    /// Help where it is asked for, a mistake in the words, and want of memory.
+    /// Help or the version where that is asked for, a mistake in the words, and want of memory.
     pub fn read(alloc: Global, words: &'a [&'a str]) -> Result<Options<'a>, Ending>
         ensures read { IfOk result
             (λ options. IsRead (map (λ word. word.now) words.entry.now) options) }
@@ -208,7 +208,8 @@ fn arguments_of<'a>(alloc: Global, words: Option<&[&'a str]>) -> Result<Vec<&'a 
     }
 }
 
-/// What is told of an error of the command line: help, where that was asked for, or what is wrong.
+/// What is told of an error of the command line: help or the version, where that was asked for, or
+/// what is wrong.
 fn misread(alloc: Global, error: &Error) -> Ending
     ensures { Tells error.now result }
 {

@@ -12,9 +12,9 @@ use std::alloc::Global;
 use tcl_host::host::Host;
 
 /// Evaluates a script as `tclsafe [--limit N] [--safe] [--integers 8|9] [FILE] [ARG..]` does, and
-/// gives the exit status: 0 a result or help, 1 an error, 2 a mistake in the words or a script that
-/// can't be read as UTF-8, 3 a limit that was met, 4 want of memory, n where the script exits with
-/// n.
+/// gives the exit status: 0 a result, help or the version, 1 an error, 2 a mistake in the words or
+/// a script that can't be read as UTF-8, 3 a limit that was met, 4 want of memory, n where the
+/// script exits with n.
 ///
 /// The first word is the program's name. The script makes at most N steps, from 0 to 1000000000000,
 /// or 10000000 where the words don't say. Where memory is wanted, the host was asked until then

@@ -193,7 +193,8 @@ impl World for Caller {
 /// Puts the rows of a layer's file.
 fn run_layer(rt: &HostRuntime, layer: Layer) -> io::Result<()> {
     let kept = Text::new(rt.alloc(), "")?;
-    run(rt, layer.name(), &mut Caller { layer, kept })
+    run(rt, layer.name(), &mut Caller { layer, kept })?;
+    Ok(())
 }
 
 fn main(rt: HostRuntime) -> io::Result<()> {

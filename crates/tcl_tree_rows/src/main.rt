@@ -32,7 +32,8 @@ fn run_variables(rt: &HostRuntime) -> io::Result<()> {
     run(rt, "frames", &mut Chains::new(rt.alloc())?)?;
     run(rt, "variables", &mut Variables::new(rt.alloc())?)?;
     run(rt, "maps", &mut Maps::new(rt.alloc()))?;
-    run(rt, "completions", &mut Completions::new())
+    run(rt, "completions", &mut Completions::new())?;
+    Ok(())
 }
 
 /// The rows of hosts, trees, calls and commands.
@@ -40,7 +41,8 @@ fn run_interpreters(rt: &HostRuntime) -> io::Result<()> {
     run(rt, "hosts", &mut Hosts::new(rt.alloc())?)?;
     run(rt, "trees", &mut Trees::new(rt.alloc())?)?;
     run(rt, "calls", &mut Calls)?;
-    run(rt, "commands", &mut Commands)
+    run(rt, "commands", &mut Commands)?;
+    Ok(())
 }
 
 fn main(rt: HostRuntime) -> io::Result<()> {

@@ -1,7 +1,7 @@
 use Rattle.std.proofs.Common.{◌∙◌, sym}
 use Rattle.tcl_eval.proofs.Starting.{at_none}
 use Rattle.tcl_open_watching.proofs.Answers.{deletions, follows, records, runs}
-use Rattle.tcl_open_watching.proofs.Before.{both_there}
+use Rattle.tcl_replay.proofs.Before.{both_there}
 use Rattle.tcl_open_watching.proofs.Recorded as laws
 use Rattle.tcl_replay.specs.Watched.{AsksTheHostNothing, CountStaysWithin, Reacts, ReactsSo, ReactsUntil, unwatchable}
 use Rattle.tcl_open_watching.proofs.watching.open_watched.Goals as goal

@@ -13,9 +13,9 @@ returns-in-Ok-clause-runs g c =
 
 pub returns-in-Ok-clause-given_up : goal.returns-in-Ok-clause-given_up
 returns-in-Ok-clause-given_up g c =
-    if_unwatched g.O.Outside.goes g.O.Outside.loses c.args.tree.now c.args.path.now c.args.script.now (root_count c.args.tree.now + c.args.limit) c.open_run.result (unfit c.args.tree.now c.args.path.now c.args.script.now c.args.limit) c.begin.new.recorder c.open_run.new.outside c.args.recorder.now.outside c.requires.fit c.begin.ensures.outside c.open_run.ensures.given_up
+    if_unwatched g.O.Outside.goes g.O.Outside.loses c.args.tree.now c.args.path.now c.args.script.now (root_count c.args.tree.now + c.args.limit) c.open_run.result (unfit c.args.tree.now c.args.path.now c.args.script.now c.args.limit) c.begin_record.new.recorder c.open_run.new.outside c.args.recorder.now.outside c.requires.fit c.begin_record.ensures.outside c.open_run.ensures.given_up
 
 pub returns-in-Err-clause-given_up : goal.returns-in-Err-clause-given_up
 returns-in-Err-clause-given_up g c =
-    subst (λ (u : g.row.O.Denot). Lost g.O.Outside.goes g.O.Outside.loses c.args.tree.now c.args.path.now c.args.script.now (root_count c.args.tree.now + c.args.limit) c.args.recorder.now.outside u) (sym c.begin.ensures.outside)
+    subst (λ (u : g.row.O.Denot). Lost g.O.Outside.goes g.O.Outside.loses c.args.tree.now c.args.path.now c.args.script.now (root_count c.args.tree.now + c.args.limit) c.args.recorder.now.outside u) (sym c.begin_record.ensures.outside)
     (not_begun g.O.Outside.goes g.O.Outside.loses c.args.tree.now c.args.path.now c.args.script.now (root_count c.args.tree.now + c.args.limit) c.args.recorder.now.outside)

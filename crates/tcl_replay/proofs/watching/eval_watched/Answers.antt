@@ -1,6 +1,7 @@
 use Rattle.std.proofs.Common.{◌∙◌, sym}
 use Rattle.tcl_replay.specs.Watched.{AsksTheHostNothing, Counts, CountStaysWithin, LeavesTheOutside, LimitsStay, Reacts, ReactsSo, ReactsUntil, unwatchable}
-use Rattle.tcl_replay.proofs.Answers.{both_there, deletions, follows, records, stops, wholes}
+use Rattle.tcl_replay.proofs.Before.{both_there}
+use Rattle.tcl_replay.proofs.Answers.{deletions, follows, records, stops, wholes}
 use Rattle.tcl_replay.proofs.Recorded as recorded
 use Rattle.tcl_eval.proofs.Starting.{at_none}
 use Rattle.tcl_replay.proofs.Unfinished.{if_refused_so}

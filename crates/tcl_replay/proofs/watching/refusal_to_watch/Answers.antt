@@ -1,6 +1,6 @@
 use Rattle.std.proofs.Common.{◌∙◌, sym}
 use Rattle.tcl_tree.proofs.CoreLemmas.{tree_there}
-use Rattle.tcl_replay.proofs.Answers.{nobody, same_broken, same_there}
+use Rattle.tcl_replay.proofs.Before.{nobody, same_broken, same_there}
 use Rattle.tcl_replay.proofs.watching.refusal_to_watch.Goals as goal
 
 pub returns-then-is_broken : goal.returns-then-is_broken

@@ -53,9 +53,9 @@ returns-in-Ok-clause-given_up g c =
     let Was : Type 0 = Lost g.H.Host.step c.args.tree.now c.args.path.now c.args.script.now (root_count c.args.tree.now + c.args.limit) c.args.recorder.now.outside c.open_run-opened.new.outside.outside in
     subst (λ (r : Result End Refused). IfErr r (λ _. Was)) (sym c.ran.ensures)
     (if_refusal c.open_run-opened.result Was uncut
-    (if_unwatched g.H.Host.step c.args.tree.now c.args.path.now c.args.script.now (root_count c.args.tree.now + c.args.limit) c.open_run-opened.result (unfit c.args.tree.now c.args.path.now c.args.script.now c.args.limit) c.begin.new.recorder c.open_run-opened.new.outside c.args.recorder.now.outside c.requires.fit c.begin.ensures.outside c.open_run-opened.ensures.given_up))
+    (if_unwatched g.H.Host.step c.args.tree.now c.args.path.now c.args.script.now (root_count c.args.tree.now + c.args.limit) c.open_run-opened.result (unfit c.args.tree.now c.args.path.now c.args.script.now c.args.limit) c.begin_record.new.recorder c.open_run-opened.new.outside c.args.recorder.now.outside c.requires.fit c.begin_record.ensures.outside c.open_run-opened.ensures.given_up))
 
 pub returns-in-Err-clause-given_up : goal.returns-in-Err-clause-given_up
 returns-in-Err-clause-given_up g c =
-    subst (λ (u : g.row.H.Denot). Lost g.H.Host.step c.args.tree.now c.args.path.now c.args.script.now (root_count c.args.tree.now + c.args.limit) c.args.recorder.now.outside u) (sym c.begin.ensures.outside)
+    subst (λ (u : g.row.H.Denot). Lost g.H.Host.step c.args.tree.now c.args.path.now c.args.script.now (root_count c.args.tree.now + c.args.limit) c.args.recorder.now.outside u) (sym c.begin_record.ensures.outside)
     (not_begun g.H.Host.step c.args.tree.now c.args.path.now c.args.script.now (root_count c.args.tree.now + c.args.limit) c.args.recorder.now.outside)

@@ -1,7 +1,12 @@
-use Rattle.std.proofs.Common.{refl}
+use Rattle.std.proofs.Common.{refl, subst, sym}
+use Rattle.std.specs.Prelude.{OnOk}
+use Rattle.std.proofs.lemmas.Result.{on_ok_weaker}
 use Rattle.tcl_run.proofs.Quiet.{within_unchanged}
 use Rattle.tcl_tree.specs.TreeOf.{tree_of}
-use Rattle.tcl_functions.proofs.Ways.{enters_unheard, misses_unheard, returns_unheard}
+use Rattle.tcl_run.specs.Entering.{whole_entry}
+use Rattle.tcl_run.specs.Notifying.{Notified}
+use Rattle.tcl_run.specs.declared.outside.Happening.{Happening}
+use Rattle.tcl_functions.proofs.Ways.{enters_unheard, exit_back, misses_unheard, returns_unheard}
 use Rattle.tcl_functions.specs.Serving.{going}
 use Rattle.tcl_functions.proofs.serving.WithFunctionsOutside.notify.Goals as goal
 
@@ -11,7 +16,17 @@ returns-in_default-clause-told g c =
     let o = c.args.self.now in
     let serves = g.F.Functions.serves in
     let step = g.H.Host.step in
-    within_unchanged (going serves step) (Unit {0}) c.args.tree.now o c.args.happening (λ p. refl) (enters_unheard serves step T o) (returns_unheard serves step T o) (misses_unheard serves step T o)
+    within_unchanged (going serves step) (Unit {0}) c.args.tree.now o c.args.happening (λ S p. refl) (enters_unheard serves step T o) (returns_unheard serves step T o) (misses_unheard serves step T o)
     (λ caller up down entry is. absurd (c.in_default.not-PassedTop caller up down entry is))
     (λ target ended is. absurd (c.in_default.not-EntryDone target ended is))
     (λ caller up entry status is. absurd (c.in_default.not-ExitCameBack caller up entry status is))
+
+pub returns-in-Some-up-clause-told : goal.returns-in-Some-up-clause-told
+returns-in-Some-up-clause-told g c =
+    let serves = g.F.Functions.serves in
+    let step = g.H.Host.step in
+    let back = c.in-ExitCameBack in
+    subst (λ (w : Happening). OnOk c.close.result (Notified (going serves step) (Unit {0}) c.args.tree.now c.args.self.now w c.close.new.self)) (sym back.is)
+    (on_ok_weaker c.close.result
+    (λ e may p at top. exit_back serves step c.args.self.now c.close.new.self back.up c.in-Some-up.field-0 p (whole_entry back.entry.now) back.status c.in-Some-up.is top e)
+    c.close.ensures.closes)

@@ -27,7 +27,7 @@ pub returns-in_default-clause-told : goal.returns-in_default-clause-told
 returns-in_default-clause-told c =
     let T = tree_of c.args.tree.now in
     let o = c.args.self.now in
-    within_unchanged played (Unit {0}) c.args.tree.now o c.args.happening (λ p. refl) (enters_unheard T o) (returns_unheard T o) (misses_unheard T o)
+    within_unchanged played (Unit {0}) c.args.tree.now o c.args.happening (λ S p. refl) (enters_unheard T o) (returns_unheard T o) (misses_unheard T o)
     (λ caller up down entry is. absurd (c.in_default.not-PassedTop caller up down entry is))
     (λ target ended is. absurd (c.in_default.not-EntryDone target ended is))
     (λ caller up entry status is. absurd (c.in_default.not-ExitCameBack caller up entry status is))

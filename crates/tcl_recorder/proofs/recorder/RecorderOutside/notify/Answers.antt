@@ -1,4 +1,4 @@
-use Rattle.std.proofs.Common.{◌≡◌, ℤ, ◌++◌, Some, None, length, refl, sym, ◌∙◌, subst, w64}
+use Rattle.std.proofs.Common.{◌≡◌, FitsSigned, ℤ, [], ◌∷◌, ◌++◌, Some, None, length, refl, sym, ◌∙◌, subst, w64, rules}
 use Rattle.std.specs.Prelude.{OnOk}
 use Rattle.std.proofs.lemmas.Int.{to_z-of_z}
 use Rattle.std.proofs.lemmas.Result.{on_ok_weaker}
@@ -7,7 +7,7 @@ use Rattle.tcl_core.specs.Endings.Reply.{Exit}
 use Rattle.tcl_core.specs.Entries.Answer.{Replied}
 use Rattle.tcl_core.specs.Execution.{event}
 use Rattle.tcl_core.specs.Paths.{Path, rise_to}
-use Rattle.tcl_core.specs.Trees.What.{Back, Done, Out}
+use Rattle.tcl_core.specs.Trees.What.{Back, Done, Dropped, Out}
 use Rattle.tcl_run.proofs.Endings.{IfEnded-both}
 use Rattle.tcl_run.specs.Ends.{IfEnded}
 use Rattle.tcl_run.specs.Entering.{whole_entry}
@@ -28,8 +28,8 @@ returns-in-Dropped-clause-told g c =
     let told = subst (λ (h : Happening). Notified g.O.Outside.goes g.O.Outside.hands_in T old.outside h c.notify.new.self) c.in-Dropped.is c.in_ok-notify.ensures.told in
     subst (λ (h : Happening). OnOk c.note_drop.result (Notified (recorded g.O.Outside.goes) g.O.Outside.hands_in T old h new)) (sym c.in-Dropped.is)
     (on_ok_weaker c.note_drop.result
-    (λ e p at. drops g.O.Outside.goes (tree_of T) old new _ c.note_drop.ensures.kept c.note_drop.ensures.incomplete (e p at)
-    (subst (λ u. g.O.Outside.goes (tree_of T) old.outside None _ u) (sym c.note_drop.ensures.outside) (told p at)))
+    (λ e S p at. drops g.O.Outside.goes S old new _ c.note_drop.ensures.kept c.note_drop.ensures.incomplete (e p at)
+    (subst (λ u. g.O.Outside.goes S old.outside None (event (p ++ c.in-Dropped.name.now ∷ []) Dropped) u) (sym c.note_drop.ensures.outside) (told S p at)))
     c.note_drop.ensures.fate)
 
 pub returns-in_ok-path-in-Entered-clause-told : goal.returns-in_ok-path-in-Entered-clause-told
@@ -40,8 +40,8 @@ returns-in_ok-path-in-Entered-clause-told g c =
     let told = subst (λ (h : Happening). Notified g.O.Outside.goes g.O.Outside.hands_in T old.outside h c.notify.new.self) c.in-Entered.is c.in_ok-notify.ensures.told in
     subst (λ (h : Happening). OnOk c.call_enters.result (Notified (recorded g.O.Outside.goes) g.O.Outside.hands_in T old h new)) (sym c.in-Entered.is)
     (on_ok_weaker c.call_enters.result
-    (λ e p a at up. enters g.O.Outside.goes (tree_of T) old new c.as_slice-in-Entered.result.now p c.in-Entered.up a c.in-Entered.down.now (whole_entry c.in-Entered.entry.now)
-    (c.as_slice-in-Entered.ensures.value ∙ c.in_ok-path-in-Entered.ensures p at) up e refl refl (told p a at up))
+    (λ e p a at up. enters g.O.Outside.goes (tree_of T) old new c.as_slice.result.now p c.in-Entered.up a c.in-Entered.down.now (whole_entry c.in-Entered.entry.now)
+    (c.as_slice.ensures.value ∙ c.in_ok-path-in-Entered.ensures p at) up e refl refl (told p a at up))
     c.call_enters.ensures)
 
 pub returns-in_ok-path-in-Returned-clause-told : goal.returns-in_ok-path-in-Returned-clause-told
@@ -113,9 +113,12 @@ returns-in_ok-path-in-ExitCameBack-clause-told g c =
     let T = c.args.tree.now in
     let new : Recorder g.row.O.Denot = record { outside = c.notify.new.self; kept = c.exit_comes.new.self; deleted = old.deleted; incomplete = old.incomplete } in
     let h = c.in-ExitCameBack.up in
+    let q = c.as_slice-in-ExitCameBack.result.now in
+    let fits_it : FitsSigned w64 c.in-ExitCameBack.status = search rules in
+    let Kept : ℤ → Type 0 = λ n. OnOk c.exit_comes.result (c.exit_comes.new.self ≡ crossed old.kept (event q (Back h (Replied (Exit n))))) in
     let told = subst (λ (h : Happening). Notified g.O.Outside.goes g.O.Outside.hands_in T old.outside h c.notify.new.self) c.in-ExitCameBack.is c.in_ok-notify.ensures.told in
     subst (λ (h : Happening). OnOk c.exit_comes.result (Notified (recorded g.O.Outside.goes) g.O.Outside.hands_in T old h new)) (sym c.in-ExitCameBack.is)
     (on_ok_weaker c.exit_comes.result
     (λ e may p at up. crosses g.O.Outside.goes (tree_of T) old new (Some (h, _)) c.as_slice-in-ExitCameBack.result.now p (Back h (Replied (Exit c.in-ExitCameBack.status)))
     (c.as_slice-in-ExitCameBack.ensures.value ∙ c.in_ok-path-in-ExitCameBack.ensures p at) (λ w. w) e refl (λ f. absurd f) (told may p at up))
-    c.exit_comes.ensures)
+    (subst Kept (to_z-of_z w64 c.in-ExitCameBack.status fits_it) c.exit_comes.ensures))
