@@ -8,8 +8,6 @@
 //!
 //! A text is answered as it is, an error behind `error:`, and a list with each element in `<` and
 //! `>`.
-#![tactic(auto)]
-
 mod answers;
 mod commands;
 mod evaluation;
@@ -22,7 +20,7 @@ mod tokens;
 mod trees;
 mod words;
 
-use crate::answers::no_call;
+use crate::text_rows::answers::no_call;
 use row_runner::{World, run};
 use std::alloc::{AllocError, Global};
 use std::io;
@@ -197,11 +195,12 @@ fn run_layer(rt: &HostRuntime, layer: Layer) -> io::Result<()> {
     Ok(())
 }
 
-fn main(rt: HostRuntime) -> io::Result<()> {
-    run_layer(&rt, Layer::Texts)?;
-    run_layer(&rt, Layer::Numbers)?;
-    run_layer(&rt, Layer::Words)?;
-    run_layer(&rt, Layer::Strings)?;
-    run_layer(&rt, Layer::Commands)?;
-    run_layer(&rt, Layer::Expressions)
+/// Puts the rows of each layer.
+pub(crate) fn run_rows(rt: &HostRuntime) -> io::Result<()> {
+    run_layer(rt, Layer::Texts)?;
+    run_layer(rt, Layer::Numbers)?;
+    run_layer(rt, Layer::Words)?;
+    run_layer(rt, Layer::Strings)?;
+    run_layer(rt, Layer::Commands)?;
+    run_layer(rt, Layer::Expressions)
 }
