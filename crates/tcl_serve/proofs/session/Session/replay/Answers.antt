@@ -1,6 +1,12 @@
-use Rattle.std.proofs.Common.{ap, refl, sym}
+use Rattle.std.proofs.Common.{ap, inr, refl, rules, sym}
+use Rattle.tcl_protocol.specs.Messages as asks
 use Rattle.tcl_protocol.specs.declared.answers.Answer.TheVariants as answer
+use Rattle.tcl_serve.proofs.SessionLemmas.{does_err, same}
 use Rattle.tcl_serve.proofs.session.Session.replay.Goals as goal
+
+pub returns-in_err-replay : goal.returns-in_err-replay
+returns-in_err-replay c = does_err c.args.self.now c.args.self.now (asks.Replay c.args.message.saved c.args.message.played c.args.message.limit) _ c.in_err-replay.field-0.0 (search rules)
+    (inr (inr (inr (c.in-Some.saved.now, c.in-Some-get.kept.now, sym c.in-Some.ensures, sym c.in-Some-get.ensures, c.in_err-replay.ensures))), same c.args.self.now)
 
 pub returns : goal.returns
 returns c = record {
