@@ -1,6 +1,6 @@
 -- Steps that read and look.
-use Rattle.std.proofs.Common.{◌≡◌, ℕ, ℤ, ◌<◌, ◌≤◌, Bool, true, false, [], ◌∷◌, ◌++◌, length, Option, Some, None, refl, sym, ◌∙◌, ap, subst, append-nil, arith}
-use Rattle.std.specs.Prelude.{Result, Ok, Err, IfOk, IfErr, codes}
+use Rattle.std.proofs.Common.{◌≡◌, Bool, true, false, ◌++◌, Some, refl, sym, ◌∙◌, ap, subst, append-nil}
+use Rattle.std.specs.Prelude.{Result, Ok, Err, IfOk, IfErr}
 use Rattle.std.specs.Bool.{Decides}
 use Rattle.std.proofs.lemmas.Slice.Eq.{bytes_eq-Decides}
 use Rattle.std.specs.Str.{bytes_eq}
@@ -13,10 +13,8 @@ use Rattle.tcl_core.specs.Programs.Prog.{act}
 use Rattle.tcl_core.specs.Execution.{completed}
 use Rattle.tcl_core.specs.Trees.{Tree, Node, at}
 use Rattle.tcl_language.specs.Instructions.{Instr, Program, either, fails, look, at_node, or_fails}
-use Rattle.tcl_language.specs.Faults.{integer_message}
 use Rattle.tcl_language.specs.Interpreters as interpreters
 use Rattle.tcl_language.specs.Interpreters.{where_it_stands, no_interpreter}
-use Rattle.tcl_language.specs.Variables.{integer}
 use Rattle.tcl_run.specs.Ends.{Interrupts, IfEnded, IsFailure, failing}
 use Rattle.tcl_run.specs.Outsides.{Going}
 use Rattle.tcl_run.specs.Runs.{Comes, Evaluates, IsAt, IsThere}
@@ -25,20 +23,18 @@ use Rattle.tcl_run.proofs.Endings.{Interrupts-more, IfEnded-more}
 use Rattle.tcl_run.proofs.Leads.{at_reply, sees_below}
 use Rattle.tcl_run.proofs.Steady.{stands}
 use Rattle.tcl_text.specs.Lists.{list_of}
-use Rattle.tcl_text.specs.Numbers.{in_64_bits, integer_of}
 use Rattle.tcl_text.specs.Writing.{fault_message}
-use Rattle.tcl_text.specs.declared.integer.IntegerFault.{IntegerFault}
 use Rattle.tcl_text.specs.declared.integer.Integers.{Integers}
 use Rattle.tcl_text.specs.declared.list.ListFault.{ListFault}
 use Rattle.tcl_tree.specs.Own.{Own}
 use Rattle.tcl_tree.specs.Reaching.{Leads as Leads_to}
-use Rattle.tcl_tree.specs.TreeOf.{tree_of, marks_of, Names}
+use Rattle.tcl_tree.specs.TreeOf.{tree_of, Names}
 use Rattle.tcl_tree.specs.declared.tree.places.Reach.TheVariants as reach
 use Rattle.tcl_tree.proofs.CoreLemmas.{tree_there}
 use Rattle.tcl_tree.specs.declared.tree.Tree.{Tree as Table_of}
 use Rattle.tcl_tree.specs.declared.tree.Place.{Place as TablePlace}
 use Rattle.tcl_entries.specs.Asking.{Styled, EndsIn, Leads}
-use Rattle.tcl_entries.specs.Looking.{LooksTo, here, looked, LooksToEnd, GetsTo, GetsToEnd, Finds, DepthGiven}
+use Rattle.tcl_entries.specs.Looking.{LooksTo, here, looked, GetsTo, GetsToEnd, Finds}
 use Rattle.tcl_entries.proofs.Reached.{there_below, gone_below}
 
 -- ## One interpreter
@@ -178,59 +174,6 @@ path_lost t place text path e rest read leads f =
 pub path_misread : (t : Table_of) (place : TablePlace) (text : Text) (e : Reply) (rest : Path → Styled) → IsFailure fault_message (list_of text) e → GetsToEnd t place (λ style. interpreters.at_path text (λ path n. rest path style)) e
 path_misread t place text e rest f = list_fails t place (list_of text) e (λ path style. act Look (λ T. where_it_stands text (λ n. rest path style) (T path))) f
 
-pub below_goes : (path : Path) (k : Program) → 1 ≤ length path → interpreters.below_itself path k ≡ k
-below_goes [] k h = absurd (omega arith)
-below_goes (x ∷ xs) k h = refl
-
-pub below_denied : (path : Path) (k : Program) → length path < 1 → interpreters.below_itself path k ≡ fails interpreters.denied
-below_denied [] k h = refl
-below_denied (x ∷ xs) k h = absurd (omega arith)
-
-pub unless_goes : (path : Path) (k : Program) → 1 ≤ length path → interpreters.unless_root path k ≡ k
-unless_goes [] k h = absurd (omega arith)
-unless_goes (x ∷ xs) k h = refl
-
 -- it fails so
 pub gets_failed : (t : Table_of) (place : TablePlace) (x : Styled) (message : Text) (r : Reply) → ((style : Integers) → x style ≡ fails message) → r ≡ Completed (failing message) → GetsToEnd t place x r
 gets_failed t place x message r e f = λ p style at. record { completion = failing message; way = is_program (tree_of t) p (x style) (fails message) (e style); end = f }
-
--- ## Integers
-
-pub integer_goes : (t : Table_of) (place : TablePlace) (own : Integers) (word : Text) (n : ℤ) (rest : ℤ → Styled) → own ≡ (marks_of t).integers → in_64_bits (integer_of own word) ≡ Ok n →
-    GetsTo t place (λ style. integer style word (λ z. rest z style)) (rest n)
-integer_goes t place own word n rest same read = λ p style at.
-    is_program (tree_of t) p _ _ (ap (λ (x : Result ℤ IntegerFault). or_fails (integer_message word) x (λ z. rest z style)) (ap (λ (s : Integers). in_64_bits (integer_of s word)) (sym (same ∙ at.style_is)) ∙ read))
-
-pub integer_fails : (t : Table_of) (place : TablePlace) (own : Integers) (word : Text) (e : Reply) (rest : ℤ → Styled) → own ≡ (marks_of t).integers → IsFailure (integer_message word) (in_64_bits (integer_of own word)) e →
-    GetsToEnd t place (λ style. integer style word (λ z. rest z style)) e
-integer_fails t place own word e rest same f = λ p style at. by (in_64_bits (integer_of style word)) p style (subst (λ (s : Integers). IsFailure (integer_message word) (in_64_bits (integer_of s word)) e) (same ∙ at.style_is) f)
-  where
-    by : (x : Result ℤ IntegerFault) (p : Path) (style : Integers) → IsFailure (integer_message word) x e → LooksToEnd (tree_of t) p (or_fails (integer_message word) x (λ z. rest z style)) e
-    by (Ok z) p style g = elim g [ ]
-    by (Err x) p style g = record { completion = failing (integer_message word x); way = here; end = g }
-
-pub depth_found : (t : Table_of) (place : TablePlace) (own : Integers) (word : Text) (n given : ℤ) (r : Result ℕ Interruption) → own ≡ (marks_of t).integers → in_64_bits (integer_of own word) ≡ Ok n → given ≡ n → DepthGiven given r →
-    Finds t place (λ limit. limit) (λ rest style. integer style word (λ z. interpreters.depth_number z (λ limit. rest limit style))) r
-depth_found t place own word n given (Ok m) same read is d = λ rest p style at.
-    looks_then (integer_goes t place own word n (λ z style. interpreters.depth_number z (λ limit. rest limit style)) same read p style at)
-    (is_program (tree_of t) p _ _ (ap (λ (z : ℤ). interpreters.depth_number z (λ limit. rest limit style)) (sym is ∙ d)))
-depth_found t place own word n given (Err i) same read is d = Interrupts-more i _ _ (λ e h rest. gets_end t place _ (λ style. interpreters.depth_number n (λ limit. rest limit style)) e
-    (integer_goes t place own word n (λ z style. interpreters.depth_number z (λ limit. rest limit style)) same read)
-    (gets_failed t place (λ style. interpreters.depth_number n (λ limit. rest limit style)) (codes "recursion limit must be between 1 and 1000") e (λ style. ap (λ (z : ℤ). interpreters.depth_number z (λ limit. rest limit style)) (sym is ∙ h.1)) h.2)) d
-
-pub no_limit : (style : Integers) (word : Text) (k : Option ℕ → Program) → word ≡ [] → interpreters.limit_value style word k ≡ k None
-no_limit style word k e = ap (λ (w : Text). interpreters.limit_value style w k) e
-
-some_limit : (style : Integers) (word : Text) (k : Option ℕ → Program) → (word ≡ [] → Prim.⊥) → interpreters.limit_value style word k ≡ integer style word (λ z. interpreters.limit_number word z (λ n. k (Some n)))
-some_limit style [] k other = absurd (other refl)
-some_limit style (c ∷ cs) k other = refl
-
-pub limit_fails : (t : Table_of) (place : TablePlace) (own : Integers) (word : Text) (e : Reply) (rest : Option ℕ → Styled) → (word ≡ [] → Prim.⊥) → own ≡ (marks_of t).integers → IsFailure (integer_message word) (in_64_bits (integer_of own word)) e →
-    GetsToEnd t place (λ style. interpreters.limit_value style word (λ l. rest l style)) e
-limit_fails t place own word e rest other same f = gets_end t place _ (λ style. integer style word (λ z. interpreters.limit_number word z (λ n. rest (Some n) style))) e
-    (gets_as t place _ _ (λ style. some_limit style word (λ l. rest l style) other)) (integer_fails t place own word e (λ z style. interpreters.limit_number word z (λ n. rest (Some n) style)) same f)
-
-pub limit_goes : (t : Table_of) (place : TablePlace) (own : Integers) (word : Text) (n : ℤ) (rest : Option ℕ → Styled) → (word ≡ [] → Prim.⊥) → own ≡ (marks_of t).integers → in_64_bits (integer_of own word) ≡ Ok n →
-    GetsTo t place (λ style. interpreters.limit_value style word (λ l. rest l style)) (λ style. interpreters.limit_number word n (λ m. rest (Some m) style))
-limit_goes t place own word n rest other same read = λ p style at.
-    looks_as (tree_of t) p _ _ _ (some_limit style word (λ l. rest l style) other) (integer_goes t place own word n (λ z style. interpreters.limit_number word z (λ m. rest (Some m) style)) same read p style at)

@@ -2,5 +2,4 @@ pub mod Asking
 pub mod Listing
 pub mod Looking
 pub mod Naming
-pub mod Subcommands
 pub mod Telling

@@ -1,18 +1,16 @@
 -- Steps of a program that read and look, and change nothing.
-use Rattle.std.specs.Prelude.{◌≡◌, ℕ, ℤ, pos, negsuc, Result, MatchResult}
+use Rattle.std.specs.Prelude.{◌≡◌, Result, MatchResult}
 use Rattle.tcl_core.specs.Endings.{Completion, Reply}
 use Rattle.tcl_core.specs.Endings.Reply.{Completed}
-use Rattle.tcl_core.specs.Paths.{Text, Place, Path}
+use Rattle.tcl_core.specs.Paths.{Place, Path}
 use Rattle.tcl_core.specs.Programs.Act.{Look}
 use Rattle.tcl_core.specs.Programs.Prog.{done, act}
 use Rattle.tcl_core.specs.Trees.{Tree, at}
 use Rattle.tcl_language.specs.Instructions.{Program}
-use Rattle.tcl_language.specs.Interpreters.{bad_count}
-use Rattle.tcl_run.specs.Ends.{Interrupts, failing}
+use Rattle.tcl_run.specs.Ends.{Interrupts}
 use Rattle.tcl_run.specs.Runs.{IsThere}
 use Rattle.tcl_run.specs.declared.interruption.Interruption.{Interruption}
 use Rattle.tcl_text.specs.declared.integer.Integers.{Integers}
-use Rattle.tcl_text.specs.Messages as messages
 use Rattle.tcl_tree.specs.Own.{Own}
 use Rattle.tcl_tree.specs.TreeOf.{tree_of}
 use Rattle.tcl_tree.specs.declared.tree.Tree as table
@@ -54,13 +52,3 @@ abbrev pub Passes : table.Tree → table_place.Place → (Styled → Styled) →
 Passes t place step result = MatchResult result
     (λ a. (rest : Styled) → GetsTo t place (step rest) rest)
     (λ i. Interrupts i (λ e. (rest : Styled) → GetsToEnd t place (step rest) e))
-
--- how many steps an integer is, or that no number of steps may be this
-abbrev pub CountGiven : Text → ℤ → Result ℕ Interruption → Type 0
-CountGiven word n result = MatchResult result (λ m. n ≡ pos m)
-    (λ i. Interrupts i (λ e. (m : ℕ) × (n ≡ negsuc m) × (e ≡ Completed (failing (bad_count word)))))
-
-abbrev pub DepthGiven : ℤ → Result ℕ Interruption → Type 0
-DepthGiven n result = MatchResult result (λ m. n ≡ pos m)
-    (λ i. Interrupts i (λ e. (m : ℕ) × (n ≡ negsuc m) ×
-    (e ≡ Completed (failing messages.bad_depth_limit))))

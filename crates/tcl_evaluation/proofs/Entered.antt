@@ -1,23 +1,20 @@
 -- What comes of asking an interpreter for an evaluation.
-use Rattle.std.proofs.Common.{◌≡◌, ℕ, ◌<◌, ◌≤◌, Bool, true, false, List, [], ◌∷◌, length, Some, None, refl, sym, ◌∙◌, ap, subst, arith}
+use Rattle.std.proofs.Common.{◌≡◌, ℕ, ◌≤◌, Bool, true, false, List, [], ◌∷◌, length, Some, None, refl, sym, ◌∙◌, ap, subst, arith}
 use Rattle.std.specs.Prelude.{Result}
 use Rattle.tcl_core.specs.Endings.{Completion, Reply}
 use Rattle.tcl_core.specs.Endings.Reply.{Completed, Stop, Exit, Cut}
 use Rattle.tcl_core.specs.Entries.{Entry}
-use Rattle.tcl_core.specs.Entries.Entry.{Eval, InvokeHidden}
+use Rattle.tcl_core.specs.Entries.Entry.{InvokeHidden}
 use Rattle.tcl_core.specs.Paths.{Path, Text}
 use Rattle.tcl_core.specs.Runs.{Ending}
-use Rattle.tcl_core.specs.Programs.Prog.{done}
 use Rattle.tcl_core.specs.Trees.{Tree, Node, effect}
 use Rattle.tcl_core.specs.Trees.What.{Changed}
 use Rattle.tcl_language.specs.Control.{at_level, level_over}
-use Rattle.tcl_language.specs.Faults.{wrong_args}
-use Rattle.tcl_language.specs.Instructions.{Program, fails, grown}
+use Rattle.tcl_language.specs.Instructions.{Program}
 use Rattle.tcl_language.specs.Instructions.Instr.{Invoke}
-use Rattle.tcl_language.specs.Interpreters.{asks_at, at_path, eval}
+use Rattle.tcl_language.specs.Interpreters.{asks_at}
 use Rattle.tcl_language_laws.specs.Language.{language}
 use Rattle.tcl_language.specs.Table.{invoked_at, serve, settled, some_words}
-use Rattle.tcl_language.specs.Words.{concat}
 use Rattle.tcl_run.specs.Runs.{Counts, IsAt, IsThere, Proceeds, ProceedsAt, RefusesStep, Ways}
 use Rattle.tcl_run.specs.declared.interruption.Interruption.{Interruption}
 use Rattle.tcl_run.proofs.Endings.{IfRan-more}
@@ -42,21 +39,6 @@ asks_here ways old new o z place path entry result none runs = IfRan-more result
 pub asks_another : {S : Type 0} (ways : Ways S) (old new : Table) (o z : S) (place : TablePlace) (path : Path) (entry : Entry) (result : Result (List ℕ) Interruption) → 1 ≤ length path → AsksBelow ways old o place path entry new z result → Asks ways old o place path entry new z result
 asks_another ways old new o z place [] entry result some asks = absurd (omega arith)
 asks_another ways old new o z place (x ∷ path) entry result some asks = asks
-
--- ## interp eval
-
--- what is left once the path is read
-abbrev pub evals : List Text → Path → Integers → Program
-evals words path style = grown (concat words) (λ script. asks_at path (Eval script) done)
-
-pub eval_is : (args : List Text) (path : Text) (words : List Text) → args ≡ path ∷ words → 1 ≤ length words → eval args ≡ at_path path (λ q n. grown (concat words) (λ script. asks_at q (Eval script) done))
-eval_is args path [] e h = absurd (omega arith)
-eval_is args path (w ∷ ws) e h = ap eval e
-
-pub eval_few : (args : List Text) → length args < 2 → eval args ≡ fails (wrong_args (Rattle.std.specs.Prelude.codes "interp eval path arg ?arg ...?"))
-eval_few [] h = refl
-eval_few (a ∷ []) h = refl
-eval_few (a ∷ b ∷ bs) h = absurd (omega arith)
 
 -- at level 0 or as it is
 invoked_is : (g : Bool) (words : List Text) → invoked_at g words ≡ invokes_at g words settled

@@ -24,7 +24,7 @@ use tcl_calls::host_calls::HostCommand;
 use tcl_calls::lookup::{find_command, find_hidden};
 use tcl_calls::procedures::{bind, enter_frame, leave_frame, wrong_form};
 use tcl_flow::completion::leave_proc;
-use tcl_interp_commands::naming::rename;
+use tcl_interp::naming::rename;
 use tcl_run::interruption::Interruption;
 use tcl_run::outside::Outside;
 use tcl_tree::builtin::Builtin;

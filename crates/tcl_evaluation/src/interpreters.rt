@@ -1,17 +1,18 @@
-//! `interp`, by which an interpreter asks those below it.
+//! `interp`, by which an interpreter asks those below it, and the subcommands that a child's own
+//! command has too.
 ghost use Rattle.std.specs.Prelude.{◌≤◌};
 ghost use Rattle.tcl_language.specs.Interpreters as interpreters;
 ghost use Rattle.tcl_run.specs.Runs.{IsRunning, IsSteady, ProceedsIn, ways};
-ghost use Rattle.tcl_entries.specs.Subcommands.{program_of};
+ghost use Rattle.tcl_interp.specs.Programs.{evals, invokes, program_of};
+ghost use Rattle.tcl_interp.specs.Subjects.{about};
 
 use crate::crossing::ask_entry;
 use std::alloc::Global;
 use tcl_calls::scripts::script_of;
-use tcl_child_commands::hidden::{HiddenCall, hidden_call};
-use tcl_entries::asking::path_of;
-use tcl_entries::looking::permit;
-use tcl_entries::subcommand::Subcommand;
-use tcl_interp_commands::dispatch::{interp_own, subcommand_named};
+use tcl_interp::dispatch::{call_shared, call_tree};
+use tcl_interp::hidden::{HiddenCall, hidden_call};
+use tcl_interp::subcommand::{InterpSubcommand, Subcommand, interp_subcommand};
+use tcl_interp::subject::{Subject, path_to, split_path, trusted_path, wrong_words};
 use tcl_run::entry::Entry;
 use tcl_run::failure::{unknown_subcommand, wrong_args};
 use tcl_run::interruption::Interruption;
@@ -43,112 +44,109 @@ pub fn interp<O: Outside>(
         return Err(wrong_args(alloc, "interp subcommand ?arg ...?"));
     };
     let name = word.text(alloc)?;
-    let Some(subcommand) = subcommand_named(name.as_str()) else {
+    let Some(subcommand) = interp_subcommand(name.as_str()) else {
         return Err(unknown_subcommand(alloc, name.as_str()));
     };
-    call_subcommand(tree, alloc, outside, place, subcommand, words)
+    match subcommand {
+        InterpSubcommand::Tree(own) => call_tree(tree, alloc, outside, place, own, words),
+        InterpSubcommand::Shared(shared) => {
+            let (subject, rest) = split_path(words);
+            call_subcommand(tree, alloc, outside, place, subject, shared, rest)
+        }
+    }
 }
 
-/// A subcommand of `interp` with its words.
+/// A subcommand that `interp` and a child's own command have both.
+///
+/// # Errors
+/// 241; those of the subcommand; want of memory.
 #[cycle(eval)]
 #[inline(never)]
-fn call_subcommand<O: Outside>(
+pub fn call_subcommand<O: Outside>(
     tree: &mut Tree,
     alloc: Global,
     outside: &mut O,
     place: Place,
+    subject: Subject<'_>,
     subcommand: Subcommand,
     args: &[Value],
 ) -> Result<Value, Interruption>
     requires { IsRunning tree.old place }
     ensures runs { ProceedsIn (ways O.goes O.loses) tree.old outside.old place
-        (λ style. program_of style subcommand args.now) tree.new outside.new result }
+        (λ style. program_of style subcommand (about subject.entry) args.now) tree.new outside.new
+        result }
     ensures steady { IsSteady tree.old tree.new }
     ensures left { O.entries_left outside.new ≤ O.entries_left outside.old }
 {
     match subcommand {
-        Subcommand::Eval => interp_eval(tree, alloc, outside, place, args),
-        Subcommand::InvokeHidden => interp_invoke_hidden(tree, alloc, outside, place, args),
-        other => interp_own(tree, alloc, outside, place, other, args),
+        Subcommand::Eval => eval_in(tree, alloc, outside, place, subject, args),
+        Subcommand::InvokeHidden => invoke_hidden(tree, alloc, outside, place, subject, args),
+        other => call_shared(tree, alloc, outside, place, subject, other, args),
     }
 }
 
-/// The form of `interp eval`.
-const EVAL: &str = "interp eval path arg ?arg ...?";
-
-/// `interp eval path arg ?arg ...?`: evaluates a script in the interpreter at a path. (interp(n))
+/// `interp eval path arg ?arg ...?`, and `NAME eval arg ?arg ...?`: evaluates a script in the
+/// subject. (interp(n))
 ///
 /// # Errors
 /// 241; 101 to 104 and 301 of the path; 122 of the script; those of the script; want of memory.
 #[cycle(eval)]
 #[inline(never)]
-fn interp_eval<O: Outside>(
+fn eval_in<O: Outside>(
     tree: &mut Tree,
     alloc: Global,
     outside: &mut O,
     place: Place,
+    subject: Subject<'_>,
     args: &[Value],
 ) -> Result<Value, Interruption>
     requires { IsRunning tree.old place }
     ensures runs { ProceedsIn (ways O.goes O.loses) tree.old outside.old place
-        (λ style. interpreters.eval args.now) tree.new outside.new result }
+        (λ style. evals (about subject.entry) args.now) tree.new outside.new result }
     ensures steady { IsSteady tree.old tree.new }
     ensures left { O.entries_left outside.new ≤ O.entries_left outside.old }
 {
-    let [path, words @ ..] = args else {
-        return Err(wrong_args(alloc, EVAL));
-    };
-    if words.is_empty() {
-        return Err(wrong_args(alloc, EVAL));
+    if args.is_empty() {
+        let form = "interp eval path arg ?arg ...?";
+        return Err(wrong_words(alloc, subject, form, "eval arg ?arg ...?"));
     }
-    let found = path_of(tree, alloc, place, path)?;
-    let script = script_of(alloc, words)?;
+    let path = path_to(tree, alloc, place, subject)?;
+    let script = script_of(alloc, args)?;
     ask_entry(
         tree,
         alloc,
         outside,
         place,
-        found.path.as_slice(),
+        path.as_slice(),
         Entry::Eval(script),
     )
 }
 
-/// The form of `interp invokehidden`.
-const INVOKE_HIDDEN: &str = "interp invokehidden path ?-global? hiddenName ?arg ...?";
-
-/// `interp invokehidden path ?-global? hiddenName ?arg ...?`: calls a hidden command of the
-/// interpreter at a path. (interp(n))
+/// `interp invokehidden path ?-global? hiddenName ?arg ...?`, and
+/// `NAME invokehidden ?-global? hiddenName ?arg ...?`: calls a hidden command of the subject.
+/// (interp(n))
 ///
 /// # Errors
 /// 241; 221; 304; 101 to 104 and 301 of the path; those of the call; want of memory.
 #[cycle(eval)]
 #[inline(never)]
-fn interp_invoke_hidden<O: Outside>(
+fn invoke_hidden<O: Outside>(
     tree: &mut Tree,
     alloc: Global,
     outside: &mut O,
     place: Place,
+    subject: Subject<'_>,
     args: &[Value],
 ) -> Result<Value, Interruption>
     requires { IsRunning tree.old place }
     ensures runs { ProceedsIn (ways O.goes O.loses) tree.old outside.old place
-        (λ style. interpreters.invoke_hidden args.now) tree.new outside.new result }
+        (λ style. invokes (about subject.entry) args.now) tree.new outside.new result }
     ensures steady { IsSteady tree.old tree.new }
     ensures left { O.entries_left outside.new ≤ O.entries_left outside.old }
 {
-    let [path, words @ ..] = args else {
-        return Err(wrong_args(alloc, INVOKE_HIDDEN));
-    };
-    let call = hidden_call(alloc, INVOKE_HIDDEN, words)?;
+    let call = hidden_call(alloc, subject, args)?;
     let HiddenCall { is_global, words } = call;
-    permit(tree, alloc, place)?;
-    let found = path_of(tree, alloc, place, path)?;
-    ask_entry(
-        tree,
-        alloc,
-        outside,
-        place,
-        found.path.as_slice(),
-        Entry::InvokeHidden { is_global, words },
-    )
+    let path = trusted_path(tree, alloc, place, subject)?;
+    let entry = Entry::InvokeHidden { is_global, words };
+    ask_entry(tree, alloc, outside, place, path.as_slice(), entry)
 }

@@ -2,7 +2,6 @@
 use Rattle.std.proofs.Common.{◌≡◌, ℕ, zero, suc, pred, ◌+◌, ◌-◌, ◌<◌, ◌≤◌, ◌==◌, ◌&&◌, ◌⊎◌, inl, inr, Bool, true, false, cond, length, slice_get, slice_set, Option, Some, None, Result, Ok, Err, refl, sym, ◌∙◌, ap, subst, arith, true≢false}
 use Rattle.std.specs.Prelude.{nat_le}
 use Rattle.std.proofs.lemmas.Bool.Decides.{nat_tests}
-use Rattle.std.specs.Option.{option_map}
 use Rattle.std.specs.Str.{bytes_eq}
 use Rattle.indexmap.specs.IndexMap.{insert_entry}
 use Rattle.tcl_variables.specs.Names.{Text, Name, name_of, is_plain}
@@ -10,7 +9,7 @@ use Rattle.tcl_variables.specs.Variables.{Frame, Part, merge, part_of}
 use Rattle.tcl_frames.specs.Places.{Levels, Spot, current, level_of, spot_of, bound, under, end_of, is_at}
 use Rattle.tcl_variables.specs.Variables.Part.{whole, element, nested}
 use Rattle.tcl_frames.specs.Chain.{bind, link_over, link_to_end, link_from, link_by_name, linked}
-use Rattle.tcl_frames.specs.Reached.{start, over, link_of, may_link}
+use Rattle.tcl_frames.specs.Reached.{start, over, may_link}
 use Rattle.tcl_variables.specs.Rebinding.{with_variable}
 use Rattle.tcl_variables.specs.Faults.{Refuses}
 use Rattle.tcl_variables.specs.declared.fault.FrameError.TheVariants.{Fault}

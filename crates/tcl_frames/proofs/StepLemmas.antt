@@ -488,6 +488,13 @@ target_within fs fit n x r p l e =
     let same = ap (λ (s : Spot). s.level) e in
     omega (arith, low, same)
 
+-- a change of where the links end, after one that was given back
+pub changed_at_end : (c d : Change) (fs gs : Levels) (p q : Spot) (x : Text) → d ≡ c → gs ≡ fs → end_of gs p ≡ q → change_levels c fs (end_of fs p) x ≡ change_levels d gs q x
+changed_at_end c d fs gs p q x again same end =
+    ap (λ (b : Change). change_levels b fs (end_of fs p) x) (sym again)
+    ∙ ap (λ (us : Levels). change_levels d us (end_of us p) x) (sym same)
+    ∙ ap (λ (s : Spot). change_levels d gs s x) end
+
 pub change_is : (c : Change) (fs : Levels) (x : Text) (w : Name) (n : ℕ) → name_of x ≡ Some w → n ≡ level_of w.is_global (current fs) → change_named c fs x ≡ change_levels c fs (end_of fs (over (start n w.base) (part_of w.key))) x
 change_is c fs x w n e is = change_at_place c fs x _ (place_good fs x w n e is) ∙ ap (λ (p : Spot). change_levels c fs p x) (sym (end_over fs (start n w.base) (part_of w.key)))
 

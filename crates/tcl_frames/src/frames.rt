@@ -11,10 +11,7 @@ use crate::keys::change_key_in;
 use crate::links::link_frames;
 use crate::names::{names_at, own_names};
 use crate::scope::Scope;
-use crate::steps::{
-    array_in, change_in, end_or, exists_in, find_target, get_in, level_meant, part_written,
-    unlinked_place,
-};
+use crate::steps::{array_in, change_in, end_or, exists_in, find_end, get_in, level_meant};
 use std::alloc::{AllocError, Global};
 use std::marker::Model;
 use tcl_text::text::Text;
@@ -559,34 +556,9 @@ impl Frames {
     ghost use Rattle.tcl_frames.specs.Reached.{start, over};
     ghost use Rattle.tcl_frames.specs.LendingChain.{LendsPartAt, LendsEnd, LendsSet};
 
-    /// What a part of a name at a level holds, to write.
-    fn lend(
-        &mut self,
-        level: usize,
-        base: &str,
-        part: Part<'_>,
-        name: &Text,
-    ) -> Result<&mut Value, FrameError>
-        requires { level < length self.old.frames }
-        ensures* writes_back { sem 𝓛
-            (LendsPartAt self.entry level base.now (seen_part part.entry) name.now result) }
-        ensures ok { IfOk result
-            (λ v. value_of (seen_part part.entry) (bound self.old.frames level base.now) name.now
-            ≡ Ok v.now) }
-        ensures err { IfErr result
-            (λ e. Refuses e (value_of (seen_part part.entry) (bound self.old.frames level base.now)
-            name.now)) }
-    {
-        let frame = &mut self.frames[level];
-        match frame.value_mut(base, part, name) {
-            Ok(value) => Ok(value),
-            Err(error) => Err(error),
-        }
-    }
-
     /// What a part of a name at a level holds, to write, in less time where the name stands at this
     /// place.
-    fn lend_near(
+    fn lend(
         &mut self,
         level: usize,
         place: usize,
@@ -611,33 +583,6 @@ impl Frames {
         }
     }
 
-    /// What there is where the links from a name at a level end, to write, where the name may be a
-    /// link itself.
-    fn lend_linked(
-        &mut self,
-        alloc: Global,
-        level: usize,
-        base: &str,
-        key: Option<&str>,
-        name: &Text,
-    ) -> Result<&mut Value, FrameError>
-        requires { level < length self.old.frames }
-        ensures* writes_back { sem 𝓛
-            (LendsEnd self.entry level base.now (option_copied key.entry) name.now result) }
-        ensures ok { IfOk result
-            (λ v. let p = end_of self.old.frames
-            (over (start level base.now) (part_of (option_copied key.entry))) in value_of p.part
-            (bound self.old.frames p.level p.name) name.now ≡ Ok v.now) }
-        ensures err { IfErr result
-            (λ e. let p = end_of self.old.frames
-            (over (start level base.now) (part_of (option_copied key.entry))) in Refuses e
-            (value_of p.part (bound self.old.frames p.level p.name) name.now)) }
-    {
-        let end = find_target(self.frames.as_slice(), alloc, level, base, key)?;
-        let at = end_or(&end, level, base, key);
-        self.lend(at.level, at.base, at.part, name)
-    }
-
     /// What there is where the links from a name at a level end, to write. A name that is no link,
     /// as most are, is looked up once.
     fn lend_end(
@@ -660,10 +605,9 @@ impl Frames {
             (over (start level base.now) (part_of (option_copied key.entry))) in Refuses e
             (value_of p.part (bound self.old.frames p.level p.name) name.now)) }
     {
-        match unlinked_place(self.frames.as_slice(), level, base) {
-            Some(place) => self.lend_near(level, place, base, part_written(key), name),
-            None => self.lend_linked(alloc, level, base, key, name),
-        }
+        let (end, place) = find_end(self.frames.as_slice(), alloc, level, base, key)?;
+        let at = end_or(&end, level, base, key);
+        self.lend(at.level, place, at.base, at.part, name)
     }
 
     /// What a name holds, to write: once the borrow ends, the chain is as after [`Frames::set`] of

@@ -68,7 +68,7 @@ pub(crate) fn part_over<'a>(part: Part<'_>, key: &'a str) -> Part<'a>
 }
 
 /// The place at which a name stands in the frame of a level, where it is no link.
-pub(crate) fn unlinked_place(frames: &[Frame], level: usize, base: &str) -> Option<usize>
+fn unlinked_place(frames: &[Frame], level: usize, base: &str) -> Option<usize>
     ensures { IfSome result (λ _. link_of (bound frames.now level base.now) ≡ None) }
 {
     match frames.get(level) {
@@ -335,8 +335,28 @@ pub(crate) fn find_target<'a>(
     }
 }
 
+/// Where the links from a name end, if it is a link, and the place at which what is there may stand
+/// in its frame. A name that is no link, as most are, is looked up once, and stands at that place.
+pub(crate) fn find_end(
+    frames: &[Frame],
+    alloc: Global,
+    level: usize,
+    base: &str,
+    key: Option<&str>,
+) -> Result<(Option<Target>, usize), AllocError>
+    requires { AreFit 0 frames.now }
+    ensures { IfOk result (λ found. end_of frames.now
+        (over (start level base.now) (part_of (option_copied key.entry)))
+        ≡ target_or (start level base.now) (part_of (option_copied key.entry)) found.0) }
+{
+    match unlinked_place(frames, level, base) {
+        Some(place) => Ok((None, place)),
+        None => Ok((find_target(frames, alloc, level, base, key)?, 0)),
+    }
+}
+
 /// The part that a key means.
-pub(crate) fn part_written(key: Option<&str>) -> Part<'_>
+fn part_written(key: Option<&str>) -> Part<'_>
     ensures { seen_part result ≡ part_of (option_copied key.entry) }
 {
     match key {
@@ -425,37 +445,6 @@ fn change_unlinked(
     frame.change_unlinked(alloc, base, part, change, name)
 }
 
-/// Changes what is where the links from a name at a level end, which may be a link itself.
-fn change_linked(
-    frames: &mut [Frame],
-    alloc: Global,
-    level: usize,
-    base: &str,
-    key: Option<&str>,
-    change: Change,
-    name: &Text,
-) -> Result<(), FrameError>
-    requires fit { AreFit 0 frames.old }
-    requires within { level < length frames.old }
-    ensures ok { OnOk result (change_levels change frames.old
-        (end_of frames.old (over (start level base.now) (part_of (option_copied key.entry))))
-        name.now ≡ Ok frames.new) }
-    ensures err { IfErr result
-        (λ e. Refuses e (change_levels change frames.old
-        (end_of frames.old (over (start level base.now) (part_of (option_copied key.entry))))
-        name.now)) }
-    ensures unchanged { OnErr result (frames.new ≡ frames.old) }
-{
-    match find_target(frames, alloc, level, base, key)? {
-        None => change_at(frames, alloc, level, base, part_written(key), change, name),
-        Some(end) => {
-            let base = end.name.as_str();
-            let part = end.part.as_part();
-            change_at(frames, alloc, end.level, base, part, change, name)
-        }
-    }
-}
-
 /// Changes what is where the links from a name at a level end. Where the name is no link, as most
 /// are, a set looks it up once.
 pub(crate) fn change_from(
@@ -480,7 +469,11 @@ pub(crate) fn change_from(
 {
     match change_unlinked(frames, alloc, level, base, part_written(key), change, name) {
         Ok(None) => Ok(()),
-        Ok(Some(change)) => change_linked(frames, alloc, level, base, key, change, name),
+        Ok(Some(change)) => {
+            let end = find_target(frames, alloc, level, base, key)?;
+            let at = end_or(&end, level, base, key);
+            change_at(frames, alloc, at.level, at.base, at.part, change, name)
+        }
         Err(error) => Err(error),
     }
 }

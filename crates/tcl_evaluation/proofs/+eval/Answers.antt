@@ -53,11 +53,11 @@ use Rattle.tcl_text.proofs.Items.{item_on, none_on, no_item, split_first, one_it
 use Rattle.tcl_evaluation.specs.View.{GoesOn}
 use Rattle.tcl_entries.proofs.Reached.{never_outside}
 use Rattle.tcl_core.specs.Programs.Prog.{done}
-use Rattle.tcl_language.specs.Interpreters.{asks_at, eval as interp_evals}
+use Rattle.tcl_language.specs.Interpreters.{asks_at}
 use Rattle.tcl_language.specs.Words.{concat}
 use Rattle.tcl_run.specs.Runs.{IsAt}
 use Rattle.tcl_run.proofs.Proceeding.{grows, outgrows}
-use Rattle.tcl_evaluation.proofs.Entered.{asks_another, asks_here, evals, eval_is, eval_few, hidden_stops, hidden_settles, invokes_here, invokes_global}
+use Rattle.tcl_evaluation.proofs.Entered.{asks_another, asks_here, hidden_stops, hidden_settles, invokes_here, invokes_global}
 use Rattle.tcl_core.specs.Entries.Entry.{Eval, InvokeHidden}
 use Rattle.tcl_language.specs.Table.{invoked}
 use Rattle.tcl_calls.specs.Found.{hidden_found}
@@ -103,18 +103,21 @@ use Rattle.tcl_evaluation.proofs.+eval.Goals.{expressions::while_loop-in_default
 -- (of `interp` and children's own commands)
 use Rattle.std.specs.Prelude.{codes}
 use Rattle.tcl_language.specs.Faults.{unknown_subcommand}
-use Rattle.tcl_language.specs.Interpreters.{asks, asks_trusted, invoked_as, child_form, child_path, interp as interp_program, invoke_hidden as invoke_hidden_program, child as child_program, child_eval as child_evals, child_invoke_hidden as child_invokes}
+use Rattle.tcl_language.specs.Interpreters.{asks_trusted, interp as interp_program, child as child_program}
 use Rattle.tcl_language.specs.Naming.{command_name}
 use Rattle.tcl_language.specs.Table.{child_name, builtin as builtin_program}
 use Rattle.tcl_evaluation.specs.View.{Asks}
 use Rattle.tcl_entries.specs.Looking.{GetsToEnd}
-use Rattle.tcl_entries.specs.Subcommands.{program_of, child_subcommand_of, child_program_of}
-use Rattle.tcl_evaluation.proofs.Dispatching.{interp_known, interp_unknown, invoke_is, child_known, child_unknown, child_eval_none, child_eval_some}
+use Rattle.tcl_interp.specs.Programs.{evals, evaluates, invokes, program_of}
+use Rattle.tcl_interp.specs.Subcommands.{tree_program_of}
+use Rattle.tcl_interp.specs.Subjects.{about, on_child, path_text, reached}
+use Rattle.tcl_interp.specs.declared.subcommand.InterpSubcommand.TheVariants.{Tree}
+use Rattle.tcl_evaluation.proofs.Dispatching.{interp_known, interp_shared, interp_unknown, child_known, child_unknown, evals_none, evals_some}
 -- (of what reaches the host)
 use Rattle.std.specs.Str.{bytes_eq}
 use Rattle.tcl_core.specs.Paths.{Text}
 use Rattle.tcl_language.specs.Hosting as hosting
-use Rattle.tcl_language.specs.Instructions.{either, fails}
+use Rattle.tcl_language.specs.Instructions.{Program, either, fails}
 use Rattle.tcl_value.specs.Limits.{IsPast}
 use Rattle.tcl_evaluation.proofs.Awaited
 use Rattle.tcl_evaluation.proofs.Writing.{not_put, past_long, writes_as}
@@ -133,7 +136,6 @@ use Rattle.tcl_run.specs.Runs.{ways}
 use Rattle.tcl_run.proofs.Endings.{IfRan-more, breaks, fails_err, memory_err, ran_err, says_err}
 use Rattle.tcl_run.proofs.Losing.{lost_again, lost_once}
 use Rattle.tcl_run.proofs.Proceeding.{does_proceeds, stopped, stopped_by}
-use Rattle.tcl_language.specs.Interpreters.{at_path}
 use Rattle.tcl_language.specs.Definitions as definitions
 use Rattle.tcl_interpreter.specs.declared.builtin.Builtin.{Builtin}
 use Rattle.tcl_evaluation.proofs.Plainly.{acts_proceeds, asking_last, evaluates_at_proceeds, evaluates_proceeds, gets_proceeds, looks_proceed, passes_proceeds, proceeds_as}
@@ -864,52 +866,6 @@ crossing::invoke_at-returns-clause-runs g t c =
     let m = stands (tree_of c.invoke-ended.new.tree q) (tree_there c.invoke-ended.new.tree q _ after) in
     invokes_global style (tree_of c.args.tree.now) c.args.is_global c.args.words.now e yes n.1 (c.in_ok-set_aside.ensures.aside q n.0 at.names n.1) m.1 (c.bring_back.ensures.back q m.0 after m.1)
     (h q style (record { names = names; style_is = ap (λ m. m.integers) c.set_aside.ensures.level.marks ∙ at.style_is }))) c.invoke-ended.ensures.runs
-
--- interp eval
-
-pub interpreters::interp_eval-returns-in_default-clause-runs : goal.interpreters::interp_eval-returns-in_default-clause-runs
-interpreters::interp_eval-returns-in_default-clause-runs g t c =
-    let few = c.in_default.len_below in
-    breaks c.wrong_args.result _ _ (λ e h q style at. at_prog (eval_few c.args.args.now (omega (arith, few))) (at_reply h completed)) (λ q style at. stopped) c.wrong_args.ensures
-
-pub interpreters::interp_eval-returns-then-is_empty-clause-runs : goal.interpreters::interp_eval-returns-then-is_empty-clause-runs
-interpreters::interp_eval-returns-then-is_empty-clause-runs g t c =
-    let none = zero_is (length (take (length c.args.args.now - 1) (drop 1 c.args.args.now))) c.is_empty.result c.is_empty.ensures c.if-is_empty.true in
-    let one = ap length (split_first c.args.args.now c.path-item.result c.in-len1-up.len_at_least c.path-item.is) in
-    breaks c.wrong_args-then-is_empty.result _ _ (λ e h q style at. at_prog (eval_few c.args.args.now (omega (arith, none, one))) (at_reply h completed)) (λ q style at. stopped) c.wrong_args-then-is_empty.ensures
-
-pub interpreters::interp_eval-returns-in_err-found-clause-runs : goal.interpreters::interp_eval-returns-in_err-found-clause-runs
-interpreters::interp_eval-returns-in_err-found-clause-runs g t c =
-    let words = take (length c.args.args.now - 1) (drop 1 c.args.args.now) in
-    let some = some_is (length words) c.is_empty.result c.is_empty.ensures c.if-is_empty.false in
-    let is = eval_is c.args.args.now c.path-item.result words (split_first c.args.args.now c.path-item.result c.in-len1-up.len_at_least c.path-item.is) some in
-    let p = err_from_is_err_and c.from_residual.result c.from_residual.ensures.1 in
-    proceeds_as (ways g.O.Outside.goes g.O.Outside.loses) c.args.tree.now c.args.tree.now c.args.outside.now c.args.outside.now c.args.place (λ style. interp_evals c.args.args.now) (λ style. at_path c.path-item.result (λ q n. evals words q style)) c.from_residual.result (λ style. is)
-    (passes_proceeds (ways g.O.Outside.goes g.O.Outside.loses) c.args.tree.now c.args.outside.now c.args.place (λ style. at_path c.path-item.result (λ q n. evals words q style)) c.from_residual.result c.in_err-found.field-0.0 p.0 p.1 p.2
-    (Interrupts-more c.in_err-found.field-0.0 _ (GetsToEnd c.args.tree.now c.args.place (λ style. at_path c.path-item.result (λ q n. evals words q style))) (λ e f. f (evals words)) c.in_err-found.ensures.read))
-
-pub interpreters::interp_eval-returns-in_err-script-clause-runs : goal.interpreters::interp_eval-returns-in_err-script-clause-runs
-interpreters::interp_eval-returns-in_err-script-clause-runs g t c =
-    let words = take (length c.args.args.now - 1) (drop 1 c.args.args.now) in
-    let some = some_is (length words) c.is_empty.result c.is_empty.ensures c.if-is_empty.false in
-    let is = eval_is c.args.args.now c.path-item.result words (split_first c.args.args.now c.path-item.result c.in-len1-up.len_at_least c.path-item.is) some in
-    let p = err_from_is_err_and c.from_residual-in_err-script.result c.from_residual-in_err-script.ensures.1 in
-    fails_err c.from_residual-in_err-script.result c.in_err-script.field-0.0 p.0 _ _ _ p.1 p.2 c.in_err-script.ensures.refused
-    (λ e h q style at. at_prog is (looks_proceed (c.in_ok-found.ensures.read (evals words) q style (record { names = at.names; style_is = at.style_is }))
-    (outgrows (concat words) (λ script. asks_at c.in_ok-found.found.path.items (Eval script) done) h.0 h.1))) (λ q style at. stopped)
-
-pub interpreters::interp_eval-returns-clause-runs : goal.interpreters::interp_eval-returns-clause-runs
-interpreters::interp_eval-returns-clause-runs g t c =
-    let words = take (length c.args.args.now - 1) (drop 1 c.args.args.now) in
-    let some = some_is (length words) c.is_empty.result c.is_empty.ensures c.if-is_empty.false in
-    let is = eval_is c.args.args.now c.path-item.result words (split_first c.args.args.now c.path-item.result c.in-len1-up.len_at_least c.path-item.is) some in
-    IfRan-more c.ask_entry.result
-    (λ e. (p : Path) (style : Integers) → IsAt c.args.tree.now c.args.place p style → GoesOn (ways g.O.Outside.goes g.O.Outside.loses) style (tree_of c.args.tree.now) c.args.outside.now p (asks_at c.as_slice.result.now (Eval c.in_ok-script.script)) (tree_of c.ask_entry.new.tree) c.ask_entry.new.outside e)
-    (EndsFrom (ways g.O.Outside.goes g.O.Outside.loses) c.args.tree.now c.args.outside.now c.args.place (λ style. interp_evals c.args.args.now) c.ask_entry.new.tree c.ask_entry.new.outside)
-    (λ e h q style at. at_prog is (looks_proceed (c.in_ok-found.ensures.read (evals words) q style (record { names = at.names; style_is = at.style_is }))
-    (grows (concat words) (λ script. asks_at c.in_ok-found.found.path.items (Eval script) done) c.in_ok-script.ensures.whole.1
-    (at_prog (ap (λ (x : Path). asks_at x (Eval (concat words)) done) (sym c.as_slice.ensures.value) ∙ ap (λ (x : List ℕ). asks_at c.as_slice.result.now (Eval x) done) (sym c.in_ok-script.ensures.whole.0))
-    (done_on (ways g.O.Outside.goes g.O.Outside.loses) style (asks_at c.as_slice.result.now (Eval c.in_ok-script.script)) e (h q style at)))))) c.ask_entry.ensures.asks
 
 -- # Expressions, and the commands with conditions
 
@@ -1825,62 +1781,91 @@ interpreters::interp-returns-in_err-name-clause-runs g t c =
     let p = err_from_is_err_and c.from_residual.result c.from_residual.ensures.1 in
     memory_err c.from_residual.result p.0 _ _ p.1 p.2 (λ q style at. stopped)
 
-pub interpreters::interp-returns-in_default-subcommand_named-clause-runs : goal.interpreters::interp-returns-in_default-subcommand_named-clause-runs
-interpreters::interp-returns-in_default-subcommand_named-clause-runs g t c =
+pub interpreters::interp-returns-in_default-interp_subcommand-clause-runs : goal.interpreters::interp-returns-in_default-interp_subcommand-clause-runs
+interpreters::interp-returns-in_default-interp_subcommand-clause-runs g t c =
     let is = split_first c.args.args.now c.word-item.result c.in-len1-up.len_at_least c.word-item.is in
     let word = c.as_str.ensures ∙ c.in_ok-name.ensures in
-    breaks c.unknown_subcommand.result _ _ (λ e h q style at. at_prog (interp_unknown style c.args.args.now c.word-item.result c.as_str.result.now _ c.subcommand_named.result is word c.subcommand_named.ensures c.in_default-subcommand_named.is)
-    (at_reply (h ∙ ap (λ (x : List ℕ). Completed (failing (unknown_subcommand x))) (c.as_str-in_default-subcommand_named.ensures ∙ sym c.as_str.ensures)) completed)) (λ q style at. stopped) c.unknown_subcommand.ensures
+    breaks c.unknown_subcommand.result _ _ (λ e h q style at. at_prog (interp_unknown style c.args.args.now c.word-item.result c.as_str.result.now _ c.interp_subcommand.result is word c.interp_subcommand.ensures c.in_default-interp_subcommand.is)
+    (at_reply (h ∙ ap (λ (x : List ℕ). Completed (failing (unknown_subcommand x))) (c.as_str-in_default-interp_subcommand.ensures ∙ sym c.as_str.ensures)) completed)) (λ q style at. stopped) c.unknown_subcommand.ensures
 
-pub interpreters::interp-returns-clause-runs : goal.interpreters::interp-returns-clause-runs
-interpreters::interp-returns-clause-runs g t c =
+pub interpreters::interp-returns-in-Tree-clause-runs : goal.interpreters::interp-returns-in-Tree-clause-runs
+interpreters::interp-returns-in-Tree-clause-runs g t c =
+    let words = take (length c.args.args.now - 1) (drop 1 c.args.args.now) in
     let is = split_first c.args.args.now c.word-item.result c.in-len1-up.len_at_least c.word-item.is in
     let word = c.as_str.ensures ∙ c.in_ok-name.ensures in
-    IfRan-more c.call_subcommand.result (EndsFrom (ways g.O.Outside.goes g.O.Outside.loses) c.args.tree.now c.args.outside.now c.args.place (λ style. program_of style c.in-Some.subcommand (take (length c.args.args.now - 1) (drop 1 c.args.args.now))) c.call_subcommand.new.tree c.call_subcommand.new.outside)
-    (EndsFrom (ways g.O.Outside.goes g.O.Outside.loses) c.args.tree.now c.args.outside.now c.args.place (λ style. interp_program style c.args.args.now) c.call_subcommand.new.tree c.call_subcommand.new.outside)
-    (λ e h q style at. at_prog (interp_known style c.args.args.now c.word-item.result c.as_str.result.now _ c.subcommand_named.result c.in-Some.subcommand is word c.subcommand_named.ensures c.in-Some.is) (h q style at)) c.call_subcommand.ensures.runs
+    proceeds_as (ways g.O.Outside.goes g.O.Outside.loses) c.args.tree.now c.call_tree.new.tree c.args.outside.now c.call_tree.new.outside c.args.place (λ style. interp_program style c.args.args.now) (λ style. tree_program_of c.in-Tree.own words) c.call_tree.result
+    (λ style. interp_known style c.args.args.now c.word-item.result c.as_str.result.now words c.interp_subcommand.result (Tree c.in-Tree.own) is word c.interp_subcommand.ensures (c.in-Some.is ∙ ap Some c.in-Tree.is))
+    (evaluates_proceeds (ways g.O.Outside.goes g.O.Outside.loses) c.args.tree.now c.call_tree.new.tree c.args.outside.now c.call_tree.new.outside c.args.place (λ style. tree_program_of c.in-Tree.own words) c.call_tree.result c.call_tree.ensures.evaluates c.call_tree.ensures.lost)
+
+pub interpreters::interp-returns-in-Shared-clause-runs : goal.interpreters::interp-returns-in-Shared-clause-runs
+interpreters::interp-returns-in-Shared-clause-runs g t c =
+    let words = take (length c.args.args.now - 1) (drop 1 c.args.args.now) in
+    let is = split_first c.args.args.now c.word-item.result c.in-len1-up.len_at_least c.word-item.is in
+    let word = c.as_str.ensures ∙ c.in_ok-name.ensures in
+    proceeds_as (ways g.O.Outside.goes g.O.Outside.loses) c.args.tree.now c.call_subcommand.new.tree c.args.outside.now c.call_subcommand.new.outside c.args.place (λ style. interp_program style c.args.args.now) (λ style. program_of style c.in-Shared.shared (about c.split_path.result.0) c.split_path.result.1.now) c.call_subcommand.result
+    (λ style. interp_shared style c.args.args.now c.word-item.result c.as_str.result.now words c.interp_subcommand.result c.in-Shared.shared (about c.split_path.result.0) c.split_path.result.1.now is word c.interp_subcommand.ensures (c.in-Some.is ∙ ap Some c.in-Shared.is) c.split_path.ensures)
+    c.call_subcommand.ensures.runs
 
 pub interpreters::call_subcommand-returns-in_default-clause-runs : goal.interpreters::call_subcommand-returns-in_default-clause-runs
 interpreters::call_subcommand-returns-in_default-clause-runs g t c =
-    evaluates_proceeds (ways g.O.Outside.goes g.O.Outside.loses) c.args.tree.now c.interp_own.new.tree c.args.outside.now c.interp_own.new.outside c.args.place (λ style. program_of style c.args.subcommand c.args.args.now) c.interp_own.result
-    c.interp_own.ensures.evaluates c.interp_own.ensures.lost
+    evaluates_proceeds (ways g.O.Outside.goes g.O.Outside.loses) c.args.tree.now c.call_shared.new.tree c.args.outside.now c.call_shared.new.outside c.args.place (λ style. program_of style c.args.subcommand (about c.args.subject) c.args.args.now) c.call_shared.result
+    c.call_shared.ensures.evaluates c.call_shared.ensures.lost
 
-pub interpreters::interp_invoke_hidden-returns-in_default-clause-runs : goal.interpreters::interp_invoke_hidden-returns-in_default-clause-runs
-interpreters::interp_invoke_hidden-returns-in_default-clause-runs g t c =
-    breaks c.wrong_args.result _ _ (λ e h q style at. at_prog (ap invoke_hidden_program (no_item c.args.args.now c.in_default.len_below)) (at_reply h completed)) (λ q style at. stopped) c.wrong_args.ensures
+pub interpreters::eval_in-returns-then-is_empty-clause-runs : goal.interpreters::eval_in-returns-then-is_empty-clause-runs
+interpreters::eval_in-returns-then-is_empty-clause-runs g t c =
+    let none = zero_is (length c.args.args.now) c.is_empty.result c.is_empty.ensures c.if-is_empty.true in
+    breaks c.wrong_words.result _ _ (λ e h q style at. at_prog (evals_none (about c.args.subject) c.args.args.now none) (at_reply h completed)) (λ q style at. stopped) c.wrong_words.ensures
 
-pub interpreters::interp_invoke_hidden-returns-in_err-call-clause-runs : goal.interpreters::interp_invoke_hidden-returns-in_err-call-clause-runs
-interpreters::interp_invoke_hidden-returns-in_err-call-clause-runs g t c =
-    let is = invoke_is c.args.args.now c.path-item.result (take (length c.args.args.now - 1) (drop 1 c.args.args.now)) (split_first c.args.args.now c.path-item.result c.in-len1-up.len_at_least c.path-item.is) in
+pub interpreters::eval_in-returns-in_err-path-clause-runs : goal.interpreters::eval_in-returns-in_err-path-clause-runs
+interpreters::eval_in-returns-in_err-path-clause-runs g t c =
+    let some = some_is (length c.args.args.now) c.is_empty.result c.is_empty.ensures c.if-is_empty.false in
+    let script : Integers → Program = λ style. reached (about c.args.subject) (evaluates c.args.args.now) in
     let p = err_from_is_err_and c.from_residual.result c.from_residual.ensures.1 in
-    fails_err c.from_residual.result c.in_err-call.field-0.0 p.0 _ _ _ p.1 p.2 c.in_err-call.ensures.refused
-    (λ e h q style at. at_prog (is ∙ h.1 c.path-item.result) (at_reply h.2 completed)) (λ q style at. stopped)
+    proceeds_as (ways g.O.Outside.goes g.O.Outside.loses) c.args.tree.now c.args.tree.now c.args.outside.now c.args.outside.now c.args.place (λ style. evals (about c.args.subject) c.args.args.now) script c.from_residual.result (λ style. evals_some (about c.args.subject) c.args.args.now some)
+    (passes_proceeds (ways g.O.Outside.goes g.O.Outside.loses) c.args.tree.now c.args.outside.now c.args.place script c.from_residual.result c.in_err-path.field-0.0 p.0 p.1 p.2
+    (Interrupts-more c.in_err-path.field-0.0 _ (GetsToEnd c.args.tree.now c.args.place script) (λ e f. f (λ path style. evaluates c.args.args.now path)) c.in_err-path.ensures))
 
-pub interpreters::interp_invoke_hidden-returns-in_err-permit-clause-runs : goal.interpreters::interp_invoke_hidden-returns-in_err-permit-clause-runs
-interpreters::interp_invoke_hidden-returns-in_err-permit-clause-runs g t c =
-    let is = invoke_is c.args.args.now c.path-item.result (take (length c.args.args.now - 1) (drop 1 c.args.args.now)) (split_first c.args.args.now c.path-item.result c.in-len1-up.len_at_least c.path-item.is) in
-    let p = err_from_is_err_and c.from_residual-in_err-permit.result c.from_residual-in_err-permit.ensures.1 in
-    proceeds_as (ways g.O.Outside.goes g.O.Outside.loses) c.args.tree.now c.args.tree.now c.args.outside.now c.args.outside.now c.args.place (λ style. invoke_hidden_program c.args.args.now) (λ style. asks_trusted c.path-item.result (InvokeHidden c.in_ok-call.call.is_global c.in_ok-call.call.words.items)) c.from_residual-in_err-permit.result (λ style. is ∙ c.in_ok-call.ensures.called c.path-item.result)
-    (passes_proceeds (ways g.O.Outside.goes g.O.Outside.loses) c.args.tree.now c.args.outside.now c.args.place (λ style. asks_trusted c.path-item.result (InvokeHidden c.in_ok-call.call.is_global c.in_ok-call.call.words.items)) c.from_residual-in_err-permit.result c.in_err-permit.field-0.0 p.0 p.1 p.2
-    (Interrupts-more c.in_err-permit.field-0.0 _ (GetsToEnd c.args.tree.now c.args.place (λ style. asks_trusted c.path-item.result (InvokeHidden c.in_ok-call.call.is_global c.in_ok-call.call.words.items))) (λ e f. f (λ style. asks c.path-item.result (InvokeHidden c.in_ok-call.call.is_global c.in_ok-call.call.words.items))) c.in_err-permit.ensures))
+pub interpreters::eval_in-returns-in_err-script-clause-runs : goal.interpreters::eval_in-returns-in_err-script-clause-runs
+interpreters::eval_in-returns-in_err-script-clause-runs g t c =
+    let some = some_is (length c.args.args.now) c.is_empty.result c.is_empty.ensures c.if-is_empty.false in
+    let p = err_from_is_err_and c.from_residual-in_err-script.result c.from_residual-in_err-script.ensures.1 in
+    fails_err c.from_residual-in_err-script.result c.in_err-script.field-0.0 p.0 _ _ _ p.1 p.2 c.in_err-script.ensures.refused
+    (λ e h q style at. at_prog (evals_some (about c.args.subject) c.args.args.now some) (looks_proceed (c.in_ok-path.ensures (λ path style. evaluates c.args.args.now path) q style (record { names = at.names; style_is = at.style_is }))
+    (outgrows (concat c.args.args.now) (λ script. asks_at c.in_ok-path.path.items (Eval script) done) h.0 h.1))) (λ q style at. stopped)
 
-pub interpreters::interp_invoke_hidden-returns-in_err-found-clause-runs : goal.interpreters::interp_invoke_hidden-returns-in_err-found-clause-runs
-interpreters::interp_invoke_hidden-returns-in_err-found-clause-runs g t c =
-    let is = invoke_is c.args.args.now c.path-item.result (take (length c.args.args.now - 1) (drop 1 c.args.args.now)) (split_first c.args.args.now c.path-item.result c.in-len1-up.len_at_least c.path-item.is) in
-    let p = err_from_is_err_and c.from_residual-in_err-found.result c.from_residual-in_err-found.ensures.1 in
-    proceeds_as (ways g.O.Outside.goes g.O.Outside.loses) c.args.tree.now c.args.tree.now c.args.outside.now c.args.outside.now c.args.place (λ style. invoke_hidden_program c.args.args.now) (λ style. asks_trusted c.path-item.result (InvokeHidden c.in_ok-call.call.is_global c.in_ok-call.call.words.items)) c.from_residual-in_err-found.result (λ style. is ∙ c.in_ok-call.ensures.called c.path-item.result)
-    (gets_proceeds (ways g.O.Outside.goes g.O.Outside.loses) c.args.tree.now c.args.outside.now c.args.place (λ style. asks_trusted c.path-item.result (InvokeHidden c.in_ok-call.call.is_global c.in_ok-call.call.words.items)) (λ style. asks c.path-item.result (InvokeHidden c.in_ok-call.call.is_global c.in_ok-call.call.words.items)) c.args.tree.now c.args.outside.now c.from_residual-in_err-found.result (c.in_ok-permit.ensures (λ style. asks c.path-item.result (InvokeHidden c.in_ok-call.call.is_global c.in_ok-call.call.words.items)))
-    (passes_proceeds (ways g.O.Outside.goes g.O.Outside.loses) c.args.tree.now c.args.outside.now c.args.place (λ style. asks c.path-item.result (InvokeHidden c.in_ok-call.call.is_global c.in_ok-call.call.words.items)) c.from_residual-in_err-found.result c.in_err-found.field-0.0 p.0 p.1 p.2
-    (Interrupts-more c.in_err-found.field-0.0 _ (GetsToEnd c.args.tree.now c.args.place (λ style. asks c.path-item.result (InvokeHidden c.in_ok-call.call.is_global c.in_ok-call.call.words.items))) (λ e f. f (λ path style. asks_at path (InvokeHidden c.in_ok-call.call.is_global c.in_ok-call.call.words.items) done)) c.in_err-found.ensures.read)))
+pub interpreters::eval_in-returns-clause-runs : goal.interpreters::eval_in-returns-clause-runs
+interpreters::eval_in-returns-clause-runs g t c =
+    let some = some_is (length c.args.args.now) c.is_empty.result c.is_empty.ensures c.if-is_empty.false in
+    IfRan-more c.ask_entry.result
+    (λ e. (p : Path) (style : Integers) → IsAt c.args.tree.now c.args.place p style → GoesOn (ways g.O.Outside.goes g.O.Outside.loses) style (tree_of c.args.tree.now) c.args.outside.now p (asks_at c.as_slice.result.now (Eval c.in_ok-script.script)) (tree_of c.ask_entry.new.tree) c.ask_entry.new.outside e)
+    (EndsFrom (ways g.O.Outside.goes g.O.Outside.loses) c.args.tree.now c.args.outside.now c.args.place (λ style. evals (about c.args.subject) c.args.args.now) c.ask_entry.new.tree c.ask_entry.new.outside)
+    (λ e h q style at. at_prog (evals_some (about c.args.subject) c.args.args.now some) (looks_proceed (c.in_ok-path.ensures (λ path style. evaluates c.args.args.now path) q style (record { names = at.names; style_is = at.style_is }))
+    (grows (concat c.args.args.now) (λ script. asks_at c.in_ok-path.path.items (Eval script) done) c.in_ok-script.ensures.whole.1
+    (at_prog (ap (λ (x : Path). asks_at x (Eval (concat c.args.args.now)) done) (sym c.as_slice.ensures.value) ∙ ap (λ (x : List ℕ). asks_at c.as_slice.result.now (Eval x) done) (sym c.in_ok-script.ensures.whole.0))
+    (done_on (ways g.O.Outside.goes g.O.Outside.loses) style (asks_at c.as_slice.result.now (Eval c.in_ok-script.script)) e (h q style at)))))) c.ask_entry.ensures.asks
 
-pub interpreters::interp_invoke_hidden-returns-clause-runs : goal.interpreters::interp_invoke_hidden-returns-clause-runs
-interpreters::interp_invoke_hidden-returns-clause-runs g t c =
-    let is = invoke_is c.args.args.now c.path-item.result (take (length c.args.args.now - 1) (drop 1 c.args.args.now)) (split_first c.args.args.now c.path-item.result c.in-len1-up.len_at_least c.path-item.is) in
-    proceeds_as (ways g.O.Outside.goes g.O.Outside.loses) c.args.tree.now c.ask_entry.new.tree c.args.outside.now c.ask_entry.new.outside c.args.place (λ style. invoke_hidden_program c.args.args.now) (λ style. asks_trusted c.path-item.result (InvokeHidden c.in_ok-call.call.is_global c.in_ok-call.call.words.items)) c.ask_entry.result (λ style. is ∙ c.in_ok-call.ensures.called c.path-item.result)
-    (gets_proceeds (ways g.O.Outside.goes g.O.Outside.loses) c.args.tree.now c.args.outside.now c.args.place (λ style. asks_trusted c.path-item.result (InvokeHidden c.in_ok-call.call.is_global c.in_ok-call.call.words.items)) (λ style. asks c.path-item.result (InvokeHidden c.in_ok-call.call.is_global c.in_ok-call.call.words.items)) c.ask_entry.new.tree c.ask_entry.new.outside c.ask_entry.result (c.in_ok-permit.ensures (λ style. asks c.path-item.result (InvokeHidden c.in_ok-call.call.is_global c.in_ok-call.call.words.items)))
-    (gets_proceeds (ways g.O.Outside.goes g.O.Outside.loses) c.args.tree.now c.args.outside.now c.args.place (λ style. asks c.path-item.result (InvokeHidden c.in_ok-call.call.is_global c.in_ok-call.call.words.items)) (λ style. asks_at c.in_ok-found.found.path.items (InvokeHidden c.in_ok-call.call.is_global c.in_ok-call.call.words.items) done) c.ask_entry.new.tree c.ask_entry.new.outside c.ask_entry.result (c.in_ok-found.ensures.read (λ path style. asks_at path (InvokeHidden c.in_ok-call.call.is_global c.in_ok-call.call.words.items) done))
-    (asking_last (ways g.O.Outside.goes g.O.Outside.loses) c.args.tree.now c.ask_entry.new.tree c.args.outside.now c.ask_entry.new.outside c.args.place c.in_ok-found.found.path.items (InvokeHidden c.in_ok-call.call.is_global c.in_ok-call.call.words.items) c.ask_entry.result
-    (subst (λ (x : Path). Asks (ways g.O.Outside.goes g.O.Outside.loses) c.args.tree.now c.args.outside.now c.args.place x (InvokeHidden c.in_ok-call.call.is_global c.in_ok-call.call.words.items) c.ask_entry.new.tree c.ask_entry.new.outside c.ask_entry.result) c.as_slice.ensures.value c.ask_entry.ensures.asks))))
+pub interpreters::invoke_hidden-returns-in_err-call-clause-runs : goal.interpreters::invoke_hidden-returns-in_err-call-clause-runs
+interpreters::invoke_hidden-returns-in_err-call-clause-runs g t c =
+    let p = err_from_is_err_and c.from_residual.result c.from_residual.ensures.1 in
+    fails_err c.from_residual.result c.in_err-call.field-0.0 p.0 _ _ _ p.1 p.2 c.in_err-call.ensures.refused (λ e h q style at. at_prog h.way (at_reply h.end completed)) (λ q style at. stopped)
+
+pub interpreters::invoke_hidden-returns-in_err-path-clause-runs : goal.interpreters::invoke_hidden-returns-in_err-path-clause-runs
+interpreters::invoke_hidden-returns-in_err-path-clause-runs g t c =
+    let entry = InvokeHidden c.in_ok-call.call.is_global c.in_ok-call.call.words.items in
+    let asked : Integers → Program = λ style. asks_trusted (path_text (about c.args.subject)) entry in
+    let p = err_from_is_err_and c.from_residual-in_err-path.result c.from_residual-in_err-path.ensures.1 in
+    proceeds_as (ways g.O.Outside.goes g.O.Outside.loses) c.args.tree.now c.args.tree.now c.args.outside.now c.args.outside.now c.args.place (λ style. invokes (about c.args.subject) c.args.args.now) asked c.from_residual-in_err-path.result (λ style. c.in_ok-call.ensures.called)
+    (passes_proceeds (ways g.O.Outside.goes g.O.Outside.loses) c.args.tree.now c.args.outside.now c.args.place asked c.from_residual-in_err-path.result c.in_err-path.field-0.0 p.0 p.1 p.2
+    (Interrupts-more c.in_err-path.field-0.0 _ (GetsToEnd c.args.tree.now c.args.place asked) (λ e f. f (λ path style. asks_at path entry done)) c.in_err-path.ensures))
+
+pub interpreters::invoke_hidden-returns-clause-runs : goal.interpreters::invoke_hidden-returns-clause-runs
+interpreters::invoke_hidden-returns-clause-runs g t c =
+    let entry = InvokeHidden c.in_ok-call.call.is_global c.in_ok-call.call.words.items in
+    let asked : Integers → Program = λ style. asks_trusted (path_text (about c.args.subject)) entry in
+    proceeds_as (ways g.O.Outside.goes g.O.Outside.loses) c.args.tree.now c.ask_entry.new.tree c.args.outside.now c.ask_entry.new.outside c.args.place (λ style. invokes (about c.args.subject) c.args.args.now) asked c.ask_entry.result (λ style. c.in_ok-call.ensures.called)
+    (gets_proceeds (ways g.O.Outside.goes g.O.Outside.loses) c.args.tree.now c.args.outside.now c.args.place asked (λ style. asks_at c.in_ok-path.path.items entry done) c.ask_entry.new.tree c.ask_entry.new.outside c.ask_entry.result (c.in_ok-path.ensures (λ path style. asks_at path entry done))
+    (asking_last (ways g.O.Outside.goes g.O.Outside.loses) c.args.tree.now c.ask_entry.new.tree c.args.outside.now c.ask_entry.new.outside c.args.place c.in_ok-path.path.items entry c.ask_entry.result
+    (subst (λ (x : Path). Asks (ways g.O.Outside.goes g.O.Outside.loses) c.args.tree.now c.args.outside.now c.args.place x entry c.ask_entry.new.tree c.ask_entry.new.outside c.ask_entry.result) c.as_slice.ensures.value c.ask_entry.ensures.asks)))
 
 pub children::child-returns-in_err-name-clause-runs : goal.children::child-returns-in_err-name-clause-runs
 children::child-returns-in_err-name-clause-runs g t c =
@@ -1897,87 +1882,22 @@ children::child-returns-in_err-text-clause-runs g t c =
     let p = err_from_is_err_and c.from_residual-in_err-text.result c.from_residual-in_err-text.ensures.1 in
     memory_err c.from_residual-in_err-text.result p.0 _ _ p.1 p.2 (λ q style at. stopped)
 
-pub children::child-returns-in_default-named-clause-runs : goal.children::child-returns-in_default-named-clause-runs
-children::child-returns-in_default-named-clause-runs g t c =
+pub children::child-returns-in_default-child_subcommand-clause-runs : goal.children::child-returns-in_default-child_subcommand-clause-runs
+children::child-returns-in_default-child_subcommand-clause-runs g t c =
     let kept = c.in_ok-name.ensures in
     let is = split_first c.args.args.now c.first-item.result c.in-len1-up.len_at_least c.first-item.is in
-    let none = ap child_subcommand_of (sym (c.as_str.ensures ∙ c.in_ok-text.ensures)) ∙ sym c.named.ensures ∙ c.in_default-named.is in
-    breaks c.unknown_subcommand.result _ _ (λ e h q style at. at_prog (ap (λ (n : List ℕ). child_program style n c.args.args.now) (sym kept) ∙ child_unknown style c.in_ok-name.name c.args.args.now c.first-item.result _ is none)
-    (at_reply (h ∙ ap (λ (x : List ℕ). Completed (failing (unknown_subcommand x))) (c.as_str-in_default-named.ensures ∙ c.in_ok-text.ensures)) completed)) (λ q style at. stopped) c.unknown_subcommand.ensures
+    let word = c.as_str.ensures ∙ c.in_ok-text.ensures in
+    breaks c.unknown_subcommand.result _ _ (λ e h q style at. at_prog (ap (λ (n : List ℕ). child_program style n c.args.args.now) (sym kept) ∙ child_unknown style c.in_ok-name.name c.args.args.now c.first-item.result c.as_str.result.now _ c.child_subcommand.result is word c.child_subcommand.ensures c.in_default-child_subcommand.is)
+    (at_reply (h ∙ ap (λ (x : List ℕ). Completed (failing (unknown_subcommand x))) (c.as_str-in_default-child_subcommand.ensures ∙ sym c.as_str.ensures)) completed)) (λ q style at. stopped) c.unknown_subcommand.ensures
 
 pub children::child-returns-clause-runs : goal.children::child-returns-clause-runs
 children::child-returns-clause-runs g t c =
-    let kept = c.in_ok-name.ensures in
+    let words = take (length c.args.args.now - 1) (drop 1 c.args.args.now) in
     let is = split_first c.args.args.now c.first-item.result c.in-len1-up.len_at_least c.first-item.is in
-    let known = ap child_subcommand_of (sym (c.as_str.ensures ∙ c.in_ok-text.ensures)) ∙ sym c.named.ensures ∙ c.in-Some.is in
-    IfRan-more c.call_subcommand.result (EndsFrom (ways g.O.Outside.goes g.O.Outside.loses) c.args.tree.now c.args.outside.now c.args.place (λ style. child_program_of style c.in_ok-name.name c.in-Some.subcommand (take (length c.args.args.now - 1) (drop 1 c.args.args.now))) c.call_subcommand.new.tree c.call_subcommand.new.outside)
-    (EndsFrom (ways g.O.Outside.goes g.O.Outside.loses) c.args.tree.now c.args.outside.now c.args.place (λ style. child_program style (child_name (command_name c.args.word.now)) c.args.args.now) c.call_subcommand.new.tree c.call_subcommand.new.outside)
-    (λ e h q style at. at_prog (ap (λ (n : List ℕ). child_program style n c.args.args.now) (sym kept) ∙ child_known style c.in_ok-name.name c.args.args.now c.first-item.result _ c.in-Some.subcommand is known) (h q style at)) c.call_subcommand.ensures.runs
-
-pub children::call_subcommand-returns-in_default-clause-runs : goal.children::call_subcommand-returns-in_default-clause-runs
-children::call_subcommand-returns-in_default-clause-runs g t c =
-    evaluates_proceeds (ways g.O.Outside.goes g.O.Outside.loses) c.args.tree.now c.child_own.new.tree c.args.outside.now c.child_own.new.outside c.args.place (λ style. child_program_of style c.args.name.now c.args.subcommand c.args.args.now) c.child_own.result
-    c.child_own.ensures.evaluates c.child_own.ensures.lost
-
-pub children::child_eval-returns-then-is_empty-clause-runs : goal.children::child_eval-returns-then-is_empty-clause-runs
-children::child_eval-returns-then-is_empty-clause-runs g t c =
-    let none = zero_is (length c.args.args.now) c.is_empty.result c.is_empty.ensures c.if-is_empty.true in
-    breaks c.wrong_child_args.result _ _ (λ e h q style at. at_prog (child_eval_none c.args.name.now c.args.args.now (omega (arith, none))) (at_reply h completed)) (λ q style at. stopped) c.wrong_child_args.ensures
-
-pub children::child_eval-returns-in_err-script-clause-runs : goal.children::child_eval-returns-in_err-script-clause-runs
-children::child_eval-returns-in_err-script-clause-runs g t c =
-    let some = some_is (length c.args.args.now) c.is_empty.result c.is_empty.ensures c.if-is_empty.false in
-    let p = err_from_is_err_and c.from_residual.result c.from_residual.ensures.1 in
-    fails_err c.from_residual.result c.in_err-script.field-0.0 p.0 _ _ _ p.1 p.2 c.in_err-script.ensures.refused
-    (λ e h q style at. at_prog (child_eval_some c.args.name.now c.args.args.now some) (outgrows (concat c.args.args.now) (λ script. asks_at (c.args.name.now ∷ []) (Eval script) done) h.0 h.1)) (λ q style at. stopped)
-
-pub children::child_eval-returns-clause-runs : goal.children::child_eval-returns-clause-runs
-children::child_eval-returns-clause-runs g t c =
-    let some = some_is (length c.args.args.now) c.is_empty.result c.is_empty.ensures c.if-is_empty.false in
-    IfRan-more c.ask_entry.result (EndsFrom (ways g.O.Outside.goes g.O.Outside.loses) c.args.tree.now c.args.outside.now c.args.place (λ style. asks_at (c.args.name.now ∷ []) (Eval c.in_ok-script.script) done) c.ask_entry.new.tree c.ask_entry.new.outside)
-    (EndsFrom (ways g.O.Outside.goes g.O.Outside.loses) c.args.tree.now c.args.outside.now c.args.place (λ style. child_evals c.args.name.now c.args.args.now) c.ask_entry.new.tree c.ask_entry.new.outside)
-    (λ e h q style at. at_prog (child_eval_some c.args.name.now c.args.args.now some) (grows (concat c.args.args.now) (λ script. asks_at (c.args.name.now ∷ []) (Eval script) done) c.in_ok-script.ensures.whole.1
-    (at_prog (ap (λ (x : List ℕ). asks_at (c.args.name.now ∷ []) (Eval x) done) (sym c.in_ok-script.ensures.whole.0)) (h q style at))))
-    (asking_last (ways g.O.Outside.goes g.O.Outside.loses) c.args.tree.now c.ask_entry.new.tree c.args.outside.now c.ask_entry.new.outside c.args.place (c.args.name.now ∷ []) (Eval c.in_ok-script.script) c.ask_entry.result
-    (subst (λ (x : Path). Asks (ways g.O.Outside.goes g.O.Outside.loses) c.args.tree.now c.args.outside.now c.args.place x (Eval c.in_ok-script.script) c.ask_entry.new.tree c.ask_entry.new.outside c.ask_entry.result) c.from_ref.ensures.value c.ask_entry.ensures.asks))
-
-pub children::child_invoke_hidden-returns-in_err-form-clause-runs : goal.children::child_invoke_hidden-returns-in_err-form-clause-runs
-children::child_invoke_hidden-returns-in_err-form-clause-runs g t c =
-    let p = err_from_is_err_and c.from_residual.result c.from_residual.ensures.1 in
-    memory_err c.from_residual.result p.0 _ _ p.1 p.2 (λ q style at. stopped)
-
-pub children::child_invoke_hidden-returns-in_err-call-clause-runs : goal.children::child_invoke_hidden-returns-in_err-call-clause-runs
-children::child_invoke_hidden-returns-in_err-call-clause-runs g t c =
-    let form : c.as_str.result.now ≡ child_form c.args.name.now (codes "invokehidden ?-global? hiddenName ?arg ...?") = c.as_str.ensures.value ∙ c.in_ok-form.ensures in
-    let p = err_from_is_err_and c.from_residual-in_err-call.result c.from_residual-in_err-call.ensures.1 in
-    fails_err c.from_residual-in_err-call.result c.in_err-call.field-0.0 p.0 _ _ _ p.1 p.2 c.in_err-call.ensures.refused
-    (λ e h q style at. at_prog (ap (λ (x : List ℕ). invoked_as (child_path c.args.name.now) x false c.args.args.now) (sym form) ∙ h.1 (child_path c.args.name.now)) (at_reply h.2 completed)) (λ q style at. stopped)
-
-pub children::child_invoke_hidden-returns-in_err-permit-clause-runs : goal.children::child_invoke_hidden-returns-in_err-permit-clause-runs
-children::child_invoke_hidden-returns-in_err-permit-clause-runs g t c =
-    let form : c.as_str.result.now ≡ child_form c.args.name.now (codes "invokehidden ?-global? hiddenName ?arg ...?") = c.as_str.ensures.value ∙ c.in_ok-form.ensures in
-    let p = err_from_is_err_and c.from_residual-in_err-permit.result c.from_residual-in_err-permit.ensures.1 in
-    proceeds_as (ways g.O.Outside.goes g.O.Outside.loses) c.args.tree.now c.args.tree.now c.args.outside.now c.args.outside.now c.args.place (λ style. child_invokes c.args.name.now c.args.args.now) (λ style. asks_trusted (child_path c.args.name.now) (InvokeHidden c.in_ok-call.call.is_global c.in_ok-call.call.words.items)) c.from_residual-in_err-permit.result (λ style. ap (λ (x : List ℕ). invoked_as (child_path c.args.name.now) x false c.args.args.now) (sym form) ∙ c.in_ok-call.ensures.called (child_path c.args.name.now))
-    (passes_proceeds (ways g.O.Outside.goes g.O.Outside.loses) c.args.tree.now c.args.outside.now c.args.place (λ style. asks_trusted (child_path c.args.name.now) (InvokeHidden c.in_ok-call.call.is_global c.in_ok-call.call.words.items)) c.from_residual-in_err-permit.result c.in_err-permit.field-0.0 p.0 p.1 p.2
-    (Interrupts-more c.in_err-permit.field-0.0 _ (GetsToEnd c.args.tree.now c.args.place (λ style. asks_trusted (child_path c.args.name.now) (InvokeHidden c.in_ok-call.call.is_global c.in_ok-call.call.words.items))) (λ e f. f (λ style. asks (child_path c.args.name.now) (InvokeHidden c.in_ok-call.call.is_global c.in_ok-call.call.words.items))) c.in_err-permit.ensures))
-
-pub children::child_invoke_hidden-returns-in_err-child_stands-clause-runs : goal.children::child_invoke_hidden-returns-in_err-child_stands-clause-runs
-children::child_invoke_hidden-returns-in_err-child_stands-clause-runs g t c =
-    let form : c.as_str.result.now ≡ child_form c.args.name.now (codes "invokehidden ?-global? hiddenName ?arg ...?") = c.as_str.ensures.value ∙ c.in_ok-form.ensures in
-    let p = err_from_is_err_and c.from_residual-in_err-child_stands.result c.from_residual-in_err-child_stands.ensures.1 in
-    proceeds_as (ways g.O.Outside.goes g.O.Outside.loses) c.args.tree.now c.args.tree.now c.args.outside.now c.args.outside.now c.args.place (λ style. child_invokes c.args.name.now c.args.args.now) (λ style. asks_trusted (child_path c.args.name.now) (InvokeHidden c.in_ok-call.call.is_global c.in_ok-call.call.words.items)) c.from_residual-in_err-child_stands.result (λ style. ap (λ (x : List ℕ). invoked_as (child_path c.args.name.now) x false c.args.args.now) (sym form) ∙ c.in_ok-call.ensures.called (child_path c.args.name.now))
-    (gets_proceeds (ways g.O.Outside.goes g.O.Outside.loses) c.args.tree.now c.args.outside.now c.args.place (λ style. asks_trusted (child_path c.args.name.now) (InvokeHidden c.in_ok-call.call.is_global c.in_ok-call.call.words.items)) (λ style. asks (child_path c.args.name.now) (InvokeHidden c.in_ok-call.call.is_global c.in_ok-call.call.words.items)) c.args.tree.now c.args.outside.now c.from_residual-in_err-child_stands.result (c.in_ok-permit.ensures (λ style. asks (child_path c.args.name.now) (InvokeHidden c.in_ok-call.call.is_global c.in_ok-call.call.words.items)))
-    (passes_proceeds (ways g.O.Outside.goes g.O.Outside.loses) c.args.tree.now c.args.outside.now c.args.place (λ style. asks (child_path c.args.name.now) (InvokeHidden c.in_ok-call.call.is_global c.in_ok-call.call.words.items)) c.from_residual-in_err-child_stands.result c.in_err-child_stands.field-0.0 p.0 p.1 p.2
-    (Interrupts-more c.in_err-child_stands.field-0.0 _ (GetsToEnd c.args.tree.now c.args.place (λ style. asks (child_path c.args.name.now) (InvokeHidden c.in_ok-call.call.is_global c.in_ok-call.call.words.items))) (λ e f. f (λ path style. asks_at path (InvokeHidden c.in_ok-call.call.is_global c.in_ok-call.call.words.items) done)) c.in_err-child_stands.ensures)))
-
-pub children::child_invoke_hidden-returns-clause-runs : goal.children::child_invoke_hidden-returns-clause-runs
-children::child_invoke_hidden-returns-clause-runs g t c =
-    let form : c.as_str.result.now ≡ child_form c.args.name.now (codes "invokehidden ?-global? hiddenName ?arg ...?") = c.as_str.ensures.value ∙ c.in_ok-form.ensures in
-    proceeds_as (ways g.O.Outside.goes g.O.Outside.loses) c.args.tree.now c.ask_entry.new.tree c.args.outside.now c.ask_entry.new.outside c.args.place (λ style. child_invokes c.args.name.now c.args.args.now) (λ style. asks_trusted (child_path c.args.name.now) (InvokeHidden c.in_ok-call.call.is_global c.in_ok-call.call.words.items)) c.ask_entry.result (λ style. ap (λ (x : List ℕ). invoked_as (child_path c.args.name.now) x false c.args.args.now) (sym form) ∙ c.in_ok-call.ensures.called (child_path c.args.name.now))
-    (gets_proceeds (ways g.O.Outside.goes g.O.Outside.loses) c.args.tree.now c.args.outside.now c.args.place (λ style. asks_trusted (child_path c.args.name.now) (InvokeHidden c.in_ok-call.call.is_global c.in_ok-call.call.words.items)) (λ style. asks (child_path c.args.name.now) (InvokeHidden c.in_ok-call.call.is_global c.in_ok-call.call.words.items)) c.ask_entry.new.tree c.ask_entry.new.outside c.ask_entry.result (c.in_ok-permit.ensures (λ style. asks (child_path c.args.name.now) (InvokeHidden c.in_ok-call.call.is_global c.in_ok-call.call.words.items)))
-    (gets_proceeds (ways g.O.Outside.goes g.O.Outside.loses) c.args.tree.now c.args.outside.now c.args.place (λ style. asks (child_path c.args.name.now) (InvokeHidden c.in_ok-call.call.is_global c.in_ok-call.call.words.items)) (λ style. asks_at (c.args.name.now ∷ []) (InvokeHidden c.in_ok-call.call.is_global c.in_ok-call.call.words.items) done) c.ask_entry.new.tree c.ask_entry.new.outside c.ask_entry.result (c.in_ok-child_stands.ensures (λ path style. asks_at path (InvokeHidden c.in_ok-call.call.is_global c.in_ok-call.call.words.items) done))
-    (asking_last (ways g.O.Outside.goes g.O.Outside.loses) c.args.tree.now c.ask_entry.new.tree c.args.outside.now c.ask_entry.new.outside c.args.place (c.args.name.now ∷ []) (InvokeHidden c.in_ok-call.call.is_global c.in_ok-call.call.words.items) c.ask_entry.result
-    (subst (λ (x : Path). Asks (ways g.O.Outside.goes g.O.Outside.loses) c.args.tree.now c.args.outside.now c.args.place x (InvokeHidden c.in_ok-call.call.is_global c.in_ok-call.call.words.items) c.ask_entry.new.tree c.ask_entry.new.outside c.ask_entry.result) c.from_ref.ensures.value c.ask_entry.ensures.asks))))
+    let word = c.as_str.ensures ∙ c.in_ok-text.ensures in
+    proceeds_as (ways g.O.Outside.goes g.O.Outside.loses) c.args.tree.now c.call_subcommand.new.tree c.args.outside.now c.call_subcommand.new.outside c.args.place (λ style. child_program style (child_name (command_name c.args.word.now)) c.args.args.now) (λ style. program_of style c.in-Some.subcommand (on_child c.in_ok-name.name) words) c.call_subcommand.result
+    (λ style. ap (λ (n : List ℕ). child_program style n c.args.args.now) (sym c.in_ok-name.ensures) ∙ child_known style c.in_ok-name.name c.args.args.now c.first-item.result c.as_str.result.now words c.child_subcommand.result c.in-Some.subcommand is word c.child_subcommand.ensures c.in-Some.is)
+    c.call_subcommand.ensures.runs
 
 pub commands::call_command-returns-in-Child-clause-runs : goal.commands::call_command-returns-in-Child-clause-runs
 commands::call_command-returns-in-Child-clause-runs g t c =

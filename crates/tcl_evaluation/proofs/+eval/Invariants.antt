@@ -87,26 +87,17 @@ decreases-crossing::serve_eval g l = 16016 * g.O.Outside.entries_left l.outside.
 abbrev pub decreases-commands::call_hidden : goal.decreases-commands::call_hidden
 decreases-commands::call_hidden g l = 16016 * g.O.Outside.entries_left l.outside.now + 16 * room (tree_of l.tree.now) + 12
 
-abbrev pub decreases-interpreters::interp_eval : goal.decreases-interpreters::interp_eval
-decreases-interpreters::interp_eval g l = 16016 * g.O.Outside.entries_left l.outside.now + 16 * room (tree_of l.tree.now) + 7
+abbrev pub decreases-interpreters::eval_in : goal.decreases-interpreters::eval_in
+decreases-interpreters::eval_in g l = 16016 * g.O.Outside.entries_left l.outside.now + 16 * room (tree_of l.tree.now) + 7
 
 abbrev pub decreases-interpreters::interp : goal.decreases-interpreters::interp
 decreases-interpreters::interp g l = 16016 * g.O.Outside.entries_left l.outside.now + 16 * room (tree_of l.tree.now) + 9
 
-abbrev pub decreases-interpreters::interp_invoke_hidden : goal.decreases-interpreters::interp_invoke_hidden
-decreases-interpreters::interp_invoke_hidden g l = 16016 * g.O.Outside.entries_left l.outside.now + 16 * room (tree_of l.tree.now) + 7
+abbrev pub decreases-interpreters::invoke_hidden : goal.decreases-interpreters::invoke_hidden
+decreases-interpreters::invoke_hidden g l = 16016 * g.O.Outside.entries_left l.outside.now + 16 * room (tree_of l.tree.now) + 7
 
 abbrev pub decreases-interpreters::call_subcommand : goal.decreases-interpreters::call_subcommand
 decreases-interpreters::call_subcommand g l = 16016 * g.O.Outside.entries_left l.outside.now + 16 * room (tree_of l.tree.now) + 8
-
-abbrev pub decreases-children::child_eval : goal.decreases-children::child_eval
-decreases-children::child_eval g l = 16016 * g.O.Outside.entries_left l.outside.now + 16 * room (tree_of l.tree.now) + 7
-
-abbrev pub decreases-children::child_invoke_hidden : goal.decreases-children::child_invoke_hidden
-decreases-children::child_invoke_hidden g l = 16016 * g.O.Outside.entries_left l.outside.now + 16 * room (tree_of l.tree.now) + 7
-
-abbrev pub decreases-children::call_subcommand : goal.decreases-children::call_subcommand
-decreases-children::call_subcommand g l = 16016 * g.O.Outside.entries_left l.outside.now + 16 * room (tree_of l.tree.now) + 8
 
 abbrev pub decreases-children::child : goal.decreases-children::child
 decreases-children::child g l = 16016 * g.O.Outside.entries_left l.outside.now + 16 * room (tree_of l.tree.now) + 9

@@ -1,4 +1,0 @@
-pub mod Children
-pub mod Forms
-pub mod Invoking
-pub mod Named

@@ -1,2 +1,0 @@
-pub mod HiddenCalls
-pub mod Own

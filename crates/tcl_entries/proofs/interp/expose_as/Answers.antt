@@ -1,8 +1,0 @@
-use Rattle.std.proofs.Common.{sym}
-use Rattle.tcl_core.specs.Entries.Entry.{Expose}
-use Rattle.tcl_language.specs.Interpreters as interpreters
-use Rattle.tcl_entries.proofs.Telling.{evaluates_as}
-use Rattle.tcl_entries.proofs.interp.expose_as.Goals as goal
-
-pub returns-clause-evaluates : goal.returns-clause-evaluates
-returns-clause-evaluates g c = evaluates_as g.O.Outside.goes c.args.tree.now c.ask_trusted.new.tree c.args.outside.now c.ask_trusted.new.outside c.args.place (λ style. interpreters.asks_trusted c.args.path.now (Expose c.args.hidden.now c.args.name.now)) (λ style. interpreters.asks_trusted c.args.path.now (Expose c.in_ok-hidden.hidden c.in_ok-name.name)) c.ask_trusted.result (λ style i. interpreters.asks_trusted c.args.path.now (Expose (sym c.in_ok-hidden.ensures i) (sym c.in_ok-name.ensures i))) c.ask_trusted.ensures.evaluates

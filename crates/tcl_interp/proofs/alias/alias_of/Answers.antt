@@ -1,0 +1,13 @@
+use Rattle.std.proofs.Common.{[], ◌∷◌, sym, ap}
+use Rattle.tcl_core.specs.Entries.Entry.{Ask}
+use Rattle.tcl_core.specs.Entries.Question.{AliasOf}
+use Rattle.tcl_core.specs.Paths.{Text}
+use Rattle.tcl_entries.proofs.Telling.{evaluates_as}
+use Rattle.tcl_interp.specs.Programs.{aliases}
+use Rattle.tcl_interp.specs.Subjects.{about, asks_of}
+use Rattle.tcl_interp.proofs.alias.alias_of.Goals as goal
+
+pub returns-clause-evaluates : goal.returns-clause-evaluates
+returns-clause-evaluates g c = evaluates_as g.O.Outside.goes c.args.tree.now c.ask_subject.new.tree c.args.outside.now c.ask_subject.new.outside c.args.place (λ style. aliases (about c.args.subject) (c.args.name.now ∷ []))
+    (λ style. asks_of (about c.args.subject) (Ask (AliasOf c.in_ok-text.field-0))) c.ask_subject.result
+    (λ style. ap (λ (x : Text). asks_of (about c.args.subject) (Ask (AliasOf x))) (sym c.in_ok-text.ensures)) c.ask_subject.ensures.evaluates

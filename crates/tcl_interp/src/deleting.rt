@@ -1,0 +1,138 @@
+//! `interp delete`.
+ghost use Rattle.std.specs.Prelude.{◌≤◌};
+ghost use Rattle.tcl_core.specs.Entries.Entry.{Delete};
+ghost use Rattle.tcl_language.specs.Interpreters as interpreters;
+ghost use Rattle.tcl_run.specs.Runs.{Evaluates, IsLoss, IsRunning, IsSteady};
+ghost use Rattle.tcl_entries.specs.Asking.{Steps};
+ghost use Rattle.tcl_interp.specs.Deleting.{Deletes};
+
+use std::alloc::Global;
+use tcl_entries::asking::{ask, path_at};
+use tcl_entries::failure::in_use;
+use tcl_flow::completion::OK;
+use tcl_run::entry::OwnEntry;
+use tcl_run::interruption::Interruption;
+use tcl_run::outside::Outside;
+use tcl_text::text::Text;
+use tcl_tree::tree::{Place, Tree};
+use tcl_value::value::Value;
+
+/// What the end of asking to delete comes to: that the interpreter is in use, where it isn't an
+/// ordinary result.
+fn deleted(
+    alloc: Global,
+    text: &Text,
+    ended: Result<Value, Interruption>,
+) -> Result<(), Interruption>
+    ensures { Deletes text.now ended result }
+{
+    match ended {
+        Ok(_) => Ok(()),
+        Err(Interruption::Completed(completion)) => {
+            if completion.code == OK {
+                Ok(())
+            } else {
+                Err(in_use(alloc, text.as_str()))
+            }
+        }
+        Err(interruption) => Err(interruption),
+    }
+}
+
+/// Deletes a child of the interpreter at a path.
+fn delete_below<O: Outside>(
+    tree: &mut Tree,
+    alloc: Global,
+    outside: &mut O,
+    place: Place,
+    text: &Text,
+    above: &[Text],
+    name: &Text,
+) -> Result<(), Interruption>
+    requires { IsRunning tree.old place }
+    ensures steps { Steps O.goes tree.old outside.old place
+        (λ rest style. interpreters.deletes_at text.now (above.now, name.now) (rest style)) tree.new
+        outside.new result }
+    ensures lost { IsLoss O.loses outside.old outside.new }
+    ensures steady { IsSteady tree.old tree.new }
+    ensures left { O.entries_left outside.new ≤ O.entries_left outside.old }
+{
+    let entry = OwnEntry::Delete(name.clone()?);
+    let ended = ask(tree, alloc, outside, place, above, entry);
+    deleted(alloc, text, ended)
+}
+
+/// Deletes the interpreter at a path, which isn't the one that asks.
+fn delete_at<O: Outside>(
+    tree: &mut Tree,
+    alloc: Global,
+    outside: &mut O,
+    place: Place,
+    text: &Text,
+    path: &[Text],
+) -> Result<(), Interruption>
+    requires { IsRunning tree.old place }
+    ensures steps { Steps O.goes tree.old outside.old place
+        (λ rest style. interpreters.deletes_named text.now path.now (rest style)) tree.new
+        outside.new result }
+    ensures lost { IsLoss O.loses outside.old outside.new }
+    ensures steady { IsSteady tree.old tree.new }
+    ensures left { O.entries_left outside.new ≤ O.entries_left outside.old }
+{
+    match path {
+        [above @ .., name] => delete_below(tree, alloc, outside, place, text, above, name),
+        [] => Err(in_use(alloc, text.as_str())),
+    }
+}
+
+/// Deletes the interpreter at the path that a text is, with all below it.
+///
+/// # Errors
+/// Those of the path: 101 to 104 and 301; 303 where an evaluation is in progress in it; want of
+/// memory.
+pub fn delete_there<O: Outside>(
+    tree: &mut Tree,
+    alloc: Global,
+    outside: &mut O,
+    place: Place,
+    text: &Text,
+) -> Result<(), Interruption>
+    requires { IsRunning tree.old place }
+    ensures steps { Steps O.goes tree.old outside.old place
+        (λ rest style. interpreters.at_path text.now
+        (λ path n. interpreters.deletes_named text.now path (rest style))) tree.new outside.new
+        result }
+    ensures lost { IsLoss O.loses outside.old outside.new }
+    ensures steady { IsSteady tree.old tree.new }
+    ensures left { O.entries_left outside.new ≤ O.entries_left outside.old }
+{
+    let found = path_at(tree, alloc, place, text)?;
+    delete_at(tree, alloc, outside, place, text, found.path.as_slice())
+}
+
+/// `interp delete ?path ...?`: deletes each interpreter in turn, with all below it, up to the first
+/// that is refused. (interp(n))
+///
+/// # Errors
+/// Of each path in turn, 101 to 104, 301, and 303 where an evaluation is in progress in the
+/// interpreter; want of memory.
+pub fn delete<O: Outside>(
+    tree: &mut Tree,
+    alloc: Global,
+    outside: &mut O,
+    place: Place,
+    args: &[Value],
+) -> Result<Value, Interruption>
+    requires { IsRunning tree.old place }
+    ensures evaluates { Evaluates O.goes tree.old outside.old place
+        (λ style. interpreters.delete args.now) tree.new outside.new result }
+    ensures lost { IsLoss O.loses outside.old outside.new }
+    ensures steady { IsSteady tree.old tree.new }
+    ensures left { O.entries_left outside.new ≤ O.entries_left outside.old }
+{
+    'paths: for path in args {
+        let text = path.text(alloc)?;
+        delete_there(tree, alloc, outside, place, &text)?;
+    }
+    Ok(Value::empty())
+}

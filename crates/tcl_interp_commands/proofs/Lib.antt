@@ -1,4 +1,0 @@
-pub mod Forms
-pub mod Named
-pub mod Options
-pub mod Stepping

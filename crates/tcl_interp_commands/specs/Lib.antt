@@ -1,3 +1,0 @@
-pub mod Deleting
-pub mod Evaluating
-pub mod Failing
