@@ -104,7 +104,7 @@ mod tests {
             broken,
         )?;
         let deleted = OpenUnwatched::Deleted(OpenEnd::CutOff);
-        let told = "411: the watched interpreter was deleted in the run";
+        let told = "411: the watched interpreter was deleted";
         see(alloc, EmbedError::from(deleted), told)?;
         let waits = "412: the interpreter waits for an answer";
         see(alloc, EmbedError::from(Unplayed::Waits), waits)

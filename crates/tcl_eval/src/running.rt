@@ -25,7 +25,9 @@ use tcl_run::interruption::Interruption;
 use tcl_run::outside::{Happening, Outside};
 use tcl_run_laws::budgets::scripts_keep_budgets;
 use tcl_text::limit::MOST_BYTES;
-use tcl_text::messages::{COUNT_TOO_LARGE, OUT_OF_MEMORY, TOO_LONG};
+use tcl_text::messages::{
+    BREAKS_TREE, COUNT_TOO_LARGE, NO_INTERPRETER, TOO_LONG, TREE_BROKEN,
+};
 use tcl_text::text::Text;
 use tcl_tree::node::MOST_STEPS;
 use tcl_tree::tree::{Place, Tree};
@@ -57,13 +59,13 @@ pub enum OpenEnd {
 #[derive(Clone, Copy, Debug, Eq, Error, PartialEq)]
 pub enum Refused {
     /// 401: memory was wanted. The tree is broken since then.
-    #[error("401: {}, and the tree is broken", OUT_OF_MEMORY)]
+    #[error("401: {}", BREAKS_TREE)]
     Memory,
     /// 402: the tree was broken before.
-    #[error("402: the tree is broken")]
+    #[error("402: {}", TREE_BROKEN)]
     Broken,
     /// 403: no interpreter stands at the path.
-    #[error("403: no interpreter stands at the path")]
+    #[error("403: {}", NO_INTERPRETER)]
     NoInterpreter,
     /// 404: the steps that were counted in the root and those of the run pass 9223372036854775807
     /// together.

@@ -22,8 +22,9 @@ use tcl_eval::running::{OpenEnd, Refused, open_run};
 use tcl_isolation::laws::{asks_the_host_nothing, scripts_stay_within};
 use tcl_recorder::record::Record;
 use tcl_recorder::recorder::Recorder;
-use tcl_replay::watching::{DELETED, begin_record, refusal_to_watch};
+use tcl_replay::watching::{begin_record, refusal_to_watch};
 use tcl_run::outside::Outside;
+use tcl_text::messages::WATCHED_DELETED;
 use tcl_text::text::Text;
 use tcl_tree::tree::Tree;
 use thiserror::Error;
@@ -35,7 +36,7 @@ pub enum OpenUnwatched {
     #[error(transparent)]
     Refused(Refused),
     /// 411: the watched interpreter was deleted in the run, which ended so.
-    #[error("{}", DELETED)]
+    #[error("411: {}", WATCHED_DELETED)]
     Deleted(OpenEnd),
 }
 

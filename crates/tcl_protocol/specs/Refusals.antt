@@ -16,6 +16,8 @@ use Rattle.tcl_protocol.specs.declared.refusals.Refusal.TheVariants.{Breaks, Bro
 use Rattle.tcl_protocol.specs.declared.refusals.Refusal.TheVariants.{TooManySteps, Deleted, Waits}
 use Rattle.tcl_protocol.specs.declared.refusals.Refusal.TheVariants.{NotText, LineTooLong, CutShort}
 use Rattle.tcl_protocol.specs.declared.refusals.Refusal.TheVariants.{Unreadable}
+use Rattle.tcl_text.specs.Messages.{breaks_tree, call_open, no_interpreter, tree_broken, waits}
+use Rattle.tcl_text.specs.Messages.{watched_deleted}
 use Rattle.tcl_value.specs.declared.value.ValueError.{ValueError}
 use Rattle.tcl_value.specs.declared.value.ValueError.TheVariants as value
 
@@ -90,7 +92,7 @@ text_of (WrongType field) = about (codes "the field ") (name_of field)
 text_of (OutOfRange field) = about (codes "the field ") (name_of field) (codes " is out of range")
 text_of (Nothing field n) = about
     (codes "nothing has the number " ++ decimal n ++ codes " of the field ") (name_of field) []
-text_of CallOpen = codes "a call is open"
+text_of CallOpen = call_open
 text_of (NotOpen n) = codes "call " ++ decimal n ++ codes " is not open"
 text_of EntryLimit = codes "an entry has no limit of its own"
 text_of Root = codes "the root is neither made nor deleted"
@@ -99,11 +101,11 @@ text_of CutShort = codes "the input ends inside a line"
 text_of Unreadable = codes "the input can't be read"
 text_of (Tree error word) = tree.text_of error word
 text_of TooLong = codes "value longer than 16777216 bytes"
-text_of Breaks = codes "out of memory, and the tree is broken"
-text_of Broken = codes "the tree is broken"
-text_of Nobody = codes "no interpreter stands at the path"
+text_of Breaks = breaks_tree
+text_of Broken = tree_broken
+text_of Nobody = no_interpreter
 text_of TooManySteps = codes "the count of steps would pass its limit"
-text_of Deleted = codes "the watched interpreter was deleted"
-text_of Waits = codes "it waits for an answer"
+text_of Deleted = watched_deleted
+text_of Waits = waits
 text_of (NotText name) = about [] name (codes " is not UTF-8")
 text_of (Told text) = text

@@ -9,7 +9,10 @@ ghost use Rattle.tcl_protocol.specs.declared.refusals.Refusal.TheVariants.{Wrong
 use crate::fields::Field;
 use std::alloc::{AllocError, AllocFailed, Global};
 use tcl_interpreter::refusal::TreeError;
-use tcl_text::messages::{COUNT_TOO_LARGE, OUT_OF_MEMORY, TOO_LONG};
+use tcl_text::messages::{
+    BREAKS_TREE, CALL_OPEN, COUNT_TOO_LARGE, NO_INTERPRETER, OUT_OF_MEMORY, TOO_LONG, TREE_BROKEN,
+    WAITS, WATCHED_DELETED,
+};
 use tcl_text::text::Text;
 use tcl_value::value::ValueError;
 
@@ -175,7 +178,7 @@ impl Refusal {
                 about(alloc, "the field ", field.name(), " is out of range")
             }
             Refusal::Nothing(field, number) => nothing(alloc, *field, *number),
-            Refusal::CallOpen => String::from_str(alloc, "a call is open"),
+            Refusal::CallOpen => String::from_str(alloc, CALL_OPEN),
             Refusal::NotOpen(number) => not_open(alloc, *number),
             Refusal::EntryLimit => String::from_str(alloc, "an entry has no limit of its own"),
             Refusal::Root => String::from_str(alloc, "the root is neither made nor deleted"),
@@ -187,12 +190,12 @@ impl Refusal {
             Refusal::Told(text) => String::from_str(alloc, text.as_str()),
             Refusal::Tree(error, word) => error.text(alloc, word.as_str()),
             Refusal::TooLong => String::from_str(alloc, TOO_LONG),
-            Refusal::Breaks => String::from_str(alloc, "out of memory, and the tree is broken"),
-            Refusal::Broken => String::from_str(alloc, "the tree is broken"),
-            Refusal::Nobody => String::from_str(alloc, "no interpreter stands at the path"),
+            Refusal::Breaks => String::from_str(alloc, BREAKS_TREE),
+            Refusal::Broken => String::from_str(alloc, TREE_BROKEN),
+            Refusal::Nobody => String::from_str(alloc, NO_INTERPRETER),
             Refusal::TooManySteps => String::from_str(alloc, COUNT_TOO_LARGE),
-            Refusal::Deleted => String::from_str(alloc, "the watched interpreter was deleted"),
-            Refusal::Waits => String::from_str(alloc, "it waits for an answer"),
+            Refusal::Deleted => String::from_str(alloc, WATCHED_DELETED),
+            Refusal::Waits => String::from_str(alloc, WAITS),
             Refusal::NotText(name) => about(alloc, "", name.as_str(), " is not UTF-8"),
         }
     }

@@ -26,13 +26,11 @@ use tcl_recorder::record::Record;
 use tcl_recorder::recorder::Recorder;
 use tcl_run::entry::Entry;
 use tcl_run::outside::Outside;
+use tcl_text::messages::WATCHED_DELETED;
 use tcl_text::text::Text;
 use tcl_tree::tree::Tree;
 use tcl_value::value::Value;
 use thiserror::Error;
-
-/// The watched interpreter was deleted in the run (411).
-pub const DELETED: &str = "411: the watched interpreter was deleted in the run";
 
 /// Why there is no record of an evaluation.
 #[derive(Drop, Error)]
@@ -41,7 +39,7 @@ pub enum Unwatched {
     #[error(transparent)]
     Refused(Refused),
     /// 411: the watched interpreter was deleted in the run, which ended so.
-    #[error("{}", DELETED)]
+    #[error("411: {}", WATCHED_DELETED)]
     Deleted(End),
 }
 

@@ -8,7 +8,8 @@ use tcl_eval::running::Refused;
 use tcl_replay::replaying::Unplayed;
 use tcl_text::list::{ListError, ListFault};
 use tcl_text::messages::{
-    BAD_DEPTH_LIMIT, COUNT_TOO_LARGE, DENIED, OUT_OF_MEMORY, TOO_LONG, TOO_MANY,
+    BAD_DEPTH_LIMIT, CALL_OPEN, COUNT_TOO_LARGE, DENIED, NO_INTERPRETER, OUT_OF_MEMORY, TOO_LONG,
+    TOO_MANY, TREE_BROKEN, WAITS, WATCHED_DELETED,
 };
 use tcl_tree::refusal::TreeError;
 use tcl_value::value::ValueError;
@@ -140,15 +141,15 @@ impl Refusal {
             Refusal::NoFile => "no such file",
             Refusal::Tree(error) => tree_text(error),
             Refusal::Memory => OUT_OF_MEMORY,
-            Refusal::Broken => "the tree is broken",
-            Refusal::Nobody => "no interpreter stands at the path",
+            Refusal::Broken => TREE_BROKEN,
+            Refusal::Nobody => NO_INTERPRETER,
             Refusal::CountTooLarge => COUNT_TOO_LARGE,
-            Refusal::Deleted => "the watched interpreter was deleted",
-            Refusal::Waits => "it waits for an answer",
+            Refusal::Deleted => WATCHED_DELETED,
+            Refusal::Waits => WAITS,
             Refusal::NothingHeld => "the handle holds nothing",
             Refusal::AlreadyHeld => "the handle holds something already",
             Refusal::OtherKind => "the handle holds something of another kind",
-            Refusal::CallOpen => "a call is open",
+            Refusal::CallOpen => CALL_OPEN,
             Refusal::NoCallOpen => "no call is open",
             Refusal::NoStyle => "no such style of integers",
             Refusal::NoRecord => "there is no record",

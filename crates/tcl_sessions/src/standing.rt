@@ -304,6 +304,20 @@ impl Outside for Standing {
 
     ghost has_steps = { λ o. true };
 
+    fn next(
+        &mut self,
+        alloc: Global,
+        tree: &Tree,
+        caller: Place,
+        up: Option<usize>,
+        entry: &Entry,
+    ) -> Result<Turn, Interruption> {
+        match self.recall()? {
+            Some(answer) => answer_again(alloc, up, entry, answer),
+            None => self.turn(alloc, tree, caller, up, entry),
+        }
+    }
+
     fn grants_step(&self) -> bool {
         true
     }
@@ -319,19 +333,5 @@ impl Outside for Standing {
         _happening: Happening<'_>,
     ) -> Result<(), AllocError> {
         Ok(())
-    }
-
-    fn next(
-        &mut self,
-        alloc: Global,
-        tree: &Tree,
-        caller: Place,
-        up: Option<usize>,
-        entry: &Entry,
-    ) -> Result<Turn, Interruption> {
-        match self.recall()? {
-            Some(answer) => answer_again(alloc, up, entry, answer),
-            None => self.turn(alloc, tree, caller, up, entry),
-        }
     }
 }

@@ -16,6 +16,24 @@ out_of_range = codes "list index out of range"
 abbrev pub bad_status : List ℕ
 bad_status = codes "exit status must be between 0 and 255"
 
+abbrev pub breaks_tree : List ℕ
+breaks_tree = codes "out of memory, and the tree is broken"
+
+abbrev pub tree_broken : List ℕ
+tree_broken = codes "the tree is broken"
+
+abbrev pub no_interpreter : List ℕ
+no_interpreter = codes "no interpreter stands at the path"
+
+abbrev pub watched_deleted : List ℕ
+watched_deleted = codes "the watched interpreter was deleted"
+
+abbrev pub waits : List ℕ
+waits = codes "it waits for an answer"
+
+abbrev pub call_open : List ℕ
+call_open = codes "a call is open"
+
 abbrev pub denied : List ℕ
 denied = codes "permission denied"
 

@@ -49,6 +49,24 @@ pub const BAD_DEPTH_LIMIT: &str = "recursion limit must be between 1 and 1000";
 /// The steps of a run and those before it would pass 9223372036854775807 together (404).
 pub const COUNT_TOO_LARGE: &str = "the count of steps would pass its limit";
 
+/// Memory ran out in an evaluation (401).
+pub const BREAKS_TREE: &str = "out of memory, and the tree is broken";
+
+/// Memory ran out in an earlier evaluation (402).
+pub const TREE_BROKEN: &str = "the tree is broken";
+
+/// A path leads to no interpreter (403).
+pub const NO_INTERPRETER: &str = "no interpreter stands at the path";
+
+/// The watched interpreter was deleted (411).
+pub const WATCHED_DELETED: &str = "the watched interpreter was deleted";
+
+/// What a replay came to waits for an answer (412).
+pub const WAITS: &str = "it waits for an answer";
+
+/// A call is open, and the tree isn't at rest (424, 510).
+pub const CALL_OPEN: &str = "a call is open";
+
 /// What stands before the name of a channel that there isn't (261).
 pub const NO_CHANNEL: &str = "can not find channel named \"";
 

@@ -398,29 +398,6 @@ impl Frame {
     ghost use Rattle.std.specs.Borrow.{sem};
     ghost use Rattle.tcl_variables.specs.LendingParts.{LendsNamed};
 
-    /// What a part of what a name stands for holds, to write. Of memory it takes none but for a
-    /// refusal.
-    pub fn value_mut(
-        &mut self,
-        base: &str,
-        part: Part<'_>,
-        name: &Text,
-    ) -> Result<&mut Value, FrameError>
-        ensures* writes_back { sem 𝓛
-            (LendsNamed self.entry base.now (seen_part part.entry) name.now result) }
-        ensures ok { IfOk result
-            (λ v. value_of (seen_part part.entry) (lookup (bytes_eq base.now) self.old.variables)
-            name.now ≡ Ok v.now) }
-        ensures err { IfErr result
-            (λ e. Refuses e (value_of (seen_part part.entry)
-            (lookup (bytes_eq base.now) self.old.variables) name.now)) }
-    {
-        match self.variables.get_mut(base) {
-            Some(variable) => variable.value_mut(part, name),
-            None => Err(unread(part, name)),
-        }
-    }
-
     /// The place at which a name stands, where it is no link.
     pub fn unlinked_place(&self, base: &str) -> Option<usize>
         ensures { IfSome result (λ _. is_linked (lookup (bytes_eq base.now) self.now.variables)
