@@ -25,9 +25,7 @@ use tcl_run::interruption::Interruption;
 use tcl_run::outside::{Happening, Outside};
 use tcl_run_laws::budgets::scripts_keep_budgets;
 use tcl_text::limit::MOST_BYTES;
-use tcl_text::messages::{
-    BREAKS_TREE, COUNT_TOO_LARGE, NO_INTERPRETER, TOO_LONG, TREE_BROKEN,
-};
+use tcl_text::messages::{BREAKS_TREE, COUNT_TOO_LARGE, NO_INTERPRETER, TOO_LONG, TREE_BROKEN};
 use tcl_text::text::Text;
 use tcl_tree::node::MOST_STEPS;
 use tcl_tree::tree::{Place, Tree};
