@@ -7,3 +7,4 @@ pub mod Hosting
 pub mod Losing
 pub mod Proceeding
 pub mod Quiet
+pub mod Fitting
