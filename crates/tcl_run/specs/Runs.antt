@@ -1,5 +1,6 @@
 -- How a run goes through the table of interpreters.
-use Rattle.std.specs.Prelude.{◌≡◌, ℕ, ◌<◌, ◌≤◌, ◌-◌, ◌++◌, List, [], Option, Some, None, Result, Ok, Err}
+use Rattle.std.specs.Prelude.{◌≡◌, ℕ, ◌<◌, ◌≤◌, ◌-◌, ◌++◌, List, [], Option, Some, None, Result}
+use Rattle.std.specs.Prelude.{Ok, Err}
 use Rattle.std.specs.Option.{option_map}
 use Rattle.tcl_partial_runs.specs.Beginnings.{Begun}
 use Rattle.tcl_core.specs.Paths.{Place, Path}
@@ -104,8 +105,8 @@ pub record Keeps {S : Type 0} (entries : S → ℕ) (old new : table.Tree) (o z 
   pub steady : IsSteady old new
   pub left : entries z ≤ entries o
 
--- The same where no script is evaluated: whatever was made of it, the outside is what may have become
--- of its state before.
+-- The same of what evaluates no script. What may have become of the outside, where an evaluation is
+-- given up behind it, is told too.
 pub record KeepsAndLoses {S : Type 0} (entries : S → ℕ) (loses : S → S → Type 0)
     (old new : table.Tree) (o z : S) : Type 0 where
   pub steady : IsSteady old new
