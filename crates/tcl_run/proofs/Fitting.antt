@@ -1,10 +1,9 @@
 -- The replies that a host may give to a request are those that answer it in the words of the core.
-use Rattle.std.proofs.Common.{◌≡◌, Bool, true, refl, sym, ◌∙◌}
+use Rattle.std.proofs.Common.{◌≡◌, true, None, refl, sym, ◌∙◌}
 use Rattle.tcl_core.specs.Entries.{answers}
 use Rattle.tcl_core.specs.Entries.Answer.{Heard}
 use Rattle.tcl_core.specs.Entries.Entry.{AskHost}
 use Rattle.tcl_core.specs.Runs.{is_own}
-use Rattle.std.specs.Prelude.{None}
 use Rattle.tcl_host.specs.Replies.{is_reply_to}
 use Rattle.tcl_host.specs.declared.reply.HostRefusal.TheVariants as refusal
 use Rattle.tcl_host.specs.declared.reply.HostReply.{HostReply}
