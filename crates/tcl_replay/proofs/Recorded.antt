@@ -28,12 +28,12 @@ use Rattle.tcl_tree.specs.Own.{Own}
 use Rattle.tcl_tree.specs.TreeOf.{marks_of, tree_of}
 use Rattle.tcl_tree.specs.declared.tree.Tree.{Tree as Table}
 use Rattle.tcl_recorder.specs.Records.{RecordView}
-use Rattle.tcl_replay.specs.Watched.{AsksTheHostNothing, Counts, CountStaysWithin, IsRecord, IsRecorded, LeavesTheOutside, LimitsStay, Reacts, ReactsSo, ReactsUntil}
+use Rattle.tcl_replay.specs.Watched.{AsksTheHostNothing, Counts, CountStaysWithin, IsRecord, IsRecorded, LeavesTheOutside, LimitsStay, Reacts, ReactsSo, ReactsUntil, watching}
 use Rattle.tcl_replay.proofs.Below.{below_at, below_same, rest_back}
 
 module _ {S : Type 0} (step : S → Request → HostReply → S → Type 0) (old : Table) (o : S) (path : Path) (script : Text) (limit : ℕ) (c : Path) (r : RecordView) (new : Table) (z : S) (e : End) where
   abbrev pub One : Type 0
-  One = IsRecord step old o path script limit c r new z e
+  One = IsRecord step (watching old o path script limit c) r new z e
 
   abbrev style : Integers
   style = (marks_of old).integers
@@ -42,7 +42,7 @@ module _ {S : Type 0} (step : S → Request → HostReply → S → Type 0) (old
   abbrev T0 : Tree Own
   T0 = limited limit (tree_of old)
 
-  abbrev pub run_of : One → IsRecorded step old o path script limit c r.crossings new z e
+  abbrev pub run_of : One → IsRecorded step (watching old o path script limit c) r.crossings new z e
   run_of w = w.1.0
 
   pub visited : (w : One) → WatchedVisit (hosted step) (language style) T0 o path (Eval script) c r.crossings (run_of w).during z (run_of w).reply
@@ -111,7 +111,7 @@ module _ {S : Type 0} (step : S → Request → HostReply → S → Type 0) (old
       safe.counts (hosted step) (language style) T0 (run_of w).during o z path (Eval script) c r.crossings (run_of w).reply (visited w) (run_of w).node f (stood w f) in
       ap count_at (same_last w f) ∙ h ∙ ap (λ (x : Option (Node Own)). count_at x + steps_of (view c (visit path (Eval script) (run_of w).events (run_of w).reply))) (sym (run_of w).stood)
 
-  pub counts : One → Counts step old o path script limit c r new z e
+  pub counts : One → Counts step (watching old o path script limit c) r new z e
   counts w f = (run_of w, w.1.1, count_rises w f)
 
   own_limit : (w : One) (l : ℕ) → limit_at (tree_of old c) ≡ Some l → (run_of w).node.limit ≡ Some l
@@ -133,7 +133,7 @@ module _ {S : Type 0} (step : S → Request → HostReply → S → Type 0) (old
   last_below : (w : One) → IsBelowTheTop c → (q : Path) → tree_of new (c ++ q) ≡ (run_of w).during (c ++ q)
   last_below w f q = ap (λ (U : Tree Own). U q) (at_last w f)
 
-  pub limits_stay : laws.LimitsStay (hosted step) → One → LimitsStay step old o path script limit c r new z e
+  pub limits_stay : laws.LimitsStay (hosted step) → One → LimitsStay step (watching old o path script limit c) r new z e
   unfolding visited
   limits_stay law w f a = (
     λ u n is.
