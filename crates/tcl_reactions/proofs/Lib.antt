@@ -10,4 +10,5 @@ pub mod Reacted
 pub mod Free
 pub mod Depths
 pub mod OneOutcome
+pub mod Paused
 pub mod Worked
