@@ -11,4 +11,5 @@ pub mod Free
 pub mod Depths
 pub mod OneOutcome
 pub mod Paused
+pub mod Before
 pub mod Worked

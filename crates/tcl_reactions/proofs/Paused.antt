@@ -53,7 +53,7 @@ off_cut : (r : Reply) (n : Next) (c : Cause) → n ≡ Off r → n ≡ Off (Cut 
 off_cut r n c e f = let g : Off r ≡ Off (Cut c) = sym e ∙ f in cc
 
 -- an entry from outside that isn't ended from there isn't cut off
-done_not_cut : {A : Type 0} (O : Type 0) (t : Place) (r : Reply) (x : Cause) → Unended {O = O} t (Done None r) → Some r ≡ Some (Cut x) → A
+pub done_not_cut : {A : Type 0} (O : Type 0) (t : Place) (r : Reply) (x : Cause) → Unended {O = O} t (Done None r) → Some r ≡ Some (Cut x) → A
 done_not_cut O t r x f e = absurd (subst (λ y. Unended {O = O} t (Done None y)) (Some-inj r e) f refl)
 
 -- The happenings: `next` reads a move, and `late` comes after it.
@@ -69,7 +69,7 @@ module _ {O : Type 0} (k : ℕ) (next : Event O) (late : List (Event O)) where
     gone : (c : Cause) (a1 : List (Event O)) → v.tape ≡ a1 ++ next ∷ late → IsUnended a1 → e ≡ Some (Cut c) → G → Part G w v D e a
     stops : D (lent (after a w.tree) []) None → Part G w v D e a
 
-  no_more : {A : Type 0} (w : World O) (a : List (Event O)) → w.tape ≡ [] → w.tape ≡ a ++ next ∷ late → A
+  pub no_more : {A : Type 0} (w : World O) (a : List (Event O)) → w.tape ≡ [] → w.tape ≡ a ++ next ∷ late → A
   no_more w [] e t = not_cons next late (sym e ∙ t)
   no_more w (y ∷ a) e t = not_cons y (a ++ next ∷ late) (sym e ∙ t)
 
@@ -127,13 +127,13 @@ module _ {O : Type 0} (k : ℕ) (next : Event O) (late : List (Event O)) where
         not_cons (g []).0 [] (sym (f []) ∙ (g []).1)
 
     -- such a happening comes before it
-    peeled : (w : World O) (p : Place) (x : What O) (u : World O) (a : List (Event O)) → Step w p x u → Silent p x → w.tape ≡ a ++ next ∷ late → IsUnended a → (a1 : List (Event O)) × (u.tape ≡ a1 ++ next ∷ late) × Unended p x × IsUnended a1
+    pub peeled : (w : World O) (p : Place) (x : What O) (u : World O) (a : List (Event O)) → Step w p x u → Silent p x → w.tape ≡ a ++ next ∷ late → IsUnended a → (a1 : List (Event O)) × (u.tape ≡ a1 ++ next ∷ late) × Unended p x × IsUnended a1 × (a ≡ event p x ∷ a1)
     peeled w p x u [] s f t n = not_next p x u.tape f (sym t ∙ s.tape)
     peeled w p x u (ev ∷ a) s f t n =
         let h : ev ∷ (a ++ next ∷ late) ≡ event p x ∷ u.tape = sym t ∙ s.tape in
         let one : ev ≡ event p x = cc in
         let r : u.tape ≡ a ++ next ∷ late = cc in
-        (a, r, subst (λ y. Unended y.place y.what) one n.0, n.1)
+        (a, r, subst (λ y. Unended y.place y.what) one n.0, n.1, ap (λ y. y ∷ a) one)
 
     -- one that reads no move, and then the rest
     silent : (G : Type 0) (w u v : World O) (p : Place) (x : What O) (D E : List (Event O) → World O → Ending → Type 0) (e : Ending) (a : List (Event O)) → Step w p x u → Silent p x → w.tape ≡ a ++ next ∷ late → IsUnended a →
