@@ -10,7 +10,7 @@ use Rattle.tcl_core.specs.Entries.Answer.{Replied, Heard}
 use Rattle.tcl_core.specs.Trees.{seen_reply, seen_answer, stopped}
 use Rattle.tcl_core.specs.Programs.{Wait}
 use Rattle.tcl_core.specs.Runs.{Ending, carried, lessened, is_own, answers_call, is_exit}
-use Rattle.tcl_core.proofs.PathLaws.{not_both, Some-inj, falls_within}
+use Rattle.tcl_core.proofs.PathLaws.{not_both, Some-inj, falls_within, rise_far}
 
 -- how far it is to where a rise ends
 rejoined-measure : (x : List ℕ) (xs : List (List ℕ)) (o : Option (List (List ℕ))) (n : ℕ) (t : Bool) (b : List (List ℕ)) → nat_eq n (suc (length xs)) ≡ t → ((a : List (List ℕ)) → o ≡ Some a → length xs ≡ length a + n) → rejoined x o t ≡ Some b → suc (length xs) ≡ length b + n
@@ -74,15 +74,33 @@ seen_quit q (Stop n m) f = stopped_quit (nat_lt (length q) n) n m
 seen_quit q (Exit n) f = tt
 seen_quit q (Cut c) f = tt
 
+own_stopped : (h : ℕ) (i : Entry) (n : ℕ) (m : Meter) (x : Bool) → nat_lt n h ≡ true → is_own (Some h) i (Replied (stopped x n m)) ≡ true
+own_stopped h i n m true e = refl
+own_stopped h i n m false e = e
+
 -- what fits a call in the whole fits it in the subtree
 pub own_seen : (q : Place) (h : Height) (i : Entry) (a : Answer) → is_own h i a ≡ true → is_own h i (seen_answer q a) ≡ true
-own_seen q (Some n) i (Replied r) e = refl
+own_seen q (Some h) i (Replied (Completed c)) e = refl
+own_seen q (Some h) i (Replied (Stop n m)) e = own_stopped h i n m (nat_lt (length q) n) e
+own_seen q (Some h) i (Replied (Exit n)) e = refl
+own_seen q (Some h) i (Replied (Cut c)) e = refl
 own_seen q (Some n) i (Heard a) e = e
 own_seen q None i (Replied (Completed c)) e = e
 own_seen q None i (Replied (Stop n m)) e = let x : false ≡ true = e in cc
 own_seen q None i (Replied (Exit n)) e = refl
 own_seen q None i (Replied (Cut c)) e = refl
 own_seen q None i (Heard a) e = e
+
+told_stop : (h : ℕ) (q : Place) (i : Entry) (n : ℕ) (m : Meter) (x : Bool) → nat_lt (length q) n ≡ x → length q < h → is_own (Some h) i (Replied (stopped x n m)) ≡ true
+told_stop h q i n m true e l = refl
+told_stop h q i n m false e l = grind (arith, nat_tests)
+
+-- whatever a call that leaves the subtree is answered by elsewhere fits it there
+pub told_own : (h : ℕ) (q : Place) (i : Entry) (r : Reply) → rise h q ≡ None → is_own (Some h) i (Replied (seen_reply q r)) ≡ true
+told_own h q i (Completed c) e = refl
+told_own h q i (Stop n m) e = told_stop h q i n m (nat_lt (length q) n) refl (rise_far q h e)
+told_own h q i (Exit n) e = refl
+told_own h q i (Cut c) e = refl
 
 pub answers_seen : (q : Place) (s : Wait) (a : Answer) → answers_call s a ≡ true → answers_call s (seen_answer q a) ≡ true
 answers_seen q None a e = let x : false ≡ true = e in cc

@@ -20,7 +20,7 @@ use Rattle.tcl_core.specs.Runs.{World, Step, Ending, Run, Halts, Follows, Then, 
 use Rattle.tcl_core.specs.Views.{grants_of, moves_of, view, inside_of}
 use Rattle.tcl_core.proofs.PathLaws.{child_in, not_both, Some-inj, strip-sound, rise_to_within, rise_to_out, rise_to_elsewhere, rise_to_past, rise_into, seen_out, seen_near}
 use Rattle.tcl_core.proofs.TreeLaws.{seen_next, listed, decide_none, opens_none, decide_within, opens_within, closes_seen, step_within, step_apart, step_fall, spot_within, IsBeside, IsLife, elsewhere_life, opens_here}
-use Rattle.tcl_core.proofs.Seeing.{carried_within, seen_end, seen_quit, answers_seen, is_exit_self}
+use Rattle.tcl_core.proofs.Seeing.{carried_within, seen_end, seen_quit, answers_seen, is_exit_self, told_own}
 use Rattle.tcl_core.proofs.Folding.{roll}
 
 pub top_only : (c q : Place) → strip c [] ≡ Some q → q ≡ []
@@ -289,7 +289,7 @@ module _ {O I : Type 0} where
     returns_answer : (w : World O) (q : Place) (n : ℕ) (down : Path) (i : Entry) (k : Said → Prog O I) (o : Ending) (v : World O) (e : Ending) → rise_to (Some n) q ≡ None → Returns R w (c ++ q) (Some n) down k o v e → Stands prog (inside_of c w) q (Some (Some n, i)) k o (inside_of c v) (seen_end q e)
     returns_answer w q n down i k None v e f a = (ap (inside_of c) a.0, ap (seen_end q) a.1)
     returns_answer w q n down i k (Some r) v e f a =
-        returned_stands w q (Some n) i k r (carried (Some n) (c ++ q) down r) v e f refl (carried_exit (Some n) (c ++ q) down r) a
+        returned_stands w q (Some n) i k r (carried (Some n) (c ++ q) down r) v e f (told_own n q i (carried (Some n) (c ++ q) down r) f) (carried_exit (Some n) (c ++ q) down r) a
 
     halted_wait : (w v : World O) (e : Ending) (q : Place) (s : Wait) (k : Said → Prog O I) (z : World O) (o : Ending) → Halts w v e → rise_to (height_of s) q ≡ None → Stands prog (inside_of c v) q s k e z o → Runs prog (inside_of c w) q (wait s k) z o
     halted_wait w v e q s k z o a f b = wait_halt prog (inside_of c w) q s k z o f (no_moves c w v e a) (stands_halt prog c w v e q s k z o a b)

@@ -1,5 +1,5 @@
 -- What interpreters can be asked for by others, and what the host can be asked for.
-use Rattle.std.specs.Prelude.{ℕ, Bool, true, false, List, Option}
+use Rattle.std.specs.Prelude.{ℕ, Bool, true, false, ◌||◌, List, Option, nat_eq}
 use Rattle.tcl_core.specs.Paths.{Text, Path}
 use Rattle.tcl_core.specs.Endings.{Completion, Reply}
 
@@ -24,26 +24,33 @@ pub data Request : Type 0 where
   Close : (channel : Text) → Request
   AtEnd : (channel : Text) → Request
 
--- The host's answer: what was asked for, or the number of a refusal.
+-- The host's answer: what was asked for (a line, or all that was left), or the number of a refusal.
 pub data HostReply : Type 0 where
   Opened : (channel : Text) → HostReply
-  Bytes : (bytes : List ℕ) → HostReply
+  Line : (bytes : List ℕ) → HostReply
   TheEnd : HostReply
+  TheRest : (bytes : List ℕ) → HostReply
   Accepted : HostReply
   Is : (answer : Bool) → HostReply
   Fails : (number : ℕ) → HostReply
 
+-- What refuses a request: that the device failed; of an opening, that the file couldn't be opened;
+-- of all else, that no channel of that name is open for it.
+abbrev pub refuses : Request → ℕ → Bool
+refuses (Open n m) number = nat_eq number 262 || nat_eq number 267
+refuses q number = nat_eq number 261 || nat_eq number 262
+
 -- the request's own answers
 abbrev pub answers : Request → HostReply → Bool
 answers (Open n m) (Opened c) = true
-answers (ReadLine c) (Bytes b) = true
+answers (ReadLine c) (Line b) = true
 answers (ReadLine c) TheEnd = true
-answers (ReadAll c) (Bytes b) = true
+answers (ReadAll c) (TheRest b) = true
 answers (Write c t) Accepted = true
 answers (Flush c) Accepted = true
 answers (Close c) Accepted = true
 answers (AtEnd c) (Is b) = true
-answers q (Fails n) = true
+answers q (Fails n) = refuses q n
 answers q a = false
 
 -- What an interpreter can be asked for by another one, or from outside. An alias of the asked one

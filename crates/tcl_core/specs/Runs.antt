@@ -77,8 +77,10 @@ entering prog None i = done prog.lost
 entering prog (Some n) i = prog.entry i
 
 -- An alias is answered by how its evaluation ended; a request by one of its own answers, or by an
--- end from outside.
+-- end from outside. A stop that answers an alias names an interpreter below the one to which the
+-- call goes up: what a stop further up ends is ended from outside.
 abbrev pub is_own : Height → Entry → Answer → Bool
+is_own (Some h) i (Replied (Stop n m)) = nat_lt n h
 is_own (Some h) i (Replied r) = true
 is_own (Some h) i (Heard a) = false
 is_own None i (Replied (Completed c)) = false

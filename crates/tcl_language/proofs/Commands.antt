@@ -7,7 +7,7 @@ use Rattle.tcl_core.specs.Endings.{Completion, ok}
 use Rattle.tcl_core.specs.Entries as core
 use Rattle.tcl_core.specs.Entries.{Entry, HostReply, Question, Request, Said}
 use Rattle.tcl_core.specs.Entries.Entry.{Eval, CallWords, InvokeHidden, SetAlias, ClearAlias, Hide, Expose, SetCountLimit, SetDepthLimit, Create, Delete, Ask, AskHost}
-use Rattle.tcl_core.specs.Entries.HostReply.{Opened, Bytes, TheEnd, Is, Fails}
+use Rattle.tcl_core.specs.Entries.HostReply.{Opened, Line, TheEnd, TheRest, Is, Fails}
 use Rattle.tcl_core.specs.Entries.Question.{Exists, IsSafe, Aliases, AliasOf, Hidden as HiddenNames, Slaves, CountLimitOf, DepthLimitOf}
 use Rattle.tcl_core.specs.Entries.Request.{Write}
 use Rattle.tcl_core.specs.Entries.Said.{Finished, Told}
@@ -643,12 +643,13 @@ module _ (P : Demands) (F : Facts P) where
   by_read x bytes k f = by_grown bytes _ (λ t. by_either (is_utf8 t) (k t) (fails (hosting.not_utf8 x)) (f t) tt)
 
   text_read : (channel : Text) (r : HostReply) → Holds (hosting.text_read channel r)
-  text_read channel (Bytes bytes) = by_read channel bytes hosting.gives_text (λ t. tt)
+  text_read channel (Line bytes) = by_read channel bytes hosting.gives_text (λ t. tt)
+  text_read channel (TheRest bytes) = by_read channel bytes hosting.gives_text (λ t. tt)
   text_read channel (Fails number) = tt
   text_read channel r = tt
 
   line_read : (channel name : Text) (r : HostReply) → Holds (hosting.line_read channel name r)
-  line_read channel name (Bytes bytes) = by_read channel bytes (hosting.keeps_line name) (λ t. by_sets name t _ tt)
+  line_read channel name (Line bytes) = by_read channel bytes (hosting.keeps_line name) (λ t. by_sets name t _ tt)
   line_read channel name TheEnd = by_sets name [] _ tt
   line_read channel name (Fails number) = tt
   line_read channel name r = tt
@@ -700,7 +701,7 @@ module _ (P : Demands) (F : Facts P) where
   after_close file k f r = f
 
   closed : (file : Text) (read r : HostReply) → Holds (sourcing.closed file read r)
-  closed file (Bytes bytes) r = after_close file _ (by_read file bytes sourcing.evaluates_file (λ text. (tt, λ c. tt))) r
+  closed file (TheRest bytes) r = after_close file _ (by_read file bytes sourcing.evaluates_file (λ text. (tt, λ c. tt))) r
   closed file (Fails number) r = tt
   closed file read r = after_close file (done (ok [])) tt r
 

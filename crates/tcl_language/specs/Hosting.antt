@@ -8,7 +8,7 @@ use Rattle.tcl_core.specs.Endings.{ok}
 use Rattle.tcl_core.specs.Entries.{Request, HostReply, Said}
 use Rattle.tcl_core.specs.Entries.Entry.{AskHost}
 use Rattle.tcl_core.specs.Entries.Request.{Open, ReadLine, ReadAll, Write, Flush, Close, AtEnd}
-use Rattle.tcl_core.specs.Entries.HostReply.{Opened, Bytes, TheEnd, Is, Fails}
+use Rattle.tcl_core.specs.Entries.HostReply.{Opened, Line, TheEnd, TheRest, Is, Fails}
 use Rattle.tcl_core.specs.Entries.Said.{Finished, Told}
 use Rattle.tcl_core.specs.Programs.Prog.{done, exit, call}
 use Rattle.tcl_text.specs.declared.integer.Integers.{Integers}
@@ -80,9 +80,10 @@ read_from x bytes k = grown bytes (λ text. either (is_utf8 text) (k text) (fail
 abbrev pub gives_text : Text → Program
 gives_text text = done (ok text)
 
--- the text that was read, which is empty at the end
+-- the text that was read, a line or all that was left, which is empty at the end
 abbrev pub text_read : Text → HostReply → Program
-text_read channel (Bytes bytes) = read_from channel bytes gives_text
+text_read channel (Line bytes) = read_from channel bytes gives_text
+text_read channel (TheRest bytes) = read_from channel bytes gives_text
 text_read channel (Fails number) = fails (refusal_message number channel)
 text_read channel _ = done (ok [])
 
@@ -92,7 +93,7 @@ keeps_line name line = sets name line (done (ok (signed_decimal (pos (length (ch
 
 -- a line that was read for a variable. At the end this is empty, and the number is -1.
 abbrev pub line_read : Text → Text → HostReply → Program
-line_read channel name (Bytes bytes) = read_from channel bytes (keeps_line name)
+line_read channel name (Line bytes) = read_from channel bytes (keeps_line name)
 line_read channel name TheEnd = sets name [] (done (ok (codes "-1")))
 line_read channel name (Fails number) = fails (refusal_message number channel)
 line_read channel name _ = done (ok [])

@@ -4,7 +4,7 @@ use Rattle.tcl_core.specs.Paths.{Text}
 use Rattle.tcl_core.specs.Endings.{Completion, ok, unreturned}
 use Rattle.tcl_core.specs.Entries.{HostReply}
 use Rattle.tcl_core.specs.Entries.Request.{Open, ReadAll, Close}
-use Rattle.tcl_core.specs.Entries.HostReply.{Opened, Bytes, Fails}
+use Rattle.tcl_core.specs.Entries.HostReply.{Opened, TheRest, Fails}
 use Rattle.tcl_core.specs.Programs.Prog.{done, go}
 use Rattle.tcl_language.specs.Instructions.{Program, fails}
 use Rattle.tcl_language.specs.Instructions.Instr.{Script}
@@ -26,7 +26,7 @@ after_close file k _ = k
 -- What was read is looked at once the channel is closed, where that succeeds. A refused read is the
 -- error, however the close went.
 abbrev pub closed : Text → HostReply → HostReply → Program
-closed file (Bytes bytes) = after_close file (read_from file bytes evaluates_file)
+closed file (TheRest bytes) = after_close file (read_from file bytes evaluates_file)
 closed file (Fails number) = λ reply. fails (refusal_message number file)
 closed file _ = after_close file (done (ok []))
 

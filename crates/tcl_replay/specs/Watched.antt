@@ -96,7 +96,8 @@ pub record IsRecorded {S : Type 0} (step : S → Request → HostReply → S →
   pub visits : Visits (language (marks_of old).integers) (Runs (language (marks_of old).integers))
       (before (limited limit (tree_of old)) (visit path (Eval script) events reply)) None path
       (Eval script) (before during []) (Some reply)
-  pub outside : Chain (Crossings (hosted step)) [] (limited limit (tree_of old)) o events [] during z
+  pub outside : Chain (Crossings (hosted step)) [] (limited limit (tree_of old)) o events [] during
+      z
   pub recorded : crossings ≡ boundary watched (visit path (Eval script) events reply)
   pub node : Node Own
   pub stood : tree_of old watched ≡ Some node

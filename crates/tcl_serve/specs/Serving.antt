@@ -1,5 +1,5 @@
 -- A session: which lines are read and written, and what becomes of what it keeps.
-use Rattle.std.specs.Prelude.{◌≡◌, ◌⊎◌, ℕ, List, Option, Some, None, Result}
+use Rattle.std.specs.Prelude.{◌≡◌, ◌⊎◌, ◌+◌, ℕ, List, Option, Some, None, Result}
 use Rattle.tcl_client.specs.Clients.{IsQuiet}
 use Rattle.tcl_client.specs.Views.{ClientView}
 use Rattle.tcl_protocol.specs.Lines.{Traffic}
@@ -34,24 +34,24 @@ pub record Undone (c : ClientView) (o : Session) (d : ClientView) (z : Session) 
 abbrev pub Turns : ClientView → Session → ClientView → Session → Type 0
 Turns c o d z = Done c o d z ⊎ Undone c o d z
 
--- one line after the other
-pub data Lines (c : ClientView) (o : Session) : ClientView → Session → Type 0 where
-  none : Lines c o c o
-  one : (d e : ClientView) (y z : Session) → Lines c o d y → Turns d y e z → Lines c o e z
+-- so many lines, one after the other
+pub data Lines (c : ClientView) (o : Session) : ℕ → ClientView → Session → Type 0 where
+  none : Lines c o 0 c o
+  one : {n : ℕ} (d e : ClientView) (y z : Session) → Lines c o n d y → Turns d y e z →
+      Lines c o (n + 1) e z
 
 -- A session with what a reader has left and what a writer holds begins with nothing kept, and goes
--- line by line up to this ending.
-pub record Whole (unread written : Option (List ℕ)) (e : Ending) : Type 0 where
+-- line by line up to this ending. It is given up, as where memory is wanted, behind more lines than
+-- anybody sends.
+pub record IsServed (unread written : Option (List ℕ)) (e : Ending) : Type 0 where
   pub client : ClientView
   pub begun : client.lines ≡ record { unread = unread; written = written; ending = None }
   pub quiet : IsQuiet client.talk
   pub session : Session
   pub empty : IsEmpty session
+  pub many : ℕ
   pub last : ClientView
   pub left : Session
-  pub lines : Lines client session last left
-  pub over : last.lines.ending ≡ Some e
-
--- or memory is wanted
-abbrev pub IsServed : Option (List ℕ) → Option (List ℕ) → Ending → Type 0
-IsServed unread written e = Whole unread written e ⊎ (e ≡ ending.Memory)
+  pub lines : Lines client session many last left
+  pub over : (last.lines.ending ≡ Some e) ⊎
+      ((e ≡ ending.Memory) × (many ≡ 18446744073709551615))

@@ -17,7 +17,7 @@ pub fn serve<R: BufRead + Drop, W: Write + Drop>(alloc: Global, reader: R, write
 {
     let mut client = Client::new(alloc, reader, writer);
     let mut session = Session::new(alloc);
-    'lines: for _ in 0..u64::MAX {
+    'lines: for line in 0..u64::MAX {
         if let Some(ending) = client.ending() {
             return ending;
         }
