@@ -1,10 +1,10 @@
 -- What a subtree does by itself, up to where control comes in.
-use Rattle.std.proofs.Common.{sym, ◌≡◌, ℕ, zero, suc, ◌≤◌, ◌<◌, ◌+◌, ◌-◌, Bool, true, false, nat_lt, List, [], ◌∷◌, ◌++◌, Option, Some, None, refl, ◌∙◌, ap, subst, arith}
+use Rattle.std.proofs.Common.{sym, ◌≡◌, ℕ, zero, suc, ◌≤◌, ◌<◌, ◌+◌, true, false, nat_lt, List, [], ◌∷◌, ◌++◌, Option, Some, None, refl, ◌∙◌, ap, subst, arith}
 use Rattle.std.proofs.lemmas.Bool.Decides.{nat_tests}
-use Rattle.tcl_core.specs.Paths.{Path, Place, rise_to}
+use Rattle.tcl_core.specs.Paths.{Place, rise_to}
 use Rattle.tcl_core.specs.Endings.{Reply}
 use Rattle.tcl_core.specs.Endings.Reply.{Completed, Stop, Exit, Cut}
-use Rattle.tcl_core.specs.Entries.{Entry, Answer}
+use Rattle.tcl_core.specs.Entries.{Entry}
 use Rattle.tcl_core.specs.Execution.{event}
 use Rattle.tcl_core.specs.Laws.{IsUnended, ReadsMove, after}
 use Rattle.tcl_core.specs.Lives
@@ -14,22 +14,18 @@ use Rattle.tcl_core.specs.Lives.Reacts.{over, waiting}
 use Rattle.tcl_core.specs.Programs.{Table}
 use Rattle.tcl_core.specs.Programs.Prog.{wait}
 use Rattle.tcl_core.specs.Rules.{Derives}
-use Rattle.tcl_core.specs.Runs.{Ending, Step, Halts, Runs, RunsIn, Stays, Visits, Waits, World, entering}
-use Rattle.tcl_core.specs.Trees.{Event, Move, Tree, What, at}
+use Rattle.tcl_core.specs.Runs.{Step, RunsIn, Stays, Waits, World, entering}
+use Rattle.tcl_core.specs.Trees.{Event, Move, Tree, What}
 use Rattle.tcl_core.specs.Trees.Move.{Born, Fall, Enter, Come}
-use Rattle.tcl_core.specs.Trees.What.{Made, Dropped, In, Done, Back}
-use Rattle.tcl_core.specs.Views.{inside_of, moves_of, steps_of, view}
+use Rattle.tcl_core.specs.Trees.What.{Made, Dropped, In, Done}
 use Rattle.tcl_core.proofs.Balance
 use Rattle.tcl_core.proofs.Balance.{Owes, done_at, dones, in_at, ins, owes}
-use Rattle.tcl_core.proofs.Conclusions.{lives_within}
 use Rattle.tcl_core.proofs.Halts.{halted_tape}
-use Rattle.tcl_core.proofs.LifeMoves.{not_cons}
 use Rattle.tcl_core.proofs.MoreMoves.{none_not}
-use Rattle.tcl_core.proofs.Reacting.{exits_idle, life_of}
+use Rattle.tcl_core.proofs.Reacting.{exits_idle}
 use Rattle.tcl_core.proofs.RuleLaws.{derived_runs, runs_derived}
-use Rattle.tcl_core.proofs.Unended.{uncut}
-use Rattle.tcl_reactions.specs.Laws.{IsAnswer, ReactsBefore, outcome_so_far, waits_if}
-use Rattle.tcl_reactions.proofs.Paused.{Part, Paused, done_not_cut, lent, no_more, paused, peeled}
+use Rattle.tcl_reactions.specs.Laws.{IsAnswer, outcome_so_far, waits_if}
+use Rattle.tcl_reactions.proofs.Paused.{Paused, done_not_cut, lent, no_more, paused, peeled}
 use Rattle.tcl_reactions.proofs.Paused.Part.{whole, gone, stops}
 
 -- ## Entries that begin and end
@@ -49,7 +45,7 @@ lt_false : (a b : ℕ) → b ≤ a → nat_lt a b ≡ false
 lt_false a b h = grind (arith, nat_tests)
 
 module _ {O : Type 0} where
-  begun_ins : (τ : List (Event O)) → begun τ ≡ ins [] τ
+  pub begun_ins : (τ : List (Event O)) → begun τ ≡ ins [] τ
   begun_ins [] = refl
   begun_ins (ev ∷ τ) = step ev.place ev.what (begun τ) (ins [] τ) (begun_ins τ)
     where
@@ -61,7 +57,7 @@ module _ {O : Type 0} where
       step p (In h i) n m e = more (rise_to h p) n m e
       step p x n m e = e
 
-  ended_dones : (τ : List (Event O)) → ended τ ≡ dones [] τ
+  pub ended_dones : (τ : List (Event O)) → ended τ ≡ dones [] τ
   ended_dones [] = refl
   ended_dones (ev ∷ τ) = step ev.place ev.what (ended τ) (dones [] τ) (ended_dones τ)
     where
@@ -81,7 +77,7 @@ module _ {O I : Type 0} (prog : Table O I) (k : ℕ) (next : Event O) (late : Li
   Meets w a = w.tape ≡ a ++ next ∷ late
 
   -- a life stops there
-  life_paused : (w v : World O) (a : List (Event O)) → Lives prog w v None → v.tape ≡ [] → Meets w a → IsUnended a → Derives prog (given w.tree a) [] (wait idle never) (given (after a w.tree) []) None
+  pub life_paused : (w v : World O) (a : List (Event O)) → Lives prog w v None → v.tape ≡ [] → Meets w a → IsUnended a → Derives prog (given w.tree a) [] (wait idle never) (given (after a w.tree) []) None
   life_paused w v a l f t n = by (paused prog k next late reads (runs_derived prog w [] (wait idle never) v None l) a t n)
     where
       by : Paused prog k next late reads w [] (wait idle never) v None a → Derives prog (given w.tree a) [] (wait idle never) (given (after a w.tree) []) None
@@ -90,7 +86,7 @@ module _ {O I : Type 0} (prog : Table O I) (k : ℕ) (next : Event O) (late : Li
       by (stops d) = d
 
   -- so many entries are in progress then
-  in_progress : (S V : Tree O) (a : List (Event O)) (p : Place) (x : Rattle.tcl_core.specs.Programs.Prog O I) → Derives prog (given S a) p x (given V []) None → (j : ℕ) × (begun a ≡ ended a + j)
+  pub in_progress : (S V : Tree O) (a : List (Event O)) (p : Place) (x : Rattle.tcl_core.specs.Programs.Prog O I) → Derives prog (given S a) p x (given V []) None → (j : ℕ) × (begun a ≡ ended a + j)
   in_progress S V a p x d =
       let o : Owes [] (given S a) (given V []) None = owes [] prog d in
       let s : ins [] a + 0 ≡ dones [] a + 0 + o.open_ins = o.sum in
@@ -99,7 +95,7 @@ module _ {O I : Type 0} (prog : Table O I) (k : ℕ) (next : Event O) (late : Li
       (o.open_ins, (let z : begun a ≡ ended a + o.open_ins = omega arith in z))
 
   -- what a subtree does by itself, with j entries in progress at the end
-  so_far : (S : Tree O) (a : List (Event O)) (j : ℕ) → Derives prog (given S a) [] (wait idle never) (given (after a S) []) None → IsUncut a → begun a ≡ ended a + j → Reacts prog (given S a) (given (after a S) []) (outcome_so_far a)
+  pub so_far : (S : Tree O) (a : List (Event O)) (j : ℕ) → Derives prog (given S a) [] (wait idle never) (given (after a S) []) None → IsUncut a → begun a ≡ ended a + j → Reacts prog (given S a) (given (after a S) []) (outcome_so_far a)
   so_far S a zero d u e =
       let f : outcome_so_far a ≡ outcome_of a Finished = ap (λ b. waits_if b (outcome_of a Finished)) (lt_false (ended a) (begun a) (omega (arith, e))) in
       over (given S a) (given (after a S) []) (outcome_so_far a) (derived_runs prog d) u e f (all_read O (outcome_so_far a))
@@ -185,31 +181,11 @@ module _ {O I : Type 0} (prog : Table O I) (k : ℕ) (next : Event O) (late : Li
     opens zero z y a t m f g = absurd g
     opens (suc n) z y a t m f (g, h) = open_next n (opens n) z y a t m f z.moves h
 
-    is_open : (z y : World O) (a : List (Event O)) → Lives prog z y None → y.tape ≡ [] → Meets z a → IsUnended a → outcome_so_far a ≡ Waiting
+    pub entries_open : (z y : World O) (a : List (Event O)) → Lives prog z y None → y.tape ≡ [] → Meets z a → IsUnended a → (j : ℕ) × (begun a ≡ ended a + suc j)
     unfolding Opens Open
-    is_open z y a l f t m =
-        let j = opens l.0 z y a t m f l.1 in
-        ap (λ b. waits_if b (outcome_of a Finished)) (lt_true (ended a) (begun a) (let e : begun a ≡ ended a + suc j.0 = j.1 in omega arith))
+    entries_open z y a l f t m = opens l.0 z y a t m f l.1
 
-module _ {O I : Type 0} where
-  pub reacts_before : ReactsBefore O I
-  reacts_before = record {
-    reacts =
-        λ prog c w v t i r m early late next a e f q rd une le.
-            let k : ℕ = m - steps_of early in
-            let g : m ≡ steps_of early + k = omega (arith, le) in
-            let l : Lives prog (inside_of c w) (inside_of c v) None = lives_within prog c w v (life_of prog w v t i r a e f) in
-            let d : Derives prog (lent k next late (at w.tree c) early) [] (wait idle never) (lent k next late (after early (at w.tree c)) []) None = life_paused prog k next late rd (inside_of c w) (inside_of c v) early l (ap (view c) f) q une in
-            let u : IsUncut early = uncut prog d une tt tt in
-            let b : (j : ℕ) × (begun early ≡ ended early + j) = in_progress prog k next late rd (at w.tree c) (after early (at w.tree c)) early [] (wait idle never) d in
-            record {
-              tape = early;
-              last = lent k next late (after early (at w.tree c)) [];
-              run = subst (λ n. Reacts prog (alone (at w.tree c) (moves_of early) n early) (lent k next late (after early (at w.tree c)) []) (outcome_so_far early)) (sym g) (so_far prog k next late rd (at w.tree c) early b.0 d u b.1);
-              told = refl;
-              left = refl;
-            };
-    waits =
-        λ prog c w v t i r early late next a e f q rd ans une.
-            is_open prog 0 next late rd ans (inside_of c w) (inside_of c v) early (lives_within prog c w v (life_of prog w v t i r a e f)) (ap (view c) f) q une;
-  }
+    pub is_open : (z y : World O) (a : List (Event O)) → Lives prog z y None → y.tape ≡ [] → Meets z a → IsUnended a → outcome_so_far a ≡ Waiting
+    is_open z y a l f t m =
+        let j : (j : ℕ) × (begun a ≡ ended a + suc j) = entries_open z y a l f t m in
+        ap (λ b. waits_if b (outcome_of a Finished)) (lt_true (ended a) (begun a) (let e : begun a ≡ ended a + suc j.0 = j.1 in omega arith))

@@ -12,4 +12,8 @@ pub mod Depths
 pub mod OneOutcome
 pub mod Paused
 pub mod Before
+pub mod Extending
+pub mod Exiting
+pub mod Unwinding
+pub mod Pauses
 pub mod Worked

@@ -1,6 +1,6 @@
 -- A run up to where control next comes in from outside: it is one with the moves until then alone, and under each budget of the steps
 -- until then, or more.
-use Rattle.std.proofs.Common.{sym, ◌≡◌, ◌⊎◌, inl, inr, ℕ, ℤ, ◌+◌, Bool, true, false, List, [], ◌∷◌, ◌++◌, Option, Some, None, length, refl, ◌∙◌, ap, subst}
+use Rattle.std.proofs.Common.{sym, ◌≡◌, ◌⊎◌, inl, inr, ℕ, ℤ, ◌+◌, Bool, true, false, List, [], ◌∷◌, ◌++◌, Some, None, length, refl, ◌∙◌, ap, subst}
 use Rattle.tcl_core.specs.Paths.{Path, Place, Height, rise_to}
 use Rattle.tcl_core.specs.Endings.{Completion, Reply, Cause, IsQuit, refusal}
 use Rattle.tcl_core.specs.Endings.Meter.{Depth}
@@ -8,12 +8,12 @@ use Rattle.tcl_core.specs.Endings.Reply.{Completed, Stop, Exit, Cut}
 use Rattle.tcl_core.specs.Entries.{Entry, Answer, Said}
 use Rattle.tcl_core.specs.Entries.Answer.{Replied, Heard}
 use Rattle.tcl_core.specs.Entries.Said.{Finished, Told}
-use Rattle.tcl_core.specs.Trees.{Tree, What, Event, Move, asked, at, effect, granted}
+use Rattle.tcl_core.specs.Trees.{Tree, What, Event, Move, at, granted}
 use Rattle.tcl_core.specs.Trees.Grants.{Listed}
 use Rattle.tcl_core.specs.Trees.Move.{Born, Fall, Enter, Come}
 use Rattle.tcl_core.specs.Trees.What.{Made, Dropped, Out, In, Done, Back}
-use Rattle.tcl_core.specs.Programs.{Deed, spot, Next, Act, Wrap, Wait, Prog, Table, decide, opens, closes}
-use Rattle.tcl_core.specs.Programs.Next.{On, TooDeep, Off}
+use Rattle.tcl_core.specs.Programs.{Deed, spot, Next, Wrap, Wait, Prog, Table, opens, closes}
+use Rattle.tcl_core.specs.Programs.Next.{On, Off}
 use Rattle.tcl_core.specs.Programs.Prog.{done, exit, act, go, inside, call, wait}
 use Rattle.tcl_core.specs.Runs.{World, Step, Ending, Halts, Exits, Exiting, Follows, Hears, Leaves, Visits, Returns, Reaches, Closes, Opened, Stays, carried, reached, entering, ends_call, height_of}
 use Rattle.tcl_core.specs.Rules.{Derives, IsNoExit}
@@ -23,10 +23,9 @@ use Rattle.tcl_core.specs.Execution.{event}
 use Rattle.tcl_core.specs.Laws.{IsUnended, ReadsMove, Unended, after}
 use Rattle.tcl_core.specs.Lives.{alone}
 use Rattle.tcl_core.specs.Views.{moves_of, steps_of}
-use Rattle.tcl_core.proofs.Budgets.{budgeted, step_budget, decide_budget, opens_budget}
+use Rattle.tcl_core.proofs.Budgets.{step_budget, decide_budget, opens_budget}
 use Rattle.tcl_core.proofs.Halts.{halted_tape}
 use Rattle.tcl_core.proofs.LifeMoves.{not_cons}
-use Rattle.tcl_core.proofs.MoreMoves.{none_not}
 use Rattle.tcl_core.proofs.Parting.{Silent, act_silent, opens_silent, closes_silent, in_silent, back_silent, back_reads}
 use Rattle.tcl_core.proofs.PathLaws.{Some-inj}
 use Rattle.tcl_core.proofs.Refusals.{cut_or}

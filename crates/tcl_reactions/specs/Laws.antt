@@ -2,7 +2,7 @@
 use Rattle.std.specs.Prelude.{◌≡◌, ◌⊎◌, ◌≤◌, ℕ, ℤ, Bool, true, false, nat_lt, List, [], ◌∷◌, ◌++◌}
 use Rattle.std.specs.Prelude.{Some, None}
 use Rattle.tcl_core.specs.Paths.{Path, Place, Height, rise_to}
-use Rattle.tcl_core.specs.Endings.{Reply}
+use Rattle.tcl_core.specs.Endings.{Cause, Reply}
 use Rattle.tcl_core.specs.Endings.Meter.{Count}
 use Rattle.tcl_core.specs.Endings.Cause.{Over}
 use Rattle.tcl_core.specs.Endings.Reply.{Exit, Cut}
@@ -16,7 +16,7 @@ use Rattle.tcl_core.specs.Runs.{Runs, Visits, World, is_own}
 use Rattle.tcl_core.specs.Views.{moves_of, steps_of, view}
 use Rattle.tcl_core.specs.Execution.{event}
 use Rattle.tcl_core.specs.Lives.{Outcome, React, begun, ended, outcome_of, outs_of}
-use Rattle.tcl_core.specs.Lives.Outcome.{Exited, Finished, Waiting}
+use Rattle.tcl_core.specs.Lives.Outcome.{Ended, Exited, Finished, Waiting}
 use Rattle.tcl_core.specs.Laws.{IsUnended, IsUpright, KeepsTop, ReadsMove, after, depth_of}
 use Rattle.tcl_reactions.specs.Playing.{Fate, Player, Lived, IsOver, beginner, last_end, outcome}
 use Rattle.tcl_reactions.specs.Playing.{plays, tree_left}
@@ -70,7 +70,8 @@ IsAnswer x = Prim.⊥
 -- does by itself with the moves until then, under each budget that isn't less than the steps made
 -- there until then. It is what happened there until then: it waits at the open call, or no call is
 -- open; it tells what was told, and leaves the subtree as it stood. Where an answer comes, a call is
--- open.
+-- open. Where that answer ends the call from outside, there is also what the subtree does by itself
+-- with this end and whatever comes behind it: it is ended so, and tells the same.
 pub record ReactsBefore (O I : Type 0) : Type 0 where
   pub reacts : (prog : Table O I) (c : Place) (w v : World O) (t : Path) (i : Entry) (r : Reply)
       (m : ℕ) (early late : List (Event O)) (next : Event O) →
@@ -84,6 +85,14 @@ pub record ReactsBefore (O I : Type 0) : Type 0 where
       Visits prog (Runs prog) w None t i v (Some r) → v.moves ≡ [] → v.tape ≡ [] →
       view c w.tape ≡ early ++ next ∷ late → ReadsMove next → IsAnswer next.what →
       IsUnended early → outcome_so_far early ≡ Waiting
+  pub ends : (prog : Table O I) (c : Place) (w v : World O) (t : Path) (i : Entry) (r : Reply)
+      (m : ℕ) (early late : List (Event O)) (p : Place) (h : Height) (x : Cause)
+      (more : List (Move O)) →
+      Visits prog (Runs prog) w None t i v (Some r) → v.moves ≡ [] → v.tape ≡ [] →
+      view c w.tape ≡ early ++ event p (Back h (Replied (Cut x))) ∷ late → rise_to h p ≡ None →
+      IsUnended early → steps_of early ≤ m → (V : Tree O) ×
+      React prog (at w.tree c) (moves_of early ++ Come (Replied (Cut x)) ∷ more) m Ended
+      (outs_of early) V
 
 -- the last entry ended by this exit, or the playing is over
 abbrev pub HasExited : {O : Type 0} → Player O → ℤ → Type 0

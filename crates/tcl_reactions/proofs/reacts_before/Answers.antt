@@ -1,4 +1,4 @@
-use Rattle.tcl_reactions.proofs.Before.{reacts_before}
+use Rattle.tcl_reactions.proofs.Pauses.{reacts_before}
 use Rattle.tcl_reactions.proofs.reacts_before.Goals as goal
 
 pub returns : goal.returns
