@@ -3,7 +3,7 @@
 //! each law holds for every table of commands.
 #![tactic(auto)]
 
-ghost use Rattle.tcl_reactions.specs.Example.{WorkedPlayings};
+ghost use Rattle.tcl_reactions.specs.Example.{WorkedMisfits, WorkedPlayings};
 ghost use Rattle.tcl_reactions.specs.Laws.{DepthsStay, NeverStuck, OneOutcome, PlayedIsReact};
 ghost use Rattle.tcl_reactions.specs.Laws.{ReactsBefore};
 
@@ -36,4 +36,9 @@ pub fn never_stuck<O>()
 /// Worked playings: one of each outcome.
 pub fn worked_playings()
     ensures { WorkedPlayings }
+{}
+
+/// Worked misfits: what answers no request, and what no alias.
+pub fn worked_misfits()
+    ensures { WorkedMisfits }
 {}
