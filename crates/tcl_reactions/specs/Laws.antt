@@ -52,8 +52,8 @@ OneOutcome O I = (prog : Table O I) (S : Tree O) (ms : List (Move O)) (n : ℕ) 
 
 -- ## Up to where control comes in
 
--- The outcome of what happened until now, where control is outside: a call is open where an entry is
--- in progress, and else it is that of the last entry.
+-- The outcome of what happened until now, where control is outside: a call is open where an entry
+-- is in progress, and else it is that of the last entry.
 abbrev pub waits_if : Bool → Outcome → Outcome
 waits_if true x = Waiting
 waits_if false x = x
@@ -69,9 +69,9 @@ IsAnswer x = Prim.⊥
 -- to its open call, and nothing there was ended from outside until then: there is what the subtree
 -- does by itself with the moves until then, under each budget that isn't less than the steps made
 -- there until then. It is what happened there until then: it waits at the open call, or no call is
--- open; it tells what was told, and leaves the subtree as it stood. Where an answer comes, a call is
--- open. Where that answer ends the call from outside, there is also what the subtree does by itself
--- with this end and whatever comes behind it: it is ended so, and tells the same.
+-- open; it tells what was told, and leaves the subtree as it stood. Where an answer comes, a call
+-- is open. Where that answer ends the call from outside, there is also what the subtree does by
+-- itself with this end and whatever comes behind it: it is ended so, and tells the same.
 pub record ReactsBefore (O I : Type 0) : Type 0 where
   pub reacts : (prog : Table O I) (c : Place) (w v : World O) (t : Path) (i : Entry) (r : Reply)
       (m : ℕ) (early late : List (Event O)) (next : Event O) →
