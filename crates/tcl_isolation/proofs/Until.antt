@@ -1,29 +1,33 @@
 -- What a subtree by itself does with a part of its record.
-use Rattle.std.proofs.Common.{◌≡◌, ℕ, ◌≤◌, ◌+◌, Bool, true, false, nat_lt, List, [], ◌∷◌, ◌++◌, Option, Some, None, length, refl, sym, ◌∙◌, ap, subst, arith, append_assoc, length-append}
+use Rattle.std.proofs.Common.{◌≡◌, ◌⊎◌, inl, inr, ℕ, ◌≤◌, ◌+◌, Bool, true, false, nat_lt, List, [], ◌∷◌, ◌++◌, Option, Some, None, length, refl, sym, ◌∙◌, ap, subst, arith, append_assoc, append-nil, length-append}
 use Rattle.tcl_core.specs.Endings.{Cause, Reply}
 use Rattle.tcl_core.specs.Endings.Reply.{Completed, Stop, Exit, Cut}
 use Rattle.tcl_core.specs.Endings.Cause.{Above, Over}
 use Rattle.tcl_core.specs.Entries.{Answer, Entry}
 use Rattle.tcl_core.specs.Entries.Answer.{Replied, Heard}
 use Rattle.tcl_core.specs.Execution.{before, event}
-use Rattle.tcl_core.specs.Laws.{IsUnended, ReadsMove, StopsByItself, after}
-use Rattle.tcl_core.specs.Lives.{Outcome, React, begun, ended, outcome_of, outs_of, put}
+use Rattle.tcl_core.specs.Laws.{IsUnended, ReadsMove, StopsByItself, after, comes_in, goes_out, life_at, turn_in}
+use Rattle.tcl_core.specs.Lives.{Lives, Outcome, React, begun, ended, idle, never, outcome_of, outs_of, put, told}
 use Rattle.tcl_core.specs.Lives.Outcome.{Ended, Finished, Waiting}
 use Rattle.tcl_core.specs.Paths.{Path, Place, Height, rise_to, strip}
 use Rattle.tcl_core.specs.Programs.{Table, Wait}
 use Rattle.tcl_core.specs.Trees.{Event, Move, Node, Tree, What, asked, at, at_top, seen_answer, seen_reply, seen_what, stopped, where_none}
 use Rattle.tcl_core.specs.Trees.Move.{Enter, Come, Born, Fall}
 use Rattle.tcl_core.specs.Trees.What.{Out, In, Done, Back, Made, Dropped}
-use Rattle.tcl_core.specs.Views.{from_above, kept, moves_of, steps_of, view}
-use Rattle.tcl_core.proofs.Conclusions.{moments}
+use Rattle.tcl_core.specs.Programs.Prog.{wait}
+use Rattle.tcl_core.specs.Views.{from_above, inside_of, kept, moves_of, steps_of, view}
+use Rattle.tcl_core.proofs.Beginnings.{outs_append}
+use Rattle.tcl_core.proofs.Conclusions.{lives_within, moments}
 use Rattle.tcl_core.proofs.Lending.{moves_append}
 use Rattle.tcl_core.proofs.Reactions.{one_reaction}
 use Rattle.tcl_core.proofs.Reacting.{IsLasting}
+use Rattle.tcl_core.proofs.RuleLaws.{runs_derived}
+use Rattle.tcl_core.proofs.Tracking.{Tracked, Turned, no_tape, track}
 use Rattle.tcl_reactions.specs.Laws.{AreFromAbove, IsAnswer, outcome_so_far, waits_if}
 use Rattle.tcl_reactions.proofs.OneOutcome.{one_outcome}
 use Rattle.tcl_reactions.proofs.Pauses.{reacts_before}
 use Rattle.tcl_recorder.specs.Boundary.{boundary, past, past_the_top}
-use Rattle.tcl_isolation.specs.Laws.{DoesJust, DoesUntil, IsEnd, IsMove, StartsWith, Suffices}
+use Rattle.tcl_isolation.specs.Laws.{DoesJust, DoesUntil, IsEnd, IsMove, IsTold, StartsWith, Suffices}
 use Rattle.tcl_isolation.specs.Visits.{IsBelowTheTop, WatchedVisit, visit}
 use Rattle.tcl_isolation.proofs.Records.{PartsAt, lasting_front, moves_past, outs_past, parts_at, so_far_past, unended}
 use Rattle.tcl_isolation.proofs.Turning.{no_done, no_move, no_out}
@@ -140,6 +144,10 @@ module _ {O : Type 0} where
   kept_reads None b x m f = no_move m (sym (ap moves_of (unseen_above b x [])) ∙ f)
   kept_reads (Some q) b x m f = (event q (seen_what q x), refl, seen_reads q (seen_what q x) m f)
 
+  unended_front : (a b : List (Event O)) → IsUnended (a ++ b) → IsUnended a
+  unended_front [] b f = tt
+  unended_front (ev ∷ a) b f = (f.0, unended_front a b f.1)
+
   steps_append : (a b : List (Event O)) → steps_of (a ++ b) ≡ steps_of a + steps_of b
   steps_append [] b = omega arith
   steps_append (ev ∷ a) b = step ev.what (steps_of a) (steps_of b) (steps_of (a ++ b)) (steps_append a b)
@@ -150,6 +158,81 @@ module _ {O : Type 0} where
 
   steps_front : (τ a b : List (Event O)) (m : ℕ) → τ ≡ a ++ b → steps_of τ ≤ m → steps_of a ≤ m
   steps_front τ a b m e le = let f : steps_of τ ≡ steps_of a + steps_of b = ap steps_of e ∙ steps_append a b in omega (arith, le)
+
+-- ## Moves and what is told take turns
+
+not_both_ways : {A : Type 0} (b : Bool) → b ≡ false → b ≡ true → A
+not_both_ways b e f = absurd (bad e f)
+  where
+    bad : b ≡ false → b ≡ true → Prim.⊥
+    bad g h = let i : false ≡ true = sym g ∙ h in cc
+
+module _ {O : Type 0} where
+  -- control being inside, or not, what crosses next is told, or is a move
+  abbrev Alternate : Bool → List (Event O) → Type 0
+  Alternate b [] = Unit {0}
+  Alternate false (ev ∷ τ) = IsMove ev.what × Alternate true τ
+  Alternate true (ev ∷ τ) = IsTold ev.what × Alternate false τ
+
+  abbrev Goes : (Bool → Type 0) → List (Event O) → Type 0
+  Goes f τ = (b : Bool) → f b → Alternate b τ
+
+  moves_in : (o : Option Place) (p : Place) (x : What O) (f : Bool → Type 0) (τ : List (Event O)) (b : Bool) → IsMove x → Goes f τ → Turned f (comes_in o) b → Alternate b (put o p x τ)
+  moves_in None p x f τ b m g t = subst (λ y. Alternate y (event p x ∷ τ)) (sym t.0) (m, g true t.1)
+  moves_in (Some a) p x f τ b m g t = subst (λ y. Alternate y τ) (sym t.0) (g true t.1)
+
+  tells_out : (o : Option Place) (p : Place) (x : What O) (f : Bool → Type 0) (τ : List (Event O)) (b : Bool) → IsTold x → Goes f τ → Turned f (goes_out o) b → Alternate b (put o p x τ)
+  tells_out None p x f τ b m g t = subst (λ y. Alternate y (event p x ∷ τ)) (sym t.0) (m, g false t.1)
+  tells_out (Some a) p x f τ b m g t = subst (λ y. Alternate y τ) (sym t.0) (g true t.1)
+
+  life_on : (p : Place) (f : Bool → Type 0) (τ : List (Event O)) (b : Bool) → Goes f τ → Turned f (life_at p) b → Alternate b τ
+  life_on [] f τ b g t = g b t
+  life_on (y ∷ p) f τ b g t = subst (λ z. Alternate z τ) (sym t.0) (g true t.1)
+
+  alternate_one : (p : Place) (x : What O) (f : Bool → Type 0) (τ : List (Event O)) (b : Bool) → Goes f τ → Turned f (turn_in p x) b → Alternate b (past p x τ)
+  alternate_one p (In h i) f τ b g t = moves_in (rise_to h p) p (In h i) f τ b tt g t
+  alternate_one p (Back h a) f τ b g t = moves_in (rise_to h p) p (Back h a) f τ b tt g t
+  alternate_one p (Out h down i) f τ b g t = tells_out (rise_to h p) p (Out h down i) f τ b tt g t
+  alternate_one p (Done h r) f τ b g t = tells_out (rise_to h p) p (Done h r) f τ b tt g t
+  alternate_one p (Made o s) f τ b g t = life_on p f τ b g t
+  alternate_one p Dropped f τ b g t = life_on p f τ b g t
+  alternate_one p x f τ b g t = subst (λ y. Alternate y τ) (sym t.0) (g true t.1)
+
+  alternate : (σ : List (Event O)) (b : Bool) → Tracked [] σ b → Alternate b (past_the_top σ)
+  alternate [] b t = tt
+  alternate (ev ∷ σ) b t = alternate_one ev.place ev.what (Tracked [] σ) (past_the_top σ) b (λ y u. alternate σ y u) t
+
+  -- what is told stands behind a move
+  abbrev Behind : Bool → List (Event O) → Type 0
+  Behind b a = ((a ≡ []) × (b ≡ true)) ⊎ ((front : List (Event O)) × (move : Event O) × (a ≡ front ++ move ∷ []) × IsMove move.what)
+
+  behind : (b : Bool) (a : List (Event O)) (ev : Event O) (τ : List (Event O)) → Alternate b (a ++ ev ∷ τ) → IsTold ev.what → Behind b a
+  behind false [] ev τ f t = absurd (no_both ev.what f.0 t)
+    where
+      no_both : (x : What O) → IsMove x → IsTold x → Prim.⊥
+      no_both (In h i) g j = j
+      no_both (Back h a) g j = j
+      no_both x g j = g
+  behind true [] ev τ f t = inl (refl, refl)
+  behind false (x ∷ a) ev τ f t = next (behind true a ev τ f.1 t)
+    where
+      next : Behind true a → Behind false (x ∷ a)
+      next (inl (e, g)) = inr ([], x, ap (λ l. x ∷ l) e, f.0)
+      next (inr (front, move, e, m)) = inr (x ∷ front, move, ap (λ l. x ∷ l) e, m)
+  behind true (x ∷ a) ev τ f t = next (behind false a ev τ f.1 t)
+    where
+      next : Behind false a → Behind true (x ∷ a)
+      next (inl (e, g)) = not_both_ways false refl g
+      next (inr (front, move, e, m)) = inr (x ∷ front, move, ap (λ l. x ∷ l) e, m)
+
+  -- and a move tells nothing
+  move_outs : (a : List (Event O)) (ev : Event O) → IsMove ev.what → outs_of (a ++ ev ∷ []) ≡ outs_of a
+  move_outs a ev m = outs_append a (ev ∷ []) ∙ ap (λ l. outs_of a ++ l) (one ev.place ev.what m) ∙ append-nil (outs_of a)
+    where
+      one : (p : Place) (x : What O) → IsMove x → told p x [] ≡ []
+      one p (In h i) f = refl
+      one p (Back h y) f = refl
+      one p x f = absurd f
 
 -- what waits, or is finished by all that happened, stops by itself
 waits_stop : (b : Bool) (x : Outcome) → StopsByItself x → StopsByItself (waits_if b x)
@@ -193,6 +276,14 @@ module _ {O I S : Type 0} (goes : Tree O → S → Wait → Event O → S → Ty
         ap (view c) e ∙ view_append c first (ev ∷ last) ∙ ap (λ l. view c first ++ l) (view_append c (ev ∷ []) last ∙ ap (λ l. l ++ view c last) s.1) in
         subst (λ W. React prog (at T c) (moves_of (boundary c first)) m (outcome_so_far (boundary c first)) (outs_of (boundary c first)) W) (sym (moments c first T)) (reaction (view c first) (view c last) s.0 g s.2 u)
 
+    -- moves and what is told take turns in the record
+    alternates : Alternate false crossings
+    alternates =
+        let l : Lives prog (inside_of c (before T (visit t i w.events r))) (inside_of c (before V [])) None = lives_within prog c (before T (visit t i w.events r)) (before V []) (watching.life goes prog T V o z t i c crossings r w) in
+        let k : Tracked [] (seen w) false =
+        track [] prog (runs_derived prog (inside_of c (before T (visit t i w.events r))) [] (wait idle never) (inside_of c (before V [])) None l) (λ y. tt) (no_tape [] prog (inside_of c (before V [])) true refl) in
+        subst (Alternate false) (sym w.recorded) (alternate (seen w) false k)
+
     module _ (early : List (Event O)) where
       abbrev At : Event O → List (Event O) → Type 0
       At ev late = PartsAt (seen w) early ev late
@@ -214,16 +305,17 @@ module _ {O I S : Type 0} (goes : Tree O → S → Wait → Event O → S → Ty
           subst (λ l. React prog (at T c) (moves_of l) m (outcome_so_far l) (outs_of l) (after g.front (at T c))) g.fronts (reaction g.front g.back ev g.whole (reads_move ev.place ev.what g.passes f) (subst IsUnended (sym g.fronts) u)) in
           (after g.front (at T c), just (outcome_so_far early) (outs_of early) (after g.front (at T c)) refl d)
 
+    module _ (early : List (Event O)) where
       waits_there : (ev : Event O) (late : List (Event O)) → crossings ≡ early ++ ev ∷ late → IsUnended early → IsAnswer ev.what → outcome_so_far early ≡ Waiting
       waits_there ev late e u f =
-          let g : At ev late = at_part ev late e in
+          let g : At early ev late = at_part early ev late e in
           ap outcome_so_far (sym g.fronts) ∙ so_far_past g.front ∙
           reacts_before.waits prog c (before T (visit t i w.events r)) (before V []) t i r g.front g.back ev w.visits refl refl g.whole (reads_move ev.place ev.what g.passes (answer_moves ev.what f)) f (unended g.front (subst IsUnended (sym g.fronts) u))
 
       -- with all moves of the record
       ends_there : (ev : Event O) (late : List (Event O)) → crossings ≡ early ++ ev ∷ late → IsUnended early → IsEnd ev.what → (W : Tree O) × DoesJust prog (at T c) (moves_of (early ++ ev ∷ late)) m Ended (outs_of early) W
       ends_there ev late e u f =
-          let g : At ev late = at_part ev late e in
+          let g : At early ev late = at_part early ev late e in
           let h : Ending ev = ending_of ev.place ev.what g.passes f in
           let whole : seen w ≡ g.front ++ event ev.place (Back h.height (Replied (Cut h.cause))) ∷ g.back = g.whole ∙ ap (λ y. g.front ++ y ∷ g.back) h.same in
           let d = reacts_before.ends prog c (before T (visit t i w.events r)) (before V []) t i r m g.front g.back ev.place h.height h.cause (moves_of late) w.visits refl refl whole h.out (unended g.front (subst IsUnended (sym g.fronts) u)) (steps_front (seen w) g.front (ev ∷ g.back) m g.whole steps) in
@@ -236,21 +328,38 @@ module _ {O I S : Type 0} (goes : Tree O → S → Wait → Event O → S → Ty
           let above : AreFromAbove (moves_of (early ++ ev ∷ late)) = subst AreFromAbove (sym (watching.same_moves goes prog T V o z t i c crossings r w n below there) ∙ ap moves_of e) (view_above c (visit t i w.events r)) in
           (d.0, record { does = b; nothing_else = λ y told U j. one_outcome prog (at T c) (moves_of (early ++ ev ∷ late)) m Ended y (outs_of early) told d.0 U above b j })
 
+      inside_there : (ev : Event O) (late : List (Event O)) → crossings ≡ early ++ ev ∷ late → IsUnended early → IsTold ev.what →
+          (front : List (Event O)) × (move : Event O) × (early ≡ front ++ move ∷ []) × IsMove move.what × (W : Tree O) × DoesJust prog (at T c) (moves_of front) m (outcome_so_far front) (outs_of early) W
+      inside_there ev late e u f = by (behind false early ev late (subst (Alternate false) e alternates) f)
+        where
+          by : Behind false early →
+              (front : List (Event O)) × (move : Event O) × (early ≡ front ++ move ∷ []) × IsMove move.what × (W : Tree O) × DoesJust prog (at T c) (moves_of front) m (outcome_so_far front) (outs_of early) W
+          by (inl (g, h)) = not_both_ways false refl h
+          by (inr (front, move, g, h)) =
+              let d = before_there front move (ev ∷ late) (e ∙ ap (λ l. l ++ ev ∷ late) g ∙ append_assoc front (move ∷ []) (ev ∷ late)) (unended_front front (move ∷ []) (subst IsUnended g u)) h in
+              (front, move, g, h, d.0, subst (λ outs. DoesJust prog (at T c) (moves_of front) m (outcome_so_far front) outs d.0) (sym (ap outs_of g ∙ move_outs front move h)) d.1)
+
       pub does_until : (late : List (Event O)) → crossings ≡ early ++ late → IsUnended early → DoesUntil prog (at T c) early late m
       does_until late e u = record {
         before = λ f. before_at late e f;
         waits = λ f. waits_at late e f;
         ends = λ f. ends_at late e f;
+        inside = λ f. inside_at late e f;
         begins = λ x outs W d. watching.until goes prog T V o z t i c crossings r w n m early late x outs W below there e u enough d;
       }
         where
           before_at : (late : List (Event O)) → crossings ≡ early ++ late → StartsWith IsMove late → (W : Tree O) × DoesJust prog (at T c) (moves_of early) m (outcome_so_far early) (outs_of early) W
           before_at [] e f = absurd f
-          before_at (ev ∷ late) e f = before_there ev late e u f
+          before_at (ev ∷ late) e f = before_there early ev late e u f
 
           waits_at : (late : List (Event O)) → crossings ≡ early ++ late → StartsWith IsAnswer late → outcome_so_far early ≡ Waiting
           waits_at [] e f = absurd f
           waits_at (ev ∷ late) e f = waits_there ev late e u f
+
+          inside_at : (late : List (Event O)) → crossings ≡ early ++ late → StartsWith IsTold late →
+              (front : List (Event O)) × (move : Event O) × (early ≡ front ++ move ∷ []) × IsMove move.what × (W : Tree O) × DoesJust prog (at T c) (moves_of front) m (outcome_so_far front) (outs_of early) W
+          inside_at [] e f = absurd f
+          inside_at (ev ∷ late) e f = inside_there ev late e u f
 
           ends_at : (late : List (Event O)) → crossings ≡ early ++ late → StartsWith IsEnd late → (W : Tree O) × DoesJust prog (at T c) (moves_of (early ++ late)) m Ended (outs_of early) W
           ends_at [] e f = absurd f

@@ -13,7 +13,7 @@ use Rattle.tcl_core.specs.Programs.{Table, Wait}
 use Rattle.tcl_core.specs.Runs.{entering}
 use Rattle.tcl_core.specs.Execution.{Chain, Crossings, Executes, Open}
 use Rattle.tcl_core.specs.Trees.{Event, Move, Node, Tree, What, at}
-use Rattle.tcl_core.specs.Trees.What.{In, Back}
+use Rattle.tcl_core.specs.Trees.What.{Out, In, Done, Back}
 use Rattle.tcl_core.specs.Views.{moves_of, steps_of, view}
 use Rattle.tcl_host.specs.declared.reply.HostReply.{HostReply}
 use Rattle.tcl_host.specs.declared.request.Request.{Request}
@@ -75,6 +75,11 @@ module _ {O : Type 0} where
   IsMove (Back h a) = Unit {0}
   IsMove x = Prim.⊥
 
+  abbrev pub IsTold : What O → Type 0
+  IsTold (Out h down i) = Unit {0}
+  IsTold (Done h r) = Unit {0}
+  IsTold x = Prim.⊥
+
   -- an answer that ends a call from outside
   abbrev pub IsEnd : What O → Type 0
   IsEnd (Back h (Replied (Cut x))) = Unit {0}
@@ -100,6 +105,12 @@ pub record DoesUntil {O I : Type 0} (prog : Table O I) (S : Tree O) (early late 
   -- tells just that too.
   pub ends : StartsWith IsEnd late → (W : Tree O) ×
       DoesJust prog S (moves_of (early ++ late)) m Ended (outs_of early) W
+  -- Where it tells something then: the last crossing before is the move by which control came in.
+  -- With the moves before that one it waits, or no call is open, and tells just what the record
+  -- tells before.
+  pub inside : StartsWith IsTold late → (front : List (Event O)) × (move : Event O) ×
+      (early ≡ front ++ move ∷ []) × IsMove move.what × (W : Tree O) ×
+      DoesJust prog S (moves_of front) m (outcome_so_far front) (outs_of early) W
   -- And wherever that is: what the record tells before is a beginning of what it tells with the
   -- moves before.
   pub begins : (x : Outcome) (outs : List (Event O)) (W : Tree O) →
