@@ -154,8 +154,10 @@ ReactsSo old c crossings new = IsBelowTheTop c → IsUnended crossings → (m : 
 -- itself does with the moves what the record tells. Where control comes in there, with the moves
 -- before it waits at its open call, or no call is open, and it tells just what the record tells
 -- before; where the answer that comes ends the call from outside, with all moves of the record it
--- is ended so and tells just that too; and it does nothing else with them. Wherever the place is,
--- what any reaction to the moves before tells begins with what the record tells before.
+-- is ended so and tells just that too; and it does nothing else with them. Where the record tells
+-- something there, it does so with the moves but the last, which is the last crossing before.
+-- Wherever the place is, what any reaction to the moves before tells begins with what the record
+-- tells before.
 abbrev pub ReactsUntil : Table → Path → List (Event Own) → Table → Type 0
 ReactsUntil old c crossings new = IsBelowTheTop c → (early late : List (Event Own)) →
     crossings ≡ early ++ late → IsUnended early → (m : ℕ) →
