@@ -13,12 +13,13 @@ use Rattle.tcl_eval.specs.Running.{root_count, root_limit}
 use Rattle.tcl_eval.specs.declared.running.End.{End}
 use Rattle.tcl_host.specs.declared.reply.HostReply.{HostReply}
 use Rattle.tcl_host.specs.declared.request.Request.{Request}
-use Rattle.tcl_isolation.specs.Laws.{IsWithin, Suffices}
+use Rattle.tcl_isolation.specs.Laws.{DoesUntil, IsWithin, Suffices}
 use Rattle.tcl_isolation.specs.Scripts as laws
 use Rattle.tcl_isolation.specs.Visits.{IsBelowTheTop, WatchedVisit, visit}
 use Rattle.tcl_isolation.proofs.Hosts.{host_untouched}
 use Rattle.tcl_isolation.proofs.Safe as safe
 use Rattle.tcl_isolation.proofs.Untouching.{rest_untouched}
+use Rattle.tcl_isolation.proofs.Until.{does_until}
 use Rattle.tcl_isolation.proofs.Watching as watching
 use Rattle.tcl_language_laws.specs.Language.{language}
 use Rattle.tcl_language.specs.Safety.{plain}
@@ -81,9 +82,9 @@ module _ {S : Type 0} (step : S → Request → HostReply → S → Type 0) (old
       (h.0, h.1, h.2 ∙ sym (at_last w f))
 
   pub reacts_until : One → ReactsUntil old c r.crossings new
-  reacts_until w f early late whole u m le x told W re =
-      watching.until (hosted step) (language style) T0 (run_of w).during o z path (Eval script) c r.crossings (run_of w).reply (visited w) (run_of w).node m early late x told W f (stood w f) whole u (enough w m f le)
-      (subst (λ (A : Tree Own). React (language style) A (moves_of early) m x told W) (sym (at_first f)) re)
+  reacts_until w f early late whole u m le =
+      subst (λ (A : Tree Own). DoesUntil (language style) A early late m) (at_first f)
+      (does_until (hosted step) (language style) T0 (run_of w).during o z path (Eval script) c r.crossings (run_of w).reply (run_of w).node m (visited w) f (stood w f) (enough w m f le) early late whole u)
 
   pub leaves : One → LeavesTheOutside old o path c r.crossings new z
   leaves w u there f =

@@ -22,7 +22,7 @@ use Rattle.tcl_eval.specs.declared.running.Refused.{Refused}
 use Rattle.tcl_eval.specs.declared.running.Refused.TheVariants as refused
 use Rattle.tcl_host.specs.declared.reply.HostReply.{HostReply}
 use Rattle.tcl_host.specs.declared.request.Request.{Request}
-use Rattle.tcl_isolation.specs.Laws.{IsWithin, Suffices}
+use Rattle.tcl_isolation.specs.Laws.{DoesUntil, IsWithin, Suffices}
 use Rattle.tcl_isolation.specs.Limits.{AreLowering}
 use Rattle.tcl_isolation.specs.Visits.{CallsNobody, IsBelowTheTop, visit}
 use Rattle.tcl_core.specs.Programs.{Table as LanguageTable}
@@ -179,15 +179,19 @@ ReactsSo old c crossings new = IsBelowTheTop c → IsUnended crossings → (m : 
     React (language (marks_of old).integers) (at (tree_of old) c) (moves_of crossings) m x told W →
     (x ≡ outcome_of crossings Finished) × (told ≡ outs_of crossings) × (W ≡ at (tree_of new) c)
 
--- What the record tells up to some place before the first end from outside is a beginning of what
--- the subtree by itself does with the moves up to there.
+-- Up to each place of the record before which no entry was ended from outside, the subtree by
+-- itself does with the moves what the record tells. Where control comes in there, with the moves
+-- before it waits at its open call, or no call is open, and it tells just what the record tells
+-- before; where the answer that comes ends the call from outside, with all moves of the record it
+-- is ended so and tells just that too; and it does nothing else with them. Where the record tells
+-- something there, it does so with the moves but the last, which is the last crossing before.
+-- Wherever the place is, what any reaction to the moves before tells begins with what the record
+-- tells before.
 abbrev pub ReactsUntil : Table → Path → List (Event Own) → Table → Type 0
 ReactsUntil old c crossings new = IsBelowTheTop c → (early late : List (Event Own)) →
     crossings ≡ early ++ late → IsUnended early → (m : ℕ) →
     Suffices m (tree_of old c) (tree_of new c) →
-    (x : Outcome) (told : List (Event Own)) (W : Tree Own) →
-    React (language (marks_of old).integers) (at (tree_of old) c) (moves_of early) m x told W →
-    (more : List (Event Own)) × (told ≡ outs_of early ++ more)
+    DoesUntil (language (marks_of old).integers) (at (tree_of old) c) early late m
 
 -- ## What is outside of it
 
