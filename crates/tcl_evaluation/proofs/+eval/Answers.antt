@@ -1792,8 +1792,8 @@ interpreters::interp-returns-in-Tree-clause-runs g t c =
     (λ style. interp_known style c.args.args.now c.word-item.result c.as_str.result.now words c.interp_subcommand.result (Tree c.in-Tree.own) is word c.interp_subcommand.ensures (c.in-Some.is ∙ ap Some c.in-Tree.is))
     (evaluates_proceeds (ways g.O.Outside.goes g.O.Outside.loses) c.args.tree.now c.call_tree.new.tree c.args.outside.now c.call_tree.new.outside c.args.place (λ style. tree_program_of c.in-Tree.own words) c.call_tree.result c.call_tree.ensures.evaluates c.call_tree.ensures.keeps.lost)
 
-pub interpreters::interp-returns-in-Shared-clause-runs : goal.interpreters::interp-returns-in-Shared-clause-runs
-interpreters::interp-returns-in-Shared-clause-runs g t c =
+pub interpreters::interp-returns-clause-runs : goal.interpreters::interp-returns-clause-runs
+interpreters::interp-returns-clause-runs g t c =
     let words = take (length c.args.args.now - 1) (drop 1 c.args.args.now) in
     let is = split_first c.args.args.now c.word-item.result c.in-len1-up.len_at_least c.word-item.is in
     let word = c.as_str.ensures ∙ c.in_ok-name.ensures in
