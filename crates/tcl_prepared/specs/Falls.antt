@@ -1,8 +1,8 @@
 -- What stands in the brackets of a prepared script is lighter than what it is seen as.
-use Rattle.std.specs.Prelude.{ℕ, ◌≤◌, List, [], ◌∷◌, map}
+use Rattle.std.specs.Prelude.{◌≤◌, List, [], ◌∷◌, map}
 use Rattle.std.proofs.Common.{arith}
 use denote.Param.Weighed.{most}
-use Rattle.tcl_prepared.specs.Views.{seen_part, seen_word, seen_command, literal_word}
+use Rattle.tcl_prepared.specs.Views.{seen_part, seen_word, seen_command}
 use Rattle.tcl_prepared.specs.Brackets.{part_weight, parts_weight, words_weight, commands_weight}
 use Rattle.tcl_prepared.specs.declared.prepared.PreparedPart.{PreparedPart}
 use Rattle.tcl_prepared.specs.declared.prepared.PreparedPart.TheVariants.{Literal, Variable}

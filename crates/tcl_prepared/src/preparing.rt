@@ -205,11 +205,7 @@ fn prepare_word(alloc: Global, word: &Word, levels: u32) -> Result<PreparedWord,
     ensures { IfOk result (λ prepared. seen_word prepared ≡ word.now) }
 {
     if word.expand {
-        return Ok(PreparedWord::Spread(prepare_parts(
-            alloc,
-            word.parts.as_slice(),
-            levels,
-        )?));
+        return Ok(PreparedWord::Spread(prepare_parts(alloc, word.parts.as_slice(), levels)?));
     }
     match literal_value(word)? {
         Some(value) => Ok(PreparedWord::Literal(value)),
