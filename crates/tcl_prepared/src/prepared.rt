@@ -206,7 +206,7 @@ impl Prepared {
     }
 
     /// How many pieces it is made of: its commands, words and parts, with those of the scripts in
-    /// its brackets. A piece takes at most 80 bytes and the bytes of its text.
+    /// its brackets. A piece takes at most 120 bytes and the bytes of its text.
     pub fn pieces(&self) -> usize {
         self.pieces
     }
