@@ -1,0 +1,301 @@
+//! The evaluation of scripts, command by command and word by word.
+ghost use Rattle.std.specs.Prelude.{◌≡◌, ◌++◌, ◌∷◌, [], length, Some, OnOk, IfErr};
+ghost use Rattle.std.specs.Prelude.{MatchResult};
+ghost use Rattle.std.specs.Prelude.{map};
+ghost use Rattle.tcl_prepared.specs.Views.{seen_part, seen_word, seen_command};
+ghost use Rattle.std.specs.String.{string_bytes};
+ghost use Rattle.tcl_core.specs.Paths.{Path};
+ghost use Rattle.tcl_language.specs.Scripts as scripts;
+ghost use Rattle.tcl_core.specs.Trees as core;
+ghost use Rattle.tcl_tree.specs.Own.{Own};
+ghost use Rattle.tcl_run.specs.Ends.{Breaks};
+ghost use Rattle.tcl_run.specs.Runs.{IsRunning, Keeps, ProceedsAt, ProceedsIn, ways};
+ghost use Rattle.tcl_tree.specs.TreeOf.{tree_of, Names};
+ghost use Rattle.tcl_calls.specs.Words.{opens, IsShort};
+ghost use Rattle.tcl_evaluation.specs.View.{PartGoes, PartBreaks, read_so};
+
+use crate::calls::{call, eval_finish, expands, read_named};
+use crate::constants::eval_constant;
+use std::alloc::Global;
+use tcl_calls::words::{
+    OpenElement, append, append_value, close_element, open_element, spread, within,
+};
+use tcl_prepared::prepared::{Bracket, Prepared, PreparedCommand, PreparedPart, PreparedWord};
+use tcl_prepared::preparing::prepare_text;
+use tcl_run::failure::too_deep;
+use tcl_run::interruption::Interruption;
+use tcl_run::outside::Outside;
+use tcl_run::steps::{charge, known_short, on_ok};
+use tcl_text::text::Text;
+use tcl_tree::tree::{Place, Tree};
+use tcl_value::value::Value;
+
+/// Evaluates a script that was read, one level deeper.
+///
+/// # Errors
+/// 308, as an error of the interpreter whose depth limit refuses, and as a stop of one above it;
+/// the first end of a command that is no ordinary result; 201 to 206 behind the commands; want of
+/// memory.
+#[cycle(eval)]
+pub fn eval_script<O: Outside>(
+    tree: &mut Tree,
+    alloc: Global,
+    outside: &mut O,
+    place: Place,
+    script: &Prepared,
+) -> Result<Value, Interruption>
+    requires { (p : Path) × Names tree.old place p }
+    ensures runs { ProceedsAt (ways O.goes O.loses) tree.old outside.old place
+        (λ style. read_so script.now) tree.new outside.new result }
+    ensures keeps { Keeps O.entries_left tree.old tree.new outside.old outside.new }
+{
+    tree.keeps_form();
+    if let Err(levels) = tree.nest_at(place) {
+        return Err(too_deep(alloc, levels));
+    }
+    let ended = eval_commands(tree, alloc, outside, place, script);
+    tree.unnest(place);
+    ended
+}
+
+/// Evaluates the script of this text, one level deeper. A text that was read before isn't read
+/// again.
+///
+/// # Errors
+/// Those of a script.
+#[cycle(eval)]
+pub fn eval_text<O: Outside>(
+    tree: &mut Tree,
+    alloc: Global,
+    outside: &mut O,
+    place: Place,
+    text: &Text,
+) -> Result<Value, Interruption>
+    requires { (p : Path) × Names tree.old place p }
+    ensures runs { ProceedsAt (ways O.goes O.loses) tree.old outside.old place
+        (λ style. scripts.script text.now) tree.new outside.new result }
+    ensures keeps { Keeps O.entries_left tree.old tree.new outside.old outside.new }
+{
+    let prepared = prepare_text(alloc, text)?;
+    eval_script(tree, alloc, outside, place, prepared.script())
+}
+
+/// Evaluates a script in brackets, one level deeper.
+#[cycle(eval)]
+pub fn eval_bracket<O: Outside>(
+    tree: &mut Tree,
+    alloc: Global,
+    outside: &mut O,
+    place: Place,
+    bracket: &Bracket,
+) -> Result<Value, Interruption>
+    requires { (p : Path) × Names tree.old place p }
+    ensures runs { ProceedsAt (ways O.goes O.loses) tree.old outside.old place
+        (λ style. scripts.script bracket.now) tree.new outside.new result }
+    ensures keeps { Keeps O.entries_left tree.old tree.new outside.old outside.new }
+{
+    eval_script(tree, alloc, outside, place, bracket.script())
+}
+
+/// Evaluates a script's commands one after another, up to the first without an ordinary result, and
+/// then its fault.
+#[cycle(eval)]
+#[inline(never)]
+fn eval_commands<O: Outside>(
+    tree: &mut Tree,
+    alloc: Global,
+    outside: &mut O,
+    place: Place,
+    script: &Prepared,
+) -> Result<Value, Interruption>
+    requires running { IsRunning tree.old place }
+    ensures runs { ProceedsIn (ways O.goes O.loses) tree.old outside.old place
+        (λ style. scripts.commands script.now.commands script.now.fault []) tree.new outside.new
+        result }
+    ensures keeps { Keeps O.entries_left tree.old tree.new outside.old outside.new }
+{
+    let mut last = Value::empty();
+    let all = script.commands();
+    'commands: for command in all {
+        last = on_ok(eval_command(tree, alloc, outside, place, command))?;
+    }
+    eval_finish(alloc, script.fault(), last)
+}
+
+/// Evaluates a command.
+#[cycle(eval)]
+#[inline(never)]
+fn eval_command<O: Outside>(
+    tree: &mut Tree,
+    alloc: Global,
+    outside: &mut O,
+    place: Place,
+    command: &PreparedCommand,
+) -> Result<Value, Interruption>
+    requires running { IsRunning tree.old place }
+    ensures runs { ProceedsIn (ways O.goes O.loses) tree.old outside.old place
+        (λ style. scripts.words (seen_command command.now) []) tree.new outside.new result }
+    ensures keeps { Keeps O.entries_left tree.old tree.new outside.old outside.new }
+{
+    match command {
+        PreparedCommand::Constant(literals) => {
+            eval_constant(tree, alloc, outside, place, literals.words())
+        }
+        PreparedCommand::General(words) => {
+            eval_general(tree, alloc, outside, place, words.as_slice())
+        }
+    }
+}
+
+/// Substitutes a command's words from left to right, makes a step and calls it.
+///
+/// # Errors
+/// Those of the words; 101 to 104 of a word that is spread; the stop 308; those of the call; want
+/// of memory.
+#[cycle(eval)]
+#[inline(never)]
+fn eval_general<O: Outside>(
+    tree: &mut Tree,
+    alloc: Global,
+    outside: &mut O,
+    place: Place,
+    command: &[PreparedWord],
+) -> Result<Value, Interruption>
+    requires running { IsRunning tree.old place }
+    ensures runs { ProceedsIn (ways O.goes O.loses) tree.old outside.old place
+        (λ style. scripts.words (map seen_word command.now) []) tree.new outside.new result }
+    ensures keeps { Keeps O.entries_left tree.old tree.new outside.old outside.new }
+{
+    let mut words = Vec::with_capacity(alloc, command.len())?;
+    'words: for word in command {
+        let text = on_ok(eval_word(tree, alloc, outside, place, word))?;
+        spread(alloc, expands(word), text, &mut words)?;
+    }
+    if words.is_empty() {
+        return Ok(Value::empty());
+    }
+    charge(tree, outside, place)?;
+    call(tree, alloc, outside, place, words.as_slice())
+}
+
+/// The text of a word.
+///
+/// # Errors
+/// 231 to 234 and 238 of variables; those of scripts; 122; want of memory.
+#[cycle(eval)]
+#[inline(never)]
+pub(crate) fn eval_word<O: Outside>(
+    tree: &mut Tree,
+    alloc: Global,
+    outside: &mut O,
+    place: Place,
+    word: &PreparedWord,
+) -> Result<Value, Interruption>
+    requires running { IsRunning tree.old place }
+    ensures runs { ProceedsIn (ways O.goes O.loses) tree.old outside.old place
+        (λ style. scripts.parts (seen_word word.now).parts [] []) tree.new outside.new result }
+    ensures keeps { Keeps O.entries_left tree.old tree.new outside.old outside.new }
+{
+    match word {
+        PreparedWord::Literal(value) => Ok(known_short(value.clone()?)),
+        PreparedWord::Lone(part) => eval_lone_part(tree, alloc, outside, place, part),
+        PreparedWord::Parts(parts) => substitute(tree, alloc, outside, place, parts.as_slice()),
+        PreparedWord::Spread(parts) => substitute(tree, alloc, outside, place, parts.as_slice()),
+    }
+}
+
+/// The text of a word that is one part: it is shared, and not copied.
+#[cycle(eval)]
+#[inline(never)]
+fn eval_lone_part<O: Outside>(
+    tree: &mut Tree,
+    alloc: Global,
+    outside: &mut O,
+    place: Place,
+    part: &PreparedPart,
+) -> Result<Value, Interruption>
+    requires running { IsRunning tree.old place }
+    ensures runs { ProceedsIn (ways O.goes O.loses) tree.old outside.old place
+        (λ style. scripts.parts (seen_part part.now ∷ []) [] []) tree.new outside.new result }
+    ensures keeps { Keeps O.entries_left tree.old tree.new outside.old outside.new }
+{
+    match part {
+        PreparedPart::Literal(text) => within(alloc, text.clone()?),
+        PreparedPart::Variable(name) => read_named(tree, alloc, place, name),
+        PreparedPart::Bracket(bracket) => {
+            let value = on_ok(eval_bracket(tree, alloc, outside, place, bracket))?;
+            Ok(known_short(value))
+        }
+        PreparedPart::Deep(script) => {
+            let value = on_ok(eval_text(tree, alloc, outside, place, script))?;
+            Ok(known_short(value))
+        }
+        PreparedPart::Element(_) => Ok(Value::empty()),
+        PreparedPart::EndElement => Ok(Value::empty()),
+    }
+}
+
+/// Substitutes a word's parts from left to right, and joins their texts.
+#[cycle(eval)]
+#[inline(never)]
+fn substitute<O: Outside>(
+    tree: &mut Tree,
+    alloc: Global,
+    outside: &mut O,
+    place: Place,
+    parts: &[PreparedPart],
+) -> Result<Value, Interruption>
+    requires running { IsRunning tree.old place }
+    ensures runs { ProceedsIn (ways O.goes O.loses) tree.old outside.old place
+        (λ style. scripts.parts (map seen_part parts.now) [] []) tree.new outside.new result }
+    ensures keeps { Keeps O.entries_left tree.old tree.new outside.old outside.new }
+{
+    let mut elements = Vec::new(alloc);
+    let mut text = String::new(alloc);
+    'parts: for part in parts {
+        eval_part(tree, alloc, outside, place, part, &mut elements, &mut text)?;
+    }
+    Ok(Value::from_short_text(Text::from_string(alloc, text)?))
+}
+
+/// Substitutes one part of a word.
+#[cycle(eval)]
+#[inline(never)]
+fn eval_part<O: Outside>(
+    tree: &mut Tree,
+    alloc: Global,
+    outside: &mut O,
+    place: Place,
+    part: &PreparedPart,
+    elements: &mut Vec<OpenElement>,
+    text: &mut String,
+) -> Result<(), Interruption>
+    requires running { IsRunning tree.old place }
+    requires short { IsShort (string_bytes text.old) }
+    ensures runs { MatchResult result
+        (λ _. PartGoes (ways O.goes O.loses) tree.old outside.old place (seen_part part.now)
+        (opens elements.old.items) (string_bytes text.old) tree.new outside.new
+        (opens elements.new.items) (string_bytes text.new))
+        (λ i. Breaks i (PartBreaks (ways O.goes O.loses) tree.old outside.old place (seen_part part.now)
+        (opens elements.old.items) (string_bytes text.old) tree.new outside.new)) }
+    ensures short { OnOk result (IsShort (string_bytes text.new)) }
+    ensures keeps { Keeps O.entries_left tree.old tree.new outside.old outside.new }
+{
+    match part {
+        PreparedPart::Literal(literal) => append(alloc, text, literal.as_str()),
+        PreparedPart::Variable(name) => {
+            let value = read_named(tree, alloc, place, name)?;
+            append_value(alloc, text, &value)
+        }
+        PreparedPart::Element(name) => open_element(alloc, name, elements, text),
+        PreparedPart::EndElement => close_element(tree, alloc, place, elements, text),
+        PreparedPart::Bracket(bracket) => {
+            let value = on_ok(eval_bracket(tree, alloc, outside, place, bracket))?;
+            append_value(alloc, text, &value)
+        }
+        PreparedPart::Deep(script) => {
+            let value = on_ok(eval_text(tree, alloc, outside, place, script))?;
+            append_value(alloc, text, &value)
+        }
+    }
+}

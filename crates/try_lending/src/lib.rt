@@ -1,0 +1,6 @@
+//! A trial.
+#![tactic(auto)]
+
+pub mod calls;
+pub mod constants;
+pub mod evaluation;
