@@ -3,6 +3,7 @@ use Rattle.std.proofs.Common.{pred, sym, ◌≡◌, ℕ, zero, suc, ℤ, ◌≤�
 use Rattle.tcl_core.specs.Paths.{Path, Place, strip, rise_to}
 use Rattle.tcl_core.specs.Endings.{Reply}
 use Rattle.tcl_core.specs.Endings.Meter.{Count, Depth}
+use Rattle.tcl_core.specs.Endings.Kind.{Full}
 use Rattle.tcl_core.specs.Endings.Reply.{Completed, Stop, Exit, Cut}
 use Rattle.tcl_core.specs.Endings.Cause.{Above, Over}
 use Rattle.tcl_core.specs.Entries.Answer.{Replied}
@@ -35,7 +36,7 @@ limit_on zero e = absurd (bad e)
     bad f = cc
 limit_on (suc n) e = absurd (bad e)
   where
-    bad : Off (Stop (suc n) Depth) ≡ On → Prim.⊥
+    bad : Off (Stop (suc n) (Full Depth)) ≡ On → Prim.⊥
     bad f = cc
 
 off_on : {A : Type 0} (r : Reply) → Off r ≡ On → A

@@ -23,6 +23,7 @@ use Rattle.tcl_core.proofs.TreeLaws.{listed_one}
 use Rattle.tcl_core.proofs.Seeing.{is_exit_self}
 use Rattle.tcl_core.proofs.Subtrees.{exit_answer}
 use Rattle.tcl_core.proofs.RuleLaws.{derived_runs}
+use Rattle.tcl_core.specs.Endings.Kind.{Full}
 
 -- what is left after some happenings
 pub record Rest (O : Type 0) : Type 0 where
@@ -218,10 +219,10 @@ module _ {O I S : Type 0} (step : Tree O → S → Wait → Event O → S → Ty
             (next U p (closes b (U p)) [] y);
       }
   follows f (too_deep {T} {V} {o} {u} {z} {p} {b} {i} {k} {r} x is_so deep s t) =
-      let g = follows (fit (k (refusal Depth)) (f (refusal Depth))) t in
+      let g = follows (fit (k (refusal (Full Depth))) (f (refusal (Full Depth)))) t in
       record {
         events = event (spot p x.0) x.1 ∷ g.events;
-        chain = λ cs. plain_more step (plain_open b T p x is_so) s (called_on step (k (refusal Depth)) (f (refusal Depth)) (g.chain cs));
+        chain = λ cs. plain_more step (plain_open b T p x is_so) s (called_on step (k (refusal (Full Depth))) (f (refusal (Full Depth))) (g.chain cs));
         runs = λ y. Derives.too_deep _ p b i k x (ahead (effect (spot p x.0) x.1 T) g.events y) _ _ (opened b T p x is_so g.events y) deep (next T (spot p x.0) x.1 g.events y) (g.runs y);
       }
   follows f (shut {T} {o} {u} {p} {b} {i} {k} {r} x is_so off s) =

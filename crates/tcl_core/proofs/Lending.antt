@@ -27,6 +27,7 @@ use Rattle.tcl_core.proofs.Parting.{Silent, act_silent, opens_silent, closes_sil
 use Rattle.tcl_core.proofs.Budgets.{budgeted, step_budget, decide_budget, opens_budget}
 use Rattle.tcl_core.proofs.Unended.{IsNoCut, decide_uncut, opens_uncut}
 use Rattle.tcl_core.proofs.Refusals.{IsRefusal, cut_or, decide_refused, opens_refused}
+use Rattle.tcl_core.specs.Endings.Kind.{Full}
 
 -- words of the outside, and no budget
 abbrev pub IsListed : Grants → Type 0
@@ -381,7 +382,7 @@ module _ {O : Type 0} (k : ℕ) (b0 y0 : List (Move O)) where
 
       opened_meet : (w : World O) (a0 : List (Move O)) (τ : List (Event O)) (m0 : Has w a0) (p : Place) (l : Wrap O) (i : I) (f : Completion → Prog O I) (x : Next) (v : World O) (e : Ending) (y : World O) (o : Ending) → Opened prog R w p l i f x v e → Opened prog S (lent w a0 τ) p l i f x y o → Alike w a0 τ v e y o
       opened_meet w a0 τ m0 p l i f (Off r) v e y o a b = both_end w a0 τ m0 v e y o (Some r) a.0 a.1 b.0 b.1
-      opened_meet w a0 τ m0 p l i f TooDeep v e y o a b = det w a0 τ m0 p (f (refusal Depth)) v e y o a b
+      opened_meet w a0 τ m0 p l i f TooDeep v e y o a b = det w a0 τ m0 p (f (refusal (Full Depth))) v e y o a b
       opened_meet w a0 τ m0 p l i f On v e y o (u, m, a, a2) (z, n, b, b2) =
           let r : Alike w a0 τ u m z n = det w a0 τ m0 p (prog.program i) u m z n a b in
           after_run w a0 τ u m z n r v e y o (λ g. closes_meet u g.left g.rest g.moves p l f m v e y o a2 (subst (λ j. Closes S (lent u g.left g.rest) p l f j y o) g.ending (subst (λ j. Closes S j p l f n y o) g.world b2)))

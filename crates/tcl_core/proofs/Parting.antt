@@ -26,6 +26,7 @@ use Rattle.tcl_core.proofs.PathLaws.{not_both, Some-inj, rise_back}
 use Rattle.tcl_core.proofs.Plain.{IsPlain}
 use Rattle.tcl_core.proofs.TreeLaws.{IsLife, reached_at}
 use Rattle.tcl_core.proofs.RuleLaws.{Ruled, open_rule, reach_rule, enter_rule}
+use Rattle.tcl_core.specs.Endings.Kind.{Full}
 
 module _ {O : Type 0} where
   -- the same, with these moves and this tape
@@ -393,7 +394,7 @@ module _ {O I : Type 0} (prog : Table O I) where
       (λ τ y o q d. (y, None, d.1, (refl, d.0))))
   part (too_deep w p l i k x u v e g deep s r) a b m =
       let f : Silent (spot p x.0) x.1 = opens_silent l w.tree p w.grants x g in
-      stepped w u v (spot p x.0) x.1 (Run_of u a p (k (refusal Depth))) (Run_of w a p (inside l i k)) e a a b s (sym (f a))
+      stepped w u v (spot p x.0) x.1 (Run_of u a p (k (refusal (Full Depth)))) (Run_of w a p (inside l i k)) e a a b s (sym (f a))
       (λ τ z o st d. too_deep (cut w a (record { place = spot p x.0; what = x.1 } ∷ τ)) p l i k x (cut u a τ) z o g deep st d) (part r a b (silent_moves w (spot p x.0) x.1 u a b f s m))
   part (shut w p l i k x r u g off s) a b m =
       let f : Silent (spot p x.0) x.1 = opens_silent l w.tree p w.grants x g in

@@ -25,6 +25,7 @@ use Rattle.tcl_core.proofs.Stops.{changing_on, making_on, dropping_on}
 use Rattle.tcl_core.specs.Lives.{Uncut}
 use Rattle.tcl_core.proofs.Unended.{IsNoCut, decide_uncut, opens_uncut}
 use Rattle.tcl_core.proofs.TreeLaws.{reached_at}
+use Rattle.tcl_core.specs.Endings.Kind.{Full}
 
 pub cut_or : (n : Next) → IsNoCut n ⊎ ((c : Cause) × (n ≡ Off (Cut c)))
 cut_or On = inl tt
@@ -46,7 +47,7 @@ no_off r e = absurd (bad e)
 pub by_limit_fine : {A : Type 0} (m : Meter) (n : ℕ) (c : Cause) → by_limit m n ≡ Off (Cut c) → A
 by_limit_fine Count n c e = absurd (bad e)
   where
-    bad : Off (Stop n Count) ≡ Off (Cut c) → Prim.⊥
+    bad : Off (Stop n (Full Count)) ≡ Off (Cut c) → Prim.⊥
     bad f = cc
 by_limit_fine Depth zero c e = absurd (bad e)
   where
@@ -54,7 +55,7 @@ by_limit_fine Depth zero c e = absurd (bad e)
     bad f = cc
 by_limit_fine Depth (suc n) c e = absurd (bad e)
   where
-    bad : Off (Stop (suc n) Depth) ≡ Off (Cut c) → Prim.⊥
+    bad : Off (Stop (suc n) (Full Depth)) ≡ Off (Cut c) → Prim.⊥
     bad f = cc
 
 abbrev where_out : Option Place → Type 0 → Type 0 → Type 0

@@ -18,6 +18,7 @@ use Rattle.tcl_core.specs.Programs.Prog.{done, exit, act, go, inside, call, wait
 use Rattle.tcl_core.specs.Runs.{World, Step, Ending, Run, Halts, Follows, Then, Closes, Acted, Acts, Opened, Opens, Hears, Answered, Leaves, Visits, Returns, Reaches, Calls, Exiting, Exits, Stays, Moves, Fitting, Waits, Unrolled, RunsIn, Runs, carried, reached, entering, fits, ends_call, height_of}
 use Rattle.tcl_core.specs.Laws.{retape, Agrees}
 use Rattle.tcl_core.proofs.Folding.{unroll}
+use Rattle.tcl_core.specs.Endings.Kind.{Full}
 
 module _ {O : Type 0} where
   at_top-inj : (p : Place) (m : Move O) (a b : List (Move O)) → at_top p m a ≡ at_top p m b → a ≡ b
@@ -234,7 +235,7 @@ module _ {O I : Type 0} where
 
     opened_same : (w : World O) (τ : List (Event O)) (p : Place) (l : Wrap O) (i : I) (k : Completion → Prog O I) (x : Next) (v : World O) (e : Ending) (y : World O) (o : Ending) → Opened prog R w p l i k x v e → Opened prog S (retape w τ) p l i k x y o → Agrees w τ v e y o
     opened_same w τ p l i k (Off r) v e y o a b = both_end w τ v e y o (Some r) a.0 a.1 b.0 b.1
-    opened_same w τ p l i k TooDeep v e y o a b = det w τ p (k (refusal Depth)) v e y o a b
+    opened_same w τ p l i k TooDeep v e y o a b = det w τ p (k (refusal (Full Depth))) v e y o a b
     opened_same w τ p l i k On v e y o (u, m, a, a2) (z, n, b, b2) =
         let r : Agrees w τ u m z n = det w τ p (prog.program i) u m z n a b in
         after_run w τ u m z n r v e y o (closes_same u r.rest p l k m v e y o a2 (subst (λ j. Closes S (retape u r.rest) p l k j y o) r.ending (subst (λ j. Closes S j p l k n y o) r.world b2)))

@@ -2,7 +2,7 @@
 use Rattle.std.proofs.Common.{sym, ◌≡◌, ℕ, zero, suc, ℤ, ◌+◌, ◌-◌, ◌≤◌, Bool, true, false, nat_le, nat_lt, List, [], ◌∷◌, ◌++◌, Option, Some, None, length, refl, ◌∙◌, ap, subst, arith}
 use Rattle.std.proofs.lemmas.Bool.Decides.{nat_tests}
 use Rattle.tcl_core.specs.Paths.{Path, Place, Height, strip, rise, rise_to, falls, together}
-use Rattle.tcl_core.specs.Endings.{Meter, Completion, Reply}
+use Rattle.tcl_core.specs.Endings.{Meter, Completion, Reply, Kind}
 use Rattle.tcl_core.specs.Endings.Meter.{Count, Depth}
 use Rattle.tcl_core.specs.Endings.Reply.{Completed, Stop, Exit, Cut}
 use Rattle.tcl_core.specs.Endings.Cause.{Above, Over}
@@ -203,7 +203,7 @@ module _ {O : Type 0} (c : Place) where
   none_demand p v q r e g k = absurd (not_both refl g)
 
 -- a stop that names c or one above it does so for the caller too
-carried_stop : (q q2 b down : Place) (h : ℕ) (p : Place) (n : ℕ) (m : Meter) → length q ≡ length b + h → length q2 ≡ length b + length down → nat_le (length q2) n ≡ true → ends_in q (carried (Some h) p down (Stop n m)) ≡ true
+carried_stop : (q q2 b down : Place) (h : ℕ) (p : Place) (n : ℕ) (m : Kind) → length q ≡ length b + h → length q2 ≡ length b + length down → nat_le (length q2) n ≡ true → ends_in q (carried (Some h) p down (Stop n m)) ≡ true
 carried_stop q q2 b down h p n m e f g =
     let l : length q2 ≤ n = grind (arith, nat_tests) in
     let x : nat_lt (n + together (falls h p) down) (length down) ≡ false = grind (arith, nat_tests) in

@@ -2,7 +2,7 @@
 use Rattle.std.proofs.Common.{◌≡◌, ℕ, zero, suc, ℤ, Bool, true, false, List, [], ◌∷◌, ◌++◌, Option, Some, None, length, refl, sym, ◌∙◌, ap, arith, length-append, append_assoc, subst}
 use mathlib.Core.Path.{fun_ext}
 use Rattle.tcl_core.specs.Paths.{Path, Place, Height, strip, rise_to, seen_height}
-use Rattle.tcl_core.specs.Endings.{Completion, Reply, IsQuit, refusal}
+use Rattle.tcl_core.specs.Endings.{Completion, Reply, IsQuit, refusal, reach}
 use Rattle.tcl_core.specs.Endings.Meter.{Depth}
 use Rattle.tcl_core.specs.Endings.Reply.{Completed, Stop, Exit, Cut}
 use Rattle.tcl_core.specs.Entries.{Entry, Answer, Said}
@@ -22,6 +22,7 @@ use Rattle.tcl_core.proofs.PathLaws.{child_in, not_both, Some-inj, strip-sound, 
 use Rattle.tcl_core.proofs.TreeLaws.{seen_next, listed, decide_none, opens_none, decide_within, opens_within, closes_seen, step_within, step_apart, step_fall, spot_within, IsBeside, IsLife, elsewhere_life, opens_here}
 use Rattle.tcl_core.proofs.Seeing.{carried_within, seen_end, seen_quit, answers_seen, is_exit_self, told_own}
 use Rattle.tcl_core.proofs.Folding.{roll}
+use Rattle.tcl_core.specs.Endings.Kind.{Full}
 
 pub top_only : (c q : Place) → strip c [] ≡ Some q → q ≡ []
 top_only [] q e = sym (Some-inj [] e)
@@ -112,7 +113,7 @@ module _ {O I : Type 0} where
   stays_seen prog w q2 q s k (Some (Completed c)) z o a = a.1
   stays_seen prog w q2 q s k (Some (Exit n)) z o a = a.1
   stays_seen prog w q2 q s k (Some (Cut c)) z o a = a.0
-  stays_seen prog w q2 q s k (Some (Stop n m)) z o a = go (Rattle.std.specs.Prelude.nat_lt (length q2) n)
+  stays_seen prog w q2 q s k (Some (Stop n m)) z o a = go (Rattle.std.specs.Prelude.nat_lt (length q2) (reach m n))
     where
       go : (b : Bool) → Stays (Runs prog) w q s k (Some (stopped b n m)) z o
       go true = a.0
@@ -317,7 +318,7 @@ module _ {O I : Type 0} where
 
     opened_within : (w : World O) (q : Place) (b : Wrap O) (i : I) (k : Completion → Prog O I) (x : Next) (v : World O) (e : Ending) → Opened prog R w (c ++ q) b i k x v e → Opened prog (Runs prog) (inside_of c w) q b i k (seen_next q x) (inside_of c v) (seen_end q e)
     opened_within w q b i k (Off r) v e a = (ap (inside_of c) a.0, ap (seen_end q) a.1)
-    opened_within w q b i k TooDeep v e a = ins w q (k (refusal Depth)) v e a
+    opened_within w q b i k TooDeep v e a = ins w q (k (refusal (Full Depth))) v e a
     opened_within w q b i k On v e (u, o, a, y) = (inside_of c u, seen_end q o, ins w q (prog.program i) u o a, closes_within u q b k o v e y)
 
     opens_in : (w : World O) (q : Place) (b : Wrap O) (x : Option (Deed O)) → opens b w.tree (c ++ q) w.grants ≡ x → (i : I) (k : Completion → Prog O I) (v : World O) (e : Ending) → Opens prog R w (c ++ q) x b i k v e →
@@ -434,7 +435,7 @@ module _ {O I : Type 0} where
     opened_apart : (w : World O) (p : Place) (y : Wrap O) (i : I) (k2 : Completion → Prog O I) (x : Next) (v : World O) (e : Ending) → strip c p ≡ None → Opened prog R w p y i k2 x v e →
         (q : Place) (s : Wait) (k : Said → Prog O I) (z : World O) (o : Ending) → rise_to (height_of s) q ≡ None → Stands prog (inside_of c v) q s k e z o → Runs prog (inside_of c w) q (wait s k) z o
     opened_apart w p y i k2 (Off r) v e d a q s k z o f b = stands_wait prog (inside_of c w) q s k r z o (subst (λ m. Stands prog m q s k (Some r) z o) (ap (inside_of c) a.0) (subst (λ e2. Stands prog (inside_of c v) q s k e2 z o) a.1 b))
-    opened_apart w p y i k2 TooDeep v e d a q s k z o f b = out w p (k2 (refusal Depth)) v e d a q s k z o f b
+    opened_apart w p y i k2 TooDeep v e d a q s k z o f b = out w p (k2 (refusal (Full Depth))) v e d a q s k z o f b
     opened_apart w p y i k2 On v e d (u, o2, a, x) q s k z o f b = out w p (prog.program i) u o2 d a q s k z o f (closes_apart u p y k2 o2 v e d x q s k z o f b)
 
     opens_only : (p : Place) (y : Wrap O) (T : Tree O) (gs : Grants) (x : Deed O) → opens y T p gs ≡ Some x → strip c p ≡ None → (q : Place) → strip c (spot p x.0) ≡ Some q → (q ≡ []) × IsLife x.1

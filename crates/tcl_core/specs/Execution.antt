@@ -6,6 +6,7 @@ use Rattle.std.specs.Prelude.{length}
 use Rattle.tcl_core.specs.Paths.{Path, Place, Height, rise_to}
 use Rattle.tcl_core.specs.Endings.{Completion, Reply, IsQuit, refusal}
 use Rattle.tcl_core.specs.Endings.Meter.{Depth}
+use Rattle.tcl_core.specs.Endings.Kind.{Full}
 use Rattle.tcl_core.specs.Endings.Reply.{Completed, Exit}
 use Rattle.tcl_core.specs.Entries.{Entry, HostReply, Said}
 use Rattle.tcl_core.specs.Entries.Answer.{Replied, Heard}
@@ -70,7 +71,7 @@ pub data Executes {O I S : Type 0} (step : Tree O → S → Wait → Event O →
   too_deep : {T V : Tree O} {o u z : S} {p : Place} {b : Wrap O} {i : I} {k : Completion → Prog O I}
       {r : Reply} (x : Deed O) →
       Opens_so b T p x → x.2 ≡ TooDeep → step T o None (event (spot p x.0) x.1) u →
-      Executes step prog (effect (spot p x.0) x.1 T) u p (k (refusal Depth)) V z r →
+      Executes step prog (effect (spot p x.0) x.1 T) u p (k (refusal (Full Depth))) V z r →
       Executes step prog T o p (inside b i k) V z r
   shut : {T : Tree O} {o u : S} {p : Place} {b : Wrap O} {i : I} {k : Completion → Prog O I}
       {r : Reply} (x : Deed O) →

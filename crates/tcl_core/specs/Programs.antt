@@ -5,6 +5,7 @@ use Rattle.std.specs.Prelude.{nat_le, length}
 use Rattle.tcl_core.specs.Paths.{Text, Path, Place, Height}
 use Rattle.tcl_core.specs.Endings.{Meter, Completion, Reply}
 use Rattle.tcl_core.specs.Endings.Meter.{Count, Depth}
+use Rattle.tcl_core.specs.Endings.Kind.{Full}
 use Rattle.tcl_core.specs.Endings.Reply.{Stop, Cut}
 use Rattle.tcl_core.specs.Endings.Cause.{Above, Over}
 use Rattle.tcl_core.specs.Entries.{Entry, Said}
@@ -123,9 +124,9 @@ spot p (Some name) = p ++ name ∷ []
 
 -- A limit refuses. An interpreter's own depth limit is an error there; all else is a stop.
 abbrev pub by_limit : Meter → ℕ → Next
-by_limit Count n = Off (Stop n Count)
+by_limit Count n = Off (Stop n (Full Count))
 by_limit Depth zero = TooDeep
-by_limit Depth (suc n) = Off (Stop (suc n) Depth)
+by_limit Depth (suc n) = Off (Stop (suc n) (Full Depth))
 
 module _ {O : Type 0} where
   abbrev pub by_grant : Meter → What O → Grants → Option (Deed O)

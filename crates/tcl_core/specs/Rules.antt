@@ -4,6 +4,7 @@ use Rattle.std.specs.Prelude.{◌≡◌, ℤ, Bool, true, false, List, [], ◌�
 use Rattle.tcl_core.specs.Paths.{Path, Place, Height, rise_to}
 use Rattle.tcl_core.specs.Endings.{Completion, Reply, IsQuit, refusal}
 use Rattle.tcl_core.specs.Endings.Meter.{Depth}
+use Rattle.tcl_core.specs.Endings.Kind.{Full}
 use Rattle.tcl_core.specs.Endings.Reply.{Completed, Exit}
 use Rattle.tcl_core.specs.Entries.{Entry, HostReply, Said}
 use Rattle.tcl_core.specs.Entries.Answer.{Replied, Heard}
@@ -73,7 +74,7 @@ pub data Derives {O I : Type 0} (prog : Table O I) : World O → Place → Prog 
   too_deep : (w : World O) (p : Place) (b : Wrap O) (i : I) (k : Completion → Prog O I) (x : Deed O)
       (u v : World O) (e : Ending) →
       opens b w.tree p w.grants ≡ Some x → x.2 ≡ TooDeep → Step w (spot p x.0) x.1 u →
-      Derives prog u p (k (refusal Depth)) v e → Derives prog w p (inside b i k) v e
+      Derives prog u p (k (refusal (Full Depth))) v e → Derives prog w p (inside b i k) v e
   shut : (w : World O) (p : Place) (b : Wrap O) (i : I) (k : Completion → Prog O I) (x : Deed O)
       (r : Reply) (u : World O) →
       opens b w.tree p w.grants ≡ Some x → x.2 ≡ Off r → Step w (spot p x.0) x.1 u →

@@ -3,8 +3,9 @@ use Rattle.std.specs.Ordering.{int_eq}
 use Rattle.std.specs.Prelude.{◌≡◌, ℕ, zero, suc, ℤ, Bool, true, false, nat_lt, ◌+◌, ◌-◌, List, []}
 use Rattle.std.specs.Prelude.{◌∷◌, ◌++◌, Option, Some, None, length}
 use Rattle.tcl_core.specs.Paths.{falls, together, Path, Place, Height, rise_to}
-use Rattle.tcl_core.specs.Endings.{Meter, Completion, Reply, refusal}
+use Rattle.tcl_core.specs.Endings.{Kind, Completion, Reply, refusal}
 use Rattle.tcl_core.specs.Endings.Meter.{Depth}
+use Rattle.tcl_core.specs.Endings.Kind.{Full}
 use Rattle.tcl_core.specs.Endings.Reply.{Completed, Stop, Exit}
 use Rattle.tcl_core.specs.Entries.{Entry, Answer, Said, answers}
 use Rattle.tcl_core.specs.Entries.Entry.{AskHost}
@@ -50,7 +51,7 @@ Run O I = World O → Place → Prog O I → World O → Ending → Type 0
 -- The reply of a call, as the caller at p is told it, who went h up and then down: a stop that
 -- names an interpreter in whose subtree the caller does not stand is an error there; another one is
 -- as many levels up as it is from the caller.
-abbrev pub lessened : Bool → ℕ → Meter → Reply
+abbrev pub lessened : Bool → ℕ → Kind → Reply
 lessened true n m = Completed (refusal m)
 lessened false n m = Stop n m
 
@@ -162,7 +163,7 @@ module _ {O I : Type 0} where
   abbrev pub Opened : Table O I → Run O I → World O → Place → Wrap O → I → (Completion → Prog O I) →
       Next → World O → Ending → Type 0
   Opened prog R w p b i k (Off r) v e = (v ≡ w) × (e ≡ Some r)
-  Opened prog R w p b i k TooDeep v e = R w p (k (refusal Depth)) v e
+  Opened prog R w p b i k TooDeep v e = R w p (k (refusal (Full Depth))) v e
   Opened prog R w p b i k On v e = (u : World O) × (o : Ending) × R w p (prog.program i) u o ×
       Closes R u p b k o v e
 

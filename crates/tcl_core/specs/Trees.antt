@@ -4,7 +4,7 @@
 use Rattle.std.specs.Prelude.{ℕ, suc, pred, Bool, true, false, List, [], ◌∷◌, ◌++◌, Option, Some}
 use Rattle.std.specs.Prelude.{None, nat_lt, length}
 use Rattle.tcl_core.specs.Paths.{Path, Place, Height, strip, rise_to, seen_height}
-use Rattle.tcl_core.specs.Endings.{Meter, Reply}
+use Rattle.tcl_core.specs.Endings.{Meter, Kind, Reply, reach}
 use Rattle.tcl_core.specs.Endings.Reply.{Stop, Cut}
 use Rattle.tcl_core.specs.Endings.Cause.{Above}
 use Rattle.tcl_core.specs.Entries.{Entry, Answer}
@@ -194,13 +194,13 @@ paid Charged b = suc b
 paid _ b = b
 
 -- a reply as it is seen in a tree where it is told at q: a stop that names one above the top cuts
--- off from outside
-abbrev pub stopped : Bool → ℕ → Meter → Reply
-stopped true n m = Cut Above
-stopped false n m = Stop n m
+-- off from outside, and so does that the top is gone
+abbrev pub stopped : Bool → ℕ → Kind → Reply
+stopped true n k = Cut Above
+stopped false n k = Stop n k
 
 abbrev pub seen_reply : List (List ℕ) → Reply → Reply
-seen_reply q (Stop n m) = stopped (nat_lt (length q) n) n m
+seen_reply q (Stop n k) = stopped (nat_lt (length q) (reach k n)) n k
 seen_reply q (Cut c) = Cut Above
 seen_reply q r = r
 
