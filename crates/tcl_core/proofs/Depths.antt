@@ -1,5 +1,5 @@
 -- Depths come back to what they were, and what is in use stays.
-use Rattle.std.proofs.Common.{pred, sym, ◌≡◌, ℕ, zero, suc, ℤ, ◌≤◌, Bool, true, false, List, [], ◌∷◌, ◌++◌, Option, Some, None, refl, ◌∙◌, ap, subst, arith, append-nil, append_assoc}
+use Rattle.std.proofs.Common.{pred, sym, ◌≡◌, ℕ, zero, suc, ℤ, ◌≤◌, Bool, true, false, List, [], ◌∷◌, ◌++◌, Option, Some, None, refl, ◌∙◌, ap, subst, arith, append-nil, append_assoc, nat_lt}
 use Rattle.tcl_core.specs.Paths.{Path, Place, strip, rise_to}
 use Rattle.tcl_core.specs.Endings.{Reply}
 use Rattle.tcl_core.specs.Endings.Meter.{Count, Depth}
@@ -7,19 +7,19 @@ use Rattle.tcl_core.specs.Endings.Kind.{Full}
 use Rattle.tcl_core.specs.Endings.Reply.{Completed, Stop, Exit, Cut}
 use Rattle.tcl_core.specs.Endings.Cause.{Above, Over}
 use Rattle.tcl_core.specs.Entries.Answer.{Replied}
-use Rattle.tcl_core.specs.Trees.{Grants, Tree, Node, What, Move, asked, where_none, at_top, at_end, where_some, on_node, on_line, on_some, effect, counted, deeper, shallower, fresh}
+use Rattle.tcl_core.specs.Trees.{Grants, Tree, Node, What, Move, asked, where_none, at_top, at_end, where_some, on_node, on_line, on_some, effect, counted, deeper, shallower, fresh, depth_of}
 use Rattle.tcl_core.specs.Trees.Grant.{Allow, Deny}
 use Rattle.tcl_core.specs.Trees.Grants.{Listed, Budget}
 use Rattle.tcl_core.specs.Trees.What.{Seen, Changed, Charged, Refused, Nested, Unnested, Limited, DepthLimited, Made, Dropped, In, Back}
 use Rattle.tcl_core.specs.Trees.Move.{Born, Fall, Enter, Come}
-use Rattle.tcl_core.specs.Programs.{Deed, spot, Act, Wrap, Wait, Next, Prog, Table, decide, opens, closes, changing, making, dropping, dropping_at, either, metered, by_limit, blocked, is_spent, is_deep}
+use Rattle.tcl_core.specs.Programs.{Deed, spot, Act, Wrap, Wait, Next, Prog, Table, decide, opens, closes, changing, making, dropping, dropping_at, either, metered, by_limit, blocked, is_spent, is_deep, brought_back}
 use Rattle.tcl_core.specs.Programs.Next.{On, TooDeep, Off}
 use Rattle.tcl_core.specs.Programs.Act.{Look, Change, Charge, Limit, LimitDepth, Make, Drop}
 use Rattle.tcl_core.specs.Programs.Wrap.{Deeper, Framed}
 use Rattle.tcl_core.specs.Runs.{World, Step, Ending, Halts, Exits, Exiting, ends_call, height_of}
 use Rattle.tcl_core.specs.Rules.{Derives}
 use Rattle.tcl_core.specs.Rules.Derives.{completed, exited, acted, refused, unheard, went, passed, halted, wrapped, wrapped_passed, wrapped_halted, too_deep, shut, unheard_inside, called, called_passed, called_halted, unreached, called_out, unanswered, unfit, answered, heard, answered_passed, entered, entered_halted, entered_exiting, born, fallen}
-use Rattle.tcl_core.specs.Laws.{Stands, IsStanding, depth_of, Beneath, IsUpright, KeepsTop, Steady}
+use Rattle.tcl_core.specs.Laws.{Stands, IsStanding, Beneath, IsUpright, KeepsTop, Steady}
 use Rattle.tcl_core.proofs.PathLaws.{not_both, Some-inj, strip_own, strip-sound, child_in}
 use Rattle.tcl_core.proofs.RuleLaws.{runs_derived}
 
@@ -279,9 +279,13 @@ module _ {O : Type 0} where
   unopened Deeper T p x f g = g.1 f
   unopened (Framed o back) T p x f g = g
 
-  framed_calm : (T : Tree O) (p : Place) (o : O) (back : O → O) (n : Option (Node O)) → Sound T → Calm T p (closes (Framed o back) n)
-  framed_calm T p o back None s = same_calm T p Seen s refl (λ c. tt)
-  framed_calm T p o back (Some n) s = node_calm T p (Changed (back n.own)) (λ n2. record n2 { own = back n.own }) s refl (λ n2. refl) (λ c. tt)
+  brought_calm : (T : Tree O) (p : Place) (t : Bool) (back : O → O) (n : Option (Node O)) → Sound T → Calm T p (brought_back t back n)
+  brought_calm T p t back None s = same_calm T p Seen s refl (λ c. tt)
+  brought_calm T p true back (Some n) s = same_calm T p Seen s refl (λ c. tt)
+  brought_calm T p false back (Some n) s = node_calm T p (Changed (back n.own)) (λ n2. record n2 { own = back n.own }) s refl (λ n2. refl) (λ c. tt)
+
+  framed_calm : (T : Tree O) (p : Place) (o : O) (back : O → O) (m n : Option (Node O)) → Sound T → Calm T p (closes (Framed o back) m n)
+  framed_calm T p o back m n s = brought_calm T p (nat_lt (depth_of n) (depth_of m)) back n s
 
   -- ONE LEVEL MORE, AND BACK
   deep_depth : (s : Option Path) (o : Option (Node O)) → (o ≡ None → Prim.⊥) → (z : Path) → s ≡ Some z → depth_of (where_some s deeper o) ≡ suc (depth_of o)
@@ -438,7 +442,7 @@ module _ {O : Type 0} where
   runs w u v r e h a b = run_then w u v r e a (b (sound_run w u r h a) a.top)
 
   -- an evaluation with a wrap, to its end
-  wrap_runs : (b : Wrap O) (w : World O) (p : Place) (gs : Grants) (x : Deed O) (inner left closed : World O) (r : Reply) (e : Ending) → opens b w.tree p gs ≡ Some x → x.2 ≡ On → Step w (spot p x.0) x.1 inner → Step left p (closes b (left.tree p)) closed → Sound w.tree → KeepsTop w.moves →
+  wrap_runs : (b : Wrap O) (w : World O) (p : Place) (gs : Grants) (x : Deed O) (inner left closed : World O) (r : Reply) (e : Ending) → opens b w.tree p gs ≡ Some x → x.2 ≡ On → Step w (spot p x.0) x.1 inner → Step left p (closes b (inner.tree p) (left.tree p)) closed → Sound w.tree → KeepsTop w.moves →
       (Sound inner.tree → KeepsTop inner.moves → Result inner left (Some r)) → Result w closed e
   wrap_runs Deeper w p gs x inner left closed r e g on s t h m a =
       let o : Deep w.tree p x = opening Deeper w.tree p gs x h g in
@@ -446,7 +450,7 @@ module _ {O : Type 0} where
       let s2 : Step w p Nested inner = nest_step w p x.0 x.1 inner y.0 y.1 s in
       level w p inner left closed r e s2 (a (nested_sound w p inner s2 h) (top_step w p Nested inner s2 m)) t
   wrap_runs (Framed o back) w p gs x inner left closed r e g on s t h m a =
-      does w (spot p x.0) x.1 inner closed e s (opening (Framed o back) w.tree p gs x h g) h m (λ h2 m2. runs inner left closed r e h2 (a h2 m2) (λ h3 m3. does left p (closes (Framed o back) (left.tree p)) closed closed e t (framed_calm left.tree p o back (left.tree p) h3) h3 m3 (λ h4 m4. at_once closed e h4 m4)))
+      does w (spot p x.0) x.1 inner closed e s (opening (Framed o back) w.tree p gs x h g) h m (λ h2 m2. runs inner left closed r e h2 (a h2 m2) (λ h3 m3. does left p (closes (Framed o back) (inner.tree p) (left.tree p)) closed closed e t (framed_calm left.tree p o back (inner.tree p) (left.tree p) h3) h3 m3 (λ h4 m4. at_once closed e h4 m4)))
 
   wrap_halts : (b : Wrap O) (w : World O) (p : Place) (gs : Grants) (x : Deed O) (inner left : World O) → opens b w.tree p gs ≡ Some x → x.2 ≡ On → Step w (spot p x.0) x.1 inner → Sound w.tree → KeepsTop w.moves → (Sound inner.tree → KeepsTop inner.moves → Result inner left None) → Result w left None
   wrap_halts Deeper w p gs x inner left g on s h m a =

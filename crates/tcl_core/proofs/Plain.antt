@@ -14,6 +14,7 @@ use Rattle.tcl_core.specs.Programs.Next.{On, Off}
 use Rattle.tcl_core.specs.Programs.Act.{Look, Change, Charge, Limit, LimitDepth, Make, Drop}
 use Rattle.tcl_core.specs.Programs.Wrap.{Deeper, Framed}
 use Rattle.tcl_core.proofs.PathLaws.{not_both, Some-inj}
+use Rattle.tcl_core.proofs.TreeLaws.{any_close}
 
 module _ {O : Type 0} where
   abbrev pub IsPlain : What O → Type 0
@@ -65,7 +66,5 @@ module _ {O : Type 0} where
   opens_plain Deeper T p gs x e = metered_plain Depth Nested (blocked is_deep T p) gs x tt e
   opens_plain (Framed o back) T p gs x e = plain_of (changing o (T p)) x (changing_plain o (T p)) e
 
-  pub closes_plain : (b : Wrap O) (n : Option (Node O)) → IsPlain (closes b n)
-  closes_plain Deeper n = tt
-  closes_plain (Framed o back) None = tt
-  closes_plain (Framed o back) (Some n) = tt
+  pub closes_plain : (b : Wrap O) (m n : Option (Node O)) → IsPlain (closes b m n)
+  closes_plain b m n = any_close IsPlain b m n tt tt (λ o. tt)

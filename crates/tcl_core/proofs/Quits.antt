@@ -5,13 +5,13 @@ use Rattle.tcl_core.specs.Endings.{Completion, Reply, IsQuit}
 use Rattle.tcl_core.specs.Endings.Reply.{Completed, Stop, Exit, Cut}
 use Rattle.tcl_core.specs.Entries.{Entry, Said}
 use Rattle.tcl_core.specs.Entries.Answer.{Replied}
-use Rattle.tcl_core.specs.Trees.{Tree, What, Move}
+use Rattle.tcl_core.specs.Trees.{Tree, What, Move, depth_of}
 use Rattle.tcl_core.specs.Trees.What.{Out}
 use Rattle.tcl_core.specs.Trees.Move.{Come}
 use Rattle.tcl_core.specs.Programs.{Act, Wrap, Wait, Deed, Prog, Table, spot, decide, opens}
 use Rattle.tcl_core.specs.Programs.Next.{On, Off}
 use Rattle.tcl_core.specs.Programs.Prog.{act, go, inside, call, wait}
-use Rattle.tcl_core.specs.Runs.{World, Step, Ending, Run, Follows, Then, Closes, Acted, Acts, Opened, Opens, Hears, Answered, Returns, Reaches, Calls, Fitting, Waits, Visits, Unrolled, Runs, carried, reached, fits, height_of}
+use Rattle.tcl_core.specs.Runs.{World, Step, Ending, Run, Follows, Then, Closes, Acted, Acts, Opened, Opens, Hears, Answered, Returns, Reaches, Calls, Fitting, Waits, Visits, Unrolled, Runs, carried, reached, fits, height_of, gone}
 use Rattle.tcl_core.specs.Laws.{Passing, Agrees}
 use Rattle.tcl_core.proofs.Folding.{unroll}
 use Rattle.tcl_core.proofs.SameRuns.{runs_same, visits_same, same_step}
@@ -63,26 +63,27 @@ module _ {O I : Type 0} where
       let y : c.0 ≡ u = step_same w (spot p x.0) x.1 u c.0 s c.1 in
       let d : Opened prog (Runs prog) u p l i k On v e = subst (λ n. Opened prog (Runs prog) u p l i k n v e) on (subst (λ m. Opened prog (Runs prog) m p l i k x.2 v e) y c.2) in
       let f : Agrees u u.tape z (Some r) d.0 d.1 = runs_same prog u u.tape p (prog.program i) z (Some r) d.0 d.1 a d.2 in
-      let h : Closes (Runs prog) d.0 p l k (Some r) v e = subst (λ o. Closes (Runs prog) d.0 p l k o v e) f.ending d.3 in
+      let h : Closes (Runs prog) (u.tree p) d.0 p l k (Some r) v e = subst (λ o. Closes (Runs prog) (u.tree p) d.0 p l k o v e) f.ending d.3 in
       follows_quit (Runs prog) h.0 p k r v e q h.2
 
   passes_call : (prog : Table O I) (w u z v : World O) (p a t : Place) (h : Height) (down : Path) (i : Entry) (lost : Completion) (k : Said → Prog O I) (r : Reply) (e : Ending) →
-      IsQuit (carried h p down r) → rise_to h p ≡ Some a → Step w p (Out h down i) u → reached u.tree a down ≡ Some t → Visits prog (Runs prog) u (Some (length down)) t i z (Some r) →
-      Runs prog w p (call h down i lost k) v e → e ≡ Some (carried h p down r)
+      IsQuit (carried (gone (depth_of (u.tree p)) z.tree p) h p down r) → rise_to h p ≡ Some a → Step w p (Out h down i) u → reached u.tree a down ≡ Some t → Visits prog (Runs prog) u (Some (length down)) t i z (Some r) →
+      Runs prog w p (call h down i lost k) v e → e ≡ Some (carried (gone (depth_of (u.tree p)) z.tree p) h p down r)
   passes_call prog w u z v p a t h down i lost k r e q f s g n b =
       let c : Unrolled prog (Runs prog) w p (call h down i lost k) v e = unroll prog w p (call h down i lost k) v e b in
       let y : c.0 ≡ u = step_same w p (Out h down i) u c.0 s c.1 in
       let d : Reaches prog (Runs prog) u p h down i lost k (reached u.tree a down) v e = subst (λ o. Calls prog (Runs prog) u p h down i lost k o v e) f (subst (λ m. Calls prog (Runs prog) m p h down i lost k (rise_to h p) v e) y c.2) in
       let j : Reaches prog (Runs prog) u p h down i lost k (Some t) v e = subst (λ o. Reaches prog (Runs prog) u p h down i lost k o v e) g d in
       let l : Agrees u u.tape z (Some r) j.0 j.1 = visits_same prog (Runs prog) (Runs prog) (runs_same prog) u u.tape (Some (length down)) t i z (Some r) j.0 j.1 n j.2 in
-      let m : Answered (Runs prog) j.0 p h k (Replied (carried h p down r)) v e = subst (λ o. Returns (Runs prog) j.0 p h down k o v e) l.ending j.3 in
-      hears_quit (Runs prog) m.0 p k (carried h p down r) v e q m.2
+      let m : Answered (Runs prog) j.0 p h k (Replied (carried (gone (depth_of (u.tree p)) j.0.tree p) h p down r)) v e = subst (λ o. Returns (Runs prog) (depth_of (u.tree p)) j.0 p h down k o v e) l.ending j.3 in
+      let m2 : Answered (Runs prog) j.0 p h k (Replied (carried (gone (depth_of (u.tree p)) z.tree p) h p down r)) v e = subst (λ T. Answered (Runs prog) j.0 p h k (Replied (carried (gone (depth_of (u.tree p)) T p) h p down r)) v e) (ap (λ n. n.tree) l.world) m in
+      hears_quit (Runs prog) m2.0 p k (carried (gone (depth_of (u.tree p)) z.tree p) h p down r) v e q m2.2
 
   passes_answer : (prog : Table O I) (w v : World O) (p : Place) (s : Wait) (k : Said → Prog O I) (ms : List (Move O)) (r : Reply) (e : Ending) →
-      IsQuit r → w.moves ≡ Come (Replied r) ∷ ms → fits {O = O} s (Come (Replied r)) ≡ true → Runs prog w p (wait s k) v e → e ≡ Some r
+      IsQuit r → w.moves ≡ Come (Replied r) ∷ ms → fits w.tree p s (Come (Replied r)) ≡ true → Runs prog w p (wait s k) v e → e ≡ Some r
   passes_answer prog w v p s k ms r e q m f b =
       let c : Unrolled prog (Runs prog) w p (wait s k) v e = unroll prog w p (wait s k) v e b in
-      let d : Fitting prog (Runs prog) w p s k (fits {O = O} s (Come (Replied r))) (Come (Replied r)) v e = subst (λ o. Waits prog (Runs prog) w p s k o v e) m c.1 in
+      let d : Fitting prog (Runs prog) w p s k (fits w.tree p s (Come (Replied r))) (Come (Replied r)) v e = subst (λ o. Waits prog (Runs prog) w p s k o v e) m c.1 in
       let g : Answered (Runs prog) w p (height_of s) k (Replied r) v e = subst (λ o. Fitting prog (Runs prog) w p s k o (Come (Replied r)) v e) f d in
       hears_quit (Runs prog) g.0 p k r v e q g.2
 

@@ -8,14 +8,14 @@ use Rattle.tcl_core.specs.Endings.Reply.{Stop, Cut}
 use Rattle.tcl_core.specs.Entries.{Entry, Said}
 use Rattle.tcl_core.specs.Entries.Answer.{Replied}
 use Rattle.tcl_core.specs.Trees.{asked, effect, Grant, Grants, Tree, Node, What, Event, Move, at}
-use Rattle.tcl_core.specs.Trees.{on_some}
+use Rattle.tcl_core.specs.Trees.{on_some, depth_of}
 use Rattle.tcl_core.specs.Trees.Grants.{Listed, Budget}
 use Rattle.tcl_core.specs.Trees.Move.{Born, Fall, Enter, Come}
 use Rattle.tcl_core.specs.Trees.What.{Charged, Refused, Limited, Made, Dropped, Out, In, Done, Back}
 use Rattle.tcl_core.specs.Programs.{Act, Wrap, Wait, Deed, Prog, Table, spot, decide, opens}
 use Rattle.tcl_core.specs.Programs.Next.{On, Off}
 use Rattle.tcl_core.specs.Programs.Prog.{act, go, inside, call, wait}
-use Rattle.tcl_core.specs.Runs.{World, Ending, Step, Runs, Visits, carried, reached, fits}
+use Rattle.tcl_core.specs.Runs.{World, Ending, Step, Runs, Visits, carried, gone, reached, fits}
 use Rattle.tcl_core.specs.Views.{grants_of, moves_of, steps_of, view, inside_of}
 use Rattle.tcl_core.specs.Tables.{Discipline, Keeps_to, IsGood, AreTame, AreAllowed, exposes}
 use Rattle.tcl_core.specs.Tables.{hostless, sets_limit, unlimiting}
@@ -386,14 +386,16 @@ pub record Passing (O I : Type 0) : Type 0 where
   -- where a call within the tree is answered so, as its caller is told it
   pub called : (prog : Table O I) (w u z v : World O) (p a t : Place) (h : Height) (down : Path)
       (i : Entry) (lost : Completion) (k : Said → Prog O I) (r : Reply) (e : Ending) →
-      IsQuit (carried h p down r) → rise_to h p ≡ Some a → Step w p (Out h down i) u →
+      IsQuit (carried (gone (depth_of (u.tree p)) z.tree p) h p down r) → rise_to h p ≡ Some a →
+      Step w p (Out h down i) u →
       reached u.tree a down ≡ Some t →
       Visits prog (Runs prog) u (Some (length down)) t i z (Some r) →
-      Runs prog w p (call h down i lost k) v e → e ≡ Some (carried h p down r)
+      Runs prog w p (call h down i lost k) v e →
+      e ≡ Some (carried (gone (depth_of (u.tree p)) z.tree p) h p down r)
   -- and where one that left the tree is
   pub answered : (prog : Table O I) (w v : World O) (p : Place) (s : Wait) (k : Said → Prog O I)
       (ms : List (Move O)) (r : Reply) (e : Ending) →
-      IsQuit r → w.moves ≡ Come (Replied r) ∷ ms → fits {O = O} s (Come (Replied r)) ≡ true →
+      IsQuit r → w.moves ≡ Come (Replied r) ∷ ms → fits w.tree p s (Come (Replied r)) ≡ true →
       Runs prog w p (wait s k) v e → e ≡ Some r
 
 -- Where an entry is ended from outside, what is told before that is a beginning of what React
@@ -407,11 +409,6 @@ IsolationUntil O I = (prog : Table O I) (c : Place) (w v : World O) (t : Path) (
     view c w.tape ≡ before ++ later → IsUnended before → steps_of (view c w.tape) ≤ m →
     React prog (at w.tree c) (moves_of before) m x outs V → (more : List (Event O)) ×
     (outs ≡ outs_of before ++ more)
-
--- how many evaluations are in progress in an interpreter; none where none stands
-abbrev pub depth_of : {O : Type 0} → Option (Node O) → ℕ
-depth_of None = 0
-depth_of (Some n) = n.depth
 
 abbrev pub Beneath : {O : Type 0} → Option (Node O) → Option (Node O) → Type 0
 Beneath a None = Unit {0}

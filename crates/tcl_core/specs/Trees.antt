@@ -21,6 +21,11 @@ pub record Node (O : Type 0) : Type 0 where
   pub depth : ℕ
   pub depth_limit : ℕ
 
+-- how many evaluations are in progress in an interpreter and below it; none where none stands
+abbrev pub depth_of : {O : Type 0} → Option (Node O) → ℕ
+depth_of None = 0
+depth_of (Some n) = n.depth
+
 -- the interpreters, by their places
 abbrev pub Tree : Type 0 → Type 0
 Tree O = List (List ℕ) → Option (Node O)
