@@ -12,7 +12,7 @@ use Rattle.tcl_core.specs.Trees.Grant.{Allow, Deny}
 use Rattle.tcl_core.specs.Trees.Grants.{Listed, Budget}
 use Rattle.tcl_core.specs.Trees.What.{Seen, Changed, Charged, Refused, Nested, Unnested, Limited, DepthLimited, Made, Dropped, Out, In, Back}
 use Rattle.tcl_core.specs.Trees.Move.{Born, Fall, Enter, Come}
-use Rattle.tcl_core.specs.Programs.{Deed, spot, Act, Wrap, Wait, Prog, Table, decide, opens, closes, changing, making, dropping, dropping_at, either, metered, by_limit, blocked, is_spent, is_deep, brought_back}
+use Rattle.tcl_core.specs.Programs.{Deed, spot, Act, Wrap, Wait, Prog, Table, decide, opens, closes, changing, making, dropping, either, metered, by_limit, blocked, is_spent, is_deep, brought_back}
 use Rattle.tcl_core.specs.Programs.Next.{On, Off}
 use Rattle.tcl_core.specs.Programs.Act.{Look, Change, Charge, Limit, LimitDepth, Make, Drop}
 use Rattle.tcl_core.specs.Programs.Wrap.{Deeper, Framed}
@@ -108,11 +108,7 @@ module _ {O I : Type 0} (R : Discipline O I) where
 
   dropping_allowed : (p : Place) (name : List ℕ) (n : Option (Node O)) → Allowed R (spot p (dropping name n).0) (dropping name n).1
   dropping_allowed p name None = tt
-  dropping_allowed p name (Some n) = by n.depth
-    where
-      by : (d : ℕ) → Allowed R (spot p (dropping_at {O = O} name d).0) (dropping_at {O = O} name d).1
-      by zero = tt
-      by (suc d) = tt
+  dropping_allowed p name (Some n) = tt
 
   -- where limits may be set, if they may be by what goes on
   abbrev Licence : Bool → Place → Type 0

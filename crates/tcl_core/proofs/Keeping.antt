@@ -11,7 +11,7 @@ use Rattle.tcl_core.specs.Trees.Grant.{Allow, Deny}
 use Rattle.tcl_core.specs.Trees.Grants.{Listed, Budget}
 use Rattle.tcl_core.specs.Trees.Move.{Born, Fall, Enter, Come}
 use Rattle.tcl_core.specs.Trees.What.{Seen, Charged, Refused, Nested, Limited, DepthLimited, Made, Dropped, Out, In, Done, Back}
-use Rattle.tcl_core.specs.Programs.{Act, Wrap, Deed, Wait, Prog, Table, spot, decide, opens, closes, changing, making, dropping, dropping_at, metered, by_limit, blocked, is_spent, is_deep}
+use Rattle.tcl_core.specs.Programs.{Act, Wrap, Deed, Wait, Prog, Table, spot, decide, opens, closes, changing, making, dropping, metered, by_limit, blocked, is_spent, is_deep}
 use Rattle.tcl_core.specs.Programs.Next.{On, Off}
 use Rattle.tcl_core.specs.Programs.Act.{Look, Change, Charge, Limit, LimitDepth, Make, Drop}
 use Rattle.tcl_core.specs.Programs.Wrap.{Deeper, Framed}
@@ -51,11 +51,7 @@ module _ {O : Type 0} where
 
   dropping_due : (T : Tree O) (p : Place) (name : List ℕ) (n : Option (Node O)) → IsDue T (spot p (dropping name n).0) (dropping name n).1
   dropping_due T p name None = tt
-  dropping_due T p name (Some n) = go n.depth
-    where
-      go : (d : ℕ) → IsDue T (spot p (dropping_at {O = O} name d).0) (dropping_at name d).1
-      go zero = tt
-      go (suc d) = tt
+  dropping_due T p name (Some n) = tt
 
   -- an act is done only where it is due
   pub decide_due : (d : Act O) (T : Tree O) (p : Place) (gs : Grants) (x : Deed O) → decide d T p gs ≡ Some x → IsDue T (spot p x.0) x.1

@@ -10,7 +10,7 @@ use Rattle.tcl_core.specs.Entries.Said.{Finished, Told}
 use Rattle.tcl_core.specs.Trees.{at, Grants, Tree, Node, What, Event, Move, asked, where_none, at_top, depth_of}
 use Rattle.tcl_core.specs.Trees.What.{Seen, Charged, Refused, Nested, Limited, DepthLimited, Made, Dropped, Out, In, Done, Back}
 use Rattle.tcl_core.specs.Trees.Move.{Born, Fall, Enter, Come}
-use Rattle.tcl_core.specs.Programs.{Deed, spot, Act, Wrap, Wait, Prog, Table, decide, opens, closes, changing, making, dropping, dropping_at, either, metered, by_limit, blocked, is_spent, is_deep}
+use Rattle.tcl_core.specs.Programs.{Deed, spot, Act, Wrap, Wait, Prog, Table, decide, opens, closes, changing, making, dropping, either, metered, by_limit, blocked, is_spent, is_deep}
 use Rattle.tcl_core.specs.Programs.Act.{Look, Change, Charge, Limit, LimitDepth, Make, Drop}
 use Rattle.tcl_core.specs.Programs.Wrap.{Deeper, Framed}
 use Rattle.tcl_core.specs.Programs.Next.{On, Off}
@@ -163,11 +163,7 @@ module _ {O : Type 0} where
 
   dropping_silent : (p : Place) (name : List ℕ) (n : Option (Node O)) → Silent (spot p (dropping name n).0) (dropping name n).1
   dropping_silent p name None = λ ms. refl
-  dropping_silent p name (Some n) = by n.depth
-    where
-      by : (d : ℕ) → Silent {O = O} (spot p (dropping_at {O = O} name d).0) (dropping_at name d).1
-      by zero = λ ms. top_silent p name Fall ms
-      by (suc d) = λ ms. refl
+  dropping_silent p name (Some n) = λ ms. top_silent p name Fall ms
 
   pub act_silent : (d : Act O) (T : Tree O) (p : Place) (gs : Grants) (x : Deed O) → decide d T p gs ≡ Some x → Silent (spot p x.0) x.1
   act_silent Look T p gs x e = sil_of p (None, Seen, On) x (λ ms. refl) e

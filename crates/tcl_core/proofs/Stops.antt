@@ -13,7 +13,7 @@ use Rattle.tcl_core.specs.Trees.Grant.{Allow, Deny}
 use Rattle.tcl_core.specs.Trees.Grants.{Listed, Budget}
 use Rattle.tcl_core.specs.Trees.What.{Seen, Charged, Refused, Nested, Limited, DepthLimited, Done, Back}
 use Rattle.tcl_core.specs.Trees.Move.{Born, Fall, Enter, Come}
-use Rattle.tcl_core.specs.Programs.{Deed, spot, Act, Wrap, Wait, Next, Prog, Table, decide, opens, closes, changing, making, dropping, dropping_at, metered, by_limit, blocked, is_spent, is_deep}
+use Rattle.tcl_core.specs.Programs.{Deed, spot, Act, Wrap, Wait, Next, Prog, Table, decide, opens, closes, changing, making, dropping, metered, by_limit, blocked, is_spent, is_deep}
 use Rattle.tcl_core.specs.Programs.Next.{On, TooDeep, Off}
 use Rattle.tcl_core.specs.Programs.Act.{Look, Change, Charge, Limit, LimitDepth, Make, Drop}
 use Rattle.tcl_core.specs.Programs.Wrap.{Deeper, Framed}
@@ -67,11 +67,7 @@ module _ {O : Type 0} where
 
   dropping_next : (name : List ℕ) (n : Option (Node O)) → Fits_next (dropping name n).1 (dropping name n).2
   dropping_next name None = λ q. refl
-  dropping_next name (Some n) = go n.depth
-    where
-      go : (d : ℕ) → Fits_next (dropping_at {O = O} name d).1 (dropping_at {O = O} name d).2
-      go zero = λ q. refl
-      go (suc d) = λ q. refl
+  dropping_next name (Some n) = λ q. refl
 
   decide_next : (d : Act O) (T : Tree O) (p : Place) (gs : Grants) (x : Deed O) → decide d T p gs ≡ Some x → Fits_next x.1 x.2
   decide_next Look T p gs x e = next_of (None, Seen, On) x (λ q. refl) e
@@ -134,11 +130,7 @@ module _ {O : Type 0} (c : Place) where
 
   pub dropping_on : (name : List ℕ) (n : Option (Node O)) → (dropping name n).2 ≡ On
   dropping_on name None = refl
-  dropping_on name (Some n) = go n.depth
-    where
-      go : (d : ℕ) → (dropping_at {O = O} name d).2 ≡ On
-      go zero = refl
-      go (suc d) = refl
+  dropping_on name (Some n) = refl
 
   off_here : (d : Act O) (T : Tree O) (p : Place) (gs : Grants) (x : Deed O) (r : Reply) → decide d T p gs ≡ Some x → x.2 ≡ Off r → x.0 ≡ None
   off_here Look T p gs x r e f = on_not (None, Seen, On) x r refl e f

@@ -11,7 +11,7 @@ use Rattle.tcl_core.specs.Trees.{Event, Grant, Grants, granted, denied, allowing
 use Rattle.tcl_core.specs.Trees.Grant.{Allow, Deny}
 use Rattle.tcl_core.specs.Trees.Grants.{Listed, Budget}
 use Rattle.tcl_core.specs.Trees.What.{Seen, Changed, Charged, Refused, Nested, Unnested, Limited, DepthLimited, Made, Dropped}
-use Rattle.tcl_core.specs.Programs.{Wrap, Next, Deed, spot, Act, decide, opens, closes, changing, making, dropping, dropping_at, either, metered, by_limit, blocked, full_at, nearer, is_spent, is_deep, brought_back}
+use Rattle.tcl_core.specs.Programs.{Wrap, Next, Deed, spot, Act, decide, opens, closes, changing, making, dropping, either, metered, by_limit, blocked, full_at, nearer, is_spent, is_deep, brought_back}
 use Rattle.tcl_core.specs.Programs.Next.{On, TooDeep, Off}
 use Rattle.tcl_core.specs.Programs.Act.{Look, Change, Charge, Limit, LimitDepth, Make, Drop}
 use Rattle.tcl_core.specs.Programs.Wrap.{Deeper, Framed}
@@ -183,11 +183,7 @@ module _ {O : Type 0} where
 
   seen_dropping : (q : Place) (name : List ℕ) (n : Option (Node O)) → seen_deed q (dropping name n) ≡ dropping name n
   seen_dropping q name None = refl
-  seen_dropping q name (Some n) = go n.depth
-    where
-      go : (d : ℕ) → seen_deed {O = O} q (dropping_at name d) ≡ dropping_at name d
-      go zero = refl
-      go (suc d) = refl
+  seen_dropping q name (Some n) = refl
 
   -- an act of a subtree is decided by the subtree, and by what it is handed
   pub decide_within : (c q : Place) (a : Act O) (T : Tree O) (ds : Grants) (x : Deed O) (gs : List Grant) → decide a T (c ++ q) ds ≡ Some x →
@@ -341,11 +337,7 @@ module _ {O : Type 0} where
 
   dropping_life : (name : List ℕ) (n : Option (Node O)) (x : Deed O) (m : List ℕ) → Some (dropping name n) ≡ Some x → x.0 ≡ Some m → IsLife x.1
   dropping_life name None x m e f = not_here (None, Seen, On) x m refl e f
-  dropping_life name (Some n) x m e f = go n.depth e
-    where
-      go : (d : ℕ) → Some (dropping_at name d) ≡ Some x → IsLife x.1
-      go zero g = subst (λ z. IsLife z.1) (Some-inj (Some name, Dropped, On) g) tt
-      go (suc d) g = not_here (None, Seen, On) x m refl g f
+  dropping_life name (Some n) x m e f = subst (λ z. IsLife z.1) (Some-inj (Some name, Dropped, On) e) tt
 
   -- only making and dropping is done elsewhere than here
   pub elsewhere_life : (d : Act O) (T : Tree O) (p : Place) (gs : Grants) (x : Deed O) (name : List ℕ) → decide d T p gs ≡ Some x → x.0 ≡ Some name → IsLife x.1

@@ -12,7 +12,7 @@ use Rattle.tcl_core.specs.Trees.Grant.{Allow, Deny}
 use Rattle.tcl_core.specs.Trees.Grants.{Listed, Budget}
 use Rattle.tcl_core.specs.Trees.What.{Seen, Charged, Refused, Nested, Limited, DepthLimited, Done, Back}
 use Rattle.tcl_core.specs.Trees.Move.{Born, Fall, Enter, Come}
-use Rattle.tcl_core.specs.Programs.{Deed, spot, Act, Wrap, Wait, Next, Prog, Table, decide, opens, closes, changing, making, dropping, dropping_at, metered, by_limit, blocked, is_spent, is_deep}
+use Rattle.tcl_core.specs.Programs.{Deed, spot, Act, Wrap, Wait, Next, Prog, Table, decide, opens, closes, changing, making, dropping, metered, by_limit, blocked, is_spent, is_deep}
 use Rattle.tcl_core.specs.Programs.Next.{On, TooDeep, Off}
 use Rattle.tcl_core.specs.Programs.Act.{Look, Change, Charge, Limit, LimitDepth, Make, Drop}
 use Rattle.tcl_core.specs.Programs.Wrap.{Deeper, Framed}
@@ -85,11 +85,7 @@ module _ {O : Type 0} where
 
   dropping_uncut : (p : Place) (name : List ℕ) (n : Option (Node O)) → Uncut (spot p (dropping name n).0) (dropping name n).1
   dropping_uncut p name None = tt
-  dropping_uncut p name (Some n) = by n.depth
-    where
-      by : (d : ℕ) → Uncut {O = O} (spot p (dropping_at {O = O} name d).0) (dropping_at name d).1
-      by zero = tt
-      by (suc d) = tt
+  dropping_uncut p name (Some n) = tt
 
   pub decide_uncut : (d : Act O) (T : Tree O) (p : Place) (gs : Grants) (x : Deed O) → decide d T p gs ≡ Some x → IsNoCut x.2 → Uncut (spot p x.0) x.1
   decide_uncut Look T p gs x e = of_deed p (None, Seen, On) x (λ c. tt) e

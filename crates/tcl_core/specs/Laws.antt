@@ -1,6 +1,6 @@
 -- The laws. They hold whatever the commands are: `prog` is their table.
 use Rattle.std.specs.Prelude.{length, nat_le, ◌≡◌, ◌⊎◌, ℕ, zero, suc, ◌≤◌, ◌+◌, Bool, true, false}
-use Rattle.std.specs.Prelude.{List, [], ◌∷◌, ◌++◌, Option, Some, None}
+use Rattle.std.specs.Prelude.{List, [], ◌∷◌, ◌++◌, ◌&&◌, Option, Some, None}
 use Rattle.tcl_core.specs.Paths.{Path, Place, Height, strip, rise_to}
 use Rattle.tcl_core.specs.Endings.{Meter, Completion, Reply, IsQuit}
 use Rattle.tcl_core.specs.Endings.Meter.{Count, Depth}
@@ -419,13 +419,37 @@ Beneath (Some m) (Some n) = n.depth ≤ m.depth
 abbrev pub IsUpright : {O : Type 0} → Tree O → Type 0
 IsUpright T = (p q z : Place) → strip p q ≡ Some z → Beneath (T p) (T q)
 
--- After a run that came to its end each depth is what it was; and what is in use at first is
--- neither made nor dropped by it, whether it came to its end or not. So an interpreter in use
--- stands as long as it is in use.
+-- whether neither c nor one above it is dropped
+abbrev pub none_there : Option Place → Bool
+none_there None = true
+none_there (Some z) = false
+
+abbrev pub spares : {O : Type 0} → Place → Place → What O → Bool
+spares c p Dropped = none_there (strip p c)
+spares c p x = true
+
+abbrev pub is_spared : {O : Type 0} → Place → List (Event O) → Bool
+is_spared c [] = true
+is_spared c (ev ∷ τ) = spares c ev.place ev.what && is_spared c τ
+
+-- what is left of a depth where it is spared, and where it isn't
+abbrev pub depth_left : Bool → ℕ → ℕ
+depth_left true d = d
+depth_left false d = 0
+
+-- After a run that came to its end each depth is what it was where neither the interpreter nor one
+-- above it was dropped on the way, and 0 where one was: whoever was made anew there is not in use.
+-- So an interpreter in use that isn't dropped stands as long as it is in use, and where nothing was
+-- in progress nothing is: of what was dropped in use nothing is left. What is in use at first and
+-- isn't dropped isn't made either, whether the run came to its end or not.
 pub record IsSteady {O : Type 0} (w v : World O) (e : Ending) : Type 0 where
-  pub depths : (r : Reply) → e ≡ Some r → (q : Place) → depth_of (v.tree q) ≡ depth_of (w.tree q)
+  pub made : List (Event O)
+  pub happened : w.tape ≡ made ++ v.tape
+  pub depths : (r : Reply) → e ≡ Some r → (q : Place) →
+      depth_of (v.tree q) ≡ depth_left (is_spared q made) (depth_of (w.tree q))
   pub upright : (r : Reply) → e ≡ Some r → IsUpright v.tree
-  pub standing : (c : Place) → 1 ≤ depth_of (w.tree c) → IsStanding c v.tape → IsStanding c w.tape
+  pub standing : (c : Place) → 1 ≤ depth_of (w.tree c) → is_spared c made ≡ true →
+      IsStanding c made
 
 abbrev pub Steady : Type 0 → Type 0 → Type 0
 Steady O I = (prog : Table O I) (w v : World O) (p : Place) (x : Prog O I) (e : Ending) →

@@ -153,13 +153,10 @@ module _ {O : Type 0} where
   making name o s (Some p) None = (Some name, Made o (either s p.safe), On)
   making name o s (Some p) (Some n) = (None, Seen, On)
 
-  abbrev pub dropping_at : Text → ℕ → Deed O
-  dropping_at name zero = (Some name, Dropped, On)
-  dropping_at name (suc d) = (None, Seen, On)
-
+  -- whether it is in use or not
   abbrev pub dropping : Text → Option (Node O) → Deed O
   dropping name None = (None, Seen, On)
-  dropping name (Some n) = dropping_at name n.depth
+  dropping name (Some n) = (Some name, Dropped, On)
 
   -- what happens when the act is done at p; none where a word of the outside is wanted and there is
   -- none
