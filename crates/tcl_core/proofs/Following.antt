@@ -152,7 +152,7 @@ module _ {O S : Type 0} (step : Tree O → S → Wait → Event O → S → Type
   called_on {I} {cs} {ds} {T} {V} {o} {z} {τ} x f c = subst (λ l. Chain step l T o τ ds V z) (waits_not x cs f) c
 
   -- an answer comes to the call that is open
-  pub replied : {cs ds : Open} {T V : Tree O} {o u z : S} {τ : List (Event O)} (s : Wait) (p : Place) → rise_to (height_of s) p ≡ None → (a : Answer) (g : Option Height) → answers_call g s a ≡ true →
+  pub replied : {cs ds : Open} {T V : Tree O} {o u z : S} {τ : List (Event O)} (s : Wait) (p : Place) → rise_to (height_of s) p ≡ None → (a : Answer) (g : Option ℕ) → answers_call g s a ≡ true →
       step T o s (event p (Back (height_of s) a)) u → Chain step cs T u τ ds V z → Chain step (pending s cs) T o (event p (Back (height_of s) a) ∷ τ) ds V z
   replied None p e a g f j c = absurd (not_true f)
   replied (Some d) p e a g f j c = comes_back e j c

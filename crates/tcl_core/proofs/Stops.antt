@@ -201,7 +201,7 @@ carried_by_ends q q2 b down h p (Exit x) e f g = bad g
 carried_by_ends q q2 b down h p (Cut x) e f g = refl
 carried_by_ends q q2 b down h p (Stop n m) e f g = carried_stop q q2 b down h p n m e f g
 
-ended_ends : (q : Place) (g : Option Height) (r : Reply) → ends_in q r ≡ true → ends_in q (ended g r) ≡ true
+ended_ends : (q : Place) (g : Option ℕ) (r : Reply) → ends_in q r ≡ true → ends_in q (ended g r) ≡ true
 ended_ends q g (Completed x) e = bad e
 ended_ends q g (Exit x) e = bad e
 ended_ends q None (Cut x) e = refl
@@ -209,10 +209,10 @@ ended_ends q (Some g) (Cut x) e = refl
 ended_ends q None (Stop n m) e = e
 ended_ends q (Some g) (Stop n m) e = e
 
-carried_ends : (q q2 b down : Place) (y : Option Height) (h : ℕ) (p : Place) (r : Reply) → length q ≡ length b + h → length q2 ≡ length b + length down → ends_in q2 r ≡ true → ends_in q (carried y (Some h) p down r) ≡ true
+carried_ends : (q q2 b down : Place) (y : Option ℕ) (h : ℕ) (p : Place) (r : Reply) → length q ≡ length b + h → length q2 ≡ length b + length down → ends_in q2 r ≡ true → ends_in q (carried y (Some h) p down r) ≡ true
 carried_ends q q2 b down y h p r e f g = ended_ends q y (carried_by r (Some h) p down) (carried_by_ends q q2 b down h p r e f g)
 
-caller_ends : (y : Option Height) (c p a : Place) (h : Height) (down q2 b : Place) (r : Reply) → rise_to h p ≡ Some a → strip c (a ++ down) ≡ Some q2 → rise_to (Some (length down)) q2 ≡ Some b → ends_in q2 r ≡ true →
+caller_ends : (y : Option ℕ) (c p a : Place) (h : Height) (down q2 b : Place) (r : Reply) → rise_to h p ≡ Some a → strip c (a ++ down) ≡ Some q2 → rise_to (Some (length down)) q2 ≡ Some b → ends_in q2 r ≡ true →
     (q : Place) × (strip c p ≡ Some q) × (ends_in q (carried y h p down r) ≡ true)
 caller_ends y c p a None down q2 b r e f g k = absurd (not_both refl e)
 caller_ends y c p a (Some h) down q2 b r e f g k = here (strip c p) refl

@@ -3,7 +3,7 @@ use Rattle.std.proofs.lemmas.Bool.Decides.{nat_tests}
 use Rattle.std.proofs.Common.{◌≡◌, ℕ, zero, suc, ℤ, Bool, true, false, List, [], ◌∷◌, ◌++◌, Option, Some, None, length, refl, sym, ◌∙◌, ap, arith, length-append, append_assoc, subst, nat_lt}
 use mathlib.Core.Path.{fun_ext}
 use Rattle.tcl_core.specs.Paths.{Path, Place, Height, strip, rise_to, seen_height}
-use Rattle.tcl_core.specs.Endings.{Completion, Reply, IsQuit, refusal, reach}
+use Rattle.tcl_core.specs.Endings.{Completion, Reply, IsQuit, refusal}
 use Rattle.tcl_core.specs.Endings.Meter.{Depth}
 use Rattle.tcl_core.specs.Endings.Reply.{Completed, Stop, Exit, Cut}
 use Rattle.tcl_core.specs.Entries.{Entry, Answer, Said}
@@ -23,7 +23,7 @@ use Rattle.tcl_core.proofs.PathLaws.{child_in, not_both, Some-inj, strip-sound, 
 use Rattle.tcl_core.proofs.TreeLaws.{seen_next, listed, decide_none, opens_none, decide_within, opens_within, closes_seen, step_within, step_apart, step_fall, spot_within, IsBeside, IsLife, elsewhere_life, opens_here}
 use Rattle.tcl_core.proofs.Seeing.{carried_within, seen_end, seen_quit, answers_seen, is_exit_self, told_own, gone_from_within, gone_within}
 use Rattle.tcl_core.proofs.Folding.{roll}
-use Rattle.tcl_core.specs.Endings.Kind.{Full}
+use Rattle.tcl_core.specs.Endings.Kind.{Full, Gone}
 
 pub top_only : (c q : Place) → strip c [] ≡ Some q → q ≡ []
 top_only [] q e = sym (Some-inj [] e)
@@ -118,7 +118,8 @@ module _ {O I : Type 0} where
   stays_seen prog w q2 q s k (Some (Completed c)) z o a = a.1
   stays_seen prog w q2 q s k (Some (Exit n)) z o a = a.1
   stays_seen prog w q2 q s k (Some (Cut c)) z o a = a.0
-  stays_seen prog w q2 q s k (Some (Stop n m)) z o a = go (Rattle.std.specs.Prelude.nat_lt (length q2) (reach m n))
+  stays_seen prog w q2 q s k (Some (Stop n Gone)) z o a = a.0
+  stays_seen prog w q2 q s k (Some (Stop n (Full m))) z o a = go (nat_lt (length q2) n)
     where
       go : (b : Bool) → Stays (Runs prog) w q s k (Some (stopped b n m)) z o
       go true = a.0
@@ -254,7 +255,7 @@ module _ {O I : Type 0} where
         stands_wait prog (inside_of c w) q s k r z o (subst (λ m. Stands prog m q s k (Some r) z o) (step_apart c p (Back h (Replied r)) w u t d tt) (hears_apart u p k2 r v e d a q s k z o f b))
 
     -- a reply, as the caller is told it, is an exit where it was one
-    stands_carried : (y : Option Height) (h : Height) (p : Place) (down : Path) (r : Reply) (w : World O) (q : Place) (s : Wait) (k : Said → Prog O I) (z : World O) (o : Ending) → Stands prog w q s k (Some (carried y h p down r)) z o → Stands prog w q s k (Some r) z o
+    stands_carried : (y : Option ℕ) (h : Height) (p : Place) (down : Path) (r : Reply) (w : World O) (q : Place) (s : Wait) (k : Said → Prog O I) (z : World O) (o : Ending) → Stands prog w q s k (Some (carried y h p down r)) z o → Stands prog w q s k (Some r) z o
     stands_carried y h p down (Completed x) w q s k z o b = (b.0, b.0)
     stands_carried None h p down (Exit n) w q s k z o b = b
     stands_carried (Some y) h p down (Exit n) w q s k z o b = b
@@ -290,7 +291,7 @@ module _ {O I : Type 0} where
             let t2 : Step (inside_of c w) q (Back h (Replied (Exit n))) (inside_of c v) = subst (λ x. Step (inside_of c w) q (Back h (Replied (Exit n))) (inside_of c x)) (sym b.0) (step_within c q (Back h (Replied (Exit n))) w u t) in
             subst (λ e2. Exits (inside_of c w) q (Some (h, i, d)) n (inside_of c w).moves (inside_of c v) (seen_end q e2)) (sym b.1) (exit_answer (inside_of c w) q (Some (h, i, d)) n (inside_of c v) f (is_exit_self n) t2)
 
-    carried_exit : (y : Option Height) (h : Height) (p : Place) (down : Path) (r : Reply) (n : ℤ) → r ≡ Exit n → carried y h p down r ≡ Exit n
+    carried_exit : (y : Option ℕ) (h : Height) (p : Place) (down : Path) (r : Reply) (n : ℤ) → r ≡ Exit n → carried y h p down r ≡ Exit n
     carried_exit None h p down r n e = ap (carried None h p down) e
     carried_exit (Some y) h p down r n e = ap (carried (Some y) h p down) e
 
@@ -353,7 +354,7 @@ module _ {O I : Type 0} where
     lost_told : (q : Place) (n : ℕ) (i : Entry) (lost : Completion) (T : Tree O) → is_told (gone (depth_of (T q)) T q) (Some n) i (Replied (Completed lost)) ≡ true
     lost_told q n i lost T =
         let e : nat_lt (depth_of (T q)) (depth_of (T q)) ≡ false = grind (arith, nat_tests) in
-        ap (λ b. is_told (gone_by b (levels (idle_up T q)) (length q)) (Some n) i (Replied (Completed lost))) e
+        ap (λ b. is_told (gone_by b (levels (idle_up T q))) (Some n) i (Replied (Completed lost))) e
 
     reaches_out : (w : World O) (q : Place) (n : ℕ) (down : Path) (i : Entry) (lost : Completion) (k : Said → Prog O I) (v : World O) (e : Ending) (a : Place) → rise_to (Some n) q ≡ None → strip c a ≡ None → (t : Option (Node O)) →
         Reaches prog R w (c ++ q) (Some n) down i lost k (where_stands t (a ++ down)) v e → Runs prog (inside_of c w) q (wait (Some (Some n, i, depth_of (w.tree (c ++ q)))) k) (inside_of c v) (seen_end q e)
@@ -374,7 +375,7 @@ module _ {O I : Type 0} where
         let there : a ++ down ≡ c ++ (b ++ down) = ap (λ z. z ++ down) same ∙ append_assoc c b down in
         reaches_in w q h down i lost k v e b g (w.tree (c ++ (b ++ down))) (subst (λ t. Reaches prog R w (c ++ q) h down i lost k (where_stands (w.tree t) t) v e) there x)
 
-    ends_own : (y : Option Height) (s : Wait) (n : ℤ) (a : Answer) → ends_call s n a ≡ true → (answers_call y s (Replied (Exit n)) ≡ true) × (ends_call s n (Replied (Exit n)) ≡ true)
+    ends_own : (y : Option ℕ) (s : Wait) (n : ℤ) (a : Answer) → ends_call s n a ≡ true → (answers_call y s (Replied (Exit n)) ≡ true) × (ends_call s n (Replied (Exit n)) ≡ true)
     ends_own y None n a e = let x : false ≡ true = e in cc
     ends_own None (Some (None, i, d)) n a e = (refl, is_exit_self n)
     ends_own None (Some (Some h, i, d)) n a e = (refl, is_exit_self n)

@@ -130,7 +130,7 @@ module _ {O : Type 0} where
       by (Enter u i ∷ ms) x = halt x
 
 -- a reply that isn't cut, as the caller is told it, wasn't
-pub carried_cut : (g : Option Height) (h : Height) (p : Place) (down : Path) (r : Reply) → NotCut (carried g h p down r) → NotCut r
+pub carried_cut : (g : Option ℕ) (h : Height) (p : Place) (down : Path) (r : Reply) → NotCut (carried g h p down r) → NotCut r
 carried_cut g h p down (Completed c) f = tt
 carried_cut g h p down (Stop n m) f = tt
 carried_cut g h p down (Exit n) f = tt

@@ -27,11 +27,6 @@ pub data Kind : Type 0 where
   Full : (meter : Meter) → Kind
   Gone : Kind
 
--- How far up what a stop ends reaches: a gone interpreter is ended as a whole, as from above it.
-abbrev pub reach : Kind → ℕ → ℕ
-reach (Full m) n = n
-reach Gone n = suc n
-
 -- What cuts an evaluation off from outside the tree: a stop that names an interpreter above it; or
 -- that its run is over, since the budget is spent or a move didn't fit.
 pub data Cause : Type 0 where

@@ -2,12 +2,11 @@
 use Rattle.std.specs.Ordering.{int_eq}
 use Rattle.std.specs.Prelude.{◌≡◌, ℕ, zero, suc, ℤ, Bool, true, false, nat_eq, nat_le, nat_lt, ◌+◌, ◌-◌}
 use Rattle.std.specs.Prelude.{List, [], ◌∷◌, ◌++◌, Option, Some, None, length}
-use Rattle.tcl_core.specs.Paths.{capped, falls, together, Path, Place, Height, rise_to}
+use Rattle.tcl_core.specs.Paths.{falls, together, Path, Place, Height, rise_to}
 use Rattle.tcl_core.specs.Endings.{Kind, Completion, Reply, refusal}
 use Rattle.tcl_core.specs.Endings.Meter.{Depth}
 use Rattle.tcl_core.specs.Endings.Kind.{Full, Gone}
-use Rattle.tcl_core.specs.Endings.Reply.{Completed, Stop, Exit, Cut}
-use Rattle.tcl_core.specs.Endings.Cause.{Above}
+use Rattle.tcl_core.specs.Endings.Reply.{Completed, Stop, Exit}
 use Rattle.tcl_core.specs.Entries.{Entry, Answer, Said, answers}
 use Rattle.tcl_core.specs.Entries.Entry.{AskHost}
 use Rattle.tcl_core.specs.Entries.Answer.{Replied, Heard}
@@ -93,28 +92,22 @@ abbrev pub levels : Option ℕ → ℕ
 levels None = 0
 levels (Some n) = n
 
-abbrev pub gone_by : Bool → ℕ → ℕ → Option Height
-gone_by true n l = Some (capped (nat_le l n) n)
-gone_by false n l = None
+abbrev pub gone_by : Bool → ℕ → Option ℕ
+gone_by true n = Some n
+gone_by false n = None
 
 -- Whether the caller at p, in whose interpreter d evaluations were in progress, is gone; and how
--- many levels up from it the highest interpreter is that is gone. That the top is gone comes from
--- outside the tree.
-abbrev pub gone : {O : Type 0} → ℕ → Tree O → Place → Option Height
-gone d T p = gone_by (nat_lt (depth_of (T p)) d) (levels (idle_up T p)) (length p)
-
--- how an evaluation ends whose interpreter is gone
-abbrev pub ousted : Height → Reply
-ousted None = Cut Above
-ousted (Some n) = Stop n Gone
+-- many levels up from it the highest interpreter is that is gone.
+abbrev pub gone : {O : Type 0} → ℕ → Tree O → Place → Option ℕ
+gone d T p = gone_by (nat_lt (depth_of (T p)) d) (levels (idle_up T p))
 
 -- what a caller is told for a reply: one that is gone is told no completion
-abbrev pub ended : Option Height → Reply → Reply
+abbrev pub ended : Option ℕ → Reply → Reply
 ended None r = r
-ended (Some h) (Completed c) = ousted h
-ended (Some h) r = r
+ended (Some n) (Completed c) = Stop n Gone
+ended (Some n) r = r
 
-abbrev pub carried : Option Height → Height → Place → Path → Reply → Reply
+abbrev pub carried : Option ℕ → Height → Place → Path → Reply → Reply
 carried g h p down r = ended g (carried_by r h p down)
 
 -- the interpreter these names down from a, where it stands
@@ -144,28 +137,28 @@ is_own None (AskHost q) (Heard a) = answers q a
 is_own None i (Heard a) = false
 
 -- A caller that is gone is answered by no completion and by no word of the host: what they would
--- have been is the stop of a gone interpreter, or an end from outside.
-abbrev pub names_gone : Height → Kind → ℕ → Bool
-names_gone (Some l) Gone n = nat_eq n l
-names_gone g k n = false
+-- have been is the stop of a gone interpreter.
+abbrev pub names_gone : ℕ → Kind → ℕ → Bool
+names_gone l (Full m) n = false
+names_gone l Gone n = nat_eq n l
 
-abbrev pub ends_gone : Height → Height → Reply → Bool
-ends_gone g h (Completed c) = false
-ends_gone g (Some h) (Stop n k) = nat_lt n h
-ends_gone g None (Stop n k) = names_gone g k n
-ends_gone g h r = true
+abbrev pub ends_gone : ℕ → Height → Reply → Bool
+ends_gone l h (Completed c) = false
+ends_gone l (Some h) (Stop n k) = nat_lt n h
+ends_gone l None (Stop n k) = names_gone l k n
+ends_gone l h r = true
 
-abbrev pub is_told : Option Height → Height → Entry → Answer → Bool
+abbrev pub is_told : Option ℕ → Height → Entry → Answer → Bool
 is_told None h i a = is_own h i a
-is_told (Some g) h i (Heard a) = false
-is_told (Some g) h i (Replied r) = ends_gone g h r
+is_told (Some l) h i (Heard a) = false
+is_told (Some l) h i (Replied r) = ends_gone l h r
 
 -- whether a move fits where this call is open
-abbrev pub answers_call : Option Height → Wait → Answer → Bool
+abbrev pub answers_call : Option ℕ → Wait → Answer → Bool
 answers_call g None a = false
 answers_call g (Some c) a = is_told g c.0 c.1 a
 
-abbrev pub gone_from : {O : Type 0} → Wait → Tree O → Place → Option Height
+abbrev pub gone_from : {O : Type 0} → Wait → Tree O → Place → Option ℕ
 gone_from None T p = None
 gone_from (Some c) T p = gone c.2 T p
 

@@ -26,10 +26,10 @@ abbrev pub Calm : Outcome → Type 0
 Calm (Exited n) = Prim.⊥
 Calm x = Unit {0}
 
-pub calm_suits : (O : Type 0) (x : Outcome) (s : Wait) (m : Move O) → Calm x → suits x s m ≡ fits s m
-calm_suits O (Exited n) s m c = absurd c
-calm_suits O x s (Come a) c = refl
-calm_suits O x s m c = refl
+pub calm_suits : (O : Type 0) (x : Outcome) (T : Tree O) (p : Place) (s : Wait) (m : Move O) → Calm x → suits x T p s m ≡ fits T p s m
+calm_suits O (Exited n) T p s m c = absurd c
+calm_suits O x T p s (Come a) c = refl
+calm_suits O x T p s m c = refl
 
 pub calm_finished : (x : Outcome) → x ≡ Finished → Calm x
 calm_finished x e = subst Calm (sym e) tt
@@ -194,15 +194,11 @@ module _ {O : Type 0} where
       let m : Meets p x o u = by_plain T s p x o u f g c in
       met p x o u m o.left (sym (silent o.left)) m.left (plain_told p x f) g (plain_open p x f) n
 
-  pub closes_same : (T : Tree O) (s : Wait) (p : Place) (b : Wrap O) (n : Option (Node O)) (o u : Player O) → Crossings plays T o s (event p (closes b n)) u → u ≡ o
-  closes_same T s p Deeper n o u c = c.told
-  closes_same T s p (Framed k back) None o u c = c.told
-  closes_same T s p (Framed k back) (Some n) o u c = c.told
+  pub closes_same : (T : Tree O) (s : Wait) (p : Place) (b : Wrap O) (m n : Option (Node O)) (o u : Player O) → Crossings plays T o s (event p (closes b m n)) u → u ≡ o
+  closes_same T s p b m n o u = any_close (λ x. Crossings plays T o s (event p x) u → u ≡ o) b m n (λ c. c.told) (λ c. c.told) (λ y c. c.told)
 
-  pub closes_uncut : (p : Place) (b : Wrap O) (n : Option (Node O)) → Uncut p (closes b n)
-  closes_uncut p Deeper n = tt
-  closes_uncut p (Framed k back) None = tt
-  closes_uncut p (Framed k back) (Some n) = tt
+  pub closes_uncut : (p : Place) (b : Wrap O) (m n : Option (Node O)) → Uncut p (closes b m n)
+  closes_uncut p b m n = any_close (Uncut p) b m n tt tt (λ y. tt)
 
   -- a crossing between two interpreters of the tree
   abbrev pub IsInner : Place → What O → Place → Type 0
@@ -214,7 +210,7 @@ module _ {O : Type 0} where
 
   pub inner_same : (T : Tree O) (s : Wait) (p : Place) (x : What O) (a : Place) (o u : Player O) → IsInner p x a → Crossings plays T o s (event p x) u → u ≡ o
   inner_same T s p (Out h d i) a o u e c = subst (λ l. past l o u (Tells o.fate o (event p (Out h d i)) u)) e c.told
-  inner_same T s p (Back h y) a o u e c = subst (λ l. past l o u (Answers T o s y u)) e c.told
+  inner_same T s p (Back h y) a o u e c = subst (λ l. past l o u (Answers T p o s y u)) e c.told
   inner_same T s p (In h i) a o u e c = subst (λ l. past l o u (HandsIn o p i u)) e c.told
   inner_same T s p (Done h r) a o u e c = subst (λ l. past l o u (Tells o.fate o (event p (Done h r)) u)) e c.told
   inner_same T s p x a o u e c = absurd e
