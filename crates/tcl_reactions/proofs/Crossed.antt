@@ -1,17 +1,17 @@
 -- Calls within the tree, and calls that leave it, in a run to which moves are played.
-use Rattle.std.proofs.Common.{sym, ◌≡◌, ℕ, ℤ, ◌+◌, Bool, true, false, List, [], ◌∷◌, ◌++◌, Some, None, length, refl, ◌∙◌, ap, subst}
+use Rattle.std.proofs.Common.{sym, ◌≡◌, ℕ, ℤ, ◌+◌, Bool, true, false, List, [], ◌∷◌, ◌++◌, Some, None, length, refl, ◌∙◌, ap, subst, Option}
 use Rattle.std.specs.Prelude.{nat_lt, ◌-◌}
 use Rattle.tcl_core.specs.Paths.{falls, together, Path, Place, Height, rise_to}
-use Rattle.tcl_core.specs.Endings.{Completion, Meter, Reply, IsQuit}
+use Rattle.tcl_core.specs.Endings.{Completion, Meter, Reply, IsQuit, Kind}
 use Rattle.tcl_core.specs.Endings.Reply.{Completed, Stop, Exit, Cut}
 use Rattle.tcl_core.specs.Entries.{Entry, Said}
 use Rattle.tcl_core.specs.Entries.Answer.{Replied}
 use Rattle.tcl_core.specs.Entries.Said.{Finished}
-use Rattle.tcl_core.specs.Trees.{Tree, Event, Move, Grants}
+use Rattle.tcl_core.specs.Trees.{Tree, Event, Move, Grants, depth_of}
 use Rattle.tcl_core.specs.Trees.What.{In, Out, Done, Back}
 use Rattle.tcl_core.specs.Programs.{Prog, Table}
 use Rattle.tcl_core.specs.Programs.Prog.{call, wait}
-use Rattle.tcl_core.specs.Runs.{Step, carried, lessened, entering, reached}
+use Rattle.tcl_core.specs.Runs.{Step, carried, lessened, entering, reached, gone, carried_by, ended}
 use Rattle.tcl_core.specs.Rules.{Derives, IsNoExit}
 use Rattle.tcl_core.specs.Execution.{Crossings, event}
 use Rattle.tcl_core.proofs.PathLaws.{rise_back}
@@ -32,19 +32,40 @@ exit_not c n e = absurd (bad e)
     bad : Exit n ≡ Completed c → Prim.⊥
     bad f = cc
 
-no_exit_of : (g : Option Height) (h : Height) (p : Place) (down : Path) (s : Reply) (c : Completion) → carried g h p down s ≡ Completed c → IsNoExit s
+no_exit_of : (g : Option ℕ) (h : Height) (p : Place) (down : Path) (s : Reply) (c : Completion) → carried g h p down s ≡ Completed c → IsNoExit s
 no_exit_of g h p down (Completed d) c e = tt
 no_exit_of g h p down (Stop n m) c e = tt
 no_exit_of g h p down (Cut d) c e = tt
 no_exit_of None h p down (Exit n) c e = exit_not c n e
 no_exit_of (Some g) h p down (Exit n) c e = exit_not c n e
 
-no_exit_in : (g : Option Height) (h : Height) (p : Place) (down : Path) (s r : Reply) → carried g h p down s ≡ r → IsNoExit r → IsNoExit s
+no_exit_in : (g : Option ℕ) (h : Height) (p : Place) (down : Path) (s r : Reply) → carried g h p down s ≡ r → IsNoExit r → IsNoExit s
 no_exit_in g h p down (Completed d) r e f = tt
 no_exit_in g h p down (Stop n m) r e f = tt
 no_exit_in g h p down (Cut d) r e f = tt
 no_exit_in None h p down (Exit n) r e f = subst IsNoExit (sym e) f
 no_exit_in (Some g) h p down (Exit n) r e f = subst IsNoExit (sym e) f
+
+lessened_fine : (b : Bool) (n : ℕ) (m : Kind) → NotCut (lessened b n m)
+lessened_fine true n m = tt
+lessened_fine false n m = tt
+
+carried_by_fine : (h : Height) (p : Place) (down : Path) (s : Reply) → NotCut s → NotCut (carried_by s h p down)
+carried_by_fine h p down (Completed d) f = tt
+carried_by_fine None p down (Stop n m) f = tt
+carried_by_fine (Some h) p down (Stop n m) f = lessened_fine (nat_lt (n + together (falls h p) down) (length down)) (n + h - length down) m
+carried_by_fine h p down (Exit n) f = tt
+carried_by_fine h p down (Cut d) f = absurd f
+
+ended_fine : (g : Option ℕ) (s : Reply) → NotCut s → NotCut (ended g s)
+ended_fine None s f = f
+ended_fine (Some g) (Completed d) f = tt
+ended_fine (Some g) (Stop n m) f = tt
+ended_fine (Some g) (Exit n) f = tt
+ended_fine (Some g) (Cut d) f = absurd f
+
+carried_fine : (g : Option ℕ) (h : Height) (p : Place) (down : Path) (s : Reply) → NotCut s → NotCut (carried g h p down s)
+carried_fine g h p down s f = ended_fine g (carried_by s h p down) (carried_by_fine h p down s f)
 
 pub within : (O : Type 0) (T : Tree O) (a t : Place) (down : Path) → reached T a down ≡ Some t → rise_to (Some (length down)) t ≡ Some a
 within O T a t down e = subst (λ z. rise_to (Some (length down)) z ≡ Some a) (sym (reached_at (T (a ++ down)) t (a ++ down) e)) (rise_back a down)
@@ -117,7 +138,7 @@ module _ {O I : Type 0} (prog : Table O I) where
               (next T p (Out h down i) (e2 ∷ (τ ++ e3 s ∷ e4 s ∷ [])) y) there (next T t (In (Some (length down)) i) (τ ++ e3 s ∷ e4 s ∷ []) y)
               (first prog T U t (entering prog (T t) i) s o2 o3 τ (e3 s ∷ e4 s ∷ []) y b l)
               (next U t (Done (Some (length down)) s) (e4 s ∷ []) y) (subst IsQuit (sym so) q) (next U p (Back h (Replied (carried (gone (depth_of (T p)) U p) h p down s))) [] y)));
-        }) (subst NotCut so (carried_fine h p down s f)) (λ x. calm_after (m (no_exit_in (gone (depth_of (T p)) U p) h p down s r so x)))
+        }) (subst NotCut so (carried_fine (gone (depth_of (T p)) U p) h p down s f)) (λ x. calm_after (m (no_exit_in (gone (depth_of (T p)) U p) h p down s r so x)))
     called_passed_by r n so q (broke τ w j f S σ l x y d g) =
         broke (e1 ∷ e2 ∷ τ) w j f S (λ b. σ b ++ e3 b ∷ e4 b ∷ [])
         (around prog T T S U U o o2 w p t (call h down i lost k) (entering prog (T t) i) j j 0 f τ (e1 ∷ e2 ∷ τ) σ (λ b. e3 b ∷ e4 b ∷ []) (plus_none (calls f j)) (after_way j o o2 w (e1 ∷ e2 ∷ []) τ (starts n) l.way) l

@@ -20,6 +20,7 @@ use Rattle.tcl_core.proofs.Unended.{NotCut}
 use Rattle.tcl_reactions.specs.Playing.{Fate, Player, IsEnd, last_end}
 use Rattle.tcl_reactions.specs.Playing.Fate.{Waits, Unfits, EndsAbove, Spends}
 use Rattle.tcl_reactions.proofs.Ways.{Calm, IsBudget, Rest, Way, ahead, ahead-append, allowed_budget, later, outcome_append, outs_outcome, then_way}
+use Rattle.tcl_core.proofs.TreeLaws.{any_close}
 
 ends_so : (r q : Reply) → r ≡ q → IsEnd (Replied q) → IsEnd (Replied r)
 ends_so r q e f = subst (λ l. IsEnd (Replied l)) (sym e) f
@@ -30,7 +31,7 @@ end_quits (Stop n m) f = tt
 end_quits (Exit n) f = tt
 end_quits (Cut c) f = tt
 
-pub end_carried : (g : Option Height) (h : Height) (p : Place) (down : Path) (r : Reply) → IsEnd (Replied r) → carried g h p down r ≡ r
+pub end_carried : (g : Option ℕ) (h : Height) (p : Place) (down : Path) (r : Reply) → IsEnd (Replied r) → carried g h p down r ≡ r
 end_carried g h p down (Completed c) f = absurd f
 end_carried g h p down (Stop n m) f = absurd f
 end_carried None h p down (Exit n) f = refl

@@ -5,12 +5,12 @@ use Rattle.tcl_core.specs.Endings.{Reply}
 use Rattle.tcl_core.specs.Endings.Reply.{Completed, Stop, Exit, Cut}
 use Rattle.tcl_core.specs.Entries.{Entry}
 use Rattle.tcl_core.specs.Entries.Answer.{Replied, Heard}
-use Rattle.tcl_core.specs.Trees.{Tree, Event, Move, Grants}
+use Rattle.tcl_core.specs.Trees.{Tree, Event, Move, Grants, depth_of}
 use Rattle.tcl_core.specs.Trees.What.{In, Out, Done, Back}
 use Rattle.tcl_core.specs.Trees.Move.{Born, Fall, Enter, Come}
 use Rattle.tcl_core.specs.Programs.{Prog, Table, spot}
 use Rattle.tcl_core.specs.Programs.Prog.{done, exit, wait}
-use Rattle.tcl_core.specs.Runs.{World, Ending, Halts, Exits, carried, entering, height_of}
+use Rattle.tcl_core.specs.Runs.{World, Ending, Halts, Exits, carried, entering, height_of, gone}
 use Rattle.tcl_core.specs.Rules.{Derives, IsNoExit}
 use Rattle.tcl_core.specs.Execution.{Crossings, Executes, event}
 use Rattle.tcl_core.specs.Execution.Executes.{completed, exited, acted, refused, went, passed, wrapped, wrapped_passed, too_deep, shut, called, called_passed, unreached, called_out, answered, heard, answered_passed, entered, entered_exiting}

@@ -6,7 +6,7 @@ use Rattle.tcl_core.specs.Endings.Meter.{Count, Depth}
 use Rattle.tcl_core.specs.Endings.Reply.{Completed, Cut}
 use Rattle.tcl_core.specs.Endings.Cause.{Over}
 use Rattle.tcl_core.specs.Entries.Answer.{Replied}
-use Rattle.tcl_core.specs.Trees.{Tree, Event, at, effect, granted}
+use Rattle.tcl_core.specs.Trees.{Tree, Event, at, effect, granted, Node}
 use Rattle.tcl_core.specs.Trees.Grants.{Budget, Listed}
 use Rattle.tcl_core.specs.Trees.What.{Charged, Refused}
 use Rattle.tcl_core.specs.Programs.{Deed, Next, spot, Act, Wrap, Prog, Table, decide, opens, closes, metered, blocked, is_spent}
@@ -32,6 +32,7 @@ use Rattle.tcl_reactions.proofs.Leads.Comes.{came}
 use Rattle.tcl_reactions.proofs.Leads.Result.{ran, broke}
 use Rattle.tcl_reactions.proofs.Deeds.{act_calm, act_cut, act_uncut, act_way, decided, off_not_cut, open_calm, open_cut, open_uncut, open_way, opened, plain_calm}
 use Rattle.tcl_reactions.proofs.Turns.{not_some}
+use Rattle.tcl_core.specs.Endings.Kind.{Full}
 
 pub plus_none : (n : ℕ) → n ≡ n + 0
 plus_none n = omega arith

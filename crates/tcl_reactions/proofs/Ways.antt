@@ -1,9 +1,9 @@
 -- What a player reads of some happenings, and the worlds in which they are ahead.
-use Rattle.std.proofs.Common.{sym, ◌≡◌, ℕ, suc, ◌+◌, List, [], ◌∷◌, ◌++◌, Option, Some, None, refl, ◌∙◌, ap, subst, arith, append-nil, append_assoc}
+use Rattle.std.proofs.Common.{sym, ◌≡◌, ℕ, suc, ◌+◌, List, [], ◌∷◌, ◌++◌, Option, Some, None, refl, ◌∙◌, ap, subst, arith, append-nil, append_assoc, true, false}
 use Rattle.tcl_core.specs.Paths.{Path, Place, Height, rise_to}
 use Rattle.tcl_core.specs.Endings.{Reply}
-use Rattle.tcl_core.specs.Endings.Reply.{Cut}
-use Rattle.tcl_core.specs.Entries.{Entry}
+use Rattle.tcl_core.specs.Endings.Reply.{Completed, Stop, Exit, Cut}
+use Rattle.tcl_core.specs.Entries.{Entry, Answer}
 use Rattle.tcl_core.specs.Entries.Answer.{Replied}
 use Rattle.tcl_core.specs.Trees.{Tree, Node, What, Event, Move, Grants, effect, asked, granted, paid, where_none}
 use Rattle.tcl_core.specs.Trees.Grants.{Budget}
@@ -11,7 +11,7 @@ use Rattle.tcl_core.specs.Trees.Move.{Enter, Come}
 use Rattle.tcl_core.specs.Trees.What.{Charged, Refused, Nested, Out, In, Done, Back}
 use Rattle.tcl_core.specs.Programs.{Wait, Wrap, closes}
 use Rattle.tcl_core.specs.Programs.Wrap.{Deeper, Framed}
-use Rattle.tcl_core.specs.Runs.{World, Step, fits}
+use Rattle.tcl_core.specs.Runs.{World, Step, fits, is_told, gone}
 use Rattle.tcl_core.specs.Execution.{Crossings, event}
 use Rattle.tcl_core.specs.Lives.{Outcome, Uncut, IsUncut, begun, begun_at, ended, ended_at, last_of, one_more, outs_of, outcome_of, outcome_at, put, told}
 use Rattle.tcl_core.specs.Lives.Outcome.{Finished, Exited}
@@ -19,12 +19,31 @@ use Rattle.tcl_core.proofs.Beginnings.{outs_append}
 use Rattle.tcl_core.proofs.Following.{handed, allowed, handed-append, allowed-append}
 use Rattle.tcl_core.proofs.Plain.{IsPlain}
 use Rattle.tcl_core.proofs.TreeLaws.{denied_budget}
-use Rattle.tcl_reactions.specs.Playing.{Answers, Fate, HandsIn, Player, Tells, past, plays, suits, telling}
+use Rattle.tcl_reactions.specs.Playing.{Answers, Fate, HandsIn, Player, Tells, past, plays, suits, telling, IsEnd}
+use Rattle.tcl_core.proofs.TreeLaws.{any_close}
 
 -- no entry ended by an exit
 abbrev pub Calm : Outcome → Type 0
 Calm (Exited n) = Prim.⊥
 Calm x = Unit {0}
+
+-- an end fits every open call
+end_told : (g : Option ℕ) (h : Height) (i : Entry) (r : Reply) → IsEnd (Replied r) → is_told g h i (Replied r) ≡ true
+end_told g h i (Completed d) f = absurd f
+end_told g h i (Stop n m) f = absurd f
+end_told None (Some h) i (Exit n) f = refl
+end_told None (Some h) i (Cut d) f = refl
+end_told None None i (Exit n) f = refl
+end_told None None i (Cut d) f = refl
+end_told (Some g) h i (Exit n) f = refl
+end_told (Some g) h i (Cut d) f = refl
+
+pub fits_open : (O : Type 0) (T : Tree O) (p : Place) (c : Height × Entry × ℕ) (r : Reply) → IsEnd (Replied r) → fits T p (Some c) (Come (Replied r)) ≡ true
+fits_open O T p c r f = end_told (gone c.2 T p) c.0 c.1 r f
+
+pub fits_end : (O : Type 0) (T U : Tree O) (p q : Place) (s : Wait) (a : Answer) → fits T p s (Come a) ≡ true → (r : Reply) → IsEnd (Replied r) → fits U q s (Come (Replied r)) ≡ true
+fits_end O T U p q None a e r f = let x : false ≡ true = e in cc
+fits_end O T U p q (Some c) a e r f = fits_open O U q c r f
 
 pub calm_suits : (O : Type 0) (x : Outcome) (T : Tree O) (p : Place) (s : Wait) (m : Move O) → Calm x → suits x T p s m ≡ fits T p s m
 calm_suits O (Exited n) T p s m c = absurd c

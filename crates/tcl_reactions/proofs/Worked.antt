@@ -34,7 +34,7 @@ entered ms = record { left = ms; steps = 1; outs = []; fate = None }
 abbrev called : List (Move ℕ) → Player ℕ
 called ms = telling (entered ms) asked
 
-asks : (ms : List (Move ℕ)) (z : Player ℕ) (r : Reply) → Runs asking child_alone (called ms) (wait (Some (Some 1, Eval [])) finish) child_alone z r → Runs asking child_alone (entered ms) (asking.entry (Eval [])) child_alone z r
+asks : (ms : List (Move ℕ)) (z : Player ℕ) (r : Reply) → Runs asking child_alone (called ms) (wait (Some (Some 1, Eval [], 0)) finish) child_alone z r → Runs asking child_alone (entered ms) (asking.entry (Eval [])) child_alone z r
 asks ms z r t = called_out {u = called ms} refl (record { told = refl }) t
 
 waiting : Comes_to asking one_entry 1 Waiting (asked ∷ [])

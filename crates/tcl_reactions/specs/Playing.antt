@@ -2,7 +2,7 @@
 -- how the playing is over.
 use Rattle.std.specs.Prelude.{◌≡◌, ℕ, suc, Bool, true, false, List, [], ◌∷◌, ◌++◌, Option, Some}
 use Rattle.std.specs.Prelude.{None}
-use Rattle.tcl_core.specs.Paths.{Height, Path, Place, rise_to}
+use Rattle.tcl_core.specs.Paths.{Path, Place, rise_to}
 use Rattle.tcl_core.specs.Endings.{Reply}
 use Rattle.tcl_core.specs.Endings.Meter.{Count}
 use Rattle.tcl_core.specs.Endings.Reply.{Exit, Cut}
@@ -39,7 +39,7 @@ pub record Player (O : Type 0) : Type 0 where
 -- Whether an answer may come to the open call: to an alias how its evaluation ended, to a request
 -- one of its own answers, and to a caller that is gone what is no completion; but after an entry
 -- that ended by an exit that exit alone. The outcome is that of the last entry.
-abbrev pub may_come : Outcome → Option Height → Wait → Answer → Bool
+abbrev pub may_come : Outcome → Option ℕ → Wait → Answer → Bool
 may_come (Exited n) g s a = is_exit n a
 may_come x g s a = answers_call g s a
 
