@@ -34,3 +34,4 @@ pub mod Beginnings
 pub mod Inward
 pub mod LifeMoves
 pub mod Reactions
+pub mod WorkedDeletion

@@ -3,6 +3,7 @@
 //! for every table of commands.
 #![tactic(auto)]
 
+ghost use Rattle.tcl_core.specs.Deletion.{WorkedDeletion};
 ghost use Rattle.tcl_core.specs.Example.{WorkedLife, WorkedReactions};
 ghost use Rattle.tcl_core.specs.Laws.{AllAgree, Bounded, Counting, Determinism, Disciplined};
 ghost use Rattle.tcl_core.specs.Laws.{Happenings, Inner, Isolation, IsolationUntil, Limiting};
@@ -161,4 +162,9 @@ pub fn worked_life()
 /// what it did not ask for.
 pub fn worked_reactions()
     ensures { WorkedReactions }
+{}
+
+/// Worked lives in which an interpreter is deleted while it is in use.
+pub fn worked_deletion()
+    ensures { WorkedDeletion }
 {}
