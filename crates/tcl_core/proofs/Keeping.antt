@@ -67,7 +67,7 @@ module _ {O : Type 0} where
   opens_due Deeper T p gs x e = metered_due is_deep T p Depth Nested gs x (λ e. e) (blocked is_deep T p) refl e
   opens_due (Framed o back) T p gs x e = due_of T p (changing o (T p)) x (changing_due T p o (T p)) e
 
-  closes_due : (b : Wrap O) (T : Tree O) (p : Place) (m n : Option (Node O)) → IsDue T p (closes b m n)
+  pub closes_due : (b : Wrap O) (T : Tree O) (p : Place) (m n : Option (Node O)) → IsDue T p (closes b m n)
   closes_due b T p m n = any_close (IsDue T p) b m n tt tt (λ o. tt)
 
   -- ANY INVARIANT: what each happening keeps, each run keeps
