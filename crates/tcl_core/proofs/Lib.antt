@@ -35,3 +35,4 @@ pub mod Inward
 pub mod LifeMoves
 pub mod Reactions
 pub mod WorkedDeletion
+pub mod UpToDrop
