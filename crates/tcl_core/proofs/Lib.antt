@@ -36,3 +36,4 @@ pub mod LifeMoves
 pub mod Reactions
 pub mod WorkedDeletion
 pub mod UpToDrop
+pub mod Dropped

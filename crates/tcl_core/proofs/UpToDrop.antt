@@ -35,10 +35,10 @@ use Rattle.tcl_core.proofs.Beginnings.{Nested, nested}
 abbrev halted : Ending
 halted = None
 
-no_cons : {A B : Type 0} (x : B) (xs : List B) → x ∷ xs ≡ [] → A
+pub no_cons : {A B : Type 0} (x : B) (xs : List B) → x ∷ xs ≡ [] → A
 no_cons x xs e = not_cons x xs (sym e)
 
-not_nil : {A B : Type 0} (b : List B) (x : B) (r : List B) → b ++ x ∷ r ≡ [] → A
+pub not_nil : {A B : Type 0} (b : List B) (x : B) (r : List B) → b ++ x ∷ r ≡ [] → A
 not_nil [] x r e = no_cons x r e
 not_nil (y ∷ b) x r e = no_cons y (b ++ x ∷ r) e
 
@@ -57,13 +57,13 @@ module _ {O : Type 0} where
   abbrev dropped : What O
   dropped = Dropped
 
-  abbrev drop : Event O
+  abbrev pub drop : Event O
   drop = record { place = []; what = Dropped }
 
-  is_no_drop : {A : Type 0} (p : Place) (x : What O) → record { place = p; what = x } ≡ drop → (x ≡ Dropped → A) → A
+  pub is_no_drop : {A : Type 0} (p : Place) (x : What O) → record { place = p; what = x } ≡ drop → (x ≡ Dropped → A) → A
   is_no_drop p x e f = f (ap (λ (ev : Event O). ev.what) e)
 
-  in_no_drop : {A : Type 0} (i : Entry) → In None i ≡ dropped → A
+  pub in_no_drop : {A : Type 0} (i : Entry) → In None i ≡ dropped → A
   in_no_drop i e = absurd (bad e)
     where
       bad : In None i ≡ dropped → Prim.⊥
@@ -82,7 +82,7 @@ module _ {O : Type 0} where
       bad f = cc
 
   -- the world in which just these are yet to happen, with a word more
-  abbrev only : World O → List (Event O) → World O
+  abbrev pub only : World O → List (Event O) → World O
   only z b = record { tree = z.tree; moves = moves_of b; grants = more_grants (Allow ∷ []) z.grants; tape = b }
 
   -- what a run reads is what its happenings read
@@ -120,7 +120,7 @@ module _ {O : Type 0} where
   ending_step z w p x v due s (y, f) = (outcome_at p x y, f ∙ ap (λ τ. outcome_of τ y) s.tape)
 
   -- the words of more happenings
-  words_more : (a : List (Event O)) (gs : Grants) → more_grants (Allow ∷ []) (words_for a gs) ≡ words_for a (more_grants (Allow ∷ []) gs)
+  pub words_more : (a : List (Event O)) (gs : Grants) → more_grants (Allow ∷ []) (words_for a gs) ≡ words_for a (more_grants (Allow ∷ []) gs)
   words_more [] gs = refl
   words_more (ev ∷ a) gs = Rattle.tcl_core.proofs.MoreMoves.granted_more ev.place ev.what (words_for a gs) (Allow ∷ []) ∙ ap (granted ev.place ev.what) (words_more a gs)
 
@@ -139,14 +139,14 @@ module _ {O I : Type 0} (prog : Table O I) where
     pub moves : last.moves ≡ []
     pub outcome : ins [] b ≡ dones [] b → outcome_of b Finished ≡ Finished
 
-  abbrev Goes_to : ℕ → Type 0
+  abbrev pub Goes_to : ℕ → Type 0
   Goes_to n = (z y : World O) (b r : List (Event O)) → IsHanded z → IsLasting b → ins [] z.tape ≡ dones [] z.tape → y.tape ≡ [] → RunsIn prog n z [] (wait idle never) y None → z.tape ≡ b ++ drop ∷ r → UpTo z b
 
   here : (z : World O) → UpTo z []
   here z = record { last = only z []; life = unanswered (only z []) [] idle never refl refl refl; moves = refl; outcome = λ q. refl }
 
   -- one happening of the tree as a whole
-  at_top_drop : (z u : World O) (b r : List (Event O)) → IsLasting b → Step z [] Dropped u → z.tape ≡ b ++ drop ∷ r → UpTo z b
+  pub at_top_drop : (z u : World O) (b r : List (Event O)) → IsLasting b → Step z [] Dropped u → z.tape ≡ b ++ drop ∷ r → UpTo z b
   at_top_drop z u [] r l t e = here z
   at_top_drop z u (ev ∷ b) r l t e =
       let q : record { place = []; what = Dropped } ∷ u.tape ≡ ev ∷ (b ++ drop ∷ r) = sym t.tape ∙ e in
@@ -154,7 +154,7 @@ module _ {O I : Type 0} (prog : Table O I) where
       let g : Rattle.tcl_core.proofs.Reacting.Lasting {O = O} [] Dropped = subst (λ (y : Event O). Rattle.tcl_core.proofs.Reacting.Lasting y.place y.what) (sym same) l.0 in
       absurd (g refl)
 
-  at_top_made : {A : Type 0} (o : O) (s : Bool) (z u : World O) (b r : List (Event O)) → IsLasting b → Step z [] (Made o s) u → z.tape ≡ b ++ drop ∷ r → A
+  pub at_top_made : {A : Type 0} (o : O) (s : Bool) (z u : World O) (b r : List (Event O)) → IsLasting b → Step z [] (Made o s) u → z.tape ≡ b ++ drop ∷ r → A
   at_top_made o s z u [] r l t e =
       let q : record { place = []; what = Made o s } ∷ u.tape ≡ drop ∷ r = sym t.tape ∙ e in
       let same : record { place = []; what = Made o s } ≡ drop = cc in

@@ -184,6 +184,28 @@ Isolation O I = (prog : Table O I) (c : Place) (w v : World O) (t : Path) (i : E
     React prog (at w.tree c) (moves_of (view c w.tape)) m
     (outcome_of (view c w.tape) Outcome.Finished) (outs_of (view c w.tape)) (at v.tree c)
 
+-- it stops with nothing in progress, or at an open call
+abbrev pub IsOpenOrDone : Outcome → Type 0
+IsOpenOrDone Finished = Unit {0}
+IsOpenOrDone Waiting = Unit {0}
+IsOpenOrDone x = Prim.⊥
+
+-- The same up to where c is dropped, it or one above it: what an evaluation does in the subtree at c
+-- until then is what React does with that subtree alone and the crossings into it until then, with
+-- every budget that is not less than the steps made in it. It has done what it was asked for, or it
+-- waits at a call that is open; and what it leaves is the subtree that stood at c when it was
+-- dropped.
+abbrev pub IsolationToDrop : Type 0 → Type 0 → Type 0
+IsolationToDrop O I = (prog : Table O I) (c : Place) (w v : World O) (t : Path) (i : Entry)
+    (r : Reply) (m : ℕ) (before later : List (Event O)) (d z : Place) (n : Node O) →
+    Visits prog (Runs prog) w None t i v (Some r) → v.moves ≡ [] → v.tape ≡ [] →
+    w.tape ≡ before ++ record { place = d; what = Dropped } ∷ later → strip d c ≡ Some z →
+    w.tree c ≡ Some n → IsSpared c before → IsHeld c w.moves →
+    IsUnended (view c before) → steps_of (view c before) ≤ m →
+    (x : Outcome) × IsOpenOrDone x ×
+    React prog (at w.tree c) (moves_of (view c before)) m x (outs_of (view c before))
+    (at (after before w.tree) c)
+
 -- an interpreter but for its count and its depth
 abbrev pub bare : {O : Type 0} → Node O → Node O
 bare n = record n { count = 0; depth = 0 }
