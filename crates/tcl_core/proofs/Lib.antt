@@ -37,3 +37,4 @@ pub mod Reactions
 pub mod WorkedDeletion
 pub mod UpToDrop
 pub mod Dropped
+pub mod GoneOnes

@@ -477,6 +477,38 @@ abbrev pub Steady : Type 0 → Type 0 → Type 0
 Steady O I = (prog : Table O I) (w v : World O) (p : Place) (x : Prog O I) (e : Ending) →
     Runs prog w p x v e → IsUpright w.tree → KeepsTop w.moves → IsSteady w v e
 
+-- How many levels up from q the highest interpreter is that is dropped by these, of that at q and
+-- those above it; none where none of them is.
+abbrev pub fallen : Option Place → Option ℕ
+fallen None = None
+fallen (Some z) = Some (length z)
+
+abbrev pub fall_at : {O : Type 0} → Place → Place → What O → Option ℕ
+fall_at q p Dropped = fallen (strip p q)
+fall_at q p x = None
+
+abbrev pub farther : Bool → ℕ → ℕ → ℕ
+farther true n m = m
+farther false n m = n
+
+abbrev pub higher : Option ℕ → Option ℕ → Option ℕ
+higher None b = b
+higher (Some n) None = Some n
+higher (Some n) (Some m) = Some (farther (nat_le n m) n m)
+
+abbrev pub highest : {O : Type 0} → Place → List (Event O) → Option ℕ
+highest q [] = None
+highest q (ev ∷ τ) = higher (fall_at q ev.place ev.what) (highest q τ)
+
+-- Who is gone after a run is who was dropped in it: where an interpreter was in use at first, the
+-- depths that are left tell whether it, or one above it, was dropped, and which is the highest.
+abbrev pub GoneIsDropped : Type 0 → Type 0 → Type 0
+GoneIsDropped O I = (prog : Table O I) (w v : World O) (p : Place) (x : Prog O I) (r : Reply) →
+    Runs prog w p x v (Some r) → IsUpright w.tree → KeepsTop w.moves →
+    (made : List (Event O)) × (w.tape ≡ made ++ v.tape) ×
+    ((q : Place) → 1 ≤ depth_of (w.tree q) →
+    gone (depth_of (w.tree q)) v.tree q ≡ highest q made)
+
 -- below a safe interpreter all are safe; and the one at c is
 abbrev pub IsSafeBelow : {O : Type 0} → Tree O → Type 0
 IsSafeBelow {O} T = (p q z : Place) (m n : Node O) → strip p q ≡ Some z → T p ≡ Some m →

@@ -6,7 +6,7 @@
 ghost use Rattle.tcl_core.specs.Deletion.{WorkedDeletion};
 ghost use Rattle.tcl_core.specs.Example.{WorkedLife, WorkedReactions};
 ghost use Rattle.tcl_core.specs.Laws.{AllAgree, Bounded, Counting, Determinism, Disciplined};
-ghost use Rattle.tcl_core.specs.Laws.{Happenings, Inner, Isolation, IsolationToDrop, IsolationUntil};
+ghost use Rattle.tcl_core.specs.Laws.{GoneIsDropped, Happenings, Inner, Isolation, IsolationToDrop, IsolationUntil};
 ghost use Rattle.tcl_core.specs.Laws.{Limiting, LimitsKept, LivesWithin, Moments, MoreMoves, NonInterference};
 ghost use Rattle.tcl_core.specs.Laws.{NoRequests, OneReaction, Passing, QuietOutside, Steady};
 ghost use Rattle.tcl_core.specs.Laws.{Stopping, TwoWorlds, Untouched};
@@ -123,6 +123,11 @@ pub fn disciplined<O, I>()
 /// After a run each depth is what it was, and what was in use still stands.
 pub fn steady<O, I>()
     ensures { Steady O I }
+{}
+
+/// Who is gone after a run is who was dropped in it, and the depths that are left tell it.
+pub fn gone_is_dropped<O, I>()
+    ensures { GoneIsDropped O I }
 {}
 
 /// A safe interpreter in whose subtree nobody has a host command asks the host for nothing, where
