@@ -1,17 +1,17 @@
 -- What is no completion passes every construct.
-use Rattle.std.proofs.Common.{◌≡◌, true, List, ◌∷◌, Some, length, sym, ◌∙◌, ap, subst}
+use Rattle.std.proofs.Common.{◌≡◌, ◌∙◌, ℕ, true, false, List, ◌∷◌, Some, None, length, ap, refl, subst, sym}
 use Rattle.tcl_core.specs.Paths.{Path, Place, Height, rise_to}
 use Rattle.tcl_core.specs.Endings.{Completion, Reply, IsQuit}
 use Rattle.tcl_core.specs.Endings.Reply.{Completed, Stop, Exit, Cut}
-use Rattle.tcl_core.specs.Entries.{Entry, Said}
-use Rattle.tcl_core.specs.Entries.Answer.{Replied}
+use Rattle.tcl_core.specs.Entries.{Entry, Said, Answer}
+use Rattle.tcl_core.specs.Entries.Answer.{Replied, Heard}
 use Rattle.tcl_core.specs.Trees.{Tree, What, Move, depth_of}
 use Rattle.tcl_core.specs.Trees.What.{Out}
 use Rattle.tcl_core.specs.Trees.Move.{Come}
 use Rattle.tcl_core.specs.Programs.{Act, Wrap, Wait, Deed, Prog, Table, spot, decide, opens}
 use Rattle.tcl_core.specs.Programs.Next.{On, Off}
 use Rattle.tcl_core.specs.Programs.Prog.{act, go, inside, call, wait}
-use Rattle.tcl_core.specs.Runs.{World, Step, Ending, Run, Follows, Then, Closes, Acted, Acts, Opened, Opens, Hears, Answered, Returns, Reaches, Calls, Fitting, Waits, Visits, Unrolled, Runs, carried, reached, fits, height_of, gone}
+use Rattle.tcl_core.specs.Runs.{World, Step, Ending, Run, Follows, Then, Closes, Acted, Acts, Opened, Opens, Hears, Answered, Returns, Reaches, Calls, Fitting, Waits, Visits, Unrolled, Runs, carried, reached, fits, height_of, gone, ends_gone, gone_from, carried_by, ended, is_told}
 use Rattle.tcl_core.specs.Laws.{Passing, Agrees}
 use Rattle.tcl_core.proofs.Folding.{unroll}
 use Rattle.tcl_core.proofs.SameRuns.{runs_same, visits_same, same_step}
@@ -22,6 +22,26 @@ module _ {O : Type 0} where
   step_same w p x u z s t =
       let tapes : z.tape ≡ u.tape = (let e : record { place = p; what = x } ∷ z.tape ≡ record { place = p; what = x } ∷ u.tape = sym t.tape ∙ s.tape in cc) in
       same_step w w.tape p x u z s t ∙ ap (λ τ. record { tree = u.tree; moves = u.moves; grants = u.grants; tape = τ }) tapes
+
+ended_quit : (n : ℕ) (r : Reply) → IsQuit (ended (Some n) r)
+ended_quit n (Completed c) = tt
+ended_quit n (Stop m k) = tt
+ended_quit n (Exit m) = tt
+ended_quit n (Cut c) = tt
+
+ends_quit : (n : ℕ) (h : Height) (r : Reply) → ends_gone n h r ≡ true → IsQuit r
+ends_quit n h (Completed c) e = let x : false ≡ true = e in cc
+ends_quit n h (Stop m k) e = tt
+ends_quit n h (Exit m) e = tt
+ends_quit n h (Cut c) e = tt
+
+told_quit : (n : ℕ) (h : Height) (i : Entry) (y : Answer) → is_told (Some n) h i y ≡ true → (q : Reply) × IsQuit q × (y ≡ Replied q)
+told_quit n h i (Heard x) e = let x2 : false ≡ true = e in cc
+told_quit n h i (Replied r) e = (r, ends_quit n h r e, refl)
+
+ousts_outside : {O : Type 0} (T : Tree O) (p : Place) (s : Wait) (y : Answer) (n : ℕ) → gone_from s T p ≡ Some n → fits T p s (Come y) ≡ true → (q : Reply) × IsQuit q × (y ≡ Replied q)
+ousts_outside T p None y n e f = let x : false ≡ true = f in cc
+ousts_outside T p (Some c) y n e f = told_quit n c.0 c.1 y (sym (ap (λ g. is_told g c.0 c.1 y) e) ∙ f)
 
 module _ {O I : Type 0} where
   follows_quit : (R : Run O I) (w : World O) (p : Place) (k : Completion → Prog O I) (r : Reply) (v : World O) (e : Ending) → IsQuit r → Follows R w p k r v e → e ≡ Some r
@@ -87,5 +107,12 @@ module _ {O I : Type 0} where
       let g : Answered (Runs prog) w p (height_of s) k (Replied r) v e = subst (λ o. Fitting prog (Runs prog) w p s k o (Come (Replied r)) v e) f d in
       hears_quit (Runs prog) g.0 p k r v e q g.2
 
+  ousts_call : (prog : Table O I) (w u z v : World O) (p a t : Place) (h : Height) (down : Path) (i : Entry) (lost : Completion) (k : Said → Prog O I) (r : Reply) (e : Ending) (n : ℕ) →
+      rise_to h p ≡ Some a → Step w p (Out h down i) u → reached u.tree a down ≡ Some t → Visits prog (Runs prog) u (Some (length down)) t i z (Some r) → gone (depth_of (u.tree p)) z.tree p ≡ Some n →
+      Runs prog w p (call h down i lost k) v e → (q : Reply) × IsQuit q × (e ≡ Some q)
+  ousts_call prog w u z v p a t h down i lost k r e n f s g x m b =
+      let quit : IsQuit (carried (gone (depth_of (u.tree p)) z.tree p) h p down r) = subst (λ o. IsQuit (carried o h p down r)) (sym m) (ended_quit n (carried_by r h p down)) in
+      (carried (gone (depth_of (u.tree p)) z.tree p) h p down r, quit, passes_call prog w u z v p a t h down i lost k r e quit f s g x b)
+
   pub passing : Passing O I
-  passing = record { act = refused_act; shut = shut_wrap; inner = passes_inner; wrapped = passes_wrap; called = passes_call; answered = passes_answer }
+  passing = record { act = refused_act; shut = shut_wrap; inner = passes_inner; wrapped = passes_wrap; called = passes_call; ousted = ousts_call; ousted_outside = ousts_outside; answered = passes_answer }

@@ -6,16 +6,18 @@ use Rattle.tcl_core.specs.Endings.Kind.{Gone}
 use Rattle.tcl_core.specs.Endings.Reply.{Completed, Stop}
 use Rattle.tcl_core.specs.Entries.Entry.{Eval}
 use Rattle.tcl_core.specs.Entries.Answer.{Replied}
-use Rattle.tcl_core.specs.Trees.{Event, What, effect}
+use Rattle.tcl_core.specs.Trees.{Event, What, at, effect}
 use Rattle.tcl_core.specs.Trees.Grants.{Budget}
 use Rattle.tcl_core.specs.Trees.What.{Charged, Nested, Unnested, Made, Dropped, Out, In, Done, Back}
 use Rattle.tcl_core.specs.Programs.Next.{On}
 use Rattle.tcl_core.specs.Programs.Prog.{wait}
 use Rattle.tcl_core.specs.Runs.{World, Step}
 use Rattle.tcl_core.specs.Rules.{Derives}
-use Rattle.tcl_core.specs.Rules.Derives.{acted, called, called_passed, completed, entered, unanswered, wrapped, wrapped_passed}
-use Rattle.tcl_core.specs.Lives.{idle, never}
-use Rattle.tcl_core.specs.Deletion.{WorkedDeletion, Script, after_deletion, asks_above, asks_parent, c, commands, deletion, entry, finished, from_below, g, kills, program, start, tells_c, tells_g}
+use Rattle.tcl_core.specs.Rules.Derives.{acted, called, called_out, called_passed, completed, entered, entered_halted, unanswered, wrapped, wrapped_halted, wrapped_passed}
+use Rattle.tcl_core.specs.Lives.{alone, idle, never}
+use Rattle.tcl_core.specs.Lives.Reacts.{waiting}
+use Rattle.tcl_core.specs.Views.{moves_of, view}
+use Rattle.tcl_core.specs.Deletion.{WorkedDeletion, Script, after_deletion, asks_above, asks_parent, c, commands, deletion, entry, finished, first_tree, from_below, g, kills, program, start, tells_c, tells_g}
 use Rattle.tcl_core.proofs.RuleLaws.{derived_runs}
 
 abbrev tail : List (Event ℕ) → List (Event ℕ)
@@ -370,6 +372,35 @@ f_root = wrapped _ _ _ _ _ (None, Nested, On) f2 f26 f27 _ (refusal Gone) _ refl
 f_life : Derives (commands tells_g) f0 [] (wait idle never) f28 None
 f_life = entered _ _ _ _ [] (Eval tells_c) f1 f27 f28 _ (Completed (refusal Gone)) _ refl f_s1 f_root f_s28 tt (unanswered _ _ _ _ refl refl refl)
 
+-- THE CHILD ALONE, up to the deletion
+abbrev alone_next : Place → What ℕ → ℕ → World ℕ → World ℕ
+alone_next p x b w = record { tree = effect p x w.tree; moves = []; grants = Budget b; tape = tail w.tape }
+
+abbrev a0 : World ℕ
+a0 = alone (at first_tree (c ∷ [])) (moves_of (view (c ∷ []) deletion)) 1 (view (c ∷ []) deletion)
+
+abbrev a1 : World ℕ
+a1 = alone_next [] (In None (Eval asks_parent)) 1 a0
+
+abbrev a2 : World ℕ
+a2 = alone_next [] Nested 1 a1
+
+abbrev a3 : World ℕ
+a3 = alone_next [] Charged 0 a2
+
+abbrev a4 : World ℕ
+a4 = alone_next [] (Out (Some 1) [] (Eval kills)) 0 a3
+
+a_asks : Derives (commands asks_parent) a2 [] (program asks_parent (Script.Asks 1)) a4 None
+a_asks = acted _ _ _ _ (None, Charged, On) a3 _ _ refl tt (record { tape = refl; tree = refl; moves = refl; grants = refl })
+    (called_out _ _ _ _ _ _ _ a4 _ _ refl (record { tape = refl; tree = refl; moves = refl; grants = refl }) (unanswered _ _ _ _ refl refl refl))
+
+a_child : Derives (commands asks_parent) a1 [] (entry (Eval asks_parent)) a4 None
+a_child = wrapped_halted _ _ _ _ _ (None, Nested, On) a2 a4 refl refl (record { tape = refl; tree = refl; moves = refl; grants = refl }) a_asks
+
+a_life : Derives (commands asks_parent) a0 [] (wait idle never) a4 None
+a_life = entered_halted _ _ _ _ [] (Eval asks_parent) a1 a4 refl (record { tape = refl; tree = refl; moves = refl; grants = refl }) a_child
+
 pub worked_deletion : WorkedDeletion
 worked_deletion = record {
   life = derived_runs (commands asks_parent) d_life;
@@ -377,6 +408,7 @@ worked_deletion = record {
   ends = refl;
   handed = refl;
   told = refl;
+  replayed = record { tape = view (c ∷ []) deletion; last = a4; run = waiting a0 a4 0 (derived_runs (commands asks_parent) a_life) (tt, (tt, (tt, (tt, tt)))) refl refl; told = refl; left = refl };
   life_below = derived_runs (commands tells_g) f_life;
   anew_below = refl;
   ends_below = refl;

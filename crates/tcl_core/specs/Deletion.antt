@@ -8,7 +8,7 @@ use Rattle.tcl_core.specs.Entries.{Entry, Said}
 use Rattle.tcl_core.specs.Entries.Entry.{Eval}
 use Rattle.tcl_core.specs.Entries.Said.{Finished, Told}
 use Rattle.tcl_core.specs.Entries.Answer.{Replied}
-use Rattle.tcl_core.specs.Trees.{Node, Tree, Event, What, Move, fresh}
+use Rattle.tcl_core.specs.Trees.{Node, Tree, Event, What, Move, at, fresh}
 use Rattle.tcl_core.specs.Trees.Grants.{Budget}
 use Rattle.tcl_core.specs.Trees.What.{Charged, Nested, Unnested, Made, Dropped, Out, In, Done, Back}
 use Rattle.tcl_core.specs.Trees.Move.{Enter}
@@ -18,7 +18,8 @@ use Rattle.tcl_core.specs.Programs.Wrap.{Deeper}
 use Rattle.tcl_core.specs.Programs.Prog.{done, act, inside, call, wait}
 use Rattle.tcl_core.specs.Runs.{World, Runs}
 use Rattle.tcl_core.specs.Views.{moves_of, view}
-use Rattle.tcl_core.specs.Lives.{idle, never, outs_of}
+use Rattle.tcl_core.specs.Lives.{React, idle, never, outs_of}
+use Rattle.tcl_core.specs.Lives.Outcome.{Waiting}
 use Rattle.tcl_core.specs.Laws.{after}
 use Rattle.tcl_core.specs.Execution.{event}
 
@@ -197,6 +198,10 @@ pub record WorkedDeletion : Type 0 where
   -- up to the deletion c is handed one entry and makes one call
   pub handed : moves_of (view (c ∷ []) deletion) ≡ Enter [] (Eval asks_parent) ∷ []
   pub told : outs_of (view (c ∷ []) deletion) ≡ event [] (Out (Some 1) [] (Eval kills)) ∷ []
+  -- and by itself it does the same with that entry, and waits
+  pub replayed : React (commands asks_parent) (at first_tree (c ∷ []))
+      (moves_of (view (c ∷ []) deletion)) 1 Waiting (outs_of (view (c ∷ []) deletion))
+      (at (after deletion first_tree) (c ∷ []))
   -- from below
   pub life_below : Runs (commands tells_g) (start from_below) [] (wait idle never)
       (finished 5 from_below) None

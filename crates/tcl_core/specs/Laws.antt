@@ -5,7 +5,7 @@ use Rattle.tcl_core.specs.Paths.{Path, Place, Height, strip, rise_to}
 use Rattle.tcl_core.specs.Endings.{Meter, Completion, Reply, IsQuit}
 use Rattle.tcl_core.specs.Endings.Meter.{Count, Depth}
 use Rattle.tcl_core.specs.Endings.Reply.{Stop, Cut}
-use Rattle.tcl_core.specs.Entries.{Entry, Said}
+use Rattle.tcl_core.specs.Entries.{Entry, Said, Answer}
 use Rattle.tcl_core.specs.Entries.Answer.{Replied}
 use Rattle.tcl_core.specs.Trees.{asked, effect, Grant, Grants, Tree, Node, What, Event, Move, at}
 use Rattle.tcl_core.specs.Trees.{on_some, depth_of}
@@ -15,7 +15,8 @@ use Rattle.tcl_core.specs.Trees.What.{Charged, Refused, Limited, Made, Dropped, 
 use Rattle.tcl_core.specs.Programs.{Act, Wrap, Wait, Deed, Prog, Table, spot, decide, opens}
 use Rattle.tcl_core.specs.Programs.Next.{On, Off}
 use Rattle.tcl_core.specs.Programs.Prog.{act, go, inside, call, wait}
-use Rattle.tcl_core.specs.Runs.{World, Ending, Step, Runs, Visits, carried, gone, reached, fits}
+use Rattle.tcl_core.specs.Runs.{World, Ending, Step, Runs, Visits, carried, gone, gone_from}
+use Rattle.tcl_core.specs.Runs.{reached, fits}
 use Rattle.tcl_core.specs.Views.{grants_of, moves_of, steps_of, view, inside_of}
 use Rattle.tcl_core.specs.Tables.{Discipline, Keeps_to, IsGood, AreTame, AreAllowed, exposes}
 use Rattle.tcl_core.specs.Tables.{hostless, sets_limit, unlimiting}
@@ -414,6 +415,18 @@ pub record Passing (O I : Type 0) : Type 0 where
       Visits prog (Runs prog) u (Some (length down)) t i z (Some r) →
       Runs prog w p (call h down i lost k) v e →
       e ≡ Some (carried (gone (depth_of (u.tree p)) z.tree p) h p down r)
+  -- where the interpreter of the caller, or one above it, is gone by then, the whole ends, whatever
+  -- was answered
+  pub ousted : (prog : Table O I) (w u z v : World O) (p a t : Place) (h : Height) (down : Path)
+      (i : Entry) (lost : Completion) (k : Said → Prog O I) (r : Reply) (e : Ending) (n : ℕ) →
+      rise_to h p ≡ Some a → Step w p (Out h down i) u → reached u.tree a down ≡ Some t →
+      Visits prog (Runs prog) u (Some (length down)) t i z (Some r) →
+      gone (depth_of (u.tree p)) z.tree p ≡ Some n → Runs prog w p (call h down i lost k) v e →
+      (q : Reply) × IsQuit q × (e ≡ Some q)
+  -- and a call that left the tree is then answered by no completion and by no word of the host
+  pub ousted_outside : (T : Tree O) (p : Place) (s : Wait) (y : Answer) (n : ℕ) →
+      gone_from s T p ≡ Some n → fits T p s (Come y) ≡ true →
+      (q : Reply) × IsQuit q × (y ≡ Replied q)
   -- and where one that left the tree is
   pub answered : (prog : Table O I) (w v : World O) (p : Place) (s : Wait) (k : Said → Prog O I)
       (ms : List (Move O)) (r : Reply) (e : Ending) →
