@@ -8,7 +8,7 @@ use Rattle.tcl_core.specs.Entries.Entry.{Eval}
 use Rattle.tcl_core.specs.Entries.Answer.{Replied}
 use Rattle.tcl_core.specs.Trees.{Event, What, at, effect}
 use Rattle.tcl_core.specs.Trees.Grants.{Budget}
-use Rattle.tcl_core.specs.Trees.What.{Charged, Nested, Unnested, Made, Dropped, Out, In, Done, Back}
+use Rattle.tcl_core.specs.Trees.What.{Seen, Changed, Charged, Nested, Unnested, Made, Dropped, Out, In, Done, Back}
 use Rattle.tcl_core.specs.Programs.Next.{On}
 use Rattle.tcl_core.specs.Programs.Prog.{wait}
 use Rattle.tcl_core.specs.Runs.{World, Step}
@@ -68,113 +68,128 @@ d_s6 : Step d5 (c ∷ []) (Nested) d6
 d_s6 = record { tape = refl; tree = refl; moves = refl; grants = refl }
 
 abbrev d7 : World ℕ
-d7 = next (c ∷ []) (Charged) 7 d6
+d7 = next (c ∷ []) (Changed 3) 8 d6
 
-d_s7 : Step d6 (c ∷ []) (Charged) d7
+d_s7 : Step d6 (c ∷ []) (Changed 3) d7
 d_s7 = record { tape = refl; tree = refl; moves = refl; grants = refl }
 
 abbrev d8 : World ℕ
-d8 = next (c ∷ []) (Out (Some 1) [] (Eval kills)) 7 d7
+d8 = next (c ∷ []) (Charged) 7 d7
 
-d_s8 : Step d7 (c ∷ []) (Out (Some 1) [] (Eval kills)) d8
+d_s8 : Step d7 (c ∷ []) (Charged) d8
 d_s8 = record { tape = refl; tree = refl; moves = refl; grants = refl }
 
 abbrev d9 : World ℕ
-d9 = next [] (In (Some 0) (Eval kills)) 7 d8
+d9 = next (c ∷ []) (Out (Some 1) [] (Eval kills)) 7 d8
 
-d_s9 : Step d8 [] (In (Some 0) (Eval kills)) d9
+d_s9 : Step d8 (c ∷ []) (Out (Some 1) [] (Eval kills)) d9
 d_s9 = record { tape = refl; tree = refl; moves = refl; grants = refl }
 
 abbrev d10 : World ℕ
-d10 = next [] (Nested) 7 d9
+d10 = next [] (In (Some 0) (Eval kills)) 7 d9
 
-d_s10 : Step d9 [] (Nested) d10
+d_s10 : Step d9 [] (In (Some 0) (Eval kills)) d10
 d_s10 = record { tape = refl; tree = refl; moves = refl; grants = refl }
 
 abbrev d11 : World ℕ
-d11 = next [] (Charged) 6 d10
+d11 = next [] (Nested) 7 d10
 
-d_s11 : Step d10 [] (Charged) d11
+d_s11 : Step d10 [] (Nested) d11
 d_s11 = record { tape = refl; tree = refl; moves = refl; grants = refl }
 
 abbrev d12 : World ℕ
-d12 = next (c ∷ []) (Dropped) 6 d11
+d12 = next [] (Charged) 6 d11
 
-d_s12 : Step d11 (c ∷ []) (Dropped) d12
+d_s12 : Step d11 [] (Charged) d12
 d_s12 = record { tape = refl; tree = refl; moves = refl; grants = refl }
 
 abbrev d13 : World ℕ
-d13 = next (c ∷ []) (Made 0 true) 6 d12
+d13 = next (c ∷ []) (Dropped) 6 d12
 
-d_s13 : Step d12 (c ∷ []) (Made 0 true) d13
+d_s13 : Step d12 (c ∷ []) (Dropped) d13
 d_s13 = record { tape = refl; tree = refl; moves = refl; grants = refl }
 
 abbrev d14 : World ℕ
-d14 = next [] (Unnested) 6 d13
+d14 = next (c ∷ []) (Made 0 true) 6 d13
 
-d_s14 : Step d13 [] (Unnested) d14
+d_s14 : Step d13 (c ∷ []) (Made 0 true) d14
 d_s14 = record { tape = refl; tree = refl; moves = refl; grants = refl }
 
 abbrev d15 : World ℕ
-d15 = next [] (Done (Some 0) (Completed (ok []))) 6 d14
+d15 = next [] (Unnested) 6 d14
 
-d_s15 : Step d14 [] (Done (Some 0) (Completed (ok []))) d15
+d_s15 : Step d14 [] (Unnested) d15
 d_s15 = record { tape = refl; tree = refl; moves = refl; grants = refl }
 
 abbrev d16 : World ℕ
-d16 = next (c ∷ []) (Back (Some 1) (Replied (Stop 0 Gone))) 6 d15
+d16 = next [] (Done (Some 0) (Completed (ok []))) 6 d15
 
-d_s16 : Step d15 (c ∷ []) (Back (Some 1) (Replied (Stop 0 Gone))) d16
+d_s16 : Step d15 [] (Done (Some 0) (Completed (ok []))) d16
 d_s16 = record { tape = refl; tree = refl; moves = refl; grants = refl }
 
 abbrev d17 : World ℕ
-d17 = next (c ∷ []) (Unnested) 6 d16
+d17 = next (c ∷ []) (Back (Some 1) (Replied (Stop 0 Gone))) 6 d16
 
-d_s17 : Step d16 (c ∷ []) (Unnested) d17
+d_s17 : Step d16 (c ∷ []) (Back (Some 1) (Replied (Stop 0 Gone))) d17
 d_s17 = record { tape = refl; tree = refl; moves = refl; grants = refl }
 
 abbrev d18 : World ℕ
-d18 = next (c ∷ []) (Done (Some 1) (Stop 0 Gone)) 6 d17
+d18 = next (c ∷ []) (Seen) 6 d17
 
-d_s18 : Step d17 (c ∷ []) (Done (Some 1) (Stop 0 Gone)) d18
+d_s18 : Step d17 (c ∷ []) (Seen) d18
 d_s18 = record { tape = refl; tree = refl; moves = refl; grants = refl }
 
 abbrev d19 : World ℕ
-d19 = next [] (Back (Some 0) (Replied (Completed (refusal Gone)))) 6 d18
+d19 = next (c ∷ []) (Unnested) 6 d18
 
-d_s19 : Step d18 [] (Back (Some 0) (Replied (Completed (refusal Gone)))) d19
+d_s19 : Step d18 (c ∷ []) (Unnested) d19
 d_s19 = record { tape = refl; tree = refl; moves = refl; grants = refl }
 
 abbrev d20 : World ℕ
-d20 = next [] (Unnested) 6 d19
+d20 = next (c ∷ []) (Done (Some 1) (Stop 0 Gone)) 6 d19
 
-d_s20 : Step d19 [] (Unnested) d20
+d_s20 : Step d19 (c ∷ []) (Done (Some 1) (Stop 0 Gone)) d20
 d_s20 = record { tape = refl; tree = refl; moves = refl; grants = refl }
 
 abbrev d21 : World ℕ
-d21 = next [] (Done None (Completed (refusal Gone))) 6 d20
+d21 = next [] (Back (Some 0) (Replied (Completed (refusal Gone)))) 6 d20
 
-d_s21 : Step d20 [] (Done None (Completed (refusal Gone))) d21
+d_s21 : Step d20 [] (Back (Some 0) (Replied (Completed (refusal Gone)))) d21
 d_s21 = record { tape = refl; tree = refl; moves = refl; grants = refl }
 
-d_kills : Derives (commands asks_parent) d9 [] (entry (Eval kills)) d14 (Some (Completed (ok [])))
-d_kills = wrapped _ _ _ _ _ (None, Nested, On) d10 d13 d14 _ (ok []) _ refl refl d_s10 (acted _ _ _ _ (None, Charged, On) d11 _ _ refl tt d_s11
-    (acted _ _ _ _ (Some c, Dropped, On) d12 _ _ refl tt d_s12 (acted _ _ _ _ (Some c, Made 0 true, On) d13 _ _ refl tt d_s13 (completed _ _ _)))) d_s14 (completed _ _ _)
+abbrev d22 : World ℕ
+d22 = next [] (Unnested) 6 d21
 
-d_asks : Derives (commands asks_parent) d6 (c ∷ []) (program asks_parent (Script.Asks 1)) d16 (Some (Stop 0 Gone))
-d_asks = acted _ _ _ _ (None, Charged, On) d7 _ _ refl tt d_s7 (called_passed _ _ _ _ _ _ _ [] [] d8 d9 d14 d15 d16 (Completed (ok [])) refl d_s8 refl d_s9 d_kills d_s15 tt d_s16)
+d_s22 : Step d21 [] (Unnested) d22
+d_s22 = record { tape = refl; tree = refl; moves = refl; grants = refl }
 
-d_child : Derives (commands asks_parent) d5 (c ∷ []) (entry (Eval asks_parent)) d17 (Some (Stop 0 Gone))
-d_child = wrapped_passed _ _ _ _ _ (None, Nested, On) d6 d16 d17 (Stop 0 Gone) tt refl refl d_s6 d_asks d_s17
+abbrev d23 : World ℕ
+d23 = next [] (Done None (Completed (refusal Gone))) 6 d22
 
-d_tells : Derives (commands asks_parent) d2 [] (program asks_parent Script.TellsC) d19 (Some (Completed (refusal Gone)))
-d_tells = acted _ _ _ _ (None, Charged, On) d3 _ _ refl tt d_s3 (called _ _ _ _ _ _ _ [] (c ∷ []) d4 d5 d17 d18 d19 _ (Stop 0 Gone) (refusal Gone) _ refl d_s4 refl d_s5 d_child d_s18 refl d_s19 (completed _ _ _))
+d_s23 : Step d22 [] (Done None (Completed (refusal Gone))) d23
+d_s23 = record { tape = refl; tree = refl; moves = refl; grants = refl }
 
-d_root : Derives (commands asks_parent) d1 [] (entry (Eval tells_c)) d20 (Some (Completed (refusal Gone)))
-d_root = wrapped _ _ _ _ _ (None, Nested, On) d2 d19 d20 _ (refusal Gone) _ refl refl d_s2 d_tells d_s20 (completed _ _ _)
+d_kills : Derives (commands asks_parent) d10 [] (entry (Eval kills)) d15 (Some (Completed (ok [])))
+d_kills = wrapped _ _ _ _ _ (None, Nested, On) d11 d14 d15 _ (ok []) _ refl refl d_s11 (acted _ _ _ _ (None, Charged, On) d12 _ _ refl tt d_s12
+    (acted _ _ _ _ (Some c, Dropped, On) d13 _ _ refl tt d_s13 (acted _ _ _ _ (Some c, Made 0 true, On) d14 _ _ refl tt d_s14 (completed _ _ _)))) d_s15 (completed _ _ _)
 
-d_life : Derives (commands asks_parent) d0 [] (wait idle never) d21 None
-d_life = entered _ _ _ _ [] (Eval tells_c) d1 d20 d21 _ (Completed (refusal Gone)) _ refl d_s1 d_root d_s21 tt (unanswered _ _ _ _ refl refl refl)
+d_asks : Derives (commands asks_parent) d7 (c ∷ []) (program asks_parent (Script.Asks 1)) d17 (Some (Stop 0 Gone))
+d_asks = acted _ _ _ _ (None, Charged, On) d8 _ _ refl tt d_s8 (called_passed _ _ _ _ _ _ _ [] [] d9 d10 d15 d16 d17 (Completed (ok [])) refl d_s9 refl d_s10 d_kills d_s16 tt d_s17)
+
+d_framed : Derives (commands asks_parent) d6 (c ∷ []) (program asks_parent Script.Framed_asks) d18 (Some (Stop 0 Gone))
+d_framed = wrapped_passed _ _ _ _ _ (None, Changed 3, On) d7 d17 d18 (Stop 0 Gone) tt refl refl d_s7 d_asks d_s18
+
+d_child : Derives (commands asks_parent) d5 (c ∷ []) (entry (Eval asks_parent)) d19 (Some (Stop 0 Gone))
+d_child = wrapped_passed _ _ _ _ _ (None, Nested, On) d6 d18 d19 (Stop 0 Gone) tt refl refl d_s6 d_framed d_s19
+
+d_tells : Derives (commands asks_parent) d2 [] (program asks_parent Script.TellsC) d21 (Some (Completed (refusal Gone)))
+d_tells = acted _ _ _ _ (None, Charged, On) d3 _ _ refl tt d_s3 (called _ _ _ _ _ _ _ [] (c ∷ []) d4 d5 d19 d20 d21 _ (Stop 0 Gone) (refusal Gone) _ refl d_s4 refl d_s5 d_child d_s20 refl d_s21 (completed _ _ _))
+
+d_root : Derives (commands asks_parent) d1 [] (entry (Eval tells_c)) d22 (Some (Completed (refusal Gone)))
+d_root = wrapped _ _ _ _ _ (None, Nested, On) d2 d21 d22 _ (refusal Gone) _ refl refl d_s2 d_tells d_s22 (completed _ _ _)
+
+d_life : Derives (commands asks_parent) d0 [] (wait idle never) d23 None
+d_life = entered _ _ _ _ [] (Eval tells_c) d1 d22 d23 _ (Completed (refusal Gone)) _ refl d_s1 d_root d_s23 tt (unanswered _ _ _ _ refl refl refl)
 
 abbrev f0 : World ℕ
 f0 = start from_below
@@ -386,20 +401,26 @@ abbrev a2 : World ℕ
 a2 = alone_next [] Nested 1 a1
 
 abbrev a3 : World ℕ
-a3 = alone_next [] Charged 0 a2
+a3 = alone_next [] (Changed 3) 1 a2
 
 abbrev a4 : World ℕ
-a4 = alone_next [] (Out (Some 1) [] (Eval kills)) 0 a3
+a4 = alone_next [] Charged 0 a3
 
-a_asks : Derives (commands asks_parent) a2 [] (program asks_parent (Script.Asks 1)) a4 None
-a_asks = acted _ _ _ _ (None, Charged, On) a3 _ _ refl tt (record { tape = refl; tree = refl; moves = refl; grants = refl })
-    (called_out _ _ _ _ _ _ _ a4 _ _ refl (record { tape = refl; tree = refl; moves = refl; grants = refl }) (unanswered _ _ _ _ refl refl refl))
+abbrev a5 : World ℕ
+a5 = alone_next [] (Out (Some 1) [] (Eval kills)) 0 a4
 
-a_child : Derives (commands asks_parent) a1 [] (entry (Eval asks_parent)) a4 None
-a_child = wrapped_halted _ _ _ _ _ (None, Nested, On) a2 a4 refl refl (record { tape = refl; tree = refl; moves = refl; grants = refl }) a_asks
+a_asks : Derives (commands asks_parent) a3 [] (program asks_parent (Script.Asks 1)) a5 None
+a_asks = acted _ _ _ _ (None, Charged, On) a4 _ _ refl tt (record { tape = refl; tree = refl; moves = refl; grants = refl })
+    (called_out _ _ _ _ _ _ _ a5 _ _ refl (record { tape = refl; tree = refl; moves = refl; grants = refl }) (unanswered _ _ _ _ refl refl refl))
 
-a_life : Derives (commands asks_parent) a0 [] (wait idle never) a4 None
-a_life = entered_halted _ _ _ _ [] (Eval asks_parent) a1 a4 refl (record { tape = refl; tree = refl; moves = refl; grants = refl }) a_child
+a_framed : Derives (commands asks_parent) a2 [] (program asks_parent Script.Framed_asks) a5 None
+a_framed = wrapped_halted _ _ _ _ _ (None, Changed 3, On) a3 a5 refl refl (record { tape = refl; tree = refl; moves = refl; grants = refl }) a_asks
+
+a_child : Derives (commands asks_parent) a1 [] (entry (Eval asks_parent)) a5 None
+a_child = wrapped_halted _ _ _ _ _ (None, Nested, On) a2 a5 refl refl (record { tape = refl; tree = refl; moves = refl; grants = refl }) a_framed
+
+a_life : Derives (commands asks_parent) a0 [] (wait idle never) a5 None
+a_life = entered_halted _ _ _ _ [] (Eval asks_parent) a1 a5 refl (record { tape = refl; tree = refl; moves = refl; grants = refl }) a_child
 
 pub worked_deletion : WorkedDeletion
 worked_deletion = record {
@@ -408,7 +429,7 @@ worked_deletion = record {
   ends = refl;
   handed = refl;
   told = refl;
-  replayed = record { tape = view (c ∷ []) deletion; last = a4; run = waiting a0 a4 0 (derived_runs (commands asks_parent) a_life) (tt, (tt, (tt, (tt, tt)))) refl refl; told = refl; left = refl };
+  replayed = record { tape = view (c ∷ []) deletion; last = a5; run = waiting a0 a5 0 (derived_runs (commands asks_parent) a_life) (tt, (tt, (tt, (tt, (tt, tt))))) refl refl; told = refl; left = refl };
   life_below = derived_runs (commands tells_g) f_life;
   anew_below = refl;
   ends_below = refl;

@@ -10,11 +10,12 @@ use Rattle.tcl_core.specs.Entries.Said.{Finished, Told}
 use Rattle.tcl_core.specs.Entries.Answer.{Replied}
 use Rattle.tcl_core.specs.Trees.{Node, Tree, Event, What, Move, at, fresh}
 use Rattle.tcl_core.specs.Trees.Grants.{Budget}
-use Rattle.tcl_core.specs.Trees.What.{Charged, Nested, Unnested, Made, Dropped, Out, In, Done, Back}
+use Rattle.tcl_core.specs.Trees.What.{Seen, Changed, Charged, Nested, Unnested, Made, Dropped, Out}
+use Rattle.tcl_core.specs.Trees.What.{In, Done, Back}
 use Rattle.tcl_core.specs.Trees.Move.{Enter}
 use Rattle.tcl_core.specs.Programs.{Prog, Calls_only, Table}
 use Rattle.tcl_core.specs.Programs.Act.{Charge, Change, Make, Drop}
-use Rattle.tcl_core.specs.Programs.Wrap.{Deeper}
+use Rattle.tcl_core.specs.Programs.Wrap.{Deeper, Framed}
 use Rattle.tcl_core.specs.Programs.Prog.{done, act, inside, call, wait}
 use Rattle.tcl_core.specs.Runs.{World, Runs}
 use Rattle.tcl_core.specs.Views.{moves_of, view}
@@ -24,10 +25,11 @@ use Rattle.tcl_core.specs.Laws.{after}
 use Rattle.tcl_core.specs.Execution.{event}
 
 -- A script tells the child c to go on, or the child g of that; or has the one so many levels up
--- delete its child c; or deletes it, and makes it anew.
+-- delete its child c, within frames of its own or without; or deletes it, and makes it anew.
 pub data Script : Type 0 where
   TellsC : Script
   TellsG : Script
+  Framed_asks : Script
   Asks : (levels : ℕ) → Script
   Kills : Script
 
@@ -69,12 +71,13 @@ abbrev pub script_of : Text → Script
 script_of [] = Kills
 script_of (zero ∷ t) = TellsC
 script_of (suc zero ∷ t) = TellsG
-script_of (suc (suc zero) ∷ t) = Asks 1
+script_of (suc (suc zero) ∷ t) = Framed_asks
 script_of (x ∷ t) = Asks 2
 
 abbrev pub program : Text → Script → Prog ℕ Script
 program next TellsC = act Charge (λ T. call (Some 0) (c ∷ []) (Eval next) lost finish)
 program next TellsG = act Charge (λ T. call (Some 0) (g ∷ []) (Eval asks_above) lost finish)
+program next Framed_asks = inside (Framed 3 (λ n. 4)) (Asks 1) done
 program next (Asks n) = act Charge (λ T. call (Some n) [] (Eval kills) lost goes_on)
 program next Kills = act Charge (λ T. act (Drop c) (λ U. act (Make c 0 true) (λ V. done (ok []))))
 
@@ -93,6 +96,7 @@ goes_on_calls (Told a) = tt
 abbrev pub program_calls : (next : Text) (i : Script) → Calls_only (program next i)
 program_calls next TellsC = λ T. finish_calls
 program_calls next TellsG = λ T. finish_calls
+program_calls next Framed_asks = λ x. tt
 program_calls next (Asks n) = λ T. goes_on_calls
 program_calls next Kills = λ T U V. tt
 
@@ -150,22 +154,23 @@ abbrev pub finished : ℕ → List (Event ℕ) → World ℕ
 finished n log = record { tree = after log first_tree; moves = []; grants = Budget n; tape = [] }
 
 -- The root has c ask it to delete c. The root does, and makes c anew. When control comes back to
--- the evaluation in c, that ends: it sets no variable, neither its own nor that of the new c. The
--- root is told the error.
+-- the evaluation in c, that ends: it sets no variable, neither its own nor that of the new c, and
+-- brings no frames back there. The root is told the error.
 abbrev pub deletion : List (Event ℕ)
 deletion =
     event [] (In None (Eval tells_c)) ∷ event [] Nested ∷ event [] Charged
     ∷ event [] (Out (Some 0) (c ∷ []) (Eval asks_parent))
     ∷ event (c ∷ []) (In (Some 1) (Eval asks_parent)) ∷ event (c ∷ []) Nested
-    ∷ event (c ∷ []) Charged ∷ event (c ∷ []) (Out (Some 1) [] (Eval kills)) ∷ []
+    ∷ event (c ∷ []) (Changed 3) ∷ event (c ∷ []) Charged
+    ∷ event (c ∷ []) (Out (Some 1) [] (Eval kills)) ∷ []
 
 abbrev pub after_deletion : List (Event ℕ)
 after_deletion =
     event [] (In (Some 0) (Eval kills)) ∷ event [] Nested ∷ event [] Charged
     ∷ event (c ∷ []) Dropped ∷ event (c ∷ []) (Made 0 true) ∷ event [] Unnested
     ∷ event [] (Done (Some 0) (Completed (ok [])))
-    ∷ event (c ∷ []) (Back (Some 1) (Replied (Stop 0 Gone))) ∷ event (c ∷ []) Unnested
-    ∷ event (c ∷ []) (Done (Some 1) (Stop 0 Gone))
+    ∷ event (c ∷ []) (Back (Some 1) (Replied (Stop 0 Gone))) ∷ event (c ∷ []) Seen
+    ∷ event (c ∷ []) Unnested ∷ event (c ∷ []) (Done (Some 1) (Stop 0 Gone))
     ∷ event [] (Back (Some 0) (Replied (Completed (refusal Gone)))) ∷ event [] Unnested
     ∷ event [] (Done None (Completed (refusal Gone))) ∷ []
 
