@@ -101,7 +101,6 @@ module _ {O : Type 0} where
   abbrev pub AsDeep : (Place → Bool) → Tree O → Tree O → Type 0
   AsDeep b T V = (q : Place) → depth_of (V q) ≡ depth_left (b q) (depth_of (T q))
 
-
   beneath_closed : (a b : Option (Node O)) → Beneath a b → a ≡ None → b ≡ None
   beneath_closed a None f e = refl
   beneath_closed None (Some n) f e = absurd f

@@ -166,11 +166,14 @@ module _ {O I : Type 0} where
       stopped_so prog (at w.tree c) b k (budgeted k g.last) o.open_ins life un open_now g.moves (λ q. g.outcome (omega arith)) in
       let made : (made : List (Event O)) × ((only L b).tape ≡ made ++ g.last.tape) × (g.last.tree ≡ after made (at w.tree c)) = happenings prog (only L b) [] (wait idle never) g.last None (derived_runs prog g.life) in
       let all_made : b ≡ made.0 = made.1 ∙ ap (λ l2. made.0 ++ l2) none ∙ append-nil made.0 in
-      let budget : m ≡ steps_of b + k = omega (arith, le) in
-      (x.0, x.1, record {
-        tape = b;
-        last = budgeted k g.last;
-        run = subst (λ j. Reacts prog (alone (at w.tree c) (moves_of b) j b) (budgeted k g.last) x.0) (sym budget) x.2;
-        told = refl;
-        left = moments c before w.tree ∙ ap (λ τ. after τ (at w.tree c)) all_made ∙ sym made.2;
-      })
+      let budget : m ≡ steps_of b + k = omega (arith, le) in (
+        x.0,
+        x.1,
+        record {
+          tape = b;
+          last = budgeted k g.last;
+          run = subst (λ j. Reacts prog (alone (at w.tree c) (moves_of b) j b) (budgeted k g.last) x.0) (sym budget) x.2;
+          told = refl;
+          left = moments c before w.tree ∙ ap (λ τ. after τ (at w.tree c)) all_made ∙ sym made.2;
+        },
+      )

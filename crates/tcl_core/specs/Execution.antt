@@ -19,7 +19,7 @@ use Rattle.tcl_core.specs.Programs.{Calls_only, Deed, spot, Act, Wrap, Wait, Pro
 use Rattle.tcl_core.specs.Programs.{opens, closes}
 use Rattle.tcl_core.specs.Programs.Next.{On, TooDeep, Off}
 use Rattle.tcl_core.specs.Programs.Prog.{done, exit, act, go, inside, call, wait}
-use Rattle.tcl_core.specs.Runs.{World, Runs, carried, gone, reached, entering, fits}
+use Rattle.tcl_core.specs.Runs.{World, Runs, returned, reached, entering, fits}
 use Rattle.tcl_core.specs.Runs.{height_of}
 use Rattle.tcl_core.specs.Rules.{IsOn, IsNoExit}
 use Rattle.tcl_core.specs.Views.{moves_of, grants_of}
@@ -61,7 +61,8 @@ pub data Executes {O I S : Type 0} (step : Tree O → S → Wait → Event O →
       Opens_so b T p x → x.2 ≡ On → step T o None (event (spot p x.0) x.1) o1 →
       Executes step prog (effect (spot p x.0) x.1 T) o1 p (prog.program i) U o2 (Completed c) →
       step U o2 None (event p (closes b (effect (spot p x.0) x.1 T p) (U p))) o3 →
-      Executes step prog (effect p (closes b (effect (spot p x.0) x.1 T p) (U p)) U) o3 p (k c) V z r →
+      Executes step prog (effect p (closes b (effect (spot p x.0) x.1 T p) (U p)) U) o3 p (k c) V z
+      r →
       Executes step prog T o p (inside b i k) V z r
   wrapped_passed : {T U : Tree O} {o o1 o2 o3 : S} {p : Place} {b : Wrap O} {i : I}
       {k : Completion → Prog O I} {r : Reply} (x : Deed O) → IsQuit r →
@@ -87,8 +88,8 @@ pub data Executes {O I S : Type 0} (step : Tree O → S → Wait → Event O →
       step T o1 None (event t (In (Some (length down)) i)) o2 →
       Executes step prog T o2 t (entering prog (T t) i) U o3 s →
       step U o3 None (event t (Done (Some (length down)) s)) o4 →
-      carried (gone (depth_of (T p)) U p) h p down s ≡ Completed c →
-      step U o4 None (event p (Back h (Replied (carried (gone (depth_of (T p)) U p) h p down s)))) o5 →
+      returned T U h p down s ≡ Completed c →
+      step U o4 None (event p (Back h (Replied (returned T U h p down s)))) o5 →
       Executes step prog U o5 p (k (Finished c)) V z r →
       Executes step prog T o p (call h down i lost k) V z r
   called_passed : {T U : Tree O} {o o1 o2 o3 o4 o5 : S} {p : Place} {h : Height} {down : Path}
@@ -98,7 +99,7 @@ pub data Executes {O I S : Type 0} (step : Tree O → S → Wait → Event O →
       step T o1 None (event t (In (Some (length down)) i)) o2 →
       Executes step prog T o2 t (entering prog (T t) i) U o3 s →
       step U o3 None (event t (Done (Some (length down)) s)) o4 →
-      carried (gone (depth_of (T p)) U p) h p down s ≡ r →
+      returned T U h p down s ≡ r →
       IsQuit r → step U o4 None (event p (Back h (Replied r))) o5 →
       Executes step prog T o p (call h down i lost k) U o5 r
   unreached : {T V : Tree O} {o o1 o2 z : S} {p : Place} {h : Height} {down : Path} {i : Entry}

@@ -15,7 +15,7 @@ use Rattle.tcl_core.specs.Trees.What.{Charged, Refused, Limited, Made, Dropped, 
 use Rattle.tcl_core.specs.Programs.{Act, Wrap, Wait, Deed, Prog, Table, spot, decide, opens}
 use Rattle.tcl_core.specs.Programs.Next.{On, Off}
 use Rattle.tcl_core.specs.Programs.Prog.{act, go, inside, call, wait}
-use Rattle.tcl_core.specs.Runs.{World, Ending, Step, Runs, Visits, carried, gone, gone_from}
+use Rattle.tcl_core.specs.Runs.{World, Ending, Step, Runs, Visits, gone, gone_from, returned}
 use Rattle.tcl_core.specs.Runs.{reached, fits}
 use Rattle.tcl_core.specs.Views.{grants_of, moves_of, steps_of, view, inside_of}
 use Rattle.tcl_core.specs.Tables.{Discipline, Keeps_to, IsGood, AreTame, AreAllowed, exposes}
@@ -191,10 +191,10 @@ IsOpenOrDone Finished = Unit {0}
 IsOpenOrDone Waiting = Unit {0}
 IsOpenOrDone x = Prim.⊥
 
--- The same up to where c is dropped, it or one above it: what an evaluation does in the subtree at c
--- until then is what React does with that subtree alone and the crossings into it until then, with
--- every budget that is not less than the steps made in it. It has done what it was asked for, or it
--- waits at a call that is open; and what it leaves is the subtree that stood at c when it was
+-- The same up to where c is dropped, it or one above it: what an evaluation does in the subtree at
+-- c until then is what React does with that subtree alone and the crossings into it until then,
+-- with every budget that is not less than the steps made in it. It has done what it was asked for,
+-- or it waits at a call that is open; and what it leaves is the subtree that stood at c when it was
 -- dropped.
 abbrev pub IsolationToDrop : Type 0 → Type 0 → Type 0
 IsolationToDrop O I = (prog : Table O I) (c : Place) (w v : World O) (t : Path) (i : Entry)
@@ -409,12 +409,12 @@ pub record Passing (O I : Type 0) : Type 0 where
   -- where a call within the tree is answered so, as its caller is told it
   pub called : (prog : Table O I) (w u z v : World O) (p a t : Place) (h : Height) (down : Path)
       (i : Entry) (lost : Completion) (k : Said → Prog O I) (r : Reply) (e : Ending) →
-      IsQuit (carried (gone (depth_of (u.tree p)) z.tree p) h p down r) → rise_to h p ≡ Some a →
+      IsQuit (returned u.tree z.tree h p down r) → rise_to h p ≡ Some a →
       Step w p (Out h down i) u →
       reached u.tree a down ≡ Some t →
       Visits prog (Runs prog) u (Some (length down)) t i z (Some r) →
       Runs prog w p (call h down i lost k) v e →
-      e ≡ Some (carried (gone (depth_of (u.tree p)) z.tree p) h p down r)
+      e ≡ Some (returned u.tree z.tree h p down r)
   -- where the interpreter of the caller, or one above it, is gone by then, the whole ends, whatever
   -- was answered
   pub ousted : (prog : Table O I) (w u z v : World O) (p a t : Place) (h : Height) (down : Path)

@@ -32,8 +32,8 @@ pub data Wrap (O : Type 0) : Type 0 where
   Deeper : Wrap O
   Framed : (own : O) (back : O → O) → Wrap O
 
--- The call that waits for its answer: how far up it goes, what it asks for, and how many evaluations
--- were in progress where it is made; none where control waits at the top.
+-- The call that waits for its answer: how far up it goes, what it asks for, and how many
+-- evaluations were in progress where it is made; none where control waits at the top.
 abbrev pub Wait : Type 0
 Wait = Option (Height × Entry × ℕ)
 
@@ -174,8 +174,8 @@ module _ {O : Type 0} where
   opens Deeper T p gs = metered Depth Nested (blocked is_deep T p) gs
   opens (Framed o back) T p gs = Some (changing o (T p))
 
-  -- And what it does after. Frames are brought back where the same interpreter stands as before: one
-  -- that is in use less deeply was made anew.
+  -- And what it does after. Frames are brought back where the same interpreter stands as before:
+  -- one that is in use less deeply was made anew.
   abbrev pub brought_back : Bool → (O → O) → Option (Node O) → What O
   brought_back b back None = Seen
   brought_back true back (Some n) = Seen

@@ -16,7 +16,7 @@ use Rattle.tcl_core.specs.Programs.{Deed, spot, Act, Wrap, Wait, Next, Prog, Tab
 use Rattle.tcl_core.specs.Programs.{closes}
 use Rattle.tcl_core.specs.Programs.Next.{On, TooDeep, Off}
 use Rattle.tcl_core.specs.Programs.Prog.{done, exit, act, go, inside, call, wait}
-use Rattle.tcl_core.specs.Runs.{World, Ending, Step, Exits, carried, gone, reached, entering, fits}
+use Rattle.tcl_core.specs.Runs.{World, Ending, Step, Exits, returned, reached, entering, fits}
 use Rattle.tcl_core.specs.Runs.{height_of}
 
 -- the program goes on after the act
@@ -65,7 +65,8 @@ pub data Derives {O I : Type 0} (prog : Table O I) : World O → Place → Prog 
       (x : Deed O) (inner left closed : World O) (r : Reply) → IsQuit r →
       opens b w.tree p w.grants ≡ Some x → x.2 ≡ On → Step w (spot p x.0) x.1 inner →
       Derives prog inner p (prog.program i) left (Some r) →
-      Step left p (closes b (inner.tree p) (left.tree p)) closed → Derives prog w p (inside b i k) closed (Some r)
+      Step left p (closes b (inner.tree p) (left.tree p)) closed →
+      Derives prog w p (inside b i k) closed (Some r)
   wrapped_halted : (w : World O) (p : Place) (b : Wrap O) (i : I) (k : Completion → Prog O I)
       (x : Deed O) (inner left : World O) →
       opens b w.tree p w.grants ≡ Some x → x.2 ≡ On → Step w (spot p x.0) x.1 inner →
@@ -89,9 +90,8 @@ pub data Derives {O I : Type 0} (prog : Table O I) : World O → Place → Prog 
       Step out t (In (Some (length down)) i) entered →
       Derives prog entered t (entering prog (out.tree t) i) left (Some r) →
       Step left t (Done (Some (length down)) r) told →
-      carried (gone (depth_of (out.tree p)) told.tree p) h p down r ≡ Completed c →
-      Step told p (Back h (Replied (carried (gone (depth_of (out.tree p)) told.tree p) h p down r)))
-      back →
+      returned out.tree told.tree h p down r ≡ Completed c →
+      Step told p (Back h (Replied (returned out.tree told.tree h p down r))) back →
       Derives prog back p (k (Finished c)) v e → Derives prog w p (call h down i lost k) v e
   called_passed : (w : World O) (p : Place) (h : Height) (down : Path) (i : Entry)
       (lost : Completion) (k : Said → Prog O I) (a t : Place) (out entered left told back : World O)
@@ -100,11 +100,10 @@ pub data Derives {O I : Type 0} (prog : Table O I) : World O → Place → Prog 
       Step out t (In (Some (length down)) i) entered →
       Derives prog entered t (entering prog (out.tree t) i) left (Some r) →
       Step left t (Done (Some (length down)) r) told →
-      IsQuit (carried (gone (depth_of (out.tree p)) told.tree p) h p down r) →
-      Step told p (Back h (Replied (carried (gone (depth_of (out.tree p)) told.tree p) h p down r)))
-      back →
+      IsQuit (returned out.tree told.tree h p down r) →
+      Step told p (Back h (Replied (returned out.tree told.tree h p down r))) back →
       Derives prog w p (call h down i lost k) back
-      (Some (carried (gone (depth_of (out.tree p)) told.tree p) h p down r))
+      (Some (returned out.tree told.tree h p down r))
   called_halted : (w : World O) (p : Place) (h : Height) (down : Path) (i : Entry)
       (lost : Completion) (k : Said → Prog O I) (a t : Place) (out entered left : World O) →
       rise_to h p ≡ Some a → Step w p (Out h down i) out → reached out.tree a down ≡ Some t →
@@ -119,7 +118,7 @@ pub data Derives {O I : Type 0} (prog : Table O I) : World O → Place → Prog 
   -- calls that leave it, and waiting
   called_out : (w : World O) (p : Place) (h : Height) (down : Path) (i : Entry) (lost : Completion)
       (k : Said → Prog O I) (u v : World O) (e : Ending) →
-      rise_to h p ≡ None → Step w p (Out h down i) u → 
+      rise_to h p ≡ None → Step w p (Out h down i) u →
       Derives prog u p (wait (Some (h, i, depth_of (u.tree p))) k) v e →
       Derives prog w p (call h down i lost k) v e
   unanswered : (w : World O) (p : Place) (s : Wait) (k : Said → Prog O I) →

@@ -1,7 +1,7 @@
 -- What a program's run is.
 use Rattle.std.specs.Ordering.{int_eq}
-use Rattle.std.specs.Prelude.{◌≡◌, ℕ, zero, suc, ℤ, Bool, true, false, nat_eq, nat_le, nat_lt, ◌+◌, ◌-◌}
-use Rattle.std.specs.Prelude.{List, [], ◌∷◌, ◌++◌, Option, Some, None, length}
+use Rattle.std.specs.Prelude.{◌≡◌, ℕ, zero, suc, ℤ, Bool, true, false, nat_eq, nat_le, nat_lt}
+use Rattle.std.specs.Prelude.{◌+◌, ◌-◌, List, [], ◌∷◌, ◌++◌, Option, Some, None, length}
 use Rattle.tcl_core.specs.Paths.{falls, together, Path, Place, Height, rise_to}
 use Rattle.tcl_core.specs.Endings.{Kind, Completion, Reply, refusal}
 use Rattle.tcl_core.specs.Endings.Meter.{Depth}
@@ -109,6 +109,11 @@ ended (Some n) r = r
 
 abbrev pub carried : Option ℕ → Height → Place → Path → Reply → Reply
 carried g h p down r = ended g (carried_by r h p down)
+
+-- The reply of a call within the tree, as the caller at p is told it: T is the tree as the call
+-- went out, U as it was done.
+abbrev pub returned : {O : Type 0} → Tree O → Tree O → Height → Place → Path → Reply → Reply
+returned T U h p down r = carried (gone (depth_of (T p)) U p) h p down r
 
 -- the interpreter these names down from a, where it stands
 abbrev pub where_stands : {O : Type 0} → Option (Node O) → Place → Option Place

@@ -6,8 +6,9 @@
 ghost use Rattle.tcl_core.specs.Deletion.{WorkedDeletion};
 ghost use Rattle.tcl_core.specs.Example.{WorkedLife, WorkedReactions};
 ghost use Rattle.tcl_core.specs.Laws.{AllAgree, Bounded, Counting, Determinism, Disciplined};
-ghost use Rattle.tcl_core.specs.Laws.{GoneIsDropped, Happenings, Inner, Isolation, IsolationToDrop, IsolationUntil};
-ghost use Rattle.tcl_core.specs.Laws.{Limiting, LimitsKept, LivesWithin, Moments, MoreMoves, NonInterference};
+ghost use Rattle.tcl_core.specs.Laws.{GoneIsDropped, Happenings, Inner, Isolation};
+ghost use Rattle.tcl_core.specs.Laws.{IsolationToDrop, IsolationUntil, Limiting, LimitsKept};
+ghost use Rattle.tcl_core.specs.Laws.{LivesWithin, Moments, MoreMoves, NonInterference};
 ghost use Rattle.tcl_core.specs.Laws.{NoRequests, OneReaction, Passing, QuietOutside, Steady};
 ghost use Rattle.tcl_core.specs.Laws.{Stopping, TwoWorlds, Untouched};
 ghost use Rattle.tcl_core.specs.Meaning.{RulesAreRuns, ExecutionsAreRuns, Unrolling};
@@ -91,8 +92,8 @@ pub fn isolation_until<O, I>()
     ensures { IsolationUntil O I }
 {}
 
-/// Up to where a subtree is dropped, what is done in it is what it does alone with the crossings into
-/// it until then.
+/// Up to where a subtree is dropped, what is done in it is what it does alone with the crossings
+/// into it until then.
 pub fn isolation_to_drop<O, I>()
     ensures { IsolationToDrop O I }
 {}

@@ -17,7 +17,7 @@ use Rattle.tcl_core.specs.Trees.Move.{Come}
 use Rattle.tcl_core.specs.Programs.{Deed, spot, Act, Wrap, Wait, Prog, Table, closes}
 use Rattle.tcl_core.specs.Programs.Next.{On, TooDeep}
 use Rattle.tcl_core.specs.Programs.Prog.{act, go, inside, call, wait}
-use Rattle.tcl_core.specs.Runs.{World, Ending, Runs, carried, gone, reached, entering, fits}
+use Rattle.tcl_core.specs.Runs.{World, Ending, Runs, returned, reached, entering, fits}
 use Rattle.tcl_core.specs.Runs.{height_of}
 use Rattle.tcl_core.specs.Rules.{IsOn, IsNoExit}
 use Rattle.tcl_core.specs.Execution.{Executes, Chain, Decides, Fits, Open, Opens_so, event}
@@ -95,8 +95,8 @@ pub data Begun {O I S : Type 0} (step : Tree O → S → Wait → Event O → S 
       step T o1 None (event t (In (Some (length down)) i)) o2 →
       Executes step prog T o2 t (entering prog (T t) i) U o3 s →
       step U o3 None (event t (Done (Some (length down)) s)) o4 →
-      carried (gone (depth_of (T p)) U p) h p down s ≡ Completed c →
-      step U o4 None (event p (Back h (Replied (carried (gone (depth_of (T p)) U p) h p down s)))) o5 →
+      returned T U h p down s ≡ Completed c →
+      step U o4 None (event p (Back h (Replied (returned T U h p down s)))) o5 →
       Begun step prog U o5 p (k (Finished c)) z → Begun step prog T o p (call h down i lost k) z
   -- after a call to one that doesn't stand
   unreached : {T : Tree O} {o o1 o2 z : S} {p : Place} {h : Height} {down : Path} {i : Entry}
