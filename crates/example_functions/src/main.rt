@@ -29,7 +29,7 @@ fn twice(alloc: Global, call: &Call) -> Result<Action, AllocError> {
             let script = script.text(alloc)?;
             Action::eval(alloc, call.caller.as_slice(), script.as_str())
         }
-        _ => Action::fail(alloc, "wrong # args: should be \"twice script\""),
+        _ => Action::wrong_args(alloc, "twice script"),
     }
 }
 

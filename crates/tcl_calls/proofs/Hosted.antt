@@ -209,14 +209,14 @@ not_read x theirs.Done a b d = refl
 not_read x (theirs.AtEnd ended) a b d = refl
 not_read x (theirs.Refused why) a b d = absurd (d why refl)
 
-pub not_kept : (x name : Text) (r : TheirReply) → ((bytes : Text) → r ≡ theirs.Line bytes → Prim.⊥) → ((bytes : Text) → r ≡ theirs.Rest bytes → Prim.⊥) → (r ≡ theirs.End → Prim.⊥) → ((why : HostRefusal) → r ≡ theirs.Refused why → Prim.⊥) → hosting.line_read x name (reply_of r) ≡ done (ok [])
-not_kept x name (theirs.Opened channel) a b n d = refl
-not_kept x name (theirs.Line bytes) a b n d = absurd (a bytes refl)
-not_kept x name theirs.End a b n d = absurd (n refl)
-not_kept x name (theirs.Rest bytes) a b n d = absurd (b bytes refl)
-not_kept x name theirs.Done a b n d = refl
-not_kept x name (theirs.AtEnd ended) a b n d = refl
-not_kept x name (theirs.Refused why) a b n d = absurd (d why refl)
+pub not_kept : (x name : Text) (r : TheirReply) → ((bytes : Text) → r ≡ theirs.Line bytes → Prim.⊥) → (r ≡ theirs.End → Prim.⊥) → ((why : HostRefusal) → r ≡ theirs.Refused why → Prim.⊥) → hosting.line_read x name (reply_of r) ≡ done (ok [])
+not_kept x name (theirs.Opened channel) a n d = refl
+not_kept x name (theirs.Line bytes) a n d = absurd (a bytes refl)
+not_kept x name theirs.End a n d = absurd (n refl)
+not_kept x name (theirs.Rest bytes) a n d = refl
+not_kept x name theirs.Done a n d = refl
+not_kept x name (theirs.AtEnd ended) a n d = refl
+not_kept x name (theirs.Refused why) a n d = absurd (d why refl)
 
 pub no_channel : (x : Text) (r : TheirReply) → ((name : Text) → r ≡ theirs.Opened name → Prim.⊥) → ((why : HostRefusal) → r ≡ theirs.Refused why → Prim.⊥) → hosting.opened x (reply_of r) ≡ done (ok [])
 no_channel x (theirs.Opened name) a d = absurd (a name refl)
@@ -236,7 +236,7 @@ is_accepted x theirs.Done d = refl
 is_accepted x (theirs.AtEnd ended) d = refl
 is_accepted x (theirs.Refused why) d = absurd (d why refl)
 
-pub is_closed : (x bytes : Text) (r : TheirReply) → ((why : HostRefusal) → r ≡ theirs.Refused why → Prim.⊥) → sourcing.closed x (asking.HostReply.Bytes bytes) (reply_of r) ≡ read_from x bytes sourcing.evaluates_file
+pub is_closed : (x bytes : Text) (r : TheirReply) → ((why : HostRefusal) → r ≡ theirs.Refused why → Prim.⊥) → sourcing.closed x (asking.HostReply.TheRest bytes) (reply_of r) ≡ read_from x bytes sourcing.evaluates_file
 is_closed x bytes (theirs.Opened name) d = refl
 is_closed x bytes (theirs.Line line) d = refl
 is_closed x bytes theirs.End d = refl

@@ -42,7 +42,6 @@ pub fn script_of_file(
     ensures { IsScript (sourcing.closed file.now (reply_of read) (reply_of closed.now)) result }
 {
     match read {
-        HostReply::Line(bytes) => closed_behind(alloc, file, bytes, closed),
         HostReply::Rest(bytes) => closed_behind(alloc, file, bytes, closed),
         HostReply::Refused(why) => Err(refused_by_host(alloc, why, file)),
         _other => Err(Interruption::Memory),
@@ -57,7 +56,7 @@ fn closed_behind(
     closed: &HostReply,
 ) -> Result<Value, Interruption>
     ensures { IsScript
-        (sourcing.closed file.now (core.HostReply.Bytes bytes) (reply_of closed.now)) result }
+        (sourcing.closed file.now (core.HostReply.TheRest bytes) (reply_of closed.now)) result }
 {
     match closed {
         HostReply::Refused(why) => Err(refused_by_host(alloc, *why, file)),

@@ -212,7 +212,6 @@ fn keep_line(
 {
     match reply {
         HostReply::Line(bytes) => keep_bytes(tree, alloc, place, channel, name, bytes),
-        HostReply::Rest(bytes) => keep_bytes(tree, alloc, place, channel, name, bytes),
         HostReply::End => keep(
             tree,
             alloc,

@@ -63,7 +63,7 @@ where_out None a b = a
 where_out (Some z) a b = b
 
 -- what is cut off is told so
-carried_is : (g : Option ℕ) (h : Height) (p : Place) (down : Path) (r : Reply) (c : Cause) → r ≡ Cut c → carried g h p down r ≡ Cut c
+pub carried_is : (g : Option ℕ) (h : Height) (p : Place) (down : Path) (r : Reply) (c : Cause) → r ≡ Cut c → carried g h p down r ≡ Cut c
 carried_is None h p down r c e = ap (carried None h p down) e
 carried_is (Some g) h p down r c e = ap (carried (Some g) h p down) e
 

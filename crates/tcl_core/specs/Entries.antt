@@ -34,8 +34,8 @@ pub data HostReply : Type 0 where
   Is : (answer : Bool) → HostReply
   Fails : (number : ℕ) → HostReply
 
--- What refuses a request: that the device failed; of an opening, that the file couldn't be opened; of
--- all else, that no channel of that name is open for it.
+-- What refuses a request: that the device failed; of an opening, that the file couldn't be opened;
+-- of all else, that no channel of that name is open for it.
 abbrev pub refuses : Request → ℕ → Bool
 refuses (Open n m) number = nat_eq number 262 || nat_eq number 267
 refuses q number = nat_eq number 261 || nat_eq number 262

@@ -1,9 +1,9 @@
 //! Asking an interpreter, wherever it is in the tree.
-ghost use Rattle.std.specs.Prelude.{◌≡◌, ◌≤◌, ◌++◌, IfOk, IfErr, Ok};
+ghost use Rattle.std.specs.Prelude.{◌≡◌, ◌++◌, IfOk, IfErr, Ok};
 ghost use Rattle.tcl_core.specs.Paths.{Path};
 ghost use Rattle.tcl_language.specs.Interpreters as interpreters;
 ghost use Rattle.tcl_run.specs.Ends.{Interrupts, IsFailure};
-ghost use Rattle.tcl_run.specs.Runs.{EvaluatesAt, IsLoss, IsRunning, IsSteady};
+ghost use Rattle.tcl_run.specs.Runs.{EvaluatesAt, IsRunning, KeepsAndLoses};
 ghost use Rattle.tcl_text.specs.Lists.{list_of};
 ghost use Rattle.tcl_text.specs.Writing.{fault_message};
 ghost use Rattle.tcl_tree.specs.TreeOf.{Names};
@@ -44,9 +44,7 @@ pub fn ask<O: Outside>(
     ensures asks { Asks O.goes tree.old outside.old place path.now
         (entry_of entry) tree.new outside.new
         result }
-    ensures lost { IsLoss O.loses outside.old outside.new }
-    ensures steady { IsSteady tree.old tree.new }
-    ensures left { O.entries_left outside.new ≤ O.entries_left outside.old }
+    ensures keeps { KeepsAndLoses O.entries_left O.loses tree.old tree.new outside.old outside.new }
 {
     if path.is_empty() {
         return serve(tree, alloc, outside, place, &entry);
@@ -69,9 +67,7 @@ fn ask_below<O: Outside>(
     ensures calls { AsksBelow O.goes tree.old outside.old place path.now
         (whole_entry entry) tree.new
         outside.new result }
-    ensures lost { IsLoss O.loses outside.old outside.new }
-    ensures steady { IsSteady tree.old tree.new }
-    ensures left { O.entries_left outside.new ≤ O.entries_left outside.old }
+    ensures keeps { KeepsAndLoses O.entries_left O.loses tree.old tree.new outside.old outside.new }
 {
     match tree.reach(place, 0, path) {
         Reach::There(there) => {
@@ -113,9 +109,7 @@ fn serve_own<O: Outside>(
     requires there { (p : Path) × Names tree.old place p }
     ensures runs { EvaluatesAt O.goes tree.old outside.old place
         (λ style. table.serve style (whole_entry entry.now)) tree.new outside.new result }
-    ensures lost { IsLoss O.loses outside.old outside.new }
-    ensures steady { IsSteady tree.old tree.new }
-    ensures left { O.entries_left outside.new ≤ O.entries_left outside.old }
+    ensures keeps { KeepsAndLoses O.entries_left O.loses tree.old tree.new outside.old outside.new }
 {
     let Entry::Own(own) = entry else {
         unreachable!();

@@ -1,8 +1,7 @@
 //! Requests of interpreters, whose answers are all that is left.
-ghost use Rattle.std.specs.Prelude.{◌≤◌};
 ghost use Rattle.tcl_core.specs.Programs.Prog.{done};
 ghost use Rattle.tcl_language.specs.Interpreters as interpreters;
-ghost use Rattle.tcl_run.specs.Runs.{Evaluates, IsLoss, IsRunning, IsSteady};
+ghost use Rattle.tcl_run.specs.Runs.{Evaluates, IsRunning, KeepsAndLoses};
 ghost use Rattle.tcl_run.specs.Entering.{entry_of};
 ghost use Rattle.tcl_entries.specs.Telling.{TellsAs};
 
@@ -28,9 +27,7 @@ pub fn ask_at<O: Outside>(
     requires { IsRunning tree.old place }
     ensures evaluates { Evaluates O.goes tree.old outside.old place
         (λ style. interpreters.asks_at path.now (entry_of entry) done) tree.new outside.new result }
-    ensures lost { IsLoss O.loses outside.old outside.new }
-    ensures steady { IsSteady tree.old tree.new }
-    ensures left { O.entries_left outside.new ≤ O.entries_left outside.old }
+    ensures keeps { KeepsAndLoses O.entries_left O.loses tree.old tree.new outside.old outside.new }
 {
     ask(tree, alloc, outside, place, path, entry)
 }
@@ -66,9 +63,7 @@ pub fn ask_telling<O: Outside>(
     ensures evaluates { Evaluates O.goes tree.old outside.old place
         (λ style. interpreters.asks_at path.now (entry_of entry) (interpreters.with_text value))
         tree.new outside.new result }
-    ensures lost { IsLoss O.loses outside.old outside.new }
-    ensures steady { IsSteady tree.old tree.new }
-    ensures left { O.entries_left outside.new ≤ O.entries_left outside.old }
+    ensures keeps { KeepsAndLoses O.entries_left O.loses tree.old tree.new outside.old outside.new }
 {
     answered_with(ask(tree, alloc, outside, place, path, entry), value)
 }

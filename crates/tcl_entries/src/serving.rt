@@ -1,5 +1,5 @@
 //! What an interpreter does where it is asked for something that evaluates nothing.
-ghost use Rattle.std.specs.Prelude.{◌≡◌, ◌≤◌, ◌∷◌, [], IfOk, Some};
+ghost use Rattle.std.specs.Prelude.{◌≡◌, ◌∷◌, [], IfOk, Some};
 ghost use Rattle.tcl_core.specs.Endings.Reply.{Completed};
 ghost use Rattle.tcl_core.specs.Entries.Entry.{Create};
 ghost use Rattle.tcl_core.specs.Paths.{Path};
@@ -8,7 +8,7 @@ ghost use Rattle.tcl_language.specs.Interpreters as interpreters;
 ghost use Rattle.tcl_language.specs.Table as table;
 ghost use Rattle.tcl_run.specs.Ends.{Interrupts, failing};
 ghost use Rattle.tcl_run.specs.Plain.{Acts};
-ghost use Rattle.tcl_run.specs.Runs.{EvaluatesAt, IsLevel, IsLoss, IsSteady};
+ghost use Rattle.tcl_run.specs.Runs.{EvaluatesAt, IsLevel, IsSteady, KeepsAndLoses};
 ghost use Rattle.tcl_text.specs.Writing.{written_list};
 ghost use Rattle.tcl_tree.specs.Own.{Own};
 ghost use Rattle.tcl_tree.specs.TreeOf.{tree_of, Names};
@@ -267,9 +267,7 @@ pub fn delete<O: Outside>(
     requires { (p : Path) × Names tree.old place p }
     ensures runs { EvaluatesAt O.goes tree.old outside.old place
         (λ style. interpreters.deletes name.now) tree.new outside.new result }
-    ensures lost { IsLoss O.loses outside.old outside.new }
-    ensures steady { IsSteady tree.old tree.new }
-    ensures left { O.entries_left outside.new ≤ O.entries_left outside.old }
+    ensures keeps { KeepsAndLoses O.entries_left O.loses tree.old tree.new outside.old outside.new }
 {
     match tree.delete_at(place, name) {
         Ok(()) => {
@@ -320,9 +318,7 @@ pub fn serve<O: Outside>(
     requires { (p : Path) × Names tree.old place p }
     ensures runs { EvaluatesAt O.goes tree.old outside.old place
         (λ style. table.serve style (entry_of entry.now)) tree.new outside.new result }
-    ensures lost { IsLoss O.loses outside.old outside.new }
-    ensures steady { IsSteady tree.old tree.new }
-    ensures left { O.entries_left outside.new ≤ O.entries_left outside.old }
+    ensures keeps { KeepsAndLoses O.entries_left O.loses tree.old tree.new outside.old outside.new }
 {
     match entry {
         OwnEntry::SetAlias { name, alias } => set_alias(tree, alloc, place, name, alias),

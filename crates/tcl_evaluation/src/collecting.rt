@@ -1,7 +1,6 @@
 //! The loop that keeps the results of its body.
-ghost use Rattle.std.specs.Prelude.{◌≤◌};
 ghost use Rattle.tcl_language.specs.Control as control;
-ghost use Rattle.tcl_run.specs.Runs.{IsRunning, IsSteady, ProceedsIn, ways};
+ghost use Rattle.tcl_run.specs.Runs.{IsRunning, Keeps, ProceedsIn, ways};
 
 use crate::evaluation::eval_value;
 use std::alloc::Global;
@@ -33,8 +32,7 @@ pub fn lmap<O: Outside>(
     requires { IsRunning tree.old place }
     ensures runs { ProceedsIn (ways O.goes O.loses) tree.old outside.old place
         (λ style. control.lmap args.now) tree.new outside.new result }
-    ensures steady { IsSteady tree.old tree.new }
-    ensures left { O.entries_left outside.new ≤ O.entries_left outside.old }
+    ensures keeps { Keeps O.entries_left tree.old tree.new outside.old outside.new }
 {
     let Some((words, body)) = loop_words(args) else {
         return Err(wrong_args(alloc, LMAP));

@@ -8,7 +8,7 @@ ghost use Rattle.tcl_language.specs.Interpreters.{call_alias as alias_program};
 ghost use Rattle.tcl_language.specs.Table as table;
 ghost use Rattle.tcl_run.specs.Ends.{IfEnded, failing};
 ghost use Rattle.tcl_run.specs.Entering.{whole_entry};
-ghost use Rattle.tcl_run.specs.Runs.{IsLoss, IsRunning, IsSteady, ProceedsAt, ProceedsIn, ways};
+ghost use Rattle.tcl_run.specs.Runs.{IsLoss, IsRunning, Keeps, ProceedsAt, ProceedsIn, ways};
 ghost use Rattle.tcl_tree.specs.Reaching.{Leads};
 ghost use Rattle.tcl_tree.specs.TreeOf.{Names};
 ghost use Rattle.tcl_tree.specs.declared.tree.places.Reach.TheVariants.{There};
@@ -50,8 +50,7 @@ pub fn call_alias<O: Outside>(
     requires { IsRunning tree.old place }
     ensures runs { ProceedsIn (ways O.goes O.loses) tree.old outside.old place
         (λ style. alias_program alias.now word.now args.now) tree.new outside.new result }
-    ensures steady { IsSteady tree.old tree.new }
-    ensures left { O.entries_left outside.new ≤ O.entries_left outside.old }
+    ensures keeps { Keeps O.entries_left tree.old tree.new outside.old outside.new }
 {
     let entry = Entry::CallWords(target_words(alloc, alias.words(), args)?);
     let up = alias.up();
@@ -140,8 +139,7 @@ fn call_there<O: Outside>(
     ensures runs { CallsThere (ways O.goes O.loses) tree.old outside.old caller up down.now
         (whole_entry entry)
         tree.new outside.new result }
-    ensures steady { IsSteady tree.old tree.new }
-    ensures left { O.entries_left outside.new ≤ O.entries_left outside.old }
+    ensures keeps { Keeps O.entries_left tree.old tree.new outside.old outside.new }
 {
     let happening = Happening::Entered {
         caller,
@@ -170,8 +168,7 @@ fn call_past_top<O: Outside>(
     requires above { (p : Path) → Names tree.old caller p → rise_to (Some up) p ≡ None }
     ensures runs { CallsOut (ways O.goes O.loses) tree.old outside.old caller (Some up) down.now
         (whole_entry entry) tree.new outside.new result }
-    ensures steady { IsSteady tree.old tree.new }
-    ensures left { O.entries_left outside.new ≤ O.entries_left outside.old }
+    ensures keeps { Keeps O.entries_left tree.old tree.new outside.old outside.new }
 {
     let happening = Happening::PassedTop {
         caller,
@@ -203,8 +200,7 @@ pub fn serve_entry<O: Outside>(
     requires { (p : Path) × Names tree.old place p }
     ensures runs { ProceedsAt (ways O.goes O.loses) tree.old outside.old place
         (λ style. table.serve style (whole_entry entry)) tree.new outside.new result }
-    ensures steady { IsSteady tree.old tree.new }
-    ensures left { O.entries_left outside.new ≤ O.entries_left outside.old }
+    ensures keeps { Keeps O.entries_left tree.old tree.new outside.old outside.new }
 {
     match entry {
         Entry::Eval(mut script) => serve_eval(tree, alloc, outside, place, &mut script),
@@ -230,8 +226,7 @@ pub fn serve_call<O: Outside>(
     requires { (p : Path) × Names tree.old place p }
     ensures runs { ProceedsAt (ways O.goes O.loses) tree.old outside.old place
         (λ style. table.serve style (CallWords words.items)) tree.new outside.new result }
-    ensures steady { IsSteady tree.old tree.new }
-    ensures left { O.entries_left outside.new ≤ O.entries_left outside.old }
+    ensures keeps { Keeps O.entries_left tree.old tree.new outside.old outside.new }
 {
     let words = some_words(words)?;
     charge(tree, outside, place)?;
@@ -251,8 +246,7 @@ fn call_target<O: Outside>(
     requires { (p : Path) × Names tree.old place p }
     ensures runs { ProceedsAt (ways O.goes O.loses) tree.old outside.old place
         (λ style. targeted words.now) tree.new outside.new result }
-    ensures steady { IsSteady tree.old tree.new }
-    ensures left { O.entries_left outside.new ≤ O.entries_left outside.old }
+    ensures keeps { Keeps O.entries_left tree.old tree.new outside.old outside.new }
 {
     tree.keeps_form();
     if let Err(levels) = tree.nest_at(place) {
@@ -276,8 +270,7 @@ pub fn serve_eval<O: Outside>(
     requires { (p : Path) × Names tree.old place p }
     ensures runs { ProceedsAt (ways O.goes O.loses) tree.old outside.old place
         (λ style. table.serve style (Eval script.old)) tree.new outside.new result }
-    ensures steady { IsSteady tree.old tree.new }
-    ensures left { O.entries_left outside.new ≤ O.entries_left outside.old }
+    ensures keeps { Keeps O.entries_left tree.old tree.new outside.old outside.new }
 {
     let ended = eval_value(tree, alloc, outside, place, script);
     settled(alloc, ended)
@@ -299,8 +292,7 @@ pub fn serve_hidden<O: Outside>(
     ensures runs { ProceedsAt (ways O.goes O.loses) tree.old outside.old place
         (λ style. table.serve style (InvokeHidden is_global words.items)) tree.new outside.new
         result }
-    ensures steady { IsSteady tree.old tree.new }
-    ensures left { O.entries_left outside.new ≤ O.entries_left outside.old }
+    ensures keeps { Keeps O.entries_left tree.old tree.new outside.old outside.new }
 {
     let words = some_words(words)?;
     charge(tree, outside, place)?;
@@ -323,8 +315,7 @@ fn invoke_at<O: Outside>(
     ensures runs { Invokes
         (ways O.goes O.loses) tree.old outside.old place is_global words.now tree.new
         outside.new result }
-    ensures steady { IsSteady tree.old tree.new }
-    ensures left { O.entries_left outside.new ≤ O.entries_left outside.old }
+    ensures keeps { Keeps O.entries_left tree.old tree.new outside.old outside.new }
 {
     if !is_global {
         return invoke(tree, alloc, outside, place, words);
@@ -349,8 +340,7 @@ fn invoke<O: Outside>(
     ensures runs { ProceedsAt (ways O.goes O.loses) tree.old outside.old place
         (λ style. unhidden words.now) tree.new outside.new result }
     ensures there { (p : Path) → Names tree.old place p → Names tree.new place p }
-    ensures steady { IsSteady tree.old tree.new }
-    ensures left { O.entries_left outside.new ≤ O.entries_left outside.old }
+    ensures keeps { Keeps O.entries_left tree.old tree.new outside.old outside.new }
 {
     tree.keeps_form();
     if let Err(levels) = tree.nest_at(place) {
@@ -376,8 +366,7 @@ pub fn ask_entry<O: Outside>(
     ensures asks { Asks (ways O.goes O.loses) tree.old outside.old place path.now
         (whole_entry entry) tree.new
         outside.new result }
-    ensures steady { IsSteady tree.old tree.new }
-    ensures left { O.entries_left outside.new ≤ O.entries_left outside.old }
+    ensures keeps { Keeps O.entries_left tree.old tree.new outside.old outside.new }
 {
     if path.is_empty() {
         return serve_entry(tree, alloc, outside, place, entry);
@@ -400,8 +389,7 @@ fn ask_below<O: Outside>(
     ensures asks { AsksBelow (ways O.goes O.loses) tree.old outside.old place path.now
         (whole_entry entry)
         tree.new outside.new result }
-    ensures steady { IsSteady tree.old tree.new }
-    ensures left { O.entries_left outside.new ≤ O.entries_left outside.old }
+    ensures keeps { Keeps O.entries_left tree.old tree.new outside.old outside.new }
 {
     match tree.reach(place, 0, path) {
         Reach::There(target) => { call_there(tree, alloc, outside, place, 0, path, target, entry) }

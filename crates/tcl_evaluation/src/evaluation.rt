@@ -1,5 +1,5 @@
 //! The evaluation of scripts, command by command and word by word.
-ghost use Rattle.std.specs.Prelude.{◌≡◌, ◌≤◌, ◌++◌, ◌∷◌, [], length, Some, OnOk, IfErr};
+ghost use Rattle.std.specs.Prelude.{◌≡◌, ◌++◌, ◌∷◌, [], length, Some, OnOk, IfErr};
 ghost use Rattle.std.specs.Prelude.{MatchResult};
 ghost use Rattle.std.specs.String.{string_bytes};
 ghost use Rattle.tcl_core.specs.Paths.{Path};
@@ -7,7 +7,7 @@ ghost use Rattle.tcl_language.specs.Scripts as scripts;
 ghost use Rattle.tcl_core.specs.Trees as core;
 ghost use Rattle.tcl_tree.specs.Own.{Own};
 ghost use Rattle.tcl_run.specs.Ends.{Breaks};
-ghost use Rattle.tcl_run.specs.Runs.{IsRunning, IsSteady, ProceedsAt, ProceedsIn, ways};
+ghost use Rattle.tcl_run.specs.Runs.{IsRunning, Keeps, ProceedsAt, ProceedsIn, ways};
 ghost use Rattle.tcl_tree.specs.TreeOf.{tree_of, Names};
 ghost use Rattle.tcl_calls.specs.Words.{opens, IsShort};
 ghost use Rattle.tcl_evaluation.specs.View.{PartGoes, PartBreaks, read_so};
@@ -43,8 +43,7 @@ pub fn eval_script<O: Outside>(
     requires { (p : Path) × Names tree.old place p }
     ensures runs { ProceedsAt (ways O.goes O.loses) tree.old outside.old place
         (λ style. read_so script.now) tree.new outside.new result }
-    ensures steady { IsSteady tree.old tree.new }
-    ensures left { O.entries_left outside.new ≤ O.entries_left outside.old }
+    ensures keeps { Keeps O.entries_left tree.old tree.new outside.old outside.new }
 {
     tree.keeps_form();
     if let Err(levels) = tree.nest_at(place) {
@@ -71,8 +70,7 @@ pub fn eval_text<O: Outside>(
     requires { (p : Path) × Names tree.old place p }
     ensures runs { ProceedsAt (ways O.goes O.loses) tree.old outside.old place
         (λ style. scripts.script text.now) tree.new outside.new result }
-    ensures steady { IsSteady tree.old tree.new }
-    ensures left { O.entries_left outside.new ≤ O.entries_left outside.old }
+    ensures keeps { Keeps O.entries_left tree.old tree.new outside.old outside.new }
 {
     let script = tree.script(alloc, text)?;
     eval_script(tree, alloc, outside, place, &script)
@@ -95,8 +93,7 @@ pub fn eval_value<O: Outside>(
     ensures runs { ProceedsAt (ways O.goes O.loses) tree.old outside.old place
         (λ style. scripts.script value.old) tree.new outside.new result }
     ensures same { value.new ≡ value.old }
-    ensures steady { IsSteady tree.old tree.new }
-    ensures left { O.entries_left outside.new ≤ O.entries_left outside.old }
+    ensures keeps { Keeps O.entries_left tree.old tree.new outside.old outside.new }
 {
     let script = tree.script_of(alloc, value)?;
     eval_script(tree, alloc, outside, place, &script)
@@ -117,8 +114,7 @@ fn eval_commands<O: Outside>(
     ensures runs { ProceedsIn (ways O.goes O.loses) tree.old outside.old place
         (λ style. scripts.commands script.now.commands script.now.fault []) tree.new outside.new
         result }
-    ensures steady { IsSteady tree.old tree.new }
-    ensures left { O.entries_left outside.new ≤ O.entries_left outside.old }
+    ensures keeps { Keeps O.entries_left tree.old tree.new outside.old outside.new }
 {
     let mut last = Value::empty();
     'commands: for command in &script.commands {
@@ -144,8 +140,7 @@ fn eval_command<O: Outside>(
     requires running { IsRunning tree.old place }
     ensures runs { ProceedsIn (ways O.goes O.loses) tree.old outside.old place
         (λ style. scripts.words command.now []) tree.new outside.new result }
-    ensures steady { IsSteady tree.old tree.new }
-    ensures left { O.entries_left outside.new ≤ O.entries_left outside.old }
+    ensures keeps { Keeps O.entries_left tree.old tree.new outside.old outside.new }
 {
     let mut words = Vec::with_capacity(alloc, command.words.len())?;
     'words: for word in &command.words {
@@ -175,8 +170,7 @@ pub(crate) fn eval_word<O: Outside>(
     requires running { IsRunning tree.old place }
     ensures runs { ProceedsIn (ways O.goes O.loses) tree.old outside.old place
         (λ style. scripts.parts word.now.parts [] []) tree.new outside.new result }
-    ensures steady { IsSteady tree.old tree.new }
-    ensures left { O.entries_left outside.new ≤ O.entries_left outside.old }
+    ensures keeps { Keeps O.entries_left tree.old tree.new outside.old outside.new }
 {
     match word.parts.as_slice() {
         [part] => eval_lone_part(tree, alloc, outside, place, part),
@@ -197,8 +191,7 @@ fn eval_lone_part<O: Outside>(
     requires running { IsRunning tree.old place }
     ensures runs { ProceedsIn (ways O.goes O.loses) tree.old outside.old place
         (λ style. scripts.parts (part.now ∷ []) [] []) tree.new outside.new result }
-    ensures steady { IsSteady tree.old tree.new }
-    ensures left { O.entries_left outside.new ≤ O.entries_left outside.old }
+    ensures keeps { Keeps O.entries_left tree.old tree.new outside.old outside.new }
 {
     match part {
         Part::Literal(text) => within(alloc, text.clone()?),
@@ -225,8 +218,7 @@ fn substitute<O: Outside>(
     requires running { IsRunning tree.old place }
     ensures runs { ProceedsIn (ways O.goes O.loses) tree.old outside.old place
         (λ style. scripts.parts parts.now [] []) tree.new outside.new result }
-    ensures steady { IsSteady tree.old tree.new }
-    ensures left { O.entries_left outside.new ≤ O.entries_left outside.old }
+    ensures keeps { Keeps O.entries_left tree.old tree.new outside.old outside.new }
 {
     let mut elements = Vec::new(alloc);
     let mut text = String::new(alloc);
@@ -257,8 +249,7 @@ fn eval_part<O: Outside>(
         (λ i. Breaks i (PartBreaks (ways O.goes O.loses) tree.old outside.old place part.now
         (opens elements.old.items) (string_bytes text.old) tree.new outside.new)) }
     ensures short { OnOk result (IsShort (string_bytes text.new)) }
-    ensures steady { IsSteady tree.old tree.new }
-    ensures left { O.entries_left outside.new ≤ O.entries_left outside.old }
+    ensures keeps { Keeps O.entries_left tree.old tree.new outside.old outside.new }
 {
     match part {
         Part::Literal(literal) => append(alloc, text, literal.as_str()),

@@ -1,8 +1,8 @@
 //! Expressions, and the commands with conditions.
-ghost use Rattle.std.specs.Prelude.{◌≡◌, ◌≤◌, MatchResult};
+ghost use Rattle.std.specs.Prelude.{◌≡◌, MatchResult};
 ghost use Rattle.tcl_language.specs.Expressions as expressions;
 ghost use Rattle.tcl_run.specs.Ends.{Breaks};
-ghost use Rattle.tcl_run.specs.Runs.{IsRunning, IsSteady, ProceedsIn, ways};
+ghost use Rattle.tcl_run.specs.Runs.{IsRunning, Keeps, ProceedsIn, ways};
 ghost use Rattle.tcl_evaluation.specs.Conditional.{Computes, TestGoes, TestBreaks, TurnGoes};
 ghost use Rattle.tcl_evaluation.specs.Conditional.{TurnBreaks};
 
@@ -40,8 +40,7 @@ fn expression<O: Outside>(
     ensures runs { Computes
         (ways O.goes O.loses) tree.old outside.old place kept.now tree.new outside.new
         result }
-    ensures steady { IsSteady tree.old tree.new }
-    ensures left { O.entries_left outside.new ≤ O.entries_left outside.old }
+    ensures keeps { Keeps O.entries_left tree.old tree.new outside.old outside.new }
 {
     let style = tree.integers();
     evaluation.restart();
@@ -73,8 +72,7 @@ fn condition<O: Outside>(
         outside.new holds)
         (λ i. Breaks i (TestBreaks (ways O.goes O.loses) tree.old outside.old place test.now
         tree.new outside.new)) }
-    ensures steady { IsSteady tree.old tree.new }
-    ensures left { O.entries_left outside.new ≤ O.entries_left outside.old }
+    ensures keeps { Keeps O.entries_left tree.old tree.new outside.old outside.new }
 {
     let style = tree.integers();
     let value = on_ok(expression(tree, alloc, outside, place, evaluation, test))?;
@@ -98,8 +96,7 @@ pub fn expr<O: Outside>(
     requires { IsRunning tree.old place }
     ensures runs { ProceedsIn (ways O.goes O.loses) tree.old outside.old place
         (λ style. expressions.expr args.now) tree.new outside.new result }
-    ensures steady { IsSteady tree.old tree.new }
-    ensures left { O.entries_left outside.new ≤ O.entries_left outside.old }
+    ensures keeps { Keeps O.entries_left tree.old tree.new outside.old outside.new }
 {
     if args.is_empty() {
         return Err(wrong_args(alloc, "expr arg ?arg ...?"));
@@ -127,8 +124,7 @@ pub fn if_first<O: Outside>(
     requires { IsRunning tree.old place }
     ensures runs { ProceedsIn (ways O.goes O.loses) tree.old outside.old place
         (λ style. expressions.if_first style args.now) tree.new outside.new result }
-    ensures steady { IsSteady tree.old tree.new }
-    ensures left { O.entries_left outside.new ≤ O.entries_left outside.old }
+    ensures keeps { Keeps O.entries_left tree.old tree.new outside.old outside.new }
 {
     let Some(branches) = branches_of(alloc, args)? else {
         return Err(wrong_args(alloc, IF));
@@ -169,8 +165,7 @@ fn turn<O: Outside>(
         (λ i. Breaks i (TurnBreaks (ways O.goes O.loses) tree.old outside.old place test.now
         body.old tree.new outside.new)) }
     ensures same { body.new ≡ body.old }
-    ensures steady { IsSteady tree.old tree.new }
-    ensures left { O.entries_left outside.new ≤ O.entries_left outside.old }
+    ensures keeps { Keeps O.entries_left tree.old tree.new outside.old outside.new }
 {
     if !condition(tree, alloc, outside, place, evaluation, test)? {
         return Ok(false);
@@ -198,25 +193,16 @@ pub fn while_loop<O: Outside>(
     requires { IsRunning tree.old place }
     ensures runs { ProceedsIn (ways O.goes O.loses) tree.old outside.old place
         (λ style. expressions.while_loop args.now) tree.new outside.new result }
-    ensures steady { IsSteady tree.old tree.new }
-    ensures left { O.entries_left outside.new ≤ O.entries_left outside.old }
+    ensures keeps { Keeps O.entries_left tree.old tree.new outside.old outside.new }
 {
     let [test, body] = args else {
         return Err(wrong_args(alloc, "while test command"));
     };
     let test = read_expression(tree, alloc, tree.integers(), test)?;
     let mut body = body.clone()?;
-    let mut evaluation = Evaluation::new(alloc);
+    let mut state = Evaluation::new(alloc);
     'turns: for _turn in 0..u64::MAX {
-        if !turn(
-            tree,
-            alloc,
-            outside,
-            place,
-            &mut evaluation,
-            &test,
-            &mut body,
-        )? {
+        if !turn(tree, alloc, outside, place, &mut state, &test, &mut body)? {
             return Ok(Value::empty());
         }
     }
@@ -242,8 +228,7 @@ pub fn for_loop<O: Outside>(
     requires { IsRunning tree.old place }
     ensures runs { ProceedsIn (ways O.goes O.loses) tree.old outside.old place
         (λ style. expressions.for_loop args.now) tree.new outside.new result }
-    ensures steady { IsSteady tree.old tree.new }
-    ensures left { O.entries_left outside.new ≤ O.entries_left outside.old }
+    ensures keeps { Keeps O.entries_left tree.old tree.new outside.old outside.new }
 {
     let [start, test, next, body] = args else {
         return Err(wrong_args(alloc, "for start test next command"));
@@ -253,17 +238,9 @@ pub fn for_loop<O: Outside>(
     let test = read_expression(tree, alloc, tree.integers(), test)?;
     let mut next = next.clone()?;
     let mut body = body.clone()?;
-    let mut evaluation = Evaluation::new(alloc);
+    let mut state = Evaluation::new(alloc);
     'turns: for _turn in 0..u64::MAX {
-        if !turn(
-            tree,
-            alloc,
-            outside,
-            place,
-            &mut evaluation,
-            &test,
-            &mut body,
-        )? {
+        if !turn(tree, alloc, outside, place, &mut state, &test, &mut body)? {
             return Ok(Value::empty());
         }
         if !turns_on(eval_value(tree, alloc, outside, place, &mut next))? {

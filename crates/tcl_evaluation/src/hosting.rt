@@ -1,10 +1,10 @@
 //! The commands that reach the host.
-ghost use Rattle.std.specs.Prelude.{◌≡◌, ◌≤◌, ◌++◌, ◌==◌, codes, IfOk};
+ghost use Rattle.std.specs.Prelude.{◌≡◌, ◌++◌, ◌==◌, codes, IfOk};
 ghost use Rattle.std.specs.Str.{bytes_eq};
 ghost use Rattle.tcl_calls.specs.HostCalls.{meaning_of, program_of};
 ghost use Rattle.tcl_language.specs.Hosting as hosting;
 ghost use Rattle.tcl_run.specs.Entering.{request_of};
-ghost use Rattle.tcl_run.specs.Runs.{IsRunning, IsSteady, ProceedsIn, ways};
+ghost use Rattle.tcl_run.specs.Runs.{IsRunning, Keeps, ProceedsIn, ways};
 ghost use Rattle.tcl_evaluation.specs.Requests.{Hears};
 
 use crate::waiting::{Said, wait};
@@ -38,8 +38,7 @@ pub fn ask<O: Outside>(
     ensures runs { Hears (ways O.goes O.loses) tree.old outside.old place
         (request_of request) tree.new
         outside.new result }
-    ensures steady { IsSteady tree.old tree.new }
-    ensures left { O.entries_left outside.new ≤ O.entries_left outside.old }
+    ensures keeps { Keeps O.entries_left tree.old tree.new outside.old outside.new }
 {
     let entry = Entry::AskHost(request);
     let happening = Happening::PassedTop {
@@ -71,8 +70,7 @@ fn make_call<O: Outside>(
     requires { IsRunning tree.old place }
     ensures runs { ProceedsIn (ways O.goes O.loses) tree.old outside.old place
         (λ style. meaning_of call.now) tree.new outside.new result }
-    ensures steady { IsSteady tree.old tree.new }
-    ensures left { O.entries_left outside.new ≤ O.entries_left outside.old }
+    ensures keeps { Keeps O.entries_left tree.old tree.new outside.old outside.new }
 {
     let request = call.request()?;
     let reply = ask(tree, alloc, outside, place, request)?;
@@ -98,8 +96,7 @@ pub fn call_host<O: Outside>(
     requires { IsRunning tree.old place }
     ensures runs { ProceedsIn (ways O.goes O.loses) tree.old outside.old place
         (λ style. program_of command args.now) tree.new outside.new result }
-    ensures steady { IsSteady tree.old tree.new }
-    ensures left { O.entries_left outside.new ≤ O.entries_left outside.old }
+    ensures keeps { Keeps O.entries_left tree.old tree.new outside.old outside.new }
 {
     let call = host_call(alloc, command, args)?;
     make_call(tree, alloc, outside, place, &call)
@@ -122,8 +119,7 @@ pub fn puts<O: Outside>(
     requires { IsRunning tree.old place }
     ensures runs { ProceedsIn (ways O.goes O.loses) tree.old outside.old place
         (λ style. hosting.puts args.now) tree.new outside.new result }
-    ensures steady { IsSteady tree.old tree.new }
-    ensures left { O.entries_left outside.new ≤ O.entries_left outside.old }
+    ensures keeps { Keeps O.entries_left tree.old tree.new outside.old outside.new }
 {
     match args {
         [text] => put_line(tree, alloc, outside, place, &stdout(alloc)?, text),
@@ -171,8 +167,7 @@ fn put_line<O: Outside>(
     requires { IsRunning tree.old place }
     ensures runs { ProceedsIn (ways O.goes O.loses) tree.old outside.old place
         (λ style. hosting.puts_line channel.now text.now) tree.new outside.new result }
-    ensures steady { IsSteady tree.old tree.new }
-    ensures left { O.entries_left outside.new ≤ O.entries_left outside.old }
+    ensures keeps { Keeps O.entries_left tree.old tree.new outside.old outside.new }
 {
     let mut line = text.clone()?;
     match line.append(alloc, "\n") {
@@ -196,8 +191,7 @@ fn write<O: Outside>(
     requires { IsRunning tree.old place }
     ensures runs { ProceedsIn (ways O.goes O.loses) tree.old outside.old place
         (λ style. hosting.writes channel.now text.now) tree.new outside.new result }
-    ensures steady { IsSteady tree.old tree.new }
-    ensures left { O.entries_left outside.new ≤ O.entries_left outside.old }
+    ensures keeps { Keeps O.entries_left tree.old tree.new outside.old outside.new }
 {
     let call = HostCall::Write(channel.clone()?, text.text(alloc)?);
     make_call(tree, alloc, outside, place, &call)

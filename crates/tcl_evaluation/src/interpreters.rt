@@ -1,8 +1,7 @@
 //! `interp`, by which an interpreter asks those below it, and the subcommands that a child's own
 //! command has too.
-ghost use Rattle.std.specs.Prelude.{◌≤◌};
 ghost use Rattle.tcl_language.specs.Interpreters as interpreters;
-ghost use Rattle.tcl_run.specs.Runs.{IsRunning, IsSteady, ProceedsIn, ways};
+ghost use Rattle.tcl_run.specs.Runs.{IsRunning, Keeps, ProceedsIn, ways};
 ghost use Rattle.tcl_interp.specs.Programs.{evals, invokes, program_of};
 ghost use Rattle.tcl_interp.specs.Subjects.{about};
 
@@ -37,8 +36,7 @@ pub fn interp<O: Outside>(
     requires { IsRunning tree.old place }
     ensures runs { ProceedsIn (ways O.goes O.loses) tree.old outside.old place
         (λ style. interpreters.interp style args.now) tree.new outside.new result }
-    ensures steady { IsSteady tree.old tree.new }
-    ensures left { O.entries_left outside.new ≤ O.entries_left outside.old }
+    ensures keeps { Keeps O.entries_left tree.old tree.new outside.old outside.new }
 {
     let [word, words @ ..] = args else {
         return Err(wrong_args(alloc, "interp subcommand ?arg ...?"));
@@ -75,8 +73,7 @@ pub fn call_subcommand<O: Outside>(
     ensures runs { ProceedsIn (ways O.goes O.loses) tree.old outside.old place
         (λ style. program_of style subcommand (about subject.entry) args.now) tree.new outside.new
         result }
-    ensures steady { IsSteady tree.old tree.new }
-    ensures left { O.entries_left outside.new ≤ O.entries_left outside.old }
+    ensures keeps { Keeps O.entries_left tree.old tree.new outside.old outside.new }
 {
     match subcommand {
         Subcommand::Eval => eval_in(tree, alloc, outside, place, subject, args),
@@ -103,8 +100,7 @@ fn eval_in<O: Outside>(
     requires { IsRunning tree.old place }
     ensures runs { ProceedsIn (ways O.goes O.loses) tree.old outside.old place
         (λ style. evals (about subject.entry) args.now) tree.new outside.new result }
-    ensures steady { IsSteady tree.old tree.new }
-    ensures left { O.entries_left outside.new ≤ O.entries_left outside.old }
+    ensures keeps { Keeps O.entries_left tree.old tree.new outside.old outside.new }
 {
     if args.is_empty() {
         let form = "interp eval path arg ?arg ...?";
@@ -141,8 +137,7 @@ fn invoke_hidden<O: Outside>(
     requires { IsRunning tree.old place }
     ensures runs { ProceedsIn (ways O.goes O.loses) tree.old outside.old place
         (λ style. invokes (about subject.entry) args.now) tree.new outside.new result }
-    ensures steady { IsSteady tree.old tree.new }
-    ensures left { O.entries_left outside.new ≤ O.entries_left outside.old }
+    ensures keeps { Keeps O.entries_left tree.old tree.new outside.old outside.new }
 {
     let call = hidden_call(alloc, subject, args)?;
     let HiddenCall { is_global, words } = call;

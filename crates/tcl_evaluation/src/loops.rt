@@ -1,10 +1,10 @@
 //! The loops over lists and dicts, and scripts at another level.
-ghost use Rattle.std.specs.Prelude.{◌≡◌, ◌≤◌, MatchOption};
+ghost use Rattle.std.specs.Prelude.{◌≡◌, MatchOption};
 ghost use Rattle.tcl_calls.specs.Walks.{walks_at};
 ghost use Rattle.tcl_language.specs.Control as control;
 ghost use Rattle.tcl_language.specs.Changes as changes;
 ghost use Rattle.tcl_language.specs.Pairing as pairing;
-ghost use Rattle.tcl_run.specs.Runs.{IsRunning, IsSteady, ProceedsIn, ways};
+ghost use Rattle.tcl_run.specs.Runs.{IsRunning, Keeps, ProceedsIn, ways};
 ghost use Rattle.tcl_text.specs.declared.integer.Integers.{Integers};
 
 use crate::evaluation::eval_value;
@@ -41,8 +41,7 @@ fn walk_through<O: Outside>(
     ensures runs { ProceedsIn (ways O.goes O.loses) tree.old outside.old place
         (λ style. control.foreach_turns (walks_at 0 walks.now) body.now) tree.new outside.new
         result }
-    ensures steady { IsSteady tree.old tree.new }
-    ensures left { O.entries_left outside.new ≤ O.entries_left outside.old }
+    ensures keeps { Keeps O.entries_left tree.old tree.new outside.old outside.new }
 {
     let mut script = body.clone()?;
     'turns: for turns in 0..usize::MAX {
@@ -76,8 +75,7 @@ pub fn foreach<O: Outside>(
     requires { IsRunning tree.old place }
     ensures runs { ProceedsIn (ways O.goes O.loses) tree.old outside.old place
         (λ style. control.foreach args.now) tree.new outside.new result }
-    ensures steady { IsSteady tree.old tree.new }
-    ensures left { O.entries_left outside.new ≤ O.entries_left outside.old }
+    ensures keeps { Keeps O.entries_left tree.old tree.new outside.old outside.new }
 {
     let Some((words, body)) = loop_words(args) else {
         return Err(wrong_args(alloc, FOREACH));
@@ -103,8 +101,7 @@ fn dict_for<O: Outside>(
     requires { IsRunning tree.old place }
     ensures runs { ProceedsIn (ways O.goes O.loses) tree.old outside.old place
         (λ style. pairing.dict_for args.now) tree.new outside.new result }
-    ensures steady { IsSteady tree.old tree.new }
-    ensures left { O.entries_left outside.new ≤ O.entries_left outside.old }
+    ensures keeps { Keeps O.entries_left tree.old tree.new outside.old outside.new }
 {
     let (walks, body) = read_dict_loop(alloc, args)?;
     walk_through(tree, alloc, outside, place, walks.as_slice(), body)
@@ -127,8 +124,7 @@ pub fn dict<O: Outside>(
     requires { IsRunning tree.old place }
     ensures runs { ProceedsIn (ways O.goes O.loses) tree.old outside.old place
         (λ style. pairing.dict style args.now) tree.new outside.new result }
-    ensures steady { IsSteady tree.old tree.new }
-    ensures left { O.entries_left outside.new ≤ O.entries_left outside.old }
+    ensures keeps { Keeps O.entries_left tree.old tree.new outside.old outside.new }
 {
     match behind_for(args) {
         Some(words) => dict_for(tree, alloc, outside, place, words),
@@ -167,8 +163,7 @@ pub fn uplevel<O: Outside>(
     requires { IsRunning tree.old place }
     ensures runs { ProceedsIn (ways O.goes O.loses) tree.old outside.old place
         (λ style. control.uplevel style args.now) tree.new outside.new result }
-    ensures steady { IsSteady tree.old tree.new }
-    ensures left { O.entries_left outside.new ≤ O.entries_left outside.old }
+    ensures keeps { Keeps O.entries_left tree.old tree.new outside.old outside.new }
 {
     let (level, words) = script_level(tree, alloc, place, args)?;
     let mut script = script_of(alloc, words)?;

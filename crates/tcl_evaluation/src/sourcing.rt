@@ -1,7 +1,7 @@
 //! `source`.
-ghost use Rattle.std.specs.Prelude.{◌≡◌, ◌≤◌};
+ghost use Rattle.std.specs.Prelude.{◌≡◌};
 ghost use Rattle.tcl_language.specs.Sourcing as sourcing;
-ghost use Rattle.tcl_run.specs.Runs.{IsRunning, IsSteady, ProceedsIn, ways};
+ghost use Rattle.tcl_run.specs.Runs.{IsRunning, Keeps, ProceedsIn, ways};
 ghost use Rattle.tcl_evaluation.specs.Requests.{ReadsScript};
 
 use crate::evaluation::eval_value;
@@ -34,8 +34,7 @@ pub fn source<O: Outside>(
     requires { IsRunning tree.old place }
     ensures runs { ProceedsIn (ways O.goes O.loses) tree.old outside.old place
         (λ style. sourcing.source args.now) tree.new outside.new result }
-    ensures steady { IsSteady tree.old tree.new }
-    ensures left { O.entries_left outside.new ≤ O.entries_left outside.old }
+    ensures keeps { Keeps O.entries_left tree.old tree.new outside.old outside.new }
 {
     match args {
         [file] => source_file(tree, alloc, outside, place, &file.text(alloc)?),
@@ -56,8 +55,7 @@ fn source_file<O: Outside>(
     requires { IsRunning tree.old place }
     ensures runs { ProceedsIn (ways O.goes O.loses) tree.old outside.old place
         (λ style. sourcing.sources file.now) tree.new outside.new result }
-    ensures steady { IsSteady tree.old tree.new }
-    ensures left { O.entries_left outside.new ≤ O.entries_left outside.old }
+    ensures keeps { Keeps O.entries_left tree.old tree.new outside.old outside.new }
 {
     let mut script = read_file(tree, alloc, outside, place, file)?;
     eval_file(tree, alloc, outside, place, &mut script)
@@ -76,8 +74,7 @@ fn read_file<O: Outside>(
     requires { IsRunning tree.old place }
     ensures runs { ReadsScript (ways O.goes O.loses) tree.old outside.old place
         (sourcing.sources file.now) tree.new outside.new result }
-    ensures steady { IsSteady tree.old tree.new }
-    ensures left { O.entries_left outside.new ≤ O.entries_left outside.old }
+    ensures keeps { Keeps O.entries_left tree.old tree.new outside.old outside.new }
 {
     let request = Request::Open(file.clone()?, OpenMode::Read);
     let reply = ask(tree, alloc, outside, place, request)?;
@@ -100,8 +97,7 @@ fn read_channel<O: Outside>(
     requires { IsRunning tree.old place }
     ensures runs { ReadsScript (ways O.goes O.loses) tree.old outside.old place
         (sourcing.reads_script file.now channel.now) tree.new outside.new result }
-    ensures steady { IsSteady tree.old tree.new }
-    ensures left { O.entries_left outside.new ≤ O.entries_left outside.old }
+    ensures keeps { Keeps O.entries_left tree.old tree.new outside.old outside.new }
 {
     let read_all = Request::ReadAll(channel.clone()?);
     let close = Request::Close(channel.clone()?);
@@ -123,8 +119,7 @@ fn eval_file<O: Outside>(
     requires { IsRunning tree.old place }
     ensures runs { ProceedsIn (ways O.goes O.loses) tree.old outside.old place
         (λ style. sourcing.evaluates_file script.old) tree.new outside.new result }
-    ensures steady { IsSteady tree.old tree.new }
-    ensures left { O.entries_left outside.new ≤ O.entries_left outside.old }
+    ensures keeps { Keeps O.entries_left tree.old tree.new outside.old outside.new }
 {
     let ended = eval_value(tree, alloc, outside, place, script);
     left_file(ended)

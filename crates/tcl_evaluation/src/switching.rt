@@ -1,7 +1,6 @@
 //! `switch`.
-ghost use Rattle.std.specs.Prelude.{◌≤◌};
 ghost use Rattle.tcl_language.specs.Switching as switching;
-ghost use Rattle.tcl_run.specs.Runs.{IsRunning, IsSteady, ProceedsIn, ways};
+ghost use Rattle.tcl_run.specs.Runs.{IsRunning, Keeps, ProceedsIn, ways};
 
 use crate::evaluation::eval_value;
 use std::alloc::Global;
@@ -28,8 +27,7 @@ pub fn switch<O: Outside>(
     requires { IsRunning tree.old place }
     ensures runs { ProceedsIn (ways O.goes O.loses) tree.old outside.old place
         (λ style. switching.switch args.now) tree.new outside.new result }
-    ensures steady { IsSteady tree.old tree.new }
-    ensures left { O.entries_left outside.new ≤ O.entries_left outside.old }
+    ensures keeps { Keeps O.entries_left tree.old tree.new outside.old outside.new }
 {
     let Some(body) = chosen_body(alloc, args)? else {
         return Ok(Value::empty());

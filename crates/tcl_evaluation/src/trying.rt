@@ -1,11 +1,10 @@
 //! `try`.
 ghost use Rattle.std.specs.Option.{option_copied};
-ghost use Rattle.std.specs.Prelude.{◌≤◌};
 ghost use Rattle.tcl_calls.specs.Trying.{handlers_of};
 ghost use Rattle.tcl_flow.specs.View.{completion_of};
 ghost use Rattle.tcl_language.specs.Expressions.{runs_last};
 ghost use Rattle.tcl_language.specs.Trying as trying;
-ghost use Rattle.tcl_run.specs.Runs.{IsRunning, IsSteady, ProceedsIn, ways};
+ghost use Rattle.tcl_run.specs.Runs.{IsRunning, Keeps, ProceedsIn, ways};
 
 use crate::evaluation::eval_value;
 use std::alloc::Global;
@@ -34,8 +33,7 @@ fn run_handler<O: Outside>(
     requires { IsRunning tree.old place }
     ensures runs { ProceedsIn (ways O.goes O.loses) tree.old outside.old place
         (λ style. runs_last (option_copied chosen.entry)) tree.new outside.new result }
-    ensures steady { IsSteady tree.old tree.new }
-    ensures left { O.entries_left outside.new ≤ O.entries_left outside.old }
+    ensures keeps { Keeps O.entries_left tree.old tree.new outside.old outside.new }
 {
     let Some(script) = chosen else {
         return Ok(Value::empty());
@@ -63,8 +61,7 @@ fn handle<O: Outside>(
     ensures runs { ProceedsIn (ways O.goes O.loses) tree.old outside.old place
         (λ style. trying.handled_by (completion_of completion) (handlers_of handlers.now)) tree.new
         outside.new result }
-    ensures steady { IsSteady tree.old tree.new }
-    ensures left { O.entries_left outside.new ≤ O.entries_left outside.old }
+    ensures keeps { Keeps O.entries_left tree.old tree.new outside.old outside.new }
 {
     let Some((names, script)) = handler_for(alloc, &completion, handlers)? else {
         return released(alloc, completion);
@@ -91,8 +88,7 @@ fn handled<O: Outside>(
     requires { IsRunning tree.old place }
     ensures runs { ProceedsIn (ways O.goes O.loses) tree.old outside.old place
         (λ style. trying.handled body.now (handlers_of handlers.now)) tree.new outside.new result }
-    ensures steady { IsSteady tree.old tree.new }
-    ensures left { O.entries_left outside.new ≤ O.entries_left outside.old }
+    ensures keeps { Keeps O.entries_left tree.old tree.new outside.old outside.new }
 {
     let mut script = body.clone()?;
     let completion = caught(eval_value(tree, alloc, outside, place, &mut script))?;
@@ -118,8 +114,7 @@ pub fn try_script<O: Outside>(
     requires { IsRunning tree.old place }
     ensures runs { ProceedsIn (ways O.goes O.loses) tree.old outside.old place
         (λ style. trying.try_script style args.now) tree.new outside.new result }
-    ensures steady { IsSteady tree.old tree.new }
-    ensures left { O.entries_left outside.new ≤ O.entries_left outside.old }
+    ensures keeps { Keeps O.entries_left tree.old tree.new outside.old outside.new }
 {
     let [body, words @ ..] = args else {
         return Err(wrong_args(alloc, TRY));

@@ -1,9 +1,9 @@
 //! Waiting for what stands outside of the tree, and what it hands in meanwhile.
-ghost use Rattle.std.specs.Prelude.{◌≡◌, ◌≤◌, None, IfOk};
+ghost use Rattle.std.specs.Prelude.{◌≡◌, None, IfOk};
 ghost use Rattle.tcl_core.specs.Paths.{Path, rise_to};
 ghost use Rattle.tcl_run.specs.Entering.{whole_entry};
 ghost use Rattle.tcl_run.specs.Outsides.{IsAsked};
-ghost use Rattle.tcl_run.specs.Runs.{IsRunning, IsSteady, ways};
+ghost use Rattle.tcl_run.specs.Runs.{IsRunning, Keeps, ways};
 ghost use Rattle.tcl_tree.specs.TreeOf.{Names};
 ghost use Rattle.tcl_evaluation.specs.Waiting.{EndsEntry, ExitOf, HandsIn, IsAnswer, Waits};
 
@@ -50,8 +50,7 @@ pub fn wait<O: Outside>(
         (whole_entry entry.now) tree.new
         outside.new result }
     ensures own { IfOk result (λ said. IsAnswer up (whole_entry entry.now) said) }
-    ensures steady { IsSteady tree.old tree.new }
-    ensures left { O.entries_left outside.new ≤ O.entries_left outside.old }
+    ensures keeps { Keeps O.entries_left tree.old tree.new outside.old outside.new }
 {
     'turns: loop {
         match outside.next(alloc, tree, place, up, entry)? {
@@ -86,8 +85,7 @@ fn hand_in<O: Outside>(
     ensures runs { HandsIn (ways O.goes O.loses) tree.old outside.old place up
         (whole_entry entry.now)
         target.items (whole_entry inner) tree.new outside.new result }
-    ensures steady { IsSteady tree.old tree.new }
-    ensures left { O.entries_left outside.new ≤ O.entries_left outside.old }
+    ensures keeps { Keeps O.entries_left tree.old tree.new outside.old outside.new }
 {
     let path = target.as_slice();
     let ended = enter(tree, alloc, outside, path, inner);
@@ -136,8 +134,7 @@ pub fn enter<O: Outside>(
     ensures runs { EndsEntry (ways O.goes O.loses) tree.old outside.old target.now
         (whole_entry entry) tree.new
         outside.new result }
-    ensures steady { IsSteady tree.old tree.new }
-    ensures left { O.entries_left outside.new ≤ O.entries_left outside.old }
+    ensures keeps { Keeps O.entries_left tree.old tree.new outside.old outside.new }
 {
     match tree.place(target) {
         Some(place) => serve_entry(tree, alloc, outside, place, entry),

@@ -15,7 +15,7 @@ use Rattle.tcl_flow.specs.declared.completion.Completion as code
 use Rattle.tcl_functions.specs.Actions.{ActionView}
 use Rattle.tcl_functions.specs.Actions.ActionView.{Completes, Enters as EntersFirst, Exits}
 use Rattle.tcl_functions.specs.Replies.{Sees, seen}
-use Rattle.tcl_functions.specs.Serving.{Begins, Closes, ClosesByExit, ComesBack, EndsBy, EndsCall, EndsSo, GoesOut, HandsIn, HearsEnd, Hosting, IsSpent, Keeps, Reopens, Serves, Serving, TakesReply, going, past}
+use Rattle.tcl_functions.specs.Serving.{Begins, Closes, ClosesByExit, ComesBack, EndsBy, EndsCall, EndsSo, GoesOut, HandsIn, HearsEnd, Hosting, IsSpent, Keeps, Reopens, Serves, Serving, TakesReply, going, past, too_many_entries}
 use Rattle.tcl_functions.specs.Serving.EndsCall.{served, exited, unopened}
 use Rattle.tcl_functions.specs.declared.call.Call.{Call}
 use Rattle.tcl_functions.specs.declared.serving.WithFunctions.{WithFunctions}
@@ -34,6 +34,22 @@ within o t l b e = subst (λ x. past x o o t) (sym e) refl
 outer : {S : Type 0} (l : Option Place) (o z : S) (t : Type 0) → l ≡ None → t → past l o z t
 outer l o z t e g = subst (λ k. past k o z t) (sym e) g
 
+-- ## How a function's call ends
+
+own_of : (n : ℕ) (i : Entry) (r s : Reply) → r ≡ s → is_own (Some n) i (Replied s) ≡ true → is_own (Some n) i (Replied r) ≡ true
+own_of n i r s e f = subst (λ x. is_own (Some n) i (Replied x) ≡ true) (sym e) f
+
+own_by : (n : ℕ) (i : Entry) (left : ℕ) (does : ActionView) (r : Reply) → EndsBy left does r → is_own (Some n) i (Replied r) ≡ true
+own_by n i left (Completes c) r e = own_of n i r (Completed c) e refl
+own_by n i left (Exits m) r e = own_of n i r (Exit m) e refl
+own_by n i left (EntersFirst t j) r e = own_of n i r (Completed (error too_many_entries)) e.1 refl
+
+-- by no stop
+own_end : {F H : Type 0} (serves : Serving F) (o z : WithFunctions F H) (n : ℕ) (i : Entry) (r : Reply) → EndsCall serves o r z → is_own (Some n) i (Replied r) ≡ true
+own_end serves o z n i r (served below call does stood did ends closes) = own_by n i o.entries does r ends
+own_end serves o z n i r (exited below call m exits stood ends functions closes) = own_of n i r (Exit m) ends refl
+own_end serves o z n i r (unopened a b ends functions exits keeps) = own_of n i r (Completed (error (no_interpreter []))) ends refl
+
 module _ {F H : Type 0} (serves : Serving F) (step : Hosting H) where
   -- ## What is between two interpreters of the tree
 
@@ -51,7 +67,7 @@ module _ {F H : Type 0} (serves : Serving F) (step : Hosting H) where
   ended : (T : Tree Own) (o z : WithFunctions F H) (h : Height) (n : ℕ) (p : Path) (i : Entry) (r : Reply) → h ≡ Some n → rise_to h p ≡ None → EndsCall serves o r z → Answers (going serves step) T o p h i z (Replied r)
   ended T o z h n p i r is top x = (
     outer (rise_to h p) o z _ top (subst (λ (k : Height). ComesBack serves step o (Some (k, i)) (Replied r) z) (sym is) x),
-    subst (λ (k : Height). is_own k i (Replied r) ≡ true) (sym is) refl,
+    subst (λ (k : Height). is_own k i (Replied r) ≡ true) (sym is) (own_end serves o z n i r x),
   )
 
   pub comes_next : (T : Tree Own) (o z : WithFunctions F H) (h : Height) (n : ℕ) (p : Path) (i : Entry) (t : Result Turn Interruption) → h ≡ Some n → rise_to h p ≡ None → Serves serves o z t → ComesNext (going serves step) (Unit {0}) T o p h i z t

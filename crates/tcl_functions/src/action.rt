@@ -5,12 +5,15 @@ ghost use Rattle.tcl_core.specs.Entries.Entry.{Eval};
 ghost use Rattle.tcl_functions.specs.Actions.{action_of};
 ghost use Rattle.tcl_functions.specs.Actions.ActionView.{Completes, Enters};
 ghost use Rattle.tcl_flow.specs.View.{completion_of};
+ghost use Rattle.tcl_language.specs.Faults as faults;
 ghost use Rattle.tcl_language.specs.Instructions.{either, fits, too_long};
 ghost use Rattle.tcl_run.specs.Ends.{failing};
 
 use std::alloc::{AllocError, Global};
 use tcl_flow::completion::{self, Completion};
 use tcl_run::entry::Entry;
+use tcl_run::failure::wrong_args;
+use tcl_run::interruption::Interruption;
 use tcl_text::messages::TOO_LONG;
 use tcl_text::text::Text;
 use tcl_value::value::{Value, ValueError};
@@ -69,6 +72,22 @@ impl Action {
             Ok(message) => Ok(Action::Complete(completion::error(message))),
             Err(ValueError::TooLong) => Ok(Action::Complete(too_long(alloc)?)),
             Err(ValueError::Memory) => Err(AllocError),
+        }
+    }
+
+    /// Ends the call by the error of words that don't have this form, such as `twice script` (241).
+    ///
+    /// # Errors
+    /// Want of memory.
+    pub fn wrong_args(alloc: Global, form: &str) -> Result<Action, AllocError>
+        ensures { IfOk result (λ action. action_of action
+            ≡ Completes (failing (faults.wrong_args form.now))) }
+    {
+        match wrong_args(alloc, form) {
+            Interruption::Completed(completion) => {
+                Ok(Action::Complete(Box::into_inner(completion)))
+            }
+            _ => Err(AllocError),
         }
     }
 

@@ -30,7 +30,8 @@ use Rattle.tcl_tree.proofs.CoreLemmas.{tree_there}
 use Rattle.tcl_entries.specs.Looking.{GetsTo, GetsToEnd, looked}
 use Rattle.tcl_entries.proofs.Looks.{is_program, looks_here}
 use Rattle.tcl_entries.proofs.Reached.{there_below, gone_below}
-use Rattle.tcl_interp.specs.Programs.{aliases, depth_form, depth_of, depths, exposes, given, gives_alias, hides, limits, questions}
+use Rattle.tcl_interp.specs.Programs.{aliases, depth_form, depth_of, depths, given, gives_alias, hides_or_exposes, hiding_forms, limits, questions}
+use Rattle.tcl_interp.specs.declared.hiding.Hiding.{Hiding}
 use Rattle.tcl_interp.specs.Subjects.{About, asks_of, form_of, on_child, on_itself, on_path}
 
 -- ## The last name of a path
@@ -178,21 +179,13 @@ depth_wrong style a [] h = absurd (omega arith)
 depth_wrong style a (x ∷ []) h = absurd (omega arith)
 depth_wrong style a (x ∷ y ∷ rest) h = refl
 
-pub hide_wrong : (a : About) (args : List Text) → (length args < 1) ⊎ (3 ≤ length args) → hides a args ≡ fails (faults.wrong_args (form_of a (codes "interp hide path cmd ?hiddenName?") (codes "hide cmd ?hiddenName?")))
-hide_wrong a [] h = refl
-hide_wrong a (x ∷ []) (inl h) = absurd (omega arith)
-hide_wrong a (x ∷ []) (inr h) = absurd (omega arith)
-hide_wrong a (x ∷ y ∷ []) (inl h) = absurd (omega arith)
-hide_wrong a (x ∷ y ∷ []) (inr h) = absurd (omega arith)
-hide_wrong a (x ∷ y ∷ z ∷ rest) h = refl
-
-pub expose_wrong : (a : About) (args : List Text) → (length args < 1) ⊎ (3 ≤ length args) → exposes a args ≡ fails (faults.wrong_args (form_of a (codes "interp expose path hiddenName ?cmd?") (codes "expose hiddenName ?cmd?")))
-expose_wrong a [] h = refl
-expose_wrong a (x ∷ []) (inl h) = absurd (omega arith)
-expose_wrong a (x ∷ []) (inr h) = absurd (omega arith)
-expose_wrong a (x ∷ y ∷ []) (inl h) = absurd (omega arith)
-expose_wrong a (x ∷ y ∷ []) (inr h) = absurd (omega arith)
-expose_wrong a (x ∷ y ∷ z ∷ rest) h = refl
+pub names_wrong : (h : Hiding) (a : About) (args : List Text) → (length args < 1) ⊎ (3 ≤ length args) → hides_or_exposes h a args ≡ fails (faults.wrong_args (hiding_forms h a))
+names_wrong h a [] f = refl
+names_wrong h a (x ∷ []) (inl f) = absurd (omega arith)
+names_wrong h a (x ∷ []) (inr f) = absurd (omega arith)
+names_wrong h a (x ∷ y ∷ []) (inl f) = absurd (omega arith)
+names_wrong h a (x ∷ y ∷ []) (inr f) = absurd (omega arith)
+names_wrong h a (x ∷ y ∷ z ∷ rest) f = refl
 
 -- ## Aliases
 

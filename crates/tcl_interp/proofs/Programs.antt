@@ -5,8 +5,9 @@ use Rattle.tcl_core.specs.Entries.{Question}
 use Rattle.tcl_core.specs.Paths.{Text}
 use Rattle.tcl_language.specs.Interpreters as interpreters
 use Rattle.tcl_text.specs.declared.integer.Integers.{Integers}
-use Rattle.tcl_interp.specs.Programs.{IsChilds, IsInterps, aliases, depths, evals, exposes, hides, invokes, limits, questions}
+use Rattle.tcl_interp.specs.Programs.{IsChilds, IsInterps, aliases, depths, evals, hides_or_exposes, invokes, limits, questions}
 use Rattle.tcl_interp.specs.Subjects.{on_child, split_path}
+use Rattle.tcl_interp.specs.declared.hiding.Hiding.TheVariants as how
 use Rattle.tcl_interp.specs.declared.subcommand.Subcommand.TheVariants as sub
 
 -- ## `interp`
@@ -44,14 +45,14 @@ depth_split style (text ∷ []) = refl
 depth_split style (text ∷ x ∷ []) = refl
 depth_split style (text ∷ x ∷ y ∷ rest) = refl
 
-hide_split : (args : List Text) → interpreters.hide args ≡ hides (split_path args).0 (split_path args).1
+hide_split : (args : List Text) → interpreters.hide args ≡ hides_or_exposes how.Hide (split_path args).0 (split_path args).1
 hide_split [] = refl
 hide_split (text ∷ []) = refl
 hide_split (text ∷ x ∷ []) = refl
 hide_split (text ∷ x ∷ y ∷ []) = refl
 hide_split (text ∷ x ∷ y ∷ z ∷ rest) = refl
 
-expose_split : (args : List Text) → interpreters.expose args ≡ exposes (split_path args).0 (split_path args).1
+expose_split : (args : List Text) → interpreters.expose args ≡ hides_or_exposes how.Expose (split_path args).0 (split_path args).1
 expose_split [] = refl
 expose_split (text ∷ []) = refl
 expose_split (text ∷ x ∷ []) = refl
@@ -105,13 +106,13 @@ child_depths style name [] = refl
 child_depths style name (x ∷ []) = refl
 child_depths style name (x ∷ y ∷ rest) = refl
 
-child_hides : (name : Text) (args : List Text) → interpreters.child_hide name args ≡ hides (on_child name) args
+child_hides : (name : Text) (args : List Text) → interpreters.child_hide name args ≡ hides_or_exposes how.Hide (on_child name) args
 child_hides name [] = refl
 child_hides name (x ∷ []) = refl
 child_hides name (x ∷ y ∷ []) = refl
 child_hides name (x ∷ y ∷ z ∷ rest) = refl
 
-child_exposes : (name : Text) (args : List Text) → interpreters.child_expose name args ≡ exposes (on_child name) args
+child_exposes : (name : Text) (args : List Text) → interpreters.child_expose name args ≡ hides_or_exposes how.Expose (on_child name) args
 child_exposes name [] = refl
 child_exposes name (x ∷ []) = refl
 child_exposes name (x ∷ y ∷ []) = refl

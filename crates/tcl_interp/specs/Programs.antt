@@ -23,6 +23,8 @@ use Rattle.tcl_text.specs.declared.integer.Integers.{Integers}
 use Rattle.tcl_interp.specs.Subcommands.{child_program_of, path_program_of}
 use Rattle.tcl_interp.specs.Subjects.{About, asks_of, form_of, on_child, on_itself, on_path}
 use Rattle.tcl_interp.specs.Subjects.{path_text, reached, split_path}
+use Rattle.tcl_interp.specs.declared.hiding.Hiding.{Hiding}
+use Rattle.tcl_interp.specs.declared.hiding.Hiding.TheVariants as how
 use Rattle.tcl_interp.specs.declared.limits.LimitOf.{LimitOf}
 use Rattle.tcl_interp.specs.declared.limits.LimitOf.TheVariants.{Steps, Depth}
 use Rattle.tcl_interp.specs.declared.subcommand.Subcommand.{Subcommand}
@@ -121,17 +123,22 @@ depths style about (x ∷ y ∷ rest) = fails (wrong_args (form_of about depth_f
 
 -- ## Hiding
 
-abbrev pub hides : About → List Text → Program
-hides about (name ∷ []) = asks_trusted (path_text about) (Hide name name)
-hides about (name ∷ hidden ∷ []) = asks_trusted (path_text about) (Hide name hidden)
-hides about _ = fails (wrong_args (form_of about (codes "interp hide path cmd ?hiddenName?")
-    (codes "hide cmd ?hiddenName?")))
+-- what is asked for, by the two names in the order of the words
+abbrev pub hiding_entry : Hiding → Text → Text → Entry
+hiding_entry how.Hide from to = Hide from to
+hiding_entry how.Expose from to = Expose from to
 
-abbrev pub exposes : About → List Text → Program
-exposes about (hidden ∷ []) = asks_trusted (path_text about) (Expose hidden hidden)
-exposes about (hidden ∷ name ∷ []) = asks_trusted (path_text about) (Expose hidden name)
-exposes about _ = fails (wrong_args (form_of about (codes "interp expose path hiddenName ?cmd?")
-    (codes "expose hiddenName ?cmd?")))
+abbrev pub hiding_forms : Hiding → About → Text
+hiding_forms how.Hide about = form_of about (codes "interp hide path cmd ?hiddenName?")
+    (codes "hide cmd ?hiddenName?")
+hiding_forms how.Expose about = form_of about (codes "interp expose path hiddenName ?cmd?")
+    (codes "expose hiddenName ?cmd?")
+
+-- One word is the name that the command has and the one that it gets.
+abbrev pub hides_or_exposes : Hiding → About → List Text → Program
+hides_or_exposes h about (name ∷ []) = asks_trusted (path_text about) (hiding_entry h name name)
+hides_or_exposes h about (from ∷ to ∷ []) = asks_trusted (path_text about) (hiding_entry h from to)
+hides_or_exposes h about _ = fails (wrong_args (hiding_forms h about))
 
 abbrev pub invoke_forms : About → Text
 invoke_forms about = form_of about invoke_form
@@ -159,8 +166,8 @@ program_of style sub.IsSafe about args = questions about (codes "interp issafe ?
     (codes "issafe") IsSafe args
 program_of style sub.Limit about args = limits style about args
 program_of style sub.RecursionLimit about args = depths style about args
-program_of style sub.Hide about args = hides about args
-program_of style sub.Expose about args = exposes about args
+program_of style sub.Hide about args = hides_or_exposes how.Hide about args
+program_of style sub.Expose about args = hides_or_exposes how.Expose about args
 program_of style sub.InvokeHidden about args = invokes about args
 
 -- It is what `interp` does, whose words begin with a path.

@@ -1,7 +1,7 @@
 //! Aliases are given, taken away and asked about.
-ghost use Rattle.std.specs.Prelude.{◌≤◌, ◌∷◌, []};
+ghost use Rattle.std.specs.Prelude.{◌∷◌, []};
 ghost use Rattle.tcl_language.specs.Interpreters as interpreters;
-ghost use Rattle.tcl_run.specs.Runs.{Evaluates, IsLoss, IsRunning, IsSteady};
+ghost use Rattle.tcl_run.specs.Runs.{Evaluates, IsRunning, KeepsAndLoses};
 ghost use Rattle.tcl_interp.specs.Subjects.{about, on_path};
 ghost use Rattle.tcl_interp.specs.Programs.{aliases, gives_alias, given};
 
@@ -37,9 +37,7 @@ fn set_alias<O: Outside>(
     ensures evaluates { Evaluates O.goes tree.old outside.old place
         (λ style. given path.now goal.now name.now (word.now ∷ words.now)) tree.new outside.new
         result }
-    ensures lost { IsLoss O.loses outside.old outside.new }
-    ensures steady { IsSteady tree.old tree.new }
-    ensures left { O.entries_left outside.new ≤ O.entries_left outside.old }
+    ensures keeps { KeepsAndLoses O.entries_left O.loses tree.old tree.new outside.old outside.new }
 {
     let own = target_words(alloc, slice::from_ref(word), words)?;
     let alias = Alias::between(alloc, path, goal, own)?;
@@ -65,9 +63,7 @@ fn set_alias_between<O: Outside>(
     ensures evaluates { Evaluates O.goes tree.old outside.old place
         (λ style. interpreters.alias_path source.now name.now target.now word.now words.now)
         tree.new outside.new result }
-    ensures lost { IsLoss O.loses outside.old outside.new }
-    ensures steady { IsSteady tree.old tree.new }
-    ensures left { O.entries_left outside.new ≤ O.entries_left outside.old }
+    ensures keeps { KeepsAndLoses O.entries_left O.loses tree.old tree.new outside.old outside.new }
 {
     let found = path_of(tree, alloc, place, source)?;
     let goal = names_of(tree, alloc, place, target)?;
@@ -93,9 +89,7 @@ fn give_alias_at<O: Outside>(
     ensures evaluates { Evaluates O.goes tree.old outside.old place
         (λ style. gives_alias (on_path source.now) name.now target.now words.now) tree.new
         outside.new result }
-    ensures lost { IsLoss O.loses outside.old outside.new }
-    ensures steady { IsSteady tree.old tree.new }
-    ensures left { O.entries_left outside.new ≤ O.entries_left outside.old }
+    ensures keeps { KeepsAndLoses O.entries_left O.loses tree.old tree.new outside.old outside.new }
 {
     let [word, own @ ..] = words else {
         return Err(wrong_args(alloc, FORM));
@@ -119,9 +113,7 @@ fn give_alias<O: Outside>(
     ensures evaluates { Evaluates O.goes tree.old outside.old place
         (λ style. gives_alias (about subject.entry) name.now target.now words.now) tree.new
         outside.new result }
-    ensures lost { IsLoss O.loses outside.old outside.new }
-    ensures steady { IsSteady tree.old tree.new }
-    ensures left { O.entries_left outside.new ≤ O.entries_left outside.old }
+    ensures keeps { KeepsAndLoses O.entries_left O.loses tree.old tree.new outside.old outside.new }
 {
     match subject {
         Subject::Itself => {
@@ -150,9 +142,7 @@ fn clear_alias<O: Outside>(
     requires { IsRunning tree.old place }
     ensures evaluates { Evaluates O.goes tree.old outside.old place
         (λ style. aliases (about subject.entry) (name.now ∷ [] ∷ [])) tree.new outside.new result }
-    ensures lost { IsLoss O.loses outside.old outside.new }
-    ensures steady { IsSteady tree.old tree.new }
-    ensures left { O.entries_left outside.new ≤ O.entries_left outside.old }
+    ensures keeps { KeepsAndLoses O.entries_left O.loses tree.old tree.new outside.old outside.new }
 {
     let name = name.text(alloc)?;
     ask_subject(
@@ -163,31 +153,6 @@ fn clear_alias<O: Outside>(
         subject,
         OwnEntry::ClearAlias(name),
     )
-}
-
-/// Gives the subject an alias, or takes it away where one empty word is behind the name.
-fn change_alias<O: Outside>(
-    tree: &mut Tree,
-    alloc: Global,
-    outside: &mut O,
-    place: Place,
-    subject: Subject<'_>,
-    name: &Value,
-    target: &Value,
-    words: &[Value],
-) -> Result<Value, Interruption>
-    requires { IsRunning tree.old place }
-    ensures evaluates { Evaluates O.goes tree.old outside.old place
-        (λ style. aliases (about subject.entry) (name.now ∷ target.now ∷ words.now)) tree.new
-        outside.new result }
-    ensures lost { IsLoss O.loses outside.old outside.new }
-    ensures steady { IsSteady tree.old tree.new }
-    ensures left { O.entries_left outside.new ≤ O.entries_left outside.old }
-{
-    if words.is_empty() && target.is_text(b"") {
-        return clear_alias(tree, alloc, outside, place, subject, name);
-    }
-    give_alias(tree, alloc, outside, place, subject, name, target, words)
 }
 
 /// What an alias of the subject stands for.
@@ -202,9 +167,7 @@ fn alias_of<O: Outside>(
     requires { IsRunning tree.old place }
     ensures evaluates { Evaluates O.goes tree.old outside.old place
         (λ style. aliases (about subject.entry) (name.now ∷ [])) tree.new outside.new result }
-    ensures lost { IsLoss O.loses outside.old outside.new }
-    ensures steady { IsSteady tree.old tree.new }
-    ensures left { O.entries_left outside.new ≤ O.entries_left outside.old }
+    ensures keeps { KeepsAndLoses O.entries_left O.loses tree.old tree.new outside.old outside.new }
 {
     let question = Question::AliasOf(name.text(alloc)?);
     ask_subject(
@@ -233,15 +196,16 @@ pub fn alias<O: Outside>(
     requires { IsRunning tree.old place }
     ensures evaluates { Evaluates O.goes tree.old outside.old place
         (λ style. aliases (about subject.entry) args.now) tree.new outside.new result }
-    ensures lost { IsLoss O.loses outside.old outside.new }
-    ensures steady { IsSteady tree.old tree.new }
-    ensures left { O.entries_left outside.new ≤ O.entries_left outside.old }
+    ensures keeps { KeepsAndLoses O.entries_left O.loses tree.old tree.new outside.old outside.new }
 {
     match args {
         [] => Err(wrong_words(alloc, subject, FORM, "alias srcCmd ?targetCmd? ?arg ...?")),
         [name] => alias_of(tree, alloc, outside, place, subject, name),
         [own, target, words @ ..] => {
-            change_alias(tree, alloc, outside, place, subject, own, target, words)
+            if words.is_empty() && target.is_text(b"") {
+                return clear_alias(tree, alloc, outside, place, subject, own);
+            }
+            give_alias(tree, alloc, outside, place, subject, own, target, words)
         }
     }
 }

@@ -1,8 +1,7 @@
 //! `interp delete`.
-ghost use Rattle.std.specs.Prelude.{◌≤◌};
 ghost use Rattle.tcl_core.specs.Entries.Entry.{Delete};
 ghost use Rattle.tcl_language.specs.Interpreters as interpreters;
-ghost use Rattle.tcl_run.specs.Runs.{Evaluates, IsLoss, IsRunning, IsSteady};
+ghost use Rattle.tcl_run.specs.Runs.{Evaluates, IsRunning, KeepsAndLoses};
 ghost use Rattle.tcl_entries.specs.Asking.{Steps};
 ghost use Rattle.tcl_interp.specs.Deleting.{Deletes};
 
@@ -53,9 +52,7 @@ fn delete_below<O: Outside>(
     ensures steps { Steps O.goes tree.old outside.old place
         (λ rest style. interpreters.deletes_at text.now (above.now, name.now) (rest style)) tree.new
         outside.new result }
-    ensures lost { IsLoss O.loses outside.old outside.new }
-    ensures steady { IsSteady tree.old tree.new }
-    ensures left { O.entries_left outside.new ≤ O.entries_left outside.old }
+    ensures keeps { KeepsAndLoses O.entries_left O.loses tree.old tree.new outside.old outside.new }
 {
     let entry = OwnEntry::Delete(name.clone()?);
     let ended = ask(tree, alloc, outside, place, above, entry);
@@ -75,9 +72,7 @@ fn delete_at<O: Outside>(
     ensures steps { Steps O.goes tree.old outside.old place
         (λ rest style. interpreters.deletes_named text.now path.now (rest style)) tree.new
         outside.new result }
-    ensures lost { IsLoss O.loses outside.old outside.new }
-    ensures steady { IsSteady tree.old tree.new }
-    ensures left { O.entries_left outside.new ≤ O.entries_left outside.old }
+    ensures keeps { KeepsAndLoses O.entries_left O.loses tree.old tree.new outside.old outside.new }
 {
     match path {
         [above @ .., name] => delete_below(tree, alloc, outside, place, text, above, name),
@@ -102,9 +97,7 @@ pub fn delete_there<O: Outside>(
         (λ rest style. interpreters.at_path text.now
         (λ path n. interpreters.deletes_named text.now path (rest style))) tree.new outside.new
         result }
-    ensures lost { IsLoss O.loses outside.old outside.new }
-    ensures steady { IsSteady tree.old tree.new }
-    ensures left { O.entries_left outside.new ≤ O.entries_left outside.old }
+    ensures keeps { KeepsAndLoses O.entries_left O.loses tree.old tree.new outside.old outside.new }
 {
     let found = path_at(tree, alloc, place, text)?;
     delete_at(tree, alloc, outside, place, text, found.path.as_slice())
@@ -126,9 +119,7 @@ pub fn delete<O: Outside>(
     requires { IsRunning tree.old place }
     ensures evaluates { Evaluates O.goes tree.old outside.old place
         (λ style. interpreters.delete args.now) tree.new outside.new result }
-    ensures lost { IsLoss O.loses outside.old outside.new }
-    ensures steady { IsSteady tree.old tree.new }
-    ensures left { O.entries_left outside.new ≤ O.entries_left outside.old }
+    ensures keeps { KeepsAndLoses O.entries_left O.loses tree.old tree.new outside.old outside.new }
 {
     'paths: for path in args {
         let text = path.text(alloc)?;

@@ -1,6 +1,6 @@
 //! The subcommands of `interp` and of a child's own command by their names.
-ghost use Rattle.std.specs.Prelude.{◌≡◌, ◌≤◌, true};
-ghost use Rattle.tcl_run.specs.Runs.{Evaluates, IsLoss, IsRunning, IsSteady};
+ghost use Rattle.std.specs.Prelude.{◌≡◌, true};
+ghost use Rattle.tcl_run.specs.Runs.{Evaluates, IsRunning, KeepsAndLoses};
 ghost use Rattle.tcl_interp.specs.Subcommands.{evaluates_nothing, tree_program_of};
 ghost use Rattle.tcl_interp.specs.Subjects.{about};
 ghost use Rattle.tcl_interp.specs.Programs.{program_of, IsInterps, IsChilds};
@@ -9,7 +9,7 @@ use crate::alias::alias;
 use crate::creating::create;
 use crate::deleting::delete;
 use crate::existing::exists;
-use crate::hiding::{expose, hide};
+use crate::hiding::{Hiding, hide_or_expose};
 use crate::limits::{limit, recursion_limit};
 use crate::questions::{ask_about, ask_question};
 use crate::subcommand::{Subcommand, TreeSubcommand};
@@ -46,9 +46,7 @@ pub fn call_shared<O: Outside>(
     ensures evaluates { Evaluates O.goes tree.old outside.old place
         (λ style. program_of style subcommand (about subject.entry) args.now) tree.new outside.new
         result }
-    ensures lost { IsLoss O.loses outside.old outside.new }
-    ensures steady { IsSteady tree.old tree.new }
-    ensures left { O.entries_left outside.new ≤ O.entries_left outside.old }
+    ensures keeps { KeepsAndLoses O.entries_left O.loses tree.old tree.new outside.old outside.new }
 {
     match subcommand {
         Subcommand::Alias => alias(tree, alloc, outside, place, subject, args),
@@ -87,8 +85,12 @@ pub fn call_shared<O: Outside>(
         ),
         Subcommand::Limit => limit(tree, alloc, outside, place, subject, args),
         Subcommand::RecursionLimit => recursion_limit(tree, alloc, outside, place, subject, args),
-        Subcommand::Hide => hide(tree, alloc, outside, place, subject, args),
-        Subcommand::Expose => expose(tree, alloc, outside, place, subject, args),
+        Subcommand::Hide => {
+            hide_or_expose(tree, alloc, outside, place, subject, Hiding::Hide, args)
+        }
+        Subcommand::Expose => {
+            hide_or_expose(tree, alloc, outside, place, subject, Hiding::Expose, args)
+        }
         Subcommand::Eval => unreachable!(),
         Subcommand::InvokeHidden => unreachable!(),
     }
@@ -109,9 +111,7 @@ pub fn call_tree<O: Outside>(
     requires { IsRunning tree.old place }
     ensures evaluates { Evaluates O.goes tree.old outside.old place
         (λ style. tree_program_of subcommand args.now) tree.new outside.new result }
-    ensures lost { IsLoss O.loses outside.old outside.new }
-    ensures steady { IsSteady tree.old tree.new }
-    ensures left { O.entries_left outside.new ≤ O.entries_left outside.old }
+    ensures keeps { KeepsAndLoses O.entries_left O.loses tree.old tree.new outside.old outside.new }
 {
     match subcommand {
         TreeSubcommand::Create => create(tree, alloc, outside, place, args),

@@ -1,9 +1,9 @@
 //! `interp exists`.
-ghost use Rattle.std.specs.Prelude.{◌≤◌, ◌∷◌, []};
+ghost use Rattle.std.specs.Prelude.{◌∷◌, []};
 ghost use Rattle.tcl_core.specs.Programs.Act.{Look};
 ghost use Rattle.tcl_core.specs.Programs.Prog.{act};
 ghost use Rattle.tcl_language.specs.Interpreters as interpreters;
-ghost use Rattle.tcl_run.specs.Runs.{Evaluates, IsLoss, IsRunning, IsSteady};
+ghost use Rattle.tcl_run.specs.Runs.{Evaluates, IsRunning, KeepsAndLoses};
 
 use crate::questions::ask_about;
 use std::alloc::Global;
@@ -29,9 +29,7 @@ fn exists_at<O: Outside>(
     ensures evaluates { Evaluates O.goes tree.old outside.old place
         (λ style. act Look (λ T. interpreters.exists_at path.now (T path.now))) tree.new outside.new
         result }
-    ensures lost { IsLoss O.loses outside.old outside.new }
-    ensures steady { IsSteady tree.old tree.new }
-    ensures left { O.entries_left outside.new ≤ O.entries_left outside.old }
+    ensures keeps { KeepsAndLoses O.entries_left O.loses tree.old tree.new outside.old outside.new }
 {
     match tree.reach(place, 0, path) {
         Reach::There(_) => {
@@ -54,9 +52,7 @@ fn exists_there<O: Outside>(
     requires { IsRunning tree.old place }
     ensures evaluates { Evaluates O.goes tree.old outside.old place
         (λ style. interpreters.exists (word.now ∷ [])) tree.new outside.new result }
-    ensures lost { IsLoss O.loses outside.old outside.new }
-    ensures steady { IsSteady tree.old tree.new }
-    ensures left { O.entries_left outside.new ≤ O.entries_left outside.old }
+    ensures keeps { KeepsAndLoses O.entries_left O.loses tree.old tree.new outside.old outside.new }
 {
     let names = names_of(tree, alloc, place, word)?;
     exists_at(tree, alloc, outside, place, names.as_slice())
@@ -76,9 +72,7 @@ pub fn exists<O: Outside>(
     requires { IsRunning tree.old place }
     ensures evaluates { Evaluates O.goes tree.old outside.old place
         (λ style. interpreters.exists args.now) tree.new outside.new result }
-    ensures lost { IsLoss O.loses outside.old outside.new }
-    ensures steady { IsSteady tree.old tree.new }
-    ensures left { O.entries_left outside.new ≤ O.entries_left outside.old }
+    ensures keeps { KeepsAndLoses O.entries_left O.loses tree.old tree.new outside.old outside.new }
 {
     match args {
         [word] => exists_there(tree, alloc, outside, place, word),

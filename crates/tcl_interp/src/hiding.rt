@@ -1,123 +1,117 @@
 //! Commands are hidden and exposed. No safe interpreter does either.
-ghost use Rattle.std.specs.Prelude.{◌≤◌};
-ghost use Rattle.tcl_core.specs.Entries.Entry.{Hide, Expose};
+ghost use Rattle.std.specs.Prelude.{◌≡◌, IfOk};
+ghost use Rattle.tcl_core.specs.Endings.Reply.{Completed};
+ghost use Rattle.tcl_language.specs.Faults as faults;
 ghost use Rattle.tcl_language.specs.Interpreters as interpreters;
-ghost use Rattle.tcl_run.specs.Runs.{Evaluates, IsLoss, IsRunning, IsSteady};
+ghost use Rattle.tcl_run.specs.Ends.{Interrupts, failing};
+ghost use Rattle.tcl_run.specs.Entering.{entry_of};
+ghost use Rattle.tcl_run.specs.Runs.{Evaluates, IsRunning, KeepsAndLoses};
 ghost use Rattle.tcl_interp.specs.Subjects.{about, path_text};
-ghost use Rattle.tcl_interp.specs.Programs.{hides, exposes};
+ghost use Rattle.tcl_interp.specs.Programs.{hiding_entry, hiding_forms, hides_or_exposes};
 
 use crate::subject::{Subject, ask_trusted, wrong_words};
-use std::alloc::Global;
+use std::alloc::{AllocError, Global};
 use tcl_run::entry::OwnEntry;
 use tcl_run::interruption::Interruption;
 use tcl_run::outside::Outside;
 use tcl_tree::tree::{Place, Tree};
 use tcl_value::value::Value;
 
-/// Hides a command of the subject, under this name.
-fn hide_as<O: Outside>(
+/// Whether a command is hidden or exposed.
+#[derive(Clone, Copy, Debug, Drop)]
+pub enum Hiding {
+    /// A command becomes a hidden one.
+    Hide,
+    /// A hidden command becomes a command.
+    Expose,
+}
+
+/// What an interpreter is asked for, that a command of this name be hidden or exposed under the
+/// other.
+fn asked_entry(
+    alloc: Global,
+    hiding: Hiding,
+    from: &Value,
+    to: &Value,
+) -> Result<OwnEntry, AllocError>
+    ensures { IfOk result (λ made. entry_of made ≡ hiding_entry hiding from.now to.now) }
+{
+    let from = from.text(alloc)?;
+    let to = to.text(alloc)?;
+    match hiding {
+        Hiding::Hide => Ok(OwnEntry::Hide {
+            name: from,
+            hidden: to,
+        }),
+        Hiding::Expose => Ok(OwnEntry::Expose {
+            hidden: from,
+            name: to,
+        }),
+    }
+}
+
+/// Hides or exposes a command of the subject, under this other name.
+fn hide_or_expose_as<O: Outside>(
     tree: &mut Tree,
     alloc: Global,
     outside: &mut O,
     place: Place,
     subject: Subject<'_>,
-    command: &Value,
-    hidden: &Value,
+    hiding: Hiding,
+    from: &Value,
+    to: &Value,
 ) -> Result<Value, Interruption>
     requires { IsRunning tree.old place }
     ensures evaluates { Evaluates O.goes tree.old outside.old place
         (λ style. interpreters.asks_trusted (path_text (about subject.entry))
-        (Hide command.now hidden.now)) tree.new outside.new result }
-    ensures lost { IsLoss O.loses outside.old outside.new }
-    ensures steady { IsSteady tree.old tree.new }
-    ensures left { O.entries_left outside.new ≤ O.entries_left outside.old }
+        (hiding_entry hiding from.now to.now)) tree.new outside.new result }
+    ensures keeps { KeepsAndLoses O.entries_left O.loses tree.old tree.new outside.old outside.new }
 {
-    let name = command.text(alloc)?;
-    let hidden = hidden.text(alloc)?;
-    let entry = OwnEntry::Hide { name, hidden };
+    let entry = asked_entry(alloc, hiding, from, to)?;
     ask_trusted(tree, alloc, outside, place, subject, entry)
 }
 
-/// `interp hide path cmd ?hiddenName?`, and `NAME hide cmd ?hiddenName?`
-///
-/// # Errors
-/// 241; 304 where the interpreter that asks is safe; those of the path, and of hiding; want of
-/// memory.
-pub fn hide<O: Outside>(
-    tree: &mut Tree,
-    alloc: Global,
-    outside: &mut O,
-    place: Place,
-    subject: Subject<'_>,
-    args: &[Value],
-) -> Result<Value, Interruption>
-    requires { IsRunning tree.old place }
-    ensures evaluates { Evaluates O.goes tree.old outside.old place
-        (λ style. hides (about subject.entry) args.now) tree.new outside.new result }
-    ensures lost { IsLoss O.loses outside.old outside.new }
-    ensures steady { IsSteady tree.old tree.new }
-    ensures left { O.entries_left outside.new ≤ O.entries_left outside.old }
+/// The words don't have the form of the subcommand.
+fn wrong_names(alloc: Global, subject: Subject<'_>, hiding: Hiding) -> Interruption
+    ensures { Interrupts result (λ e. e
+        ≡ Completed (failing (faults.wrong_args (hiding_forms hiding (about subject.entry))))) }
 {
-    match args {
-        [command] => hide_as(tree, alloc, outside, place, subject, command, command),
-        [word, other] => hide_as(tree, alloc, outside, place, subject, word, other),
-        _ => {
+    match hiding {
+        Hiding::Hide => {
             let form = "interp hide path cmd ?hiddenName?";
-            Err(wrong_words(alloc, subject, form, "hide cmd ?hiddenName?"))
+            wrong_words(alloc, subject, form, "hide cmd ?hiddenName?")
+        }
+        Hiding::Expose => {
+            let form = "interp expose path hiddenName ?cmd?";
+            wrong_words(alloc, subject, form, "expose hiddenName ?cmd?")
         }
     }
 }
 
-/// Makes a hidden command of the subject a command of this name.
-fn expose_as<O: Outside>(
-    tree: &mut Tree,
-    alloc: Global,
-    outside: &mut O,
-    place: Place,
-    subject: Subject<'_>,
-    hidden: &Value,
-    command: &Value,
-) -> Result<Value, Interruption>
-    requires { IsRunning tree.old place }
-    ensures evaluates { Evaluates O.goes tree.old outside.old place
-        (λ style. interpreters.asks_trusted (path_text (about subject.entry))
-        (Expose hidden.now command.now)) tree.new outside.new result }
-    ensures lost { IsLoss O.loses outside.old outside.new }
-    ensures steady { IsSteady tree.old tree.new }
-    ensures left { O.entries_left outside.new ≤ O.entries_left outside.old }
-{
-    let hidden = hidden.text(alloc)?;
-    let name = command.text(alloc)?;
-    let entry = OwnEntry::Expose { hidden, name };
-    ask_trusted(tree, alloc, outside, place, subject, entry)
-}
-
+/// `interp hide path cmd ?hiddenName?`, and `NAME hide cmd ?hiddenName?`;
 /// `interp expose path hiddenName ?cmd?`, and `NAME expose hiddenName ?cmd?`
 ///
 /// # Errors
-/// 241; 304 where the interpreter that asks is safe; those of the path, and of exposing; want of
-/// memory.
-pub fn expose<O: Outside>(
+/// 241; 304 where the interpreter that asks is safe; those of the path, and of hiding or exposing;
+/// want of memory.
+pub fn hide_or_expose<O: Outside>(
     tree: &mut Tree,
     alloc: Global,
     outside: &mut O,
     place: Place,
     subject: Subject<'_>,
+    hiding: Hiding,
     args: &[Value],
 ) -> Result<Value, Interruption>
     requires { IsRunning tree.old place }
     ensures evaluates { Evaluates O.goes tree.old outside.old place
-        (λ style. exposes (about subject.entry) args.now) tree.new outside.new result }
-    ensures lost { IsLoss O.loses outside.old outside.new }
-    ensures steady { IsSteady tree.old tree.new }
-    ensures left { O.entries_left outside.new ≤ O.entries_left outside.old }
+        (λ style. hides_or_exposes hiding (about subject.entry) args.now) tree.new outside.new
+        result }
+    ensures keeps { KeepsAndLoses O.entries_left O.loses tree.old tree.new outside.old outside.new }
 {
     match args {
-        [hidden] => expose_as(tree, alloc, outside, place, subject, hidden, hidden),
-        [word, other] => expose_as(tree, alloc, outside, place, subject, word, other),
-        _ => {
-            let form = "interp expose path hiddenName ?cmd?";
-            Err(wrong_words(alloc, subject, form, "expose hiddenName ?cmd?"))
-        }
+        [name] => hide_or_expose_as(tree, alloc, outside, place, subject, hiding, name, name),
+        [from, to] => hide_or_expose_as(tree, alloc, outside, place, subject, hiding, from, to),
+        _ => Err(wrong_names(alloc, subject, hiding)),
     }
 }

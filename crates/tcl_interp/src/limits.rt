@@ -1,10 +1,10 @@
 //! Limits of steps and of depth. No safe interpreter sets one.
-ghost use Rattle.std.specs.Prelude.{◌≤◌, ◌∷◌, []};
+ghost use Rattle.std.specs.Prelude.{◌∷◌, []};
 ghost use Rattle.tcl_core.specs.Paths.{Path};
 ghost use Rattle.tcl_language.specs.Interpreters as interpreters;
 ghost use Rattle.tcl_language.specs.Variables as variables;
 ghost use Rattle.tcl_run.specs.Entering.{entry_of};
-ghost use Rattle.tcl_run.specs.Runs.{Evaluates, IsLoss, IsRunning, IsSteady};
+ghost use Rattle.tcl_run.specs.Runs.{Evaluates, IsRunning, KeepsAndLoses};
 ghost use Rattle.tcl_tree.specs.TreeOf.{Names};
 ghost use Rattle.tcl_entries.specs.Looking.{Finds, Passes};
 ghost use Rattle.tcl_interp.specs.Limits.{CountGiven, DepthGiven};
@@ -227,9 +227,7 @@ fn set_limit<O: Outside>(
     requires { IsRunning tree.old place }
     ensures evaluates { Evaluates O.goes tree.old outside.old place
         (λ style. sets style limit (about subject.entry) value.now) tree.new outside.new result }
-    ensures lost { IsLoss O.loses outside.old outside.new }
-    ensures steady { IsSteady tree.old tree.new }
-    ensures left { O.entries_left outside.new ≤ O.entries_left outside.old }
+    ensures keeps { KeepsAndLoses O.entries_left O.loses tree.old tree.new outside.old outside.new }
 {
     permit(tree, alloc, place)?;
     let path = settable_path(tree, alloc, place, limit, subject)?;
@@ -249,9 +247,7 @@ fn limit_of<O: Outside>(
     requires { IsRunning tree.old place }
     ensures evaluates { Evaluates O.goes tree.old outside.old place
         (λ style. limits style (about subject.entry) (word.now ∷ [])) tree.new outside.new result }
-    ensures lost { IsLoss O.loses outside.old outside.new }
-    ensures steady { IsSteady tree.old tree.new }
-    ensures left { O.entries_left outside.new ≤ O.entries_left outside.old }
+    ensures keeps { KeepsAndLoses O.entries_left O.loses tree.old tree.new outside.old outside.new }
 {
     commands_only(tree, alloc, place, word)?;
     let entry = OwnEntry::Ask(Question::CountLimitOf);
@@ -273,9 +269,7 @@ fn limit_with<O: Outside>(
     ensures evaluates { Evaluates O.goes tree.old outside.old place
         (λ style. limits style (about subject.entry) (word.now ∷ option.now ∷ value.now ∷ []))
         tree.new outside.new result }
-    ensures lost { IsLoss O.loses outside.old outside.new }
-    ensures steady { IsSteady tree.old tree.new }
-    ensures left { O.entries_left outside.new ≤ O.entries_left outside.old }
+    ensures keeps { KeepsAndLoses O.entries_left O.loses tree.old tree.new outside.old outside.new }
 {
     commands_only(tree, alloc, place, word)?;
     value_only(tree, alloc, place, option)?;
@@ -298,9 +292,7 @@ pub fn limit<O: Outside>(
     requires { IsRunning tree.old place }
     ensures evaluates { Evaluates O.goes tree.old outside.old place
         (λ style. limits style (about subject.entry) args.now) tree.new outside.new result }
-    ensures lost { IsLoss O.loses outside.old outside.new }
-    ensures steady { IsSteady tree.old tree.new }
-    ensures left { O.entries_left outside.new ≤ O.entries_left outside.old }
+    ensures keeps { KeepsAndLoses O.entries_left O.loses tree.old tree.new outside.old outside.new }
 {
     match args {
         [word] => limit_of(tree, alloc, outside, place, subject, word),
@@ -325,9 +317,7 @@ fn depth_limit_of<O: Outside>(
     requires { IsRunning tree.old place }
     ensures evaluates { Evaluates O.goes tree.old outside.old place
         (λ style. depths style (about subject.entry) []) tree.new outside.new result }
-    ensures lost { IsLoss O.loses outside.old outside.new }
-    ensures steady { IsSteady tree.old tree.new }
-    ensures left { O.entries_left outside.new ≤ O.entries_left outside.old }
+    ensures keeps { KeepsAndLoses O.entries_left O.loses tree.old tree.new outside.old outside.new }
 {
     let entry = OwnEntry::Ask(Question::DepthLimitOf);
     match subject {
@@ -356,9 +346,7 @@ pub fn recursion_limit<O: Outside>(
     requires { IsRunning tree.old place }
     ensures evaluates { Evaluates O.goes tree.old outside.old place
         (λ style. depths style (about subject.entry) args.now) tree.new outside.new result }
-    ensures lost { IsLoss O.loses outside.old outside.new }
-    ensures steady { IsSteady tree.old tree.new }
-    ensures left { O.entries_left outside.new ≤ O.entries_left outside.old }
+    ensures keeps { KeepsAndLoses O.entries_left O.loses tree.old tree.new outside.old outside.new }
 {
     match args {
         [] => depth_limit_of(tree, alloc, outside, place, subject),

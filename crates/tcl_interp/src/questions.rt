@@ -1,7 +1,6 @@
 //! Questions about an interpreter.
-ghost use Rattle.std.specs.Prelude.{◌≤◌};
 ghost use Rattle.tcl_language.specs.Interpreters as interpreters;
-ghost use Rattle.tcl_run.specs.Runs.{Evaluates, IsLoss, IsRunning, IsSteady};
+ghost use Rattle.tcl_run.specs.Runs.{Evaluates, IsRunning, KeepsAndLoses};
 ghost use Rattle.tcl_run.specs.Entering.{question_of};
 ghost use Rattle.tcl_interp.specs.Subjects.{about};
 ghost use Rattle.tcl_interp.specs.Programs.{questions};
@@ -34,9 +33,7 @@ pub fn ask_question<O: Outside>(
     ensures evaluates { Evaluates O.goes tree.old outside.old place
         (λ style. questions (about subject.entry) form.now own.now (question_of question) args.now)
         tree.new outside.new result }
-    ensures lost { IsLoss O.loses outside.old outside.new }
-    ensures steady { IsSteady tree.old tree.new }
-    ensures left { O.entries_left outside.new ≤ O.entries_left outside.old }
+    ensures keeps { KeepsAndLoses O.entries_left O.loses tree.old tree.new outside.old outside.new }
 {
     if !args.is_empty() {
         return Err(wrong_words(alloc, subject, form, own));
@@ -69,9 +66,7 @@ pub fn ask_about<O: Outside>(
     ensures evaluates { Evaluates O.goes tree.old outside.old place
         (λ style. interpreters.question form.now (question_of question) args.now) tree.new
         outside.new result }
-    ensures lost { IsLoss O.loses outside.old outside.new }
-    ensures steady { IsSteady tree.old tree.new }
-    ensures left { O.entries_left outside.new ≤ O.entries_left outside.old }
+    ensures keeps { KeepsAndLoses O.entries_left O.loses tree.old tree.new outside.old outside.new }
 {
     let (subject, words) = split_path(args);
     ask_question(

@@ -1,5 +1,5 @@
 //! The interpreter that a subcommand is about.
-ghost use Rattle.std.specs.Prelude.{◌≡◌, ◌≤◌, ◌∷◌, [], IfOk};
+ghost use Rattle.std.specs.Prelude.{◌≡◌, ◌∷◌, [], IfOk};
 ghost use Rattle.std.specs.String.{string_bytes};
 ghost use Rattle.tcl_core.specs.Endings.Reply.{Completed};
 ghost use Rattle.tcl_core.specs.Paths.{Path};
@@ -7,7 +7,7 @@ ghost use Rattle.tcl_language.specs.Faults as faults;
 ghost use Rattle.tcl_language.specs.Interpreters as interpreters;
 ghost use Rattle.tcl_run.specs.Ends.{Interrupts, failing};
 ghost use Rattle.tcl_run.specs.Entering.{entry_of};
-ghost use Rattle.tcl_run.specs.Runs.{Evaluates, IsLoss, IsRunning, IsSteady};
+ghost use Rattle.tcl_run.specs.Runs.{Evaluates, IsRunning, KeepsAndLoses};
 ghost use Rattle.tcl_entries.specs.Looking.{Finds};
 ghost use Rattle.tcl_interp.specs.Subjects.{about, asks_of, form_of, path_text, reached};
 ghost use Rattle.tcl_interp.specs.Subjects.{split_path};
@@ -186,9 +186,7 @@ pub fn ask_subject<O: Outside>(
     requires { IsRunning tree.old place }
     ensures evaluates { Evaluates O.goes tree.old outside.old place
         (λ style. asks_of (about subject.entry) (entry_of entry)) tree.new outside.new result }
-    ensures lost { IsLoss O.loses outside.old outside.new }
-    ensures steady { IsSteady tree.old tree.new }
-    ensures left { O.entries_left outside.new ≤ O.entries_left outside.old }
+    ensures keeps { KeepsAndLoses O.entries_left O.loses tree.old tree.new outside.old outside.new }
 {
     let path = path_to(tree, alloc, place, subject)?;
     ask_at(tree, alloc, outside, place, path.as_slice(), entry)
@@ -207,9 +205,7 @@ pub fn ask_trusted<O: Outside>(
     ensures evaluates { Evaluates O.goes tree.old outside.old place
         (λ style. interpreters.asks_trusted (path_text (about subject.entry)) (entry_of entry))
         tree.new outside.new result }
-    ensures lost { IsLoss O.loses outside.old outside.new }
-    ensures steady { IsSteady tree.old tree.new }
-    ensures left { O.entries_left outside.new ≤ O.entries_left outside.old }
+    ensures keeps { KeepsAndLoses O.entries_left O.loses tree.old tree.new outside.old outside.new }
 {
     let path = trusted_path(tree, alloc, place, subject)?;
     ask_at(tree, alloc, outside, place, path.as_slice(), entry)

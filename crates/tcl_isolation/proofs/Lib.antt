@@ -9,3 +9,4 @@ pub mod Safe
 pub mod Turning
 pub mod Untouching
 pub mod Watching
+pub mod Until

@@ -1,10 +1,12 @@
 -- What a record shares with the happenings of which it is the crossings.
-use Rattle.std.proofs.Common.{◌≡◌, ◌⊎◌, inl, inr, ℕ, List, [], ◌∷◌, ◌++◌, Option, Some, None, refl, sym, ◌∙◌, ap, subst}
+use Rattle.std.proofs.Common.{◌≡◌, ◌⊎◌, inl, inr, ℕ, nat_lt, List, [], ◌∷◌, ◌++◌, Option, Some, None, refl, sym, ◌∙◌, ap, subst}
 use Rattle.tcl_core.specs.Endings.{Reply}
 use Rattle.tcl_core.specs.Endings.Reply.{Completed, Stop, Exit, Cut}
+use Rattle.tcl_core.specs.Entries.{Entry}
 use Rattle.tcl_core.specs.Entries.Answer.{Replied, Heard}
 use Rattle.tcl_core.specs.Laws.{IsUnended, KeepsTop, Unended}
-use Rattle.tcl_core.specs.Lives.{Outcome, last_of, outcome_at, outcome_of, outs_of, put, told}
+use Rattle.tcl_core.specs.Lives.{Outcome, begun, begun_at, ended, ended_at, last_of, one_more, outcome_at, outcome_of, outs_of, put, told}
+use Rattle.tcl_core.specs.Lives.Outcome.{Finished}
 use Rattle.tcl_core.specs.Paths.{Place, rise_to}
 use Rattle.tcl_core.specs.Execution.{event}
 use Rattle.tcl_core.specs.Trees.{Event, Move, What, asked, at_top, where_none}
@@ -13,6 +15,7 @@ use Rattle.tcl_core.specs.Trees.What.{Out, In, Done, Back, Made, Dropped}
 use Rattle.tcl_core.specs.Views.{moves_of}
 use Rattle.tcl_core.proofs.PathLaws.{not_both}
 use Rattle.tcl_core.proofs.Reacting.{IsLasting, Lasting}
+use Rattle.tcl_reactions.specs.Laws.{outcome_so_far, waits_if}
 use Rattle.tcl_recorder.specs.Boundary.{past, past_the_top}
 
 module _ {O : Type 0} where
@@ -80,6 +83,42 @@ module _ {O : Type 0} where
           let rest : past_the_top σ ≡ a ++ b = cc in
           seen f y a s (k a rest)
 
+  -- a part before a happening that is recorded
+  pub record PartsAt (σ a : List (Event O)) (ev : Event O) (b : List (Event O)) : Type 0 where
+    pub front : List (Event O)
+    pub back : List (Event O)
+    pub whole : σ ≡ front ++ ev ∷ back
+    pub fronts : past_the_top front ≡ a
+    pub backs : past_the_top back ≡ b
+    pub passes : past ev.place ev.what [] ≡ ev ∷ []
+
+  pub parts_at : (σ a : List (Event O)) (ev : Event O) (b : List (Event O)) → past_the_top σ ≡ a ++ ev ∷ b → PartsAt σ a ev b
+  parts_at [] [] ev b e = cc
+  parts_at [] (y ∷ a) ev b e = cc
+  parts_at (x ∷ σ) a ev b e = by (kind x.place x.what) a (λ l g. parts_at σ l ev b g) e
+    where
+      unseen : ((τ : List (Event O)) → past x.place x.what τ ≡ τ) → (a : List (Event O)) → PartsAt σ a ev b → PartsAt (x ∷ σ) a ev b
+      unseen f a g = record { front = x ∷ g.front; back = g.back; whole = ap (λ l. x ∷ l) g.whole; fronts = f (past_the_top g.front) ∙ g.fronts; backs = g.backs; passes = g.passes }
+
+      seen : ((τ : List (Event O)) → past x.place x.what τ ≡ x ∷ τ) → (y : Event O) (a : List (Event O)) → x ≡ y → PartsAt σ a ev b → PartsAt (x ∷ σ) (y ∷ a) ev b
+      seen f y a s g = record { front = x ∷ g.front; back = g.back; whole = ap (λ l. x ∷ l) g.whole; fronts = f (past_the_top g.front) ∙ ap (λ l. x ∷ l) g.fronts ∙ ap (λ z. z ∷ a) s; backs = g.backs; passes = g.passes }
+
+      here : ((τ : List (Event O)) → past x.place x.what τ ≡ x ∷ τ) → x ≡ ev → past_the_top σ ≡ b → PartsAt (x ∷ σ) [] ev b
+      here f s g = record { front = []; back = σ; whole = ap (λ z. z ∷ σ) s; fronts = refl; backs = g; passes = subst (λ z. past z.place z.what [] ≡ z ∷ []) s (f []) }
+
+      by : Kind x.place x.what → (a : List (Event O)) → ((l : List (Event O)) → past_the_top σ ≡ l ++ ev ∷ b → PartsAt σ l ev b) → past x.place x.what (past_the_top σ) ≡ a ++ ev ∷ b → PartsAt (x ∷ σ) a ev b
+      by (inl f) a k e = unseen f a (k a (sym (f (past_the_top σ)) ∙ e))
+      by (inr f) [] k e =
+          let g : x ∷ past_the_top σ ≡ ev ∷ b = sym (f (past_the_top σ)) ∙ e in
+          let s : x ≡ ev = cc in
+          let rest : past_the_top σ ≡ b = cc in
+          here f s rest
+      by (inr f) (y ∷ a) k e =
+          let g : x ∷ past_the_top σ ≡ y ∷ (a ++ ev ∷ b) = sym (f (past_the_top σ)) ∙ e in
+          let s : x ≡ y = cc in
+          let rest : past_the_top σ ≡ a ++ ev ∷ b = cc in
+          seen f y a s (k a rest)
+
   -- ## Ends from outside
 
   put_later : (o : Option Place) (p : Place) (x : What O) (τ : List (Event O)) → IsUnended (put o p x τ) → IsUnended τ
@@ -129,6 +168,49 @@ module _ {O : Type 0} where
   pub outcome_past : (σ : List (Event O)) (x : Outcome) → outcome_of (past_the_top σ) x ≡ outcome_of σ x
   outcome_past [] x = refl
   outcome_past (ev ∷ σ) x = outcome_one ev.place ev.what (past_the_top σ) σ x (outcome_past σ)
+
+  -- ## Entries that begin and end
+
+  begun_silent : (o : Option Place) (p : Place) (x : What O) (σ : List (Event O)) (n : ℕ) → ((k : ℕ) → begun_at p x k ≡ k) → begun σ ≡ n → begun (put o p x σ) ≡ n
+  begun_silent None p x σ n f g = f (begun σ) ∙ g
+  begun_silent (Some a) p x σ n f g = g
+
+  begun_in : (o : Option Place) (p : Place) (h : Option ℕ) (i : Entry) (σ : List (Event O)) (n : ℕ) → rise_to h p ≡ o → begun σ ≡ n → begun (put o p (In h i) σ) ≡ one_more (rise_to h p) n
+  begun_in None p h i σ n e g = ap (one_more (rise_to h p)) g
+  begun_in (Some a) p h i σ n e g = g ∙ sym (ap (λ o. one_more o n) e)
+
+  begun_one : (p : Place) (y : What O) (σ : List (Event O)) (n : ℕ) → begun σ ≡ n → begun (past p y σ) ≡ begun_at p y n
+  begun_one p (Out h down i) σ n g = begun_silent (rise_to h p) p (Out h down i) σ n (λ k. refl) g
+  begun_one p (Back h a) σ n g = begun_silent (rise_to h p) p (Back h a) σ n (λ k. refl) g
+  begun_one p (Done h r) σ n g = begun_silent (rise_to h p) p (Done h r) σ n (λ k. refl) g
+  begun_one p (In h i) σ n g = begun_in (rise_to h p) p h i σ n refl g
+  begun_one p _ σ n g = g
+
+  pub begun_past : (σ : List (Event O)) → begun (past_the_top σ) ≡ begun σ
+  begun_past [] = refl
+  begun_past (ev ∷ σ) = begun_one ev.place ev.what (past_the_top σ) (begun σ) (begun_past σ)
+
+  ended_silent : (o : Option Place) (p : Place) (x : What O) (σ : List (Event O)) (n : ℕ) → ((k : ℕ) → ended_at p x k ≡ k) → ended σ ≡ n → ended (put o p x σ) ≡ n
+  ended_silent None p x σ n f g = f (ended σ) ∙ g
+  ended_silent (Some a) p x σ n f g = g
+
+  ended_done : (o : Option Place) (p : Place) (h : Option ℕ) (r : Reply) (σ : List (Event O)) (n : ℕ) → rise_to h p ≡ o → ended σ ≡ n → ended (put o p (Done h r) σ) ≡ one_more (rise_to h p) n
+  ended_done None p h r σ n e g = ap (one_more (rise_to h p)) g
+  ended_done (Some a) p h r σ n e g = g ∙ sym (ap (λ o. one_more o n) e)
+
+  ended_one : (p : Place) (y : What O) (σ : List (Event O)) (n : ℕ) → ended σ ≡ n → ended (past p y σ) ≡ ended_at p y n
+  ended_one p (Out h down i) σ n g = ended_silent (rise_to h p) p (Out h down i) σ n (λ k. refl) g
+  ended_one p (Back h a) σ n g = ended_silent (rise_to h p) p (Back h a) σ n (λ k. refl) g
+  ended_one p (In h i) σ n g = ended_silent (rise_to h p) p (In h i) σ n (λ k. refl) g
+  ended_one p (Done h r) σ n g = ended_done (rise_to h p) p h r σ n refl g
+  ended_one p _ σ n g = g
+
+  pub ended_past : (σ : List (Event O)) → ended (past_the_top σ) ≡ ended σ
+  ended_past [] = refl
+  ended_past (ev ∷ σ) = ended_one ev.place ev.what (past_the_top σ) (ended σ) (ended_past σ)
+
+  pub so_far_past : (σ : List (Event O)) → outcome_so_far (past_the_top σ) ≡ outcome_so_far σ
+  so_far_past σ = λ i. waits_if (nat_lt (ended_past σ i) (begun_past σ i)) (outcome_past σ Finished i)
 
   -- ## Moves of a tree that is neither made nor dropped
 

@@ -29,7 +29,7 @@ inside_stays : Inside ≡ Leaves → Prim.⊥
 inside_stays e = cc
 
 module _ {O : Type 0} where
-  no_move : {A : Type 0} (m : Move O) → [] ≡ m ∷ [] → A
+  pub no_move : {A : Type 0} (m : Move O) → [] ≡ m ∷ [] → A
   no_move m e = cc
 
   no_event : {A : Type 0} (x : Event O) (τ : List (Event O)) → x ∷ τ ≡ [] → A
@@ -41,11 +41,11 @@ module _ {O : Type 0} where
   in_enters None k q x m e f = refl
   in_enters (Some a) k q x m e f = no_move m (sym (ap (λ o. moves_of (put o q x [])) e) ∙ f)
 
-  no_out : {A : Type 0} (o : Option Place) (q : Place) (h : Height) (down : Path) (i : Entry) (m : Move O) → moves_of (put o q (Out h down i) []) ≡ m ∷ [] → A
+  pub no_out : {A : Type 0} (o : Option Place) (q : Place) (h : Height) (down : Path) (i : Entry) (m : Move O) → moves_of (put o q (Out h down i) []) ≡ m ∷ [] → A
   no_out None q h down i m f = no_move m f
   no_out (Some a) q h down i m f = no_move m f
 
-  no_done : {A : Type 0} (o : Option Place) (q : Place) (h : Height) (r : Reply) (m : Move O) → moves_of (put o q (Done h r) []) ≡ m ∷ [] → A
+  pub no_done : {A : Type 0} (o : Option Place) (q : Place) (h : Height) (r : Reply) (m : Move O) → moves_of (put o q (Done h r) []) ≡ m ∷ [] → A
   no_done None q h r m f = no_move m f
   no_done (Some a) q h r m f = no_move m f
 

@@ -38,7 +38,7 @@ module _ {O : Type 0} where
   stops_at p (Done h r) x f = stops_last (rise_to h p) r x f
   stops_at p _ x f = f
 
-  by_itself : (τ : List (Event O)) (x : Outcome) → StopsByItself x → StopsByItself (outcome_of τ x)
+  pub by_itself : (τ : List (Event O)) (x : Outcome) → StopsByItself x → StopsByItself (outcome_of τ x)
   by_itself [] x f = f
   by_itself (ev ∷ τ) x f = by_itself τ (outcome_at ev.place ev.what x) (stops_at ev.place ev.what x f)
 

@@ -2,20 +2,24 @@
 -- table.
 use Rattle.std.specs.Prelude.{◌≡◌, ℕ, ◌≤◌, ◌+◌, List, [], ◌∷◌, ◌++◌, Option, Some}
 use Rattle.tcl_core.specs.Endings.{Reply}
+use Rattle.tcl_core.specs.Endings.Reply.{Cut}
 use Rattle.tcl_core.specs.Entries.{Entry}
+use Rattle.tcl_core.specs.Entries.Answer.{Replied}
 use Rattle.tcl_core.specs.Laws.{AtMove, IsLowering, IsSpared, IsUnended, after, rest}
 use Rattle.tcl_core.specs.Lives.{Outcome, React, count_at, limit_at, outcome_of, outs_of}
-use Rattle.tcl_core.specs.Lives.Outcome.{Finished}
+use Rattle.tcl_core.specs.Lives.Outcome.{Ended, Finished, Waiting}
 use Rattle.tcl_core.specs.Paths.{Path, Place}
 use Rattle.tcl_core.specs.Programs.{Table, Wait}
 use Rattle.tcl_core.specs.Runs.{entering}
 use Rattle.tcl_core.specs.Execution.{Chain, Crossings, Executes, Open}
-use Rattle.tcl_core.specs.Trees.{Event, Move, Node, Tree, at}
+use Rattle.tcl_core.specs.Trees.{Event, Move, Node, Tree, What, at}
+use Rattle.tcl_core.specs.Trees.What.{Out, In, Done, Back}
 use Rattle.tcl_core.specs.Views.{moves_of, steps_of, view}
 use Rattle.tcl_host.specs.declared.reply.HostReply.{HostReply}
 use Rattle.tcl_host.specs.declared.request.Request.{Request}
 use Rattle.tcl_run.specs.Outsides.{hosted}
 use Rattle.tcl_tree.specs.Own.{Own}
+use Rattle.tcl_reactions.specs.Laws.{IsAnswer, outcome_so_far}
 use Rattle.tcl_recorder.specs.Boundary.{boundary}
 use Rattle.tcl_isolation.specs.Visits.{CallsNobody, IsBelowTheTop, WatchedVisit, visit}
 
@@ -56,17 +60,84 @@ ReactsSo {O} {S} I goes = (prog : Table O I) (T V : Tree O) (o z : S) (t : Path)
     React prog (at T c) (moves_of crossings) m x told W → (x ≡ outcome_of crossings Finished) ×
     (told ≡ outs_of crossings) × (W ≡ at V c)
 
--- And where an entry was ended from outside, what the record tells up to some place before that is
--- a beginning of what the subtree by itself does with the moves up to there, and the same budget.
+-- ## Up to an end from outside
+
+-- With these moves and this budget the tree S does this by itself, and nothing else.
+pub record DoesJust {O I : Type 0} (prog : Table O I) (S : Tree O) (ms : List (Move O)) (m : ℕ)
+    (x : Outcome) (outs : List (Event O)) (W : Tree O) : Type 0 where
+  pub does : React prog S ms m x outs W
+  pub nothing_else : (y : Outcome) (told : List (Event O)) (U : Tree O) →
+      React prog S ms m y told U → (y ≡ x) × (told ≡ outs) × (U ≡ W)
+
+module _ {O : Type 0} where
+  abbrev pub IsMove : What O → Type 0
+  IsMove (In h i) = Unit {0}
+  IsMove (Back h a) = Unit {0}
+  IsMove x = Prim.⊥
+
+  abbrev pub IsTold : What O → Type 0
+  IsTold (Out h down i) = Unit {0}
+  IsTold (Done h r) = Unit {0}
+  IsTold x = Prim.⊥
+
+  -- an answer that ends a call from outside
+  abbrev pub IsEnd : What O → Type 0
+  IsEnd (Back h (Replied (Cut x))) = Unit {0}
+  IsEnd x = Prim.⊥
+
+  -- such a happening comes first
+  abbrev pub StartsWith : (What O → Type 0) → List (Event O) → Type 0
+  StartsWith P [] = Prim.⊥
+  StartsWith P (ev ∷ τ) = P ev.what
+
+-- What the tree S does by itself with the first part of its record, where `late` is what the record
+-- has behind it.
+pub record DoesUntil {O I : Type 0} (prog : Table O I) (S : Tree O) (early late : List (Event O))
+    (m : ℕ) : Type 0 where
+  -- Where control comes in then, by an entry or an answer: with the moves before, it waits at its
+  -- open call, or no call is open; it tells just what the record tells before; and it does nothing
+  -- else.
+  pub before : StartsWith IsMove late → (W : Tree O) ×
+      DoesJust prog S (moves_of early) m (outcome_so_far early) (outs_of early) W
+  -- where an answer comes, it waits
+  pub waits : StartsWith IsAnswer late → outcome_so_far early ≡ Waiting
+  -- Where that answer ends the call from outside: with all moves of the record it is ended so, and
+  -- tells just that too.
+  pub ends : StartsWith IsEnd late → (W : Tree O) ×
+      DoesJust prog S (moves_of (early ++ late)) m Ended (outs_of early) W
+  -- Where it tells something then: the last crossing before is the move by which control came in.
+  -- With the moves before that one it waits, or no call is open, and tells just what the record
+  -- tells before.
+  pub inside : StartsWith IsTold late → (front : List (Event O)) × (move : Event O) ×
+      (early ≡ front ++ move ∷ []) × IsMove move.what × (W : Tree O) ×
+      DoesJust prog S (moves_of front) m (outcome_so_far front) (outs_of early) W
+  -- And wherever that is: what the record tells before is a beginning of what it tells with the
+  -- moves before.
+  pub begins : (x : Outcome) (outs : List (Event O)) (W : Tree O) →
+      React prog S (moves_of early) m x outs W → (more : List (Event O)) ×
+      (outs ≡ outs_of early ++ more)
+
+-- Up to each place of the record before which no entry was ended from outside, the subtree by
+-- itself does with the moves what the record tells, with the same budgets.
 abbrev pub ReactsUntil : {O S : Type 0} → Type 0 → (Tree O → S → Wait → Event O → S → Type 0) →
     Type 0
 ReactsUntil {O} {S} I goes = (prog : Table O I) (T V : Tree O) (o z : S) (t : Path) (i : Entry)
-    (c : Place) (crossings before later : List (Event O)) (r : Reply) (n : Node O) (m : ℕ)
-    (x : Outcome) (outs : List (Event O)) (W : Tree O) →
+    (c : Place) (crossings early late : List (Event O)) (r : Reply) (n : Node O) (m : ℕ) →
     WatchedVisit goes prog T o t i c crossings V z r → IsBelowTheTop c → T c ≡ Some n →
-    crossings ≡ before ++ later → IsUnended before → Suffices m (T c) (V c) →
-    React prog (at T c) (moves_of before) m x outs W → (more : List (Event O)) ×
-    (outs ≡ outs_of before ++ more)
+    crossings ≡ early ++ late → IsUnended early → Suffices m (T c) (V c) →
+    DoesUntil prog (at T c) early late m
+
+-- And where control comes in, what the subtree by itself leaves is the subtree as it stands there.
+abbrev pub ReactsThere : {O S : Type 0} → Type 0 → (Tree O → S → Wait → Event O → S → Type 0) →
+    Type 0
+ReactsThere {O} {S} I goes = (prog : Table O I) (T V : Tree O) (o z : S) (t : Path) (i : Entry)
+    (c : Place) (crossings : List (Event O)) (r : Reply) (n : Node O) (m : ℕ)
+    (first last : List (Event O)) (ev : Event O) (move : Move O) →
+    (w : WatchedVisit goes prog T o t i c crossings V z r) → IsBelowTheTop c → T c ≡ Some n →
+    visit t i w.events r ≡ first ++ ev ∷ last → moves_of (boundary c (ev ∷ [])) ≡ move ∷ [] →
+    IsUnended (boundary c first) → Suffices m (T c) (V c) →
+    React prog (at T c) (moves_of (boundary c first)) m (outcome_so_far (boundary c first))
+    (outs_of (boundary c first)) (at (after first T) c)
 
 -- ## What is outside
 

@@ -4,7 +4,8 @@
 //! interpreter: the laws hold for every table of commands, but for those of scripts, at the end.
 ghost use Rattle.tcl_isolation.specs.Laws.{CountRises, CountStaysWithin, EntriesAreVisits};
 ghost use Rattle.tcl_isolation.specs.Laws.{LeavesTheHost, LeavesTheRest, QuietBetween, Reacts};
-ghost use Rattle.tcl_isolation.specs.Laws.{ReactsSo, ReactsUntil, WorldsAgree, WorldsAgreeUntil};
+ghost use Rattle.tcl_isolation.specs.Laws.{ReactsSo, ReactsThere, ReactsUntil, WorldsAgree};
+ghost use Rattle.tcl_isolation.specs.Laws.{WorldsAgreeUntil};
 ghost use Rattle.tcl_isolation.specs.Scripts.{AsksTheHostNothing, LimitsStay, ScriptsStayWithin};
 
 use tcl_host::host::Host;
@@ -28,10 +29,16 @@ pub fn reacts_so<O: Outside, I>()
     ensures { ReactsSo I O.goes }
 {}
 
-/// Where an entry was ended from outside, what the record tells before that is a beginning of what
-/// the subtree does by itself.
+/// Where an entry was ended from outside, what the record tells before that is what the subtree
+/// does by itself with the moves before: where control comes in, there is such a reaction, and it
+/// tells just that; elsewhere each that there is begins so.
 pub fn reacts_until<O: Outside, I>()
     ensures { ReactsUntil I O.goes }
+{}
+
+/// And where control comes in, that leaves the subtree as it stands there.
+pub fn reacts_there<O: Outside, I>()
+    ensures { ReactsThere I O.goes }
 {}
 
 /// From an entry into the watched subtree, or an answer to a call of it, to the next call or end

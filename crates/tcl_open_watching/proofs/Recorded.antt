@@ -9,8 +9,9 @@ use Rattle.tcl_core.specs.Trees.{Node, Tree, at}
 use Rattle.tcl_core.specs.Views.{moves_of}
 use Rattle.tcl_eval.specs.Running.{root_count, root_limit}
 use Rattle.tcl_eval.specs.declared.running.OpenEnd.{OpenEnd}
+use Rattle.tcl_isolation.proofs.Until.{does_until}
 use Rattle.tcl_isolation.proofs.Watching as watching
-use Rattle.tcl_isolation.specs.Laws.{IsWithin, Suffices}
+use Rattle.tcl_isolation.specs.Laws.{DoesUntil, IsWithin, Suffices}
 use Rattle.tcl_isolation.specs.Scripts as laws
 use Rattle.tcl_isolation.specs.Visits.{IsBelowTheTop}
 use Rattle.tcl_language.specs.Safety.{plain}
@@ -71,9 +72,9 @@ module _ {S : Type 0} (goes : Going S) (old : Table) (o : S) (path : Path) (scri
       (h.0, h.1, h.2 ∙ sym (at_last w f))
 
   pub reacts_until : One → ReactsUntil old c r.crossings new
-  reacts_until w f early late whole u m le x told W re =
-      watching.until goes (language style) T0 w.during o w.between path (Eval script) c r.crossings w.reply w.visited w.node m early late x told W f (stood w f) whole u (enough w m f le)
-      (subst (λ (A : Tree Own). React (language style) A (moves_of early) m x told W) (sym (at_first f)) re)
+  reacts_until w f early late whole u m le =
+      subst (λ (A : Tree Own). DoesUntil (language style) A early late m) (at_first f)
+      (does_until goes (language style) T0 w.during o w.between path (Eval script) c r.crossings w.reply w.node m w.visited f (stood w f) (enough w m f le) early late whole u)
 
   safe_trees : IsSafeBelow T0
   safe_trees = (orderly_relimited (Some (root_count old + limit)) (tree_of old) (orderly old)).safe

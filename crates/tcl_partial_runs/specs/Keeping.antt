@@ -19,8 +19,8 @@ keeps T o s ev u = u ≡ o ++ ev ∷ []
 pub record KeptBegins (O I : Type 0) : Type 0 where
   pub listed : (prog : Table O I) (T : Tree O) (p : Place) (x : Prog O I) (kept : List (Event O))
       (ms : List (Move O)) (gs : List Grant) (tape : List (Event O)) (v : World O) (e : Ending) →
-      Fits x → Begun keeps prog T [] p x kept → Runs prog (handing T kept ms (Listed gs) tape) p x v e →
-      Begins tape kept
+      Fits x → Begun keeps prog T [] p x kept →
+      Runs prog (handing T kept ms (Listed gs) tape) p x v e → Begins tape kept
   pub any : (prog : Table O I) (T : Tree O) (p : Place) (x : Prog O I) (kept : List (Event O))
       (ms : List (Move O)) (gs : Grants) (tape : List (Event O)) (v : World O) (e : Ending) →
       Fits x → Begun keeps prog T [] p x kept → IsUnrefused kept →

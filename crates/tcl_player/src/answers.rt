@@ -1,38 +1,26 @@
 //! Answers to calls that left the tree: which a call can have, and how it ends by them.
 ghost use Rattle.std.specs.Prelude.{◌≡◌, Some, IfOk};
-ghost use Rattle.tcl_core.specs.Entries.{answers};
+ghost use Rattle.tcl_core.specs.Entries as core;
 ghost use Rattle.tcl_core.specs.Runs.{is_exit, is_own};
 ghost use Rattle.tcl_player.specs.Answering.{IsTold, is_cut};
-ghost use Rattle.tcl_run.specs.Entering.{request_of, whole_entry};
-ghost use Rattle.tcl_run.specs.Outsides.{reply_of};
+ghost use Rattle.tcl_run.specs.Entering.{whole_entry};
 ghost use Rattle.tcl_recorder.specs.Crossings.{answer_of};
 
 use std::alloc::Global;
-use tcl_host::reply::HostReply;
-use tcl_host::request::Request;
 use tcl_recorder::crossing::{Answer, Reply, copy_completion, copy_heard};
 use tcl_run::entry::Entry;
 use tcl_run::interruption::{Cause, Interruption};
 use tcl_run::outside::Turn;
 
-/// Whether a host may say this to a request.
-fn answers(request: &Request, reply: &HostReply) -> bool
-    ensures { result ≡ answers (request_of request.now) (reply_of reply.now) }
+/// Whether an alias that leads so many levels up may be answered so: not by a stop that names an
+/// interpreter as far up.
+fn answers_alias(levels: usize, answer: &Answer) -> bool
+    ensures { (i : core.Entry) → result ≡ is_own (Some levels) i (answer_of answer.now) }
 {
-    match request {
-        Request::Open(_, _) => matches!(reply, HostReply::Opened(_) | HostReply::Refused(_)),
-        Request::ReadLine(_) => matches!(
-            reply,
-            HostReply::Line(_) | HostReply::Rest(_) | HostReply::End | HostReply::Refused(_)
-        ),
-        Request::ReadAll(_) => matches!(
-            reply,
-            HostReply::Line(_) | HostReply::Rest(_) | HostReply::Refused(_)
-        ),
-        Request::Write(_, _) | Request::Flush(_) | Request::Close(_) => {
-            matches!(reply, HostReply::Done | HostReply::Refused(_))
-        }
-        Request::Eof(_) => matches!(reply, HostReply::AtEnd(_) | HostReply::Refused(_)),
+    match answer {
+        Answer::Replied(Reply::Stopped(stop)) => stop.levels_up < levels,
+        Answer::Replied(_) => true,
+        Answer::Heard(_) => false,
     }
 }
 
@@ -44,7 +32,7 @@ fn answers_request(entry: &Entry, answer: &Answer) -> bool
         Answer::Replied(Reply::Exited(_)) | Answer::Replied(Reply::Ended) => true,
         Answer::Replied(_) => false,
         Answer::Heard(reply) => match entry {
-            Entry::AskHost(request) => answers(request, reply),
+            Entry::AskHost(request) => reply.is_reply_to(request),
             _ => false,
         },
     }
@@ -55,7 +43,7 @@ pub(crate) fn answers_call(up: Option<usize>, entry: &Entry, answer: &Answer) ->
     ensures { result ≡ is_own up (whole_entry entry.now) (answer_of answer.now) }
 {
     match up {
-        Some(_) => matches!(answer, Answer::Replied(_)),
+        Some(levels) => answers_alias(levels, answer),
         None => answers_request(entry, answer),
     }
 }

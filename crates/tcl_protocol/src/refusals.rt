@@ -170,8 +170,8 @@ impl Refusal {
             Refusal::NotUtf8 => String::from_str(alloc, "the line is not UTF-8"),
             Refusal::NotJson => String::from_str(alloc, "the line is not JSON"),
             Refusal::NotObject => String::from_str(alloc, "the line is not an object"),
-            Refusal::UnknownMessage(name) => about(alloc, "unknown message ", name.as_str(), ""),
-            Refusal::UnknownField(name) => about(alloc, "unknown field ", name.as_str(), ""),
+            Refusal::UnknownMessage(word) => about(alloc, "unknown message ", word.as_str(), ""),
+            Refusal::UnknownField(word) => about(alloc, "unknown field ", word.as_str(), ""),
             Refusal::Missing(field) => about(alloc, "the field ", field.name(), " is missing"),
             Refusal::WrongType(field) => wrong_type(alloc, *field),
             Refusal::OutOfRange(field) => {
@@ -196,7 +196,7 @@ impl Refusal {
             Refusal::TooManySteps => String::from_str(alloc, COUNT_TOO_LARGE),
             Refusal::Deleted => String::from_str(alloc, WATCHED_DELETED),
             Refusal::Waits => String::from_str(alloc, WAITS),
-            Refusal::NotText(name) => about(alloc, "", name.as_str(), " is not UTF-8"),
+            Refusal::NotText(word) => about(alloc, "", word.as_str(), " is not UTF-8"),
         }
     }
 }

@@ -10,4 +10,10 @@ pub mod Reacted
 pub mod Free
 pub mod Depths
 pub mod OneOutcome
+pub mod Paused
+pub mod Before
+pub mod Extending
+pub mod Exiting
+pub mod Unwinding
+pub mod Pauses
 pub mod Worked

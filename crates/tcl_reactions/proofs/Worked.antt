@@ -1,24 +1,28 @@
 -- The worked playings, step by step.
-use Rattle.std.proofs.Common.{ℕ, List, [], ◌∷◌, Some, None, refl}
+use Rattle.std.proofs.Common.{◌≡◌, ℕ, false, List, [], ◌∷◌, ◌++◌, Some, None, refl}
 use Rattle.std.specs.Prelude.{pos}
 use Rattle.tcl_core.specs.Endings.{Reply, ok}
 use Rattle.tcl_core.specs.Endings.Cause.{Above, Over}
 use Rattle.tcl_core.specs.Endings.Meter.{Count}
-use Rattle.tcl_core.specs.Endings.Reply.{Completed, Cut, Exit}
+use Rattle.tcl_core.specs.Endings.Kind.{Full, Gone}
+use Rattle.tcl_core.specs.Endings.Reply.{Completed, Cut, Exit, Stop}
+use Rattle.tcl_core.specs.Entries.{Answer, Request}
 use Rattle.tcl_core.specs.Entries.Answer.{Replied, Heard}
-use Rattle.tcl_core.specs.Entries.Entry.{Eval}
-use Rattle.tcl_core.specs.Entries.HostReply.{TheEnd}
+use Rattle.tcl_core.specs.Entries.Entry.{AskHost, Eval}
+use Rattle.tcl_core.specs.Entries.HostReply.{Line, TheEnd, TheRest, Fails}
+use Rattle.tcl_core.specs.Entries.Request.{Open, ReadAll, ReadLine}
 use Rattle.tcl_core.specs.Example.{Script, an_answer, child_alone, commands, finish, one_entry}
 use Rattle.tcl_core.specs.Lives.Outcome.{Finished, Waiting, Ended, Exited, Spent, Misfit}
 use Rattle.tcl_core.specs.Programs.{Deed, Prog, Table}
 use Rattle.tcl_core.specs.Programs.Next.{On, Off}
 use Rattle.tcl_core.specs.Programs.Prog.{wait}
+use Rattle.tcl_core.specs.Runs.{is_own}
 use Rattle.tcl_core.specs.Execution.{Crossings, Executes, event}
 use Rattle.tcl_core.specs.Execution.Executes.{completed, exited, acted, refused, wrapped, wrapped_passed, called_out, answered, answered_passed}
 use Rattle.tcl_core.specs.Trees.{Move, Tree, effect}
 use Rattle.tcl_core.specs.Trees.Move.{Come}
-use Rattle.tcl_core.specs.Trees.What.{Changed, Charged, Nested, Refused, Unnested, Done}
-use Rattle.tcl_reactions.specs.Example.{Comes_to, WorkedPlayings, asked, asking, done_so, leaving, one_entry_and, one_entry_heard}
+use Rattle.tcl_core.specs.Trees.What.{Changed, Charged, Nested, Refused, Unnested, Done, Out}
+use Rattle.tcl_reactions.specs.Example.{AnswersNoAlias, AnswersNoRequest, Comes_to, WorkedMisfits, WorkedPlayings, asked, asking, done_so, leaving, one_entry_and}
 use Rattle.tcl_reactions.specs.Playing.{Lived, Player, beginner, plays, stopping, telling}
 use Rattle.tcl_reactions.specs.Playing.Answers.{reads, ends, waits, unfits}
 use Rattle.tcl_reactions.specs.Playing.Fate.{Waits, Unfits, EndsAbove, Spends}
@@ -79,15 +83,30 @@ ended_so =
       told = refl;
     }
 
-unfit : Comes_to asking one_entry_heard 1 Misfit (asked ∷ [])
-unfit =
-    let ms : List (Move ℕ) = Come (Heard TheEnd) ∷ [] in
+-- WHAT ANSWERS NO CALL
+no_request : (q : Request) (a : Answer) → is_own None (AskHost q) a ≡ false → AnswersNoRequest q a
+no_request q a f =
+    let y : Player ℕ = telling (entered (Come a ∷ [])) (event [] (Out None [] (AskHost q))) in
+    let z : Player ℕ = stopping y Unfits in
+    record {
+      last = child_alone;
+      player = z;
+      playing = Lived.entered {U = child_alone} {V = child_alone} {u = beginner (one_entry ++ Come a ∷ []) 1} {w = entered (Come a ∷ [])} {v = z} {z = z} [] (Eval []) (Cut Over) Lived.begun refl refl (refl, refl, refl)
+          (called_out {u = y} refl (record { told = refl }) (answered_passed tt refl refl (record { told = unfits (Come a) [] refl refl f tt refl }))) refl;
+      is_over = tt;
+      outcome = refl;
+      told = refl;
+    }
+
+no_alias : (a : Answer) → is_own (Some 1) (Eval []) a ≡ false → AnswersNoAlias a
+no_alias a f =
+    let ms : List (Move ℕ) = Come a ∷ [] in
     let z : Player ℕ = stopping (called ms) Unfits in
     record {
       last = child_alone;
       player = z;
-      playing = Lived.entered {U = child_alone} {V = child_alone} {u = beginner one_entry_heard 1} {w = entered ms} {v = z} {z = z} [] (Eval []) (Cut Over) Lived.begun refl refl (refl, refl, refl)
-          (asks ms z (Cut Over) (answered_passed tt refl refl (record { told = unfits (Come (Heard TheEnd)) [] refl refl refl tt refl }))) refl;
+      playing = Lived.entered {U = child_alone} {V = child_alone} {u = beginner (one_entry ++ Come a ∷ []) 1} {w = entered ms} {v = z} {z = z} [] (Eval []) (Cut Over) Lived.begun refl refl (refl, refl, refl)
+          (asks ms z (Cut Over) (answered_passed tt refl refl (record { told = unfits (Come a) [] refl refl f tt refl }))) refl;
       is_over = tt;
       outcome = refl;
       told = refl;
@@ -160,4 +179,18 @@ spent =
     }
 
 pub worked_playings : WorkedPlayings
-worked_playings = record { served = served; spent = spent; uncalled = uncalled; answered = answered_so; waiting = waiting; ended = ended_so; unfit = unfit; exited = leaves }
+worked_playings = record { served = served; spent = spent; uncalled = uncalled; answered = answered_so; waiting = waiting; ended = ended_so; unfit = no_alias (Heard TheEnd) refl; exited = leaves }
+
+pub worked_misfits : WorkedMisfits
+worked_misfits = record {
+  line_for_the_rest = no_request (ReadAll []) (Heard (Line [])) refl;
+  rest_for_a_line = no_request (ReadLine []) (Heard (TheRest [])) refl;
+  end_for_the_rest = no_request (ReadAll []) (Heard TheEnd) refl;
+  channel_refused = no_request (Open [] []) (Heard (Fails 261)) refl;
+  opening_refused = no_request (ReadAll []) (Heard (Fails 267)) refl;
+  completed = no_request (ReadLine []) (Replied (Completed (ok []))) refl;
+  stopped = no_request (ReadLine []) (Replied (Stop 0 (Full Count))) refl;
+  deleted = no_request (ReadLine []) (Replied (Stop 0 Gone)) refl;
+  heard = no_alias (Heard (Line [])) refl;
+  stopped_from_above = no_alias (Replied (Stop 1 (Full Count))) refl;
+}

@@ -2,10 +2,14 @@
 use Rattle.std.specs.Prelude.{◌≡◌, ℕ, pos, List, [], ◌∷◌, ◌++◌, Some, None}
 use Rattle.tcl_core.specs.Endings.{Reply, ok}
 use Rattle.tcl_core.specs.Endings.Cause.{Above}
-use Rattle.tcl_core.specs.Endings.Reply.{Completed, Cut, Exit}
+use Rattle.tcl_core.specs.Endings.Meter.{Count}
+use Rattle.tcl_core.specs.Endings.Kind.{Full, Gone}
+use Rattle.tcl_core.specs.Endings.Reply.{Completed, Cut, Exit, Stop}
+use Rattle.tcl_core.specs.Entries.{Answer, Request}
 use Rattle.tcl_core.specs.Entries.Answer.{Replied, Heard}
-use Rattle.tcl_core.specs.Entries.Entry.{Eval}
-use Rattle.tcl_core.specs.Entries.HostReply.{TheEnd}
+use Rattle.tcl_core.specs.Entries.Entry.{AskHost, Eval}
+use Rattle.tcl_core.specs.Entries.HostReply.{Line, TheEnd, TheRest, Fails}
+use Rattle.tcl_core.specs.Entries.Request.{Open, ReadAll, ReadLine}
 use Rattle.tcl_core.specs.Example.{Script, an_answer, child_alone, commands, finish, finish_calls}
 use Rattle.tcl_core.specs.Example.{lost, one_entry}
 use Rattle.tcl_core.specs.Lives.{Outcome}
@@ -77,3 +81,39 @@ pub record WorkedPlayings : Type 0 where
   -- an exit
   pub exited : Comes_to leaving one_entry 1 (Exited (pos 3))
       (event [] (Done None (Exit (pos 3))) ∷ [])
+
+-- each entry asks the host for this
+abbrev pub asking_host : Request → Table ℕ Script
+asking_host q = record {
+  program = λ i. done lost;
+  entry = λ i. call None [] (AskHost q) lost finish;
+  lost = lost;
+  programs_call = λ i. tt;
+  entries_call = λ i. finish_calls;
+}
+
+-- this doesn't answer a request; and no alias that leads one level up
+abbrev pub AnswersNoRequest : Request → Answer → Type 0
+AnswersNoRequest q a = Comes_to (asking_host q) (one_entry ++ Come a ∷ []) 1 Misfit
+    (event [] (Out None [] (AskHost q)) ∷ [])
+
+abbrev pub AnswersNoAlias : Answer → Type 0
+AnswersNoAlias a = Comes_to asking (one_entry ++ Come a ∷ []) 1 Misfit (asked ∷ [])
+
+pub record WorkedMisfits : Type 0 where
+  -- what another read gives
+  pub line_for_the_rest : AnswersNoRequest (ReadAll []) (Heard (Line []))
+  pub rest_for_a_line : AnswersNoRequest (ReadLine []) (Heard (TheRest []))
+  pub end_for_the_rest : AnswersNoRequest (ReadAll []) (Heard TheEnd)
+  -- a refusal that the request can't have: of an opening that no channel is open, of a channel that
+  -- no file could be opened
+  pub channel_refused : AnswersNoRequest (Open [] []) (Heard (Fails 261))
+  pub opening_refused : AnswersNoRequest (ReadAll []) (Heard (Fails 267))
+  -- a completion and a stop of a request; what a host says of an alias
+  pub completed : AnswersNoRequest (ReadLine []) (Replied (Completed (ok [])))
+  pub stopped : AnswersNoRequest (ReadLine []) (Replied (Stop 0 (Full Count)))
+  -- what ends a caller that is gone, of one that isn't
+  pub deleted : AnswersNoRequest (ReadLine []) (Replied (Stop 0 Gone))
+  pub heard : AnswersNoAlias (Heard (Line []))
+  -- a stop that names the interpreter to which the call goes up
+  pub stopped_from_above : AnswersNoAlias (Replied (Stop 1 (Full Count)))

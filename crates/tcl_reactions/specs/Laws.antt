@@ -1,21 +1,23 @@
 -- The laws of playing. The first holds whatever the commands are: `prog` is their table.
-use Rattle.std.specs.Prelude.{◌≡◌, ◌⊎◌, ℕ, ℤ, true, List, [], ◌∷◌, Some, None}
+use Rattle.std.specs.Prelude.{◌≡◌, ◌⊎◌, ◌≤◌, ℕ, ℤ, Bool, true, false, nat_lt, List, [], ◌∷◌, ◌++◌}
+use Rattle.std.specs.Prelude.{Some, None}
 use Rattle.tcl_core.specs.Paths.{Path, Place, Height, rise_to}
-use Rattle.tcl_core.specs.Endings.{Reply}
+use Rattle.tcl_core.specs.Endings.{Cause, Reply}
 use Rattle.tcl_core.specs.Endings.Meter.{Count}
 use Rattle.tcl_core.specs.Endings.Cause.{Over}
 use Rattle.tcl_core.specs.Endings.Reply.{Exit, Cut}
 use Rattle.tcl_core.specs.Entries.{Entry, Answer}
 use Rattle.tcl_core.specs.Entries.Answer.{Replied}
-use Rattle.tcl_core.specs.Trees.{Event, Tree, Move, depth_of}
+use Rattle.tcl_core.specs.Trees.{Event, Tree, Move, What, at, depth_of}
 use Rattle.tcl_core.specs.Trees.Move.{Come}
 use Rattle.tcl_core.specs.Trees.What.{Charged, Refused, Dropped, Out, In, Done, Back}
 use Rattle.tcl_core.specs.Programs.{Table}
-use Rattle.tcl_core.specs.Runs.{gone, is_told}
+use Rattle.tcl_core.specs.Runs.{Runs, Visits, World, gone, is_told}
+use Rattle.tcl_core.specs.Views.{moves_of, steps_of, view}
 use Rattle.tcl_core.specs.Execution.{event}
-use Rattle.tcl_core.specs.Lives.{Outcome, React}
-use Rattle.tcl_core.specs.Lives.Outcome.{Exited}
-use Rattle.tcl_core.specs.Laws.{IsUpright, KeepsTop}
+use Rattle.tcl_core.specs.Lives.{Outcome, React, begun, ended, outcome_of, outs_of}
+use Rattle.tcl_core.specs.Lives.Outcome.{Ended, Exited, Finished, Waiting}
+use Rattle.tcl_core.specs.Laws.{IsUnended, IsUpright, KeepsTop, ReadsMove, after}
 use Rattle.tcl_reactions.specs.Playing.{Fate, Player, Lived, IsOver, beginner, last_end, outcome}
 use Rattle.tcl_reactions.specs.Playing.{plays, tree_left}
 
@@ -48,6 +50,50 @@ abbrev pub OneOutcome : Type 0 → Type 0 → Type 0
 OneOutcome O I = (prog : Table O I) (S : Tree O) (ms : List (Move O)) (n : ℕ) (x y : Outcome)
     (outs told : List (Event O)) (V W : Tree O) → AreFromAbove ms → React prog S ms n x outs V →
     React prog S ms n y told W → (y ≡ x) × (told ≡ outs) × (W ≡ V)
+
+-- ## Up to where control comes in
+
+-- The outcome of what happened until now, where control is outside: a call is open where an entry
+-- is in progress, and else it is that of the last entry.
+abbrev pub waits_if : Bool → Outcome → Outcome
+waits_if true x = Waiting
+waits_if false x = x
+
+abbrev pub outcome_so_far : {O : Type 0} → List (Event O) → Outcome
+outcome_so_far τ = waits_if (nat_lt (ended τ) (begun τ)) (outcome_of τ Finished)
+
+abbrev pub IsAnswer : {O : Type 0} → What O → Type 0
+IsAnswer (Back h a) = Unit {0}
+IsAnswer x = Prim.⊥
+
+-- Wherever control comes into the subtree at c in a whole evaluation, by an entry or by the answer
+-- to its open call, and nothing there was ended from outside until then: there is what the subtree
+-- does by itself with the moves until then, under each budget that isn't less than the steps made
+-- there until then. It is what happened there until then: it waits at the open call, or no call is
+-- open; it tells what was told, and leaves the subtree as it stood. Where an answer comes, a call
+-- is open. Where that answer ends the call from outside, there is also what the subtree does by
+-- itself with this end and whatever comes behind it: it is ended so, and tells the same.
+pub record ReactsBefore (O I : Type 0) : Type 0 where
+  pub reacts : (prog : Table O I) (c : Place) (w v : World O) (t : Path) (i : Entry) (r : Reply)
+      (m : ℕ) (early late : List (Event O)) (next : Event O) →
+      Visits prog (Runs prog) w None t i v (Some r) → v.moves ≡ [] → v.tape ≡ [] →
+      view c w.tape ≡ early ++ next ∷ late → ReadsMove next → IsUnended early →
+      steps_of early ≤ m →
+      React prog (at w.tree c) (moves_of early) m (outcome_so_far early) (outs_of early)
+      (after early (at w.tree c))
+  pub waits : (prog : Table O I) (c : Place) (w v : World O) (t : Path) (i : Entry) (r : Reply)
+      (early late : List (Event O)) (next : Event O) →
+      Visits prog (Runs prog) w None t i v (Some r) → v.moves ≡ [] → v.tape ≡ [] →
+      view c w.tape ≡ early ++ next ∷ late → ReadsMove next → IsAnswer next.what →
+      IsUnended early → outcome_so_far early ≡ Waiting
+  pub ends : (prog : Table O I) (c : Place) (w v : World O) (t : Path) (i : Entry) (r : Reply)
+      (m : ℕ) (early late : List (Event O)) (p : Place) (h : Height) (x : Cause)
+      (more : List (Move O)) →
+      Visits prog (Runs prog) w None t i v (Some r) → v.moves ≡ [] → v.tape ≡ [] →
+      view c w.tape ≡ early ++ event p (Back h (Replied (Cut x))) ∷ late → rise_to h p ≡ None →
+      IsUnended early → steps_of early ≤ m → (V : Tree O) ×
+      React prog (at w.tree c) (moves_of early ++ Come (Replied (Cut x)) ∷ more) m Ended
+      (outs_of early) V
 
 -- the last entry ended by this exit, or the playing is over
 abbrev pub HasExited : {O : Type 0} → Player O → ℤ → Type 0

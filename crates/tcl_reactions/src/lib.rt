@@ -3,8 +3,9 @@
 //! each law holds for every table of commands.
 #![tactic(auto)]
 
-ghost use Rattle.tcl_reactions.specs.Example.{WorkedPlayings};
+ghost use Rattle.tcl_reactions.specs.Example.{WorkedMisfits, WorkedPlayings};
 ghost use Rattle.tcl_reactions.specs.Laws.{DepthsStay, NeverStuck, OneOutcome, PlayedIsReact};
+ghost use Rattle.tcl_reactions.specs.Laws.{ReactsBefore};
 
 /// What comes of playing moves to a tree is what that tree does by itself with them.
 pub fn played_is_react<O, I>()
@@ -14,6 +15,12 @@ pub fn played_is_react<O, I>()
 /// A tree, moves and a budget come to one outcome, whichever of the six it is.
 pub fn one_outcome<O, I>()
     ensures { OneOutcome O I }
+{}
+
+/// Wherever control comes into a subtree in a whole evaluation, there is what the subtree does by
+/// itself with the moves until then.
+pub fn reacts_before<O, I>()
+    ensures { ReactsBefore O I }
 {}
 
 /// What is played leaves each depth as it was.
@@ -29,4 +36,9 @@ pub fn never_stuck<O>()
 /// Worked playings: one of each outcome.
 pub fn worked_playings()
     ensures { WorkedPlayings }
+{}
+
+/// Worked misfits: what answers no request, and what no alias.
+pub fn worked_misfits()
+    ensures { WorkedMisfits }
 {}

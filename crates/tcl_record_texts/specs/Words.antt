@@ -10,7 +10,7 @@ use Rattle.tcl_core.specs.Entries.Answer.{Replied, Heard}
 use Rattle.tcl_core.specs.Entries.Entry.{Eval, CallWords, InvokeHidden, SetAlias, ClearAlias, Hide}
 use Rattle.tcl_core.specs.Entries.Entry.{Expose, SetCountLimit, SetDepthLimit, Create, Delete, Ask}
 use Rattle.tcl_core.specs.Entries.Entry.{AskHost}
-use Rattle.tcl_core.specs.Entries.HostReply.{Opened, Bytes, TheEnd, Accepted, Is, Fails}
+use Rattle.tcl_core.specs.Entries.HostReply.{Opened, Line, TheEnd, TheRest, Accepted, Is, Fails}
 use Rattle.tcl_core.specs.Entries.Question.{Exists, IsSafe, Aliases, AliasOf, Hidden, Slaves}
 use Rattle.tcl_core.specs.Entries.Question.{CountLimitOf, DepthLimitOf}
 use Rattle.tcl_core.specs.Entries.Request.{Open, ReadLine, ReadAll, Write, Flush, Close, AtEnd}
@@ -82,11 +82,12 @@ reply_words (Stop n m) = codes "stop" ∷ decimal n ∷ meter_word m ∷ []
 reply_words (Exit n) = codes "exit" ∷ signed_decimal n ∷ []
 reply_words (Cut c) = codes "ended" ∷ []
 
--- of bytes that were read how many they are
+-- of a line that was read, and of all that was left, how many bytes they are
 abbrev pub heard_words : HostReply → List Text
 heard_words (Opened channel) = codes "opened" ∷ channel ∷ []
-heard_words (Bytes bytes) = codes "bytes" ∷ decimal (length bytes) ∷ []
+heard_words (Line bytes) = codes "line" ∷ decimal (length bytes) ∷ []
 heard_words TheEnd = codes "end" ∷ []
+heard_words (TheRest bytes) = codes "rest" ∷ decimal (length bytes) ∷ []
 heard_words Accepted = codes "done" ∷ []
 heard_words (Is true) = codes "at-end" ∷ []
 heard_words (Is false) = codes "not-at-end" ∷ []

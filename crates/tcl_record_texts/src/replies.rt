@@ -59,9 +59,9 @@ fn heard_words(alloc: Global, reply: &HostReply) -> Result<Vec<Text>, AllocError
 {
     match reply {
         HostReply::Opened(channel) => two(alloc, "opened", channel),
-        HostReply::Line(bytes) => two(alloc, "bytes", &count_text(alloc, bytes.len())?),
-        HostReply::Rest(bytes) => two(alloc, "bytes", &count_text(alloc, bytes.len())?),
+        HostReply::Line(bytes) => two(alloc, "line", &count_text(alloc, bytes.len())?),
         HostReply::End => one(alloc, "end"),
+        HostReply::Rest(bytes) => two(alloc, "rest", &count_text(alloc, bytes.len())?),
         HostReply::Done => one(alloc, "done"),
         HostReply::AtEnd(true) => one(alloc, "at-end"),
         HostReply::AtEnd(false) => one(alloc, "not-at-end"),

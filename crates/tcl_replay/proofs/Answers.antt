@@ -21,7 +21,7 @@ use Rattle.tcl_tree.specs.declared.tree.Tree.{Tree as Table}
 use Rattle.tcl_recorder.specs.Records.{RecordView}
 use Rattle.tcl_recorder.specs.declared.recorder.Recorder.{Recorder}
 use Rattle.tcl_recorder.proofs.Fates as fates
-use Rattle.tcl_replay.specs.Watched.{IfDeleted, IfEnds, IfRefused, IsDeletion, IsEntryRun, IsRecord, IsRecorded, Stops, Watches, answer_if, answer_of, recorder_of}
+use Rattle.tcl_replay.specs.Watched.{IfDeleted, IfEnds, IfRefused, IsDeletion, IsEntryRun, IsRecord, IsRecorded, Stops, Watches, answer_if, answer_of, recorder_of, watching}
 use Rattle.tcl_replay.specs.declared.watching.Unwatched.{Unwatched}
 use Rattle.tcl_replay.specs.declared.watching.Unwatched.TheVariants as unwatched
 use Rattle.tcl_replay.proofs.Stopped.{obeys_entry}
@@ -57,7 +57,7 @@ module _ {S : Type 0} (step : S → Request → HostReply → S → Type 0) (old
   ended_so false e kept run = (kept, false, refl, run)
 
   pub watches : (ended : Result End Refused) (kept : RecordView) (deleted : Bool) → IfErr ended (λ f. f ≡ refused.Memory) → (IsErrOf ended refused.Memory → (marks_of new).broken ≡ true) → IfErr ended (λ f. Given_up) → IfOk ended (Ran kept deleted) →
-      Watches step old o path script limit watched new z (answer_of ended kept deleted)
+      Watches step (watching old o path script limit watched) new z (answer_of ended kept deleted)
   watches (Ok e) kept deleted m b g run = record {
     memory = no_refusal (λ f. (f ≡ refused.Memory) × ((marks_of new).broken ≡ true)) deleted e kept;
     given_up = no_refusal (λ f. Given_up) deleted e kept;
@@ -66,7 +66,7 @@ module _ {S : Type 0} (step : S → Request → HostReply → S → Type 0) (old
   watches (Err f) kept deleted m b g run = record { memory = (m, b (ap (λ (x : Refused). Err x) m)); given_up = g; made = tt }
 
   -- memory was wanted before anything was done
-  pub wants : (marks_of new).broken ≡ true → z ≡ o → Watches step old o path script limit watched new z (Err (unwatched.Refused refused.Memory))
+  pub wants : (marks_of new).broken ≡ true → z ≡ o → Watches step (watching old o path script limit watched) new z (Err (unwatched.Refused refused.Memory))
   wants b same = record { memory = (refl, b); given_up = subst (λ (u : S). Lost step old path script (root_count old + limit) o u) (sym same) (not_begun step old path script (root_count old + limit) o); made = tt }
 
   -- what is missing from the record is nothing
@@ -85,18 +85,18 @@ module _ {S : Type 0} (step : S → Request → HostReply → S → Type 0) (old
     taped = run.taped;
   }
 
-  pub runs : (result : Result (End × RecordView) Unwatched) → Watches step old o path script limit watched new z result → IfEnds result (IsRun (hosted step) old o path script (root_count old + limit) new z)
+  pub runs : (result : Result (End × RecordView) Unwatched) → Watches step (watching old o path script limit watched) new z result → IfEnds result (IsRun (hosted step) old o path script (root_count old + limit) new z)
   runs (Ok r) w = w.made.3.run
   runs (Err (unwatched.Deleted e)) w = w.made.3.run
   runs (Err (unwatched.Refused f)) w = tt
 
-  pub wholes : (result : Result (End × RecordView) Unwatched) → Watches step old o path script limit watched new z result → IfEnds result (IsWhole step old o path script limit new z)
+  pub wholes : (result : Result (End × RecordView) Unwatched) → Watches step (watching old o path script limit watched) new z result → IfEnds result (IsWhole step old o path script limit new z)
   wholes (Ok r) w = w.made.3.whole
   wholes (Err (unwatched.Deleted e)) w = w.made.3.whole
   wholes (Err (unwatched.Refused f)) w = tt
 
   abbrev Recorded : List (Event Own) → End → Type 0
-  Recorded crossings e = IsRecorded step old o path script limit watched crossings new z e
+  Recorded crossings e = IsRecorded step (watching old o path script limit watched) crossings new z e
 
   one_run : (kept : RecordView) (deleted : Bool) (e : End) → is_some (tree_of old watched) ≡ true → Ran kept deleted e → Recorded kept.crossings e
   one_run kept deleted e there run =
@@ -116,14 +116,14 @@ module _ {S : Type 0} (step : S → Request → HostReply → S → Type 0) (old
         taped = run.taped;
       }
 
-  its_record : (kept : RecordView) (deleted : Bool) (e : End) → is_some (tree_of old watched) ≡ true → Ran kept deleted e → deleted ≡ false → IsRecord step old o path script limit watched kept new z e
+  its_record : (kept : RecordView) (deleted : Bool) (e : End) → is_some (tree_of old watched) ≡ true → Ran kept deleted e → deleted ≡ false → IsRecord step (watching old o path script limit watched) kept new z e
   unfolding one_run
   its_record kept deleted e there run f = (
     ap (λ (k : RecordView). k.watched) run.entry.kept,
     (one_run kept deleted e there run, fates.spared watched (visit path (Eval script) run.entry.events run.reply) (sym run.entry.fate ∙ f), tt),
   )
 
-  its_stops : (kept : RecordView) (deleted : Bool) (e : End) → is_some (tree_of old watched) ≡ true → Ran kept deleted e → deleted ≡ false → Stops step old o path script limit watched kept new z e
+  its_stops : (kept : RecordView) (deleted : Bool) (e : End) → is_some (tree_of old watched) ≡ true → Ran kept deleted e → deleted ≡ false → Stops step (watching old o path script limit watched) kept new z e
   unfolding one_run
   its_stops kept deleted e there run f = (
     one_run kept deleted e there run,
@@ -131,7 +131,7 @@ module _ {S : Type 0} (step : S → Request → HostReply → S → Type 0) (old
     obeys_entry Own watched run.entry.events path path None None (Eval script) run.reply (stopping (language (marks_of old).integers) watched path _ _ _ _ run.runs refl),
   )
 
-  its_deletion : (kept : RecordView) (deleted : Bool) (e : End) → is_some (tree_of old watched) ≡ true → Ran kept deleted e → deleted ≡ true → IsDeletion step old o path script limit watched new z e
+  its_deletion : (kept : RecordView) (deleted : Bool) (e : End) → is_some (tree_of old watched) ≡ true → Ran kept deleted e → deleted ≡ true → IsDeletion step (watching old o path script limit watched) new z e
   unfolding one_run
   its_deletion kept deleted e there run f = (
     kept.crossings,
@@ -147,28 +147,28 @@ module _ {S : Type 0} (step : S → Request → HostReply → S → Type 0) (old
   deleted_is x kept true e = refl
   deleted_is x kept false e = absurd cc
 
-  pub records : (result : Result (End × RecordView) Unwatched) → is_some (tree_of old watched) ≡ true → Watches step old o path script limit watched new z result →
-      IfOk result (λ r. IsRecord step old o path script limit watched r.1 new z r.0)
+  pub records : (result : Result (End × RecordView) Unwatched) → is_some (tree_of old watched) ≡ true → Watches step (watching old o path script limit watched) new z result →
+      IfOk result (λ r. IsRecord step (watching old o path script limit watched) r.1 new z r.0)
   records (Ok r) there w =
       let is = ok_is r w.made.0 w.made.1 w.made.2 in
-      subst (λ (k : RecordView). IsRecord step old o path script limit watched k new z r.0) is.1 (its_record w.made.0 w.made.1 r.0 there w.made.3 is.0)
+      subst (λ (k : RecordView). IsRecord step (watching old o path script limit watched) k new z r.0) is.1 (its_record w.made.0 w.made.1 r.0 there w.made.3 is.0)
   records (Err f) there w = tt
 
-  pub stops : (result : Result (End × RecordView) Unwatched) → is_some (tree_of old watched) ≡ true → Watches step old o path script limit watched new z result →
-      IfOk result (λ r. Stops step old o path script limit watched r.1 new z r.0)
+  pub stops : (result : Result (End × RecordView) Unwatched) → is_some (tree_of old watched) ≡ true → Watches step (watching old o path script limit watched) new z result →
+      IfOk result (λ r. Stops step (watching old o path script limit watched) r.1 new z r.0)
   stops (Ok r) there w =
       let is = ok_is r w.made.0 w.made.1 w.made.2 in
-      subst (λ (k : RecordView). Stops step old o path script limit watched k new z r.0) is.1 (its_stops w.made.0 w.made.1 r.0 there w.made.3 is.0)
+      subst (λ (k : RecordView). Stops step (watching old o path script limit watched) k new z r.0) is.1 (its_stops w.made.0 w.made.1 r.0 there w.made.3 is.0)
   stops (Err f) there w = tt
 
-  pub deletions : (result : Result (End × RecordView) Unwatched) → is_some (tree_of old watched) ≡ true → Watches step old o path script limit watched new z result →
-      IfDeleted result (IsDeletion step old o path script limit watched new z)
+  pub deletions : (result : Result (End × RecordView) Unwatched) → is_some (tree_of old watched) ≡ true → Watches step (watching old o path script limit watched) new z result →
+      IfDeleted result (IsDeletion step (watching old o path script limit watched) new z)
   deletions (Ok r) there w = tt
   deletions (Err (unwatched.Deleted x)) there w = its_deletion w.made.0 w.made.1 x there w.made.3 (deleted_is x w.made.0 w.made.1 w.made.2)
   deletions (Err (unwatched.Refused f)) there w = tt
 
   -- what follows of a record
-  pub follows : (P : RecordView → End → Type 0) (result : Result (End × RecordView) Unwatched) → IfOk result (λ r. IsRecord step old o path script limit watched r.1 new z r.0) →
-      ((r : RecordView) (e : End) → IsRecord step old o path script limit watched r new z e → P r e) → IfOk result (λ r. P r.1 r.0)
+  pub follows : (P : RecordView → End → Type 0) (result : Result (End × RecordView) Unwatched) → IfOk result (λ r. IsRecord step (watching old o path script limit watched) r.1 new z r.0) →
+      ((r : RecordView) (e : End) → IsRecord step (watching old o path script limit watched) r new z e → P r e) → IfOk result (λ r. P r.1 r.0)
   follows P (Ok r) w k = k r.1 r.0 w
   follows P (Err f) w k = tt

@@ -13,12 +13,13 @@ use Rattle.tcl_eval.specs.Running.{root_count, root_limit}
 use Rattle.tcl_eval.specs.declared.running.End.{End}
 use Rattle.tcl_host.specs.declared.reply.HostReply.{HostReply}
 use Rattle.tcl_host.specs.declared.request.Request.{Request}
-use Rattle.tcl_isolation.specs.Laws.{IsWithin, Suffices}
+use Rattle.tcl_isolation.specs.Laws.{DoesUntil, IsWithin, Suffices}
 use Rattle.tcl_isolation.specs.Scripts as laws
 use Rattle.tcl_isolation.specs.Visits.{IsBelowTheTop, WatchedVisit, visit}
 use Rattle.tcl_isolation.proofs.Hosts.{host_untouched}
 use Rattle.tcl_isolation.proofs.Safe as safe
 use Rattle.tcl_isolation.proofs.Untouching.{rest_untouched}
+use Rattle.tcl_isolation.proofs.Until.{does_until}
 use Rattle.tcl_isolation.proofs.Watching as watching
 use Rattle.tcl_language_laws.specs.Language.{language}
 use Rattle.tcl_language.specs.Safety.{plain}
@@ -28,12 +29,12 @@ use Rattle.tcl_tree.specs.Own.{Own}
 use Rattle.tcl_tree.specs.TreeOf.{marks_of, tree_of}
 use Rattle.tcl_tree.specs.declared.tree.Tree.{Tree as Table}
 use Rattle.tcl_recorder.specs.Records.{RecordView}
-use Rattle.tcl_replay.specs.Watched.{AsksTheHostNothing, Counts, CountStaysWithin, IsRecord, IsRecorded, LeavesTheOutside, LimitsStay, Reacts, ReactsSo, ReactsUntil}
+use Rattle.tcl_replay.specs.Watched.{AsksTheHostNothing, Counts, CountStaysWithin, IsRecord, IsRecorded, LeavesTheOutside, LimitsStay, Reacts, ReactsSo, ReactsUntil, watching}
 use Rattle.tcl_replay.proofs.Below.{below_at, below_same, rest_back}
 
 module _ {S : Type 0} (step : S → Request → HostReply → S → Type 0) (old : Table) (o : S) (path : Path) (script : Text) (limit : ℕ) (c : Path) (r : RecordView) (new : Table) (z : S) (e : End) where
   abbrev pub One : Type 0
-  One = IsRecord step old o path script limit c r new z e
+  One = IsRecord step (watching old o path script limit c) r new z e
 
   abbrev style : Integers
   style = (marks_of old).integers
@@ -42,7 +43,7 @@ module _ {S : Type 0} (step : S → Request → HostReply → S → Type 0) (old
   abbrev T0 : Tree Own
   T0 = limited limit (tree_of old)
 
-  abbrev pub run_of : One → IsRecorded step old o path script limit c r.crossings new z e
+  abbrev pub run_of : One → IsRecorded step (watching old o path script limit c) r.crossings new z e
   run_of w = w.1.0
 
   pub visited : (w : One) → WatchedVisit (hosted step) (language style) T0 o path (Eval script) c r.crossings (run_of w).during z (run_of w).reply
@@ -81,9 +82,9 @@ module _ {S : Type 0} (step : S → Request → HostReply → S → Type 0) (old
       (h.0, h.1, h.2 ∙ sym (at_last w f))
 
   pub reacts_until : One → ReactsUntil old c r.crossings new
-  reacts_until w f early late whole u m le x told W re =
-      watching.until (hosted step) (language style) T0 (run_of w).during o z path (Eval script) c r.crossings (run_of w).reply (visited w) (run_of w).node m early late x told W f (stood w f) whole u (enough w m f le)
-      (subst (λ (A : Tree Own). React (language style) A (moves_of early) m x told W) (sym (at_first f)) re)
+  reacts_until w f early late whole u m le =
+      subst (λ (A : Tree Own). DoesUntil (language style) A early late m) (at_first f)
+      (does_until (hosted step) (language style) T0 (run_of w).during o z path (Eval script) c r.crossings (run_of w).reply (run_of w).node m (visited w) f (stood w f) (enough w m f le) early late whole u)
 
   pub leaves : One → LeavesTheOutside old o path c r.crossings new z
   leaves w u there f =
@@ -111,7 +112,7 @@ module _ {S : Type 0} (step : S → Request → HostReply → S → Type 0) (old
       safe.counts (hosted step) (language style) T0 (run_of w).during o z path (Eval script) c r.crossings (run_of w).reply (visited w) (run_of w).node f (stood w f) in
       ap count_at (same_last w f) ∙ h ∙ ap (λ (x : Option (Node Own)). count_at x + steps_of (view c (visit path (Eval script) (run_of w).events (run_of w).reply))) (sym (run_of w).stood)
 
-  pub counts : One → Counts step old o path script limit c r new z e
+  pub counts : One → Counts step (watching old o path script limit c) r new z e
   counts w f = (run_of w, w.1.1, count_rises w f)
 
   own_limit : (w : One) (l : ℕ) → limit_at (tree_of old c) ≡ Some l → (run_of w).node.limit ≡ Some l
@@ -133,7 +134,7 @@ module _ {S : Type 0} (step : S → Request → HostReply → S → Type 0) (old
   last_below : (w : One) → IsBelowTheTop c → (q : Path) → tree_of new (c ++ q) ≡ (run_of w).during (c ++ q)
   last_below w f q = ap (λ (U : Tree Own). U q) (at_last w f)
 
-  pub limits_stay : laws.LimitsStay (hosted step) → One → LimitsStay step old o path script limit c r new z e
+  pub limits_stay : laws.LimitsStay (hosted step) → One → LimitsStay step (watching old o path script limit c) r new z e
   unfolding visited
   limits_stay law w f a = (
     λ u n is.

@@ -11,7 +11,7 @@ use Rattle.tcl_isolation.specs.Visits.{IsBelowTheTop}
 use Rattle.tcl_recorder.specs.Records.{RecordView}
 use Rattle.tcl_tree.specs.TreeOf.{tree_of}
 use Rattle.tcl_tree.specs.declared.tree.Tree.{Tree as Table}
-use Rattle.tcl_replay.specs.Watched.{IsRecord, happened}
+use Rattle.tcl_replay.specs.Watched.{IsRecord, happened, watching}
 
 -- One of them, in which so many steps are made in the subtree of the watched interpreter at c. No
 -- entry of the record raises the count limit that this one has at first, or takes it away.
@@ -24,10 +24,11 @@ pub record Run {S : Type 0} (step : S → Request → HostReply → S → Type 0
   pub limit : ℕ
   pub kept : RecordView
   pub end : End
-  pub recorded : IsRecord step old before path script limit c kept new after end
+  pub recorded : IsRecord step (watching old before path script limit c) kept new after end
   pub made : steps ≡ steps_of
       (view c
-      (happened step old before path script limit c kept.crossings new after end recorded.1.0))
+      (happened step (watching old before path script limit c) kept.crossings new after end
+      recorded.1.0))
   pub lowering : (l : ℕ) → limit_at (tree_of old c) ≡ Some l →
       AreLowering l (moves_of kept.crossings)
 

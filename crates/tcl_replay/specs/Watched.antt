@@ -22,10 +22,11 @@ use Rattle.tcl_eval.specs.declared.running.Refused.{Refused}
 use Rattle.tcl_eval.specs.declared.running.Refused.TheVariants as refused
 use Rattle.tcl_host.specs.declared.reply.HostReply.{HostReply}
 use Rattle.tcl_host.specs.declared.request.Request.{Request}
-use Rattle.tcl_isolation.specs.Laws.{IsWithin, Suffices}
+use Rattle.tcl_isolation.specs.Laws.{DoesUntil, IsWithin, Suffices}
 use Rattle.tcl_isolation.specs.Limits.{AreLowering}
 use Rattle.tcl_isolation.specs.Visits.{CallsNobody, IsBelowTheTop, visit}
-use Rattle.tcl_language.specs.Instructions.{fits}
+use Rattle.tcl_core.specs.Programs.{Table as LanguageTable}
+use Rattle.tcl_language.specs.Instructions.{Instr, fits}
 use Rattle.tcl_language_laws.specs.Language.{language}
 use Rattle.tcl_language.specs.Safety.{plain}
 use Rattle.tcl_run.specs.Outsides.{hosted}
@@ -82,53 +83,82 @@ IfRefused (Err (unwatched.Refused f)) P = P f
 
 -- ## The run and its record
 
+-- What is asked: that this script is evaluated in the interpreter at the path, over a tree and an
+-- outside as they stood, with so many steps at most, and the interpreter at `watched` is watched.
+pub record Watching (S : Type 0) : Type 0 where
+  pub tree : Table
+  pub outside : S
+  pub path : Path
+  pub script : Text
+  pub limit : ℕ
+  pub watched : Path
+
+abbrev pub watching : {S : Type 0} → Table → S → Path → Text → ℕ → Path → Watching S
+watching t o path script limit watched = record {
+  tree = t;
+  outside = o;
+  path = path;
+  script = script;
+  limit = limit;
+  watched = watched;
+}
+
+module _ {S : Type 0} (w : Watching S) where
+  -- the language of its tree
+  abbrev pub spoken : LanguageTable Own Instr
+  spoken = language (marks_of w.tree).integers
+
+  -- its tree, in which the root may be counted so many steps more
+  abbrev pub lent : Tree Own
+  lent = limited w.limit (tree_of w.tree)
+
+  -- all that happens in it, from the entry of the script to its end
+  abbrev pub visited : List (Event Own) → Reply → List (Event Own)
+  visited events reply = visit w.path (Eval w.script) events reply
+
 -- A run of the script is one entry into the interpreter at the path, in the tree whose root may be
 -- counted so many steps more; then the root has its own limit again. This happens in it, it takes
 -- the host from one state to the other, and the crossings are those of the boundary of the
--- interpreter at `watched`, which stood there at first. Just this is what happens in the whole
+-- interpreter that is watched, which stood there at first. Just this is what happens in the whole
 -- evaluation of the script, with replies that belong to the host.
-pub record IsRecorded {S : Type 0} (step : S → Request → HostReply → S → Type 0) (old : Table)
-    (o : S) (path : Path) (script : Text) (limit : ℕ) (watched : Path)
+pub record IsRecorded {S : Type 0} (step : S → Request → HostReply → S → Type 0) (w : Watching S)
     (crossings : List (Event Own)) (new : Table) (z : S) (e : End) : Type 0 where
   pub during : Tree Own
   pub reply : Reply
   pub events : List (Event Own)
-  pub visits : Visits (language (marks_of old).integers) (Runs (language (marks_of old).integers))
-      (before (limited limit (tree_of old)) (visit path (Eval script) events reply)) None path
-      (Eval script) (before during []) (Some reply)
-  pub outside : Chain (Crossings (hosted step)) [] (limited limit (tree_of old)) o events [] during z
-  pub recorded : crossings ≡ boundary watched (visit path (Eval script) events reply)
+  pub visits : Visits (spoken w) (Runs (spoken w)) (before (lent w) (visited w events reply)) None
+      w.path (Eval w.script) (before during []) (Some reply)
+  pub outside : Chain (Crossings (hosted step)) [] (lent w) w.outside events [] during z
+  pub recorded : crossings ≡ boundary w.watched (visited w events reply)
   pub node : Node Own
-  pub stood : tree_of old watched ≡ Some node
-  pub after : tree_of new ≡ effect [] (Limited (root_limit old)) during
-  pub ends : end_at path reply ≡ Some (ending_of e)
-  pub whole : IsWhole step old o path script limit new z e
-  pub taped : whole.whole.tape ≡ visit path (Eval script) events reply
+  pub stood : tree_of w.tree w.watched ≡ Some node
+  pub after : tree_of new ≡ effect [] (Limited (root_limit w.tree)) during
+  pub ends : end_at w.path reply ≡ Some (ending_of e)
+  pub whole : IsWhole step w.tree w.outside w.path w.script w.limit new z e
+  pub taped : whole.whole.tape ≡ visited w events reply
 
-module _ {S : Type 0} (step : S → Request → HostReply → S → Type 0) (old : Table) (o : S)
-    (path : Path) (script : Text) (limit : ℕ) (watched : Path) where
-  -- all that happened in it, from the entry to its end
+module _ {S : Type 0} (step : S → Request → HostReply → S → Type 0) (w : Watching S) where
+  -- all that happened in it
   abbrev pub happened : (crossings : List (Event Own)) (new : Table) (z : S) (e : End) →
-      IsRecorded step old o path script limit watched crossings new z e → List (Event Own)
-  happened crossings new z e w = visit path (Eval script) w.events w.reply
+      IsRecorded step w crossings new z e → List (Event Own)
+  happened crossings new z e run = visited w run.events run.reply
 
   -- There is such a run in which the watched interpreter isn't dropped, and of which this is so.
   abbrev pub IsRecordWith : (crossings : List (Event Own)) (new : Table) (z : S) (e : End) →
       (List (Event Own) → Type 0) → Type 0
-  IsRecordWith crossings new z e P =
-      (w : IsRecorded step old o path script limit watched crossings new z e) ×
-      IsSpared watched (happened crossings new z e w) × P (happened crossings new z e w)
+  IsRecordWith crossings new z e P = (run : IsRecorded step w crossings new z e) ×
+      IsSpared w.watched (happened crossings new z e run) × P (happened crossings new z e run)
 
   -- The record has the crossings of the watched interpreter's boundary in the run, in which that
   -- one isn't dropped.
   abbrev pub IsRecord : RecordView → Table → S → End → Type 0
-  IsRecord r new z e = (r.watched ≡ watched) × IsRecordWith r.crossings new z e (λ τ. Unit {0})
+  IsRecord r new z e = (r.watched ≡ w.watched) × IsRecordWith r.crossings new z e (λ τ. Unit {0})
 
   -- There is such a run in which the watched interpreter is dropped.
   abbrev pub IsDeletion : Table → S → End → Type 0
   IsDeletion new z e = (crossings : List (Event Own)) ×
-      (w : IsRecorded step old o path script limit watched crossings new z e) ×
-      (IsSpared watched (happened crossings new z e w) → Prim.⊥)
+      (run : IsRecorded step w crossings new z e) ×
+      (IsSpared w.watched (happened crossings new z e run) → Prim.⊥)
 
 -- ## What the watched interpreter does by itself
 
@@ -149,15 +179,19 @@ ReactsSo old c crossings new = IsBelowTheTop c → IsUnended crossings → (m : 
     React (language (marks_of old).integers) (at (tree_of old) c) (moves_of crossings) m x told W →
     (x ≡ outcome_of crossings Finished) × (told ≡ outs_of crossings) × (W ≡ at (tree_of new) c)
 
--- What the record tells up to some place before the first end from outside is a beginning of what
--- the subtree by itself does with the moves up to there.
+-- Up to each place of the record before which no entry was ended from outside, the subtree by
+-- itself does with the moves what the record tells. Where control comes in there, with the moves
+-- before it waits at its open call, or no call is open, and it tells just what the record tells
+-- before; where the answer that comes ends the call from outside, with all moves of the record it
+-- is ended so and tells just that too; and it does nothing else with them. Where the record tells
+-- something there, it does so with the moves but the last, which is the last crossing before.
+-- Wherever the place is, what any reaction to the moves before tells begins with what the record
+-- tells before.
 abbrev pub ReactsUntil : Table → Path → List (Event Own) → Table → Type 0
 ReactsUntil old c crossings new = IsBelowTheTop c → (early late : List (Event Own)) →
     crossings ≡ early ++ late → IsUnended early → (m : ℕ) →
     Suffices m (tree_of old c) (tree_of new c) →
-    (x : Outcome) (told : List (Event Own)) (W : Tree Own) →
-    React (language (marks_of old).integers) (at (tree_of old) c) (moves_of early) m x told W →
-    (more : List (Event Own)) × (told ≡ outs_of early ++ more)
+    DoesUntil (language (marks_of old).integers) (at (tree_of old) c) early late m
 
 -- ## What is outside of it
 
@@ -176,35 +210,42 @@ AsksTheHostNothing old c crossings = IsBelowTheTop c → IsSafeAt (tree_of old) 
 
 -- ## Counted steps
 
-module _ {S : Type 0} (step : S → Request → HostReply → S → Type 0) (old : Table) (o : S)
-    (path : Path) (script : Text) (limit : ℕ) (c : Path) where
+-- an interpreter that stands has the limits that it had
+abbrev pub KeepsLimits : Option (Node Own) → Option (Node Own) → Type 0
+KeepsLimits was is = (n : Node Own) → was ≡ Some n → (m : Node Own) × (is ≡ Some m) ×
+    (m.limit ≡ n.limit) × (m.depth_limit ≡ n.depth_limit)
+
+module _ {S : Type 0} (step : S → Request → HostReply → S → Type 0) (w : Watching S) where
+  -- the interpreter at q below the watched one, before and afterwards
+  abbrev pub was_at : Path → Option (Node Own)
+  was_at q = tree_of w.tree (w.watched ++ q)
+
+  abbrev pub is_at : Table → Path → Option (Node Own)
+  is_at new q = tree_of new (w.watched ++ q)
+
   -- The watched interpreter's count rises by the steps that were made in its subtree.
   abbrev pub Counts : RecordView → Table → S → End → Type 0
-  Counts r new z e = IsBelowTheTop c →
-      IsRecordWith step old o path script limit c r.crossings new z e
-      (λ τ. count_at (tree_of new c) ≡ count_at (tree_of old c) + steps_of (view c τ))
+  Counts r new z e = IsBelowTheTop w.watched → IsRecordWith step w r.crossings new z e
+      (λ τ. count_at (tree_of new w.watched)
+      ≡ count_at (tree_of w.tree w.watched) + steps_of (view w.watched τ))
 
   -- Once a stop that names the watched interpreter or one above it is raised in its subtree, or
   -- comes into it as an answer, no step is made there before the stop has left it.
   abbrev pub Stops : RecordView → Table → S → End → Type 0
-  Stops r new z e = IsRecordWith step old o path script limit c r.crossings new z e (λ τ. Obeys c τ)
-
-  -- an interpreter that stands has the limits that it had
-  abbrev pub KeepsLimits : Option (Node Own) → Option (Node Own) → Type 0
-  KeepsLimits was is = (n : Node Own) → was ≡ Some n → (m : Node Own) × (is ≡ Some m) ×
-      (m.limit ≡ n.limit) × (m.depth_limit ≡ n.depth_limit)
+  Stops r new z e = IsRecordWith step w r.crossings new z e (λ τ. Obeys w.watched τ)
 
   -- No script in a safe watched interpreter changes a limit. The interpreter at q below it, for
   -- which no entry of the record asks a limit, has the limits that it had, or is new and has those
   -- of a new one; and the ones that it had where it is neither made nor dropped, as the watched
   -- interpreter itself is not.
   abbrev pub LimitsStay : RecordView → Table → S → End → Type 0
-  LimitsStay r new z e = IsBelowTheTop c → IsSafeAt (tree_of old) c →
-      (Unasked [] (moves_of r.crossings) → KeepsLimits (tree_of old c) (tree_of new c)) ×
-      IsRecordWith step old o path script limit c r.crossings new z e
+  LimitsStay r new z e = IsBelowTheTop w.watched → IsSafeAt (tree_of w.tree) w.watched →
+      (Unasked [] (moves_of r.crossings) →
+      KeepsLimits (tree_of w.tree w.watched) (tree_of new w.watched)) ×
+      IsRecordWith step w r.crossings new z e
       (λ τ. (q : Path) → Unasked q (moves_of r.crossings) →
-      AsLimited (tree_of old (c ++ q)) (tree_of new (c ++ q)) ×
-      (IsStanding (c ++ q) τ → KeepsLimits (tree_of old (c ++ q)) (tree_of new (c ++ q))))
+      AsLimited (was_at q) (is_at new q) ×
+      (IsStanding (w.watched ++ q) τ → KeepsLimits (was_at q) (is_at new q)))
 
 -- With a count limit that no entry of the record raises or takes away, the watched interpreter,
 -- safe or trusted, is counted at most to the greater of the limit and the count before: to each
@@ -248,13 +289,12 @@ recorder_of o watched = record {
 
 -- What an evaluation answers that was recorded: there was such a run; or memory was wanted, and it
 -- was given up on its way, with the host in the last state there.
-pub record Watches {S : Type 0} (step : S → Request → HostReply → S → Type 0) (old : Table) (o : S)
-    (path : Path) (script : Text) (limit : ℕ) (watched : Path) (new : Table) (z : S)
-    (result : Result (End × RecordView) Unwatched) : Type 0 where
+pub record Watches {S : Type 0} (step : S → Request → HostReply → S → Type 0) (w : Watching S)
+    (new : Table) (z : S) (result : Result (End × RecordView) Unwatched) : Type 0 where
   pub memory : IfRefused result (λ f. (f ≡ refused.Memory) × ((marks_of new).broken ≡ true))
-  pub given_up : IfRefused result (λ f. IsGivenUp (ways (hosted step) (λ a b. b ≡ a)) old o path
-      script (root_count old + limit) z)
+  pub given_up : IfRefused result (λ f. IsGivenUp (ways (hosted step) (λ a b. b ≡ a)) w.tree
+      w.outside w.path w.script (root_count w.tree + w.limit) z)
   pub made : IfEnds result (λ e. (kept : RecordView) × (deleted : Bool) ×
       (result ≡ answer_if deleted e kept) ×
-      IsEntryRun step old (recorder_of o watched) path script limit new
+      IsEntryRun step w.tree (recorder_of w.outside w.watched) w.path w.script w.limit new
       (record { outside = z; kept = kept; deleted = deleted; incomplete = false }) e)

@@ -13,7 +13,7 @@ use Rattle.tcl_tree.specs.Own.{Own}
 use Rattle.tcl_tree.specs.TreeOf.{marks_of, tree_of}
 use Rattle.tcl_tree.specs.declared.tree.Tree.{Tree as Table}
 use Rattle.tcl_recorder.specs.Records.{RecordView}
-use Rattle.tcl_replay.specs.Watched.{IsRecord}
+use Rattle.tcl_replay.specs.Watched.{IsRecord, watching}
 
 -- an evaluation that was watched, whose watched interpreter is below the top, and in which no entry
 -- into it was ended from outside
@@ -25,7 +25,7 @@ pub record World {S : Type 0} (step : S → Request → HostReply → S → Type
   pub script : Text
   pub limit : ℕ
   pub end : End
-  pub recorded : IsRecord step old before path script limit c r new after end
+  pub recorded : IsRecord step (watching old before path script limit c) r new after end
   pub below : IsBelowTheTop c
   pub unended : IsUnended r.crossings
 

@@ -15,6 +15,7 @@ ghost use Rattle.tcl_replay.specs.Watched.{AsksTheHostNothing, Counts, CountStay
 ghost use Rattle.tcl_replay.specs.Watched.{IfEnds, IfRefused, IsDeletion, IsEntryRun, IsRecord};
 ghost use Rattle.tcl_replay.specs.Watched.{LeavesTheOutside, LimitsStay, Reacts, ReactsSo};
 ghost use Rattle.tcl_replay.specs.Watched.{ReactsUntil, Stops, Watches, answer_of, unwatchable};
+ghost use Rattle.tcl_replay.specs.Watched.{watching};
 ghost use Rattle.tcl_replay.specs.declared.watching.Unwatched.TheVariants as unwatched;
 
 use std::alloc::{AllocError, Global};
@@ -87,11 +88,11 @@ pub fn eval_watched<H: Host>(
     ensures whole { IfEnds result.1
         (λ end. IsWhole H.step tree.old host path.now script.now limit tree.new result.0 end) }
     ensures recorded { IfOk result.1
-        (λ r. IsRecord H.step tree.old host path.now script.now limit watched.now r.1 tree.new
-        result.0 r.0) }
+        (λ r. IsRecord H.step (watching tree.old host path.now script.now limit watched.now) r.1
+        tree.new result.0 r.0) }
     ensures deleted { IfDeleted result.1
-        (λ end. IsDeletion H.step tree.old host path.now script.now limit watched.now tree.new
-        result.0 end) }
+        (λ end. IsDeletion H.step (watching tree.old host path.now script.now limit watched.now)
+        tree.new result.0 end) }
     ensures reacts { IfOk result.1 (λ r. Reacts tree.old watched.now r.1.crossings tree.new) }
     ensures reacts_so { IfOk result.1 (λ r. ReactsSo tree.old watched.now r.1.crossings tree.new) }
     ensures reacts_until { IfOk result.1
@@ -101,16 +102,16 @@ pub fn eval_watched<H: Host>(
     ensures asks_nothing { IfOk result.1
         (λ r. AsksTheHostNothing tree.old watched.now r.1.crossings) }
     ensures counts { IfOk result.1
-        (λ r. Counts H.step tree.old host path.now script.now limit watched.now r.1 tree.new
-        result.0 r.0) }
+        (λ r. Counts H.step (watching tree.old host path.now script.now limit watched.now) r.1
+        tree.new result.0 r.0) }
     ensures stops { IfOk result.1
-        (λ r. Stops H.step tree.old host path.now script.now limit watched.now r.1 tree.new result.0
-        r.0) }
+        (λ r. Stops H.step (watching tree.old host path.now script.now limit watched.now) r.1
+        tree.new result.0 r.0) }
     ensures count_stays_within { IfOk result.1
         (λ r. CountStaysWithin tree.old watched.now r.1.crossings tree.new) }
     ensures limits_stay { IfOk result.1
-        (λ r. LimitsStay H.step tree.old host path.now script.now limit watched.now r.1 tree.new
-        result.0 r.0) }
+        (λ r. LimitsStay H.step (watching tree.old host path.now script.now limit watched.now) r.1
+        tree.new result.0 r.0) }
 {
     asks_the_host_nothing::<H>();
     limits_stay::<H>();
@@ -153,7 +154,7 @@ fn watch<H: Host>(
     watched: &[Text],
 ) -> (H, Result<(End, Record), Unwatched>)
     requires fit { unfit tree.old path.now script.now limit ≡ None }
-    ensures watches { Watches H.step tree.old host path.now script.now limit watched.now
+    ensures watches { Watches H.step (watching tree.old host path.now script.now limit watched.now)
         tree.new result.0
         result.1 }
     ensures marks { IfEnds result.1 (λ _. marks_of tree.new ≡ marks_of tree.old) }

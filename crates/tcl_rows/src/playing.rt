@@ -1,12 +1,16 @@
 //! Calls that play moves.
 //!
-//! A move is a line: `in` and the script that comes to the interpreter, `back` and the ordinary
-//! completion that answers a call, `exit`, an answer by the exit of status 3, or `ended`, an answer
-//! by an end from outside.
+//! A move is a line: `in` and the script that comes to the interpreter, or what answers a call.
+//! That is `back` and an ordinary completion; `stop` and how many levels up the interpreter is that
+//! a stop names; `exit`, the exit of status 3; `ended`, an end from outside; or what a host says:
+//! `line` and the line, `rest` and all that was left, `refused` and the number of a refusal.
 use crate::world::{Trees, no_call, number_of};
 use crate::writing;
 use std::alloc::{AllocError, Global};
 use tcl_flow::completion;
+use tcl_flow::stop::{Stop, StopKind};
+use tcl_host::bytes::Bytes;
+use tcl_host::reply::{HostRefusal, HostReply};
 use tcl_player::moves::{Move, moves_of};
 use tcl_recorder::crossing::{Answer, Reply};
 use tcl_replay::replaying::{Replayed, Unplayed};
@@ -40,11 +44,43 @@ fn answering(alloc: Global, text: &str) -> Result<Move, AllocError> {
     Ok(Move::Come(Answer::Replied(Reply::Completed(completion))))
 }
 
+/// A stop that answers a call.
+fn stopping(levels: &str) -> Result<Move, AllocError> {
+    match levels.parse::<usize>() {
+        Ok(levels_up) => Ok(Move::Come(Answer::Replied(Reply::Stopped(Stop {
+            levels_up,
+            kind: StopKind::Count,
+        })))),
+        Err(_) => Err(AllocError),
+    }
+}
+
+/// The refusal of a number.
+fn refusal_of(number: &str) -> HostRefusal {
+    match number {
+        "261" => HostRefusal::NoChannel,
+        "262" => HostRefusal::DeviceFault,
+        _ => HostRefusal::NotOpened,
+    }
+}
+
+/// What a host says that answers a call, by its word.
+fn heard(alloc: Global, word: &str, text: &str) -> Result<Move, AllocError> {
+    let reply = match word {
+        "line" => HostReply::Line(Bytes::copy_of(alloc, text.as_bytes())?),
+        "rest" => HostReply::Rest(Bytes::copy_of(alloc, text.as_bytes())?),
+        _ => HostReply::Refused(refusal_of(text)),
+    };
+    Ok(Move::Come(Answer::Heard(reply)))
+}
+
 /// The move of a line.
 fn move_of(alloc: Global, line: &str) -> Result<Move, AllocError> {
     match line.split_once(" ") {
         Some(("in", script)) => entering(alloc, script),
-        Some((_, text)) => answering(alloc, text),
+        Some(("back", text)) => answering(alloc, text),
+        Some(("stop", levels)) => stopping(levels),
+        Some((word, text)) => heard(alloc, word, text),
         None if line == "exit" => Ok(Move::Come(Answer::Replied(Reply::Exited(3)))),
         None => Ok(Move::Come(Answer::Replied(Reply::Ended))),
     }

@@ -5,5 +5,7 @@ pub mod Steady
 pub mod Plain
 pub mod Hosting
 pub mod Losing
+pub mod Keeping
 pub mod Proceeding
 pub mod Quiet
+pub mod Fitting

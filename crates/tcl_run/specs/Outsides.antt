@@ -5,7 +5,7 @@ use Rattle.tcl_core.specs.Endings.Reply.{Completed}
 use Rattle.tcl_core.specs.Entries.{Answer, Entry, HostReply}
 use Rattle.tcl_core.specs.Entries.Answer.{Replied, Heard}
 use Rattle.tcl_core.specs.Entries.Entry.{AskHost}
-use Rattle.tcl_core.specs.Entries.HostReply.{Opened, Bytes, TheEnd, Accepted, Is, Fails}
+use Rattle.tcl_core.specs.Entries.HostReply.{Opened, Line, TheEnd, TheRest, Accepted, Is, Fails}
 use Rattle.tcl_core.specs.Paths.{Path, Place, Height}
 use Rattle.tcl_core.specs.Programs.{Wait}
 use Rattle.tcl_core.specs.Runs.{is_own}
@@ -72,9 +72,9 @@ number_of refusal.NotOpened = 267
 -- the reply of a host, in the words of the core
 abbrev pub reply_of : TheirReply → HostReply
 reply_of (theirs.Opened channel) = Opened channel
-reply_of (theirs.Line line) = Bytes line
+reply_of (theirs.Line line) = Line line
 reply_of theirs.End = TheEnd
-reply_of (theirs.Rest bytes) = Bytes bytes
+reply_of (theirs.Rest bytes) = TheRest bytes
 reply_of theirs.Done = Accepted
 reply_of (theirs.AtEnd ended) = Is ended
 reply_of (theirs.Refused why) = Fails (number_of why)

@@ -1,5 +1,6 @@
 -- How a run goes through the table of interpreters.
-use Rattle.std.specs.Prelude.{◌≡◌, ℕ, ◌<◌, ◌-◌, ◌++◌, List, [], Option, Some, None, Result, Ok, Err}
+use Rattle.std.specs.Prelude.{◌≡◌, ℕ, ◌<◌, ◌≤◌, ◌-◌, ◌++◌, List, [], Option, Some, None, Result}
+use Rattle.std.specs.Prelude.{Ok, Err}
 use Rattle.std.specs.Option.{option_map}
 use Rattle.tcl_partial_runs.specs.Beginnings.{Begun}
 use Rattle.tcl_core.specs.Paths.{Place, Path}
@@ -97,6 +98,20 @@ pub record IsLevel (old new : table.Tree) : Type 0 where
   pub marks : marks_of new ≡ marks_of old
   pub keys : (q : Path) → key_of new q ≡ key_of old q
   pub meters : (q : Path) → meters_at (tree_of new) q ≡ meters_at (tree_of old) q
+
+-- What any evaluation leaves as it is, however it ends: what is in use keeps its key and its depth,
+-- and the outside may hand in no more entries than before.
+pub record Keeps {S : Type 0} (entries : S → ℕ) (old new : table.Tree) (o z : S) : Type 0 where
+  pub steady : IsSteady old new
+  pub left : entries z ≤ entries o
+
+-- The same of what evaluates no script. What may have become of the outside, where an evaluation is
+-- given up behind it, is told too.
+pub record KeepsAndLoses {S : Type 0} (entries : S → ℕ) (loses : S → S → Type 0)
+    (old new : table.Tree) (o z : S) : Type 0 where
+  pub steady : IsSteady old new
+  pub left : entries z ≤ entries o
+  pub lost : IsLoss loses o z
 
 -- an evaluation is in progress in the interpreter that the place names
 abbrev pub IsRunning : table.Tree → table_place.Place → Type 0

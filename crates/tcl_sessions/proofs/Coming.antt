@@ -1,20 +1,18 @@
 -- What comes back to calls that leave the tree.
 use Rattle.std.proofs.Common.{◌≡◌, ℕ, true, List, Option, Some, None, refl, sym, subst, inl, inr}
-use Rattle.std.specs.Prelude.{Result, Ok, Err, IsTrue}
+use Rattle.std.specs.Prelude.{Result, Ok, Err}
 use Rattle.tcl_core.specs.Endings.{Reply}
 use Rattle.tcl_core.specs.Entries as core
-use Rattle.tcl_core.specs.Entries.{Entry, answers}
+use Rattle.tcl_core.specs.Entries.{Entry}
 use Rattle.tcl_core.specs.Entries.Answer.{Replied, Heard}
 use Rattle.tcl_core.specs.Entries.Entry.{AskHost}
 use Rattle.tcl_core.specs.Paths.{Height, Path}
 use Rattle.tcl_core.specs.Runs.{is_own}
 use Rattle.tcl_core.specs.Trees.{Tree}
-use Rattle.tcl_host.specs.Replies.{is_reply_to}
 use Rattle.tcl_host.specs.declared.reply.HostReply.{HostReply}
-use Rattle.tcl_host.specs.declared.reply.HostReply.TheVariants as reply
 use Rattle.tcl_host.specs.declared.request.Request.{Request}
-use Rattle.tcl_host.specs.declared.request.Request.TheVariants as request
 use Rattle.tcl_run.proofs.Endings.{Interrupts-more}
+use Rattle.tcl_run.proofs.Fitting.{own_reply}
 use Rattle.tcl_run.specs.Ends.{Interrupts}
 use Rattle.tcl_run.specs.Entering.{request_of}
 use Rattle.tcl_run.specs.Outsides.{Answers, ComesNext, OnEntry, reply_of}
@@ -28,58 +26,6 @@ use Rattle.tcl_sessions.specs.Standing.ComesBack.{again, heard, waits}
 use Rattle.tcl_sessions.specs.declared.standing.Answer.{Answer}
 use Rattle.tcl_sessions.specs.declared.standing.Standing.{Standing}
 use Rattle.tcl_tree.specs.Own.{Own}
-
--- a reply to a request is one that the request may have
-pub own_reply : (a : HostReply) (q : Request) → IsTrue (is_reply_to a q) → answers (request_of q) (reply_of a) ≡ true
-own_reply (reply.Opened c) (request.Open n m) h = refl
-own_reply (reply.Opened c) (request.ReadLine d) h = cc
-own_reply (reply.Opened c) (request.ReadAll d) h = cc
-own_reply (reply.Opened c) (request.Write d t) h = cc
-own_reply (reply.Opened c) (request.Flush d) h = cc
-own_reply (reply.Opened c) (request.Close d) h = cc
-own_reply (reply.Opened c) (request.Eof d) h = cc
-own_reply (reply.Line l) (request.Open n m) h = cc
-own_reply (reply.Line l) (request.ReadLine d) h = refl
-own_reply (reply.Line l) (request.ReadAll d) h = cc
-own_reply (reply.Line l) (request.Write d t) h = cc
-own_reply (reply.Line l) (request.Flush d) h = cc
-own_reply (reply.Line l) (request.Close d) h = cc
-own_reply (reply.Line l) (request.Eof d) h = cc
-own_reply reply.End (request.Open n m) h = cc
-own_reply reply.End (request.ReadLine d) h = refl
-own_reply reply.End (request.ReadAll d) h = cc
-own_reply reply.End (request.Write d t) h = cc
-own_reply reply.End (request.Flush d) h = cc
-own_reply reply.End (request.Close d) h = cc
-own_reply reply.End (request.Eof d) h = cc
-own_reply (reply.Rest b) (request.Open n m) h = cc
-own_reply (reply.Rest b) (request.ReadLine d) h = cc
-own_reply (reply.Rest b) (request.ReadAll d) h = refl
-own_reply (reply.Rest b) (request.Write d t) h = cc
-own_reply (reply.Rest b) (request.Flush d) h = cc
-own_reply (reply.Rest b) (request.Close d) h = cc
-own_reply (reply.Rest b) (request.Eof d) h = cc
-own_reply reply.Done (request.Open n m) h = cc
-own_reply reply.Done (request.ReadLine d) h = cc
-own_reply reply.Done (request.ReadAll d) h = cc
-own_reply reply.Done (request.Write d t) h = refl
-own_reply reply.Done (request.Flush d) h = refl
-own_reply reply.Done (request.Close d) h = refl
-own_reply reply.Done (request.Eof d) h = cc
-own_reply (reply.AtEnd b) (request.Open n m) h = cc
-own_reply (reply.AtEnd b) (request.ReadLine d) h = cc
-own_reply (reply.AtEnd b) (request.ReadAll d) h = cc
-own_reply (reply.AtEnd b) (request.Write d t) h = cc
-own_reply (reply.AtEnd b) (request.Flush d) h = cc
-own_reply (reply.AtEnd b) (request.Close d) h = cc
-own_reply (reply.AtEnd b) (request.Eof d) h = refl
-own_reply (reply.Refused w) (request.Open n m) h = refl
-own_reply (reply.Refused w) (request.ReadLine d) h = refl
-own_reply (reply.Refused w) (request.ReadAll d) h = refl
-own_reply (reply.Refused w) (request.Write d t) h = refl
-own_reply (reply.Refused w) (request.Flush d) h = refl
-own_reply (reply.Refused w) (request.Close d) h = refl
-own_reply (reply.Refused w) (request.Eof d) h = refl
 
 -- an answer of before comes back
 pub comes_again : (T : Tree Own) (o z : Standing) (p : Path) (h : Height) (i : Entry) (a : Answer) (t : Result Turn Interruption) → Recalls o (answer_of a) z → AnswersAgain h i a t → ComesNext goes Prim.⊥ T o p h i z t

@@ -13,8 +13,9 @@ use Rattle.tcl_sessions.specs.declared.refusal.Refusal.TheVariants.{AfterBrace, 
 use Rattle.tcl_sessions.specs.declared.refusal.Refusal.TheVariants.{NotUtf8, NoFile, Tree, Memory}
 use Rattle.tcl_sessions.specs.declared.refusal.Refusal.TheVariants.{Broken, Nobody, CountTooLarge}
 use Rattle.tcl_sessions.specs.declared.refusal.Refusal.TheVariants.{Deleted, Waits, NothingHeld}
-use Rattle.tcl_sessions.specs.declared.refusal.Refusal.TheVariants.{AlreadyHeld, OtherKind, CallOpen}
-use Rattle.tcl_sessions.specs.declared.refusal.Refusal.TheVariants.{NoCallOpen, NoStyle, NoRecord}
+use Rattle.tcl_sessions.specs.declared.refusal.Refusal.TheVariants.{AlreadyHeld, OtherKind}
+use Rattle.tcl_sessions.specs.declared.refusal.Refusal.TheVariants.{CallOpen, NoCallOpen}
+use Rattle.tcl_sessions.specs.declared.refusal.Refusal.TheVariants.{NoStyle, NoRecord}
 use Rattle.tcl_text.specs.Messages as messages
 use Rattle.tcl_text.specs.declared.list.ListError.{ListError}
 use Rattle.tcl_text.specs.declared.list.ListError.TheVariants as list

@@ -21,7 +21,8 @@ use Rattle.tcl_parser.specs.Words.{WordRead}
 use Rattle.tcl_language.specs.Instructions.{fits, Open}
 use Rattle.tcl_run.proofs.Endings.{IfEnded-at, Interrupts-more, Interrupts-at}
 use Rattle.tcl_run.proofs.Proceeding.{at_prog, at_reply}
-use Rattle.tcl_run.proofs.Steady.{still_at, still_in_use, still_running, steady-refl, steady-trans, level_steady, nested_steady, begun_at, less_room, stands}
+use Rattle.tcl_run.proofs.Steady.{still_at, still_in_use, still_running, steady-trans, level_steady, nested_steady, begun_at, less_room, stands}
+use Rattle.tcl_run.proofs.Keeping.{keeps-refl, keeps-trans, level_keeps, charged_keeps, told_keeps}
 use Rattle.tcl_evaluation.proofs.Steps
 use Rattle.tcl_evaluation.proofs.Steps.{stays_of, EndsFrom, TextEnds, text_ends, VariableEnds, variable_ends, EndsAt, appended, forgets, both}
 use Rattle.std.proofs.Common.{true, None}
@@ -181,7 +182,7 @@ evaluation::eval_command-returns-in_err-text-clause-runs g t c =
     ran_err c.from_residual-in_err-text.result c.in_err-text.field-0.0 p.0 _ _ _ p.1 p.2
     (stays_of c.eval_word.result c.in_err-text.field-0.0 (EndsFrom (ways g.O.Outside.goes g.O.Outside.loses) c.words.tree c.words.outside c.args.place (λ style. parts c.word-item.result.parts [] []) c.eval_word.new.tree c.eval_word.new.outside) c.in_err-text.ensures.same c.eval_word.ensures.runs c.in_err-text.ensures.stays)
     (λ e h q style at. c.words.invariant.leads q style at _ _ _ (at_prog (ap (λ (ws : List WordRead). words ws c.words.words.items) item)
-    (Steps.word_stays style c.word-item.result _ c.words.words.items e h.1 (h.0 q style (still_at _ _ c.args.place q style c.words.invariant.steady at)))))
+    (Steps.word_stays style c.word-item.result _ c.words.words.items e h.1 (h.0 q style (still_at _ _ c.args.place q style c.words.invariant.keeps.steady at)))))
 
 pub evaluation::eval_command-returns-in_err-spread-clause-runs : goal.evaluation::eval_command-returns-in_err-spread-clause-runs
 evaluation::eval_command-returns-in_err-spread-clause-runs g t c =
@@ -190,9 +191,9 @@ evaluation::eval_command-returns-in_err-spread-clause-runs g t c =
     let x = ran_text c.eval_word.result c.in_ok-text.text (EndsFrom (ways g.O.Outside.goes g.O.Outside.loses) c.words.tree c.words.outside c.args.place (λ style. parts c.word-item.result.parts [] []) c.eval_word.new.tree c.eval_word.new.outside) c.in_ok-text.ensures.text c.eval_word.ensures.runs in
     fails_err c.from_residual-in_err-spread.result c.in_err-spread.field-0.0 p.0 _ _ _ p.1 p.2 c.in_err-spread.ensures
     (λ e h q style at. c.words.invariant.leads q style at _ _ _ (at_prog (ap (λ (ws : List WordRead). words ws c.words.words.items) item)
-    (Steps.word_fails style c.word-item.result _ c.words.words.items x.0 c.in_ok-text.text e _ (ap (λ (w : WordRead). w.expand) c.word.view_is) x.2 x.3 h (x.1 q style (still_at _ _ c.args.place q style c.words.invariant.steady at)))))
+    (Steps.word_fails style c.word-item.result _ c.words.words.items x.0 c.in_ok-text.text e _ (ap (λ (w : WordRead). w.expand) c.word.view_is) x.2 x.3 h (x.1 q style (still_at _ _ c.args.place q style c.words.invariant.keeps.steady at)))))
     (λ q style at. c.words.invariant.leads q style at _ _ _ (at_prog (ap (λ (ws : List WordRead). words ws c.words.words.items) item)
-    (Steps.word_lost style c.word-item.result _ c.words.words.items (x.1 q style (still_at _ _ c.args.place q style c.words.invariant.steady at)))))
+    (Steps.word_lost style c.word-item.result _ c.words.words.items (x.1 q style (still_at _ _ c.args.place q style c.words.invariant.keeps.steady at)))))
 
 pub evaluation::eval_command-words-preserved : goal.evaluation::eval_command-words-preserved
 evaluation::eval_command-words-preserved g t c =
@@ -200,9 +201,8 @@ evaluation::eval_command-words-preserved g t c =
     let x = ran_text c.eval_word.result c.in_ok-text.text (EndsFrom (ways g.O.Outside.goes g.O.Outside.loses) c.words.tree c.words.outside c.args.place (λ style. parts c.word-item.result.parts [] []) c.eval_word.new.tree c.eval_word.new.outside) c.in_ok-text.ensures.text c.eval_word.ensures.runs in
     record {
       leads = λ q style at V z r run. c.words.invariant.leads q style at _ _ _ (at_prog (ap (λ (ws : List WordRead). words ws c.words.words.items) item)
-          (Steps.word_goes style c.word-item.result _ c.words.words.items _ x.0 c.in_ok-text.text _ (ap (λ (w : WordRead). w.expand) c.word.view_is) x.2 x.3 c.in_ok-spread.ensures (x.1 q style (still_at _ _ c.args.place q style c.words.invariant.steady at)) run));
-      steady = steady-trans _ _ _ c.words.invariant.steady c.eval_word.ensures.steady;
-      left = let a = c.eval_word.ensures.left in let b = c.words.invariant.left in omega arith;
+          (Steps.word_goes style c.word-item.result _ c.words.words.items _ x.0 c.in_ok-text.text _ (ap (λ (w : WordRead). w.expand) c.word.view_is) x.2 x.3 c.in_ok-spread.ensures (x.1 q style (still_at _ _ c.args.place q style c.words.invariant.keeps.steady at)) run));
+      keeps = keeps-trans c.words.invariant.keeps c.eval_word.ensures.keeps;
     }
 
 pub evaluation::eval_command-returns-then-is_empty-clause-runs : goal.evaluation::eval_command-returns-then-is_empty-clause-runs
@@ -220,7 +220,7 @@ evaluation::eval_command-returns-in_err-charge-clause-runs g t c =
     let p = err_from_is_err_and c.from_residual-in_err-charge.result c.from_residual-in_err-charge.ensures.1 in
     says_err c.from_residual-in_err-charge.result c.in_err-charge.field-0.0 p.0 _ _ _ p.1 p.2 c.in_err-charge.ensures.refused
     (λ e h q style at. c.words.invariant.leads q style at _ _ _ (at_prog (ap (λ (ws : List WordRead). words ws c.words.words.items) none)
-    (Steps.charged_stops style c.words.words.items some (h q (still_at _ _ c.args.place q style c.words.invariant.steady at).names))))
+    (Steps.charged_stops style c.words.words.items some (h q (still_at _ _ c.args.place q style c.words.invariant.keeps.steady at).names))))
 
 pub evaluation::eval_command-returns-clause-runs : goal.evaluation::eval_command-returns-clause-runs
 evaluation::eval_command-returns-clause-runs g t c =
@@ -229,7 +229,7 @@ evaluation::eval_command-returns-clause-runs g t c =
     let none = none_on c.deref-word-items.result.now c.words.word-index c.words-test.false in
     IfRan-more c.call.result (EndsFrom (ways g.O.Outside.goes g.O.Outside.loses) c.charge.new.tree c.charge.new.outside c.args.place (λ style. called style c.as_slice.result.now) c.call.new.tree c.call.new.outside)
     (EndsFrom (ways g.O.Outside.goes g.O.Outside.loses) c.args.tree.now c.args.outside.now c.args.place (λ style. words c.args.command.now []) c.call.new.tree c.call.new.outside) (λ e h q style at.
-    let here = still_at _ _ c.args.place q style c.words.invariant.steady at in
+    let here = still_at _ _ c.args.place q style c.words.invariant.keeps.steady at in
     let counts = c.in_ok-charge.ensures.counted q here.names in
     c.words.invariant.leads q style at _ _ _ (at_prog (ap (λ (ws : List WordRead). words ws c.words.words.items) none)
     (Steps.charged_calls style c.words.words.items some counts (at_prog (ap (called style) (sym c.as_slice.ensures.value)) (h q style (still_at _ _ c.args.place q style (level_steady _ _ c.charge.ensures.level) here)))))) c.call.ensures.runs
@@ -243,7 +243,7 @@ evaluation::eval_commands-returns-in_err-last-clause-runs g t c =
     ran_err c.from_residual.result c.in_err-last.field-0.0 p.0 _ _ _ p.1 p.2
     (stays_of c.eval_command.result c.in_err-last.field-0.0 (EndsFrom (ways g.O.Outside.goes g.O.Outside.loses) c.commands.tree c.commands.outside c.args.place (λ style. words c.command-item.result []) c.eval_command.new.tree c.eval_command.new.outside) c.in_err-last.ensures.same c.eval_command.ensures.runs c.in_err-last.ensures.stays)
     (λ e h q style at. c.commands.invariant.leads q style at _ _ _ (at_prog (ap (λ (cs : List (List WordRead)). commands cs c.args.script.now.fault c.commands.last) item)
-    (Steps.command_stays style c.command-item.result _ c.args.script.now.fault c.commands.last e h.1 (h.0 q style (still_at _ _ c.args.place q style c.commands.invariant.steady at)))))
+    (Steps.command_stays style c.command-item.result _ c.args.script.now.fault c.commands.last e h.1 (h.0 q style (still_at _ _ c.args.place q style c.commands.invariant.keeps.steady at)))))
 
 pub evaluation::eval_commands-commands-preserved : goal.evaluation::eval_commands-commands-preserved
 evaluation::eval_commands-commands-preserved g t c =
@@ -251,9 +251,8 @@ evaluation::eval_commands-commands-preserved g t c =
     let x = ran_text c.eval_command.result c.in_ok-last.last (EndsFrom (ways g.O.Outside.goes g.O.Outside.loses) c.commands.tree c.commands.outside c.args.place (λ style. words c.command-item.result []) c.eval_command.new.tree c.eval_command.new.outside) c.in_ok-last.ensures.text c.eval_command.ensures.runs in
     record {
       leads = λ q style at V z r run. c.commands.invariant.leads q style at _ _ _ (at_prog (ap (λ (cs : List (List WordRead)). commands cs c.args.script.now.fault c.commands.last) item)
-          (Steps.command_goes style c.command-item.result _ c.args.script.now.fault c.commands.last x.0 c.in_ok-last.last x.2 x.3 (x.1 q style (still_at _ _ c.args.place q style c.commands.invariant.steady at)) run));
-      steady = steady-trans _ _ _ c.commands.invariant.steady c.eval_command.ensures.steady;
-      left = let a = c.eval_command.ensures.left in let b = c.commands.invariant.left in omega arith;
+          (Steps.command_goes style c.command-item.result _ c.args.script.now.fault c.commands.last x.0 c.in_ok-last.last x.2 x.3 (x.1 q style (still_at _ _ c.args.place q style c.commands.invariant.keeps.steady at)) run));
+      keeps = keeps-trans c.commands.invariant.keeps c.eval_command.ensures.keeps;
     }
 
 pub evaluation::eval_commands-returns-clause-runs : goal.evaluation::eval_commands-returns-clause-runs
@@ -313,7 +312,7 @@ evaluation::eval_script-unnest-requires g t c =
     let p = c.requires.0 in
     let names = c.requires.1 in
     let free = c.in_default.ensures.nested p names in
-    (p, c.eval_commands-ended.ensures.steady.keys p _ (c.in_default.ensures.keys p ∙ names) (begun_at c.args.tree.now c.nest_at.new.self c.args.place p names free.1))
+    (p, c.eval_commands-ended.ensures.keeps.steady.keys p _ (c.in_default.ensures.keys p ∙ names) (begun_at c.args.tree.now c.nest_at.new.self c.args.place p names free.1))
 
 pub evaluation::eval_script-returns-clause-runs : goal.evaluation::eval_script-returns-clause-runs
 evaluation::eval_script-returns-clause-runs g t c =
@@ -324,18 +323,21 @@ evaluation::eval_script-returns-clause-runs g t c =
     let free = c.in_default.ensures.nested q at.names in
     let running = begun_at c.args.tree.now c.nest_at.new.self c.args.place q at.names free.1 in
     let names = c.in_default.ensures.keys q ∙ at.names in
-    Steps.reads_end style c.args.script.now free.0 free.1 (c.unnest.ensures.unnested q (c.eval_commands-ended.ensures.steady.keys q _ names running))
+    Steps.reads_end style c.args.script.now free.0 free.1 (c.unnest.ensures.unnested q (c.eval_commands-ended.ensures.keeps.steady.keys q _ names running))
     (h q style (record { names = names; style_is = ap (λ m. m.integers) c.in_default.ensures.marks ∙ at.style_is; running = running })))
     c.eval_commands-ended.ensures.runs
 
-pub evaluation::eval_script-returns-clause-steady : goal.evaluation::eval_script-returns-clause-steady
-evaluation::eval_script-returns-clause-steady g t c =
+pub evaluation::eval_script-returns-clause-keeps : goal.evaluation::eval_script-returns-clause-keeps
+evaluation::eval_script-returns-clause-keeps g t c =
     let p = c.requires.0 in
     let names = c.requires.1 in
     let free = c.in_default.ensures.nested p names in
     let running = begun_at c.args.tree.now c.nest_at.new.self c.args.place p names free.1 in
-    nested_steady c.args.tree.now c.nest_at.new.self c.eval_commands-ended.new.tree c.unnest.new.self p c.in_default.ensures.marks c.in_default.ensures.keys free.1 c.eval_commands-ended.ensures.steady
-    c.unnest.ensures.marks c.unnest.ensures.keys (c.unnest.ensures.unnested p (c.eval_commands-ended.ensures.steady.keys p _ (c.in_default.ensures.keys p ∙ names) running))
+    record {
+      steady = nested_steady c.args.tree.now c.nest_at.new.self c.eval_commands-ended.new.tree c.unnest.new.self p c.in_default.ensures.marks c.in_default.ensures.keys free.1 c.eval_commands-ended.ensures.keeps.steady
+          c.unnest.ensures.marks c.unnest.ensures.keys (c.unnest.ensures.unnested p (c.eval_commands-ended.ensures.keeps.steady.keys p _ (c.in_default.ensures.keys p ∙ names) running));
+      left = c.eval_commands-ended.ensures.keeps.left;
+    }
 
 pub evaluation::eval_text-returns-in_err-script-clause-runs : goal.evaluation::eval_text-returns-in_err-script-clause-runs
 evaluation::eval_text-returns-in_err-script-clause-runs g t c =
@@ -462,17 +464,16 @@ evaluation::substitute-returns-in_err-eval_part-clause-runs g t c =
     let p = err_from_is_err_and c.from_residual.result c.from_residual.ensures.1 in
     ran_err c.from_residual.result c.in_err-eval_part.field-0.0 p.0 _ _ _ p.1 p.2 c.in_err-eval_part.ensures.runs
     (λ e h q style at. c.parts.invariant.leads q style at _ _ _ (at_prog (ap (λ (ps : List Part). parts ps (opens c.parts.elements.items) (string_bytes c.parts.text)) item)
-    (h q style (still_at _ _ c.args.place q style c.parts.invariant.steady at) _)))
+    (h q style (still_at _ _ c.args.place q style c.parts.invariant.keeps.steady at) _)))
 
 pub evaluation::substitute-parts-preserved : goal.evaluation::substitute-parts-preserved
 evaluation::substitute-parts-preserved g t c =
     let item = item_on c.args.parts.now c.parts.part-index c.part-item.result c.parts-test.true c.part-item.is in
     record {
       leads = λ q style at V z r run. c.parts.invariant.leads q style at _ _ _ (at_prog (ap (λ (ps : List Part). parts ps (opens c.parts.elements.items) (string_bytes c.parts.text)) item)
-          (c.in_ok-eval_part.ensures.runs q style (still_at _ _ c.args.place q style c.parts.invariant.steady at) _ V z r run));
+          (c.in_ok-eval_part.ensures.runs q style (still_at _ _ c.args.place q style c.parts.invariant.keeps.steady at) _ V z r run));
       short = c.in_ok-eval_part.ensures.short;
-      steady = steady-trans _ _ _ c.parts.invariant.steady c.eval_part.ensures.steady;
-      left = let a = c.eval_part.ensures.left in let b = c.parts.invariant.left in omega arith;
+      keeps = keeps-trans c.parts.invariant.keeps c.eval_part.ensures.keeps;
     }
 
 pub evaluation::substitute-returns-in_err-from_string-clause-runs : goal.evaluation::substitute-returns-in_err-from_string-clause-runs
@@ -526,7 +527,7 @@ commands::call_procedure-returns-clause-runs g t c =
     (λ e f h l q style at.
     let n = stands (tree_of c.args.tree.now q) (tree_there c.args.tree.now q _ at.names) in
     let here = still_at c.args.tree.now c.enter_frame.new.tree c.args.place q style (level_steady _ _ c.in_ok-enter_frame.ensures.level) at in
-    let after = still_at c.enter_frame.new.tree c.eval_value-ended.new.tree c.args.place q style c.eval_value-ended.ensures.steady here in
+    let after = still_at c.enter_frame.new.tree c.eval_value-ended.new.tree c.args.place q style c.eval_value-ended.ensures.keeps.steady here in
     let m = stands (tree_of c.eval_value-ended.new.tree q) (tree_there c.eval_value-ended.new.tree q _ after.names) in
     let entered = c.in_ok-enter_frame.ensures.entered q n.0 at.names n.1 in
     let ws = c.in_ok-words.ensures in
@@ -595,7 +596,7 @@ control::catch-returns-in_err-keep_caught-clause-runs g t c =
     c.in_ok-completion.was c.caught.ensures c.eval_value.ensures.runs in
     fails_err c.from_residual-in_err-keep_caught.result c.in_err-keep_caught.field-0.0 p.0 _ _ _ p.1 p.2 c.in_err-keep_caught.ensures.kept
     (λ e h q style at.
-    let after = still_at _ _ c.args.place q style c.eval_value.ensures.steady at in
+    let after = still_at _ _ c.args.place q style c.eval_value.ensures.keeps.steady at in
     at_prog (ap control_catch (split_first c.args.args.now c.script-item.result c.in-len1-up.len_at_least c.script-item.is))
     (catch_goes style c.script-item.result _ (completion_of c.in_ok-completion.completion) (omega (arith, few))
     (at_prog (ap script (sym c.in_ok-script.ensures.cases)) (caught q style (record { names = at.names; style_is = at.style_is })))
@@ -610,15 +611,15 @@ control::catch-returns-clause-runs g t c = λ q style at.
     let few = c.if-names-gt2.false in
     let caught = caught_ok c.eval_value.result c.caught.result c.in_ok-completion.completion (EndsAt (ways g.O.Outside.goes g.O.Outside.loses) c.args.tree.now c.args.outside.now c.args.place (λ style. script c.in_ok-script.script) c.eval_value.new.tree c.eval_value.new.outside)
     c.in_ok-completion.was c.caught.ensures c.eval_value.ensures.runs in
-    let after = still_at _ _ c.args.place q style c.eval_value.ensures.steady at in
+    let after = still_at _ _ c.args.place q style c.eval_value.ensures.keeps.steady at in
     let code : c.from_int.result ≡ code_text (completion_of c.in_ok-completion.completion) = search rules in
     at_prog (ap control_catch (split_first c.args.args.now c.script-item.result c.in-len1-up.len_at_least c.script-item.is))
     (catch_goes style c.script-item.result _ (completion_of c.in_ok-completion.completion) (omega (arith, few))
     (at_prog (ap script (sym c.in_ok-script.ensures.cases)) (caught q style (record { names = at.names; style_is = at.style_is })))
     (does_proceeds _ c.eval_value.new.outside (c.in_ok-keep_caught.ensures.kept q after.names _ (tree_of c.keep_caught.new.tree) _ (refl, ap (λ (x : List ℕ). Completed (ok x)) code))))
 
-pub control::catch-returns-clause-steady : goal.control::catch-returns-clause-steady
-control::catch-returns-clause-steady g t c = steady-trans _ _ _ c.eval_value.ensures.steady (level_steady _ _ c.keep_caught.ensures.level)
+pub control::catch-returns-clause-keeps : goal.control::catch-returns-clause-keeps
+control::catch-returns-clause-keeps g t c = keeps-trans c.eval_value.ensures.keeps (level_keeps _ c.keep_caught.ensures.level)
 
 pub control::eval-returns-then-is_empty-clause-runs : goal.control::eval-returns-then-is_empty-clause-runs
 control::eval-returns-then-is_empty-clause-runs g t c =
@@ -661,7 +662,7 @@ crossing::call_target-unnest-requires g t c =
     let p = c.requires.0 in
     let names = c.requires.1 in
     let free = c.in_default.ensures.nested p names in
-    (p, c.call-ended.ensures.steady.keys p _ (c.in_default.ensures.keys p ∙ names) (begun_at c.args.tree.now c.nest_at.new.self c.args.place p names free.1))
+    (p, c.call-ended.ensures.keeps.steady.keys p _ (c.in_default.ensures.keys p ∙ names) (begun_at c.args.tree.now c.nest_at.new.self c.args.place p names free.1))
 
 pub crossing::call_target-returns-clause-runs : goal.crossing::call_target-returns-clause-runs
 crossing::call_target-returns-clause-runs g t c =
@@ -672,44 +673,47 @@ crossing::call_target-returns-clause-runs g t c =
     let free = c.in_default.ensures.nested q at.names in
     let running = begun_at c.args.tree.now c.nest_at.new.self c.args.place q at.names free.1 in
     let names = c.in_default.ensures.keys q ∙ at.names in
-    target_ends style c.args.words.now free.0 free.1 (c.unnest.ensures.unnested q (c.call-ended.ensures.steady.keys q _ names running))
+    target_ends style c.args.words.now free.0 free.1 (c.unnest.ensures.unnested q (c.call-ended.ensures.keeps.steady.keys q _ names running))
     (h q style (record { names = names; style_is = ap (λ m. m.integers) c.in_default.ensures.marks ∙ at.style_is; running = running })))
     c.call-ended.ensures.runs
 
-pub crossing::call_target-returns-clause-steady : goal.crossing::call_target-returns-clause-steady
-crossing::call_target-returns-clause-steady g t c =
+pub crossing::call_target-returns-clause-keeps : goal.crossing::call_target-returns-clause-keeps
+crossing::call_target-returns-clause-keeps g t c =
     let p = c.requires.0 in
     let names = c.requires.1 in
     let free = c.in_default.ensures.nested p names in
     let running = begun_at c.args.tree.now c.nest_at.new.self c.args.place p names free.1 in
-    nested_steady c.args.tree.now c.nest_at.new.self c.call-ended.new.tree c.unnest.new.self p c.in_default.ensures.marks c.in_default.ensures.keys free.1 c.call-ended.ensures.steady
-    c.unnest.ensures.marks c.unnest.ensures.keys (c.unnest.ensures.unnested p (c.call-ended.ensures.steady.keys p _ (c.in_default.ensures.keys p ∙ names) running))
+    record {
+      steady = nested_steady c.args.tree.now c.nest_at.new.self c.call-ended.new.tree c.unnest.new.self p c.in_default.ensures.marks c.in_default.ensures.keys free.1 c.call-ended.ensures.keeps.steady
+          c.unnest.ensures.marks c.unnest.ensures.keys (c.unnest.ensures.unnested p (c.call-ended.ensures.keeps.steady.keys p _ (c.in_default.ensures.keys p ∙ names) running));
+      left = c.call-ended.ensures.keeps.left;
+    }
 
 -- what stays as it is
 
 pub evaluation::eval_command-eval_word-requires : goal.evaluation::eval_command-eval_word-requires
-evaluation::eval_command-eval_word-requires g t c κs within = (search rules, (search rules, still_running _ _ c.args.place c.words.invariant.steady c.requires.running))
+evaluation::eval_command-eval_word-requires g t c κs within = (search rules, (search rules, still_running _ _ c.args.place c.words.invariant.keeps.steady c.requires.running))
 
-pub evaluation::eval_command-returns-in_err-text-clause-steady : goal.evaluation::eval_command-returns-in_err-text-clause-steady
-evaluation::eval_command-returns-in_err-text-clause-steady g t c = steady-trans _ _ _ c.words.invariant.steady c.eval_word.ensures.steady
+pub evaluation::eval_command-returns-in_err-text-clause-keeps : goal.evaluation::eval_command-returns-in_err-text-clause-keeps
+evaluation::eval_command-returns-in_err-text-clause-keeps g t c = keeps-trans c.words.invariant.keeps c.eval_word.ensures.keeps
 
-pub evaluation::eval_command-returns-in_err-spread-clause-steady : goal.evaluation::eval_command-returns-in_err-spread-clause-steady
-evaluation::eval_command-returns-in_err-spread-clause-steady g t c = steady-trans _ _ _ c.words.invariant.steady c.eval_word.ensures.steady
+pub evaluation::eval_command-returns-in_err-spread-clause-keeps : goal.evaluation::eval_command-returns-in_err-spread-clause-keeps
+evaluation::eval_command-returns-in_err-spread-clause-keeps g t c = keeps-trans c.words.invariant.keeps c.eval_word.ensures.keeps
 
 pub evaluation::eval_command-call-requires : goal.evaluation::eval_command-call-requires
-evaluation::eval_command-call-requires g t c κs within = (search rules, (search rules, still_running _ _ c.args.place (steady-trans _ _ _ c.words.invariant.steady (level_steady _ _ c.charge.ensures.level)) c.requires.running))
+evaluation::eval_command-call-requires g t c κs within = (search rules, (search rules, still_running _ _ c.args.place (steady-trans _ _ _ c.words.invariant.keeps.steady (level_steady _ _ c.charge.ensures.level)) c.requires.running))
 
-pub evaluation::eval_command-returns-clause-steady : goal.evaluation::eval_command-returns-clause-steady
-evaluation::eval_command-returns-clause-steady g t c = steady-trans _ _ _ c.words.invariant.steady (steady-trans _ _ _ (level_steady _ _ c.charge.ensures.level) c.call.ensures.steady)
+pub evaluation::eval_command-returns-clause-keeps : goal.evaluation::eval_command-returns-clause-keeps
+evaluation::eval_command-returns-clause-keeps g t c = keeps-trans c.words.invariant.keeps (keeps-trans (charged_keeps c.charge.ensures.level c.charge.ensures.left) c.call.ensures.keeps)
 
-pub evaluation::eval_commands-returns-in_err-last-clause-steady : goal.evaluation::eval_commands-returns-in_err-last-clause-steady
-evaluation::eval_commands-returns-in_err-last-clause-steady g t c = steady-trans _ _ _ c.commands.invariant.steady c.eval_command.ensures.steady
+pub evaluation::eval_commands-returns-in_err-last-clause-keeps : goal.evaluation::eval_commands-returns-in_err-last-clause-keeps
+evaluation::eval_commands-returns-in_err-last-clause-keeps g t c = keeps-trans c.commands.invariant.keeps c.eval_command.ensures.keeps
 
 pub evaluation::substitute-eval_part-requires : goal.evaluation::substitute-eval_part-requires
-evaluation::substitute-eval_part-requires g t c κs within = (search rules, (search rules, (still_running _ _ c.args.place c.parts.invariant.steady c.requires.running, c.parts.invariant.short)))
+evaluation::substitute-eval_part-requires g t c κs within = (search rules, (search rules, (still_running _ _ c.args.place c.parts.invariant.keeps.steady c.requires.running, c.parts.invariant.short)))
 
-pub evaluation::substitute-returns-in_err-eval_part-clause-steady : goal.evaluation::substitute-returns-in_err-eval_part-clause-steady
-evaluation::substitute-returns-in_err-eval_part-clause-steady g t c = steady-trans _ _ _ c.parts.invariant.steady c.eval_part.ensures.steady
+pub evaluation::substitute-returns-in_err-eval_part-clause-keeps : goal.evaluation::substitute-returns-in_err-eval_part-clause-keeps
+evaluation::substitute-returns-in_err-eval_part-clause-keeps g t c = keeps-trans c.parts.invariant.keeps c.eval_part.ensures.keeps
 
 -- calls for others
 
@@ -768,12 +772,12 @@ crossing::invoke-unnest-requires g t c =
     let p = c.requires.0 in
     let names = c.requires.1 in
     let free = c.in_default.ensures.nested p names in
-    (p, c.call_hidden-ended.ensures.steady.keys p _ (c.in_default.ensures.keys p ∙ names) (begun_at c.args.tree.now c.nest_at.new.self c.args.place p names free.1))
+    (p, c.call_hidden-ended.ensures.keeps.steady.keys p _ (c.in_default.ensures.keys p ∙ names) (begun_at c.args.tree.now c.nest_at.new.self c.args.place p names free.1))
 
 pub crossing::invoke-returns-clause-there : goal.crossing::invoke-returns-clause-there
 crossing::invoke-returns-clause-there g t c = λ p names.
     let free = c.in_default.ensures.nested p names in
-    c.unnest.ensures.keys p ∙ c.call_hidden-ended.ensures.steady.keys p _ (c.in_default.ensures.keys p ∙ names) (begun_at c.args.tree.now c.nest_at.new.self c.args.place p names free.1)
+    c.unnest.ensures.keys p ∙ c.call_hidden-ended.ensures.keeps.steady.keys p _ (c.in_default.ensures.keys p ∙ names) (begun_at c.args.tree.now c.nest_at.new.self c.args.place p names free.1)
 
 pub crossing::invoke-returns-clause-runs : goal.crossing::invoke-returns-clause-runs
 crossing::invoke-returns-clause-runs g t c =
@@ -784,18 +788,21 @@ crossing::invoke-returns-clause-runs g t c =
     let free = c.in_default.ensures.nested q at.names in
     let running = begun_at c.args.tree.now c.nest_at.new.self c.args.place q at.names free.1 in
     let names = c.in_default.ensures.keys q ∙ at.names in
-    unhidden_ends style c.args.words.now free.0 free.1 (c.unnest.ensures.unnested q (c.call_hidden-ended.ensures.steady.keys q _ names running))
+    unhidden_ends style c.args.words.now free.0 free.1 (c.unnest.ensures.unnested q (c.call_hidden-ended.ensures.keeps.steady.keys q _ names running))
     (h q style (record { names = names; style_is = ap (λ m. m.integers) c.in_default.ensures.marks ∙ at.style_is; running = running })))
     c.call_hidden-ended.ensures.runs
 
-pub crossing::invoke-returns-clause-steady : goal.crossing::invoke-returns-clause-steady
-crossing::invoke-returns-clause-steady g t c =
+pub crossing::invoke-returns-clause-keeps : goal.crossing::invoke-returns-clause-keeps
+crossing::invoke-returns-clause-keeps g t c =
     let p = c.requires.0 in
     let names = c.requires.1 in
     let free = c.in_default.ensures.nested p names in
     let running = begun_at c.args.tree.now c.nest_at.new.self c.args.place p names free.1 in
-    nested_steady c.args.tree.now c.nest_at.new.self c.call_hidden-ended.new.tree c.unnest.new.self p c.in_default.ensures.marks c.in_default.ensures.keys free.1 c.call_hidden-ended.ensures.steady
-    c.unnest.ensures.marks c.unnest.ensures.keys (c.unnest.ensures.unnested p (c.call_hidden-ended.ensures.steady.keys p _ (c.in_default.ensures.keys p ∙ names) running))
+    record {
+      steady = nested_steady c.args.tree.now c.nest_at.new.self c.call_hidden-ended.new.tree c.unnest.new.self p c.in_default.ensures.marks c.in_default.ensures.keys free.1 c.call_hidden-ended.ensures.keeps.steady
+          c.unnest.ensures.marks c.unnest.ensures.keys (c.unnest.ensures.unnested p (c.call_hidden-ended.ensures.keeps.steady.keys p _ (c.in_default.ensures.keys p ∙ names) running));
+      left = c.call_hidden-ended.ensures.keeps.left;
+    }
 
 pub commands::call_hidden-returns-in_default-clause-runs : goal.commands::call_hidden-returns-in_default-clause-runs
 commands::call_hidden-returns-in_default-clause-runs g t c = λ q style at.
@@ -891,7 +898,7 @@ expressions::expression-returns-in_err-value-in-Wants-clause-runs g t c =
     let same = c.integers-style.ensures ∙ at.style_is in
     c.parts.invariant.leads q style at text is _ _ _
     (Conditions.wants_part style c.integers-style.result c.args.kept.now.nodes.items c.parts.evaluation.next c.next_part.new.evaluation.next c.parts.evaluation.values.items c.next_part.new.evaluation.values.items c.in-Wants.word.now same wants
-    (Conditions.part_stays style c.in-Wants.word.now (λ v. from style c.args.kept.now.nodes.items c.next_part.new.evaluation.next (c.next_part.new.evaluation.values.items ++ v ∷ [])) (settles style) e h.1 (h.0 q style (still_at _ _ c.args.place q style c.parts.invariant.steady at)))))
+    (Conditions.part_stays style c.in-Wants.word.now (λ v. from style c.args.kept.now.nodes.items c.next_part.new.evaluation.next (c.next_part.new.evaluation.values.items ++ v ∷ [])) (settles style) e h.1 (h.0 q style (still_at _ _ c.args.place q style c.parts.invariant.keeps.steady at)))))
 
 pub expressions::expression-returns-in_err-supply-in-Wants-clause-runs : goal.expressions::expression-returns-in_err-supply-in-Wants-clause-runs
 expressions::expression-returns-in_err-supply-in-Wants-clause-runs g t c =
@@ -905,7 +912,7 @@ expressions::expression-returns-in_err-supply-in-Wants-clause-runs g t c =
     let same = c.integers-style.ensures ∙ at.style_is in
     c.parts.invariant.leads q style at text is _ _ _
     (Conditions.wants_part style c.integers-style.result c.args.kept.now.nodes.items c.parts.evaluation.next c.next_part.new.evaluation.next c.parts.evaluation.values.items c.next_part.new.evaluation.values.items c.in-Wants.word.now same wants
-    (Conditions.part_goes style c.in-Wants.word.now (λ v. from style c.args.kept.now.nodes.items c.next_part.new.evaluation.next (c.next_part.new.evaluation.values.items ++ v ∷ [])) (settles style) x.0 c.in_ok-value-in-Wants.value x.2 x.3 (x.1 q style (still_at _ _ c.args.place q style c.parts.invariant.steady at))
+    (Conditions.part_goes style c.in-Wants.word.now (λ v. from style c.args.kept.now.nodes.items c.next_part.new.evaluation.next (c.next_part.new.evaluation.values.items ++ v ∷ [])) (settles style) x.0 c.in_ok-value-in-Wants.value x.2 x.3 (x.1 q style (still_at _ _ c.args.place q style c.parts.invariant.keeps.steady at))
     stopped)))
 
 pub expressions::expression-returns-in-Done-clause-runs : goal.expressions::expression-returns-in-Done-clause-runs
@@ -929,10 +936,9 @@ expressions::expression-parts-preserved g t c =
           let same = c.integers-style.ensures ∙ at.style_is in
           c.parts.invariant.leads q style at text is _ _ _
           (Conditions.wants_part style c.integers-style.result c.args.kept.now.nodes.items c.parts.evaluation.next c.next_part.new.evaluation.next c.parts.evaluation.values.items c.next_part.new.evaluation.values.items c.in-Wants.word.now same wants
-          (Conditions.part_goes style c.in-Wants.word.now (λ v. from style c.args.kept.now.nodes.items c.next_part.new.evaluation.next (c.next_part.new.evaluation.values.items ++ v ∷ [])) (settles style) x.0 c.in_ok-value-in-Wants.value x.2 x.3 (x.1 q style (still_at _ _ c.args.place q style c.parts.invariant.steady at))
+          (Conditions.part_goes style c.in-Wants.word.now (λ v. from style c.args.kept.now.nodes.items c.next_part.new.evaluation.next (c.next_part.new.evaluation.values.items ++ v ∷ [])) (settles style) x.0 c.in_ok-value-in-Wants.value x.2 x.3 (x.1 q style (still_at _ _ c.args.place q style c.parts.invariant.keeps.steady at))
           (at_prog (λ i. computed (from style c.args.kept.now.nodes.items (sym c.in_ok-supply-in-Wants.ensures.next i) (sym c.in_ok-supply-in-Wants.ensures.values i)) (settles style)) run)));
-      steady = steady-trans _ _ _ c.parts.invariant.steady c.eval_word.ensures.steady;
-      left = let a = c.eval_word.ensures.left in let b = c.parts.invariant.left in omega arith;
+      keeps = keeps-trans c.parts.invariant.keeps c.eval_word.ensures.keeps;
     }
 
 pub expressions::condition-returns-in_err-value-clause-runs : goal.expressions::condition-returns-in_err-value-clause-runs
@@ -1007,8 +1013,7 @@ expressions::if_first-tests-init g t c =
     let some : branches_of c.args.args.now ≡ Some (seen c.in-Some.branches) = search rules in
     record {
       leads = λ q style at V z r run. Conditions.if_begins style c.args.args.now (seen c.in-Some.branches) some (at_prog (ap (λ (bs : List Branch). first_true style (tests_of bs) (option_copied c.in-Some.branches.last)) (sym c.deref-branch-items.ensures.value)) run);
-      steady = steady-refl _;
-      left = search rules;
+      keeps = keeps-refl _ _;
     }
 
 pub expressions::if_first-returns-in_err-test-clause-runs : goal.expressions::if_first-returns-in_err-test-clause-runs
@@ -1017,7 +1022,7 @@ expressions::if_first-returns-in_err-test-clause-runs g t c =
     let p = err_from_is_err_and c.from_residual-in_err-test.result c.from_residual-in_err-test.ensures.1 in
     fails_err c.from_residual-in_err-test.result c.in_err-test.field-0.0 p.0 _ _ _ p.1 p.2 c.in_err-test.ensures.refused
     (λ e h q style at.
-    let here = still_at _ _ c.args.place q style c.tests.invariant.steady at in
+    let here = still_at _ _ c.args.place q style c.tests.invariant.keeps.steady at in
     let same = c.integers.ensures ∙ here.style_is in
     c.tests.invariant.leads q style at _ _ _ (at_prog (ap (λ (bs : List Branch). first_true style (tests_of bs) (option_copied c.in-Some.branches.last)) item)
     (Conditions.test_misread style c.branch-item.result.test.now _ e (Conditions.misread_in c.integers.result style c.branch-item.result.test.now e same h))))
@@ -1029,7 +1034,7 @@ expressions::if_first-returns-in_err-condition-clause-runs g t c =
     let p = err_from_is_err_and c.from_residual-in_err-condition.result c.from_residual-in_err-condition.ensures.1 in
     ran_err c.from_residual-in_err-condition.result c.in_err-condition.field-0.0 p.0 _ _ _ p.1 p.2 c.in_err-condition.ensures.runs
     (λ e h q style at.
-    let here = still_at _ _ c.args.place q style c.tests.invariant.steady at in
+    let here = still_at _ _ c.args.place q style c.tests.invariant.keeps.steady at in
     let same = c.integers.ensures ∙ here.style_is in
     c.tests.invariant.leads q style at _ _ _ (at_prog (ap (λ (bs : List Branch). first_true style (tests_of bs) (option_copied c.in-Some.branches.last)) item)
     (h q style here c.branch-item.result.test.now (Conditions.kept_behind c.integers.result style c.branch-item.result.test.now c.in_ok-test.test.value c.deref.result.now c.deref.ensures same c.in_ok-test.ensures.read) _)))
@@ -1041,7 +1046,7 @@ expressions::if_first-returns-in_err-body-clause-runs g t c =
     let p = err_from_is_err_and c.from_residual-in_err-body.result c.from_residual-in_err-body.ensures.1 in
     memory_err c.from_residual-in_err-body.result p.0 _ _ p.1 p.2
     (λ q style at.
-    let here = still_at _ _ c.args.place q style c.tests.invariant.steady at in
+    let here = still_at _ _ c.args.place q style c.tests.invariant.keeps.steady at in
     let same = c.integers.ensures ∙ here.style_is in
     c.tests.invariant.leads q style at _ _ _ (at_prog (ap (λ (bs : List Branch). first_true style (tests_of bs) (option_copied c.in-Some.branches.last)) item)
     (holds q style here c.branch-item.result.test.now (Conditions.kept_behind c.integers.result style c.branch-item.result.test.now c.in_ok-test.test.value c.deref.result.now c.deref.ensures same c.in_ok-test.ensures.read) _ _ _ _ stopped)))
@@ -1054,8 +1059,8 @@ expressions::if_first-returns-then-branch-clause-runs g t c =
     (EndsAt (ways g.O.Outside.goes g.O.Outside.loses) c.condition.new.tree c.condition.new.outside c.args.place (λ style. script c.in_ok-body.body) c.eval_value.new.tree c.eval_value.new.outside)
     (EndsFrom (ways g.O.Outside.goes g.O.Outside.loses) c.args.tree.now c.args.outside.now c.args.place (λ style. if_first style c.args.args.now) c.eval_value.new.tree c.eval_value.new.outside)
     (λ e h q style at.
-    let here = still_at _ _ c.args.place q style c.tests.invariant.steady at in
-    let after = still_at _ _ c.args.place q style c.condition.ensures.steady here in
+    let here = still_at _ _ c.args.place q style c.tests.invariant.keeps.steady at in
+    let after = still_at _ _ c.args.place q style c.condition.ensures.keeps.steady here in
     let same = c.integers.ensures ∙ here.style_is in
     c.tests.invariant.leads q style at _ _ _ (at_prog (ap (λ (bs : List Branch). first_true style (tests_of bs) (option_copied c.in-Some.branches.last)) item)
     (holds q style here c.branch-item.result.test.now (Conditions.kept_behind c.integers.result style c.branch-item.result.test.now c.in_ok-test.test.value c.deref.result.now c.deref.ensures same c.in_ok-test.ensures.read) _ _ _ _
@@ -1067,12 +1072,11 @@ expressions::if_first-tests-preserved g t c =
     let holds = subst (TestGoes (ways g.O.Outside.goes g.O.Outside.loses) c.tests.tree c.tests.outside c.args.place c.deref.result.now c.condition.new.tree c.condition.new.outside) c.if-branch.false c.in_ok-condition.ensures.runs in
     record {
       leads = λ q style at V z r run.
-          let here = still_at _ _ c.args.place q style c.tests.invariant.steady at in
+          let here = still_at _ _ c.args.place q style c.tests.invariant.keeps.steady at in
           let same = c.integers.ensures ∙ here.style_is in
           c.tests.invariant.leads q style at _ _ _ (at_prog (ap (λ (bs : List Branch). first_true style (tests_of bs) (option_copied c.in-Some.branches.last)) item)
           (holds q style here c.branch-item.result.test.now (Conditions.kept_behind c.integers.result style c.branch-item.result.test.now c.in_ok-test.test.value c.deref.result.now c.deref.ensures same c.in_ok-test.ensures.read) _ V z r run));
-      steady = steady-trans _ _ _ c.tests.invariant.steady c.condition.ensures.steady;
-      left = let a = c.condition.ensures.left in let b = c.tests.invariant.left in omega arith;
+      keeps = keeps-trans c.tests.invariant.keeps c.condition.ensures.keeps;
     }
 
 pub expressions::if_first-returns-in_default-last-clause-runs : goal.expressions::if_first-returns-in_default-last-clause-runs
@@ -1094,7 +1098,7 @@ expressions::if_first-returns-clause-runs g t c =
     (EndsAt (ways g.O.Outside.goes g.O.Outside.loses) c.tests.tree c.tests.outside c.args.place (λ style. script c.in_ok-body-2.body) c.eval_value-2.new.tree c.eval_value-2.new.outside)
     (EndsFrom (ways g.O.Outside.goes g.O.Outside.loses) c.args.tree.now c.args.outside.now c.args.place (λ style. if_first style c.args.args.now) c.eval_value-2.new.tree c.eval_value-2.new.outside)
     (λ e h q style at.
-    let here = still_at _ _ c.args.place q style c.tests.invariant.steady at in
+    let here = still_at _ _ c.args.place q style c.tests.invariant.keeps.steady at in
     c.tests.invariant.leads q style at _ _ _ (at_prog (ap (λ (bs : List Branch). first_true style (tests_of bs) (option_copied c.in-Some.branches.last)) none)
     (Conditions.last_runs style _ c.in-Some-last.last.now (ap option_copied c.in-Some-last.is)
     (at_prog (ap script (sym c.in_ok-body-2.ensures.cases)) (h q style (record { names = here.names; style_is = here.style_is })))))) c.eval_value-2.ensures.runs
@@ -1118,7 +1122,7 @@ expressions::turn-returns-in_err-charge-clause-runs g t c =
     let p = err_from_is_err_and c.from_residual-in_err-charge.result c.from_residual-in_err-charge.ensures.1 in
     says_err c.from_residual-in_err-charge.result c.in_err-charge.field-0.0 p.0 _ _ _ p.1 p.2 c.in_err-charge.ensures.refused
     (λ e h q style at text is more.
-    holds q style at text is _ _ _ _ (charge_refused (h q (still_at _ _ c.args.place q style c.condition.ensures.steady at).names)))
+    holds q style at text is _ _ _ _ (charge_refused (h q (still_at _ _ c.args.place q style c.condition.ensures.keeps.steady at).names)))
 
 pub expressions::turn-returns-clause-runs : goal.expressions::turn-returns-clause-runs
 expressions::turn-returns-clause-runs g t c =
@@ -1128,12 +1132,12 @@ expressions::turn-returns-clause-runs g t c =
     (λ d on h goes.
     Conditions.turn_ends (ways g.O.Outside.goes g.O.Outside.loses) c.args.tree.now c.eval_value.new.tree c.args.outside.now c.eval_value.new.outside c.args.place c.args.test.now c.args.body.now d on
     (λ q style at text is k V y r run.
-    let here = still_at _ _ c.args.place q style c.condition.ensures.steady at in
+    let here = still_at _ _ c.args.place q style c.condition.ensures.keeps.steady at in
     let after = still_at _ _ c.args.place q style (level_steady _ _ c.charge.ensures.level) here in
     let counts = c.in_ok-charge.ensures.counted q here.names in
     holds q style at text is _ V y r (charges counts (goes_on {i = Script c.args.body.now} (h q style (record { names = after.names; style_is = after.style_is })) run))) goes)
     (λ e h l q style at text is more.
-    let here = still_at _ _ c.args.place q style c.condition.ensures.steady at in
+    let here = still_at _ _ c.args.place q style c.condition.ensures.keeps.steady at in
     let after = still_at _ _ c.args.place q style (level_steady _ _ c.charge.ensures.level) here in
     let counts = c.in_ok-charge.ensures.counted q here.names in
     holds q style at text is _ _ _ _ (charges counts (Conditions.leaves_after style after_body c.args.body.now more e l (h q style (record { names = after.names; style_is = after.style_is })))))
@@ -1171,8 +1175,7 @@ expressions::while_loop-turns-init g t c =
     record {
       leads = λ q style at V z r run. Looping.while_begins style c.args.args.now c.in-len2.len_at_least c.in-len2.len_below run;
       body = c.in_ok-body.ensures.cases ∙ Looping.item_at c.args.args.now 1 c.body-item.result (omega (arith, more)) c.body-item.is;
-      steady = steady-refl _;
-      left = search rules;
+      keeps = keeps-refl _ _;
     }
 
 pub expressions::while_loop-returns-in_err-turn-clause-runs : goal.expressions::while_loop-returns-in_err-turn-clause-runs
@@ -1183,7 +1186,7 @@ expressions::while_loop-returns-in_err-turn-clause-runs g t c =
     ran_err c.from_residual-in_err-turn.result c.in_err-turn.field-0.0 p.0 _ _ _ p.1 p.2 c.in_err-turn.ensures.runs
     (λ e h q style at. c.turns.invariant.leads q style at _ _ _
     (at_prog (ap (λ (body : List ℕ). turn_then style (get_or c.args.args.now 0 []) body (go (While (get_or c.args.args.now 0 []) (get_or c.args.args.now 1 [])) done)) (sym c.turns.invariant.body))
-    (h q style (still_at _ _ c.args.place q style c.turns.invariant.steady at) (get_or c.args.args.now 0 [])
+    (h q style (still_at _ _ c.args.place q style c.turns.invariant.keeps.steady at) (get_or c.args.args.now 0 [])
     (Conditions.kept_as_behind c.integers.result style c.test-item.result (get_or c.args.args.now 0 []) c.in_ok-test.test.value c.deref.result.now c.deref.ensures (c.integers.ensures ∙ at.style_is) test c.in_ok-test.ensures.read) _)))
 
 pub expressions::while_loop-returns-then-not-branch-clause-runs : goal.expressions::while_loop-returns-then-not-branch-clause-runs
@@ -1194,7 +1197,7 @@ expressions::while_loop-returns-then-not-branch-clause-runs g t c = λ q style a
     c.turns.invariant.leads q style at _ _ _
     (at_prog (ap (λ (body : List ℕ). turn_then style (get_or c.args.args.now 0 []) body (go (While (get_or c.args.args.now 0 []) (get_or c.args.args.now 1 [])) done)) (sym c.turns.invariant.body))
     (at_reply (ap (λ (x : List ℕ). Completed (ok x)) c.empty.ensures)
-    (over q style (still_at _ _ c.args.place q style c.turns.invariant.steady at) (get_or c.args.args.now 0 [])
+    (over q style (still_at _ _ c.args.place q style c.turns.invariant.keeps.steady at) (get_or c.args.args.now 0 [])
     (Conditions.kept_as_behind c.integers.result style c.test-item.result (get_or c.args.args.now 0 []) c.in_ok-test.test.value c.deref.result.now c.deref.ensures (c.integers.ensures ∙ at.style_is) test c.in_ok-test.ensures.read) _)))
 
 pub expressions::while_loop-turns-preserved : goal.expressions::while_loop-turns-preserved
@@ -1205,12 +1208,11 @@ expressions::while_loop-turns-preserved g t c =
     record {
       leads = λ q style at V z r run. c.turns.invariant.leads q style at _ _ _
           (at_prog (ap (λ (body : List ℕ). turn_then style (get_or c.args.args.now 0 []) body (go (While (get_or c.args.args.now 0 []) (get_or c.args.args.now 1 [])) done)) (sym c.turns.invariant.body))
-          (on q style (still_at _ _ c.args.place q style c.turns.invariant.steady at) (get_or c.args.args.now 0 [])
+          (on q style (still_at _ _ c.args.place q style c.turns.invariant.keeps.steady at) (get_or c.args.args.now 0 [])
           (Conditions.kept_as_behind c.integers.result style c.test-item.result (get_or c.args.args.now 0 []) c.in_ok-test.test.value c.deref.result.now c.deref.ensures (c.integers.ensures ∙ at.style_is) test c.in_ok-test.ensures.read) _ V z r
           (goes_done {i = While (get_or c.args.args.now 0 []) (get_or c.args.args.now 1 [])} run)));
       body = c.turn.ensures.same ∙ c.turns.invariant.body;
-      steady = steady-trans _ _ _ c.turns.invariant.steady c.turn.ensures.steady;
-      left = let a = c.turn.ensures.left in let b = c.turns.invariant.left in omega arith;
+      keeps = keeps-trans c.turns.invariant.keeps c.turn.ensures.keeps;
     }
 
 -- more turns than there are numbers
@@ -1254,7 +1256,7 @@ expressions::for_loop-returns-in_err-test-clause-runs g t c =
     c.in_ok-on_ok.ensures.text c.eval_value.ensures.runs in
     fails_err c.from_residual-in_err-test.result c.in_err-test.field-0.0 p.0 _ _ _ p.1 p.2 c.in_err-test.ensures.refused
     (λ e h q style at.
-    let here = still_at _ _ c.args.place q style c.eval_value.ensures.steady at in
+    let here = still_at _ _ c.args.place q style c.eval_value.ensures.keeps.steady at in
     Looping.for_begins style c.args.args.now x.0 c.in_ok-on_ok.field-0 c.in-len4.len_at_least c.in-len4.len_below x.2 x.3
     (at_prog (ap script (sym start)) (x.1 q style (record { names = at.names; style_is = at.style_is })))
     (Conditions.test_misread style (get_or c.args.args.now 1 []) _ e (Conditions.misread_as c.integers.result style c.test-item.result (get_or c.args.args.now 1 []) e (c.integers.ensures ∙ here.style_is) test h)))
@@ -1295,8 +1297,7 @@ expressions::for_loop-turns-init g t c =
           (at_prog (ap script (sym start)) (x.1 q style (record { names = at.names; style_is = at.style_is }))) run;
       next = c.in_ok-next.ensures.cases ∙ Looping.item_at c.args.args.now 2 c.next-item.result (omega (arith, more)) c.next-item.is;
       body = c.in_ok-body.ensures.cases ∙ Looping.item_at c.args.args.now 3 c.body-item.result (omega (arith, more)) c.body-item.is;
-      steady = c.eval_value.ensures.steady;
-      left = c.eval_value.ensures.left;
+      keeps = c.eval_value.ensures.keeps;
     }
 
 pub expressions::for_loop-returns-in_err-turn-clause-runs : goal.expressions::for_loop-returns-in_err-turn-clause-runs
@@ -1306,29 +1307,29 @@ expressions::for_loop-returns-in_err-turn-clause-runs g t c =
     let test = Looping.item_at c.args.args.now 1 c.test-item.result (omega (arith, more)) c.test-item.is in
     ran_err c.from_residual-in_err-turn.result c.in_err-turn.field-0.0 p.0 _ _ _ p.1 p.2 c.in_err-turn.ensures.runs
     (λ e h q style at.
-    let first = still_at _ _ c.args.place q style c.eval_value.ensures.steady at in
+    let first = still_at _ _ c.args.place q style c.eval_value.ensures.keeps.steady at in
     c.turns.invariant.leads q style at _ _ _
     (at_prog (ap (λ (body : List ℕ). turn_then style (get_or c.args.args.now 1 []) body (next_then (get_or c.args.args.now 1 []) (get_or c.args.args.now 2 []) (get_or c.args.args.now 3 []))) (sym c.turns.invariant.body))
-    (h q style (still_at _ _ c.args.place q style c.turns.invariant.steady at) (get_or c.args.args.now 1 [])
+    (h q style (still_at _ _ c.args.place q style c.turns.invariant.keeps.steady at) (get_or c.args.args.now 1 [])
     (Conditions.kept_as_behind c.integers.result style c.test-item.result (get_or c.args.args.now 1 []) c.in_ok-test.test.value c.deref.result.now c.deref.ensures (c.integers.ensures ∙ first.style_is) test c.in_ok-test.ensures.read) _)))
 
-pub expressions::for_loop-returns-in_err-turn-clause-steady : goal.expressions::for_loop-returns-in_err-turn-clause-steady
-expressions::for_loop-returns-in_err-turn-clause-steady g t c = steady-trans _ _ _ c.turns.invariant.steady c.turn.ensures.steady
+pub expressions::for_loop-returns-in_err-turn-clause-keeps : goal.expressions::for_loop-returns-in_err-turn-clause-keeps
+expressions::for_loop-returns-in_err-turn-clause-keeps g t c = keeps-trans c.turns.invariant.keeps c.turn.ensures.keeps
 
 pub expressions::for_loop-returns-then-not-branch-clause-runs : goal.expressions::for_loop-returns-then-not-branch-clause-runs
 expressions::for_loop-returns-then-not-branch-clause-runs g t c = λ q style at.
     let more = c.in-len4.len_at_least in
     let test = Looping.item_at c.args.args.now 1 c.test-item.result (omega (arith, more)) c.test-item.is in
     let over = subst (TurnGoes (ways g.O.Outside.goes g.O.Outside.loses) c.turns.tree c.turns.outside c.args.place c.deref.result.now c.turns.body c.turn.new.tree c.turn.new.outside) c.if-not-branch.true c.in_ok-turn.ensures.runs in
-    let first = still_at _ _ c.args.place q style c.eval_value.ensures.steady at in
+    let first = still_at _ _ c.args.place q style c.eval_value.ensures.keeps.steady at in
     c.turns.invariant.leads q style at _ _ _
     (at_prog (ap (λ (body : List ℕ). turn_then style (get_or c.args.args.now 1 []) body (next_then (get_or c.args.args.now 1 []) (get_or c.args.args.now 2 []) (get_or c.args.args.now 3 []))) (sym c.turns.invariant.body))
     (at_reply (ap (λ (x : List ℕ). Completed (ok x)) c.empty.ensures)
-    (over q style (still_at _ _ c.args.place q style c.turns.invariant.steady at) (get_or c.args.args.now 1 [])
+    (over q style (still_at _ _ c.args.place q style c.turns.invariant.keeps.steady at) (get_or c.args.args.now 1 [])
     (Conditions.kept_as_behind c.integers.result style c.test-item.result (get_or c.args.args.now 1 []) c.in_ok-test.test.value c.deref.result.now c.deref.ensures (c.integers.ensures ∙ first.style_is) test c.in_ok-test.ensures.read) _)))
 
-pub expressions::for_loop-returns-then-not-branch-clause-steady : goal.expressions::for_loop-returns-then-not-branch-clause-steady
-expressions::for_loop-returns-then-not-branch-clause-steady g t c = steady-trans _ _ _ c.turns.invariant.steady c.turn.ensures.steady
+pub expressions::for_loop-returns-then-not-branch-clause-keeps : goal.expressions::for_loop-returns-then-not-branch-clause-keeps
+expressions::for_loop-returns-then-not-branch-clause-keeps g t c = keeps-trans c.turns.invariant.keeps c.turn.ensures.keeps
 
 pub expressions::for_loop-returns-in_err-turns_on-clause-runs : goal.expressions::for_loop-returns-in_err-turns_on-clause-runs
 expressions::for_loop-returns-in_err-turns_on-clause-runs g t c =
@@ -1340,17 +1341,17 @@ expressions::for_loop-returns-in_err-turns_on-clause-runs g t c =
     (Conditions.turned_err after_next c.eval_value-in-turns.result c.in_err-turns_on.field-0.0
     (EndsAt (ways g.O.Outside.goes g.O.Outside.loses) c.turn.new.tree c.turn.new.outside c.args.place (λ style. script c.turns.next) c.eval_value-in-turns.new.tree c.eval_value-in-turns.new.outside) c.in_err-turns_on.ensures c.eval_value-in-turns.ensures.runs)
     (λ e h q style at.
-    let first = still_at _ _ c.args.place q style c.eval_value.ensures.steady at in
-    let here = still_at _ _ c.args.place q style c.turns.invariant.steady at in
-    let after = still_at _ _ c.args.place q style c.turn.ensures.steady here in
+    let first = still_at _ _ c.args.place q style c.eval_value.ensures.keeps.steady at in
+    let here = still_at _ _ c.args.place q style c.turns.invariant.keeps.steady at in
+    let after = still_at _ _ c.args.place q style c.turn.ensures.keeps.steady here in
     c.turns.invariant.leads q style at _ _ _
     (at_prog (ap (λ (body : List ℕ). turn_then style (get_or c.args.args.now 1 []) body (next_then (get_or c.args.args.now 1 []) (get_or c.args.args.now 2 []) (get_or c.args.args.now 3 []))) (sym c.turns.invariant.body))
     (on q style here (get_or c.args.args.now 1 [])
     (Conditions.kept_as_behind c.integers.result style c.test-item.result (get_or c.args.args.now 1 []) c.in_ok-test.test.value c.deref.result.now c.deref.ensures (c.integers.ensures ∙ first.style_is) test c.in_ok-test.ensures.read) _ _ _ _
     (Conditions.leaves_after style after_next (get_or c.args.args.now 2 []) _ e h.1 (at_prog (ap script (sym c.turns.invariant.next)) (h.0 q style (record { names = after.names; style_is = after.style_is })))))))
 
-pub expressions::for_loop-returns-in_err-turns_on-clause-steady : goal.expressions::for_loop-returns-in_err-turns_on-clause-steady
-expressions::for_loop-returns-in_err-turns_on-clause-steady g t c = steady-trans _ _ _ (steady-trans _ _ _ c.turns.invariant.steady c.turn.ensures.steady) c.eval_value-in-turns.ensures.steady
+pub expressions::for_loop-returns-in_err-turns_on-clause-keeps : goal.expressions::for_loop-returns-in_err-turns_on-clause-keeps
+expressions::for_loop-returns-in_err-turns_on-clause-keeps g t c = keeps-trans (keeps-trans c.turns.invariant.keeps c.turn.ensures.keeps) c.eval_value-in-turns.ensures.keeps
 
 pub expressions::for_loop-returns-then-not-branch-2-clause-runs : goal.expressions::for_loop-returns-then-not-branch-2-clause-runs
 expressions::for_loop-returns-then-not-branch-2-clause-runs g t c = λ q style at.
@@ -1359,9 +1360,9 @@ expressions::for_loop-returns-then-not-branch-2-clause-runs g t c = λ q style a
     let on = subst (TurnGoes (ways g.O.Outside.goes g.O.Outside.loses) c.turns.tree c.turns.outside c.args.place c.deref.result.now c.turns.body c.turn.new.tree c.turn.new.outside) c.if-not-branch.false c.in_ok-turn.ensures.runs in
     let x = Conditions.turned_ok after_next c.eval_value-in-turns.result c.in_ok-turns_on.field-0 false
     (EndsAt (ways g.O.Outside.goes g.O.Outside.loses) c.turn.new.tree c.turn.new.outside c.args.place (λ style. script c.turns.next) c.eval_value-in-turns.new.tree c.eval_value-in-turns.new.outside) c.in_ok-turns_on.ensures c.if-not-branch-2.true c.eval_value-in-turns.ensures.runs in
-    let first = still_at _ _ c.args.place q style c.eval_value.ensures.steady at in
-    let here = still_at _ _ c.args.place q style c.turns.invariant.steady at in
-    let after = still_at _ _ c.args.place q style c.turn.ensures.steady here in
+    let first = still_at _ _ c.args.place q style c.eval_value.ensures.keeps.steady at in
+    let here = still_at _ _ c.args.place q style c.turns.invariant.keeps.steady at in
+    let after = still_at _ _ c.args.place q style c.turn.ensures.keeps.steady here in
     c.turns.invariant.leads q style at _ _ _
     (at_prog (ap (λ (body : List ℕ). turn_then style (get_or c.args.args.now 1 []) body (next_then (get_or c.args.args.now 1 []) (get_or c.args.args.now 2 []) (get_or c.args.args.now 3 []))) (sym c.turns.invariant.body))
     (on q style here (get_or c.args.args.now 1 [])
@@ -1369,8 +1370,8 @@ expressions::for_loop-returns-then-not-branch-2-clause-runs g t c = λ q style a
     (goes_on {i = Script (get_or c.args.args.now 2 [])} (at_prog (ap script (sym c.turns.invariant.next)) (x.1 q style (record { names = after.names; style_is = after.style_is })))
     (at_prog (x.2 (go (For (get_or c.args.args.now 1 []) (get_or c.args.args.now 2 []) (get_or c.args.args.now 3 [])) done)) (at_reply (ap (λ (y : List ℕ). Completed (ok y)) c.empty-then-not-branch-2.ensures) completed)))))
 
-pub expressions::for_loop-returns-then-not-branch-2-clause-steady : goal.expressions::for_loop-returns-then-not-branch-2-clause-steady
-expressions::for_loop-returns-then-not-branch-2-clause-steady g t c = steady-trans _ _ _ (steady-trans _ _ _ c.turns.invariant.steady c.turn.ensures.steady) c.eval_value-in-turns.ensures.steady
+pub expressions::for_loop-returns-then-not-branch-2-clause-keeps : goal.expressions::for_loop-returns-then-not-branch-2-clause-keeps
+expressions::for_loop-returns-then-not-branch-2-clause-keeps g t c = keeps-trans (keeps-trans c.turns.invariant.keeps c.turn.ensures.keeps) c.eval_value-in-turns.ensures.keeps
 
 pub expressions::for_loop-turns-preserved : goal.expressions::for_loop-turns-preserved
 expressions::for_loop-turns-preserved g t c =
@@ -1381,9 +1382,9 @@ expressions::for_loop-turns-preserved g t c =
     (EndsAt (ways g.O.Outside.goes g.O.Outside.loses) c.turn.new.tree c.turn.new.outside c.args.place (λ style. script c.turns.next) c.eval_value-in-turns.new.tree c.eval_value-in-turns.new.outside) c.in_ok-turns_on.ensures c.if-not-branch-2.false c.eval_value-in-turns.ensures.runs in
     record {
       leads = λ q style at V z r run.
-          let first = still_at _ _ c.args.place q style c.eval_value.ensures.steady at in
-          let here = still_at _ _ c.args.place q style c.turns.invariant.steady at in
-          let after = still_at _ _ c.args.place q style c.turn.ensures.steady here in
+          let first = still_at _ _ c.args.place q style c.eval_value.ensures.keeps.steady at in
+          let here = still_at _ _ c.args.place q style c.turns.invariant.keeps.steady at in
+          let after = still_at _ _ c.args.place q style c.turn.ensures.keeps.steady here in
           c.turns.invariant.leads q style at _ _ _
           (at_prog (ap (λ (body : List ℕ). turn_then style (get_or c.args.args.now 1 []) body (next_then (get_or c.args.args.now 1 []) (get_or c.args.args.now 2 []) (get_or c.args.args.now 3 []))) (sym c.turns.invariant.body))
           (on q style here (get_or c.args.args.now 1 [])
@@ -1393,8 +1394,7 @@ expressions::for_loop-turns-preserved g t c =
           (goes_done {i = For (get_or c.args.args.now 1 []) (get_or c.args.args.now 2 []) (get_or c.args.args.now 3 [])} run)))));
       next = c.eval_value-in-turns.ensures.same ∙ c.turns.invariant.next;
       body = c.turn.ensures.same ∙ c.turns.invariant.body;
-      steady = steady-trans _ _ _ (steady-trans _ _ _ c.turns.invariant.steady c.turn.ensures.steady) c.eval_value-in-turns.ensures.steady;
-      left = let a = c.turn.ensures.left in let b = c.turns.invariant.left in let d = c.eval_value-in-turns.ensures.left in omega arith;
+      keeps = keeps-trans (keeps-trans c.turns.invariant.keeps c.turn.ensures.keeps) c.eval_value-in-turns.ensures.keeps;
     }
 
 -- more turns than there are numbers
@@ -1412,8 +1412,7 @@ pub loops::walk_through-turns-init : goal.loops::walk_through-turns-init
 loops::walk_through-turns-init g t c = record {
   leads = λ q style at V z r run. run;
   script = c.in_ok-script.ensures.cases;
-  steady = steady-refl _;
-  left = search rules;
+  keeps = keeps-refl _ _;
 }
 
 pub loops::walk_through-returns-then-is_over-clause-runs : goal.loops::walk_through-returns-then-is_over-clause-runs
@@ -1428,7 +1427,7 @@ loops::walk_through-returns-in_err-charge-clause-runs g t c =
     let p = err_from_is_err_and c.from_residual-in_err-charge.result c.from_residual-in_err-charge.ensures.1 in
     says_err c.from_residual-in_err-charge.result c.in_err-charge.field-0.0 p.0 _ _ _ p.1 p.2 c.in_err-charge.ensures.refused
     (λ e h q style at. c.turns.invariant.leads q style at _ _ _
-    (Walking.turn_stops style (walks_at c.turns.turns c.args.walks.now) (done (ok [])) (body_then c.args.body.now) more (h q (still_at _ _ c.args.place q style c.turns.invariant.steady at).names)))
+    (Walking.turn_stops style (walks_at c.turns.turns c.args.walks.now) (done (ok [])) (body_then c.args.body.now) more (h q (still_at _ _ c.args.place q style c.turns.invariant.keeps.steady at).names)))
 
 pub loops::walk_through-returns-in_err-set_walks-clause-runs : goal.loops::walk_through-returns-in_err-set_walks-clause-runs
 loops::walk_through-returns-in_err-set_walks-clause-runs g t c =
@@ -1436,13 +1435,13 @@ loops::walk_through-returns-in_err-set_walks-clause-runs g t c =
     let p = err_from_is_err_and c.from_residual-in_err-set_walks.result c.from_residual-in_err-set_walks.ensures.1 in
     fails_err c.from_residual-in_err-set_walks.result c.in_err-set_walks.field-0.0 p.0 _ _ _ p.1 p.2 c.in_err-set_walks.ensures.set
     (λ e h q style at.
-    let here = still_at _ _ c.args.place q style c.turns.invariant.steady at in
+    let here = still_at _ _ c.args.place q style c.turns.invariant.keeps.steady at in
     let after = still_at _ _ c.args.place q style (level_steady _ _ c.charge.ensures.level) here in
     let counts = c.in_ok-charge.ensures.counted q here.names in
     c.turns.invariant.leads q style at _ _ _
     (Walking.turn_fails style (walks_at c.turns.turns c.args.walks.now) (done (ok [])) (body_then c.args.body.now) more counts (λ k. h q after.names k)))
     (λ q style at.
-    let here = still_at _ _ c.args.place q style c.turns.invariant.steady at in
+    let here = still_at _ _ c.args.place q style c.turns.invariant.keeps.steady at in
     let counts = c.in_ok-charge.ensures.counted q here.names in
     c.turns.invariant.leads q style at _ _ _ (Walking.turn_given_up style (walks_at c.turns.turns c.args.walks.now) (done (ok [])) (body_then c.args.body.now) more counts))
 
@@ -1454,7 +1453,7 @@ loops::walk_through-returns-in_err-goes_on-clause-runs g t c =
     (Conditions.turned_err after_body c.eval_value.result c.in_err-goes_on.field-0.0
     (EndsAt (ways g.O.Outside.goes g.O.Outside.loses) c.set_walks.new.tree c.charge.new.outside c.args.place (λ style. script c.turns.script) c.eval_value.new.tree c.eval_value.new.outside) c.in_err-goes_on.ensures c.eval_value.ensures.runs)
     (λ e h q style at.
-    let here = still_at _ _ c.args.place q style c.turns.invariant.steady at in
+    let here = still_at _ _ c.args.place q style c.turns.invariant.keeps.steady at in
     let after = still_at _ _ c.args.place q style (level_steady _ _ c.charge.ensures.level) here in
     let set = still_at _ _ c.args.place q style (level_steady _ _ c.set_walks.ensures.level) after in
     let counts = c.in_ok-charge.ensures.counted q here.names in
@@ -1468,7 +1467,7 @@ loops::walk_through-returns-then-not-branch-clause-runs g t c = λ q style at.
     let more = sym c.is_over.ensures ∙ c.if-is_over.false in
     let x = Conditions.turned_ok after_body c.eval_value.result c.in_ok-goes_on.field-0 false
     (EndsAt (ways g.O.Outside.goes g.O.Outside.loses) c.set_walks.new.tree c.charge.new.outside c.args.place (λ style. script c.turns.script) c.eval_value.new.tree c.eval_value.new.outside) c.in_ok-goes_on.ensures c.if-not-branch.true c.eval_value.ensures.runs in
-    let here = still_at _ _ c.args.place q style c.turns.invariant.steady at in
+    let here = still_at _ _ c.args.place q style c.turns.invariant.keeps.steady at in
     let after = still_at _ _ c.args.place q style (level_steady _ _ c.charge.ensures.level) here in
     let set = still_at _ _ c.args.place q style (level_steady _ _ c.set_walks.ensures.level) after in
     let counts = c.in_ok-charge.ensures.counted q here.names in
@@ -1485,7 +1484,7 @@ loops::walk_through-turns-preserved g t c =
     (EndsAt (ways g.O.Outside.goes g.O.Outside.loses) c.set_walks.new.tree c.charge.new.outside c.args.place (λ style. script c.turns.script) c.eval_value.new.tree c.eval_value.new.outside) c.in_ok-goes_on.ensures c.if-not-branch.false c.eval_value.ensures.runs in
     record {
       leads = λ q style at V z r run.
-          let here = still_at _ _ c.args.place q style c.turns.invariant.steady at in
+          let here = still_at _ _ c.args.place q style c.turns.invariant.keeps.steady at in
           let after = still_at _ _ c.args.place q style (level_steady _ _ c.charge.ensures.level) here in
           let set = still_at _ _ c.args.place q style (level_steady _ _ c.set_walks.ensures.level) after in
           let counts = c.in_ok-charge.ensures.counted q here.names in
@@ -1497,8 +1496,7 @@ loops::walk_through-turns-preserved g t c =
           (goes_done {i = Foreach (map passed (walks_at c.turns.turns c.args.walks.now)) c.args.body.now}
           (at_prog (ap (λ (ws : List Left). foreach_turns ws c.args.body.now) (Walking.walks_next c.turns.turns c.args.walks.now)) run)))));
       script = c.eval_value.ensures.same ∙ c.turns.invariant.script;
-      steady = steady-trans _ _ _ (steady-trans _ _ _ (steady-trans _ _ _ c.turns.invariant.steady (level_steady _ _ c.charge.ensures.level)) (level_steady _ _ c.set_walks.ensures.level)) c.eval_value.ensures.steady;
-      left = let a = c.eval_value.ensures.left in let b = c.turns.invariant.left in omega arith;
+      keeps = keeps-trans (keeps-trans (keeps-trans c.turns.invariant.keeps (charged_keeps c.charge.ensures.level c.charge.ensures.left)) (level_keeps _ c.set_walks.ensures.level)) c.eval_value.ensures.keeps;
     }
 
 pub loops::walk_through-returns-clause-runs : goal.loops::walk_through-returns-clause-runs
@@ -1544,8 +1542,7 @@ pub loops::dict-returns-in-None : goal.loops::dict-returns-in-None
 loops::dict-returns-in-None g t c = record {
   runs = proceeds_as (ways g.O.Outside.goes g.O.Outside.loses) c.args.tree.now c.dict.new.tree c.args.outside.now c.args.outside.now c.args.place (λ style. whole_dict style c.args.args.now) (λ style. plain_dict style c.args.args.now) c.dict.result (λ style. c.in-None.ensures style)
       (acts_proceeds (ways g.O.Outside.goes g.O.Outside.loses) c.args.tree.now c.dict.new.tree c.args.outside.now c.args.place (λ style. plain_dict style c.args.args.now) c.dict.result c.dict.ensures.acts);
-  steady = level_steady _ _ c.dict.ensures.level;
-  left = omega arith;
+  keeps = level_keeps _ c.dict.ensures.level;
 }
 
 pub collecting::lmap-returns-in_default-clause-runs : goal.collecting::lmap-returns-in_default-clause-runs
@@ -1573,8 +1570,7 @@ collecting::lmap-turns-init g t c = record {
   leads = λ q style at V z r run. Walking.lmap_begins style c.args.args.now c.in-Some.words.now c.in-Some.body.now c.in_ok-walks.walks.items c.in-Some.ensures c.in_ok-walks.ensures.read
       (at_prog ((λ i. lmap_turns (walks_at 0 c.in_ok-walks.walks.items) (sym c.in_ok-body.ensures.cases i) (sym c.in_ok-made.ensures i))) run);
   body = refl;
-  steady = steady-refl _;
-  left = search rules;
+  keeps = keeps-refl _ _;
 }
 
 pub collecting::lmap-returns-then-is_over-clause-runs : goal.collecting::lmap-returns-then-is_over-clause-runs
@@ -1591,7 +1587,7 @@ collecting::lmap-returns-in_err-charge-clause-runs g t c =
     let p = err_from_is_err_and c.from_residual-in_err-charge.result c.from_residual-in_err-charge.ensures.1 in
     says_err c.from_residual-in_err-charge.result c.in_err-charge.field-0.0 p.0 _ _ _ p.1 p.2 c.in_err-charge.ensures.refused
     (λ e h q style at. c.turns.invariant.leads q style at _ _ _
-    (Walking.turn_stops style (walks_at c.turns.turns c.in_ok-walks.walks.items) (gives (written_list c.turns.made)) (result_then c.in_ok-body.body c.turns.made) more (h q (still_at _ _ c.args.place q style c.turns.invariant.steady at).names)))
+    (Walking.turn_stops style (walks_at c.turns.turns c.in_ok-walks.walks.items) (gives (written_list c.turns.made)) (result_then c.in_ok-body.body c.turns.made) more (h q (still_at _ _ c.args.place q style c.turns.invariant.keeps.steady at).names)))
 
 pub collecting::lmap-returns-in_err-set_walks-clause-runs : goal.collecting::lmap-returns-in_err-set_walks-clause-runs
 collecting::lmap-returns-in_err-set_walks-clause-runs g t c =
@@ -1599,14 +1595,14 @@ collecting::lmap-returns-in_err-set_walks-clause-runs g t c =
     let p = err_from_is_err_and c.from_residual-in_err-set_walks.result c.from_residual-in_err-set_walks.ensures.1 in
     fails_err c.from_residual-in_err-set_walks.result c.in_err-set_walks.field-0.0 p.0 _ _ _ p.1 p.2 c.in_err-set_walks.ensures.set
     (λ e h q style at.
-    let here = still_at _ _ c.args.place q style c.turns.invariant.steady at in
+    let here = still_at _ _ c.args.place q style c.turns.invariant.keeps.steady at in
     let after = still_at _ _ c.args.place q style (level_steady _ _ c.charge.ensures.level) here in
     let counts = c.in_ok-charge.ensures.counted q here.names in
     c.turns.invariant.leads q style at _ _ _
     (Walking.turn_fails style (walks_at c.turns.turns c.in_ok-walks.walks.items) (gives (written_list c.turns.made)) (result_then c.in_ok-body.body c.turns.made) more counts
     (λ k. subst (λ (ws : List Walk). Does (sets_walks (walks_at c.turns.turns ws) (λ rest. k)) (tree_of c.charge.new.tree) q (tree_of c.set_walks.new.tree) e) c.as_slice-in-turns.ensures.value (h q after.names k))))
     (λ q style at.
-    let here = still_at _ _ c.args.place q style c.turns.invariant.steady at in
+    let here = still_at _ _ c.args.place q style c.turns.invariant.keeps.steady at in
     let counts = c.in_ok-charge.ensures.counted q here.names in
     c.turns.invariant.leads q style at _ _ _ (Walking.turn_given_up style (walks_at c.turns.turns c.in_ok-walks.walks.items) (gives (written_list c.turns.made)) (result_then c.in_ok-body.body c.turns.made) more counts))
 
@@ -1618,7 +1614,7 @@ collecting::lmap-returns-in_err-collects-clause-runs g t c =
     (Gathering.collected_err c.eval_value-ended.result c.in_err-collects.field-0.0 c.turns.made c.collects.new.made
     (EndsAt (ways g.O.Outside.goes g.O.Outside.loses) c.set_walks.new.tree c.charge.new.outside c.args.place (λ style. script c.turns.body) c.eval_value-ended.new.tree c.eval_value-ended.new.outside) c.in_err-collects.ensures c.eval_value-ended.ensures.runs)
     (λ e h q style at.
-    let here = still_at _ _ c.args.place q style c.turns.invariant.steady at in
+    let here = still_at _ _ c.args.place q style c.turns.invariant.keeps.steady at in
     let after = still_at _ _ c.args.place q style (level_steady _ _ c.charge.ensures.level) here in
     let set = still_at _ _ c.args.place q style (level_steady _ _ c.set_walks.ensures.level) after in
     let counts = c.in_ok-charge.ensures.counted q here.names in
@@ -1637,7 +1633,7 @@ collecting::lmap-returns-then-not-branch-clause-runs g t c =
     ran c.collected-then-not-branch.result (EndsBy (gives (written_list c.collects.new.made)))
     (EndsFrom (ways g.O.Outside.goes g.O.Outside.loses) c.args.tree.now c.args.outside.now c.args.place (λ style. lmap c.args.args.now) c.eval_value-ended.new.tree c.eval_value-ended.new.outside)
     (λ e h q style at.
-    let here = still_at _ _ c.args.place q style c.turns.invariant.steady at in
+    let here = still_at _ _ c.args.place q style c.turns.invariant.keeps.steady at in
     let after = still_at _ _ c.args.place q style (level_steady _ _ c.charge.ensures.level) here in
     let set = still_at _ _ c.args.place q style (level_steady _ _ c.set_walks.ensures.level) after in
     let counts = c.in_ok-charge.ensures.counted q here.names in
@@ -1649,7 +1645,7 @@ collecting::lmap-returns-then-not-branch-clause-runs g t c =
     (at_prog (x.2 (λ made. go (Lmap (map passed (walks_at c.turns.turns c.in_ok-walks.walks.items)) c.in_ok-body.body made) done))
     (Conditions.ends_by style (gives (written_list c.collects.new.made)) e h)))))
     (λ q style at.
-    let here = still_at _ _ c.args.place q style c.turns.invariant.steady at in
+    let here = still_at _ _ c.args.place q style c.turns.invariant.keeps.steady at in
     let after = still_at _ _ c.args.place q style (level_steady _ _ c.charge.ensures.level) here in
     let set = still_at _ _ c.args.place q style (level_steady _ _ c.set_walks.ensures.level) after in
     let counts = c.in_ok-charge.ensures.counted q here.names in
@@ -1667,7 +1663,7 @@ collecting::lmap-turns-preserved g t c =
     (EndsAt (ways g.O.Outside.goes g.O.Outside.loses) c.set_walks.new.tree c.charge.new.outside c.args.place (λ style. script c.turns.body) c.eval_value-ended.new.tree c.eval_value-ended.new.outside) c.in_ok-collects.ensures c.if-not-branch.false c.eval_value-ended.ensures.runs in
     record {
       leads = λ q style at V z r run.
-          let here = still_at _ _ c.args.place q style c.turns.invariant.steady at in
+          let here = still_at _ _ c.args.place q style c.turns.invariant.keeps.steady at in
           let after = still_at _ _ c.args.place q style (level_steady _ _ c.charge.ensures.level) here in
           let set = still_at _ _ c.args.place q style (level_steady _ _ c.set_walks.ensures.level) after in
           let counts = c.in_ok-charge.ensures.counted q here.names in
@@ -1680,8 +1676,7 @@ collecting::lmap-turns-preserved g t c =
           (goes_done {i = Lmap (map passed (walks_at c.turns.turns c.in_ok-walks.walks.items)) c.in_ok-body.body c.collects.new.made}
           (at_prog (ap (λ (ws : List Left). lmap_turns ws c.in_ok-body.body c.collects.new.made) (Walking.walks_next c.turns.turns c.in_ok-walks.walks.items)) run)))));
       body = c.eval_value-ended.ensures.same ∙ c.turns.invariant.body;
-      steady = steady-trans _ _ _ (steady-trans _ _ _ (steady-trans _ _ _ c.turns.invariant.steady (level_steady _ _ c.charge.ensures.level)) (level_steady _ _ c.set_walks.ensures.level)) c.eval_value-ended.ensures.steady;
-      left = let a = c.eval_value-ended.ensures.left in let b = c.turns.invariant.left in omega arith;
+      keeps = keeps-trans (keeps-trans (keeps-trans c.turns.invariant.keeps (charged_keeps c.charge.ensures.level c.charge.ensures.left)) (level_keeps _ c.set_walks.ensures.level)) c.eval_value-ended.ensures.keeps;
     }
 
 pub collecting::lmap-returns-clause-runs : goal.collecting::lmap-returns-clause-runs
@@ -1719,7 +1714,7 @@ loops::uplevel-returns-clause-runs g t c =
     (λ e h q style at.
     let n = stands (tree_of c.args.tree.now q) (tree_there c.args.tree.now q _ at.names) in
     let here = still_at c.args.tree.now c.set_aside.new.tree c.args.place q style (level_steady _ _ c.in_ok-set_aside.ensures.level) at in
-    let after = still_at c.set_aside.new.tree c.eval_value-ended.new.tree c.args.place q style c.eval_value-ended.ensures.steady here in
+    let after = still_at c.set_aside.new.tree c.eval_value-ended.new.tree c.args.place q style c.eval_value-ended.ensures.keeps.steady here in
     let m = stands (tree_of c.eval_value-ended.new.tree q) (tree_there c.eval_value-ended.new.tree q _ after.names) in
     Levelling.up_found style c.args.args.now c.in_ok-level.words.now c.in_ok-level.level n.1
     (ap (λ (s : Integers). script_level s n.0 c.args.args.now) (sym at.style_is) ∙ c.in_ok-level.ensures q n.0 at.names n.1)
@@ -1729,46 +1724,46 @@ loops::uplevel-returns-clause-runs g t c =
 -- what stays as it is, in conditions and loops
 
 pub expressions::if_first-condition-requires : goal.expressions::if_first-condition-requires
-expressions::if_first-condition-requires g t c κs within = (search rules, (search rules, still_running _ _ c.args.place c.tests.invariant.steady c.requires))
+expressions::if_first-condition-requires g t c κs within = (search rules, (search rules, still_running _ _ c.args.place c.tests.invariant.keeps.steady c.requires))
 
-pub expressions::if_first-returns-in_err-condition-clause-steady : goal.expressions::if_first-returns-in_err-condition-clause-steady
-expressions::if_first-returns-in_err-condition-clause-steady g t c = steady-trans _ _ _ c.tests.invariant.steady c.condition.ensures.steady
+pub expressions::if_first-returns-in_err-condition-clause-keeps : goal.expressions::if_first-returns-in_err-condition-clause-keeps
+expressions::if_first-returns-in_err-condition-clause-keeps g t c = keeps-trans c.tests.invariant.keeps c.condition.ensures.keeps
 
-pub expressions::if_first-returns-in_err-body-clause-steady : goal.expressions::if_first-returns-in_err-body-clause-steady
-expressions::if_first-returns-in_err-body-clause-steady g t c = steady-trans _ _ _ c.tests.invariant.steady c.condition.ensures.steady
+pub expressions::if_first-returns-in_err-body-clause-keeps : goal.expressions::if_first-returns-in_err-body-clause-keeps
+expressions::if_first-returns-in_err-body-clause-keeps g t c = keeps-trans c.tests.invariant.keeps c.condition.ensures.keeps
 
 pub expressions::if_first-eval_value-requires : goal.expressions::if_first-eval_value-requires
-expressions::if_first-eval_value-requires g t c κs within = (search rules, (search rules, let r = still_running _ _ c.args.place (steady-trans _ _ _ c.tests.invariant.steady c.condition.ensures.steady) c.requires in (r.0, r.1)))
+expressions::if_first-eval_value-requires g t c κs within = (search rules, (search rules, let r = still_running _ _ c.args.place (steady-trans _ _ _ c.tests.invariant.keeps.steady c.condition.ensures.keeps.steady) c.requires in (r.0, r.1)))
 
-pub expressions::if_first-returns-then-branch-clause-steady : goal.expressions::if_first-returns-then-branch-clause-steady
-expressions::if_first-returns-then-branch-clause-steady g t c = steady-trans _ _ _ c.tests.invariant.steady (steady-trans _ _ _ c.condition.ensures.steady c.eval_value.ensures.steady)
+pub expressions::if_first-returns-then-branch-clause-keeps : goal.expressions::if_first-returns-then-branch-clause-keeps
+expressions::if_first-returns-then-branch-clause-keeps g t c = keeps-trans c.tests.invariant.keeps (keeps-trans c.condition.ensures.keeps c.eval_value.ensures.keeps)
 
-pub expressions::if_first-returns-clause-steady : goal.expressions::if_first-returns-clause-steady
-expressions::if_first-returns-clause-steady g t c = steady-trans _ _ _ c.tests.invariant.steady c.eval_value-2.ensures.steady
+pub expressions::if_first-returns-clause-keeps : goal.expressions::if_first-returns-clause-keeps
+expressions::if_first-returns-clause-keeps g t c = keeps-trans c.tests.invariant.keeps c.eval_value-2.ensures.keeps
 
-pub expressions::while_loop-returns-in_err-turn-clause-steady : goal.expressions::while_loop-returns-in_err-turn-clause-steady
-expressions::while_loop-returns-in_err-turn-clause-steady g t c = steady-trans _ _ _ c.turns.invariant.steady c.turn.ensures.steady
+pub expressions::while_loop-returns-in_err-turn-clause-keeps : goal.expressions::while_loop-returns-in_err-turn-clause-keeps
+expressions::while_loop-returns-in_err-turn-clause-keeps g t c = keeps-trans c.turns.invariant.keeps c.turn.ensures.keeps
 
-pub expressions::while_loop-returns-then-not-branch-clause-steady : goal.expressions::while_loop-returns-then-not-branch-clause-steady
-expressions::while_loop-returns-then-not-branch-clause-steady g t c = steady-trans _ _ _ c.turns.invariant.steady c.turn.ensures.steady
+pub expressions::while_loop-returns-then-not-branch-clause-keeps : goal.expressions::while_loop-returns-then-not-branch-clause-keeps
+expressions::while_loop-returns-then-not-branch-clause-keeps g t c = keeps-trans c.turns.invariant.keeps c.turn.ensures.keeps
 
 pub expressions::for_loop-turn-requires : goal.expressions::for_loop-turn-requires
-expressions::for_loop-turn-requires g t c κs within = (search rules, (search rules, still_running _ _ c.args.place c.turns.invariant.steady c.requires))
+expressions::for_loop-turn-requires g t c κs within = (search rules, (search rules, still_running _ _ c.args.place c.turns.invariant.keeps.steady c.requires))
 
 pub expressions::for_loop-eval_value-requires-in-turns : goal.expressions::for_loop-eval_value-requires-in-turns
-expressions::for_loop-eval_value-requires-in-turns g t c κs within = (search rules, (search rules, let r = still_running _ _ c.args.place (steady-trans _ _ _ c.turns.invariant.steady c.turn.ensures.steady) c.requires in (r.0, r.1)))
+expressions::for_loop-eval_value-requires-in-turns g t c κs within = (search rules, (search rules, let r = still_running _ _ c.args.place (steady-trans _ _ _ c.turns.invariant.keeps.steady c.turn.ensures.keeps.steady) c.requires in (r.0, r.1)))
 
-pub loops::walk_through-returns-in_err-goes_on-clause-steady : goal.loops::walk_through-returns-in_err-goes_on-clause-steady
-loops::walk_through-returns-in_err-goes_on-clause-steady g t c = steady-trans _ _ _ c.turns.invariant.steady (steady-trans _ _ _ (level_steady _ _ c.charge.ensures.level) (steady-trans _ _ _ (level_steady _ _ c.set_walks.ensures.level) c.eval_value.ensures.steady))
+pub loops::walk_through-returns-in_err-goes_on-clause-keeps : goal.loops::walk_through-returns-in_err-goes_on-clause-keeps
+loops::walk_through-returns-in_err-goes_on-clause-keeps g t c = keeps-trans c.turns.invariant.keeps (keeps-trans (charged_keeps c.charge.ensures.level c.charge.ensures.left) (keeps-trans (level_keeps _ c.set_walks.ensures.level) c.eval_value.ensures.keeps))
 
-pub loops::walk_through-returns-then-not-branch-clause-steady : goal.loops::walk_through-returns-then-not-branch-clause-steady
-loops::walk_through-returns-then-not-branch-clause-steady g t c = steady-trans _ _ _ c.turns.invariant.steady (steady-trans _ _ _ (level_steady _ _ c.charge.ensures.level) (steady-trans _ _ _ (level_steady _ _ c.set_walks.ensures.level) c.eval_value.ensures.steady))
+pub loops::walk_through-returns-then-not-branch-clause-keeps : goal.loops::walk_through-returns-then-not-branch-clause-keeps
+loops::walk_through-returns-then-not-branch-clause-keeps g t c = keeps-trans c.turns.invariant.keeps (keeps-trans (charged_keeps c.charge.ensures.level c.charge.ensures.left) (keeps-trans (level_keeps _ c.set_walks.ensures.level) c.eval_value.ensures.keeps))
 
-pub collecting::lmap-returns-in_err-collects-clause-steady : goal.collecting::lmap-returns-in_err-collects-clause-steady
-collecting::lmap-returns-in_err-collects-clause-steady g t c = steady-trans _ _ _ c.turns.invariant.steady (steady-trans _ _ _ (level_steady _ _ c.charge.ensures.level) (steady-trans _ _ _ (level_steady _ _ c.set_walks.ensures.level) c.eval_value-ended.ensures.steady))
+pub collecting::lmap-returns-in_err-collects-clause-keeps : goal.collecting::lmap-returns-in_err-collects-clause-keeps
+collecting::lmap-returns-in_err-collects-clause-keeps g t c = keeps-trans c.turns.invariant.keeps (keeps-trans (charged_keeps c.charge.ensures.level c.charge.ensures.left) (keeps-trans (level_keeps _ c.set_walks.ensures.level) c.eval_value-ended.ensures.keeps))
 
-pub collecting::lmap-returns-then-not-branch-clause-steady : goal.collecting::lmap-returns-then-not-branch-clause-steady
-collecting::lmap-returns-then-not-branch-clause-steady g t c = steady-trans _ _ _ c.turns.invariant.steady (steady-trans _ _ _ (level_steady _ _ c.charge.ensures.level) (steady-trans _ _ _ (level_steady _ _ c.set_walks.ensures.level) c.eval_value-ended.ensures.steady))
+pub collecting::lmap-returns-then-not-branch-clause-keeps : goal.collecting::lmap-returns-then-not-branch-clause-keeps
+collecting::lmap-returns-then-not-branch-clause-keeps g t c = keeps-trans c.turns.invariant.keeps (keeps-trans (charged_keeps c.charge.ensures.level c.charge.ensures.left) (keeps-trans (level_keeps _ c.set_walks.ensures.level) c.eval_value-ended.ensures.keeps))
 
 -- `interp`, and a child's own command
 
@@ -1795,10 +1790,10 @@ interpreters::interp-returns-in-Tree-clause-runs g t c =
     let word = c.as_str.ensures ∙ c.in_ok-name.ensures in
     proceeds_as (ways g.O.Outside.goes g.O.Outside.loses) c.args.tree.now c.call_tree.new.tree c.args.outside.now c.call_tree.new.outside c.args.place (λ style. interp_program style c.args.args.now) (λ style. tree_program_of c.in-Tree.own words) c.call_tree.result
     (λ style. interp_known style c.args.args.now c.word-item.result c.as_str.result.now words c.interp_subcommand.result (Tree c.in-Tree.own) is word c.interp_subcommand.ensures (c.in-Some.is ∙ ap Some c.in-Tree.is))
-    (evaluates_proceeds (ways g.O.Outside.goes g.O.Outside.loses) c.args.tree.now c.call_tree.new.tree c.args.outside.now c.call_tree.new.outside c.args.place (λ style. tree_program_of c.in-Tree.own words) c.call_tree.result c.call_tree.ensures.evaluates c.call_tree.ensures.lost)
+    (evaluates_proceeds (ways g.O.Outside.goes g.O.Outside.loses) c.args.tree.now c.call_tree.new.tree c.args.outside.now c.call_tree.new.outside c.args.place (λ style. tree_program_of c.in-Tree.own words) c.call_tree.result c.call_tree.ensures.evaluates c.call_tree.ensures.keeps.lost)
 
-pub interpreters::interp-returns-in-Shared-clause-runs : goal.interpreters::interp-returns-in-Shared-clause-runs
-interpreters::interp-returns-in-Shared-clause-runs g t c =
+pub interpreters::interp-returns-clause-runs : goal.interpreters::interp-returns-clause-runs
+interpreters::interp-returns-clause-runs g t c =
     let words = take (length c.args.args.now - 1) (drop 1 c.args.args.now) in
     let is = split_first c.args.args.now c.word-item.result c.in-len1-up.len_at_least c.word-item.is in
     let word = c.as_str.ensures ∙ c.in_ok-name.ensures in
@@ -1809,7 +1804,7 @@ interpreters::interp-returns-in-Shared-clause-runs g t c =
 pub interpreters::call_subcommand-returns-in_default-clause-runs : goal.interpreters::call_subcommand-returns-in_default-clause-runs
 interpreters::call_subcommand-returns-in_default-clause-runs g t c =
     evaluates_proceeds (ways g.O.Outside.goes g.O.Outside.loses) c.args.tree.now c.call_shared.new.tree c.args.outside.now c.call_shared.new.outside c.args.place (λ style. program_of style c.args.subcommand (about c.args.subject) c.args.args.now) c.call_shared.result
-    c.call_shared.ensures.evaluates c.call_shared.ensures.lost
+    c.call_shared.ensures.evaluates c.call_shared.ensures.keeps.lost
 
 pub interpreters::eval_in-returns-then-is_empty-clause-runs : goal.interpreters::eval_in-returns-then-is_empty-clause-runs
 interpreters::eval_in-returns-then-is_empty-clause-runs g t c =
@@ -1910,13 +1905,12 @@ pub commands::call_builtin-returns-in-Rename-clause-runs : goal.commands::call_b
 commands::call_builtin-returns-in-Rename-clause-runs g t c =
     proceeds_as (ways g.O.Outside.goes g.O.Outside.loses) c.args.tree.now c.rename.new.tree c.args.outside.now c.rename.new.outside c.args.place (λ style. builtin_program style c.args.builtin c.args.args.now) (λ style. definitions.rename c.args.args.now) c.rename.result
     (λ style. ap (λ (b : Builtin). builtin_program style b c.args.args.now) c.in-Rename.is)
-    (evaluates_proceeds (ways g.O.Outside.goes g.O.Outside.loses) c.args.tree.now c.rename.new.tree c.args.outside.now c.rename.new.outside c.args.place (λ style. definitions.rename c.args.args.now) c.rename.result c.rename.ensures.evaluates c.rename.ensures.lost)
+    (evaluates_proceeds (ways g.O.Outside.goes g.O.Outside.loses) c.args.tree.now c.rename.new.tree c.args.outside.now c.rename.new.outside c.args.place (λ style. definitions.rename c.args.args.now) c.rename.result c.rename.ensures.evaluates c.rename.ensures.keeps.lost)
 
 pub commands::call_builtin-returns-in_default : goal.commands::call_builtin-returns-in_default
 commands::call_builtin-returns-in_default g t c = record {
   runs = acts_proceeds (ways g.O.Outside.goes g.O.Outside.loses) c.args.tree.now c.call_plain.new.tree c.args.outside.now c.args.place (λ style. builtin_program style c.args.builtin c.args.args.now) c.call_plain.result c.call_plain.ensures.acts;
-  steady = level_steady _ _ c.call_plain.ensures.level;
-  left = omega arith;
+  keeps = level_keeps _ c.call_plain.ensures.level;
 }
 
 -- # Choices of a script
@@ -1995,9 +1989,9 @@ trying::handle-returns-clause-runs g t c =
     (λ e h q style at. at_prog some (Choosing.named_comes style c.in-Some.names.now (completion_of c.args.completion) (runs_last (option_copied c.in-Some.script)) (c.in_ok-keep_named.ensures.kept q at.names)
     (h q style (still_at _ _ c.args.place q style (level_steady _ _ c.keep_named.ensures.level) at)))) c.run_handler.ensures.runs
 
-pub trying::handle-returns-clause-steady : goal.trying::handle-returns-clause-steady
-trying::handle-returns-clause-steady g t c =
-    steady-trans _ _ _ (level_steady _ _ c.keep_named.ensures.level) c.run_handler.ensures.steady
+pub trying::handle-returns-clause-keeps : goal.trying::handle-returns-clause-keeps
+trying::handle-returns-clause-keeps g t c =
+    keeps-trans (level_keeps _ c.keep_named.ensures.level) c.run_handler.ensures.keeps
 
 -- a body and its handlers
 
@@ -2016,7 +2010,7 @@ trying::handled-returns-in_err-completion-clause-runs g t c =
 
 pub trying::handled-handle-requires : goal.trying::handled-handle-requires
 trying::handled-handle-requires g t c κs within =
-    (search rules, (search rules, still_running _ _ c.args.place c.eval_value.ensures.steady c.requires))
+    (search rules, (search rules, still_running _ _ c.args.place c.eval_value.ensures.keeps.steady c.requires))
 
 pub trying::handled-returns-clause-runs : goal.trying::handled-returns-clause-runs
 trying::handled-returns-clause-runs g t c =
@@ -2026,11 +2020,11 @@ trying::handled-returns-clause-runs g t c =
     (EndsFrom (ways g.O.Outside.goes g.O.Outside.loses) c.eval_value.new.tree c.eval_value.new.outside c.args.place (λ style. handled_by (completion_of c.in_ok-completion.completion) (handlers_of c.args.handlers.now)) c.handle.new.tree c.handle.new.outside)
     (EndsFrom (ways g.O.Outside.goes g.O.Outside.loses) c.args.tree.now c.args.outside.now c.args.place (λ style. handled c.args.body.now (handlers_of c.args.handlers.now)) c.handle.new.tree c.handle.new.outside)
     (λ e h q style at. goes_on {i = Script c.args.body.now} (at_prog (ap script (sym c.in_ok-script.ensures.cases)) (caught q style (record { names = at.names; style_is = at.style_is })))
-    (h q style (still_at _ _ c.args.place q style c.eval_value.ensures.steady at))) c.handle.ensures.runs
+    (h q style (still_at _ _ c.args.place q style c.eval_value.ensures.keeps.steady at))) c.handle.ensures.runs
 
-pub trying::handled-returns-clause-steady : goal.trying::handled-returns-clause-steady
-trying::handled-returns-clause-steady g t c =
-    steady-trans _ _ _ c.eval_value.ensures.steady c.handle.ensures.steady
+pub trying::handled-returns-clause-keeps : goal.trying::handled-returns-clause-keeps
+trying::handled-returns-clause-keeps g t c =
+    keeps-trans c.eval_value.ensures.keeps c.handle.ensures.keeps
 
 -- `try`
 
@@ -2081,7 +2075,7 @@ trying::try_script-returns-in_err-script-clause-runs g t c =
 
 pub trying::try_script-eval_value-requires : goal.trying::try_script-eval_value-requires
 trying::try_script-eval_value-requires g t c κs within =
-    (search rules, (search rules, let r = still_running _ _ c.args.place c.handled-ended.ensures.steady c.requires in (r.0, r.1)))
+    (search rules, (search rules, let r = still_running _ _ c.args.place c.handled-ended.ensures.keeps.steady c.requires in (r.0, r.1)))
 
 pub trying::try_script-returns-in_err-on_ok-clause-runs : goal.trying::try_script-returns-in_err-on_ok-clause-runs
 trying::try_script-returns-in_err-on_ok-clause-runs g t c =
@@ -2094,14 +2088,14 @@ trying::try_script-returns-in_err-on_ok-clause-runs g t c =
     c.in_err-on_ok.ensures.same c.eval_value.ensures.runs c.in_err-on_ok.ensures.stays)
     (λ e h q style at.
     let same = c.integers.ensures ∙ at.style_is in
-    let after = still_at _ _ c.args.place q style c.handled-ended.ensures.steady at in
+    let after = still_at _ _ c.args.place q style c.handled-ended.ensures.keeps.steady at in
     Choosing.try_begins style c.args.args.now (take (length c.args.args.now - 1) (drop 1 c.args.args.now)) c.body-item.result (tried_seen c.in_ok-tried.tried) (split_first c.args.args.now c.body-item.result c.in-len1-up.len_at_least c.body-item.is) (ap (λ (s : Integers). tried_of s (take (length c.args.args.now - 1) (drop 1 c.args.args.now))) (sym same) ∙ c.in_ok-tried.ensures)
     (Choosing.finish_stays style c.body-item.result (handlers_of c.in_ok-tried.tried.handlers.items) (option_copied c.in_ok-tried.tried.last) c.in-Some.last.now (completion_of c.in_ok-completion.completion) e some h.1 (at_prog (ap (λ (hs : List TriedHandler). handled c.body-item.result (handlers_of hs)) (sym c.as_slice.ensures.value)) (caught q style at))
     (at_prog (ap script (sym c.in_ok-script.ensures.cases)) (h.0 q style (record { names = after.names; style_is = after.style_is })))))
 
-pub trying::try_script-returns-in_err-on_ok-clause-steady : goal.trying::try_script-returns-in_err-on_ok-clause-steady
-trying::try_script-returns-in_err-on_ok-clause-steady g t c =
-    steady-trans _ _ _ c.handled-ended.ensures.steady c.eval_value.ensures.steady
+pub trying::try_script-returns-in_err-on_ok-clause-keeps : goal.trying::try_script-returns-in_err-on_ok-clause-keeps
+trying::try_script-returns-in_err-on_ok-clause-keeps g t c =
+    keeps-trans c.handled-ended.ensures.keeps c.eval_value.ensures.keeps
 
 pub trying::try_script-returns-clause-runs : goal.trying::try_script-returns-clause-runs
 trying::try_script-returns-clause-runs g t c =
@@ -2113,21 +2107,21 @@ trying::try_script-returns-clause-runs g t c =
     (EndsFrom (ways g.O.Outside.goes g.O.Outside.loses) c.args.tree.now c.args.outside.now c.args.place (λ style. try_script style c.args.args.now) c.eval_value.new.tree c.eval_value.new.outside)
     (λ e h q style at.
     let same = c.integers.ensures ∙ at.style_is in
-    let after = still_at _ _ c.args.place q style c.handled-ended.ensures.steady at in
+    let after = still_at _ _ c.args.place q style c.handled-ended.ensures.keeps.steady at in
     Choosing.try_begins style c.args.args.now (take (length c.args.args.now - 1) (drop 1 c.args.args.now)) c.body-item.result (tried_seen c.in_ok-tried.tried) (split_first c.args.args.now c.body-item.result c.in-len1-up.len_at_least c.body-item.is) (ap (λ (s : Integers). tried_of s (take (length c.args.args.now - 1) (drop 1 c.args.args.now))) (sym same) ∙ c.in_ok-tried.ensures)
     (Choosing.finish_goes style c.body-item.result (handlers_of c.in_ok-tried.tried.handlers.items) (option_copied c.in_ok-tried.tried.last) c.in-Some.last.now (completion_of c.in_ok-completion.completion) x.0 c.in_ok-on_ok.field-0 some x.2 x.3 (at_prog (ap (λ (hs : List TriedHandler). handled c.body-item.result (handlers_of hs)) (sym c.as_slice.ensures.value)) (caught q style at))
     (at_prog (ap script (sym c.in_ok-script.ensures.cases)) (x.1 q style (record { names = after.names; style_is = after.style_is }))) (at_reply h completed)))
     (λ q style at.
     let same = c.integers.ensures ∙ at.style_is in
-    let after = still_at _ _ c.args.place q style c.handled-ended.ensures.steady at in
+    let after = still_at _ _ c.args.place q style c.handled-ended.ensures.keeps.steady at in
     Choosing.try_begins style c.args.args.now (take (length c.args.args.now - 1) (drop 1 c.args.args.now)) c.body-item.result (tried_seen c.in_ok-tried.tried) (split_first c.args.args.now c.body-item.result c.in-len1-up.len_at_least c.body-item.is) (ap (λ (s : Integers). tried_of s (take (length c.args.args.now - 1) (drop 1 c.args.args.now))) (sym same) ∙ c.in_ok-tried.ensures)
     (Choosing.finish_goes style c.body-item.result (handlers_of c.in_ok-tried.tried.handlers.items) (option_copied c.in_ok-tried.tried.last) c.in-Some.last.now (completion_of c.in_ok-completion.completion) x.0 c.in_ok-on_ok.field-0 some x.2 x.3 (at_prog (ap (λ (hs : List TriedHandler). handled c.body-item.result (handlers_of hs)) (sym c.as_slice.ensures.value)) (caught q style at))
     (at_prog (ap script (sym c.in_ok-script.ensures.cases)) (x.1 q style (record { names = after.names; style_is = after.style_is }))) stopped))
     c.released.ensures
 
-pub trying::try_script-returns-clause-steady : goal.trying::try_script-returns-clause-steady
-trying::try_script-returns-clause-steady g t c =
-    steady-trans _ _ _ c.handled-ended.ensures.steady c.eval_value.ensures.steady
+pub trying::try_script-returns-clause-keeps : goal.trying::try_script-returns-clause-keeps
+trying::try_script-returns-clause-keeps g t c =
+    keeps-trans c.handled-ended.ensures.keeps c.eval_value.ensures.keeps
 
 -- # What reaches the host
 
@@ -2275,13 +2269,13 @@ hosting::make_call-returns-in_err-reply-clause-runs g t c =
 pub hosting::make_call-returns-clause-runs : goal.hosting::make_call-returns-clause-runs
 hosting::make_call-returns-clause-runs g t c =
     call_answered (ways g.O.Outside.goes g.O.Outside.loses) c.args.tree.now c.ask.new.tree c.answer.new.tree c.args.outside.now c.ask.new.outside c.args.place c.args.call.now (request_of c.in_ok-request.request) (reply_of c.in_ok-reply.reply) c.answer.result
-    c.in_ok-request.ensures c.in_ok-reply.ensures.runs c.ask.ensures.steady c.answer.ensures.acts
+    c.in_ok-request.ensures c.in_ok-reply.ensures.runs c.ask.ensures.keeps.steady c.answer.ensures.acts
 
 pub hosting::make_call-answer-requires : goal.hosting::make_call-answer-requires
-hosting::make_call-answer-requires g t c = let r = still_running _ _ c.args.place c.ask.ensures.steady c.requires in (r.0, r.1)
+hosting::make_call-answer-requires g t c = let r = still_running _ _ c.args.place c.ask.ensures.keeps.steady c.requires in (r.0, r.1)
 
-pub hosting::make_call-returns-clause-steady : goal.hosting::make_call-returns-clause-steady
-hosting::make_call-returns-clause-steady g t c = steady-trans _ _ _ c.ask.ensures.steady (level_steady _ _ c.answer.ensures.level)
+pub hosting::make_call-returns-clause-keeps : goal.hosting::make_call-returns-clause-keeps
+hosting::make_call-returns-clause-keeps g t c = keeps-trans c.ask.ensures.keeps (level_keeps _ c.answer.ensures.level)
 
 pub hosting::call_host-returns-in_err-call-clause-runs : goal.hosting::call_host-returns-in_err-call-clause-runs
 hosting::call_host-returns-in_err-call-clause-runs g t c =
@@ -2323,15 +2317,15 @@ sourcing::source_file-returns-in_err-script-clause-runs g t c =
     ran_err c.from_residual.result c.in_err-script.field-0.0 p.0 _ _ _ p.1 p.2 c.in_err-script.ensures.runs (λ e h. h)
 
 pub sourcing::source_file-eval_file-requires : goal.sourcing::source_file-eval_file-requires
-sourcing::source_file-eval_file-requires g t c κs within = (search rules, (search rules, still_running _ _ c.args.place c.read_file.ensures.steady c.requires))
+sourcing::source_file-eval_file-requires g t c κs within = (search rules, (search rules, still_running _ _ c.args.place c.read_file.ensures.keeps.steady c.requires))
 
 pub sourcing::source_file-returns-clause-runs : goal.sourcing::source_file-returns-clause-runs
 sourcing::source_file-returns-clause-runs g t c =
     script_goes (ways g.O.Outside.goes g.O.Outside.loses) c.args.tree.now c.read_file.new.tree c.eval_file.new.tree c.args.outside.now c.read_file.new.outside c.eval_file.new.outside c.args.place (sourcing.sources c.args.file.now) c.in_ok-script.script c.eval_file.result
-    c.in_ok-script.ensures.runs c.read_file.ensures.steady c.eval_file.ensures.runs
+    c.in_ok-script.ensures.runs c.read_file.ensures.keeps.steady c.eval_file.ensures.runs
 
-pub sourcing::source_file-returns-clause-steady : goal.sourcing::source_file-returns-clause-steady
-sourcing::source_file-returns-clause-steady g t c = steady-trans _ _ _ c.read_file.ensures.steady c.eval_file.ensures.steady
+pub sourcing::source_file-returns-clause-keeps : goal.sourcing::source_file-returns-clause-keeps
+sourcing::source_file-returns-clause-keeps g t c = keeps-trans c.read_file.ensures.keeps c.eval_file.ensures.keeps
 
 pub sourcing::read_file-returns-in_err-clone-clause-runs : goal.sourcing::read_file-returns-in_err-clone-clause-runs
 sourcing::read_file-returns-in_err-clone-clause-runs g t c =
@@ -2356,7 +2350,7 @@ sourcing::read_file-returns-in_err-channel-clause-runs g t c =
     p.1 p.2 c.in_err-channel.ensures
 
 pub sourcing::read_file-read_channel-requires : goal.sourcing::read_file-read_channel-requires
-sourcing::read_file-read_channel-requires g t c κs within = (search rules, (search rules, still_running _ _ c.args.place c.ask.ensures.steady c.requires))
+sourcing::read_file-read_channel-requires g t c κs within = (search rules, (search rules, still_running _ _ c.args.place c.ask.ensures.keeps.steady c.requires))
 
 pub sourcing::read_file-returns-clause-runs : goal.sourcing::read_file-returns-clause-runs
 sourcing::read_file-returns-clause-runs g t c =
@@ -2364,10 +2358,10 @@ sourcing::read_file-returns-clause-runs g t c =
     reads_after (ways g.O.Outside.goes g.O.Outside.loses) c.args.tree.now c.ask.new.tree c.read_channel.new.tree c.args.outside.now c.ask.new.outside c.read_channel.new.outside c.args.place (sourcing.sources c.args.file.now) (sourcing.reads_script c.args.file.now c.in_ok-channel.channel) c.read_channel.result
     (λ q style at V w e h. reads_heard (ways g.O.Outside.goes g.O.Outside.loses) c.args.tree.now c.ask.new.tree c.ask.new.tree c.args.outside.now c.ask.new.outside c.ask.new.outside c.args.place (sourcing.sources c.args.file.now) (asking.Request.Open c.in_ok-clone.field-0 (codes "r")) (sourcing.script_opened c.args.file.now) (reply_of c.in_ok-reply.reply)
     (ap (λ (x : Text). hosting.asks (asking.Request.Open x (codes "r")) (sourcing.script_opened c.args.file.now)) (sym file)) c.in_ok-reply.ensures.runs q style at V w e (at_prog c.in_ok-channel.ensures h))
-    c.ask.ensures.steady c.read_channel.ensures.runs
+    c.ask.ensures.keeps.steady c.read_channel.ensures.runs
 
-pub sourcing::read_file-returns-clause-steady : goal.sourcing::read_file-returns-clause-steady
-sourcing::read_file-returns-clause-steady g t c = steady-trans _ _ _ c.ask.ensures.steady c.read_channel.ensures.steady
+pub sourcing::read_file-returns-clause-keeps : goal.sourcing::read_file-returns-clause-keeps
+sourcing::read_file-returns-clause-keeps g t c = keeps-trans c.ask.ensures.keeps c.read_channel.ensures.keeps
 
 pub sourcing::read_channel-returns-in_err-clone-clause-runs : goal.sourcing::read_channel-returns-in_err-clone-clause-runs
 sourcing::read_channel-returns-in_err-clone-clause-runs g t c =
@@ -2388,7 +2382,7 @@ sourcing::read_channel-returns-in_err-read-clause-runs g t c =
     c.from_residual-in_err-read.result c.in_err-read.field-0.0 p.0 (ap (λ (x : Text). hosting.asks (asking.Request.ReadAll x) (λ read. hosting.asks (asking.Request.Close c.args.channel.now) (sourcing.closed c.args.file.now read))) (sym channel)) p.1 p.2 c.in_err-read.ensures.runs
 
 pub sourcing::read_channel-ask-requires-2 : goal.sourcing::read_channel-ask-requires-2
-sourcing::read_channel-ask-requires-2 g t c κs within = (search rules, (search rules, still_running _ _ c.args.place c.ask.ensures.steady c.requires))
+sourcing::read_channel-ask-requires-2 g t c κs within = (search rules, (search rules, still_running _ _ c.args.place c.ask.ensures.keeps.steady c.requires))
 
 pub sourcing::read_channel-returns-in_err-closed-clause-runs : goal.sourcing::read_channel-returns-in_err-closed-clause-runs
 sourcing::read_channel-returns-in_err-closed-clause-runs g t c =
@@ -2398,10 +2392,10 @@ sourcing::read_channel-returns-in_err-closed-clause-runs g t c =
     heard_once (ways g.O.Outside.goes g.O.Outside.loses) c.args.tree.now c.ask.new.tree c.ask-2.new.tree c.args.outside.now c.ask.new.outside c.ask-2.new.outside c.args.place (sourcing.reads_script c.args.file.now c.args.channel.now) (asking.Request.ReadAll c.in_ok-clone.field-0) (asking.Request.Close c.in_ok-clone-2.field-0)
     (sourcing.closed c.args.file.now) (reply_of c.in_ok-read.read) c.from_residual-in_err-closed.result c.in_err-closed.field-0.0 p.0
     (λ i. hosting.asks (asking.Request.ReadAll (sym channel i)) (λ read. hosting.asks (asking.Request.Close (sym closes i)) (sourcing.closed c.args.file.now read)))
-    c.in_ok-read.ensures.runs c.ask.ensures.steady p.1 p.2 c.in_err-closed.ensures.runs
+    c.in_ok-read.ensures.runs c.ask.ensures.keeps.steady p.1 p.2 c.in_err-closed.ensures.runs
 
-pub sourcing::read_channel-returns-in_err-closed-clause-steady : goal.sourcing::read_channel-returns-in_err-closed-clause-steady
-sourcing::read_channel-returns-in_err-closed-clause-steady g t c = steady-trans _ _ _ c.ask.ensures.steady c.ask-2.ensures.steady
+pub sourcing::read_channel-returns-in_err-closed-clause-keeps : goal.sourcing::read_channel-returns-in_err-closed-clause-keeps
+sourcing::read_channel-returns-in_err-closed-clause-keeps g t c = keeps-trans c.ask.ensures.keeps c.ask-2.ensures.keeps
 
 pub sourcing::read_channel-returns-clause-runs : goal.sourcing::read_channel-returns-clause-runs
 sourcing::read_channel-returns-clause-runs g t c =
@@ -2411,10 +2405,10 @@ sourcing::read_channel-returns-clause-runs g t c =
     (heard_twice (ways g.O.Outside.goes g.O.Outside.loses) c.args.tree.now c.ask.new.tree c.ask-2.new.tree c.args.outside.now c.ask.new.outside c.ask-2.new.outside c.args.place (sourcing.reads_script c.args.file.now c.args.channel.now) (asking.Request.ReadAll c.in_ok-clone.field-0) (asking.Request.Close c.in_ok-clone-2.field-0)
     (sourcing.closed c.args.file.now) (reply_of c.in_ok-read.read) (reply_of c.in_ok-closed.closed)
     (λ i. hosting.asks (asking.Request.ReadAll (sym channel i)) (λ read. hosting.asks (asking.Request.Close (sym closes i)) (sourcing.closed c.args.file.now read)))
-    c.in_ok-read.ensures.runs c.ask.ensures.steady c.in_ok-closed.ensures.runs) c.script_of_file.ensures
+    c.in_ok-read.ensures.runs c.ask.ensures.keeps.steady c.in_ok-closed.ensures.runs) c.script_of_file.ensures
 
-pub sourcing::read_channel-returns-clause-steady : goal.sourcing::read_channel-returns-clause-steady
-sourcing::read_channel-returns-clause-steady g t c = steady-trans _ _ _ c.ask.ensures.steady c.ask-2.ensures.steady
+pub sourcing::read_channel-returns-clause-keeps : goal.sourcing::read_channel-returns-clause-keeps
+sourcing::read_channel-returns-clause-keeps g t c = keeps-trans c.ask.ensures.keeps c.ask-2.ensures.keeps
 
 pub sourcing::eval_file-returns-clause-runs : goal.sourcing::eval_file-returns-clause-runs
 sourcing::eval_file-returns-clause-runs g t c =
@@ -2501,7 +2495,7 @@ crossing::call_past_top-returns-clause-runs g t c =
 pub crossing::call_there-return_to_caller-requires : goal.crossing::call_there-return_to_caller-requires
 crossing::call_there-return_to_caller-requires g t c =
     let p = c.requires.running.0 in
-    (p, c.serve_entry-ended.ensures.steady.keys p _ c.requires.running.1 c.requires.running.2)
+    (p, c.serve_entry-ended.ensures.keeps.steady.keys p _ c.requires.running.1 c.requires.running.2)
 
 pub crossing::call_there-returns-in_err-notify-clause-runs : goal.crossing::call_there-returns-in_err-notify-clause-runs
 crossing::call_there-returns-in_err-notify-clause-runs g t c =
@@ -2512,12 +2506,12 @@ pub crossing::call_there-returns-clause-runs : goal.crossing::call_there-returns
 crossing::call_there-returns-clause-runs g t c =
     calls_there (ways g.O.Outside.goes g.O.Outside.loses) c.args.tree.now c.serve_entry-ended.new.tree c.args.outside.now c.args.caller c.args.up c.args.down.now (whole_entry c.args.entry) c.return_to_caller.result
     c.notify.new.self c.serve_entry-ended.new.outside c.return_to_caller.new.outside c.args.target c.serve_entry-ended.result c.requires.leads (λ p a at e. c.in_ok-notify.ensures.told p a at e)
-    c.serve_entry-ended.ensures.runs c.return_to_caller.ensures.comes c.return_to_caller.ensures.lost c.serve_entry-ended.ensures.steady
+    c.serve_entry-ended.ensures.runs c.return_to_caller.ensures.comes c.return_to_caller.ensures.lost c.serve_entry-ended.ensures.keeps.steady
 
 pub crossing::serve_entry-returns-in-Own-clause-runs : goal.crossing::serve_entry-returns-in-Own-clause-runs
 crossing::serve_entry-returns-in-Own-clause-runs g t c =
     evaluates_there (ways g.O.Outside.goes g.O.Outside.loses) c.args.tree.now c.serve.new.tree c.args.outside.now c.serve.new.outside c.args.place (whole_entry c.args.entry) (entry_of c.in-Own.own) c.serve.result (ap whole_entry c.in-Own.is)
-    (evaluates_at_proceeds (ways g.O.Outside.goes g.O.Outside.loses) c.args.tree.now c.serve.new.tree c.args.outside.now c.serve.new.outside c.args.place (λ style. serve style (entry_of c.in-Own.own)) c.serve.result c.serve.ensures.runs c.serve.ensures.lost)
+    (evaluates_at_proceeds (ways g.O.Outside.goes g.O.Outside.loses) c.args.tree.now c.serve.new.tree c.args.outside.now c.serve.new.outside c.args.place (λ style. serve style (entry_of c.in-Own.own)) c.serve.result c.serve.ensures.runs c.serve.ensures.keeps.lost)
 
 pub crossing::serve_entry-returns-clause-runs : goal.crossing::serve_entry-returns-clause-runs
 crossing::serve_entry-returns-clause-runs g t c =
@@ -2563,34 +2557,33 @@ waiting::hand_in-returns-clause-runs g t c =
     let same = to_z-of_z w64 c.in-Some.status fits_it in
     Awaited.handed_out (ways g.O.Outside.goes g.O.Outside.loses) c.args.tree.now c.enter-ended.new.tree c.args.outside.now c.enter-ended.new.outside c.args.place c.args.up (whole_entry c.args.entry.now) c.as_slice-path.result.now c.args.target.items
     (whole_entry c.args.inner) c.enter-ended.result c.notify.new.self c.notify-2.new.self _ c.in_ok-status.field-0 (c.in-Some.is ∙ ap (λ (n : ℤ). Some n) (sym same)) c.as_slice-path.ensures.value
-    c.enter-ended.ensures.runs c.in_ok-notify.ensures.told c.in_ok-status.ensures (λ p at e. c.in_ok-notify-2.ensures.told c.requires.handed p at e) c.enter-ended.ensures.steady
+    c.enter-ended.ensures.runs c.in_ok-notify.ensures.told c.in_ok-status.ensures (λ p at e. c.in_ok-notify-2.ensures.told c.requires.handed p at e) c.enter-ended.ensures.keeps.steady
 
 pub waiting::wait-returns-in_err-target-clause-runs : goal.waiting::wait-returns-in_err-target-clause-runs
 waiting::wait-returns-in_err-target-clause-runs g t c =
     let p = err_from_is_err_and c.from_residual.result c.from_residual.ensures.1 in
     ran_err c.from_residual.result c.in_err-target.field-0.0 p.0 _ _ _ p.1 p.2
     (Awaited.ends_wait (ways g.O.Outside.goes g.O.Outside.loses) c.args.tree.now c.turns.tree c.args.outside.now c.turns.outside c.next.new.self c.args.place c.args.up (whole_entry c.args.entry.now) c.in_err-target.field-0.0
-    c.turns.invariant.leads c.turns.invariant.steady c.requires.above (λ q at e. c.in_err-target.ensures.comes q at e) c.in_err-target.ensures.lost) (λ e h. h)
+    c.turns.invariant.leads c.turns.invariant.keeps.steady c.requires.above (λ q at e. c.in_err-target.ensures.comes q at e) c.in_err-target.ensures.lost) (λ e h. h)
 
 pub waiting::wait-hand_in-requires : goal.waiting::wait-hand_in-requires
 waiting::wait-hand_in-requires g t c =
     let p = c.requires.running.0 in
-    let named = c.turns.invariant.steady.keys p _ c.requires.running.1 c.requires.running.2 in
+    let named = c.turns.invariant.keeps.steady.keys p _ c.requires.running.1 c.requires.running.2 in
     let comes = Awaited.turned (ways g.O.Outside.goes g.O.Outside.loses) g.O.Outside.hands_in (tree_of c.turns.tree) c.turns.outside c.next.new.self p c.args.up (whole_entry c.args.entry.now) c.in_ok-target.field-0 _ c.in-Entry.is
     (c.in_ok-target.ensures.comes p named (c.requires.above p c.requires.running.1)) in
     let fewer = subst (λ (x : Turn). OnEntry (Ok x) (g.O.Outside.entries_left c.next.new.self < g.O.Outside.entries_left c.turns.outside)) c.in-Entry.is c.in_ok-target.ensures.fewer in
-    let left = c.turns.invariant.left in
+    let left = c.turns.invariant.keeps.left in
     let most : room (tree_of c.turns.tree) ≤ 1000 = omega arith in
-    λ κs h. (search rules, (search rules, ((p, named, still_in_use c.args.tree.now c.turns.tree p c.turns.invariant.steady c.requires.running.2), comes.1)))
+    λ κs h. (search rules, (search rules, ((p, named, still_in_use c.args.tree.now c.turns.tree p c.turns.invariant.keeps.steady c.requires.running.2), comes.1)))
 
 pub waiting::wait-turns-preserved : goal.waiting::wait-turns-preserved
 waiting::wait-turns-preserved g t c = record {
   leads = Awaited.waits_on (ways g.O.Outside.goes g.O.Outside.loses) c.args.tree.now c.turns.tree c.hand_in.new.tree c.args.outside.now c.turns.outside c.next.new.self c.hand_in.new.outside c.args.place c.args.up (whole_entry c.args.entry.now)
-      c.in-Entry.target.items (whole_entry c.in-Entry.inner) c.turns.invariant.leads c.turns.invariant.steady c.requires.above
+      c.in-Entry.target.items (whole_entry c.in-Entry.inner) c.turns.invariant.leads c.turns.invariant.keeps.steady c.requires.above
       (λ p at e. (Awaited.turned (ways g.O.Outside.goes g.O.Outside.loses) g.O.Outside.hands_in (tree_of c.turns.tree) c.turns.outside c.next.new.self p c.args.up (whole_entry c.args.entry.now) c.in_ok-target.field-0 _ c.in-Entry.is (c.in_ok-target.ensures.comes p at e)).0)
       c.in_ok-hand_in-in-Entry.ensures.runs;
-  steady = steady-trans _ _ _ c.turns.invariant.steady c.hand_in.ensures.steady;
-  left = let a = c.hand_in.ensures.left in let b = c.turns.invariant.left in let d = c.next.ensures.left in omega arith;
+  keeps = keeps-trans c.turns.invariant.keeps (keeps-trans (told_keeps c.next.ensures.left) c.hand_in.ensures.keeps);
 }
 
 pub waiting::wait-returns-in_err-hand_in-in-Entry-clause-runs : goal.waiting::wait-returns-in_err-hand_in-in-Entry-clause-runs
@@ -2598,28 +2591,28 @@ waiting::wait-returns-in_err-hand_in-in-Entry-clause-runs g t c =
     let p = err_from_is_err_and c.from_residual-in_err-hand_in-in-Entry.result c.from_residual-in_err-hand_in-in-Entry.ensures.1 in
     ran_err c.from_residual-in_err-hand_in-in-Entry.result c.in_err-hand_in-in-Entry.field-0.0 p.0 _ _ _ p.1 p.2
     (Awaited.waits_out (ways g.O.Outside.goes g.O.Outside.loses) c.args.tree.now c.turns.tree c.hand_in.new.tree c.args.outside.now c.turns.outside c.next.new.self c.hand_in.new.outside c.args.place c.args.up (whole_entry c.args.entry.now)
-    c.in-Entry.target.items (whole_entry c.in-Entry.inner) c.in_err-hand_in-in-Entry.field-0.0 c.turns.invariant.leads c.turns.invariant.steady c.requires.above
+    c.in-Entry.target.items (whole_entry c.in-Entry.inner) c.in_err-hand_in-in-Entry.field-0.0 c.turns.invariant.leads c.turns.invariant.keeps.steady c.requires.above
     (λ q at e. (Awaited.turned (ways g.O.Outside.goes g.O.Outside.loses) g.O.Outside.hands_in (tree_of c.turns.tree) c.turns.outside c.next.new.self q c.args.up (whole_entry c.args.entry.now) c.in_ok-target.field-0 _ c.in-Entry.is (c.in_ok-target.ensures.comes q at e)).0)
     c.in_err-hand_in-in-Entry.ensures.runs) (λ e h. h)
 
-pub waiting::wait-returns-in_err-hand_in-in-Entry-clause-steady : goal.waiting::wait-returns-in_err-hand_in-in-Entry-clause-steady
-waiting::wait-returns-in_err-hand_in-in-Entry-clause-steady g t c = steady-trans _ _ _ c.turns.invariant.steady c.hand_in.ensures.steady
+pub waiting::wait-returns-in_err-hand_in-in-Entry-clause-keeps : goal.waiting::wait-returns-in_err-hand_in-in-Entry-clause-keeps
+waiting::wait-returns-in_err-hand_in-in-Entry-clause-keeps g t c = keeps-trans c.turns.invariant.keeps (keeps-trans (told_keeps c.next.ensures.left) c.hand_in.ensures.keeps)
 
 pub waiting::wait-returns-in-Completed-clause-runs : goal.waiting::wait-returns-in-Completed-clause-runs
 waiting::wait-returns-in-Completed-clause-runs g t c =
     Awaited.completes_wait (ways g.O.Outside.goes g.O.Outside.loses) c.args.tree.now c.turns.tree c.args.outside.now c.turns.outside c.next.new.self c.args.place c.args.up (whole_entry c.args.entry.now) c.in-Completed.value
-    c.turns.invariant.leads c.turns.invariant.steady c.requires.above
+    c.turns.invariant.leads c.turns.invariant.keeps.steady c.requires.above
     (λ p at e. Awaited.turned (ways g.O.Outside.goes g.O.Outside.loses) g.O.Outside.hands_in (tree_of c.turns.tree) c.turns.outside c.next.new.self p c.args.up (whole_entry c.args.entry.now) c.in_ok-target.field-0 _ c.in-Completed.is (c.in_ok-target.ensures.comes p at e))
 
 pub waiting::wait-returns-in-Heard-clause-runs : goal.waiting::wait-returns-in-Heard-clause-runs
 waiting::wait-returns-in-Heard-clause-runs g t c =
     Awaited.hears_wait (ways g.O.Outside.goes g.O.Outside.loses) c.args.tree.now c.turns.tree c.args.outside.now c.turns.outside c.next.new.self c.args.place c.args.up (whole_entry c.args.entry.now) (reply_of c.in-Heard.reply)
-    c.turns.invariant.leads c.turns.invariant.steady c.requires.above
+    c.turns.invariant.leads c.turns.invariant.keeps.steady c.requires.above
     (λ p at e. Awaited.turned (ways g.O.Outside.goes g.O.Outside.loses) g.O.Outside.hands_in (tree_of c.turns.tree) c.turns.outside c.next.new.self p c.args.up (whole_entry c.args.entry.now) c.in_ok-target.field-0 _ c.in-Heard.is (c.in_ok-target.ensures.comes p at e))
 
 pub waiting::wait-returns-in-Heard-clause-own : goal.waiting::wait-returns-in-Heard-clause-own
 waiting::wait-returns-in-Heard-clause-own g t c =
     let p = c.requires.running.0 in
-    let named = c.turns.invariant.steady.keys p _ c.requires.running.1 c.requires.running.2 in
+    let named = c.turns.invariant.keeps.steady.keys p _ c.requires.running.1 c.requires.running.2 in
     (Awaited.turned (ways g.O.Outside.goes g.O.Outside.loses) g.O.Outside.hands_in (tree_of c.turns.tree) c.turns.outside c.next.new.self p c.args.up (whole_entry c.args.entry.now) c.in_ok-target.field-0 _ c.in-Heard.is
     (c.in_ok-target.ensures.comes p named (c.requires.above p c.requires.running.1))).1

@@ -4,7 +4,7 @@ use Rattle.std.specs.String.{string_bytes}
 use Rattle.tcl_core.specs.Paths.{Path}
 use Rattle.tcl_language.specs.Scripts.{commands, words, parts}
 use Rattle.tcl_run.specs.Entering.{whole_entry}
-use Rattle.tcl_run.specs.Runs.{IsAt, IsSteady, room, ways}
+use Rattle.tcl_run.specs.Runs.{IsAt, Keeps, room, ways}
 use Rattle.tcl_text.specs.declared.integer.Integers.{Integers}
 use Rattle.tcl_tree.specs.TreeOf.{tree_of}
 use Rattle.tcl_calls.specs.Words.{opens, IsShort}
@@ -106,16 +106,14 @@ abbrev pub invariant-evaluation::eval_commands-commands : goal.invariant-evaluat
 invariant-evaluation::eval_commands-commands g l = record {
   leads : (p : Path) (style : Integers) → IsAt l.fn.tree l.place p style →
       Leads (ways g.O.Outside.goes g.O.Outside.loses) style (tree_of l.fn.tree) l.fn.outside p (commands l.fn.script.commands l.fn.script.fault []) (tree_of l.tree) l.outside (commands (drop l.command-index l.command-items) l.fn.script.fault l.last);
-  steady : IsSteady l.fn.tree l.tree;
-  left : g.O.Outside.entries_left l.outside ≤ g.O.Outside.entries_left l.fn.outside;
+  keeps : Keeps g.O.Outside.entries_left l.fn.tree l.tree l.fn.outside l.outside;
 }
 
 abbrev pub invariant-evaluation::eval_command-words : goal.invariant-evaluation::eval_command-words
 invariant-evaluation::eval_command-words g l = record {
   leads : (p : Path) (style : Integers) → IsAt l.fn.tree l.place p style →
       Leads (ways g.O.Outside.goes g.O.Outside.loses) style (tree_of l.fn.tree) l.fn.outside p (words l.fn.command []) (tree_of l.tree) l.outside (words (drop l.word-index l.word-items) l.words.items);
-  steady : IsSteady l.fn.tree l.tree;
-  left : g.O.Outside.entries_left l.outside ≤ g.O.Outside.entries_left l.fn.outside;
+  keeps : Keeps g.O.Outside.entries_left l.fn.tree l.tree l.fn.outside l.outside;
 }
 
 abbrev pub invariant-evaluation::substitute-parts : goal.invariant-evaluation::substitute-parts
@@ -123,8 +121,7 @@ invariant-evaluation::substitute-parts g l = record {
   leads : (p : Path) (style : Integers) → IsAt l.fn.tree l.place p style →
       Leads (ways g.O.Outside.goes g.O.Outside.loses) style (tree_of l.fn.tree) l.fn.outside p (parts l.fn.parts [] []) (tree_of l.tree) l.outside (parts (drop l.part-index l.parts) (opens l.elements.items) (string_bytes l.text));
   short : IsShort (string_bytes l.text);
-  steady : IsSteady l.fn.tree l.tree;
-  left : g.O.Outside.entries_left l.outside ≤ g.O.Outside.entries_left l.fn.outside;
+  keeps : Keeps g.O.Outside.entries_left l.fn.tree l.tree l.fn.outside l.outside;
 }
 
 -- Expressions, and the commands with conditions.
@@ -157,16 +154,14 @@ abbrev pub invariant-expressions::expression-parts : goal.invariant-expressions:
 invariant-expressions::expression-parts g l = record {
   leads : (p : Path) (style : Integers) → IsAt l.fn.tree l.place p style → (text : List ℕ) → IsKept style text l.fn.kept →
       Leads (ways g.O.Outside.goes g.O.Outside.loses) style (tree_of l.fn.tree) l.fn.outside p (expression style text) (tree_of l.tree) l.outside (computed (from style l.kept.nodes.items l.evaluation.next l.evaluation.values.items) (settles style));
-  steady : IsSteady l.fn.tree l.tree;
-  left : g.O.Outside.entries_left l.outside ≤ g.O.Outside.entries_left l.fn.outside;
+  keeps : Keeps g.O.Outside.entries_left l.fn.tree l.tree l.fn.outside l.outside;
 }
 
 abbrev pub invariant-expressions::if_first-tests : goal.invariant-expressions::if_first-tests
 invariant-expressions::if_first-tests g l = record {
   leads : (p : Path) (style : Integers) → IsAt l.fn.tree l.place p style →
       Leads (ways g.O.Outside.goes g.O.Outside.loses) style (tree_of l.fn.tree) l.fn.outside p (if_first style l.fn.args) (tree_of l.tree) l.outside (first_true style (tests_of (drop l.branch-index l.branch-items)) (option_copied l.last));
-  steady : IsSteady l.fn.tree l.tree;
-  left : g.O.Outside.entries_left l.outside ≤ g.O.Outside.entries_left l.fn.outside;
+  keeps : Keeps g.O.Outside.entries_left l.fn.tree l.tree l.fn.outside l.outside;
 }
 
 abbrev pub invariant-expressions::while_loop-turns : goal.invariant-expressions::while_loop-turns
@@ -174,8 +169,7 @@ invariant-expressions::while_loop-turns g l = record {
   leads : (p : Path) (style : Integers) → IsAt l.fn.tree l.place p style →
       Leads (ways g.O.Outside.goes g.O.Outside.loses) style (tree_of l.fn.tree) l.fn.outside p (while_loop l.fn.args) (tree_of l.tree) l.outside (while_turns style (get_or l.fn.args 0 []) (get_or l.fn.args 1 []));
   body : l.body ≡ get_or l.fn.args 1 [];
-  steady : IsSteady l.fn.tree l.tree;
-  left : g.O.Outside.entries_left l.outside ≤ g.O.Outside.entries_left l.fn.outside;
+  keeps : Keeps g.O.Outside.entries_left l.fn.tree l.tree l.fn.outside l.outside;
 }
 
 abbrev pub invariant-expressions::for_loop-turns : goal.invariant-expressions::for_loop-turns
@@ -184,8 +178,7 @@ invariant-expressions::for_loop-turns g l = record {
       Leads (ways g.O.Outside.goes g.O.Outside.loses) style (tree_of l.fn.tree) l.fn.outside p (for_loop l.fn.args) (tree_of l.tree) l.outside (for_turns style (get_or l.fn.args 1 []) (get_or l.fn.args 2 []) (get_or l.fn.args 3 []));
   next : l.next ≡ get_or l.fn.args 2 [];
   body : l.body ≡ get_or l.fn.args 3 [];
-  steady : IsSteady l.fn.tree l.tree;
-  left : g.O.Outside.entries_left l.outside ≤ g.O.Outside.entries_left l.fn.outside;
+  keeps : Keeps g.O.Outside.entries_left l.fn.tree l.tree l.fn.outside l.outside;
 }
 
 -- Loops over lists, and scripts at another level.
@@ -213,8 +206,7 @@ invariant-loops::walk_through-turns g l = record {
   leads : (p : Path) (style : Integers) → IsAt l.fn.tree l.place p style →
       Leads (ways g.O.Outside.goes g.O.Outside.loses) style (tree_of l.fn.tree) l.fn.outside p (foreach_turns (walks_at 0 l.fn.walks) l.fn.body) (tree_of l.tree) l.outside (foreach_turns (walks_at l.turns l.fn.walks) l.fn.body);
   script : l.script ≡ l.fn.body;
-  steady : IsSteady l.fn.tree l.tree;
-  left : g.O.Outside.entries_left l.outside ≤ g.O.Outside.entries_left l.fn.outside;
+  keeps : Keeps g.O.Outside.entries_left l.fn.tree l.tree l.fn.outside l.outside;
 }
 
 abbrev pub invariant-collecting::lmap-turns : goal.invariant-collecting::lmap-turns
@@ -222,8 +214,7 @@ invariant-collecting::lmap-turns g l = record {
   leads : (p : Path) (style : Integers) → IsAt l.fn.tree l.place p style →
       Leads (ways g.O.Outside.goes g.O.Outside.loses) style (tree_of l.fn.tree) l.fn.outside p (lmap l.fn.args) (tree_of l.tree) l.outside (lmap_turns (walks_at l.turns l.walks.items) l.initial.body l.made);
   body : l.body ≡ l.initial.body;
-  steady : IsSteady l.fn.tree l.tree;
-  left : g.O.Outside.entries_left l.outside ≤ g.O.Outside.entries_left l.fn.outside;
+  keeps : Keeps g.O.Outside.entries_left l.fn.tree l.tree l.fn.outside l.outside;
 }
 
 -- Choices of a script.
@@ -308,6 +299,5 @@ decreases-waiting::wait-turns g l = g.O.Outside.entries_left l.outside
 abbrev pub invariant-waiting::wait-turns : goal.invariant-waiting::wait-turns
 invariant-waiting::wait-turns g l = record {
   leads : WaitsFrom (ways g.O.Outside.goes g.O.Outside.loses) l.fn.tree l.fn.outside l.place l.up (whole_entry l.entry) l.tree l.outside;
-  steady : IsSteady l.fn.tree l.tree;
-  left : g.O.Outside.entries_left l.outside ≤ g.O.Outside.entries_left l.fn.outside;
+  keeps : Keeps g.O.Outside.entries_left l.fn.tree l.tree l.fn.outside l.outside;
 }

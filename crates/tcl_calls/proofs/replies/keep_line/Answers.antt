@@ -15,11 +15,6 @@ returns-in-Line-clause-acts c =
     acts_as c.args.tree.now c.keep_bytes.new.tree c.args.place (line_read c.args.channel.now c.args.name.now (reply_of c.args.reply)) (read_from c.args.channel.now c.in-Line.bytes (keeps_line c.args.name.now)) c.keep_bytes.result
     (ap (λ (r : HostReply). line_read c.args.channel.now c.args.name.now (reply_of r)) c.in-Line.is) c.keep_bytes.ensures.acts
 
-pub returns-in-Rest-clause-acts : goal.returns-in-Rest-clause-acts
-returns-in-Rest-clause-acts c =
-    acts_as c.args.tree.now c.keep_bytes-in-Rest.new.tree c.args.place (line_read c.args.channel.now c.args.name.now (reply_of c.args.reply)) (read_from c.args.channel.now c.in-Rest.bytes (keeps_line c.args.name.now)) c.keep_bytes-in-Rest.result
-    (ap (λ (r : HostReply). line_read c.args.channel.now c.args.name.now (reply_of r)) c.in-Rest.is) c.keep_bytes-in-Rest.ensures.acts
-
 pub returns-in-End-clause-acts : goal.returns-in-End-clause-acts
 returns-in-End-clause-acts c =
     let number = c.from_int.ensures ∙ minus_one in
@@ -34,4 +29,4 @@ returns-in-Refused-clause-acts c =
 pub returns-in_default-clause-acts : goal.returns-in_default-clause-acts
 returns-in_default-clause-acts c =
     over_acts c.args.tree.now c.args.place (line_read c.args.channel.now c.args.name.now (reply_of c.args.reply)) (Ok c.empty-in_default.result)
-    (gives_nothing (line_read c.args.channel.now c.args.name.now (reply_of c.args.reply)) c.empty-in_default.result (not_kept c.args.channel.now c.args.name.now c.args.reply c.in_default.not-Line c.in_default.not-Rest c.in_default.not-End c.in_default.not-Refused) c.empty-in_default.ensures)
+    (gives_nothing (line_read c.args.channel.now c.args.name.now (reply_of c.args.reply)) c.empty-in_default.result (not_kept c.args.channel.now c.args.name.now c.args.reply c.in_default.not-Line c.in_default.not-End c.in_default.not-Refused) c.empty-in_default.ensures)

@@ -2,7 +2,7 @@ use Rattle.std.proofs.Common.{[], ◌∷◌}
 use Rattle.tcl_language.specs.Definitions as definitions
 use Rattle.tcl_language.specs.Interpreters.{done_so, renaming}
 use Rattle.tcl_language.specs.Naming.{renamed}
-use Rattle.tcl_run.proofs.Steady.{level_steady}
+use Rattle.tcl_run.proofs.Keeping.{level_loses}
 use Rattle.tcl_entries.proofs.Looks.{untrue}
 use Rattle.tcl_entries.proofs.Telling.{evaluates_as}
 use Rattle.tcl_interp.proofs.Forms.{renamed_away, renamed_other}
@@ -18,5 +18,5 @@ returns-clause-evaluates g c = evaluates_as g.O.Outside.goes c.args.tree.now c.r
     (λ style. renamed_other c.args.old.now c.args.new.now (untrue c.is_text.result _ c.is_text.ensures.1 c.if-is_text.false))
     (acts_evaluates g.O.Outside.goes c.args.tree.now c.rename_to.new.tree c.args.outside.now c.args.place (λ style. renaming done_so (λ own. renamed own c.args.old.now c.args.new.now)) c.rename_to.result c.rename_to.ensures.acts)
 
-pub returns-clause-steady : goal.returns-clause-steady
-returns-clause-steady g c = level_steady c.args.tree.now c.rename_to.new.tree c.rename_to.ensures.level
+pub returns-clause-keeps : goal.returns-clause-keeps
+returns-clause-keeps g c = level_loses _ c.rename_to.ensures.level

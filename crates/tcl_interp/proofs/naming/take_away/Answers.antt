@@ -4,7 +4,7 @@ use Rattle.tcl_language.specs.Definitions as definitions
 use Rattle.tcl_language.specs.Interpreters.{done_so, renaming}
 use Rattle.tcl_language.specs.Naming.{command_name, removed}
 use Rattle.tcl_run.proofs.Endings.{Interrupts-more}
-use Rattle.tcl_run.proofs.Steady.{level_steady}
+use Rattle.tcl_run.proofs.Keeping.{level_loses}
 use Rattle.tcl_entries.specs.Asking.{EndsIn}
 use Rattle.tcl_tree.specs.TreeOf.{tree_of}
 use Rattle.tcl_entries.proofs.Looks.{gets_evaluates}
@@ -18,8 +18,8 @@ returns-then-not-is_child-clause-evaluates g c = gets_evaluates g.O.Outside.goes
     (removed_goes c.args.tree.now c.args.place c.args.word.now (λ p n at is. sym c.if-not-is_child.true ∙ c.in_ok-is_child.ensures p n at is))
     (acts_evaluates g.O.Outside.goes c.args.tree.now c.remove.new.tree c.args.outside.now c.args.place (λ style. renaming done_so (λ own. removed own c.args.word.now)) c.remove.result c.remove.ensures.acts)
 
-pub returns-then-not-is_child-clause-steady : goal.returns-then-not-is_child-clause-steady
-returns-then-not-is_child-clause-steady g c = level_steady c.args.tree.now c.remove.new.tree c.remove.ensures.level
+pub returns-then-not-is_child-clause-keeps : goal.returns-then-not-is_child-clause-keeps
+returns-then-not-is_child-clause-keeps g c = level_loses _ c.remove.ensures.level
 
 pub returns-in_err-name-clause-evaluates : goal.returns-in_err-name-clause-evaluates
 returns-in_err-name-clause-evaluates g c =

@@ -1,5 +1,5 @@
 use Rattle.std.proofs.Common.{◌∙◌, sym}
-use Rattle.tcl_replay.specs.Watched.{AsksTheHostNothing, Counts, CountStaysWithin, LeavesTheOutside, LimitsStay, Reacts, ReactsSo, ReactsUntil, unwatchable}
+use Rattle.tcl_replay.specs.Watched.{AsksTheHostNothing, Counts, CountStaysWithin, LeavesTheOutside, LimitsStay, Reacts, ReactsSo, ReactsUntil, unwatchable, watching}
 use Rattle.tcl_replay.proofs.Before.{both_there}
 use Rattle.tcl_replay.proofs.Answers.{deletions, follows, records, stops, wholes}
 use Rattle.tcl_replay.proofs.Recorded as recorded
@@ -67,7 +67,7 @@ returns-clause-asks_nothing g c =
 pub returns-clause-counts : goal.returns-clause-counts
 returns-clause-counts g c =
     let there = both_there c.args.tree.now c.args.path.now c.args.script.now c.args.limit c.args.watched.now (sym c.refusal_to_watch.ensures ∙ c.in_default.is) in
-    follows g.H.Host.step c.args.tree.now c.args.host c.args.path.now c.args.script.now c.args.limit c.args.watched.now c.watch.new.tree c.watch.result.0 (λ r e. Counts g.H.Host.step c.args.tree.now c.args.host c.args.path.now c.args.script.now c.args.limit c.args.watched.now r c.watch.new.tree c.watch.result.0 e) c.watch.result.1 (records g.H.Host.step c.args.tree.now c.args.host c.args.path.now c.args.script.now c.args.limit c.args.watched.now c.watch.new.tree c.watch.result.0 c.watch.result.1 there.1 c.watch.ensures.watches)
+    follows g.H.Host.step c.args.tree.now c.args.host c.args.path.now c.args.script.now c.args.limit c.args.watched.now c.watch.new.tree c.watch.result.0 (λ r e. Counts g.H.Host.step (watching c.args.tree.now c.args.host c.args.path.now c.args.script.now c.args.limit c.args.watched.now) r c.watch.new.tree c.watch.result.0 e) c.watch.result.1 (records g.H.Host.step c.args.tree.now c.args.host c.args.path.now c.args.script.now c.args.limit c.args.watched.now c.watch.new.tree c.watch.result.0 c.watch.result.1 there.1 c.watch.ensures.watches)
     (λ r e w. recorded.counts g.H.Host.step c.args.tree.now c.args.host c.args.path.now c.args.script.now c.args.limit c.args.watched.now r c.watch.new.tree c.watch.result.0 e w)
 
 pub returns-clause-count_stays_within : goal.returns-clause-count_stays_within
@@ -79,5 +79,5 @@ returns-clause-count_stays_within g c =
 pub returns-clause-limits_stay : goal.returns-clause-limits_stay
 returns-clause-limits_stay g c =
     let there = both_there c.args.tree.now c.args.path.now c.args.script.now c.args.limit c.args.watched.now (sym c.refusal_to_watch.ensures ∙ c.in_default.is) in
-    follows g.H.Host.step c.args.tree.now c.args.host c.args.path.now c.args.script.now c.args.limit c.args.watched.now c.watch.new.tree c.watch.result.0 (λ r e. LimitsStay g.H.Host.step c.args.tree.now c.args.host c.args.path.now c.args.script.now c.args.limit c.args.watched.now r c.watch.new.tree c.watch.result.0 e) c.watch.result.1 (records g.H.Host.step c.args.tree.now c.args.host c.args.path.now c.args.script.now c.args.limit c.args.watched.now c.watch.new.tree c.watch.result.0 c.watch.result.1 there.1 c.watch.ensures.watches)
+    follows g.H.Host.step c.args.tree.now c.args.host c.args.path.now c.args.script.now c.args.limit c.args.watched.now c.watch.new.tree c.watch.result.0 (λ r e. LimitsStay g.H.Host.step (watching c.args.tree.now c.args.host c.args.path.now c.args.script.now c.args.limit c.args.watched.now) r c.watch.new.tree c.watch.result.0 e) c.watch.result.1 (records g.H.Host.step c.args.tree.now c.args.host c.args.path.now c.args.script.now c.args.limit c.args.watched.now c.watch.new.tree c.watch.result.0 c.watch.result.1 there.1 c.watch.ensures.watches)
     (λ r e w. recorded.limits_stay g.H.Host.step c.args.tree.now c.args.host c.args.path.now c.args.script.now c.args.limit c.args.watched.now r c.watch.new.tree c.watch.result.0 e c.limits_stay.ensures w)

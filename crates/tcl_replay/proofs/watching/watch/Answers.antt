@@ -3,7 +3,7 @@ use Rattle.tcl_eval.specs.Running.{root_count}
 use Rattle.std.specs.Prelude.{IfErr, IfOk}
 use Rattle.tcl_core.specs.Paths.{Path}
 use Rattle.tcl_recorder.specs.declared.recorder.Recorder.{Recorder}
-use Rattle.tcl_replay.specs.Watched.{IfEnds, IsEntryRun, Watches, recorder_of}
+use Rattle.tcl_replay.specs.Watched.{IfEnds, IsEntryRun, Watches, recorder_of, watching}
 use Rattle.tcl_replay.proofs.Answers.{as_whole, ends_so, run_so, wants, watches}
 use Rattle.tcl_replay.proofs.Unfinished.{Lost}
 use Rattle.tcl_tree.specs.TreeOf.{Marks, marks_of}
@@ -23,7 +23,7 @@ returns-clause-watches g c =
     let Was : g.row.H.Denot → g.row.H.Denot → Type 0 = Lost g.H.Host.step c.args.tree.now c.args.path.now c.args.script.now (root_count c.args.tree.now + c.args.limit) in
     let given_up = subst (λ (u : g.row.H.Denot). IfErr c.run-ended.result (λ _. Was c.args.host u)) (λ i. (parts i).0)
     (subst (λ (r : Recorder g.row.H.Denot). IfErr c.run-ended.result (λ _. Was r.outside made.outside)) first c.run-ended.ensures.given_up) in
-    subst (λ x. Watches g.H.Host.step c.args.tree.now c.args.host c.args.path.now c.args.script.now c.args.limit c.args.watched.now c.run-ended.new.tree c.into_parts-host.result.0 x) (sym c.outcome_of.ensures)
+    subst (λ x. Watches g.H.Host.step (watching c.args.tree.now c.args.host c.args.path.now c.args.script.now c.args.limit c.args.watched.now) c.run-ended.new.tree c.into_parts-host.result.0 x) (sym c.outcome_of.ensures)
     (watches g.H.Host.step c.args.tree.now c.args.host c.args.path.now c.args.script.now c.args.limit c.args.watched.now c.run-ended.new.tree c.into_parts-host.result.0 c.run-ended.result c.into_parts-host.result.1 c.into_parts-host.result.2
     c.run-ended.ensures.memory c.run-ended.ensures.broken given_up
     (subst (λ (z : Recorder g.row.H.Denot). IfOk c.run-ended.result (λ end. IsEntryRun g.H.Host.step c.args.tree.now (recorder_of c.args.host c.args.watched.now) c.args.path.now c.args.script.now c.args.limit c.run-ended.new.tree z end)) last
