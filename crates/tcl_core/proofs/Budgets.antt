@@ -6,7 +6,7 @@ use Rattle.tcl_core.specs.Endings.Meter.{Count, Depth}
 use Rattle.tcl_core.specs.Endings.Reply.{Exit, Cut}
 use Rattle.tcl_core.specs.Endings.Cause.{Above, Over}
 use Rattle.tcl_core.specs.Entries.Answer.{Replied}
-use Rattle.tcl_core.specs.Trees.{Tree, Grants, granted, denied, What, Move, paid, Grant, Event, In}
+use Rattle.tcl_core.specs.Trees.{Tree, Grants, granted, denied, What, Move, paid, Grant, Event}
 use Rattle.tcl_core.specs.Trees.Grant.{Allow, Deny}
 use Rattle.tcl_core.specs.Trees.Grants.{Listed, Budget}
 use Rattle.tcl_core.specs.Trees.What.{Charged, Refused, Nested, Made, Dropped, Out, In, Done, Back}
