@@ -38,11 +38,16 @@ all_read O (Outcome.Exited n) = tt
 all_read O Outcome.Spent = refl
 all_read O Outcome.Misfit = refl
 
-lt_true : (a b : ℕ) → a < b → nat_lt a b ≡ true
-lt_true a b h = grind (arith, nat_tests)
+-- where as many entries ended as began no call is open, and else one is
+all_ended : {O : Type 0} (a : List (Event O)) → begun a ≤ ended a → outcome_so_far a ≡ outcome_of a Finished
+all_ended a l =
+    let f : nat_lt (ended a) (begun a) ≡ false = grind (arith, nat_tests) in
+    ap (λ b. waits_if b (outcome_of a Finished)) f
 
-lt_false : (a b : ℕ) → b ≤ a → nat_lt a b ≡ false
-lt_false a b h = grind (arith, nat_tests)
+one_waits : {O : Type 0} (a : List (Event O)) → ended a < begun a → outcome_so_far a ≡ Waiting
+one_waits a l =
+    let f : nat_lt (ended a) (begun a) ≡ true = grind (arith, nat_tests) in
+    ap (λ b. waits_if b (outcome_of a Finished)) f
 
 module _ {O : Type 0} where
   pub begun_ins : (τ : List (Event O)) → begun τ ≡ ins [] τ
@@ -97,10 +102,10 @@ module _ {O I : Type 0} (prog : Table O I) (k : ℕ) (next : Event O) (late : Li
   -- what a subtree does by itself, with j entries in progress at the end
   pub so_far : (S : Tree O) (a : List (Event O)) (j : ℕ) → Derives prog (given S a) [] (wait idle never) (given (after a S) []) None → IsUncut a → begun a ≡ ended a + j → Reacts prog (given S a) (given (after a S) []) (outcome_so_far a)
   so_far S a zero d u e =
-      let f : outcome_so_far a ≡ outcome_of a Finished = ap (λ b. waits_if b (outcome_of a Finished)) (lt_false (ended a) (begun a) (omega (arith, e))) in
+      let f : outcome_so_far a ≡ outcome_of a Finished = all_ended a (omega (arith, e)) in
       over (given S a) (given (after a S) []) (outcome_so_far a) (derived_runs prog d) u e f (all_read O (outcome_so_far a))
   so_far S a (suc j) d u e =
-      let f : outcome_so_far a ≡ Waiting = ap (λ b. waits_if b (outcome_of a Finished)) (lt_true (ended a) (begun a) (omega (arith, e))) in
+      let f : outcome_so_far a ≡ Waiting = one_waits a (omega (arith, e)) in
       subst (λ x. Reacts prog (given S a) (given (after a S) []) x) (sym f) (waiting (given S a) (given (after a S) []) j (derived_runs prog d) u e refl)
 
   -- ## Where an answer comes, an entry is in progress
@@ -188,4 +193,4 @@ module _ {O I : Type 0} (prog : Table O I) (k : ℕ) (next : Event O) (late : Li
     pub is_open : (z y : World O) (a : List (Event O)) → Lives prog z y None → y.tape ≡ [] → Meets z a → IsUnended a → outcome_so_far a ≡ Waiting
     is_open z y a l f t m =
         let j : (j : ℕ) × (begun a ≡ ended a + suc j) = entries_open z y a l f t m in
-        ap (λ b. waits_if b (outcome_of a Finished)) (lt_true (ended a) (begun a) (let e : begun a ≡ ended a + suc j.0 = j.1 in omega arith))
+        one_waits a (let e : begun a ≡ ended a + suc j.0 = j.1 in omega arith)
