@@ -789,13 +789,9 @@ module _ (P : Demands) (F : Facts P) where
         (makes name safe n s))) tt),
   ))
 
-  by_depth : (name : Text) (own : Own) (depth : ℕ) → P.own own → Holds (interpreters.drops_at name own depth)
-  by_depth name own zero o = (F.owns.dropped name own o, λ T s. (tt, λ U t. tt))
-  by_depth name own (suc depth) o = tt
-
   drops : (name : Text) (own : Own) (there : Option (Node Own)) → P.own own → Holds (interpreters.drops name own there)
   drops name own None o = tt
-  drops name own (Some child) o = by_depth name own child.depth o
+  drops name own (Some child) o = (F.owns.dropped name own o, λ T s. (tt, λ U t. tt))
 
   deletes : (name : Text) → Holds (interpreters.deletes name)
   deletes name = by_look _ (λ n o. (tt, λ T s. drops name n.own (T (name ∷ [])) o))
@@ -841,13 +837,13 @@ module _ (P : Demands) (F : Facts P) where
       (by_either (bytes_eq word (codes "-safe")) (interpreters.create_options true words) (fails (interpreters.bad_option word)) (create_options true words) tt))
       (create_path safe (word ∷ words))
 
-  after_delete : (text : Text) (more : Program) → Holds more → (c : Completion) → Holds (interpreters.after_delete text more c)
-  after_delete text more f c = by_either (interpreters.code_is_ok c.code) more (fails (interpreters.in_use text)) f tt
+  after_delete : (more : Program) → Holds more → (c : Completion) → Holds (interpreters.after_delete more c)
+  after_delete more f c = by_either (interpreters.code_is_ok c.code) more (done c) f tt
 
   deletes_named : (text : Text) (path : List Text) (more : Program) → Holds more → Holds (interpreters.deletes_named text path more)
   deletes_named text [] more f = tt
   deletes_named text (x ∷ xs) more f =
-      by_asks (interpreters.before_last x xs).0 (Delete (interpreters.before_last x xs).1) (interpreters.after_delete text more) (anyone (Delete (interpreters.before_last x xs).1) refl (interpreters.before_last x xs).0) (after_delete text more f)
+      by_asks (interpreters.before_last x xs).0 (Delete (interpreters.before_last x xs).1) (interpreters.after_delete more) (anyone (Delete (interpreters.before_last x xs).1) refl (interpreters.before_last x xs).0) (after_delete more f)
 
   delete : (args : List Text) → Holds (interpreters.delete args)
   delete [] = tt
