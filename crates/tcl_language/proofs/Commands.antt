@@ -1155,14 +1155,14 @@ module _ (P : Demands) (F : Facts P) where
   invoked style [] h = tt
   invoked style (word ∷ args) h = by_look _ (λ n o. dispatch style word args invalid_hidden (lookup (bytes_eq word) n.own.hidden) (λ b e g. F.hidden h))
 
-  invoked_at : (b : Bool) (ws : List Text) → P.hidden → Holds (table.invoked_at b ws)
-  invoked_at true ws h = by_look _ (λ n o. (h, (F.owns.chain n.own _ o, λ m p. F.owns.chain m _ p), λ c. tt))
-  invoked_at false ws h = (h, λ c. tt)
+  hidden_at : (style : Integers) (b : Bool) (ws : List Text) → P.hidden → Holds (table.hidden_at style b ws)
+  hidden_at style false ws h = invoked style ws h
+  hidden_at style true ws h = by_look _ (λ n o. (h, (F.owns.chain n.own _ o, λ m p. F.owns.chain m _ p), λ c. tt))
 
   pub serve : (style : Integers) (entry : Entry) → Served P entry → Holds (table.serve style entry)
   serve style (Eval text) h = (tt, λ c. tt)
   serve style (CallWords ws) h = (tt, λ T s. (tt, λ c. tt))
-  serve style (InvokeHidden b ws) h = (tt, λ T s. invoked_at b (table.some_words ws) h)
+  serve style (InvokeHidden b ws) h = (tt, λ T s. (h, λ c. tt))
   serve style (SetAlias name up down ws) h = by_renaming interpreters.done_so _ (λ own o. F.owns.alias own name _ o) tt
   serve style (ClearAlias name) h = by_renaming interpreters.done_so _ (λ own o. F.owns.cleared own name o) tt
   serve style (Hide name hidden) h = by_renaming interpreters.done_so _ (λ own o. F.owns.hiding own name hidden o) tt
@@ -1182,8 +1182,8 @@ module _ (P : Demands) (F : Facts P) where
   program style (Parts ps elements before) g = parts ps elements before
   program style (Call ws) g = called style ws
   program style (Target ws) g = (tt, tt, λ c. tt)
-  program style (Invoke ws) g = (g, tt, λ c. tt)
-  program style (Hidden ws) g = invoked style ws g
+  program style (Invoke b ws) g = (g, tt, λ c. tt)
+  program style (Hidden b ws) g = hidden_at style b ws g
   program style (Foreach walks body) g = foreach_turns walks body
   program style (Lmap walks body made) g = lmap_turns walks body made
   program style (Expression text) g = expression style text

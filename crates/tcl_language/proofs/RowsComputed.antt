@@ -58,6 +58,7 @@ rows calls = record {
   deleted_in_use = refl;
   deleted_at_once = refl;
   made_anew_in_use = refl;
+  made_anew_at_level_0 = refl;
   catches_no_deletion = refl;
   deleted_from_below = refl;
   deleted_below = refl;

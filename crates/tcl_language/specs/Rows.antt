@@ -142,6 +142,11 @@ module _ (language : Integers → Table Own Instr) where
         ++ codes "}; interp alias c kill {} kill; list [catch {c eval {kill; set v 2}} m] $m [c "
         ++ codes "eval {set v}]")
         (codes "1 {interpreter was deleted} 1")
+    pub made_anew_at_level_0 : Gives
+        (codes "interp create c; proc kill {} {interp delete c; interp create c; c eval {set v 1}"
+        ++ codes "}; interp alias c kill {} kill; interp hide c kill; list [catch {interp "
+        ++ codes "invokehidden c -global kill} m] $m [c eval {list $v [info level]}]")
+        (codes "1 {interpreter was deleted} {1 0}")
     pub catches_no_deletion : Gives
         (codes "interp create g; proc kg {} {interp delete g; return ok}; interp alias g kg {} kg"
         ++ codes "; list [catch {g eval {catch kg; set y 1}} m] $m [interp slaves]")
