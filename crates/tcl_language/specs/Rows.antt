@@ -147,6 +147,18 @@ module _ (language : Integers → Table Own Instr) where
         ++ codes "}; interp alias c kill {} kill; interp hide c kill; list [catch {interp "
         ++ codes "invokehidden c -global kill} m] $m [c eval {list $v [info level]}]")
         (codes "1 {interpreter was deleted} {1 0}")
+    pub deleted_twice_in_use : Gives
+        (codes "interp create c; proc kill {} {interp delete c; interp create c; return ok}; proc "
+        ++ codes "back {} {global r; catch {c eval kill} r; c eval {set v 1}}; interp alias c kill "
+        ++ codes "{} kill; interp alias c back {} back; list [catch {c eval {catch back; set v 2}}"
+        ++ codes " m] $m $r [c eval {set v}]")
+        (codes "1 {interpreter was deleted} {interpreter was deleted} 1")
+    pub made_anew_above : Gives
+        (codes "interp create a; a eval {interp create b}; proc kill {} {interp delete a; interp "
+        ++ codes "create a; a eval {interp create b; b eval {set v 1}}}; interp alias {a b} kill {"
+        ++ codes "} kill; list [catch {a eval {catch {b eval {catch kill; set v 2}}; set v 3}} m] "
+        ++ codes "$m [a eval {list [info vars] [b eval {set v}]}]")
+        (codes "1 {interpreter was deleted} {{} 1}")
     pub catches_no_deletion : Gives
         (codes "interp create g; proc kg {} {interp delete g; return ok}; interp alias g kg {} kg"
         ++ codes "; list [catch {g eval {catch kg; set y 1}} m] $m [interp slaves]")
