@@ -15,7 +15,7 @@ use Rattle.tcl_commands.specs.Reaching.{GetsToEnd, Reaches}
 use Rattle.tcl_commands.specs.Reaching.Reaches.{here}
 use Rattle.tcl_commands.proofs.Reached.{reaches-trans, reaches_end}
 use Rattle.tcl_commands.proofs.Turns.{first_at, name_refused, name_set}
-use Rattle.tcl_commands.proofs.Ways.{level-trans}
+use Rattle.tcl_run.proofs.Steady.{level-trans}
 use Rattle.tcl_commands.proofs.walks.set_names.Goals as goal
 
 pub names-init : goal.names-init

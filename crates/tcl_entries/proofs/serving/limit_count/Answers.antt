@@ -2,6 +2,7 @@ use Rattle.std.proofs.Common.{◌∙◌, sym, ap}
 use Rattle.tcl_core.specs.Trees.{Node}
 use Rattle.tcl_tree.specs.Own.{Own}
 use Rattle.tcl_entries.proofs.Served.{limit_denied, limit_set}
+use Rattle.tcl_entries.proofs.Standing.{limited_level}
 use Rattle.tcl_entries.proofs.serving.limit_count.Goals as goal
 
 pub returns-then-node-clause-acts : goal.returns-then-node-clause-acts
@@ -9,3 +10,6 @@ returns-then-node-clause-acts c = limit_denied c.args.tree.now c.args.place c.ar
 
 pub returns-clause-acts : goal.returns-clause-acts
 returns-clause-acts c = limit_set c.args.tree.now c.set_limit_at.new.self c.args.place c.args.limit c.empty.result c.empty.ensures (λ p n at is. sym (ap (λ (m : Node Own). m.root) (c.node.ensures p n at is)) ∙ c.if-node.false) c.set_limit_at.ensures.limited
+
+pub returns-clause-level : goal.returns-clause-level
+returns-clause-level c = limited_level c.args.tree.now c.set_limit_at.new.self c.args.place c.args.limit c.set_limit_at.ensures.marks c.set_limit_at.ensures.keys c.requires (λ p n at is. sym (ap (λ (m : Node Own). m.root) (c.node.ensures p n at is)) ∙ c.if-node.false) c.set_limit_at.ensures.limited
