@@ -8,7 +8,7 @@ ghost use Rattle.tcl_language.specs.Interpreters.{call_alias as alias_program};
 ghost use Rattle.tcl_language.specs.Table as table;
 ghost use Rattle.tcl_run.specs.Ends.{IfEnded, failing};
 ghost use Rattle.tcl_run.specs.Entering.{whole_entry};
-ghost use Rattle.tcl_run.specs.Runs.{IsLoss, IsRunning, Keeps, ProceedsAt, ProceedsIn, ways};
+ghost use Rattle.tcl_run.specs.Runs.{IsHeld, IsLoss, IsRunning, Keeps, ProceedsAt, ProceedsIn, ways};
 ghost use Rattle.tcl_tree.specs.Reaching.{Leads};
 ghost use Rattle.tcl_tree.specs.TreeOf.{Names};
 ghost use Rattle.tcl_tree.specs.declared.tree.places.Reach.TheVariants.{There};
@@ -270,6 +270,7 @@ pub fn serve_eval<O: Outside>(
     requires { (p : Path) × Names tree.old place p }
     ensures runs { ProceedsAt (ways O.goes O.loses) tree.old outside.old place
         (λ style. table.serve style (Eval script.old)) tree.new outside.new result }
+    ensures held { (p : Path) → Names tree.old place p → IsHeld tree.old tree.new p }
     ensures keeps { Keeps O.entries_left tree.old tree.new outside.old outside.new }
 {
     let ended = eval_value(tree, alloc, outside, place, script);

@@ -18,7 +18,7 @@ use Rattle.tcl_tree.proofs.CoreLemmas.{tree_there}
 use Rattle.tcl_tree.proofs.StepLemmas.{follow_append}
 use Rattle.tcl_tree.specs.declared.tree.Tree.{Tree as Table}
 use Rattle.tcl_tree.specs.declared.tree.Place.{Place as TablePlace}
-use Rattle.tcl_run.specs.Runs.{meters_of, meters_at, depth_in, depth_at, steps_at, is_root, InUse, IsCounted, IsSteady, IsLevel, IsAt, IsRunning, room}
+use Rattle.tcl_run.specs.Runs.{meters_of, meters_at, depth_in, depth_at, steps_at, is_root, InUse, IsCounted, IsHeld, IsSteady, IsLevel, IsAt, IsRunning, room}
 use Rattle.tcl_text.specs.declared.integer.Integers.{Integers}
 
 pub meters_changed : (T U : Tree Own) (p q : Path) (own : Own) → U ≡ effect p (Changed own) T → meters_at U q ≡ meters_at T q
@@ -294,6 +294,27 @@ nested_steady s t u v p m1 k1 e1 h m2 k2 e2 = record {
 
     after : (q : Path) → steps_of (tree_of v q) ≡ steps_of (tree_of u q)
     after q = ap (λ (X : Tree Own). steps_of (X q)) e2 ∙ steps_unnested (tree_of u) p q
+
+-- ## Who is held
+
+pub level_held : (s t : Table) (p : Path) → IsLevel s t → IsHeld s t p
+level_held s t p l = record { keys = λ a b k is at. l.keys a ∙ at; counts = λ a b is. l.counts a }
+
+-- those at the place of an evaluation one level deeper, and above it
+pub nested_held : (s t u v : Table) (place : TablePlace) (p : Path) → Names s place p →
+    ((q : Path) → key_of t q ≡ key_of s q) → tree_of t ≡ effect p Nested (tree_of s) → IsSteady t u →
+    ((q : Path) → key_of v q ≡ key_of u q) → tree_of v ≡ effect p Unnested (tree_of u) → IsHeld s v p
+nested_held s t u v place p at k1 e1 h k2 e2 = record {
+  keys = λ a b k is there. k2 a ∙ h.keys a k (k1 a ∙ there) (used a b is);
+  counts = λ a b is.
+      let x : steps_at (tree_of t) a ≡ steps_at (tree_of s) a = ap (λ y. y.0) (ap (λ (X : Tree Own). steps_of (X a)) e1 ∙ steps_nested (tree_of s) p a) in
+      let y = h.counts a (used a b is) in
+      let z : steps_at (tree_of v) a ≡ steps_at (tree_of u) a = ap (λ y. y.0) (ap (λ (X : Tree Own). steps_of (X a)) e2 ∙ steps_unnested (tree_of u) p a) in
+      omega arith;
+}
+  where
+    used : (a b : Path) → a ++ b ≡ p → InUse (tree_of t) a
+    used a b is = in_use_above (tree_of t) a b p is (begun_at s t place p at e1)
 
 -- an own part that becomes what it was leaves the tree as it was
 pub changed_same : (T : Tree Own) (p : Path) (n : Node Own) → T p ≡ Some n → effect p (Changed n.own) T ≡ T

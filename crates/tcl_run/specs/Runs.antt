@@ -116,6 +116,12 @@ pub record IsSteady (old new : table.Tree) : Type 0 where
   pub top : depth_at (tree_of new) [] ≡ depth_at (tree_of old) []
   pub counted : IsCounted (tree_of old []) (tree_of new [])
 
+-- Who stands at the place, and all above it, in whom an evaluation was in progress meanwhile: they
+-- stand there still, and no count of theirs falls.
+pub record IsHeld (old new : table.Tree) (p : Place) : Type 0 where
+  pub keys : (a b : Path) (k : ℕ) → a ++ b ≡ p → key_of old a ≡ Some k → key_of new a ≡ Some k
+  pub counts : (a b : Path) → a ++ b ≡ p → steps_at (tree_of old) a ≤ steps_at (tree_of new) a
+
 -- What a change of own parts, or of counts, leaves as it is: all keys, and all depths with their
 -- limits. No count falls.
 pub record IsLevel (old new : table.Tree) : Type 0 where
