@@ -8,7 +8,7 @@ use Rattle.tcl_core.specs.Endings.{Reply}
 use Rattle.tcl_core.specs.Endings.Reply.{Completed}
 use Rattle.tcl_dicts.specs.Dicts.{dict_word}
 use Rattle.tcl_core.specs.Paths.{Text}
-use Rattle.tcl_language.specs.Control.{loops, is_empty, is_over, sets_names, walks_of, walk_of}
+use Rattle.tcl_language.specs.Control.{is_empty, is_over, sets_names, walks_of, walk_of}
 use Rattle.tcl_language.specs.Faults.{wrong_args}
 use Rattle.tcl_language.specs.Instructions.{Walk, Program, either, fails, or_fails}
 use Rattle.tcl_language.specs.Pairing.{dict_for_form, dict_loop, entries_walk}
