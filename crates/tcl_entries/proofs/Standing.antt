@@ -3,7 +3,7 @@ use Rattle.std.proofs.Common.{◌≡◌, ◌⊎◌, inl, inr, ℕ, ◌<◌, Bool
 use Rattle.std.specs.Prelude.{IsSome}
 use Rattle.std.specs.Option.{option_map}
 use Rattle.tcl_core.specs.Paths.{Text, Path, strip}
-use Rattle.tcl_core.specs.Trees.{Tree, Node, effect, at_end, where_some, with_limit, with_depth_limit, fresh}
+use Rattle.tcl_core.specs.Trees.{Tree, Node, effect, at_end, where_some, with_own, with_limit, with_depth_limit, fresh}
 use Rattle.tcl_core.specs.Trees.What.{Changed, Made, Dropped, Limited, DepthLimited}
 use Rattle.tcl_core.proofs.PathLaws.{strip-sound, not_both}
 use Rattle.tcl_core.specs.Lives.{count_at}
