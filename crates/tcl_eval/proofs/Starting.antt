@@ -106,6 +106,7 @@ keeps_counts old first last new path most limit own begins steady held ends is =
       let y = within_run (tree_of old []) (tree_of first []) (tree_of last []) most (top_there old) (ap (λ (X : Tree Own). X []) begins) steady.counted r le in
       let z = after [] in
       omega arith;
+  top = ap (λ (X : Tree Own). is_root (X [])) ends ∙ same_root own (tree_of last []) ∙ steady.counted.root ∙ ap (λ (X : Tree Own). is_root (X [])) begins ∙ same_root (Some most) (tree_of old []);
 }
   where
     before : (q : Path) → steps_at (tree_of first) q ≡ steps_at (tree_of old) q
@@ -126,6 +127,7 @@ counts_stay old new path limit same = record {
   above = λ a b whole. let e = counts a in omega arith;
   in_use = λ q used. let e = counts q in omega arith;
   root = λ r. let e = counts [] in omega arith;
+  top = ap (λ (X : Tree Own). is_root (X [])) same;
 }
   where
     counts : (q : Path) → steps_at (tree_of new) q ≡ steps_at (tree_of old) q
@@ -137,6 +139,7 @@ counts_after old last new path limit h same = record {
   above = λ a b whole. let x = h.above a b whole in let e = counts a in omega arith;
   in_use = λ q used. let x = h.in_use q used in let e = counts q in omega arith;
   root = λ r. let x = h.root r in let e = counts [] in omega arith;
+  top = ap (λ (X : Tree Own). is_root (X [])) same ∙ h.top;
 }
   where
     counts : (q : Path) → steps_at (tree_of new) q ≡ steps_at (tree_of last) q

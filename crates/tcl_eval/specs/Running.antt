@@ -133,12 +133,13 @@ pub record IsBudgeted {S : Type 0} (step : S → Request → HostReply → S →
 -- What becomes of counts in a run of at most so many counted steps at the path, however it ends,
 -- for want of memory too: none falls of those who stand at the path or above it, nor of any who was
 -- in use; and the root's rises by at most so many. (The top of a copied part of a tree is no root,
--- and an outside may set its limit in the run.)
+-- and an outside may set its limit in the run. A top stays what it is.)
 pub record KeepsCounts (old : Table) (path : Path) (limit : ℕ) (new : Table) : Type 0 where
   pub above : (a b : Path) → a ++ b ≡ path → steps_at (tree_of old) a ≤ steps_at (tree_of new) a
   pub in_use : (q : Path) → InUse (tree_of old) q →
       steps_at (tree_of old) q ≤ steps_at (tree_of new) q
   pub root : is_root (tree_of old []) ≡ true → root_count new ≤ root_count old + limit
+  pub top : is_root (tree_of new []) ≡ is_root (tree_of old [])
 
 -- The script was given up on its way, as for want of memory, with the outside in the last state
 -- there; since then it is what may have become of that.
