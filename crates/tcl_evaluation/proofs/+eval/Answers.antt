@@ -721,6 +721,9 @@ evaluation::eval_command-returns-in_err-spread-clause-keeps g t c = keeps-trans 
 pub evaluation::eval_command-call-requires : goal.evaluation::eval_command-call-requires
 evaluation::eval_command-call-requires g t c κs within = (search rules, (search rules, still_running _ _ c.args.place (steady-trans _ _ _ c.words.invariant.keeps.steady (level_steady _ _ c.charge.ensures.level)) c.requires.running))
 
+pub evaluation::eval_command-returns-in_err-charge-clause-keeps : goal.evaluation::eval_command-returns-in_err-charge-clause-keeps
+evaluation::eval_command-returns-in_err-charge-clause-keeps g t c = keeps-trans c.words.invariant.keeps (charged_keeps c.charge.ensures.level c.charge.ensures.left)
+
 pub evaluation::eval_command-returns-clause-keeps : goal.evaluation::eval_command-returns-clause-keeps
 evaluation::eval_command-returns-clause-keeps g t c = keeps-trans c.words.invariant.keeps (keeps-trans (charged_keeps c.charge.ensures.level c.charge.ensures.left) c.call.ensures.keeps)
 
