@@ -24,7 +24,7 @@ use tcl_calls::carrying::{return_to_caller, settled, some_words, target_words};
 use tcl_calls::levels::{bring_back, set_aside};
 use tcl_entries::serving::serve;
 use tcl_run::entry::Entry;
-use tcl_run::failure::{lost_alias, no_interpreter, too_deep};
+use tcl_run::failure::{denied, lost_alias, no_interpreter, too_deep};
 use tcl_run::interruption::Interruption;
 use tcl_run::outside::{Happening, Outside};
 use tcl_run::steps::charge;
@@ -209,7 +209,7 @@ pub fn serve_entry<O: Outside>(
             serve_hidden(tree, alloc, outside, place, is_global, words)
         }
         Entry::Own(own) => serve(tree, alloc, outside, place, &own),
-        Entry::AskHost(_) => Ok(Value::empty()),
+        Entry::AskHost(_) => Err(denied(alloc)),
     }
 }
 

@@ -142,7 +142,7 @@ use Rattle.tcl_interpreter.specs.declared.builtin.Builtin.{Builtin}
 use Rattle.tcl_evaluation.proofs.Plainly.{acts_proceeds, asking_last, evaluates_at_proceeds, evaluates_proceeds, gets_proceeds, looks_proceed, passes_proceeds, proceeds_as}
 use Rattle.tcl_run.specs.Runs.{room}
 use Rattle.tcl_run.specs.declared.outside.Turn.{Turn}
-use Rattle.tcl_language.specs.Interpreters.{no_interpreter}
+use Rattle.tcl_language.specs.Interpreters.{denied, no_interpreter}
 use Rattle.tcl_evaluation.specs.Waiting.{SaysOn}
 use Rattle.tcl_evaluation.proofs.+eval.Goals.{sourcing::source-in_default-via-then-args-lt1, sourcing::source-in_default-via-else-args-lt1+else-args-lt2}
 -- (of loops over lists and dicts, and of choices)
@@ -2515,7 +2515,7 @@ crossing::serve_entry-returns-in-Own-clause-runs g t c =
 
 pub crossing::serve_entry-returns-clause-runs : goal.crossing::serve_entry-returns-clause-runs
 crossing::serve_entry-returns-clause-runs g t c =
-    λ p style at. at_prog (ap (λ i. serve style (whole_entry i)) c.in-AskHost.is) (at_reply (ap (λ (x : List ℕ). Completed (ok x)) c.empty.ensures) completed)
+    breaks c.denied.result (λ e. e ≡ Completed (failing denied)) _ (λ e h p style at. at_prog (ap (λ i. serve style (whole_entry i)) c.in-AskHost.is) (at_reply h completed)) (λ p style at. stopped) c.denied.ensures
 
 -- # Calls that pass the top of the tree, and what is handed in
 
