@@ -1,5 +1,5 @@
 -- What a loop keeps of what its body gives.
-use Rattle.std.proofs.Common.{◌≡◌, inr, ℤ, zero, suc, pos, negsuc, ◌<◌, ◌≤◌, Bool, true, false, List, [], ◌∷◌, ◌++◌, length, refl, sym, ◌∙◌, ap, subst, arith}
+use Rattle.std.proofs.Common.{◌≡◌, inr, pos, ◌<◌, ◌≤◌, Bool, true, false, List, [], ◌∷◌, ◌++◌, length, refl, sym, ◌∙◌, ap, subst, arith}
 use Rattle.std.specs.Prelude.{Result, Ok, Err}
 use Rattle.std.specs.Global.{Box}
 use Rattle.std.proofs.lemmas.Bool.Decides.{nat_tests}
@@ -11,12 +11,11 @@ use Rattle.tcl_flow.specs.View.{completion_of}
 use Rattle.tcl_flow.specs.declared.completion.Completion.{Completion as TheCompletion}
 use Rattle.tcl_language.specs.Control.{after_result}
 use Rattle.tcl_language.specs.Instructions.{Program, either, fits, gives, too_long}
-use Rattle.tcl_run.specs.Ends.{Interrupts}
 use Rattle.tcl_run.specs.declared.interruption.Interruption.{Interruption}
 use Rattle.tcl_run.specs.declared.interruption.Interruption.TheVariants as interruption
 use Rattle.tcl_run.proofs.Endings.{Interrupts-more}
 use Rattle.tcl_text.specs.Writing.{written_list}
-use Rattle.tcl_calls.specs.Collecting.{Collects, CollectsCompleted, EndsBehind, EndsTurn, GoesWith, Keeps}
+use Rattle.tcl_calls.specs.Collecting.{Collects, CollectsCompleted, EndsBehind, GoesWith, Keeps}
 use Rattle.tcl_calls.specs.Turns.{EndsIn}
 use Rattle.tcl_calls.specs.Words.{EndsBy}
 

@@ -1,5 +1,5 @@
 -- Which handler of a `try` handles a completion.
-use Rattle.std.proofs.Common.{◌≡◌, ℕ, ℤ, zero, suc, ◌+◌, ◌-◌, ◌<◌, ◌≤◌, ◌⊎◌, inl, inr, pos, negsuc, Bool, true, false, List, [], ◌∷◌, ◌++◌, take, drop, get_or, length, map, Option, Some, None, refl, sym, ◌∙◌, ap, subst, append_assoc, append-nil, arith}
+use Rattle.std.proofs.Common.{◌≡◌, ℕ, ℤ, zero, suc, ◌+◌, ◌-◌, ◌<◌, ◌≤◌, ◌⊎◌, inl, inr, pos, negsuc, Bool, true, false, List, [], ◌∷◌, ◌++◌, take, drop, get_or, length, Option, Some, None, refl, sym, ◌∙◌, ap, subst, append_assoc, append-nil, arith}
 use Rattle.std.specs.Ordering.{int_eq}
 use Rattle.std.specs.Prelude.{Result, Ok, Err, codes, is_some, ◌&&◌}
 use Rattle.std.proofs.lemmas.Bool.Decides.{Decides-int_eq}
@@ -13,7 +13,6 @@ use Rattle.tcl_flow.specs.View.{completion_of, errorcode_of}
 use Rattle.tcl_flow.specs.declared.completion.Completion.{Completion as TheCompletion}
 use Rattle.tcl_core.specs.Paths.{Path, Text}
 use Rattle.tcl_core.specs.Trees.{Tree}
-use Rattle.tcl_core.specs.Programs.Prog.{done}
 use Rattle.tcl_language.specs.Expressions.{runs_last}
 use Rattle.tcl_language.specs.Instructions.{Handler, Handles, Program, either, or_fails}
 use Rattle.tcl_language.specs.Faults.{wrong_args}

@@ -8,7 +8,7 @@ use Rattle.tcl_core.specs.Endings.{Reply}
 use Rattle.tcl_core.specs.Endings.Reply.{Completed}
 use Rattle.tcl_dicts.specs.Dicts.{dict_word}
 use Rattle.tcl_core.specs.Paths.{Text}
-use Rattle.tcl_language.specs.Control.{loops, is_empty, is_over, sets_names, walks_of, walk_of}
+use Rattle.tcl_language.specs.Control.{is_empty, is_over, sets_names, walks_of, walk_of}
 use Rattle.tcl_language.specs.Faults.{wrong_args}
 use Rattle.tcl_language.specs.Instructions.{Walk, Program, either, fails, or_fails}
 use Rattle.tcl_language.specs.Pairing.{dict_for_form, dict_loop, entries_walk}
@@ -20,8 +20,6 @@ use Rattle.tcl_text.specs.Writing.{fault_message}
 use Rattle.tcl_text.specs.declared.list.ListFault.{ListFault}
 use Rattle.tcl_language.specs.Variables.{is_odd, sets}
 use Rattle.tcl_language.proofs.Counting.{odd_is}
-use Rattle.tcl_run.specs.Runs.{IsLevel}
-use Rattle.tcl_tree.specs.declared.tree.Tree.{Tree as Table}
 use Rattle.tcl_calls.specs.Walks.{whole, walks_at, IsNoLoop, MisreadsEntry, MisreadsWalk, ReadsWalk}
 use Rattle.tcl_calls.specs.Words.{EndsBy}
 use Rattle.tcl_calls.specs.declared.walks.Walk as read
@@ -110,14 +108,6 @@ step_on names elements i j name value k h e f =
 
 pub names_end : (names left : List Text) (k : Program) → names ≡ [] → sets_names names left (λ more. k) ≡ k
 names_end names left k e = ap (λ (ns : List Text). sets_names ns left (λ more. k)) e
-
--- ## Levels of trees
-
-pub level-trans : (s t u : Table) → IsLevel s t → IsLevel t u → IsLevel s u
-level-trans s t u g h = record { marks = h.marks ∙ g.marks; keys = λ q. h.keys q ∙ g.keys q; meters = λ q. h.meters q ∙ g.meters q }
-
-pub level-refl : (s : Table) → IsLevel s s
-level-refl s = record { marks = refl; keys = λ q. refl; meters = λ q. refl }
 
 -- ## Walks
 

@@ -10,17 +10,15 @@ use Rattle.tcl_run.specs.Plain.{Acts}
 use Rattle.tcl_run.specs.Runs.{IsLevel}
 use Rattle.tcl_run.specs.declared.interruption.Interruption.{Interruption}
 use Rattle.tcl_run.proofs.Endings.{Interrupts-more}
+use Rattle.tcl_run.proofs.Steady.{level-refl, level-trans}
 use Rattle.tcl_tree.specs.TreeOf.{tree_of, Names}
 use Rattle.tcl_tree.specs.declared.tree.Tree.{Tree as Table}
 use Rattle.tcl_tree.specs.declared.tree.Place.{Place as TablePlace}
 use Rattle.tcl_commands.specs.Steps.{Styled, EndsAt, Leads, IsOnWay}
 use Rattle.tcl_commands.proofs.Going.{ends_done, passed_acts}
 
-pub level-trans : (a b c : Table) → IsLevel a b → IsLevel b c → IsLevel a c
-level-trans a b c f g = record { marks = g.marks ∙ f.marks; keys = λ q. g.keys q ∙ f.keys q; meters = λ q. g.meters q ∙ f.meters q }
-
 pub way_begins : (t : Table) (place : TablePlace) (whole rest : Styled) → whole ≡ rest → IsOnWay t place whole t rest
-way_begins t place whole rest e = record { leads = subst (λ (x : Styled). Leads t place whole t x) e (λ V r h. h); level = record { marks = refl; keys = λ q. refl; meters = λ q. refl } }
+way_begins t place whole rest e = record { leads = subst (λ (x : Styled). Leads t place whole t x) e (λ V r h. h); level = level-refl t }
 
 -- a step on
 pub way_goes : (a b c : Table) (place : TablePlace) (whole now next : Styled) → IsOnWay a place whole b now → IsLevel b c → Leads b place now c next → IsOnWay a place whole c next

@@ -2,6 +2,7 @@
 use Rattle.std.proofs.Common.{◌≡◌, ◌⊎◌, inl, inr, ℕ, zero, suc, ◌<◌, ◌≤◌, Bool, true, false, [], ◌∷◌, ◌++◌, length, Option, Some, None, refl, sym, ◌∙◌, ap, subst, append-nil, arith}
 use Rattle.std.specs.Prelude.{Result, Ok, Err, IfOk, IfErr, is_some, codes, nat_le, ◌&&◌, ◌||◌, IsSome}
 use Rattle.std.specs.Fmt.{decimal}
+use Rattle.std.specs.Option.{unwrap_or}
 use Rattle.std.specs.Map.{lookup}
 use Rattle.std.specs.Str.{bytes_eq}
 use Rattle.std.proofs.lemmas.Bool.Decides.{nat_tests}
@@ -128,19 +129,38 @@ fails_told t u place program message i same told leads = Interrupts-more i (λ r
     let n = there t place p at.names in
     does_to program (tree_of t) (tree_of u) (tree_of t) p r same (leads p n.0 r at.names n.1 (refl, is))) told
 
+abbrev count_rest : Option ℕ → Program
+count_rest limit = either (interpreters.is_count_limit limit) (act (Limit limit) (λ T. done (ok []))) (fails (interpreters.bad_count (interpreters.limit_text limit)))
+
 -- the root's limits aren't set
 pub limit_denied : (t : Table) (place : TablePlace) (limit : Option ℕ) (i : Interruption) → ((p : Path) (n : Node Own) → Names t place p → tree_of t p ≡ Some n → n.root ≡ true) →
     Interrupts i (λ r. r ≡ Completed (failing interpreters.denied)) → Interrupts i (EndsAt t place (interpreters.limits limit) (tree_of t))
 limit_denied t place limit i root told = fails_told t t place (interpreters.limits limit) interpreters.denied i refl told (λ p n r at is d.
-    does_look (tree_of t) (tree_of t) p r n (λ m. either m.root (fails interpreters.denied) (act (Limit limit) (λ T. done (ok [])))) is
-    (does_true n.root _ _ (tree_of t) (tree_of t) p r (root p n at is) d))
+    does_look (tree_of t) (tree_of t) p r n (λ m. either m.root (fails interpreters.denied) (count_rest limit)) is
+    (does_true n.root (fails interpreters.denied) (count_rest limit) (tree_of t) (tree_of t) p r (root p n at is) d))
 
-pub limit_set : (t u : Table) (place : TablePlace) (limit : Option ℕ) (text : Text) → text ≡ [] → ((p : Path) (n : Node Own) → Names t place p → tree_of t p ≡ Some n → n.root ≡ false) →
+-- nor one that is past what can be counted
+pub limit_refused : (t : Table) (place : TablePlace) (limit : Option ℕ) (i : Interruption) → ((p : Path) (n : Node Own) → Names t place p → tree_of t p ≡ Some n → n.root ≡ false) → programs.most_steps < unwrap_or limit 0 →
+    Interrupts i (λ r. r ≡ Completed (failing (interpreters.bad_count (interpreters.limit_text limit)))) → Interrupts i (EndsAt t place (interpreters.limits limit) (tree_of t))
+limit_refused t place limit i below past told = fails_told t t place (interpreters.limits limit) (interpreters.bad_count (interpreters.limit_text limit)) i refl told (λ p n r at is d.
+    does_look (tree_of t) (tree_of t) p r n (λ m. either m.root (fails interpreters.denied) (count_rest limit)) is
+    (does_false n.root (fails interpreters.denied) (count_rest limit) (tree_of t) (tree_of t) p r (below p n at is)
+    (does_false (interpreters.is_count_limit limit) (act (Limit limit) (λ T. done (ok []))) (fails (interpreters.bad_count (interpreters.limit_text limit))) (tree_of t) (tree_of t) p r no d)))
+  where
+    no : interpreters.is_count_limit limit ≡ false
+    no = grind (arith, nat_tests)
+
+pub limit_set : (t u : Table) (place : TablePlace) (limit : Option ℕ) (text : Text) → text ≡ [] → ((p : Path) (n : Node Own) → Names t place p → tree_of t p ≡ Some n → n.root ≡ false) → unwrap_or limit 0 ≤ programs.most_steps →
     ((p : Path) → Names t place p → tree_of u ≡ effect p (Limited limit) (tree_of t)) → EndsAt t place (interpreters.limits limit) (tree_of u) (Completed (ok text))
-limit_set t u place limit text none below set = λ p style at.
+limit_set t u place limit text none below fit set = λ p style at.
     let n = there t place p at.names in
-    does_look (tree_of t) (tree_of u) p (Completed (ok text)) n.0 (λ m. either m.root (fails interpreters.denied) (act (Limit limit) (λ T. done (ok [])))) n.1
-    (does_false n.0.root _ _ (tree_of t) (tree_of u) p (Completed (ok text)) (below p n.0 at.names n.1) (set p at.names, ap (λ (x : Text). Completed (ok x)) none))
+    does_look (tree_of t) (tree_of u) p (Completed (ok text)) n.0 (λ m. either m.root (fails interpreters.denied) (count_rest limit)) n.1
+    (does_false n.0.root (fails interpreters.denied) (count_rest limit) (tree_of t) (tree_of u) p (Completed (ok text)) (below p n.0 at.names n.1)
+    (does_true (interpreters.is_count_limit limit) (act (Limit limit) (λ T. done (ok []))) (fails (interpreters.bad_count (interpreters.limit_text limit))) (tree_of t) (tree_of u) p (Completed (ok text)) yes
+    (set p at.names, ap (λ (x : Text). Completed (ok x)) none)))
+  where
+    yes : interpreters.is_count_limit limit ≡ true
+    yes = grind (arith, nat_tests)
 
 abbrev depth_rest : ℕ → Program
 depth_rest limit = either (interpreters.is_depth_limit limit) (act (LimitDepth limit) (λ T. done (ok (decimal limit)))) (fails (codes "recursion limit must be between 1 and 1000"))

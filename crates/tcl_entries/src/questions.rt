@@ -173,7 +173,7 @@ fn texts_of(alloc: Global, values: &[Value]) -> Result<Vec<Text>, AllocError>
 }
 
 /// The text of a limit of steps, empty where there is none.
-fn limit_text(alloc: Global, limit: Option<u64>) -> Result<Text, AllocError>
+pub fn limit_text(alloc: Global, limit: Option<u64>) -> Result<Text, AllocError>
     ensures { IfOk result (λ text. text ≡ interpreters.limit_text limit) }
 {
     match limit {

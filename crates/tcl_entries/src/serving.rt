@@ -15,9 +15,9 @@ ghost use Rattle.tcl_tree.specs.TreeOf.{tree_of, Names};
 ghost use Rattle.tcl_run.specs.Entering.{entry_of};
 ghost use Rattle.tcl_entries.specs.Naming.{Tells, making_text, deleting_text};
 
-use crate::failure::{bad_depth_limit, hiding_failure, in_use, refusal_failure, too_many};
+use crate::failure::{bad_count, bad_depth_limit, hiding_failure, in_use, refusal_failure, too_many};
 use crate::naming::{kept_name, names_child, names_hidden};
-use crate::questions::{answer, node, number_value};
+use crate::questions::{answer, limit_text, node, number_value};
 use std::alloc::{AllocError, Global};
 use tcl_run::entry::OwnEntry;
 use tcl_run::failure::{already_exists, denied, invalid_hidden, no_interpreter};
@@ -26,6 +26,7 @@ use tcl_run::outside::{Happening, Outside};
 use tcl_text::list::write_element;
 use tcl_text::text::Text;
 use tcl_tree::alias::Alias;
+use tcl_tree::node::MOST_STEPS;
 use tcl_tree::refusal::TreeError;
 use tcl_tree::tree::{Place, Tree};
 use tcl_value::value::Value;
@@ -129,10 +130,21 @@ pub fn expose(
     }
 }
 
+/// The error that no limit of steps may be this.
+fn count_failure(alloc: Global, limit: Option<u64>) -> Interruption
+    ensures { Interrupts result (λ e. e ≡ Completed (failing
+        (interpreters.bad_count (interpreters.limit_text limit)))) }
+{
+    match limit_text(alloc, limit) {
+        Ok(text) => bad_count(alloc, text.as_str()),
+        Err(_) => Interruption::Memory,
+    }
+}
+
 /// Sets or clears the limit of steps of the interpreter that the place names.
 ///
 /// # Errors
-/// 304 of the root; want of memory.
+/// 304 of the root; 245 where the limit is greater than [`MOST_STEPS`]; want of memory.
 pub fn limit_count(
     tree: &mut Tree,
     alloc: Global,
@@ -145,6 +157,9 @@ pub fn limit_count(
 {
     if node(tree, place).state.root {
         return Err(denied(alloc));
+    }
+    if limit.unwrap_or(0) > MOST_STEPS {
+        return Err(count_failure(alloc, limit));
     }
     tree.set_limit_at(place, limit);
     Ok(Value::empty())

@@ -1,8 +1,10 @@
 -- When a run can begin.
-use Rattle.std.proofs.Common.{◌≡◌, ◌<◌, ◌≤◌, ◌+◌, true, false, Bool, ℕ, Option, Some, None, refl, ap, ◌∙◌, arith}
+use Rattle.std.proofs.Common.{◌≡◌, ◌<◌, ◌≤◌, ◌+◌, ◌∷◌, ◌++◌, true, false, Bool, ℕ, Option, Some, None, refl, sym, ap, subst, ◌∙◌, arith, rules}
 use Rattle.std.specs.Prelude.{is_some, nat_le}
+use Rattle.std.specs.Option.{option_map}
 use Rattle.std.proofs.lemmas.Bool.Decides.{nat_tests}
-use Rattle.tcl_core.specs.Paths.{Path, Text}
+use Rattle.tcl_core.specs.Paths.{Path, Text, strip}
+use Rattle.tcl_core.specs.Programs.{limit_or}
 use Rattle.tcl_language.specs.Instructions.{fits}
 use Rattle.tcl_tree.specs.TreeOf.{tree_of, marks_of}
 use Rattle.tcl_tree.specs.declared.tree.Tree.{Tree as Table}
@@ -10,22 +12,22 @@ use Rattle.std.specs.Prelude.{Result, Ok, Err, IfOk, IfErr, IfNone, []}
 use Rattle.tcl_partial_runs.specs.Beginnings.{Begun}
 use Rattle.tcl_core.specs.Endings.{Reply}
 use Rattle.tcl_core.specs.Entries.Entry.{Eval}
-use Rattle.tcl_core.specs.Lives.{end_at, limit_at}
+use Rattle.tcl_core.specs.Lives.{count_at, end_at, limit_at}
 use Rattle.tcl_core.specs.Runs.{Ending}
 use Rattle.tcl_core.specs.Execution.{Crossings}
-use Rattle.tcl_core.specs.Trees.{Node, Tree, effect, with_limit}
+use Rattle.tcl_core.specs.Trees.{Node, Tree, at_end, effect, with_limit}
 use Rattle.tcl_core.specs.Trees.What.{Limited}
 use Rattle.tcl_language_laws.specs.Language.{language}
 use Rattle.tcl_language.specs.Table.{serve}
 use Rattle.tcl_run.specs.declared.interruption.Interruption.{Interruption}
 use Rattle.tcl_run.specs.declared.interruption.Interruption.TheVariants as interruption
 use Rattle.tcl_run.specs.Ends.{IfEnded, IfRan}
-use Rattle.tcl_run.specs.Runs.{IsLoss, Proceeds, Ways}
+use Rattle.tcl_run.specs.Runs.{InUse, IsCounted, IsHeld, IsLoss, IsSteady, Proceeds, Ways, depth_at, depth_in, is_root, meters_at, meters_of, steps_at}
 use Rattle.tcl_run.specs.Runs.Proceeds.{given_up}
 use Rattle.tcl_tree.specs.Own.{Own}
 use Rattle.tcl_run.proofs.Endings.{IfEnded-both}
 use Rattle.tcl_tree.proofs.CoreLemmas.{top_there}
-use Rattle.tcl_eval.specs.Running.{IsGivenUp, Tells, first_of, most_steps, open_ending, root_count, root_limit, unfit}
+use Rattle.tcl_eval.specs.Running.{IsGivenUp, KeepsCounts, Tells, first_of, most_steps, open_ending, root_count, root_limit, unfit}
 use Rattle.tcl_eval.specs.declared.running.OpenEnd.{OpenEnd}
 use Rattle.tcl_eval.specs.declared.running.Refused.TheVariants as refused
 
@@ -70,6 +72,78 @@ limit_so l (Some n) there = refl
 
 pub own_limit : (t new : Table) (l : Option ℕ) → tree_of new ≡ effect [] (Limited l) (tree_of t) → root_limit new ≡ l
 own_limit t new l e = ap (λ (T : Tree Own). limit_at (T [])) e ∙ limit_so l (tree_of t []) (top_there t)
+
+-- ## Counts
+
+-- what a limit of the root leaves as it is
+pub limit_level : (T : Tree Own) (l : Option ℕ) (q : Path) → (steps_at (effect [] (Limited l) T) q ≡ steps_at T q) × (meters_at (effect [] (Limited l) T) q ≡ meters_at T q)
+limit_level T l q = by (strip [] q) (T q)
+  where
+    by : (s : Option Path) (o : Option (Node Own)) → (count_at (at_end s (with_limit l) o) ≡ count_at o) × (option_map meters_of (at_end s (with_limit l) o) ≡ option_map meters_of o)
+    by None o = (refl, refl)
+    by (Some []) None = (refl, refl)
+    by (Some []) (Some n) = (refl, refl)
+    by (Some (x ∷ xs)) o = (refl, refl)
+
+pub same_root : (l : Option ℕ) (o : Option (Node Own)) → is_root (with_limit l o) ≡ is_root o
+same_root l None = refl
+same_root l (Some n) = refl
+
+-- with the limit of the run, and then again with its own, the root is counted at most so far
+pub within_run : (old first last : Option (Node Own)) (most : ℕ) → is_some old ≡ true → first ≡ with_limit (Some most) old → IsCounted first last → is_root old ≡ true → count_at old ≤ most → count_at last ≤ most
+within_run None first last most there e h r le = let clash : false ≡ true = there in cc
+within_run (Some n) first last most there e h r le =
+    h.within (ap is_root e ∙ r) most (subst (λ (o : Option (Node Own)). limit_or (limit_at o) ≤ most) (sym e) (search rules))
+    (subst (λ (o : Option (Node Own)). count_at o ≤ most) (sym e) le)
+
+pub keeps_counts : (old first last new : Table) (path : Path) (most limit : ℕ) (own : Option ℕ) → tree_of first ≡ effect [] (Limited (Some most)) (tree_of old) → IsSteady first last → IsHeld first last path →
+    tree_of new ≡ effect [] (Limited own) (tree_of last) → most ≡ root_count old + limit → KeepsCounts old path limit new
+keeps_counts old first last new path most limit own begins steady held ends is = record {
+  above = λ a b whole. let x = before a in let y = held.counts a b whole in let z = after a in omega arith;
+  in_use = λ q used. let x = before q in let y = steady.counts q (use_stays q used) in let z = after q in omega arith;
+  root = λ r.
+      let le : count_at (tree_of old []) ≤ most = omega arith in
+      let y = within_run (tree_of old []) (tree_of first []) (tree_of last []) most (top_there old) (ap (λ (X : Tree Own). X []) begins) steady.counted r le in
+      let z = after [] in
+      omega arith;
+  top = ap (λ (X : Tree Own). is_root (X [])) ends ∙ same_root own (tree_of last []) ∙ steady.counted.root ∙ ap (λ (X : Tree Own). is_root (X [])) begins ∙ same_root (Some most) (tree_of old []);
+}
+  where
+    before : (q : Path) → steps_at (tree_of first) q ≡ steps_at (tree_of old) q
+    before q = ap (λ (X : Tree Own). steps_at X q) begins ∙ (limit_level (tree_of old) (Some most) q).0
+
+    after : (q : Path) → steps_at (tree_of new) q ≡ steps_at (tree_of last) q
+    after q = ap (λ (X : Tree Own). steps_at X q) ends ∙ (limit_level (tree_of last) own q).0
+
+    depths : (q : Path) → depth_at (tree_of first) q ≡ depth_at (tree_of old) q
+    depths q = ap depth_in (ap (λ (X : Tree Own). meters_at X q) begins ∙ (limit_level (tree_of old) (Some most) q).1)
+
+    use_stays : (q : Path) → InUse (tree_of old) q → InUse (tree_of first) q
+    use_stays q used = λ a b whole. subst (λ (n : ℕ). 0 < n) (sym (depths a)) (used a b whole)
+
+-- where nothing was counted
+pub counts_stay : (old new : Table) (path : Path) (limit : ℕ) → tree_of new ≡ tree_of old → KeepsCounts old path limit new
+counts_stay old new path limit same = record {
+  above = λ a b whole. let e = counts a in omega arith;
+  in_use = λ q used. let e = counts q in omega arith;
+  root = λ r. let e = counts [] in omega arith;
+  top = ap (λ (X : Tree Own). is_root (X [])) same;
+}
+  where
+    counts : (q : Path) → steps_at (tree_of new) q ≡ steps_at (tree_of old) q
+    counts q = ap (λ (X : Tree Own). steps_at X q) same
+
+-- and where the tree only breaks afterwards
+pub counts_after : (old last new : Table) (path : Path) (limit : ℕ) → KeepsCounts old path limit last → tree_of new ≡ tree_of last → KeepsCounts old path limit new
+counts_after old last new path limit h same = record {
+  above = λ a b whole. let x = h.above a b whole in let e = counts a in omega arith;
+  in_use = λ q used. let x = h.in_use q used in let e = counts q in omega arith;
+  root = λ r. let x = h.root r in let e = counts [] in omega arith;
+  top = ap (λ (X : Tree Own). is_root (X [])) same ∙ h.top;
+}
+  where
+    counts : (q : Path) → steps_at (tree_of new) q ≡ steps_at (tree_of last) q
+    counts q = ap (λ (X : Tree Own). steps_at X q) same
 
 -- ## Where it was given up
 

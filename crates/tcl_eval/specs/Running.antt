@@ -1,6 +1,6 @@
 -- What contracts see of the run of a script.
-use Rattle.std.specs.Prelude.{◌≡◌, ℕ, ◌+◌, Bool, true, false, List, [], nat_le, Option, Some, None}
-use Rattle.std.specs.Prelude.{is_some, Result, Ok, Err, IfOk}
+use Rattle.std.specs.Prelude.{◌≡◌, ℕ, ◌+◌, ◌≤◌, ◌++◌, Bool, true, false, List, [], nat_le, Option}
+use Rattle.std.specs.Prelude.{Some, None, is_some, Result, Ok, Err, IfOk}
 use Rattle.tcl_partial_runs.specs.Beginnings.{Begun}
 use Rattle.tcl_run_laws.specs.Budgets.{KeepsBudget}
 use Rattle.tcl_core.specs.Endings.{Reply, ok}
@@ -25,7 +25,7 @@ use Rattle.tcl_run.specs.declared.interruption.Interruption.{Interruption}
 use Rattle.tcl_run.specs.declared.interruption.Interruption.TheVariants as interruption
 use Rattle.tcl_run.specs.Ends.{Interrupts}
 use Rattle.tcl_run.specs.Outsides.{Going}
-use Rattle.tcl_run.specs.Runs.{Comes, IsLoss, Ways}
+use Rattle.tcl_run.specs.Runs.{Comes, InUse, IsLoss, Ways, is_root, steps_at}
 use Rattle.tcl_tree.specs.Own.{Own}
 use Rattle.tcl_run_laws.specs.UnfinishedLaws.{IsBeginning}
 use Rattle.tcl_tree.specs.TreeOf.{tree_of, marks_of}
@@ -129,6 +129,17 @@ pub record IsBudgeted {S : Type 0} (step : S → Request → HostReply → S →
     (o : S) (path : Path) (script : Text) (limit : ℕ) (new : Table) (z : S) (e : End) : Type 0 where
   pub whole : IsWhole step old o path script limit new z e
   pub budget : KeepsBudget (tree_of old) limit whole.whole.tape (tree_of new)
+
+-- What becomes of counts in a run of at most so many counted steps at the path, however it ends,
+-- for want of memory too: none falls of those who stand at the path or above it, nor of any who was
+-- in use; and the root's rises by at most so many. (The top of a copied part of a tree is no root,
+-- and an outside may set its limit in the run. A top stays what it is.)
+pub record KeepsCounts (old : Table) (path : Path) (limit : ℕ) (new : Table) : Type 0 where
+  pub above : (a b : Path) → a ++ b ≡ path → steps_at (tree_of old) a ≤ steps_at (tree_of new) a
+  pub in_use : (q : Path) → InUse (tree_of old) q →
+      steps_at (tree_of old) q ≤ steps_at (tree_of new) q
+  pub root : is_root (tree_of old []) ≡ true → root_count new ≤ root_count old + limit
+  pub top : is_root (tree_of new []) ≡ is_root (tree_of old [])
 
 -- The script was given up on its way, as for want of memory, with the outside in the last state
 -- there; since then it is what may have become of that.

@@ -1,5 +1,5 @@
 //! Runs of scripts in a tree of interpreters, with a host.
-ghost use Rattle.std.specs.Prelude.{◌≡◌, ◌+◌, ◌<◌, ◌≤◌, true, Some, None, IfOk, IfErr, IfSome};
+ghost use Rattle.std.specs.Prelude.{◌≡◌, ℕ, ◌+◌, ◌<◌, ◌≤◌, true, Some, None, IfOk, IfErr, IfSome};
 ghost use Rattle.std.specs.Prelude.{IfNone, IsErrOf, length};
 ghost use Rattle.tcl_core.specs.Paths.{Path};
 ghost use Rattle.tcl_language.specs.Instructions.{fits};
@@ -12,8 +12,8 @@ ghost use Rattle.tcl_tree.specs.TreeOf.{marks_of, tree_of, Names};
 ghost use Rattle.tcl_core.specs.Lives.{end_at};
 ghost use Rattle.tcl_run.specs.Runs.{IsLoss, ways};
 ghost use Rattle.tcl_eval.specs.Running.{AsksFirst, IsBudgeted, IsGivenUp, IsOpenRun, IsRun};
-ghost use Rattle.tcl_eval.specs.Running.{IsUncut, IsWhole, Tells, ending_of, ran_of, root_count};
-ghost use Rattle.tcl_eval.specs.Running.{root_limit, unfit};
+ghost use Rattle.tcl_eval.specs.Running.{IsUncut, IsWhole, KeepsCounts, Tells, ending_of, ran_of};
+ghost use Rattle.tcl_eval.specs.Running.{root_count, root_limit, unfit};
 ghost use Rattle.tcl_eval.specs.declared.running.Refused.TheVariants.{Memory};
 
 use std::alloc::{AllocError, Global};
@@ -108,6 +108,7 @@ pub fn eval<H: Host>(
     ensures marks { IfOk result (λ _. marks_of tree.new ≡ marks_of tree.old) }
     ensures style { (marks_of tree.new).integers ≡ (marks_of tree.old).integers }
     ensures root_limit { root_limit tree.new ≡ root_limit tree.old }
+    ensures counted { KeepsCounts tree.old path.now limit tree.new }
     ensures given_up { IfNone (unfit tree.old path.now script.now limit)
         (IfErr result (λ _. IsGivenUp (ways (hosted H.step) (λ o z. z ≡ o)) tree.old host.old
         path.now script.now (root_count tree.old + limit) host.new)) }
@@ -163,6 +164,7 @@ pub fn open_run<O: Outside>(
     ensures marks { IfOk result (λ _. marks_of tree.new ≡ marks_of tree.old) }
     ensures style { (marks_of tree.new).integers ≡ (marks_of tree.old).integers }
     ensures root_limit { root_limit tree.new ≡ root_limit tree.old }
+    ensures counted { KeepsCounts tree.old path.now limit tree.new }
     ensures given_up { IfNone (unfit tree.old path.now script.now limit)
         (IfErr result (λ _. IsGivenUp (ways O.goes O.loses) tree.old outside.old path.now script.now
         (root_count tree.old + limit) outside.new)) }
@@ -254,6 +256,8 @@ fn run<O: Outside>(
     requires own { start.own ≡ root_limit tree.old }
     ensures marks { marks_of tree.new ≡ marks_of tree.old }
     ensures root_limit { root_limit tree.new ≡ root_limit tree.old }
+    ensures counted { (limit : ℕ) → start.most ≡ root_count tree.old + limit →
+        KeepsCounts tree.old path.now limit tree.new }
     ensures given_up { IfErr result
         (λ _. IsGivenUp (ways O.goes O.loses) tree.old outside.old path.now script.now start.most
         outside.new) }

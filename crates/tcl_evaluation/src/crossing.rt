@@ -8,7 +8,8 @@ ghost use Rattle.tcl_language.specs.Interpreters.{call_alias as alias_program};
 ghost use Rattle.tcl_language.specs.Table as table;
 ghost use Rattle.tcl_run.specs.Ends.{IfEnded, failing};
 ghost use Rattle.tcl_run.specs.Entering.{whole_entry};
-ghost use Rattle.tcl_run.specs.Runs.{IsLoss, IsRunning, Keeps, ProceedsAt, ProceedsIn, ways};
+ghost use Rattle.tcl_run.specs.Runs.{IsHeld, IsLoss, IsRunning, Keeps, ProceedsAt, ProceedsIn};
+ghost use Rattle.tcl_run.specs.Runs.{ways};
 ghost use Rattle.tcl_tree.specs.Reaching.{Leads};
 ghost use Rattle.tcl_tree.specs.TreeOf.{Names};
 ghost use Rattle.tcl_tree.specs.declared.tree.places.Reach.TheVariants.{There};
@@ -24,7 +25,7 @@ use tcl_calls::carrying::{return_to_caller, settled, some_words, target_words};
 use tcl_calls::levels::{bring_back, set_aside};
 use tcl_entries::serving::serve;
 use tcl_run::entry::Entry;
-use tcl_run::failure::{lost_alias, no_interpreter, too_deep};
+use tcl_run::failure::{denied, lost_alias, no_interpreter, too_deep};
 use tcl_run::interruption::Interruption;
 use tcl_run::outside::{Happening, Outside};
 use tcl_run::steps::charge;
@@ -209,7 +210,7 @@ pub fn serve_entry<O: Outside>(
             serve_hidden(tree, alloc, outside, place, is_global, words)
         }
         Entry::Own(own) => serve(tree, alloc, outside, place, &own),
-        Entry::AskHost(_) => Ok(Value::empty()),
+        Entry::AskHost(_) => Err(denied(alloc)),
     }
 }
 
@@ -270,6 +271,7 @@ pub fn serve_eval<O: Outside>(
     requires { (p : Path) × Names tree.old place p }
     ensures runs { ProceedsAt (ways O.goes O.loses) tree.old outside.old place
         (λ style. table.serve style (Eval script.old)) tree.new outside.new result }
+    ensures held { (p : Path) → Names tree.old place p → IsHeld tree.old tree.new p }
     ensures keeps { Keeps O.entries_left tree.old tree.new outside.old outside.new }
 {
     let ended = eval_value(tree, alloc, outside, place, script);

@@ -7,7 +7,7 @@ ghost use Rattle.tcl_language.specs.Scripts as scripts;
 ghost use Rattle.tcl_core.specs.Trees as core;
 ghost use Rattle.tcl_tree.specs.Own.{Own};
 ghost use Rattle.tcl_run.specs.Ends.{Breaks};
-ghost use Rattle.tcl_run.specs.Runs.{IsRunning, Keeps, ProceedsAt, ProceedsIn, ways};
+ghost use Rattle.tcl_run.specs.Runs.{IsHeld, IsRunning, Keeps, ProceedsAt, ProceedsIn, ways};
 ghost use Rattle.tcl_tree.specs.TreeOf.{tree_of, Names};
 ghost use Rattle.tcl_calls.specs.Words.{opens, IsShort};
 ghost use Rattle.tcl_evaluation.specs.View.{PartGoes, PartBreaks, read_so};
@@ -43,6 +43,7 @@ pub fn eval_script<O: Outside>(
     requires { (p : Path) × Names tree.old place p }
     ensures runs { ProceedsAt (ways O.goes O.loses) tree.old outside.old place
         (λ style. read_so script.now) tree.new outside.new result }
+    ensures held { (p : Path) → Names tree.old place p → IsHeld tree.old tree.new p }
     ensures keeps { Keeps O.entries_left tree.old tree.new outside.old outside.new }
 {
     tree.keeps_form();
@@ -93,6 +94,7 @@ pub fn eval_value<O: Outside>(
     ensures runs { ProceedsAt (ways O.goes O.loses) tree.old outside.old place
         (λ style. scripts.script value.old) tree.new outside.new result }
     ensures same { value.new ≡ value.old }
+    ensures held { (p : Path) → Names tree.old place p → IsHeld tree.old tree.new p }
     ensures keeps { Keeps O.entries_left tree.old tree.new outside.old outside.new }
 {
     let script = tree.script_of(alloc, value)?;

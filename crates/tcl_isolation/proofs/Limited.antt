@@ -4,6 +4,7 @@ use Rattle.tcl_core.specs.Entries.{Entry}
 use Rattle.tcl_core.specs.Entries.Entry.{SetCountLimit, SetDepthLimit, Eval, CallWords, InvokeHidden, SetAlias, ClearAlias, Hide, Expose, Create, Delete, Ask, AskHost}
 use Rattle.tcl_core.specs.Trees.{Node}
 use Rattle.tcl_core.proofs.Disciplines.{bad}
+use Rattle.tcl_language.specs.Interpreters.{is_count_limit}
 use Rattle.tcl_language.specs.Instructions.{Program, at_node, either}
 use Rattle.tcl_language_laws.specs.Language.{language}
 use Rattle.tcl_run_laws.proofs.Limiting.{language_keeps_tops}
@@ -22,7 +23,7 @@ by_node a k None f = tt
 by_node a k (Some n) f = f n
 
 limiting : (style : Integers) (i : Entry) → sets_steps i ≡ true → Ruled leaves_steps (Some i) ((language style).entry i)
-limiting style (SetCountLimit l) e = (tt, λ T. by_node (Some (SetCountLimit l)) _ (T []) (λ n. by_either (Some (SetCountLimit l)) n.root _ _ tt (refl, λ U. tt)))
+limiting style (SetCountLimit l) e = (tt, λ T. by_node (Some (SetCountLimit l)) _ (T []) (λ n. by_either (Some (SetCountLimit l)) n.root _ _ tt (by_either (Some (SetCountLimit l)) (is_count_limit l) _ _ (refl, λ U. tt) tt)))
 limiting style (SetDepthLimit l) e = bad e
 limiting style (Eval t) e = bad e
 limiting style (CallWords ws) e = bad e

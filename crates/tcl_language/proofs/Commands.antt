@@ -801,7 +801,8 @@ module _ (P : Demands) (F : Facts P) where
   deletes name = by_look _ (λ n o. (tt, λ T s. drops name n.own (T (name ∷ [])) o))
 
   limits : (limit : Option ℕ) → P.steps → Holds (interpreters.limits limit)
-  limits limit f = by_look _ (λ n o. by_either n.root (fails interpreters.denied) (act (Limit limit) (λ T. done (ok []))) tt (f, λ T s. tt))
+  limits limit f = by_look _ (λ n o. by_either n.root (fails interpreters.denied) _ tt
+      (by_either (interpreters.is_count_limit limit) (act (Limit limit) (λ T. done (ok []))) (fails (interpreters.bad_count (interpreters.limit_text limit))) (f, λ T s. tt) tt))
 
   limits_depth : (limit : ℕ) → P.depth → Holds (interpreters.limits_depth limit)
   limits_depth limit f = by_look _ (λ n o. by_either n.root (fails interpreters.denied) _ tt

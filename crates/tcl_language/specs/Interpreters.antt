@@ -4,6 +4,7 @@ use Rattle.std.specs.Prelude.{ℕ, zero, suc, ℤ, pos, negsuc, Bool, true, fals
 use Rattle.std.specs.Prelude.{◌∷◌, ◌++◌, Option, Some, None, is_some, not, codes, ◌-◌, ◌==◌, nat_le}
 use Rattle.std.specs.Prelude.{length, drop, Result, Ok, Err}
 use Rattle.std.specs.Fmt.{decimal}
+use Rattle.std.specs.Option.{unwrap_or}
 use Rattle.std.specs.Str.{bytes_eq}
 use Rattle.std.specs.Map.{lookup}
 use Rattle.tcl_core.specs.Paths.{Text, Path, together}
@@ -15,6 +16,7 @@ use Rattle.tcl_core.specs.Entries.Question.{Exists, IsSafe, Aliases, AliasOf, Hi
 use Rattle.tcl_core.specs.Entries.Question.{Slaves, CountLimitOf, DepthLimitOf}
 use Rattle.tcl_core.specs.Entries.Said.{Finished, Told}
 use Rattle.tcl_core.specs.Trees.{Node}
+use Rattle.tcl_core.specs.Programs.{most_steps}
 use Rattle.tcl_core.specs.Programs.Act.{Look, Make, Drop, Limit, LimitDepth}
 use Rattle.tcl_core.specs.Programs.Prog.{done, act, go, call}
 use Rattle.tcl_text.specs.declared.integer.Integers.{Integers}
@@ -140,9 +142,20 @@ drops name own (Some child) = drops_at name own child.depth
 abbrev pub deletes : Text → Program
 deletes name = look (λ n. act Look (λ T. drops name n.own (T (name ∷ []))))
 
--- No interpreter's limit of steps is set in the root of its tree, nor the root's limit of depth.
+abbrev pub limit_text : Option ℕ → Text
+limit_text None = []
+limit_text (Some n) = decimal n
+
+-- so many steps can be counted
+abbrev pub is_count_limit : Option ℕ → Bool
+is_count_limit limit = nat_le (unwrap_or limit 0) most_steps
+
+-- No interpreter's limit of steps is set in the root of its tree, nor the root's limit of depth. No
+-- limit of steps is past what can be counted.
 abbrev pub limits : Option ℕ → Program
-limits limit = look (λ n. either n.root (fails denied) (act (Limit limit) (λ T. done (ok []))))
+limits limit = look (λ n. either n.root (fails denied)
+    (either (is_count_limit limit) (act (Limit limit) (λ T. done (ok [])))
+    (fails (bad_count (limit_text limit)))))
 
 abbrev pub is_depth_limit : ℕ → Bool
 is_depth_limit n = nat_le 1 n && nat_le n 1000
@@ -174,10 +187,6 @@ alias_words (Some (command.Alias a)) = a.words
 alias_words (Some (command.Builtin b)) = []
 alias_words (Some (command.Procedure p)) = []
 alias_words (Some command.Child) = []
-
-abbrev pub limit_text : Option ℕ → Text
-limit_text None = []
-limit_text (Some n) = decimal n
 
 abbrev pub bit : Bool → Text
 bit true = codes "1"

@@ -152,7 +152,8 @@ invoked_at true words = look (λ n. inside (Framed (at_level 0 n.own) level_over
     settled)
 invoked_at false words = go (Invoke words) settled
 
--- What another interpreter, or the outside, asks for.
+-- What another interpreter, or the outside, asks for. No interpreter does what only the host is
+-- asked for.
 abbrev pub serve : Integers → Entry → Program
 serve style (Eval text) = go (Script text) settled
 serve style (CallWords words) = act Charge (λ T. go (Target (some_words words)) done)
@@ -169,7 +170,7 @@ serve style (Create None safe) = look
 serve style (Create (Some name) safe) = interpreters.creates name safe
 serve style (Delete name) = interpreters.deletes name
 serve style (Ask question) = interpreters.answers question
-serve style (AskHost request) = done (ok [])
+serve style (AskHost request) = fails interpreters.denied
 
 abbrev pub program : Integers → Instr → Program
 program style (Script text) = scripts.script text

@@ -4,7 +4,8 @@ ghost use Rattle.std.specs.Prelude.{true};
 ghost use Rattle.tcl_core.specs.Entries.Entry.{Eval};
 ghost use Rattle.tcl_core.specs.Execution.{event};
 ghost use Rattle.tcl_core.specs.Trees.What.{In};
-ghost use Rattle.tcl_eval.specs.Running.{IsGivenUp, IsOpenRun, root_count, unfit};
+ghost use Rattle.tcl_eval.specs.Running.{IsGivenUp, IsOpenRun, KeepsCounts, root_count, root_limit};
+ghost use Rattle.tcl_eval.specs.Running.{unfit};
 ghost use Rattle.tcl_eval.specs.declared.running.Refused.TheVariants.{Memory};
 ghost use Rattle.tcl_open_watching.specs.OpenWatched.{IfDeleted, IfEnds, IfRefused};
 ghost use Rattle.tcl_open_watching.specs.OpenWatched.{IsOpenDeletion, IsOpenRecord, Watches};
@@ -76,6 +77,9 @@ pub fn open_watched<O: Outside>(
         (IfRefused result.1 (λ _. IsGivenUp (ways O.goes O.loses) tree.old outside path.now
         script.now (root_count tree.old + limit) result.0)) }
     ensures marks { IfEnds result.1 (λ _. marks_of tree.new ≡ marks_of tree.old) }
+    ensures style { (marks_of tree.new).integers ≡ (marks_of tree.old).integers }
+    ensures root_limit { root_limit tree.new ≡ root_limit tree.old }
+    ensures counted { KeepsCounts tree.old path.now limit tree.new }
     ensures runs { IfEnds result.1
         (λ end. IsOpenRun O.goes tree.old outside path.now script.now
         (root_count tree.old + limit) tree.new result.0 end) }
@@ -116,6 +120,9 @@ fn watch<O: Outside>(
     ensures watches { Watches O.goes O.loses tree.old outside path.now script.now limit watched.now
         tree.new result.0 result.1 }
     ensures marks { IfEnds result.1 (λ _. marks_of tree.new ≡ marks_of tree.old) }
+    ensures style { (marks_of tree.new).integers ≡ (marks_of tree.old).integers }
+    ensures root_limit { root_limit tree.new ≡ root_limit tree.old }
+    ensures counted { KeepsCounts tree.old path.now limit tree.new }
 {
     let names = match Vec::from_clones(alloc, watched) {
         Ok(names) => names,
@@ -143,6 +150,9 @@ fn run<O: Outside>(
     ensures memory { IfErr result (λ e. e ≡ Memory) }
     ensures broken { IsErrOf result Memory → (marks_of tree.new).broken ≡ true }
     ensures marks { IfOk result (λ _. marks_of tree.new ≡ marks_of tree.old) }
+    ensures style { (marks_of tree.new).integers ≡ (marks_of tree.old).integers }
+    ensures root_limit { root_limit tree.new ≡ root_limit tree.old }
+    ensures counted { KeepsCounts tree.old path.now limit tree.new }
     ensures given_up { IfErr result
         (λ _. IsGivenUp (ways O.goes O.loses) tree.old recorder.old.outside path.now script.now
         (root_count tree.old + limit) recorder.new.outside) }

@@ -4,7 +4,8 @@ ghost use Rattle.std.specs.Prelude.{OnOk, [], false, true};
 ghost use Rattle.tcl_core.specs.Entries.Entry.{Eval};
 ghost use Rattle.tcl_core.specs.Execution.{event};
 ghost use Rattle.tcl_core.specs.Trees.What.{In};
-ghost use Rattle.tcl_eval.specs.Running.{AsksFirst, IsGivenUp, IsRun, IsWhole, root_count, unfit};
+ghost use Rattle.tcl_eval.specs.Running.{AsksFirst, IsGivenUp, IsRun, IsWhole, KeepsCounts};
+ghost use Rattle.tcl_eval.specs.Running.{root_count, root_limit, unfit};
 ghost use Rattle.tcl_eval.specs.declared.running.Refused.TheVariants.{Memory};
 ghost use Rattle.tcl_language.specs.Instructions.{fits};
 ghost use Rattle.tcl_run.specs.Outsides.{hosted};
@@ -82,6 +83,9 @@ pub fn eval_watched<H: Host>(
         (IfRefused result.1 (λ _. AsksFirst H.step tree.old host path.now script.now limit
         result.0)) }
     ensures marks { IfEnds result.1 (λ _. marks_of tree.new ≡ marks_of tree.old) }
+    ensures style { (marks_of tree.new).integers ≡ (marks_of tree.old).integers }
+    ensures root_limit { root_limit tree.new ≡ root_limit tree.old }
+    ensures counted { KeepsCounts tree.old path.now limit tree.new }
     ensures runs { IfEnds result.1
         (λ end. IsRun (hosted H.step) tree.old host path.now script.now
         (root_count tree.old + limit) tree.new result.0 end) }
@@ -158,6 +162,9 @@ fn watch<H: Host>(
         tree.new result.0
         result.1 }
     ensures marks { IfEnds result.1 (λ _. marks_of tree.new ≡ marks_of tree.old) }
+    ensures style { (marks_of tree.new).integers ≡ (marks_of tree.old).integers }
+    ensures root_limit { root_limit tree.new ≡ root_limit tree.old }
+    ensures counted { KeepsCounts tree.old path.now limit tree.new }
 {
     let names = match Vec::from_clones(alloc, watched) {
         Ok(names) => names,
@@ -185,6 +192,9 @@ fn run<H: Host>(
     ensures memory { IfErr result (λ e. e ≡ Memory) }
     ensures broken { IsErrOf result Memory → (marks_of tree.new).broken ≡ true }
     ensures marks { IfOk result (λ _. marks_of tree.new ≡ marks_of tree.old) }
+    ensures style { (marks_of tree.new).integers ≡ (marks_of tree.old).integers }
+    ensures root_limit { root_limit tree.new ≡ root_limit tree.old }
+    ensures counted { KeepsCounts tree.old path.now limit tree.new }
     ensures given_up { IfErr result
         (λ _. IsGivenUp (ways (hosted H.step) (λ o z. z ≡ o)) tree.old recorder.old.outside path.now
         script.now (root_count tree.old + limit) recorder.new.outside) }

@@ -1,6 +1,6 @@
 -- What evaluations keep, one after another.
 use Rattle.std.proofs.Common.{ℕ, ◌≤◌, rules, arith}
-use Rattle.tcl_run.specs.Runs.{IsLevel, Keeps, KeepsAndLoses}
+use Rattle.tcl_run.specs.Runs.{IsLevel, IsSteady, Keeps, KeepsAndLoses}
 use Rattle.tcl_run.proofs.Losing.{lost_twice, not_lost}
 use Rattle.tcl_run.proofs.Steady.{steady-refl, steady-trans, level_steady}
 use Rattle.tcl_tree.specs.declared.tree.Tree.{Tree as Table}
@@ -27,6 +27,9 @@ module _ {S : Type 0} {entries : S → ℕ} where
   module _ {loses : S → S → Type 0} where
     pub level_loses : {t u : Table} (o : S) → IsLevel t u → KeepsAndLoses entries loses t u o o
     level_loses {t} {u} o l = record { steady = level_steady t u l; left = search rules; lost = not_lost o }
+
+    pub steady_loses : {t u : Table} (o : S) → IsSteady t u → KeepsAndLoses entries loses t u o o
+    steady_loses {t} {u} o h = record { steady = h; left = search rules; lost = not_lost o }
 
     pub loses-trans : {t u v : Table} {o w z : S} → KeepsAndLoses entries loses t u o w → KeepsAndLoses entries loses u v w z → KeepsAndLoses entries loses t v o z
     loses-trans {t} {u} {v} a b = record { steady = steady-trans t u v a.steady b.steady; left = let c = a.left in let d = b.left in omega arith; lost = lost_twice a.lost b.lost }

@@ -1,6 +1,6 @@
 -- How a run goes through the table of interpreters.
-use Rattle.std.specs.Prelude.{◌≡◌, ℕ, ◌<◌, ◌≤◌, ◌-◌, ◌++◌, List, [], Option, Some, None, Result}
-use Rattle.std.specs.Prelude.{Ok, Err}
+use Rattle.std.specs.Prelude.{◌≡◌, ℕ, ◌<◌, ◌≤◌, ◌-◌, ◌++◌, Bool, true, false, List, [], Option}
+use Rattle.std.specs.Prelude.{Some, None, Result, Ok, Err}
 use Rattle.std.specs.Option.{option_map}
 use Rattle.tcl_partial_runs.specs.Beginnings.{Begun}
 use Rattle.tcl_core.specs.Paths.{Place, Path}
@@ -8,7 +8,8 @@ use Rattle.tcl_core.specs.Endings.{Reply}
 use Rattle.tcl_core.specs.Endings.Cause.{Above}
 use Rattle.tcl_core.specs.Endings.Reply.{Stop, Cut}
 use Rattle.tcl_core.specs.Endings.Meter.{Count}
-use Rattle.tcl_core.specs.Programs.{blocked, is_spent}
+use Rattle.tcl_core.specs.Lives.{count_at, limit_at}
+use Rattle.tcl_core.specs.Programs.{blocked, is_spent, limit_or}
 use Rattle.tcl_core.specs.Programs as programs
 use Rattle.tcl_core.specs.Runs.{Ending}
 use Rattle.tcl_core.specs.Execution.{Executes, Crossings, event}
@@ -82,25 +83,57 @@ InUse T p = (a b : Path) → a ++ b ≡ p → 0 < depth_at T a
 abbrev pub room : Tree Own → ℕ
 room T = 1000 - depth_at T []
 
--- What an evaluation leaves as it is: what is in use keeps its key and its depth.
+-- how many steps were counted at a place
+abbrev pub steps_at : Tree Own → Place → ℕ
+steps_at T p = count_at (T p)
+
+-- whether an interpreter was made as the root of a tree
+abbrev pub is_root : Option (Node Own) → Bool
+is_root None = false
+is_root (Some n) = n.root
+
+-- What becomes of the count of a tree's top. It doesn't fall; and where the top is a root (that of
+-- a copied part of a tree is none), nothing sets its limit, and its count ends at most at the
+-- greater of that limit and what it was: at most at each bound on both.
+pub record IsCounted (old new : Option (Node Own)) : Type 0 where
+  pub rises : count_at old ≤ count_at new
+  pub root : is_root new ≡ is_root old
+  pub limit : is_root old ≡ true → limit_at new ≡ limit_at old
+  pub within : is_root old ≡ true → (b : ℕ) → limit_or (limit_at old) ≤ b → count_at old ≤ b →
+      count_at new ≤ b
+
+-- What an evaluation leaves as it is: what is in use keeps its key and its depth, and its count
+-- doesn't fall.
 pub record IsSteady (old new : table.Tree) : Type 0 where
   pub marks : marks_of new ≡ marks_of old
   pub keys : (q : Path) (k : ℕ) → key_of old q ≡ Some k → InUse (tree_of old) q →
       key_of new q ≡ Some k
   pub depths : (q : Path) → InUse (tree_of old) q →
       depth_at (tree_of new) q ≡ depth_at (tree_of old) q
+  pub counts : (q : Path) → InUse (tree_of old) q →
+      steps_at (tree_of old) q ≤ steps_at (tree_of new) q
   -- and the top its depth, in use or not, since that measures how much deeper an evaluation can go
   pub top : depth_at (tree_of new) [] ≡ depth_at (tree_of old) []
+  pub counted : IsCounted (tree_of old []) (tree_of new [])
+
+-- Who stands at the place, and all above it, in whom an evaluation was in progress meanwhile: they
+-- stand there still, and no count of theirs falls.
+pub record IsHeld (old new : table.Tree) (p : Place) : Type 0 where
+  pub keys : (a b : Path) (k : ℕ) → a ++ b ≡ p → key_of old a ≡ Some k → key_of new a ≡ Some k
+  pub counts : (a b : Path) → a ++ b ≡ p → steps_at (tree_of old) a ≤ steps_at (tree_of new) a
 
 -- What a change of own parts, or of counts, leaves as it is: all keys, and all depths with their
--- limits.
+-- limits. No count falls.
 pub record IsLevel (old new : table.Tree) : Type 0 where
   pub marks : marks_of new ≡ marks_of old
   pub keys : (q : Path) → key_of new q ≡ key_of old q
   pub meters : (q : Path) → meters_at (tree_of new) q ≡ meters_at (tree_of old) q
+  pub counts : (q : Path) → steps_at (tree_of old) q ≤ steps_at (tree_of new) q
+  pub counted : IsCounted (tree_of old []) (tree_of new [])
 
 -- What any evaluation leaves as it is, however it ends: what is in use keeps its key and its depth,
--- and the outside may hand in no more entries than before.
+-- and its count doesn't fall; the root's limit bounds the root's count; and the outside may hand in
+-- no more entries than before.
 pub record Keeps {S : Type 0} (entries : S → ℕ) (old new : table.Tree) (o z : S) : Type 0 where
   pub steady : IsSteady old new
   pub left : entries z ≤ entries o

@@ -21,7 +21,7 @@ use Rattle.tcl_parser.specs.Words.{WordRead}
 use Rattle.tcl_language.specs.Instructions.{fits, Open}
 use Rattle.tcl_run.proofs.Endings.{IfEnded-at, Interrupts-more, Interrupts-at}
 use Rattle.tcl_run.proofs.Proceeding.{at_prog, at_reply}
-use Rattle.tcl_run.proofs.Steady.{still_at, still_in_use, still_running, steady-trans, level_steady, nested_steady, begun_at, less_room, stands}
+use Rattle.tcl_run.proofs.Steady.{still_at, still_in_use, still_running, steady-trans, level_steady, nested_steady, nested_held, level_held, level-refl, same_level, begun_at, less_room, stands}
 use Rattle.tcl_run.proofs.Keeping.{keeps-refl, keeps-trans, level_keeps, charged_keeps, told_keeps}
 use Rattle.tcl_evaluation.proofs.Steps
 use Rattle.tcl_evaluation.proofs.Steps.{stays_of, EndsFrom, TextEnds, text_ends, VariableEnds, variable_ends, EndsAt, appended, forgets, both}
@@ -142,7 +142,7 @@ use Rattle.tcl_interpreter.specs.declared.builtin.Builtin.{Builtin}
 use Rattle.tcl_evaluation.proofs.Plainly.{acts_proceeds, asking_last, evaluates_at_proceeds, evaluates_proceeds, gets_proceeds, looks_proceed, passes_proceeds, proceeds_as}
 use Rattle.tcl_run.specs.Runs.{room}
 use Rattle.tcl_run.specs.declared.outside.Turn.{Turn}
-use Rattle.tcl_language.specs.Interpreters.{no_interpreter}
+use Rattle.tcl_language.specs.Interpreters.{denied, no_interpreter}
 use Rattle.tcl_evaluation.specs.Waiting.{SaysOn}
 use Rattle.tcl_evaluation.proofs.+eval.Goals.{sourcing::source-in_default-via-then-args-lt1, sourcing::source-in_default-via-else-args-lt1+else-args-lt2}
 -- (of loops over lists and dicts, and of choices)
@@ -298,6 +298,12 @@ pub evaluation::eval_script-returns-in-Err-clause-runs : goal.evaluation::eval_s
 evaluation::eval_script-returns-in-Err-clause-runs g t c = breaks c.too_deep.result (λ e. e ≡ too_deep_at c.in-Err.levels) _ (λ e h q style at.
     let no = c.in-Err.ensures.refused q at.names in Steps.read_refused style c.args.script.now c.in-Err.levels no.0 no.1 h) (λ q style at. stopped) c.too_deep.ensures
 
+pub evaluation::eval_script-returns-in-Err-clause-held : goal.evaluation::eval_script-returns-in-Err-clause-held
+evaluation::eval_script-returns-in-Err-clause-held g t c = λ q at. level_held _ _ q (same_level c.args.tree.now c.nest_at.new.self c.in-Err.ensures.marks c.in-Err.ensures.keys (c.in-Err.ensures.refused q at).1)
+
+pub evaluation::eval_script-returns-in-Err-clause-keeps : goal.evaluation::eval_script-returns-in-Err-clause-keeps
+evaluation::eval_script-returns-in-Err-clause-keeps g t c = level_keeps _ (same_level c.args.tree.now c.nest_at.new.self c.in-Err.ensures.marks c.in-Err.ensures.keys (c.in-Err.ensures.refused c.requires.0 c.requires.1).1)
+
 pub evaluation::eval_script-eval_commands-ended-requires : goal.evaluation::eval_script-eval_commands-ended-requires
 evaluation::eval_script-eval_commands-ended-requires g t c κs within =
     let p = c.requires.0 in
@@ -339,6 +345,12 @@ evaluation::eval_script-returns-clause-keeps g t c =
       left = c.eval_commands-ended.ensures.keeps.left;
     }
 
+pub evaluation::eval_script-returns-clause-held : goal.evaluation::eval_script-returns-clause-held
+evaluation::eval_script-returns-clause-held g t c = λ q at.
+    let running = begun_at c.args.tree.now c.nest_at.new.self c.args.place q at (c.in_default.ensures.nested q at).1 in
+    nested_held c.args.tree.now c.nest_at.new.self c.eval_commands-ended.new.tree c.unnest.new.self c.args.place q at c.in_default.ensures.keys (c.in_default.ensures.nested q at).1 c.eval_commands-ended.ensures.keeps.steady
+    c.unnest.ensures.keys (c.unnest.ensures.unnested q (c.eval_commands-ended.ensures.keeps.steady.keys q _ (c.in_default.ensures.keys q ∙ at) running))
+
 pub evaluation::eval_text-returns-in_err-script-clause-runs : goal.evaluation::eval_text-returns-in_err-script-clause-runs
 evaluation::eval_text-returns-in_err-script-clause-runs g t c =
     let p = err_from_is_err_and c.from_residual.result c.from_residual.ensures.1 in
@@ -350,6 +362,9 @@ evaluation::eval_text-returns-clause-runs g t c =
     (EndsAt (ways g.O.Outside.goes g.O.Outside.loses) c.args.tree.now c.args.outside.now c.args.place (λ style. read_so c.deref.result.now) c.eval_script.new.tree c.eval_script.new.outside)
     (EndsAt (ways g.O.Outside.goes g.O.Outside.loses) c.args.tree.now c.args.outside.now c.args.place (λ style. script c.args.text.now) c.eval_script.new.tree c.eval_script.new.outside)
     (λ e h q style at. at_prog (ap read_so (sym (c.deref.ensures ∙ c.in_ok-script.ensures))) (h q style at)) c.eval_script.ensures.runs
+
+pub evaluation::eval_value-returns-in_err-script-clause-held : goal.evaluation::eval_value-returns-in_err-script-clause-held
+evaluation::eval_value-returns-in_err-script-clause-held g t c = λ q at. level_held c.args.tree.now c.args.tree.now q (level-refl c.args.tree.now)
 
 pub evaluation::eval_value-returns-in_err-script-clause-runs : goal.evaluation::eval_value-returns-in_err-script-clause-runs
 evaluation::eval_value-returns-in_err-script-clause-runs g t c =
@@ -677,6 +692,9 @@ crossing::call_target-returns-clause-runs g t c =
     (h q style (record { names = names; style_is = ap (λ m. m.integers) c.in_default.ensures.marks ∙ at.style_is; running = running })))
     c.call-ended.ensures.runs
 
+pub crossing::call_target-returns-in-Err-clause-keeps : goal.crossing::call_target-returns-in-Err-clause-keeps
+crossing::call_target-returns-in-Err-clause-keeps g t c = level_keeps _ (same_level c.args.tree.now c.nest_at.new.self c.in-Err.ensures.marks c.in-Err.ensures.keys (c.in-Err.ensures.refused c.requires.0 c.requires.1).1)
+
 pub crossing::call_target-returns-clause-keeps : goal.crossing::call_target-returns-clause-keeps
 crossing::call_target-returns-clause-keeps g t c =
     let p = c.requires.0 in
@@ -702,6 +720,9 @@ evaluation::eval_command-returns-in_err-spread-clause-keeps g t c = keeps-trans 
 
 pub evaluation::eval_command-call-requires : goal.evaluation::eval_command-call-requires
 evaluation::eval_command-call-requires g t c κs within = (search rules, (search rules, still_running _ _ c.args.place (steady-trans _ _ _ c.words.invariant.keeps.steady (level_steady _ _ c.charge.ensures.level)) c.requires.running))
+
+pub evaluation::eval_command-returns-in_err-charge-clause-keeps : goal.evaluation::eval_command-returns-in_err-charge-clause-keeps
+evaluation::eval_command-returns-in_err-charge-clause-keeps g t c = keeps-trans c.words.invariant.keeps (charged_keeps c.charge.ensures.level c.charge.ensures.left)
 
 pub evaluation::eval_command-returns-clause-keeps : goal.evaluation::eval_command-returns-clause-keeps
 evaluation::eval_command-returns-clause-keeps g t c = keeps-trans c.words.invariant.keeps (keeps-trans (charged_keeps c.charge.ensures.level c.charge.ensures.left) c.call.ensures.keeps)
@@ -791,6 +812,9 @@ crossing::invoke-returns-clause-runs g t c =
     unhidden_ends style c.args.words.now free.0 free.1 (c.unnest.ensures.unnested q (c.call_hidden-ended.ensures.keeps.steady.keys q _ names running))
     (h q style (record { names = names; style_is = ap (λ m. m.integers) c.in_default.ensures.marks ∙ at.style_is; running = running })))
     c.call_hidden-ended.ensures.runs
+
+pub crossing::invoke-returns-in-Err-clause-keeps : goal.crossing::invoke-returns-in-Err-clause-keeps
+crossing::invoke-returns-in-Err-clause-keeps g t c = level_keeps _ (same_level c.args.tree.now c.nest_at.new.self c.in-Err.ensures.marks c.in-Err.ensures.keys (c.in-Err.ensures.refused c.requires.0 c.requires.1).1)
 
 pub crossing::invoke-returns-clause-keeps : goal.crossing::invoke-returns-clause-keeps
 crossing::invoke-returns-clause-keeps g t c =
@@ -2515,7 +2539,7 @@ crossing::serve_entry-returns-in-Own-clause-runs g t c =
 
 pub crossing::serve_entry-returns-clause-runs : goal.crossing::serve_entry-returns-clause-runs
 crossing::serve_entry-returns-clause-runs g t c =
-    λ p style at. at_prog (ap (λ i. serve style (whole_entry i)) c.in-AskHost.is) (at_reply (ap (λ (x : List ℕ). Completed (ok x)) c.empty.ensures) completed)
+    breaks c.denied.result (λ e. e ≡ Completed (failing denied)) _ (λ e h p style at. at_prog (ap (λ i. serve style (whole_entry i)) c.in-AskHost.is) (at_reply h completed)) (λ p style at. stopped) c.denied.ensures
 
 -- # Calls that pass the top of the tree, and what is handed in
 

@@ -6,7 +6,6 @@ use Rattle.tcl_dicts.specs.Dicts.{dict_word}
 use Rattle.tcl_run.specs.Ends.{IsFailure, itself}
 use Rattle.tcl_run.proofs.Endings.{Interrupts-more, at_err}
 use Rattle.tcl_text.specs.Lists.{list_of}
-use Rattle.tcl_text.specs.Writing.{fault_message}
 use Rattle.tcl_calls.specs.Walks.{MisreadsEntry}
 use Rattle.tcl_calls.proofs.Walking.{entries_misread, entries_not_two, entries_read}
 use Rattle.tcl_calls.proofs.walks.read_entries.Goals as goal

@@ -15,11 +15,11 @@ use Rattle.tcl_commands.specs.Reaching.{GetsToEnd, Reaches}
 use Rattle.tcl_commands.specs.Reaching.Reaches.{here}
 use Rattle.tcl_commands.proofs.Reached.{reaches-trans, reaches_end}
 use Rattle.tcl_commands.proofs.Turns.{first_at, name_refused, name_set}
-use Rattle.tcl_commands.proofs.Ways.{level-trans}
+use Rattle.tcl_run.proofs.Steady.{level-refl, level-trans}
 use Rattle.tcl_commands.proofs.walks.set_names.Goals as goal
 
 pub names-init : goal.names-init
-names-init c = record { way = λ k p at. here; fewer = omega arith; level = record { marks = refl; keys = λ q. refl; meters = λ q. refl } }
+names-init c = record { way = λ k p at. here; fewer = omega arith; level = level-refl c.args.tree.now }
 
 pub names-preserved : goal.names-preserved
 names-preserved c = record {

@@ -2,6 +2,8 @@ use Rattle.std.proofs.Common.{sym, subst}
 use Rattle.tcl_run.specs.declared.entry.OwnEntry.{OwnEntry}
 use Rattle.tcl_run.specs.Entering.{entry_of}
 use Rattle.tcl_run.specs.Runs.{EvaluatesAt}
+use Rattle.tcl_run.proofs.Keeping.{level_loses, steady_loses}
+use Rattle.tcl_run.proofs.Steady.{level-refl}
 use Rattle.tcl_language.specs.Table.{serve}
 use Rattle.tcl_entries.proofs.Carried.{serves}
 use Rattle.tcl_entries.proofs.serving.serve.Goals as goal
@@ -32,3 +34,27 @@ returns-in-Ask-clause-runs g c = serves g.O.Outside.goes c.args.tree.now c.args.
 
 pub returns-in-Delete-clause-runs : goal.returns-in-Delete-clause-runs
 returns-in-Delete-clause-runs g c = subst (λ (e : OwnEntry). EvaluatesAt g.O.Outside.goes c.args.tree.now c.args.outside.now c.args.place (λ style. serve style (entry_of e)) c.delete.new.tree c.delete.new.outside c.delete.result) (sym c.in-Delete.is) c.delete.ensures.runs
+
+pub returns-in-SetAlias-clause-keeps : goal.returns-in-SetAlias-clause-keeps
+returns-in-SetAlias-clause-keeps g c = level_loses _ c.set_alias.ensures.level
+
+pub returns-in-ClearAlias-clause-keeps : goal.returns-in-ClearAlias-clause-keeps
+returns-in-ClearAlias-clause-keeps g c = level_loses _ c.clear_alias.ensures.level
+
+pub returns-in-Hide-clause-keeps : goal.returns-in-Hide-clause-keeps
+returns-in-Hide-clause-keeps g c = level_loses _ c.hide.ensures.level
+
+pub returns-in-Expose-clause-keeps : goal.returns-in-Expose-clause-keeps
+returns-in-Expose-clause-keeps g c = level_loses _ c.expose.ensures.level
+
+pub returns-in-SetCountLimit-clause-keeps : goal.returns-in-SetCountLimit-clause-keeps
+returns-in-SetCountLimit-clause-keeps g c = level_loses _ c.limit_count.ensures.level
+
+pub returns-in-SetDepthLimit-clause-keeps : goal.returns-in-SetDepthLimit-clause-keeps
+returns-in-SetDepthLimit-clause-keeps g c = steady_loses _ c.limit_depth.ensures.steady
+
+pub returns-in-Create-clause-keeps : goal.returns-in-Create-clause-keeps
+returns-in-Create-clause-keeps g c = steady_loses _ c.create_named.ensures.steady
+
+pub returns-in-Ask-clause-keeps : goal.returns-in-Ask-clause-keeps
+returns-in-Ask-clause-keeps g c = level_loses _ (level-refl c.args.tree.now)

@@ -1,4 +1,4 @@
-use Rattle.std.proofs.Common.{rules, ◌≡◌, ◌∙◌, ap, sym, [], None, Some}
+use Rattle.std.proofs.Common.{rules, ◌≡◌, ◌∙◌, ap, refl, sym, [], None, Some}
 use Rattle.tcl_core.specs.Endings.{Reply}
 use Rattle.tcl_core.specs.Entries.Entry.{Eval}
 use Rattle.tcl_core.specs.Paths.{Text}
@@ -11,7 +11,7 @@ use Rattle.tcl_run.specs.Runs.{ways}
 use Rattle.tcl_run.proofs.Endings.{ended_so}
 use Rattle.tcl_run.proofs.Proceeding.{at_prog, at_start, comes, given_up_after, stopped}
 use Rattle.tcl_tree.specs.TreeOf.{tree_of, marks_of}
-use Rattle.tcl_eval.proofs.Starting.{at_any_err, is_given_up, own_limit, some_way, told_all}
+use Rattle.tcl_eval.proofs.Starting.{at_any_err, counts_stay, is_given_up, keeps_counts, own_limit, some_way, told_all}
 use Rattle.tcl_evaluation.proofs.Steps.{EndsAt}
 use Rattle.tcl_eval.proofs.running.run.Goals as goal
 
@@ -21,6 +21,14 @@ returns-in_err-new-clause-given_up g c =
 
 pub returns-clause-root_limit : goal.returns-clause-root_limit
 returns-clause-root_limit g c = own_limit c.serve_eval-ended.new.tree c.set_run_limit-2.new.self c.args.start.own c.set_run_limit-2.ensures.limited ∙ c.requires.own
+
+pub returns-in_err-new-clause-counted : goal.returns-in_err-new-clause-counted
+returns-in_err-new-clause-counted g c = λ limit is. counts_stay c.args.tree.now c.args.tree.now c.args.path.now limit refl
+
+pub returns-clause-counted : goal.returns-clause-counted
+returns-clause-counted g c = λ limit is.
+    keeps_counts c.args.tree.now c.set_run_limit.new.self c.serve_eval-ended.new.tree c.set_run_limit-2.new.self c.args.path.now c.args.start.most limit c.args.start.own c.set_run_limit.ensures.limited
+    c.serve_eval-ended.ensures.keeps.steady (c.serve_eval-ended.ensures.held c.args.path.now (c.set_run_limit.ensures.keys c.args.path.now ∙ c.requires.place)) c.set_run_limit-2.ensures.limited is
 
 pub returns-clause-given_up : goal.returns-clause-given_up
 returns-clause-given_up g c =

@@ -1,5 +1,5 @@
-use Rattle.std.proofs.Common.{◌∙◌, sym}
-use Rattle.tcl_eval.proofs.Starting.{at_none}
+use Rattle.std.proofs.Common.{◌∙◌, refl, sym}
+use Rattle.tcl_eval.proofs.Starting.{at_none, counts_stay}
 use Rattle.tcl_open_watching.proofs.Answers.{deletions, follows, records, runs}
 use Rattle.tcl_replay.proofs.Before.{both_there}
 use Rattle.tcl_open_watching.proofs.Recorded as laws
@@ -51,3 +51,6 @@ returns-clause-count_stays_within g c =
     let there = both_there c.args.tree.now c.args.path.now c.args.script.now c.args.limit c.args.watched.now (sym c.refusal_to_watch.ensures ∙ c.in_default.is) in
     follows g.O.Outside.goes g.O.Outside.loses c.args.tree.now c.args.outside c.args.path.now c.args.script.now c.args.limit c.args.watched.now c.watch.new.tree c.watch.result.0 (λ r. CountStaysWithin c.args.tree.now c.args.watched.now r.crossings c.watch.new.tree) c.watch.result.1 (records g.O.Outside.goes g.O.Outside.loses c.args.tree.now c.args.outside c.args.path.now c.args.script.now c.args.limit c.args.watched.now c.watch.new.tree c.watch.result.0 c.watch.result.1 there.0 there.1 c.watch.ensures.watches)
     (λ r e w. laws.stays_within g.O.Outside.goes c.args.tree.now c.args.outside c.args.path.now c.args.script.now c.args.limit c.args.watched.now r c.watch.new.tree c.watch.result.0 e c.scripts_stay_within.ensures w)
+
+pub returns-in-Some-clause-counted : goal.returns-in-Some-clause-counted
+returns-in-Some-clause-counted g c = counts_stay c.args.tree.now c.args.tree.now c.args.path.now c.args.limit refl

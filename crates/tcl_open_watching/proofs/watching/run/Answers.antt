@@ -4,6 +4,7 @@ use Rattle.tcl_eval.specs.Running.{IsOpenRun, root_count, unfit}
 use Rattle.tcl_open_watching.proofs.GivenUp.{Lost, if_unwatched, not_begun}
 use Rattle.tcl_recorder.specs.Recording.{recorded}
 use Rattle.tcl_recorder.specs.declared.recorder.Recorder.{Recorder}
+use Rattle.tcl_eval.proofs.Starting.{counts_stay}
 use Rattle.tcl_open_watching.proofs.watching.run.Goals as goal
 
 pub returns-in-Ok-clause-runs : goal.returns-in-Ok-clause-runs
@@ -19,3 +20,6 @@ pub returns-in-Err-clause-given_up : goal.returns-in-Err-clause-given_up
 returns-in-Err-clause-given_up g c =
     subst (λ (u : g.row.O.Denot). Lost g.O.Outside.goes g.O.Outside.loses c.args.tree.now c.args.path.now c.args.script.now (root_count c.args.tree.now + c.args.limit) c.args.recorder.now.outside u) (sym c.begin_record.ensures.outside)
     (not_begun g.O.Outside.goes g.O.Outside.loses c.args.tree.now c.args.path.now c.args.script.now (root_count c.args.tree.now + c.args.limit) c.args.recorder.now.outside)
+
+pub returns-in-Err-clause-counted : goal.returns-in-Err-clause-counted
+returns-in-Err-clause-counted g c = counts_stay c.args.tree.now c.mark_broken.new.self c.args.path.now c.args.limit c.mark_broken.ensures.tree

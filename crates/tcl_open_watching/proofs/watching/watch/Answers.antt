@@ -12,6 +12,7 @@ use Rattle.tcl_recorder.specs.Recording.{noted, recorded}
 use Rattle.tcl_recorder.specs.declared.recorder.Recorder.{Recorder}
 use Rattle.tcl_replay.specs.Watched.{recorder_of}
 use Rattle.tcl_tree.specs.TreeOf.{Marks, marks_of}
+use Rattle.tcl_eval.proofs.Starting.{counts_stay}
 use Rattle.tcl_open_watching.proofs.watching.watch.Goals as goal
 
 pub returns-in-Err-clause-watches : goal.returns-in-Err-clause-watches
@@ -41,3 +42,6 @@ returns-clause-marks g c =
     let Same : Type 0 = marks_of c.run-ended.new.tree ≡ marks_of c.args.tree.now in
     subst (λ x. IfEnds x (λ _. Same)) (sym c.outcome_of.ensures)
     (ends_so c.run-ended.result c.into_parts-outside.result.1 c.into_parts-outside.result.2 Same c.run-ended.ensures.marks)
+
+pub returns-in-Err-clause-counted : goal.returns-in-Err-clause-counted
+returns-in-Err-clause-counted g c = counts_stay c.args.tree.now c.mark_broken.new.self c.args.path.now c.args.limit c.mark_broken.ensures.tree

@@ -1,9 +1,9 @@
-use Rattle.std.proofs.Common.{◌∙◌, sym}
+use Rattle.std.proofs.Common.{◌∙◌, refl, sym}
 use Rattle.tcl_replay.specs.Watched.{AsksTheHostNothing, Counts, CountStaysWithin, LeavesTheOutside, LimitsStay, Reacts, ReactsSo, ReactsUntil, unwatchable, watching}
 use Rattle.tcl_replay.proofs.Before.{both_there}
 use Rattle.tcl_replay.proofs.Answers.{deletions, follows, records, stops, wholes}
 use Rattle.tcl_replay.proofs.Recorded as recorded
-use Rattle.tcl_eval.proofs.Starting.{at_none}
+use Rattle.tcl_eval.proofs.Starting.{at_none, counts_stay}
 use Rattle.tcl_replay.proofs.Unfinished.{if_refused_so}
 use Rattle.tcl_replay.proofs.watching.eval_watched.Goals as goal
 
@@ -81,3 +81,6 @@ returns-clause-limits_stay g c =
     let there = both_there c.args.tree.now c.args.path.now c.args.script.now c.args.limit c.args.watched.now (sym c.refusal_to_watch.ensures ∙ c.in_default.is) in
     follows g.H.Host.step c.args.tree.now c.args.host c.args.path.now c.args.script.now c.args.limit c.args.watched.now c.watch.new.tree c.watch.result.0 (λ r e. LimitsStay g.H.Host.step (watching c.args.tree.now c.args.host c.args.path.now c.args.script.now c.args.limit c.args.watched.now) r c.watch.new.tree c.watch.result.0 e) c.watch.result.1 (records g.H.Host.step c.args.tree.now c.args.host c.args.path.now c.args.script.now c.args.limit c.args.watched.now c.watch.new.tree c.watch.result.0 c.watch.result.1 there.1 c.watch.ensures.watches)
     (λ r e w. recorded.limits_stay g.H.Host.step c.args.tree.now c.args.host c.args.path.now c.args.script.now c.args.limit c.args.watched.now r c.watch.new.tree c.watch.result.0 e c.limits_stay.ensures w)
+
+pub returns-in-Some-clause-counted : goal.returns-in-Some-clause-counted
+returns-in-Some-clause-counted g c = counts_stay c.args.tree.now c.args.tree.now c.args.path.now c.args.limit refl

@@ -12,6 +12,7 @@ use Rattle.tcl_replay.proofs.Entered.{if_entry, is_uncut}
 use Rattle.tcl_eval.proofs.Hosted.{if_broken}
 use Rattle.tcl_replay.proofs.Unfinished.{Lost, if_ended, if_memory, if_refusal, if_unwatched, not_begun}
 use Rattle.tcl_tree.specs.TreeOf.{marks_of}
+use Rattle.tcl_eval.proofs.Starting.{counts_stay}
 use Rattle.tcl_replay.proofs.watching.run.Goals as goal
 
 pub ran-requires : goal.ran-requires
@@ -59,3 +60,6 @@ pub returns-in-Err-clause-given_up : goal.returns-in-Err-clause-given_up
 returns-in-Err-clause-given_up g c =
     subst (λ (u : g.row.H.Denot). Lost g.H.Host.step c.args.tree.now c.args.path.now c.args.script.now (root_count c.args.tree.now + c.args.limit) c.args.recorder.now.outside u) (sym c.begin_record.ensures.outside)
     (not_begun g.H.Host.step c.args.tree.now c.args.path.now c.args.script.now (root_count c.args.tree.now + c.args.limit) c.args.recorder.now.outside)
+
+pub returns-in-Err-clause-counted : goal.returns-in-Err-clause-counted
+returns-in-Err-clause-counted g c = counts_stay c.args.tree.now c.mark_broken.new.self c.args.path.now c.args.limit c.mark_broken.ensures.tree

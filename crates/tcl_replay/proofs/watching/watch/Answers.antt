@@ -7,6 +7,7 @@ use Rattle.tcl_replay.specs.Watched.{IfEnds, IsEntryRun, Watches, recorder_of, w
 use Rattle.tcl_replay.proofs.Answers.{as_whole, ends_so, run_so, wants, watches}
 use Rattle.tcl_replay.proofs.Unfinished.{Lost}
 use Rattle.tcl_tree.specs.TreeOf.{Marks, marks_of}
+use Rattle.tcl_eval.proofs.Starting.{counts_stay}
 use Rattle.tcl_replay.proofs.watching.watch.Goals as goal
 
 pub returns-in-Err-clause-watches : goal.returns-in-Err-clause-watches
@@ -35,3 +36,6 @@ returns-clause-marks g c =
     let Same : Type 0 = marks_of c.run-ended.new.tree ≡ marks_of c.args.tree.now in
     subst (λ x. IfEnds x (λ _. Same)) (sym c.outcome_of.ensures)
     (ends_so c.run-ended.result c.into_parts-host.result.1 c.into_parts-host.result.2 Same c.run-ended.ensures.marks)
+
+pub returns-in-Err-clause-counted : goal.returns-in-Err-clause-counted
+returns-in-Err-clause-counted g c = counts_stay c.args.tree.now c.mark_broken.new.self c.args.path.now c.args.limit c.mark_broken.ensures.tree
