@@ -1,5 +1,5 @@
 //! What an interpreter is asked for by another one, or from outside of the tree.
-ghost use Rattle.std.specs.Prelude.{◌≡◌, IfOk};
+ghost use Rattle.std.specs.Prelude.{◌≡◌, ◌++◌, IfOk};
 
 use std::alloc::{AllocError, Global};
 use tcl_host::request::Request;
@@ -64,6 +64,25 @@ pub enum Entry {
     Own(OwnEntry),
     /// What only the host is asked for.
     AskHost(Request),
+}
+
+/// The words with which an alias calls its target: its own, and then those of the call. They share
+/// what they keep.
+///
+/// # Errors
+/// Want of memory.
+#[inline(never)]
+pub fn target_words(alloc: Global, own: &[Value], args: &[Value]) -> Result<Vec<Value>, AllocError>
+    ensures { IfOk result (λ words. words.items ≡ own.now ++ args.now) }
+{
+    let mut words = Vec::with_capacity(alloc, own.len().saturating_add(args.len()))?;
+    'own: for word in own {
+        words.push(word.clone()?)?;
+    }
+    'args: for word in args {
+        words.push(word.clone()?)?;
+    }
+    Ok(words)
 }
 
 impl Question {
@@ -151,7 +170,21 @@ fn copy_request(request: &Request) -> Result<Request, AllocError>
 }
 
 impl Entry {
+    ghost use Rattle.tcl_core.specs.Entries.Entry.{CallWords};
     ghost use Rattle.tcl_run.specs.Entering.{whole_entry};
+
+    /// What an alias asks its target for: that it call a command of the alias' own words and those
+    /// of the call behind them. Nothing is read again.
+    ///
+    /// # Errors
+    /// Want of memory.
+    #[inline(never)]
+    pub fn of_alias(alloc: Global, own: &[Value], args: &[Value]) -> Result<Entry, AllocError>
+        ensures { IfOk result (λ made. whole_entry made ≡ CallWords (own.now ++ args.now)) }
+    {
+        let words = target_words(alloc, own, args)?;
+        Ok(Entry::CallWords(words))
+    }
 
     /// The same again. Its values share what they keep.
     ///

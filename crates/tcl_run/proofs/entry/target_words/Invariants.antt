@@ -1,5 +1,5 @@
 use Rattle.std.proofs.Common.{◌≡◌, ◌++◌, take}
-use Rattle.tcl_calls.proofs.carrying.target_words.Given as goal
+use Rattle.tcl_run.proofs.entry.target_words.Given as goal
 
 abbrev pub invariant-own : goal.invariant-own
 invariant-own l = l.words.items ≡ take l.word-index l.own
