@@ -32,13 +32,13 @@ exit_not c n e = absurd (bad e)
     bad : Exit n ≡ Completed c → Prim.⊥
     bad f = cc
 
-no_exit_of : (h : Height) (p : Place) (down : Path) (s : Reply) (c : Completion) → carried h p down s ≡ Completed c → IsNoExit s
+pub no_exit_of : (h : Height) (p : Place) (down : Path) (s : Reply) (c : Completion) → carried h p down s ≡ Completed c → IsNoExit s
 no_exit_of h p down (Completed d) c e = tt
 no_exit_of h p down (Stop n m) c e = tt
 no_exit_of h p down (Cut d) c e = tt
 no_exit_of h p down (Exit n) c e = exit_not c n e
 
-no_exit_in : (h : Height) (p : Place) (down : Path) (s r : Reply) → carried h p down s ≡ r → IsNoExit r → IsNoExit s
+pub no_exit_in : (h : Height) (p : Place) (down : Path) (s r : Reply) → carried h p down s ≡ r → IsNoExit r → IsNoExit s
 no_exit_in h p down (Completed d) r e f = tt
 no_exit_in h p down (Stop n m) r e f = tt
 no_exit_in h p down (Cut d) r e f = tt
