@@ -1,7 +1,7 @@
 //! The commands of lists and dicts: those that give a value, and those that change the value of a
 //! variable.
-use crate::parts::of_parts;
-use crate::reading::{Call, Verb};
+use crate::value_rows::parts::of_parts;
+use crate::value_rows::reading::{Call, Verb};
 use std::alloc::Global;
 use tcl_dicts::{building, changing, finding, listing};
 use tcl_list_texts::joining::{concat, join};

@@ -1,5 +1,5 @@
 //! Texts: lists, backslash sequences and patterns.
-use crate::answers::{list, no_call, whether};
+use crate::text_rows::answers::{list, no_call, whether};
 use std::alloc::{AllocError, Global};
 use tcl_glob::matches;
 use tcl_text::backslash::read_escape;

@@ -8,8 +8,6 @@
 //!
 //! A text is answered as it is, an error behind `error:`, and a list with each element in `<` and
 //! `>`.
-#![tactic(auto)]
-
 mod answers;
 mod commands;
 mod evaluation;
@@ -22,7 +20,7 @@ mod tokens;
 mod trees;
 mod words;
 
-use crate::answers::no_call;
+use crate::text_rows::answers::no_call;
 use row_runner::{World, run};
 use std::alloc::{AllocError, Global};
 use std::io;
@@ -197,11 +195,20 @@ fn run_layer(rt: &HostRuntime, layer: Layer) -> io::Result<()> {
     Ok(())
 }
 
-fn main(rt: HostRuntime) -> io::Result<()> {
-    run_layer(&rt, Layer::Texts)?;
-    run_layer(&rt, Layer::Numbers)?;
-    run_layer(&rt, Layer::Words)?;
-    run_layer(&rt, Layer::Strings)?;
-    run_layer(&rt, Layer::Commands)?;
-    run_layer(&rt, Layer::Expressions)
+/// The files of rows, each by whose functions its calls name.
+const LAYERS: [Layer; 6] = [
+    Layer::Texts,
+    Layer::Numbers,
+    Layer::Words,
+    Layer::Strings,
+    Layer::Commands,
+    Layer::Expressions,
+];
+
+/// Puts the rows of each file.
+pub(crate) fn run_layers(rt: &HostRuntime) -> io::Result<()> {
+    'layers: for layer in LAYERS {
+        run_layer(rt, layer)?;
+    }
+    Ok(())
 }

@@ -1,5 +1,5 @@
 //! What is kept of expressions.
-use crate::answers::text as show;
+use crate::text_rows::answers::text as show;
 use std::alloc::{AllocError, Global};
 use tcl_expr::fault::ExprError;
 use tcl_expr::operator::BinaryOperator;

@@ -1,5 +1,5 @@
 //! The tokens that expressions begin with.
-use crate::answers::{no_call, text as show};
+use crate::text_rows::answers::{no_call, text as show};
 use std::alloc::{AllocError, Global};
 use tcl_expr::fault::{ExprError, ExprFault};
 use tcl_expr::lexer::{Lexed, next_token};

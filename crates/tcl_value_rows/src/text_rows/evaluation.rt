@@ -1,6 +1,6 @@
 //! What expressions compute. Behind a bar stands what they asked for. The values of `$s`, `$i` and
 //! `$z` are 7, 3 and 0, and that of any other part is a text which is no number.
-use crate::answers::text as show;
+use crate::text_rows::answers::text as show;
 use std::alloc::{AllocError, Global};
 use tcl_expr::fault::ExprError;
 use tcl_expr::parser::parse_expr;

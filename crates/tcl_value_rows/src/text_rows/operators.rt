@@ -1,6 +1,6 @@
 //! Operators and functions applied to values that are at hand. An operator or a function is named
 //! as it is written, and `truth` is whether a text is true.
-use crate::answers::{no_call, text as show, whether};
+use crate::text_rows::answers::{no_call, text as show, whether};
 use std::alloc::{AllocError, Global};
 use tcl_expr::operator::{BinaryOperator, Function, UnaryOperator};
 use tcl_operators::apply::{apply_binary, apply_func, apply_unary, truth_of};

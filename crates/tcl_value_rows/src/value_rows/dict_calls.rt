@@ -1,6 +1,6 @@
 //! Calls on dicts that stand by themselves.
-use crate::answers::{Answer, count, done, no_call, show, text, yes_or_no};
-use crate::reading::number_of;
+use crate::value_rows::answers::{Answer, count, done, no_call, show, text, yes_or_no};
+use crate::value_rows::reading::number_of;
 use std::alloc::Global;
 use tcl_text::text::Text;
 use tcl_value::dict::Dict;

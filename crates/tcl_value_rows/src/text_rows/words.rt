@@ -1,5 +1,5 @@
 //! The words of commands: reading them, refusing them, and answering.
-use crate::answers::{answer as show, elements, no_call, refusal};
+use crate::text_rows::answers::{answer as show, elements, no_call, refusal};
 use std::alloc::{AllocError, Global};
 use tcl_text::integer::Integers;
 use tcl_text::limit::MOST_BYTES;

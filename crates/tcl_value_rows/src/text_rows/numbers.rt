@@ -1,5 +1,5 @@
 //! Numbers: integers, truth values, indexes and the operators of whole numbers.
-use crate::answers::{no_call, text, whether};
+use crate::text_rows::answers::{no_call, text, whether};
 use std::alloc::{AllocError, Global};
 use tcl_arithmetic::{
     ArithmeticFault, absolute, bitwise_and, bitwise_or, bitwise_xor, complement, difference,

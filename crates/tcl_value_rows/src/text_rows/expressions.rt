@@ -1,6 +1,6 @@
 //! Expressions: their tokens, their trees, their operators and what they compute.
-use crate::answers::no_call;
-use crate::{evaluation, operators, tokens, trees};
+use crate::text_rows::answers::no_call;
+use crate::text_rows::{evaluation, operators, tokens, trees};
 use std::alloc::{AllocError, Global};
 use tcl_text::integer::Integers;
 use tcl_text::text::Text;

@@ -1,9 +1,9 @@
 //! Calls on values, and on what is nested in them.
-use crate::answers::{
+use crate::value_rows::answers::{
     Answer, changed, changed_inside, count, no_call, refused, show, text, yes_or_no,
 };
-use crate::commands::changed_by_command;
-use crate::reading::{Call, Verb, number_of, path_of, places_of};
+use crate::value_rows::commands::changed_by_command;
+use crate::value_rows::reading::{Call, Verb, number_of, path_of, places_of};
 use std::alloc::Global;
 use tcl_nested::changing::{remove_key, set_element, set_value};
 use tcl_nested::fault::NestedError;

@@ -1,5 +1,5 @@
 //! The commands of strings: the subcommands each by its function, `string` itself, and `format`.
-use crate::answers::{answer as show, refusal};
+use crate::text_rows::answers::{answer as show, refusal};
 use std::alloc::{AllocError, Global};
 use tcl_format::command::format as format_text;
 use tcl_format::refusal::{bad_format, not_enough};

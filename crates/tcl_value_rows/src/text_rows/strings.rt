@@ -1,6 +1,6 @@
 //! The functions of strings. A verb that ends in `_nocase` is that of a call without the case of
 //! letters.
-use crate::answers::{answer as show, no_call, whether};
+use crate::text_rows::answers::{answer as show, no_call, whether};
 use std::alloc::{AllocError, Global};
 use std::cmp::Ordering;
 use tcl_characters::classes::{Class, all_members};

@@ -1,5 +1,5 @@
 //! Calls below the commands: options, rows in order, and what is left of a list.
-use crate::reading::number_of;
+use crate::value_rows::reading::number_of;
 use std::alloc::Global;
 use tcl_lists::commands::lassign_rest;
 use tcl_lists::reading::{all_and_last, first_and_rest, list_word, three_words};

@@ -1,10 +1,10 @@
 //! The values, lists and dicts that have names, and what calls on them answer.
-use crate::answers::{Answer, given, no_call, refused, text};
-use crate::commands::given_by_command;
-use crate::dict_calls::of_dict;
-use crate::list_calls::{of_list, push_from};
-use crate::reading::{Call, Verb, call_and_words, words_of};
-use crate::value_calls::answered;
+use crate::value_rows::answers::{Answer, given, no_call, refused, text};
+use crate::value_rows::commands::given_by_command;
+use crate::value_rows::dict_calls::of_dict;
+use crate::value_rows::list_calls::{of_list, push_from};
+use crate::value_rows::reading::{Call, Verb, call_and_words, words_of};
+use crate::value_rows::value_calls::answered;
 use indexmap::IndexMap;
 use row_runner::World;
 use std::alloc::{AllocError, Global};
