@@ -1,6 +1,7 @@
 //! The times of the scripts of `data/scripts.txt`. Each line has a name, how often the script does
 //! its work (in a small run and in a full one), and the script, in which `$count` is that number.
-use crate::measuring::{Size, result_of, run, took};
+use crate::measuring::took;
+use crate::running::{Size, result_of, run};
 use std::alloc::{AllocError, Global};
 use std::time::Instant;
 use std::{fs, io};

@@ -1,7 +1,5 @@
-//! How large measured work is, what scripts come to, and what is told of both.
+//! How large the work of scripts is, and what they come to.
 use std::alloc::{AllocError, Global};
-use std::io;
-use std::time::Instant;
 use tcl_eval::running::{End, Refused, eval};
 use tcl_host::memory::MemoryHost;
 use tcl_tree::tree::Tree;
@@ -36,10 +34,4 @@ pub(crate) fn result_of(alloc: Global, ended: Result<End, Refused>) -> Result<St
         }
         _ => String::from_str(alloc, "no result"),
     }
-}
-
-/// Says on standard error how long work took.
-pub(crate) fn took(rt: &HostRuntime, name: &str, start: Instant) -> io::Result<()> {
-    let time = start.elapsed(rt)?;
-    eprintln!(rt; "{name}: {time:?}")
 }

@@ -24,6 +24,37 @@ const PARTS: u32 = 1000;
 /// How often the eight bytes of the long text are repeated: it has 1,048,576 bytes.
 const REPEATS: u32 = 131_072;
 
+/// What is done to a list or a dict, many times.
+#[derive(Clone, Copy)]
+enum Work {
+    Appends,
+    Sets,
+    Counts,
+    KeysSet,
+    LongerValues,
+    InnerSets,
+    InnerKeysSet,
+    LongerValue,
+    LongerList,
+}
+
+/// The work, and what it is called.
+const WORKS: [(&str, Work); 7] = [
+    ("200,000 times lappend", Work::Appends),
+    ("200,000 times lset", Work::Sets),
+    ("200,000 times dict incr", Work::Counts),
+    ("200,000 times dict set", Work::KeysSet),
+    ("200,000 times dict append", Work::LongerValues),
+    ("200,000 times lset inside", Work::InnerSets),
+    ("200,000 times dict set inside", Work::InnerKeysSet),
+];
+
+/// The work on a dict of one key, and what it is called.
+const WORKS_ON_ONE_KEY: [(&str, Work); 2] = [
+    ("200,000 times dict append to one key", Work::LongerValue),
+    ("200,000 times dict lappend to one key", Work::LongerList),
+];
+
 /// The number behind another one, of those that look drawn by lot.
 fn drawn(seed: u32) -> u32 {
     seed.wrapping_mul(1_103_515_245).wrapping_add(12_345) % 2_147_483_648
@@ -240,39 +271,48 @@ fn measure_parts(rt: &HostRuntime) -> io::Result<()> {
     }
 }
 
-/// Changes lists and dicts.
-fn measure_changes(rt: &HostRuntime, more: &Value) -> io::Result<()> {
-    let alloc = rt.alloc();
-    measured!(rt, "200,000 times lappend", appends(alloc));
-    measured!(rt, "200,000 times lset", sets(alloc));
-    measured!(rt, "200,000 times dict incr", counts(alloc));
-    measured!(rt, "200,000 times dict set", keys_set(alloc));
-    measured!(rt, "200,000 times dict append", longer_values(alloc, more));
+/// How long the text of a list or dict is after the work was done. `more` is a text of four bytes.
+fn came_of(alloc: Global, work: Work, more: &Value) -> usize {
+    match work {
+        Work::Appends => appends(alloc),
+        Work::Sets => sets(alloc),
+        Work::Counts => counts(alloc),
+        Work::KeysSet => keys_set(alloc),
+        Work::LongerValues => longer_values(alloc, more),
+        Work::InnerSets => inner_sets(alloc),
+        Work::InnerKeysSet => inner_keys_set(alloc),
+        Work::LongerValue => longer_value(alloc, &Value::from_int(0), more),
+        Work::LongerList => longer_list(alloc, &Value::from_int(0)),
+    }
+}
+
+/// Does work, and tells what came of it and how long it took.
+fn measure_work(rt: &HostRuntime, name: &str, work: Work, more: &Value) -> io::Result<()> {
+    measured!(rt, name, came_of(rt.alloc(), work, more));
     Ok(())
 }
 
-/// Changes what stands inside lists and dicts.
-fn measure_inside(rt: &HostRuntime, more: &Value) -> io::Result<()> {
+/// Unsets the keys of ten dicts.
+fn measure_unsetting(rt: &HostRuntime) -> io::Result<()> {
     let alloc = rt.alloc();
-    measured!(rt, "200,000 times lset inside", inner_sets(alloc));
-    measured!(rt, "200,000 times dict set inside", inner_keys_set(alloc));
     let dicts = ten_dicts(alloc);
     measured!(
         rt,
         "200,000 times dict unset of a nested key",
         inner_keys_unset(alloc, dicts)
     );
-    let key = Value::from_int(0);
-    measured!(
-        rt,
-        "200,000 times dict append to one key",
-        longer_value(alloc, &key, more)
-    );
-    measured!(
-        rt,
-        "200,000 times dict lappend to one key",
-        longer_list(alloc, &key)
-    );
+    Ok(())
+}
+
+/// Changes lists and dicts, and what stands inside them.
+fn measure_changes(rt: &HostRuntime, more: &Value) -> io::Result<()> {
+    'works: for (name, work) in WORKS {
+        measure_work(rt, name, work, more)?;
+    }
+    measure_unsetting(rt)?;
+    'works: for (name, work) in WORKS_ON_ONE_KEY {
+        measure_work(rt, name, work, more)?;
+    }
     Ok(())
 }
 
@@ -282,7 +322,6 @@ pub(crate) fn measure(rt: &HostRuntime) -> io::Result<()> {
     measure_parts(rt)?;
     if let Ok(more) = word(rt.alloc(), "abcd") {
         measure_changes(rt, &more)?;
-        measure_inside(rt, &more)?;
     }
     Ok(())
 }

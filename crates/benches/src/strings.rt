@@ -23,10 +23,11 @@ fn long_text(alloc: Global) -> Result<String, AllocError> {
     Ok(text)
 }
 
-fn words(alloc: Global, texts: &[&str]) -> Result<Vec<Text>, AllocError> {
+/// The words between bars, in which `*` stands for the long text.
+fn words(alloc: Global, texts: &str, long: &str) -> Result<Vec<Text>, AllocError> {
     let mut made = Vec::new(alloc);
-    'texts: for text in texts {
-        made.push(Text::new(alloc, text)?)?;
+    'texts: for text in texts.split('|') {
+        made.push(Text::new(alloc, if text == "*" { long } else { text })?)?;
     }
     Ok(made)
 }
@@ -40,41 +41,40 @@ fn size(answer: Result<Answer, Refusal>) -> i64 {
     }
 }
 
+/// What `string` does, what that is called, and the words between bars.
+const RUNS: [(&str, &str); 12] = [
+    ("map of two keys", "map|a xy bc z|*"),
+    ("map of two keys without case", "map|-nocase|A xy BC z|*"),
+    ("map of no key that fits", "map|q x|*"),
+    ("length", "length|*"),
+    ("index of the last", "index|*|end"),
+    ("range of the middle", "range|*|262144|786431"),
+    ("first at the end", "first|f, x|*"),
+    ("last at the start", "last|xabc|*"),
+    ("reverse", "reverse|*"),
+    ("toupper", "toupper|*"),
+    ("repeat", "repeat|*|16"),
+    ("is alpha", "is|alpha|*"),
+];
+
 /// Runs `string` on these words, and tells what it came to and how long it took.
-fn measure_string(rt: &HostRuntime, name: &str, texts: &[&str]) -> io::Result<()> {
-    let words = words(rt.alloc(), texts)?;
+fn measure_string(rt: &HostRuntime, name: &str, texts: &str, long: &str) -> io::Result<()> {
+    let words = words(rt.alloc(), texts, long)?;
     measured!(rt, name, size(string(rt.alloc(), Tcl8, words.as_slice())));
     Ok(())
 }
 
 /// Runs `string` on a long text.
 fn measure_long(rt: &HostRuntime, long: &str) -> io::Result<()> {
-    measure_string(rt, "map of two keys", &["map", "a xy bc z", long])?;
-    measure_string(
-        rt,
-        "map of two keys without case",
-        &["map", "-nocase", "A xy BC z", long],
-    )?;
-    measure_string(rt, "map of no key that fits", &["map", "q x", long])?;
-    measure_string(rt, "length", &["length", long])?;
-    measure_string(rt, "index of the last", &["index", long, "end"])?;
-    measure_string(
-        rt,
-        "range of the middle",
-        &["range", long, "262144", "786431"],
-    )?;
-    measure_string(rt, "first at the end", &["first", "f, x", long])?;
-    measure_string(rt, "last at the start", &["last", "xabc", long])?;
-    measure_string(rt, "reverse", &["reverse", long])?;
-    measure_string(rt, "toupper", &["toupper", long])?;
-    measure_string(rt, "repeat", &["repeat", long, "16"])?;
-    measure_string(rt, "is alpha", &["is", "alpha", long])?;
+    'runs: for (name, texts) in RUNS {
+        measure_string(rt, name, texts, long)?;
+    }
     Ok(())
 }
 
 /// Makes short texts by `format`, and says how many bytes they have.
 fn short_texts(alloc: Global) -> Result<i64, AllocError> {
-    let words = words(alloc, &["%05d/%-4s/%x/%c", "-42", "ab", "255", "65"])?;
+    let words = words(alloc, "%05d/%-4s/%x/%c|-42|ab|255|65", "")?;
     let mut sum = 0i64;
     'times: for _ in 0..SHORT {
         sum = sum.wrapping_add(size(format(alloc, Tcl8, words.as_slice())));

@@ -7,17 +7,92 @@ use tcl_text::integer::Integers;
 use tcl_text::text::Text;
 use tcl_value::value::{Value, ValueError};
 
-/// How often a number is counted up.
-const INCREMENTS: u32 = 10_000_000;
-
-/// How often a text, list or dict is changed.
+/// How often the entries of a dict are changed, and a literal is read.
 const CHANGES: u32 = 1_000_000;
 
 /// How many elements or keys stand in a list or dict whose parts are changed.
 const PARTS: usize = 1000;
 
-/// How many keys stand in an inner dict whose values are changed.
-const KEYS: u32 = 1000;
+/// What is done to a value, so often.
+#[derive(Clone, Copy)]
+enum Work {
+    Increments,
+    Appends,
+    Pushes,
+    Sets,
+    /// In an inner list of so many elements.
+    InnerSets(usize),
+    /// In an inner dict of so many keys.
+    InnerEntries(u32),
+    /// From an inner dict of so many keys.
+    InnerRemovals(u32),
+    InnerAppends,
+    InnerPushes,
+    KeysAdded,
+}
+
+/// The work, what it is called, and how often it is done.
+const WORKS: [(&str, Work, u32); 19] = [
+    ("10,000,000 increments", Work::Increments, 10_000_000),
+    ("100,000 appends to a text", Work::Appends, 100_000),
+    ("1,000,000 appends to a text", Work::Appends, 1_000_000),
+    ("100,000 appends to a list", Work::Pushes, 100_000),
+    ("1,000,000 appends to a list", Work::Pushes, 1_000_000),
+    ("100,000 changes of an element", Work::Sets, 100_000),
+    ("1,000,000 changes of an element", Work::Sets, 1_000_000),
+    (
+        "10,000 changes in an inner list of 1,000",
+        Work::InnerSets(1_000),
+        10_000,
+    ),
+    (
+        "10,000 changes in an inner list of 10,000",
+        Work::InnerSets(10_000),
+        10_000,
+    ),
+    (
+        "10,000 changes in an inner dict of 1,000",
+        Work::InnerEntries(1_000),
+        10_000,
+    ),
+    (
+        "10,000 changes in an inner dict of 10,000",
+        Work::InnerEntries(10_000),
+        10_000,
+    ),
+    (
+        "10,000 removals from an inner dict of 1,000",
+        Work::InnerRemovals(1_000),
+        10_000,
+    ),
+    (
+        "10,000 removals from an inner dict of 10,000",
+        Work::InnerRemovals(10_000),
+        10_000,
+    ),
+    (
+        "100,000 appends to the text of a key",
+        Work::InnerAppends,
+        100_000,
+    ),
+    (
+        "1,000,000 appends to the text of a key",
+        Work::InnerAppends,
+        1_000_000,
+    ),
+    (
+        "100,000 appends to the list of a key",
+        Work::InnerPushes,
+        100_000,
+    ),
+    (
+        "1,000,000 appends to the list of a key",
+        Work::InnerPushes,
+        1_000_000,
+    ),
+    ("100,000 new keys", Work::KeysAdded, 100_000),
+    ("1,000,000 new keys", Work::KeysAdded, 1_000_000),
+];
 
 /// What a number is after it was counted up so often.
 fn increments(times: u32) -> i64 {
@@ -214,94 +289,33 @@ fn literal(alloc: Global) -> Result<Value, ValueError> {
     Value::from_text(Text::from_string(alloc, text)?)
 }
 
-/// Changes of texts and lists.
-fn measure_texts(rt: &HostRuntime) -> io::Result<()> {
-    let alloc = rt.alloc();
-    measured!(rt, "10,000,000 increments", increments(INCREMENTS));
-    measured!(
-        rt,
-        "100,000 appends to a text",
-        appends(alloc, CHANGES / 10)
-    );
-    measured!(rt, "1,000,000 appends to a text", appends(alloc, CHANGES));
-    measured!(rt, "100,000 appends to a list", pushes(alloc, CHANGES / 10));
-    measured!(rt, "1,000,000 appends to a list", pushes(alloc, CHANGES));
-    measured!(
-        rt,
-        "100,000 changes of an element",
-        sets(alloc, CHANGES / 10)
-    );
-    measured!(rt, "1,000,000 changes of an element", sets(alloc, CHANGES));
+/// What comes of work that is done so often.
+fn came_of(alloc: Global, work: Work, times: u32) -> usize {
+    match work {
+        Work::Increments => usize::try_from(increments(times)).unwrap_or(0),
+        Work::Appends => appends(alloc, times),
+        Work::Pushes => pushes(alloc, times),
+        Work::Sets => sets(alloc, times),
+        Work::InnerSets(parts) => inner_sets(alloc, parts, times),
+        Work::InnerEntries(parts) => inner_entries(alloc, parts, times),
+        Work::InnerRemovals(parts) => inner_removals(alloc, parts, times),
+        Work::InnerAppends => inner_appends(alloc, times),
+        Work::InnerPushes => inner_pushes(alloc, times),
+        Work::KeysAdded => keys_added(alloc, times),
+    }
+}
+
+/// Does work so often, and tells what came of it and how long it took.
+fn measure_work(rt: &HostRuntime, name: &str, work: Work, times: u32) -> io::Result<()> {
+    measured!(rt, name, came_of(rt.alloc(), work, times));
     Ok(())
 }
 
-/// Changes of what stands inside a list.
-fn measure_inner_lists(rt: &HostRuntime) -> io::Result<()> {
-    let alloc = rt.alloc();
-    measured!(
-        rt,
-        "10,000 changes in an inner list of 1,000",
-        inner_sets(alloc, PARTS, CHANGES / 100)
-    );
-    measured!(
-        rt,
-        "10,000 changes in an inner list of 10,000",
-        inner_sets(alloc, 10 * PARTS, CHANGES / 100)
-    );
-    Ok(())
-}
-
-/// Changes of what stands inside a dict.
-fn measure_inner_dicts(rt: &HostRuntime) -> io::Result<()> {
-    let alloc = rt.alloc();
-    measured!(
-        rt,
-        "10,000 changes in an inner dict of 1,000",
-        inner_entries(alloc, KEYS, CHANGES / 100)
-    );
-    measured!(
-        rt,
-        "10,000 changes in an inner dict of 10,000",
-        inner_entries(alloc, 10 * KEYS, CHANGES / 100)
-    );
-    measured!(
-        rt,
-        "10,000 removals from an inner dict of 1,000",
-        inner_removals(alloc, KEYS, CHANGES / 100)
-    );
-    measured!(
-        rt,
-        "10,000 removals from an inner dict of 10,000",
-        inner_removals(alloc, 10 * KEYS, CHANGES / 100)
-    );
-    measured!(
-        rt,
-        "100,000 appends to the text of a key",
-        inner_appends(alloc, CHANGES / 10)
-    );
-    measured!(
-        rt,
-        "1,000,000 appends to the text of a key",
-        inner_appends(alloc, CHANGES)
-    );
-    measured!(
-        rt,
-        "100,000 appends to the list of a key",
-        inner_pushes(alloc, CHANGES / 10)
-    );
-    measured!(
-        rt,
-        "1,000,000 appends to the list of a key",
-        inner_pushes(alloc, CHANGES)
-    );
-    Ok(())
-}
-
-/// New keys of a dict.
-fn measure_keys(rt: &HostRuntime) -> io::Result<()> {
-    let alloc = rt.alloc();
-    measured!(rt, "100,000 new keys", keys_added(alloc, CHANGES / 10));
-    measured!(rt, "1,000,000 new keys", keys_added(alloc, CHANGES));
+/// Does all of the work.
+fn measure_works(rt: &HostRuntime) -> io::Result<()> {
+    'works: for (name, work, times) in WORKS {
+        measure_work(rt, name, work, times)?;
+    }
     Ok(())
 }
 
@@ -334,10 +348,7 @@ fn measure_readings(rt: &HostRuntime, literal: &mut Value) -> io::Result<()> {
 
 /// Measures changes of values.
 pub(crate) fn measure(rt: &HostRuntime) -> io::Result<()> {
-    measure_texts(rt)?;
-    measure_inner_lists(rt)?;
-    measure_inner_dicts(rt)?;
-    measure_keys(rt)?;
+    measure_works(rt)?;
     if let Ok(keys) = keys(rt.alloc()) {
         measure_entries(rt, keys.as_slice())?;
     }
