@@ -1,13 +1,12 @@
-//! Rows over whole runs: of scripts, of the program `tclsafe`, of evaluations that are watched,
-//! saved and replayed, and of the errors that an embedder is told.
+//! Rows over whole runs: of scripts, of the program `tclsafe`, and of evaluations that are watched,
+//! saved and replayed.
 //!
 //! Every answer that a row wants was worked out by hand from the rules of the language.
 //!
 //! In `scripts.rows` and `tcl9.rows` a call is a script, and its answer how a run of it ends in a
 //! new tree of interpreters (`ending.rt` says how that is written); every beginning of each script
-//! is run too. In `errors.rows` it is the name of an error, and its answer how that is printed
-//! (`errors.rt`). In the other files a call is the words of a list, put to the tree, the host and
-//! what else the group has (`world.rt`). A call that changes these alone answers `-`.
+//! is run too. In the other files a call is the words of a list, put to the tree, the host and what
+//! else the group has (`world.rt`). A call that changes these alone answers `-`.
 //!
 //! Evaluating (`evaluating.rt`):
 //! - `tree SCRIPT`: begins a new tree, in which the script is run first, and how that ends; at
@@ -55,7 +54,6 @@
 
 mod beginnings;
 mod ending;
-mod errors;
 mod evaluating;
 mod hosting;
 mod memory;
@@ -65,7 +63,6 @@ mod watching;
 mod world;
 mod writing;
 
-use crate::errors::Errors;
 use crate::scripts::{Beginnings, Scripts};
 use crate::world::Trees;
 use row_runner::{run, run_beginnings};
@@ -92,7 +89,6 @@ fn run_calls(rt: &HostRuntime, world: &mut Trees) -> io::Result<()> {
 fn main(rt: HostRuntime) -> io::Result<()> {
     let mut world = Trees::new(rt.alloc())?;
     run_calls(&rt, &mut world)?;
-    run(&rt, "errors", &mut Errors)?;
     run_scripts(&rt, "scripts", Integers::Tcl8)?;
     run_scripts(&rt, "tcl9", Integers::Tcl9)
 }
