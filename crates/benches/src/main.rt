@@ -1,7 +1,7 @@
 //! The times of the layers below scripts, of scripts, and of watching and replaying them. The name
 //! of a part behind the program's name picks it. What comes of the work goes to standard output and
-//! the times to standard error, so that standard output stays the same. The word `full` asks for the
-//! sizes of scripts that docs/PERFORMANCE.md tells of.
+//! the times to standard error, so that standard output stays the same. The word `full` asks for
+//! the sizes of scripts that docs/PERFORMANCE.md tells of.
 #![tactic(auto)]
 
 mod expressions;
