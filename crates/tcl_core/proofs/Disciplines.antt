@@ -1,5 +1,5 @@
 -- What a discipline forbids does not happen.
-use Rattle.std.proofs.Common.{sym, ◌≡◌, inl, inr, ℕ, zero, suc, ℤ, Bool, true, false, List, [], ◌∷◌, ◌++◌, Option, Some, None, refl, ◌∙◌, ap, subst}
+use Rattle.std.proofs.Common.{sym, ◌≡◌, inl, inr, ℕ, zero, suc, ℤ, Bool, true, false, List, [], ◌∷◌, ◌++◌, Option, Some, None, refl, ◌∙◌, ap, subst, nat_lt}
 use Rattle.tcl_core.specs.Paths.{Path, Place, Height, strip, rise_to}
 use Rattle.tcl_core.specs.Endings.{Meter}
 use Rattle.tcl_core.specs.Endings.Meter.{Count, Depth}
@@ -7,12 +7,12 @@ use Rattle.tcl_core.specs.Endings.Reply.{Exit, Cut}
 use Rattle.tcl_core.specs.Endings.Cause.{Above, Over}
 use Rattle.tcl_core.specs.Entries.{Entry, Said}
 use Rattle.tcl_core.specs.Entries.Answer.{Replied}
-use Rattle.tcl_core.specs.Trees.{Grants, Tree, Node, What, Move, at, at_end, where_some, on_some, effect, with_own, with_limit, with_depth_limit, counted, deeper, shallower, fresh, asked, where_none, at_top}
+use Rattle.tcl_core.specs.Trees.{Grants, Tree, Node, What, Move, at, at_end, where_some, on_some, effect, with_own, with_limit, with_depth_limit, counted, deeper, shallower, fresh, asked, where_none, at_top, depth_of}
 use Rattle.tcl_core.specs.Trees.Grant.{Allow, Deny}
 use Rattle.tcl_core.specs.Trees.Grants.{Listed, Budget}
 use Rattle.tcl_core.specs.Trees.What.{Seen, Changed, Charged, Refused, Nested, Unnested, Limited, DepthLimited, Made, Dropped, Out, In, Back}
 use Rattle.tcl_core.specs.Trees.Move.{Born, Fall, Enter, Come}
-use Rattle.tcl_core.specs.Programs.{Deed, spot, Act, Wrap, Wait, Prog, Table, decide, opens, closes, changing, making, dropping, dropping_at, either, metered, by_limit, blocked, is_spent, is_deep}
+use Rattle.tcl_core.specs.Programs.{Deed, spot, Act, Wrap, Wait, Prog, Table, decide, opens, closes, changing, making, dropping, either, metered, by_limit, blocked, is_spent, is_deep, brought_back}
 use Rattle.tcl_core.specs.Programs.Next.{On, Off}
 use Rattle.tcl_core.specs.Programs.Act.{Look, Change, Charge, Limit, LimitDepth, Make, Drop}
 use Rattle.tcl_core.specs.Programs.Wrap.{Deeper, Framed}
@@ -108,11 +108,7 @@ module _ {O I : Type 0} (R : Discipline O I) where
 
   dropping_allowed : (p : Place) (name : List ℕ) (n : Option (Node O)) → Allowed R (spot p (dropping name n).0) (dropping name n).1
   dropping_allowed p name None = tt
-  dropping_allowed p name (Some n) = by n.depth
-    where
-      by : (d : ℕ) → Allowed R (spot p (dropping_at {O = O} name d).0) (dropping_at {O = O} name d).1
-      by zero = tt
-      by (suc d) = tt
+  dropping_allowed p name (Some n) = tt
 
   -- where limits may be set, if they may be by what goes on
   abbrev Licence : Bool → Place → Type 0
@@ -131,10 +127,14 @@ module _ {O I : Type 0} (R : Discipline O I) where
   opens_allowed Deeper T p gs x f e = metered_allowed p Depth Nested (blocked is_deep T p) gs x tt e
   opens_allowed (Framed o back) T p gs x f e = deed_of p (changing o (T p)) x (changing_allowed p o (T p) f.0) e
 
-  closes_allowed : (p : Place) (b : Wrap O) (n : Option (Node O)) → Modest_wrap R b → IsGoodNode R n → Allowed R p (closes b n)
-  closes_allowed p Deeper n f g = tt
-  closes_allowed p (Framed o back) None f g = tt
-  closes_allowed p (Framed o back) (Some n) f g = f.1 n.own g.1
+  closes_allowed : (p : Place) (b : Wrap O) (m n : Option (Node O)) → Modest_wrap R b → IsGoodNode R n → Allowed R p (closes b m n)
+  closes_allowed p Deeper m n f g = tt
+  closes_allowed p (Framed o back) m n f g = by (nat_lt (depth_of n) (depth_of m)) n g
+    where
+      by : (t : Bool) (n : Option (Node O)) → IsGoodNode R n → Allowed R p (brought_back t back n)
+      by t None g = tt
+      by true (Some n) g = tt
+      by false (Some n) g = f.1 n.own g.1
 
   out_allowed : (p : Place) (h : Height) (down : Path) (i : Entry) → Modest_call R h i → Allowed R p (Out h down i)
   out_allowed p None down i f = f
@@ -210,12 +210,12 @@ module _ {O I : Type 0} (R : Discipline O I) where
     keep q0 (wrapped w p b i k x inner left closed v y e j on s a t d) lic f g =
         let l = opens_allowed b w.tree p w.grants x f.1 j in
         let m = keep R.may_limit a (λ e. inl e) (fit_of R.may_limit _ (all.programs i f.0)) (good_step w _ x.1 inner l s g) in
-        let n = closes_allowed p b (left.tree p) f.1 (m.good.0 p) in
+        let n = closes_allowed p b (inner.tree p) (left.tree p) f.1 (m.good.0 p) in
         step_kept w _ x.1 inner v l s (then_kept inner left v m (step_kept left p _ closed v n t (keep q0 d lic (fit_of q0 _ (f.2 y)) (good_step left p _ closed n t m.good))))
     keep q0 (wrapped_passed w p b i k x inner left closed r q j on s a t) lic f g =
         let l = opens_allowed b w.tree p w.grants x f.1 j in
         let m = keep R.may_limit a (λ e. inl e) (fit_of R.may_limit _ (all.programs i f.0)) (good_step w _ x.1 inner l s g) in
-        let n = closes_allowed p b (left.tree p) f.1 (m.good.0 p) in
+        let n = closes_allowed p b (inner.tree p) (left.tree p) f.1 (m.good.0 p) in
         step_kept w _ x.1 inner closed l s (then_kept inner left closed m (step_kept left p _ closed closed n t (here closed (good_step left p _ closed n t m.good))))
     keep q0 (wrapped_halted w p b i k x inner left j on s a) lic f g =
         let l = opens_allowed b w.tree p w.grants x f.1 j in

@@ -11,7 +11,7 @@ use Rattle.tcl_core.specs.Trees.Grant.{Allow, Deny}
 use Rattle.tcl_core.specs.Trees.Grants.{Listed, Budget}
 use Rattle.tcl_core.specs.Trees.Move.{Born, Fall, Enter, Come}
 use Rattle.tcl_core.specs.Trees.What.{Seen, Charged, Refused, Nested, Limited, DepthLimited, Made, Dropped, Out, In, Done, Back}
-use Rattle.tcl_core.specs.Programs.{Act, Wrap, Deed, Wait, Prog, Table, spot, decide, opens, closes, changing, making, dropping, dropping_at, metered, by_limit, blocked, is_spent, is_deep}
+use Rattle.tcl_core.specs.Programs.{Act, Wrap, Deed, Wait, Prog, Table, spot, decide, opens, closes, changing, making, dropping, metered, by_limit, blocked, is_spent, is_deep}
 use Rattle.tcl_core.specs.Programs.Next.{On, Off}
 use Rattle.tcl_core.specs.Programs.Act.{Look, Change, Charge, Limit, LimitDepth, Make, Drop}
 use Rattle.tcl_core.specs.Programs.Wrap.{Deeper, Framed}
@@ -21,6 +21,7 @@ use Rattle.tcl_core.specs.Rules.Derives.{completed, exited, acted, refused, unhe
 use Rattle.tcl_core.specs.Views.{IsFree, IsDue}
 use Rattle.tcl_core.proofs.PathLaws.{not_both, Some-inj}
 use Rattle.tcl_core.proofs.RuleLaws.{runs_derived}
+use Rattle.tcl_core.proofs.TreeLaws.{any_close}
 
 module _ {O : Type 0} where
   due_of : (T : Tree O) (p : Place) (y x : Deed O) → IsDue T (spot p y.0) y.1 → Some y ≡ Some x → IsDue T (spot p x.0) x.1
@@ -50,11 +51,7 @@ module _ {O : Type 0} where
 
   dropping_due : (T : Tree O) (p : Place) (name : List ℕ) (n : Option (Node O)) → IsDue T (spot p (dropping name n).0) (dropping name n).1
   dropping_due T p name None = tt
-  dropping_due T p name (Some n) = go n.depth
-    where
-      go : (d : ℕ) → IsDue T (spot p (dropping_at {O = O} name d).0) (dropping_at name d).1
-      go zero = tt
-      go (suc d) = tt
+  dropping_due T p name (Some n) = tt
 
   -- an act is done only where it is due
   pub decide_due : (d : Act O) (T : Tree O) (p : Place) (gs : Grants) (x : Deed O) → decide d T p gs ≡ Some x → IsDue T (spot p x.0) x.1
@@ -70,10 +67,8 @@ module _ {O : Type 0} where
   opens_due Deeper T p gs x e = metered_due is_deep T p Depth Nested gs x (λ e. e) (blocked is_deep T p) refl e
   opens_due (Framed o back) T p gs x e = due_of T p (changing o (T p)) x (changing_due T p o (T p)) e
 
-  closes_due : (b : Wrap O) (T : Tree O) (p : Place) (n : Option (Node O)) → IsDue T p (closes b n)
-  closes_due Deeper T p n = tt
-  closes_due (Framed o back) T p None = tt
-  closes_due (Framed o back) T p (Some n) = tt
+  pub closes_due : (b : Wrap O) (T : Tree O) (p : Place) (m n : Option (Node O)) → IsDue T p (closes b m n)
+  closes_due b T p m n = any_close (IsDue T p) b m n tt tt (λ o. tt)
 
   -- ANY INVARIANT: what each happening keeps, each run keeps
   abbrev pub KeepsSteps : (World O → Type 0) → Type 0
@@ -107,9 +102,9 @@ module _ {O I : Type 0} (P : World O → Type 0) (t : KeepsSteps P) (prog : Tabl
   derived_keep (passed w p i k u r q a) b = derived_keep a b
   derived_keep (halted w p i k u a) b = derived_keep a b
   derived_keep (wrapped w p l i k x inner left closed v c e g on s a z d) b =
-      derived_keep d (t left p (closes l (left.tree p)) closed (closes_due l left.tree p (left.tree p)) z (derived_keep a (t w (spot p x.0) x.1 inner (opens_due l w.tree p w.grants x g) s b)))
+      derived_keep d (t left p (closes l (inner.tree p) (left.tree p)) closed (closes_due l left.tree p (inner.tree p) (left.tree p)) z (derived_keep a (t w (spot p x.0) x.1 inner (opens_due l w.tree p w.grants x g) s b)))
   derived_keep (wrapped_passed w p l i k x inner left closed r q g on s a z) b =
-      t left p (closes l (left.tree p)) closed (closes_due l left.tree p (left.tree p)) z (derived_keep a (t w (spot p x.0) x.1 inner (opens_due l w.tree p w.grants x g) s b))
+      t left p (closes l (inner.tree p) (left.tree p)) closed (closes_due l left.tree p (inner.tree p) (left.tree p)) z (derived_keep a (t w (spot p x.0) x.1 inner (opens_due l w.tree p w.grants x g) s b))
   derived_keep (wrapped_halted w p l i k x inner left g on s a) b = derived_keep a (t w (spot p x.0) x.1 inner (opens_due l w.tree p w.grants x g) s b)
   derived_keep (too_deep w p l i k x u v e g deep s a) b = derived_keep a (t w (spot p x.0) x.1 u (opens_due l w.tree p w.grants x g) s b)
   derived_keep (shut w p l i k x r u g off s) b = t w (spot p x.0) x.1 u (opens_due l w.tree p w.grants x g) s b

@@ -54,7 +54,7 @@ module _ {O : Type 0} where
   abbrev pub IsHanded : World O → Type 0
   IsHanded w = w.moves ≡ moves_of w.tape
 
-  handed_step : KeepsSteps IsHanded
+  pub handed_step : KeepsSteps IsHanded
   handed_step w p x v due s h = asked-inj p x v.moves (moves_of v.tape) (sym s.moves ∙ h ∙ ap moves_of s.tape)
 
   lasting_step : KeepsSteps {O = O} (λ w. IsLasting w.tape)

@@ -5,7 +5,7 @@ use Rattle.tcl_core.specs.Endings.{Reply}
 use Rattle.tcl_core.specs.Endings.Reply.{Exit}
 use Rattle.tcl_core.specs.Entries.{Entry, Answer}
 use Rattle.tcl_core.specs.Entries.Answer.{Replied}
-use Rattle.tcl_core.specs.Trees.{Grants, Tree, What, Event, Move}
+use Rattle.tcl_core.specs.Trees.{Grants, Tree, What, Event, Move, Node}
 use Rattle.tcl_core.specs.Trees.What.{Made, Dropped, Out, In, Done, Back}
 use Rattle.tcl_core.specs.Trees.Move.{Born, Fall, Enter, Come}
 use Rattle.tcl_core.specs.Programs.{Deed, spot, Act, Wrap, Wait, Prog, Table, decide, opens, closes}
@@ -139,8 +139,8 @@ module _ {O : Type 0} (c : Place) where
   open_here : (w : World O) (p : Place) (b : Wrap O) (x : Deed O) (u : World O) → opens b w.tree p w.grants ≡ Some x → Step w (spot p x.0) x.1 u → Here u p → Here w p
   open_here w p b x u g s h = plain_here w p x.0 x.1 u (opens_plain b w.tree p w.grants x g) (λ q e f. absurd (not_both e (subst (λ l. strip c (spot p l) ≡ Some q) (opens_here b w.tree p w.grants x g) f))) s h
 
-  close_here : (w : World O) (p : Place) (b : Wrap O) (u : World O) → Step w p (closes b (w.tree p)) u → Here u p → Here w p
-  close_here w p b u s h = plain_here w p None (closes b (w.tree p)) u (closes_plain b (w.tree p)) (λ q e f. absurd (not_both e f)) s h
+  close_here : (n : Option (Node O)) (w : World O) (p : Place) (b : Wrap O) (u : World O) → Step w p (closes b n (w.tree p)) u → Here u p → Here w p
+  close_here n w p b u s h = plain_here w p None (closes b n (w.tree p)) u (closes_plain b n (w.tree p)) (λ q e f. absurd (not_both e f)) s h
 
   out_here : (w : World O) (p : Place) (h : Height) (down : Path) (i : Entry) (u : World O) → Step w p (Out h down i) u → Tracked c u.tape (gone (strip c p) h) → Here w p
   out_here w p h down i u s t = turned w p (Out h down i) u (is_in (strip c p)) s (by (strip c p) t)
@@ -252,9 +252,9 @@ module _ {O I : Type 0} (top : Place) (prog : Table O I) where
   track (passed w p i k u r q a) f h = control_here w p _ (prog.programs_call i) (track a (fit _ (prog.programs_call i)) h)
   track (halted w p i k u a) f h = control_here w p _ (prog.programs_call i) (track a (fit _ (prog.programs_call i)) h)
   track (wrapped w p b i k x inner left closed v c e g on s a t d) f h =
-      open_here top w p b x inner g s (control_here inner p _ (prog.programs_call i) (track a (fit _ (prog.programs_call i)) (close_here top left p b closed t (control_here closed p _ (f c) (track d (fit _ (f c)) h)))))
+      open_here top w p b x inner g s (control_here inner p _ (prog.programs_call i) (track a (fit _ (prog.programs_call i)) (close_here top (inner.tree p) left p b closed t (control_here closed p _ (f c) (track d (fit _ (f c)) h)))))
   track (wrapped_passed w p b i k x inner left closed r q g on s a t) f h =
-      open_here top w p b x inner g s (control_here inner p _ (prog.programs_call i) (track a (fit _ (prog.programs_call i)) (close_here top left p b closed t h)))
+      open_here top w p b x inner g s (control_here inner p _ (prog.programs_call i) (track a (fit _ (prog.programs_call i)) (close_here top (inner.tree p) left p b closed t h)))
   track (wrapped_halted w p b i k x inner left g on s a) f h = open_here top w p b x inner g s (control_here inner p _ (prog.programs_call i) (track a (fit _ (prog.programs_call i)) h))
   track (too_deep w p b i k x u v e g deep s a) f h = open_here top w p b x u g s (control_here u p _ (f _) (track a (fit _ (f _)) h))
   track (shut w p b i k x r u g off s) f h = open_here top w p b x u g s h

@@ -48,7 +48,7 @@ module _ {O : Type 0} where
   at_move left rest (inr e) = e.1
 
 module _ {O : Type 0} where
-  begun_ins : (τ : List (Event O)) → begun τ ≡ ins [] τ
+  pub begun_ins : (τ : List (Event O)) → begun τ ≡ ins [] τ
   begun_ins [] = refl
   begun_ins (ev ∷ τ) = step ev.place ev.what (begun τ) (ins [] τ) (begun_ins τ)
     where
@@ -60,7 +60,7 @@ module _ {O : Type 0} where
       step p (In h i) n m e = more (rise_to h p) n m e
       step p x n m e = e
 
-  ended_dones : (τ : List (Event O)) → ended τ ≡ dones [] τ
+  pub ended_dones : (τ : List (Event O)) → ended τ ≡ dones [] τ
   ended_dones [] = refl
   ended_dones (ev ∷ τ) = step ev.place ev.what (ended τ) (dones [] τ) (ended_dones τ)
     where
@@ -131,7 +131,7 @@ module _ {O I : Type 0} where
       let l : Lives prog (inside_of c w) (inside_of c v) None = lives_within prog c w v (life_of prog w v t i r a e f) in
       uncut prog (runs_derived prog (inside_of c w) [] (wait idle never) (inside_of c v) None l) une tt (subst (λ τ. IsUncut (view c τ)) (sym f) tt)
 
-  within_done : (prog : Table O I) (c : Place) (w v : World O) (t : Path) (i : Entry) (r : Reply) → Visits prog (Runs prog) w None t i v (Some r) → v.tape ≡ [] → ins [] (view c w.tape) ≡ dones [] (view c w.tape)
+  pub within_done : (prog : Table O I) (c : Place) (w v : World O) (t : Path) (i : Entry) (r : Reply) → Visits prog (Runs prog) w None t i v (Some r) → v.tape ≡ [] → ins [] (view c w.tape) ≡ dones [] (view c w.tape)
   within_done prog c w v t i r a f =
       let o : Owes c w v (Some r) = visit_owes c w a.entered a.left v None t i r a.entry (owes c prog (runs_derived prog a.entered t (entering prog (w.tree t) i) a.left (Some r) a.run)) a.leaving in
       let s : ins c w.tape + dones c v.tape ≡ dones c w.tape + ins c v.tape + o.open_ins = o.sum in

@@ -3,7 +3,7 @@
 use Rattle.std.specs.Prelude.{◌≡◌, ℕ, zero, suc, ℤ, Bool, true, false, nat_lt, ◌+◌, List, [], ◌∷◌}
 use Rattle.std.specs.Prelude.{◌++◌, Option, Some, None, length}
 use Rattle.tcl_core.specs.Paths.{Text, Path, Place, rise_to}
-use Rattle.tcl_core.specs.Endings.{Meter, Completion, Reply, Cause, ok, refusal}
+use Rattle.tcl_core.specs.Endings.{Kind, Completion, Reply, Cause, ok, refusal}
 use Rattle.tcl_core.specs.Endings.Meter.{Count}
 use Rattle.tcl_core.specs.Endings.Reply.{Completed, Stop, Exit, Cut}
 use Rattle.tcl_core.specs.Endings.Cause.{Above, Over}
@@ -187,11 +187,11 @@ pub record React {O I : Type 0} (prog : Table O I) (S : Tree O) (ms : List (Move
 -- how a whole evaluation ends
 pub data End : Type 0 where
   Completed_as : (completion : Completion) → End
-  Stopped : (meter : Meter) → End
+  Stopped : (kind : Kind) → End
   Exits : (status : ℤ) → End
 
 -- A stop that names an interpreter below the root is its error; one that names the root is a stop.
-abbrev pub stops_below : Bool → Meter → End
+abbrev pub stops_below : Bool → Kind → End
 stops_below true m = Completed_as (refusal m)
 stops_below false m = Stopped m
 

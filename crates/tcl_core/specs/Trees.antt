@@ -4,7 +4,8 @@
 use Rattle.std.specs.Prelude.{ℕ, suc, pred, Bool, true, false, List, [], ◌∷◌, ◌++◌, Option, Some}
 use Rattle.std.specs.Prelude.{None, nat_lt, length}
 use Rattle.tcl_core.specs.Paths.{Path, Place, Height, strip, rise_to, seen_height}
-use Rattle.tcl_core.specs.Endings.{Meter, Reply}
+use Rattle.tcl_core.specs.Endings.{Meter, Kind, Reply}
+use Rattle.tcl_core.specs.Endings.Kind.{Full, Gone}
 use Rattle.tcl_core.specs.Endings.Reply.{Stop, Cut}
 use Rattle.tcl_core.specs.Endings.Cause.{Above}
 use Rattle.tcl_core.specs.Entries.{Entry, Answer}
@@ -20,6 +21,11 @@ pub record Node (O : Type 0) : Type 0 where
   pub limit : Option ℕ
   pub depth : ℕ
   pub depth_limit : ℕ
+
+-- how many evaluations are in progress in an interpreter and below it; none where none stands
+abbrev pub depth_of : {O : Type 0} → Option (Node O) → ℕ
+depth_of None = 0
+depth_of (Some n) = n.depth
 
 -- the interpreters, by their places
 abbrev pub Tree : Type 0 → Type 0
@@ -193,14 +199,22 @@ abbrev pub paid : {O : Type 0} → What O → ℕ → ℕ
 paid Charged b = suc b
 paid _ b = b
 
--- a reply as it is seen in a tree where it is told at q: a stop that names one above the top cuts
--- off from outside
+-- A reply as it is seen in a tree where it is told at q. A stop for the limit of one above the top
+-- cuts off from outside; where one above the top is gone, the top is.
 abbrev pub stopped : Bool → ℕ → Meter → Reply
 stopped true n m = Cut Above
-stopped false n m = Stop n m
+stopped false n m = Stop n (Full m)
+
+abbrev pub nearest : Bool → ℕ → ℕ → ℕ
+nearest true l n = l
+nearest false l n = n
+
+abbrev pub seen_stop : ℕ → ℕ → Kind → Reply
+seen_stop l n (Full m) = stopped (nat_lt l n) n m
+seen_stop l n Gone = Stop (nearest (nat_lt l n) l n) Gone
 
 abbrev pub seen_reply : List (List ℕ) → Reply → Reply
-seen_reply q (Stop n m) = stopped (nat_lt (length q) n) n m
+seen_reply q (Stop n k) = seen_stop (length q) n k
 seen_reply q (Cut c) = Cut Above
 seen_reply q r = r
 

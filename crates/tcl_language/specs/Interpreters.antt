@@ -130,15 +130,12 @@ least_free (suc turns) n commands = either (is_some (lookup (bytes_eq (numbered 
 abbrev pub free_name : Own → Text
 free_name own = numbered (least_free (length own.commands) 0 own.commands)
 
-abbrev pub drops_at : Text → Own → ℕ → Program
-drops_at name own zero = change (without_old_child name own) (act (Drop name) (λ T. done (ok [])))
-drops_at name own (suc depth) = fails (in_use [])
-
 abbrev pub drops : Text → Own → Option (Node Own) → Program
 drops name own None = fails (no_interpreter (written_list (name ∷ [])))
-drops name own (Some child) = drops_at name own child.depth
+drops name own (Some child) = change (without_old_child name own)
+    (act (Drop name) (λ T. done (ok [])))
 
--- A child is dropped, with all below it, where no evaluation is in progress in it.
+-- A child is dropped, with all below it, also where an evaluation is in progress in it.
 abbrev pub deletes : Text → Program
 deletes name = look (λ n. act Look (λ T. drops name n.own (T (name ∷ []))))
 
@@ -326,15 +323,15 @@ create_options safe (word ∷ words) =
 
 -- ## `interp delete ?path ...?`
 
-abbrev pub after_delete : Text → Program → Completion → Program
-after_delete text more c = either (code_is_ok c.code) more (fails (in_use text))
+abbrev pub after_delete : Program → Completion → Program
+after_delete more c = either (code_is_ok c.code) more (done c)
 
-abbrev pub deletes_at : Text → List Text × Text → Program → Program
-deletes_at text p more = asks_at p.0 (Delete p.1) (after_delete text more)
+abbrev pub deletes_at : List Text × Text → Program → Program
+deletes_at p more = asks_at p.0 (Delete p.1) (after_delete more)
 
 abbrev pub deletes_named : Text → List Text → Program → Program
 deletes_named text [] more = fails (in_use text)
-deletes_named text (x ∷ xs) more = deletes_at text (before_last x xs) more
+deletes_named text (x ∷ xs) more = deletes_at (before_last x xs) more
 
 abbrev pub delete : List Text → Program
 delete [] = done (ok [])

@@ -6,11 +6,11 @@ use Rattle.tcl_core.specs.Endings.Meter.{Depth}
 use Rattle.tcl_core.specs.Endings.Reply.{Completed, Exit}
 use Rattle.tcl_core.specs.Entries.Answer.{Replied, Heard}
 use Rattle.tcl_core.specs.Entries.Said.{Finished, Told}
-use Rattle.tcl_core.specs.Trees.{Tree, What, Event, Move, Grants, at, effect}
+use Rattle.tcl_core.specs.Trees.{Tree, What, Event, Move, Grants, at, effect, depth_of}
 use Rattle.tcl_core.specs.Trees.What.{Out, In, Done, Back}
 use Rattle.tcl_core.specs.Programs.{Wait, spot, Prog, Table, closes}
 use Rattle.tcl_core.specs.Programs.Prog.{call}
-use Rattle.tcl_core.specs.Runs.{World, Step, Runs, carried, entering, height_of}
+use Rattle.tcl_core.specs.Runs.{World, Step, Runs, carried, entering, height_of, gone, gone_from}
 use Rattle.tcl_core.specs.Rules.{Derives}
 use Rattle.tcl_core.specs.Execution.{Executes, Chain, Open, none, more, event, pending}
 use Rattle.tcl_core.specs.Execution.Executes.{completed, exited, acted, refused, went, passed, wrapped, wrapped_passed, too_deep, shut, called, called_passed, unreached, called_out, answered, heard, answered_passed, entered, entered_exiting}
@@ -22,6 +22,7 @@ use Rattle.tcl_core.proofs.Seeing.{is_exit_self}
 use Rattle.tcl_core.proofs.Subtrees.{exit_answer}
 use Rattle.tcl_partial_runs.specs.Beginnings.{handed, allowed, handing}
 use Rattle.tcl_partial_runs.proofs.Worlds.{Suits, Whole, handed-append, allowed-append, suits_before, suits_after, suits_next, decided, opened}
+use Rattle.tcl_core.specs.Endings.Kind.{Full}
 
 module _ {O : Type 0} where
   -- the world in which these are to happen, and then what l tells
@@ -76,31 +77,31 @@ module _ {O I S : Type 0} (step : Tree O → S → Wait → Event O → S → Ty
   follows f (wrapped {T} {U} {V} {o} {o1} {o2} {o3} {z} {p} {b} {i} {k} {c} {r} x is_so on s1 a s2 t) =
       let h = follows (fit (prog.program i) (prog.programs_call i)) a in
       let n = follows (fit (k c) (f c)) t in
-      let tail : List (Event O) = event p (closes b (U p)) ∷ n.events in
+      let tail : List (Event O) = event p (closes b (effect (spot p x.0) x.1 T p) (U p)) ∷ n.events in
       record {
         events = event (spot p x.0) x.1 ∷ (h.events ++ tail);
-        chain = λ cs. plain_more step (plain_open b T p x is_so) s1 (chain-append step (called_on step (prog.program i) (prog.programs_call i) (h.chain cs)) (plain_more step (closes_plain b (U p)) s2 (called_on step (k c) (f c) (n.chain cs))));
-        runs = λ ms g l su. Derives.wrapped _ p b i k x (ahead (effect (spot p x.0) x.1 T) (h.events ++ tail) ms g l) (ahead U tail ms g l) (ahead (effect p (closes b (U p)) U) n.events ms g l) _ c _
+        chain = λ cs. plain_more step (plain_open b T p x is_so) s1 (chain-append step (called_on step (prog.program i) (prog.programs_call i) (h.chain cs)) (plain_more step (closes_plain b (effect (spot p x.0) x.1 T p) (U p)) s2 (called_on step (k c) (f c) (n.chain cs))));
+        runs = λ ms g l su. Derives.wrapped _ p b i k x (ahead (effect (spot p x.0) x.1 T) (h.events ++ tail) ms g l) (ahead U tail ms g l) (ahead (effect p (closes b (effect (spot p x.0) x.1 T p) (U p)) U) n.events ms g l) _ c _
             (opened b T p x is_so (h.events ++ tail) g su) on (next T (spot p x.0) x.1 (h.events ++ tail) ms g l)
             (first (effect (spot p x.0) x.1 T) U p (prog.program i) (Completed c) h.events tail ms g l (suits_next _ _ _ su) h.runs)
-            (next U p (closes b (U p)) n.events ms g l) (n.runs ms g l (suits_next _ _ _ (suits_after h.events tail g (suits_next _ _ _ su))));
+            (next U p (closes b (effect (spot p x.0) x.1 T p) (U p)) n.events ms g l) (n.runs ms g l (suits_next _ _ _ (suits_after h.events tail g (suits_next _ _ _ su))));
       }
   follows f (wrapped_passed {T} {U} {o} {o1} {o2} {o3} {p} {b} {i} {k} {r} x q is_so on s1 a s2) =
       let h = follows (fit (prog.program i) (prog.programs_call i)) a in
-      let tail : List (Event O) = event p (closes b (U p)) ∷ [] in
+      let tail : List (Event O) = event p (closes b (effect (spot p x.0) x.1 T p) (U p)) ∷ [] in
       record {
         events = event (spot p x.0) x.1 ∷ (h.events ++ tail);
-        chain = λ cs. plain_more step (plain_open b T p x is_so) s1 (chain-append step (called_on step (prog.program i) (prog.programs_call i) (h.chain cs)) (plain_more step (closes_plain b (U p)) s2 none));
-        runs = λ ms g l su. Derives.wrapped_passed _ p b i k x (ahead (effect (spot p x.0) x.1 T) (h.events ++ tail) ms g l) (ahead U tail ms g l) (ahead (effect p (closes b (U p)) U) [] ms g l) r q
+        chain = λ cs. plain_more step (plain_open b T p x is_so) s1 (chain-append step (called_on step (prog.program i) (prog.programs_call i) (h.chain cs)) (plain_more step (closes_plain b (effect (spot p x.0) x.1 T p) (U p)) s2 none));
+        runs = λ ms g l su. Derives.wrapped_passed _ p b i k x (ahead (effect (spot p x.0) x.1 T) (h.events ++ tail) ms g l) (ahead U tail ms g l) (ahead (effect p (closes b (effect (spot p x.0) x.1 T p) (U p)) U) [] ms g l) r q
             (opened b T p x is_so (h.events ++ tail) g su) on (next T (spot p x.0) x.1 (h.events ++ tail) ms g l)
             (first (effect (spot p x.0) x.1 T) U p (prog.program i) r h.events tail ms g l (suits_next _ _ _ su) h.runs)
-            (next U p (closes b (U p)) [] ms g l);
+            (next U p (closes b (effect (spot p x.0) x.1 T p) (U p)) [] ms g l);
       }
   follows f (too_deep {T} {V} {o} {u} {z} {p} {b} {i} {k} {r} x is_so deep s t) =
-      let n = follows (fit (k (refusal Depth)) (f (refusal Depth))) t in
+      let n = follows (fit (k (refusal (Full Depth))) (f (refusal (Full Depth)))) t in
       record {
         events = event (spot p x.0) x.1 ∷ n.events;
-        chain = λ cs. plain_more step (plain_open b T p x is_so) s (called_on step (k (refusal Depth)) (f (refusal Depth)) (n.chain cs));
+        chain = λ cs. plain_more step (plain_open b T p x is_so) s (called_on step (k (refusal (Full Depth))) (f (refusal (Full Depth))) (n.chain cs));
         runs = λ ms g l su. Derives.too_deep _ p b i k x (ahead (effect (spot p x.0) x.1 T) n.events ms g l) _ _ (opened b T p x is_so n.events g su) deep (next T (spot p x.0) x.1 n.events ms g l) (n.runs ms g l (suits_next _ _ _ su));
       }
   follows f (shut {T} {o} {u} {p} {b} {i} {k} {r} x is_so off s) =
@@ -112,7 +113,7 @@ module _ {O I S : Type 0} (step : Tree O → S → Wait → Event O → S → Ty
   follows calls (called {T} {U} {V} {o} {o1} {o2} {o3} {o4} {o5} {z} {p} {h} {down} {i} {lost} {k} {s} {r} {c} a t e there s1 s2 m s3 so s4 j) =
       let f = follows (fit (entering prog (T t) i) (entering_calls prog (T t) i)) m in
       let n = follows (fit (k (Finished c)) (calls (Finished c))) j in
-      let last : List (Event O) = event p (Back h (Replied (carried h p down s))) ∷ n.events in
+      let last : List (Event O) = event p (Back h (Replied (carried (gone (depth_of (T p)) U p) h p down s))) ∷ n.events in
       let tail : List (Event O) = event t (Done (Some (length down)) s) ∷ last in
       let inner : List (Event O) = event t (In (Some (length down)) i) ∷ (f.events ++ tail) in
       record {
@@ -122,11 +123,11 @@ module _ {O I S : Type 0} (step : Tree O → S → Wait → Event O → S → Ty
             Derives.called _ p h down i lost k a t (ahead T inner ms g l) (ahead T (f.events ++ tail) ms g l) (ahead U tail ms g l) (ahead U last ms g l) (ahead U n.events ms g l) _ s c _ e
             (next T p (Out h down i) inner ms g l) there (next T t (In (Some (length down)) i) (f.events ++ tail) ms g l)
             (first T U t (entering prog (T t) i) s f.events tail ms g l su2 f.runs)
-            (next U t (Done (Some (length down)) s) last ms g l) so (next U p (Back h (Replied (carried h p down s))) n.events ms g l) (n.runs ms g l (suits_next _ _ _ (suits_next _ last _ (suits_after f.events tail g su2))));
+            (next U t (Done (Some (length down)) s) last ms g l) so (next U p (Back h (Replied (carried (gone (depth_of (T p)) U p) h p down s))) n.events ms g l) (n.runs ms g l (suits_next _ _ _ (suits_next _ last _ (suits_after f.events tail g su2))));
       }
   follows calls (called_passed {T} {U} {o} {o1} {o2} {o3} {o4} {o5} {p} {h} {down} {i} {lost} {k} {s} {r} a t e there s1 s2 m s3 so q s4) =
       let f = follows (fit (entering prog (T t) i) (entering_calls prog (T t) i)) m in
-      let last : List (Event O) = event p (Back h (Replied (carried h p down s))) ∷ [] in
+      let last : List (Event O) = event p (Back h (Replied (carried (gone (depth_of (T p)) U p) h p down s))) ∷ [] in
       let tail : List (Event O) = event t (Done (Some (length down)) s) ∷ last in
       let inner : List (Event O) = event t (In (Some (length down)) i) ∷ (f.events ++ tail) in
       record {
@@ -136,7 +137,7 @@ module _ {O I S : Type 0} (step : Tree O → S → Wait → Event O → S → Ty
             (Derives.called_passed _ p h down i lost k a t (ahead T inner ms g l) (ahead T (f.events ++ tail) ms g l) (ahead U tail ms g l) (ahead U last ms g l) (ahead U [] ms g l) s e
             (next T p (Out h down i) inner ms g l) there (next T t (In (Some (length down)) i) (f.events ++ tail) ms g l)
             (first T U t (entering prog (T t) i) s f.events tail ms g l (suits_next _ _ _ (suits_next _ inner _ su)) f.runs)
-            (next U t (Done (Some (length down)) s) last ms g l) (subst IsQuit (sym so) q) (next U p (Back h (Replied (carried h p down s))) [] ms g l));
+            (next U t (Done (Some (length down)) s) last ms g l) (subst IsQuit (sym so) q) (next U p (Back h (Replied (carried (gone (depth_of (T p)) U p) h p down s))) [] ms g l));
       }
   follows calls (unreached {T} {V} {o} {o1} {o2} {z} {p} {h} {down} {i} {lost} {k} {r} a e there s1 s2 t) =
       let n = follows (fit (k (Finished lost)) (calls (Finished lost))) t in
@@ -157,20 +158,20 @@ module _ {O I S : Type 0} (step : Tree O → S → Wait → Event O → S → Ty
       let n = follows (fit (k (Finished c)) (calls (Finished c))) t in
       record {
         events = event p (Back (height_of s) (Replied (Completed c))) ∷ n.events;
-        chain = λ cs. replied step s p e (Replied (Completed c)) own j (called_on step (k (Finished c)) (calls (Finished c)) (n.chain cs));
+        chain = λ cs. replied step s p e (Replied (Completed c)) (gone_from s T p) own j (called_on step (k (Finished c)) (calls (Finished c)) (n.chain cs));
         runs = λ ms g l su. Derives.answered _ p s k c (ahead T n.events ms g l) _ _ e own (next T p (Back (height_of s) (Replied (Completed c))) n.events ms g l) (n.runs ms g l (suits_next _ _ _ su));
       }
   follows calls (heard {T} {V} {o} {u} {z} {p} {s} {k} {a} {r} e own j t) =
       let n = follows (fit (k (Told a)) (calls (Told a))) t in
       record {
         events = event p (Back (height_of s) (Heard a)) ∷ n.events;
-        chain = λ cs. replied step s p e (Heard a) own j (called_on step (k (Told a)) (calls (Told a)) (n.chain cs));
+        chain = λ cs. replied step s p e (Heard a) (gone_from s T p) own j (called_on step (k (Told a)) (calls (Told a)) (n.chain cs));
         runs = λ ms g l su. Derives.heard _ p s k a (ahead T n.events ms g l) _ _ e own (next T p (Back (height_of s) (Heard a)) n.events ms g l) (n.runs ms g l (suits_next _ _ _ su));
       }
   follows calls (answered_passed {T} {o} {u} {p} {s} {k} {r} q e own j) =
       record {
         events = event p (Back (height_of s) (Replied r)) ∷ [];
-        chain = λ cs. replied step s p e (Replied r) own j none;
+        chain = λ cs. replied step s p e (Replied r) (gone_from s T p) own j none;
         runs = λ ms g l su. Derives.answered_passed _ p s k r (ahead T [] ms g l) q e own (next T p (Back (height_of s) (Replied r)) [] ms g l);
       }
   follows calls (entered {T} {U} {V} {o} {o1} {o2} {o3} {z} {p} {s} {k} {y = j} {r} t i e s1 m s2 calm b) =

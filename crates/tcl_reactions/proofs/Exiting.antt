@@ -81,9 +81,9 @@ module _ {O I : Type 0} (prog : Table O I) where
   exiting (passed w p i k u r q a) h = exiting a h
   exiting (halted w p i k u a) h = exiting a h
   exiting (wrapped w p b i k x inner left closed v y e g on s a t z) h =
-      plain w (spot p x.0) x.1 inner s (opens_plain b w.tree p w.grants x g) (exiting a (plain left p (closes b (left.tree p)) closed t (closes_plain b (left.tree p)) (exiting z h)))
+      plain w (spot p x.0) x.1 inner s (opens_plain b w.tree p w.grants x g) (exiting a (plain left p (closes b (inner.tree p) (left.tree p)) closed t (closes_plain b (inner.tree p) (left.tree p)) (exiting z h)))
   exiting (wrapped_passed w p b i k x inner left closed r q g on s a t) h =
-      plain w (spot p x.0) x.1 inner s (opens_plain b w.tree p w.grants x g) (exiting a (plain left p (closes b (left.tree p)) closed t (closes_plain b (left.tree p)) h))
+      plain w (spot p x.0) x.1 inner s (opens_plain b w.tree p w.grants x g) (exiting a (plain left p (closes b (inner.tree p) (left.tree p)) closed t (closes_plain b (inner.tree p) (left.tree p)) h))
   exiting (wrapped_halted w p b i k x inner left g on s a) h = plain w (spot p x.0) x.1 inner s (opens_plain b w.tree p w.grants x g) (exiting a h)
   exiting (too_deep w p b i k x u v e g deep s a) h = plain w (spot p x.0) x.1 u s (opens_plain b w.tree p w.grants x g) (exiting a h)
   exiting (shut w p b i k x r u g off s) h = plain w (spot p x.0) x.1 u s (opens_plain b w.tree p w.grants x g) h

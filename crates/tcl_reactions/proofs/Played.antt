@@ -5,12 +5,12 @@ use Rattle.tcl_core.specs.Endings.{Reply}
 use Rattle.tcl_core.specs.Endings.Reply.{Completed, Stop, Exit, Cut}
 use Rattle.tcl_core.specs.Entries.{Entry}
 use Rattle.tcl_core.specs.Entries.Answer.{Replied, Heard}
-use Rattle.tcl_core.specs.Trees.{Tree, Event, Move, Grants}
+use Rattle.tcl_core.specs.Trees.{Tree, Event, Move, Grants, depth_of}
 use Rattle.tcl_core.specs.Trees.What.{In, Out, Done, Back}
 use Rattle.tcl_core.specs.Trees.Move.{Born, Fall, Enter, Come}
 use Rattle.tcl_core.specs.Programs.{Prog, Table, spot}
 use Rattle.tcl_core.specs.Programs.Prog.{done, exit, wait}
-use Rattle.tcl_core.specs.Runs.{World, Ending, Halts, Exits, carried, entering, height_of}
+use Rattle.tcl_core.specs.Runs.{World, Ending, Halts, Exits, carried, entering, height_of, gone}
 use Rattle.tcl_core.specs.Rules.{Derives, IsNoExit}
 use Rattle.tcl_core.specs.Execution.{Crossings, Executes, event}
 use Rattle.tcl_core.specs.Execution.Executes.{completed, exited, acted, refused, went, passed, wrapped, wrapped_passed, too_deep, shut, called, called_passed, unreached, called_out, answered, heard, answered_passed, entered, entered_exiting}
@@ -55,7 +55,7 @@ module _ {O I : Type 0} (prog : Table O I) where
       let j : o2 ≡ o = starts_same prog T U o o1 o2 o3 o4 o5 p a t h down i lost k s e there s1 s2 s3 s4 in
       called_by prog T U o o1 o2 o3 o4 o5 p a t h down i lost k s e there s1 s2 s3 s4 V z c r n so (played x w.goes_on (subst (λ v. Calm (last_end v)) (sym j) m)) (λ f g. played y f g)
   played (called_passed {T} {U} {o} {o1} {o2} {o3} {o4} {o5} {p} {h} {down} {i} {lost} {k} {s} {r} a t e there s1 s2 x s3 so q s4) n m =
-      let s5 : Crossings plays U o4 None (event p (Back h (Replied (carried h p down s)))) o5 = subst (λ l. Crossings plays U o4 None (event p (Back h (Replied l))) o5) (sym so) s4 in
+      let s5 : Crossings plays U o4 None (event p (Back h (Replied (carried (gone (depth_of (T p)) U p) h p down s)))) o5 = subst (λ l. Crossings plays U o4 None (event p (Back h (Replied l))) o5) (sym so) s4 in
       let w : Way 0 o (event p (Out h down i) ∷ event t (In (Some (length down)) i) ∷ []) o2 = starts prog T U o o1 o2 o3 o4 o5 p a t h down i lost k s e there s1 s2 s3 s5 n in
       let j : o2 ≡ o = starts_same prog T U o o1 o2 o3 o4 o5 p a t h down i lost k s e there s1 s2 s3 s5 in
       called_passed_by prog T U o o1 o2 o3 o4 o5 p a t h down i lost k s e there s1 s2 s3 s5 r n so q (played x w.goes_on (subst (λ v. Calm (last_end v)) (sym j) m))

@@ -23,6 +23,7 @@ use Rattle.tcl_core.proofs.Unended.{NotCut}
 use Rattle.tcl_reactions.specs.Playing.{Answers, Fate, HandsIn, IsCut, IsEnd, IsNoCut, Player, last_end, past, plays, reading, telling}
 use Rattle.tcl_reactions.specs.Playing.Answers.{reads, ends, waits, unfits, passes}
 use Rattle.tcl_reactions.proofs.Ways.{Calm, Way, begun_append, ended_append, outcome_append, tells_on, tells_over, uncut_append}
+use Rattle.tcl_reactions.proofs.Ways.{fits_end}
 
 pub not_some : {A B : Type 0} (o : Option A) (x : A) → o ≡ None → o ≡ Some x → B
 not_some o x e f = absurd (bad e f)
@@ -64,8 +65,8 @@ calm_ending (Exit n) f = f
 
 module _ {O : Type 0} where
   -- WHAT PASSES THE TOP
-  pub answers_at : (T : Tree O) (s : Wait) (p : Place) (h : Height) (a : Answer) (o u : Player O) → rise_to h p ≡ None → Crossings plays T o s (event p (Back h a)) u → Answers T o s a u
-  answers_at T s p h a o u e c = subst (λ l. past l o u (Answers T o s a u)) e c.told
+  pub answers_at : (T : Tree O) (s : Wait) (p : Place) (h : Height) (a : Answer) (o u : Player O) → rise_to h p ≡ None → Crossings plays T o s (event p (Back h a)) u → Answers T p o s a u
+  answers_at T s p h a o u e c = subst (λ l. past l o u (Answers T p o s a u)) e c.told
 
   pub back_way : (p : Place) (h : Height) (a : Answer) (o u : Player O) (ms : List (Move O)) → rise_to h p ≡ None → o.fate ≡ None → o.left ≡ Come a ∷ ms → IsNoCut a → u ≡ reading o ms → Way 0 o (event p (Back h a) ∷ []) u
   back_way p h a o u ms e n l f q = record {
@@ -131,15 +132,15 @@ module _ {O : Type 0} where
 module _ {O I : Type 0} (prog : Table O I) where
   -- once the playing is over, an open call is ended at once
   abbrev pub After : Tree O → Player O → Prog O I → Tree O → Player O → Reply → Type 0
-  After T o (wait s k) V z r = (f : Fate O) → o.fate ≡ Some f → (V ≡ T) × (z ≡ o) × IsEnd (Replied r) × (fits {O = O} s (Come (Replied r)) ≡ true)
+  After T o (wait s k) V z r = (f : Fate O) → o.fate ≡ Some f → (V ≡ T) × (z ≡ o) × IsEnd (Replied r) × (fits T [] s (Come (Replied r)) ≡ true)
   After T o x V z r = Unit {0}
 
-  pub ended_at_once : {A : Type 0} (T : Tree O) (o u : Player O) (s : Wait) (a : Answer) (f : Fate O) → Answers T o s a u → o.fate ≡ Some f → (u ≡ o → IsEnd a → A) → A
-  ended_at_once T o u s a f (reads ms n l e c q) g k = not_some o.fate f n g
-  ended_at_once T o u s a f (ends b ms n l e c d q) g k = not_some o.fate f n g
-  ended_at_once T o u s a f (waits n l d q) g k = not_some o.fate f n g
-  ended_at_once T o u s a f (unfits m ms n l e d q) g k = not_some o.fate f n g
-  ended_at_once T o u s a f (passes h n d q) g k = k q d
+  pub ended_at_once : {A : Type 0} (T : Tree O) (p : Place) (o u : Player O) (s : Wait) (a : Answer) (f : Fate O) → Answers T p o s a u → o.fate ≡ Some f → (u ≡ o → IsEnd a → A) → A
+  ended_at_once T p o u s a f (reads ms n l e c q) g k = not_some o.fate f n g
+  ended_at_once T p o u s a f (ends b ms n l e c d q) g k = not_some o.fate f n g
+  ended_at_once T p o u s a f (waits n l d q) g k = not_some o.fate f n g
+  ended_at_once T p o u s a f (unfits m ms n l e d q) g k = not_some o.fate f n g
+  ended_at_once T p o u s a f (passes h n d q) g k = k q d
 
   pub after_end : {T : Tree O} {o : Player O} {p : Place} {x : Prog O I} {V : Tree O} {z : Player O} {r : Reply} → Executes (Crossings plays) prog T o p x V z r → After T o x V z r
   after_end (completed) = tt
@@ -156,8 +157,8 @@ module _ {O I : Type 0} (prog : Table O I) where
   after_end (called_passed a t e there s1 s2 m s3 so q s4) = tt
   after_end (unreached a e there s1 s2 t) = tt
   after_end (called_out e s t) = tt
-  after_end (answered {T} {V} {o} {u} {z} {p} {s} {k} {c} {r} e fit st t) = λ f g. ended_at_once T o u s (Replied (Completed c)) f (answers_at T s p (height_of s) (Replied (Completed c)) o u e st) g (λ q d. absurd d)
-  after_end (heard {T} {V} {o} {u} {z} {p} {s} {k} {a} {r} e fit st t) = λ f g. ended_at_once T o u s (Heard a) f (answers_at T s p (height_of s) (Heard a) o u e st) g (λ q d. absurd d)
-  after_end (answered_passed {T} {o} {u} {p} {s} {k} {r} q e fit st) = λ f g. ended_at_once T o u s (Replied r) f (answers_at T s p (height_of s) (Replied r) o u e st) g (λ q2 d. (refl, q2, d, fit))
+  after_end (answered {T} {V} {o} {u} {z} {p} {s} {k} {c} {r} e fit st t) = λ f g. ended_at_once T p o u s (Replied (Completed c)) f (answers_at T s p (height_of s) (Replied (Completed c)) o u e st) g (λ q d. absurd d)
+  after_end (heard {T} {V} {o} {u} {z} {p} {s} {k} {a} {r} e fit st t) = λ f g. ended_at_once T p o u s (Heard a) f (answers_at T s p (height_of s) (Heard a) o u e st) g (λ q d. absurd d)
+  after_end (answered_passed {T} {o} {u} {p} {s} {k} {r} q e fit st) = λ f g. ended_at_once T p o u s (Replied r) f (answers_at T s p (height_of s) (Replied r) o u e st) g (λ q2 d. (refl, q2, d, fits_end O T T p [] s (Replied r) fit r d))
   after_end (entered {T} {U} {V} {o} {o1} {o2} {o3} {z} {p} {s} {k} {y} {r} t i e s1 a s2 n b) = λ f g. not_some o.fate f s1.told.0 g
   after_end (entered_exiting {T} {U} {o} {o1} {o2} {o3} {o4} {p} {c} {k} {n} t i e s1 a s2 s3) = λ f g. not_some o.fate f s1.told.0 g

@@ -1,8 +1,9 @@
 -- A run that waits for an answer, where each call that is open is ended from outside.
 use Rattle.std.proofs.Common.{◌≡◌, ◌⊎◌, inl, inr, ℕ, zero, suc, ◌+◌, ℤ, Bool, true, false, List, [], ◌∷◌, ◌++◌, Option, Some, None, length, refl, sym, ◌∙◌, ap, subst, arith, append_assoc, append-nil}
 use Rattle.tcl_core.specs.Paths.{Path, Place, Height, rise_to}
-use Rattle.tcl_core.specs.Endings.{Completion, Meter, Reply, refusal}
+use Rattle.tcl_core.specs.Endings.{Completion, IsQuit, Meter, Reply, refusal}
 use Rattle.tcl_core.specs.Endings.Meter.{Count, Depth}
+use Rattle.tcl_core.specs.Endings.Kind.{Full}
 use Rattle.tcl_core.specs.Endings.Reply.{Completed, Stop, Exit, Cut}
 use Rattle.tcl_core.specs.Endings.Cause.{Above}
 use Rattle.tcl_core.specs.Entries.{Entry, Said}
@@ -17,8 +18,9 @@ use Rattle.tcl_core.specs.Programs.Prog.{done, exit, act, go, inside, call, wait
 use Rattle.tcl_core.specs.Programs.Wrap.{Deeper, Framed}
 use Rattle.tcl_core.specs.Rules.{Derives, IsNoExit}
 use Rattle.tcl_core.specs.Rules.Derives.{completed, exited, acted, refused, unheard, went, passed, halted, wrapped, wrapped_passed, wrapped_halted, too_deep, shut, unheard_inside, called, called_passed, called_halted, unreached, called_out, unanswered, unfit, answered, heard, answered_passed, entered, entered_halted, entered_exiting, born, fallen}
-use Rattle.tcl_core.specs.Runs.{Ending, Exiting, Exits, RunsIn, Stays, Step, Waits, World, ends_call, entering, fits, height_of, reached}
-use Rattle.tcl_core.specs.Trees.{Event, Grants, Move, Node, Tree, What, at, effect, granted}
+use Rattle.tcl_core.specs.Runs
+use Rattle.tcl_core.specs.Runs.{Ending, Exiting, Exits, RunsIn, Stays, Step, Waits, World, ends_call, entering, fits, height_of, reached, returned}
+use Rattle.tcl_core.specs.Trees.{Event, Grants, Move, Node, Tree, What, at, depth_of, effect, granted}
 use Rattle.tcl_core.specs.Trees.Grants.{Budget}
 use Rattle.tcl_core.specs.Trees.Move.{Born, Fall, Enter, Come}
 use Rattle.tcl_core.specs.Trees.What.{Made, Dropped, Out, In, Done, Back}
@@ -28,10 +30,11 @@ use Rattle.tcl_core.proofs.Keeping.{KeepsSteps, derived_keep}
 use Rattle.tcl_core.proofs.LifeMoves.{not_cons}
 use Rattle.tcl_core.proofs.MoreMoves.{none_not}
 use Rattle.tcl_core.proofs.Parting.{back_reads, back_silent, closes_silent}
-use Rattle.tcl_core.proofs.TreeLaws.{reached_at}
+use Rattle.tcl_core.proofs.TreeLaws.{any_close, reached_at}
 use Rattle.tcl_core.proofs.PathLaws.{not_both, rise_back}
 use Rattle.tcl_core.proofs.Plain.{IsPlain, closes_plain, decide_plain, opens_plain}
 use Rattle.tcl_core.proofs.Reacting.{exits_idle}
+use Rattle.tcl_core.proofs.Refusals.{carried_is}
 use Rattle.tcl_core.proofs.RuleLaws.{runs_derived}
 use Rattle.tcl_reactions.proofs.Before.{begun_ins, ended_dones}
 use Rattle.tcl_reactions.proofs.Exiting.{IsExit}
@@ -130,10 +133,8 @@ module _ {O : Type 0} where
   opens_budgeted Deeper T p n e = metered_budget Depth Rattle.tcl_core.specs.Trees.What.Nested (blocked is_deep T p) n e
   opens_budgeted (Framed o back) T p n e = absurd (not_both e refl)
 
-  closes_granted : (p : Place) (b : Wrap O) (n : Option (Node O)) (gs : Grants) → gs ≡ granted p (closes b n) gs
-  closes_granted p Deeper n gs = refl
-  closes_granted p (Framed o back) None gs = refl
-  closes_granted p (Framed o back) (Some n) gs = refl
+  closes_granted : (p : Place) (b : Wrap O) (m n : Option (Node O)) (gs : Grants) → gs ≡ granted p (closes b m n) gs
+  closes_granted p b m n gs = any_close (λ x. gs ≡ granted p x gs) b m n refl refl (λ o. refl)
 
   -- the end of a call from outside
   abbrev pub ending : Move O
@@ -162,10 +163,15 @@ module _ {O I : Type 0} where
   goes_on None k a f = absurd f
   goes_on (Some c) k a f = f a
 
-  may_end : (s : Wait) (k : Said → Prog O I) → Calling (wait s k) → fits {O = O} s (ending {O = O}) ≡ true
-  may_end None k f = absurd f
-  may_end (Some (None, i)) k f = refl
-  may_end (Some (Some h, i)) k f = refl
+  may_end : (T : Tree O) (p : Place) (s : Wait) (k : Said → Prog O I) → Calling (wait s k) → fits T p s (ending {O = O}) ≡ true
+  may_end T p None k f = absurd f
+  may_end T p (Some (h, i, d)) k f = by (Runs.gone d T p) h
+    where
+      by : (g : Option ℕ) (h : Height) → Runs.is_told g h i (Replied (Cut Above)) ≡ true
+      by None None = refl
+      by None (Some h) = refl
+      by (Some l) None = refl
+      by (Some l) (Some h) = refl
 
 module _ {O I : Type 0} (prog : Table O I) where
   -- How a run goes on that waits with so many entries in progress in it: the call that is open is ended from outside, and so are all
@@ -213,7 +219,7 @@ module _ {O I : Type 0} (prog : Table O I) where
     owes_so = let a : begun w.tape ≡ 0 = ap begun t in let b : ended w.tape ≡ 0 = ap ended t in let e : begun w.tape ≡ ended w.tape + 0 = omega arith in e;
     runs =
         λ ms τ.
-        answered_passed (longer w (ending ∷ ms) (event p (Back (height_of s) (Replied (Cut Above))) ∷ τ)) p s k (Cut Above) (placed w.tree ms w.grants τ) tt f (may_end s k c)
+        answered_passed (longer w (ending ∷ ms) (event p (Back (height_of s) (Replied (Cut Above))) ∷ τ)) p s k (Cut Above) (placed w.tree ms w.grants τ) tt f (may_end w.tree p s k c)
         (record { tape = ap (λ l. l ++ event p (Back (height_of s) (Replied (Cut Above))) ∷ τ) t; tree = refl; moves = ap (λ l. l ++ ending ∷ ms) m ∙ back_reads prog p (height_of s) (Replied (Cut Above)) f ms; grants = refl });
   }
 
@@ -229,14 +235,14 @@ module _ {O I : Type 0} (prog : Table O I) where
         subst (λ l. Derives prog (longer w (copies (suc a.count) ending ++ ms) l) p (inside b i k) (placed U ms gs τ) (Some (Cut Above))) (sym (append_assoc a.events (back ∷ []) τ))
         (wrapped_passed (longer w (copies (suc a.count) ending ++ ms) (a.events ++ back ∷ τ)) p b i k x (longer inner (copies (suc a.count) ending ++ ms) (a.events ++ back ∷ τ)) (placed a.tree ms gs (back ∷ τ)) (placed U ms gs τ) (Cut Above) tt g on
         (st (copies (suc a.count) ending ++ ms) (a.events ++ back ∷ τ) w (spot p x.0) x.1 inner s) (a.runs ms (back ∷ τ))
-        (record { tape = refl; tree = refl; moves = sym (closes_silent p b (a.tree p) ms); grants = closes_granted p b (a.tree p) gs }));
+        (record { tape = refl; tree = refl; moves = sym (closes_silent p b (inner.tree p) (a.tree p) ms); grants = closes_granted p b (inner.tree p) (a.tree p) gs }));
   }
     where
       back : Event O
-      back = event p (closes b (a.tree p))
+      back = event p (closes b (inner.tree p) (a.tree p))
 
       U : Tree O
-      U = effect p (closes b (a.tree p)) a.tree
+      U = effect p (closes b (inner.tree p) (a.tree p)) a.tree
 
   -- an entry is ended, and so is the call in which it came in
   ending_entry : (w inner : World O) (p : Place) (s : Wait) (k : Said → Prog O I) (t : Path) (i : Entry) (gs : Grants) → rise_to (height_of s) p ≡ None → Calling (wait s k) → Step w t (In None i) inner → Unwound inner t (entering prog (w.tree t) i) gs → Unwound w p (wait s k) gs
@@ -256,7 +262,7 @@ module _ {O I : Type 0} (prog : Table O I) where
         (subst (λ l. Derives prog (longer w l (a.events ++ gone ∷ back ∷ τ)) p (wait s k) (placed a.tree ms gs τ) (Some (Cut Above))) (sym (copies_last (Move O) (suc a.count) ending ms))
         (entered (longer w (moves ms) (a.events ++ gone ∷ back ∷ τ)) p s k t i (longer inner (moves ms) (a.events ++ gone ∷ back ∷ τ)) (placed a.tree (ending ∷ ms) gs (gone ∷ back ∷ τ)) (placed a.tree (ending ∷ ms) gs (back ∷ τ)) (placed a.tree ms gs τ) (Cut Above) (Some (Cut Above)) f
         (st (moves ms) (a.events ++ gone ∷ back ∷ τ) w t (In None i) inner s1) (a.runs (ending ∷ ms) (gone ∷ back ∷ τ)) (record { tape = refl; tree = refl; moves = refl; grants = refl }) tt
-        (answered_passed (placed a.tree (ending ∷ ms) gs (back ∷ τ)) p s k (Cut Above) (placed a.tree ms gs τ) tt f (may_end s k c)
+        (answered_passed (placed a.tree (ending ∷ ms) gs (back ∷ τ)) p s k (Cut Above) (placed a.tree ms gs τ) tt f (may_end a.tree p s k c)
         (record { tape = refl; tree = refl; moves = back_reads prog p (height_of s) (Replied (Cut Above)) f ms; grants = refl }))));
   }
     where
@@ -285,17 +291,24 @@ module _ {O I : Type 0} (prog : Table O I) where
     runs =
         λ ms τ.
         subst (λ l. Derives prog (longer w (copies (suc a.count) ending ++ ms) l) p (call h down i lost k) (placed a.tree ms gs τ) (Some (Cut Above))) (sym (append_assoc a.events (gone ∷ back ∷ []) τ))
+        (subst (λ r. Derives prog (longer w (copies (suc a.count) ending ++ ms) (a.events ++ gone ∷ back ∷ τ)) p (call h down i lost k) (placed a.tree ms gs τ) (Some r)) passes
         (called_passed (longer w (copies (suc a.count) ending ++ ms) (a.events ++ gone ∷ back ∷ τ)) p h down i lost k a0 t (longer out (copies (suc a.count) ending ++ ms) (a.events ++ gone ∷ back ∷ τ)) (longer inner (copies (suc a.count) ending ++ ms) (a.events ++ gone ∷ back ∷ τ))
         (placed a.tree ms gs (gone ∷ back ∷ τ)) (placed a.tree ms gs (back ∷ τ)) (placed a.tree ms gs τ) (Cut Above) f (st (copies (suc a.count) ending ++ ms) (a.events ++ gone ∷ back ∷ τ) w p (Out h down i) out s1) g
-        (st (copies (suc a.count) ending ++ ms) (a.events ++ gone ∷ back ∷ τ) out t (In (Some (length down)) i) inner s2) (a.runs ms (gone ∷ back ∷ τ)) (record { tape = refl; tree = refl; moves = refl; grants = refl }) tt
-        (record { tape = refl; tree = refl; moves = sym (back_silent prog p a0 h (Replied (Cut Above)) f ms); grants = refl }));
+        (st (copies (suc a.count) ending ++ ms) (a.events ++ gone ∷ back ∷ τ) out t (In (Some (length down)) i) inner s2) (a.runs ms (gone ∷ back ∷ τ)) (record { tape = refl; tree = refl; moves = refl; grants = refl }) (subst IsQuit (sym passes) tt)
+        (record { tape = refl; tree = refl; moves = sym (back_silent prog p a0 h (Replied told_so) f ms); grants = refl })));
   }
     where
       gone : Event O
       gone = event t (Done (Some (length down)) (Cut Above))
 
+      told_so : Reply
+      told_so = returned out.tree a.tree h p down (Cut Above)
+
+      passes : told_so ≡ Cut Above
+      passes = carried_is (Runs.gone (depth_of (out.tree p)) a.tree p) h p down (Cut Above) Above refl
+
       back : Event O
-      back = event p (Back h (Replied (Cut Above)))
+      back = event p (Back h (Replied told_so))
 
       within : rise_to (Some (length down)) t ≡ Some a0
       within = subst (λ z. rise_to (Some (length down)) z ≡ Some a0) (sym (reached_at (out.tree (a0 ++ down)) t (a0 ++ down) g)) (rise_back a0 down)
@@ -342,13 +355,13 @@ module _ {O I : Type 0} (prog : Table O I) where
   unwinding n (unheard_inside w p l i y g t) q m b f z = opens_budgeted l w.tree p n (ap (opens l w.tree p) (sym b) ∙ g)
   unwinding n (wrapped w p l i y x inner left closed v c e g on2 s a t d) q m b f z =
       on w closed p p (inside l i y) (y c) v.grants
-      (balanced_then w inner closed (plain_balanced w (spot p x.0) x.1 inner s (opens_plain l w.tree p w.grants x g)) (balanced_then inner left closed (run_balanced a) (plain_balanced left p (closes l (left.tree p)) closed t (closes_plain l (left.tree p)))))
-      (unwinding n d q m b (calling (y c) (f c)) (after_step left p (closes l (left.tree p)) closed t (later a (after_step w (spot p x.0) x.1 inner s z))))
-      (λ ms τ o r. wrapped (longer w ms τ) p l i y x (longer inner ms τ) (longer left ms τ) (longer closed ms τ) o c (Some (Cut Above)) g on2 (st ms τ w (spot p x.0) x.1 inner s) (ex ms τ a) (st ms τ left p (closes l (left.tree p)) closed t) r)
+      (balanced_then w inner closed (plain_balanced w (spot p x.0) x.1 inner s (opens_plain l w.tree p w.grants x g)) (balanced_then inner left closed (run_balanced a) (plain_balanced left p (closes l (inner.tree p) (left.tree p)) closed t (closes_plain l (inner.tree p) (left.tree p)))))
+      (unwinding n d q m b (calling (y c) (f c)) (after_step left p (closes l (inner.tree p) (left.tree p)) closed t (later a (after_step w (spot p x.0) x.1 inner s z))))
+      (λ ms τ o r. wrapped (longer w ms τ) p l i y x (longer inner ms τ) (longer left ms τ) (longer closed ms τ) o c (Some (Cut Above)) g on2 (st ms τ w (spot p x.0) x.1 inner s) (ex ms τ a) (st ms τ left p (closes l (inner.tree p) (left.tree p)) closed t) r)
   unwinding n (wrapped_passed w p l i y x inner left closed r k g on2 s a t) q m b f z = some_none r q
   unwinding n (wrapped_halted w p l i y x inner left g on2 s a) q m b f z = closing w inner p l i y x left.grants g on2 s (unwinding n a refl m b (calling (prog.program i) (prog.programs_call i)) (after_step w (spot p x.0) x.1 inner s z))
   unwinding n (too_deep w p l i y x u v e g deep s a) q m b f z =
-      on w u p p (inside l i y) (y (refusal Depth)) v.grants (plain_balanced w (spot p x.0) x.1 u s (opens_plain l w.tree p w.grants x g)) (unwinding n a q m b (calling (y (refusal Depth)) (f (refusal Depth))) (after_step w (spot p x.0) x.1 u s z))
+      on w u p p (inside l i y) (y (refusal (Full Depth))) v.grants (plain_balanced w (spot p x.0) x.1 u s (opens_plain l w.tree p w.grants x g)) (unwinding n a q m b (calling (y (refusal (Full Depth))) (f (refusal (Full Depth)))) (after_step w (spot p x.0) x.1 u s z))
       (λ ms τ o r. too_deep (longer w ms τ) p l i y x (longer u ms τ) o (Some (Cut Above)) g deep (st ms τ w (spot p x.0) x.1 u s) r)
   unwinding n (shut w p l i y x r u g off s) q m b f z = some_none r q
   unwinding n (called w p h down i lost y a0 t out inner left told back v r c e g s1 j s2 x s3 so s4 d) q m b f z =
@@ -364,7 +377,7 @@ module _ {O I : Type 0} (prog : Table O I) where
       (unwinding n x q m b (calling (y (Finished lost)) (f (Finished lost))) (after_step out p _ back s2 (after_step w p _ out s1 z)))
       (λ ms τ o k. unreached (longer w ms τ) p h down i lost y a0 (longer out ms τ) (longer back ms τ) o (Some (Cut Above)) g (st ms τ w p _ out s1) j (st ms τ out p _ back s2) k)
   unwinding n (called_out w p h down i lost y u v e g s a) q m b f z =
-      on w u p p (call h down i lost y) (wait (Some (h, i)) y) v.grants (step_balanced w p (Out h down i) u s (λ k. refl) (λ k. refl)) (unwinding n a q m b f (after_step w p _ u s z))
+      on w u p p (call h down i lost y) (wait (Some (h, i, depth_of (u.tree p))) y) v.grants (step_balanced w p (Out h down i) u s (λ k. refl) (λ k. refl)) (unwinding n a q m b f (after_step w p _ u s z))
       (λ ms τ o k. called_out (longer w ms τ) p h down i lost y (longer u ms τ) o (Some (Cut Above)) g (st ms τ w p _ u s) k)
   unwinding n (unanswered w p s y g j t) q m b f z = ends_here w p s y g f j t
   unwinding n (unfit w p s y a ms g j h t) q m b f z = no_moves w a ms m j

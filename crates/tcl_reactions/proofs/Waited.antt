@@ -28,40 +28,29 @@ use Rattle.tcl_reactions.proofs.Leads.Breaks.{halts, unwinds}
 use Rattle.tcl_reactions.proofs.Leads.Result.{ran, broke}
 use Rattle.tcl_reactions.proofs.Plays.{came_to}
 use Rattle.tcl_reactions.proofs.Turns.{After, answers_at, back_way, calm_ending, cut_of, done_end, done_on, done_over, ended_at_once, in_way, not_some, reply_no_cut, same_end, visit_way}
+use Rattle.tcl_reactions.proofs.Ways.{fits_end}
+use Rattle.tcl_reactions.proofs.Ways.{fits_open}
 
--- an end fits every open call
-pub fits_open : (O : Type 0) (c : Height × Entry) (r : Reply) → IsEnd (Replied r) → fits {O = O} (Some c) (Come (Replied r)) ≡ true
-fits_open O c (Completed d) f = absurd f
-fits_open O c (Stop n m) f = absurd f
-fits_open O (Some h, i) (Exit n) f = refl
-fits_open O (Some h, i) (Cut d) f = refl
-fits_open O (None, i) (Exit n) f = refl
-fits_open O (None, i) (Cut d) f = refl
+ends_fit : (O : Type 0) (T : Tree O) (p : Place) (s : Wait) (n : ℤ) → fits T p s (Come (Replied (Exit n))) ≡ true → ends_call s n (Replied (Exit n)) ≡ true
+ends_fit O T p None n e = absurd (false≢true e)
+ends_fit O T p (Some c) n e = is_exit_self n
 
-pub fits_end : (O : Type 0) (s : Wait) (a : Answer) → fits {O = O} s (Come a) ≡ true → (r : Reply) → IsEnd (Replied r) → fits {O = O} s (Come (Replied r)) ≡ true
-fits_end O None a e r f = absurd (false≢true e)
-fits_end O (Some c) a e r f = fits_open O c r f
-
-ends_fit : (O : Type 0) (s : Wait) (n : ℤ) → fits {O = O} s (Come (Replied (Exit n))) ≡ true → ends_call s n (Replied (Exit n)) ≡ true
-ends_fit O None n e = absurd (false≢true e)
-ends_fit O (Some c) n e = is_exit_self n
-
-not_exit_cut : {A : Type 0} (O : Type 0) (x : Outcome) (n : ℤ) (s : Wait) (b : Answer) (d : Cause) → x ≡ Exited n → b ≡ Replied (Cut d) → suits {O = O} x s (Come b) ≡ true → A
-not_exit_cut O x n s b d e f g = absurd (false≢true (subst (λ a. suits {O = O} (Exited n) s (Come a) ≡ true) f (subst (λ y. suits {O = O} y s (Come b) ≡ true) e g)))
+not_exit_cut : {A : Type 0} (O : Type 0) (T : Tree O) (p : Place) (x : Outcome) (n : ℤ) (s : Wait) (b : Answer) (d : Cause) → x ≡ Exited n → b ≡ Replied (Cut d) → suits x T p s (Come b) ≡ true → A
+not_exit_cut O T p x n s b d e f g = absurd (false≢true (subst (λ a. suits (Exited n) T p s (Come a) ≡ true) f (subst (λ y. suits y T p s (Come b) ≡ true) e g)))
 
 module _ {O : Type 0} where
   back_step : (T : Tree O) (p : Place) (h : Height) (a : Answer) (ms : List (Move O)) (gs : Grants) (ρ : List (Event O)) → rise_to h p ≡ None → Step (world T (Come a ∷ ms) gs (event p (Back h a) ∷ ρ)) p (Back h a) (world T ms gs ρ)
   back_step T p h a ms gs ρ e = record { tape = refl; tree = refl; moves = sym (ap (λ o. where_none o (Come a) ms) e); grants = refl }
 
-  exits_unfit : (w v : World O) (p : Place) (c : Height × Entry) (n : ℤ) (m : Move O) (ms : List (Move O)) → suits (Exited n) (Some c) m ≡ false → Halts w v None → Exits w p (Some c) n (m ∷ ms) v None
-  exits_unfit w v p c n (Come a) ms e h = subst (λ b. Exiting w p (Some c) n b v None) (sym e) h
-  exits_unfit w v p c n (Enter t i) ms e h = h
-  exits_unfit w v p c n (Born o b) ms e h = h
-  exits_unfit w v p c n Fall ms e h = h
+  exits_unfit : (w v : World O) (p : Place) (c : Height × Entry × ℕ) (n : ℤ) (m : Move O) (ms : List (Move O)) (T : Tree O) (q : Place) → suits (Exited n) T q (Some c) m ≡ false → Halts w v None → Exits w p (Some c) n (m ∷ ms) v None
+  exits_unfit w v p c n (Come a) ms T q e h = subst (λ b. Exiting w p (Some c) n b v None) (sym e) h
+  exits_unfit w v p c n (Enter t i) ms T q e h = h
+  exits_unfit w v p c n (Born o b) ms T q e h = h
+  exits_unfit w v p c n Fall ms T q e h = h
 
 module _ {O I : Type 0} (prog : Table O I) where
   -- THE CALL IS ANSWERED
-  pub answered_by : (T V : Tree O) (o u z : Player O) (p : Place) (s : Wait) (k : Said → Prog O I) (c : Completion) (r : Reply) → rise_to (height_of s) p ≡ None → fits {O = O} s (Come (Replied (Completed c))) ≡ true → Answers T o s (Replied (Completed c)) u →
+  pub answered_by : (T V : Tree O) (o u z : Player O) (p : Place) (s : Wait) (k : Said → Prog O I) (c : Completion) (r : Reply) → rise_to (height_of s) p ≡ None → fits T p s (Come (Replied (Completed c))) ≡ true → Answers T p o s (Replied (Completed c)) u →
       Calm (last_end o) → (u.fate ≡ None → Calm (last_end u) → Result prog T u p (k (Finished c)) V z r) → Result prog T o p (wait s k) V z r
   answered_by T V o u z p s k c r e fit (reads ms n l f g q) m next_one =
       let w : Way 0 o (event p (Back (height_of s) (Replied (Completed c))) ∷ []) u = back_way p (height_of s) (Replied (Completed c)) o u ms e n l g q in
@@ -74,7 +63,7 @@ module _ {O I : Type 0} (prog : Table O I) where
   answered_by T V o u z p s k c r e fit (unfits a ms n l f h q) m next_one = absurd h
   answered_by T V o u z p s k c r e fit (passes f n h q) m next_one = absurd h
 
-  pub heard_by : (T V : Tree O) (o u z : Player O) (p : Place) (s : Wait) (k : Said → Prog O I) (a : HostReply) (r : Reply) → rise_to (height_of s) p ≡ None → fits {O = O} s (Come (Heard a)) ≡ true → Answers T o s (Heard a) u →
+  pub heard_by : (T V : Tree O) (o u z : Player O) (p : Place) (s : Wait) (k : Said → Prog O I) (a : HostReply) (r : Reply) → rise_to (height_of s) p ≡ None → fits T p s (Come (Heard a)) ≡ true → Answers T p o s (Heard a) u →
       Calm (last_end o) → (u.fate ≡ None → Calm (last_end u) → Result prog T u p (k (Told a)) V z r) → Result prog T o p (wait s k) V z r
   heard_by T V o u z p s k a r e fit (reads ms n l f g q) m next_one =
       let w : Way 0 o (event p (Back (height_of s) (Heard a)) ∷ []) u = back_way p (height_of s) (Heard a) o u ms e n l g q in
@@ -88,7 +77,7 @@ module _ {O I : Type 0} (prog : Table O I) where
   heard_by T V o u z p s k a r e fit (passes f n h q) m next_one = absurd h
 
   -- THE PLAYING IS OVER AT IT
-  over_leads : (T : Tree O) (o : Player O) (p : Place) (s : Wait) (k : Said → Prog O I) (f : Fate O) (a : Answer) → rise_to (height_of s) p ≡ None → fits {O = O} s (Come a) ≡ true → o.fate ≡ None → calls f 0 ≡ 1 →
+  over_leads : (T : Tree O) (o : Player O) (p : Place) (s : Wait) (k : Said → Prog O I) (f : Fate O) (a : Answer) → rise_to (height_of s) p ≡ None → fits T p s (Come a) ≡ true → o.fate ≡ None → calls f 0 ≡ 1 →
       ((y : Rest O) → Halting f o y.moves → y.tape ≡ [] → Derives prog (ahead T [] y) p (wait s k) (ahead T [] y) None) →
       Leads prog T o p (wait s k) 0 [] o (Breaks f T T o 0 (λ b. event p (Back (height_of s) (Replied b)) ∷ []))
   over_leads T o p s k f a e fit n one halt = record { way = here o n; runs = runs }
@@ -98,9 +87,9 @@ module _ {O I : Type 0} (prog : Table O I) where
       runs y b v d (unwinds r ms gs ρ m g) =
           let en : IsEnd (Replied r) = may_end f (last_end o) r m in
           subst (λ j. Derives prog (world T (copies j (Come (Replied r)) ++ ms) gs (event p (Back (height_of s) (Replied r)) ∷ ρ)) p (wait s k) (world T ms gs ρ) (Some r)) (sym one)
-          (Derives.answered_passed (world T (Come (Replied r) ∷ ms) gs (event p (Back (height_of s) (Replied r)) ∷ ρ)) p s k r (world T ms gs ρ) (end_quits r en) e (fits_end O s a fit r en) (back_step T p (height_of s) (Replied r) ms gs ρ e))
+          (Derives.answered_passed (world T (Come (Replied r) ∷ ms) gs (event p (Back (height_of s) (Replied r)) ∷ ρ)) p s k r (world T ms gs ρ) (end_quits r en) e (fits_end O T T p p s a fit r en) (back_step T p (height_of s) (Replied r) ms gs ρ e))
 
-  pub answered_passed_by : (T : Tree O) (o u : Player O) (p : Place) (s : Wait) (k : Said → Prog O I) (r : Reply) → IsQuit r → rise_to (height_of s) p ≡ None → fits {O = O} s (Come (Replied r)) ≡ true → Answers T o s (Replied r) u → o.fate ≡ None → Calm (last_end o) →
+  pub answered_passed_by : (T : Tree O) (o u : Player O) (p : Place) (s : Wait) (k : Said → Prog O I) (r : Reply) → IsQuit r → rise_to (height_of s) p ≡ None → fits T p s (Come (Replied r)) ≡ true → Answers T p o s (Replied r) u → o.fate ≡ None → Calm (last_end o) →
       Result prog T o p (wait s k) T u r
   answered_passed_by T o u p s k r qu e fit (reads ms n l f g q) n0 m =
       ran (event p (Back (height_of s) (Replied r)) ∷ []) (record {
@@ -118,7 +107,7 @@ module _ {O I : Type 0} (prog : Table O I) where
       (ap (λ z. z.fate) q) (ap (λ z. z.outs) q) (refl, l) h
   answered_passed_by T o u p s k r qu e fit (unfits a ms n l f h q) n0 m =
       broke [] o 0 Unfits T (λ b2. event p (Back (height_of s) (Replied b2)) ∷ [])
-      (over_leads T o p s k Unfits (Replied r) e fit n refl (λ y x t. Derives.unfit (ahead T [] y) p s k a ms e (x ∙ l) (sym (calm_suits O (last_end o) s a m) ∙ f) t))
+      (over_leads T o p s k Unfits (Replied r) e fit n refl (λ y x t. Derives.unfit (ahead T [] y) p s k a ms e (x ∙ l) (sym (calm_suits O (last_end o) T p s a m) ∙ f) t))
       (ap (λ z. z.fate) q) (ap (λ z. z.outs) q) (a, ms, l) h
   answered_passed_by T o u p s k r qu e fit (passes f n h q) n0 m = not_some o.fate f n0 n
 
@@ -133,7 +122,7 @@ module _ {O I : Type 0} (prog : Table O I) where
     abbrev e3 : Reply → Event O
     e3 r = event p (Back (height_of s) (Replied r))
 
-    unwound_by : (τ : List (Event O)) (b : Reply) (ms : List (Move O)) (y : Rest O) (ρ : List (Event O)) → IsEnd (Replied b) → fits {O = O} s (Come (Replied b)) ≡ true →
+    unwound_by : (τ : List (Event O)) (b : Reply) (ms : List (Move O)) (y : Rest O) (ρ : List (Event O)) → IsEnd (Replied b) → fits U p s (Come (Replied b)) ≡ true →
         Derives prog (ahead T τ y) t (entering prog (T t) i) (world U (Come (Replied b) ∷ ms) y.grants (e2 b ∷ e3 b ∷ ρ)) (Some b) → Derives prog (ahead T (e1 ∷ τ) y) p (wait s k) (world U ms y.grants ρ) (Some b)
     unwound_by τ (Completed c) ms y ρ en fit d = absurd en
     unwound_by τ (Stop n m) ms y ρ en fit d = absurd en
@@ -144,10 +133,10 @@ module _ {O I : Type 0} (prog : Table O I) where
     unwound_by τ (Exit n) ms y ρ en fit d =
         Derives.entered_exiting (ahead T (e1 ∷ τ) y) p s k t i (ahead T τ y) (world U (Come (Replied (Exit n)) ∷ ms) y.grants (e2 (Exit n) ∷ e3 (Exit n) ∷ ρ)) (world U (Come (Replied (Exit n)) ∷ ms) y.grants (e3 (Exit n) ∷ ρ)) (world U ms y.grants ρ) n (Some (Exit n)) e
         (next T t (In None i) τ y) d (record { tape = refl; tree = refl; moves = refl; grants = refl })
-        (exit_answer (world U (Come (Replied (Exit n)) ∷ ms) y.grants (e3 (Exit n) ∷ ρ)) p s n (world U ms y.grants ρ) e (ends_fit O s n fit) (back_step U p (height_of s) (Replied (Exit n)) ms y.grants ρ e))
+        (exit_answer (world U (Come (Replied (Exit n)) ∷ ms) y.grants (e3 (Exit n) ∷ ρ)) p s n (world U ms y.grants ρ) e (ends_fit O U p s n fit) (back_step U p (height_of s) (Replied (Exit n)) ms y.grants ρ e))
 
     -- the playing is over in it
-    inside_leads : (τ : List (Event O)) (w : Player O) (j : ℕ) (f : Fate O) (S : Tree O) (σ : Reply → List (Event O)) → ((b : Reply) → IsEnd (Replied b) → fits {O = O} s (Come (Replied b)) ≡ true) →
+    inside_leads : (τ : List (Event O)) (w : Player O) (j : ℕ) (f : Fate O) (S : Tree O) (σ : Reply → List (Event O)) → ((b : Reply) → IsEnd (Replied b) → fits U p s (Come (Replied b)) ≡ true) →
         Leads prog T o1 t (entering prog (T t) i) j τ w (Breaks f S U w j σ) → Leads prog T o p (wait s k) (suc j) (e1 ∷ τ) w (Breaks f S U w (suc j) (λ b. σ b ++ e2 b ∷ e3 b ∷ []))
     inside_leads τ w j f S σ fit l =
         around prog T T S U U o o1 w p t (wait s k) (entering prog (T t) i) j (suc j) 1 f τ (e1 ∷ τ) σ (λ b. e2 b ∷ e3 b ∷ []) (one_call f j) (in_way j t i o o1 w τ into l.way) l
@@ -166,13 +155,13 @@ module _ {O I : Type 0} (prog : Table O I) where
         }) (g w.goes_on (subst Calm (sym (done_end t y o2 o3 q)) (calm_ending y nx)))
     entered_by V z y r (broke τ w j f S σ l h x st en) s2 nx g a =
         let same : o3 ≡ o2 = done_over U t y f o2 o3 s2 h in
-        let b : (V ≡ U) × (z ≡ o3) × IsEnd (Replied r) × (fits {O = O} s (Come (Replied r)) ≡ true) = a f (ap (λ v. v.fate) same ∙ h) in
+        let b : (V ≡ U) × (z ≡ o3) × IsEnd (Replied r) × (fits U [] s (Come (Replied r)) ≡ true) = a f (ap (λ v. v.fate) same ∙ h) in
         subst (λ v. Result prog T o p (wait s k) v z r) (sym b.0)
-        (broke (e1 ∷ τ) w (suc j) f S (λ c. σ c ++ e2 c ∷ e3 c ∷ []) (inside_leads τ w j f S σ (fits_end O s (Replied r) b.3) l)
+        (broke (e1 ∷ τ) w (suc j) f S (λ c. σ c ++ e2 c ∷ e3 c ∷ []) (inside_leads τ w j f S σ (fits_end O U U [] p s (Replied r) b.3) l)
         (ap (λ v. v.fate) (b.1 ∙ same) ∙ h) (ap (λ v. v.outs) (b.1 ∙ same) ∙ x) (stops_more f S σ (λ c. e2 c ∷ e3 c ∷ []) w st) b.2)
 
   -- and ends by an exit
-  module _ (T U : Tree O) (o o1 o2 o3 o4 : Player O) (p : Place) (c : Height × Entry) (k : Said → Prog O I) (t : Path) (i : Entry) (n : ℤ) (e : rise_to c.0 p ≡ None) (into : HandsIn o t i o1)
+  module _ (T U : Tree O) (o o1 o2 o3 o4 : Player O) (p : Place) (c : Height × Entry × ℕ) (k : Said → Prog O I) (t : Path) (i : Entry) (n : ℤ) (e : rise_to c.0 p ≡ None) (into : HandsIn o t i o1)
       (s2 : Crossings plays U o2 None (event t (Done None (Exit n))) o3) where
     abbrev d1 : Event O
     d1 = event t (In None i)
@@ -207,21 +196,21 @@ module _ {O I : Type 0} (prog : Table O I) where
     still : (y : Rest O) → y.tape ≡ [] → Halts (ahead U [] y) (ahead U [] y) None
     still y z = record { tape = z; same = refl; ending = refl }
 
-    exit_ran : (τ : List (Event O)) → Leads prog T o1 t (entering prog (T t) i) 0 τ o2 (Comes U (Exit n)) → Way 0 o (d1 ∷ (τ ++ d2 ∷ [])) o3 → last_end o3 ≡ Exited n → Answers U o3 (Some c) (Replied (Exit n)) o4 → Result prog T o p (wait (Some c) k) U o4 (Exit n)
+    exit_ran : (τ : List (Event O)) → Leads prog T o1 t (entering prog (T t) i) 0 τ o2 (Comes U (Exit n)) → Way 0 o (d1 ∷ (τ ++ d2 ∷ [])) o3 → last_end o3 ≡ Exited n → Answers U p o3 (Some c) (Replied (Exit n)) o4 → Result prog T o p (wait (Some c) k) U o4 (Exit n)
     exit_ran τ l w last (reads ms g a f b q) =
         ran ((d1 ∷ (τ ++ d2 ∷ [])) ++ d3 (Exit n) ∷ []) (record {
           way = after_way 0 o o3 o4 (d1 ∷ (τ ++ d2 ∷ [])) (d3 (Exit n) ∷ []) w (back_way p c.0 (Replied (Exit n)) o3 o4 ms e g a b q);
           runs = came_to prog T U p (wait (Some c) k) (Exit n) ((d1 ∷ (τ ++ d2 ∷ [])) ++ d3 (Exit n) ∷ []) (λ y h. subst (λ x. Derives prog x p (wait (Some c) k) (ahead U [] y) (Some (Exit n))) (sym (ahead-append T (d1 ∷ (τ ++ d2 ∷ [])) (d3 (Exit n) ∷ []) y))
               (exits_so τ l (later (d3 (Exit n) ∷ []) y) (allowed_budget (d3 (Exit n) ∷ []) y.grants h) (ahead U [] y) (Some (Exit n)) (exit_answer (ahead U (d3 (Exit n) ∷ []) y) p (Some c) n (ahead U [] y) e (is_exit_self n) (next U p (Back c.0 (Replied (Exit n))) [] y))));
         }) tt (λ x. absurd x)
-    exit_ran τ l w last (ends b ms g a f x y q) = let z : (d : Cause) × (b ≡ Replied (Cut d)) = cut_of b x in not_exit_cut O (last_end o3) n (Some c) b z.0 last z.1 f
+    exit_ran τ l w last (ends b ms g a f x y q) = let z : (d : Cause) × (b ≡ Replied (Cut d)) = cut_of b x in not_exit_cut O U p (last_end o3) n (Some c) b z.0 last z.1 f
     exit_ran τ l w last (waits g a x q) =
         broke (d1 ∷ (τ ++ d2 ∷ [])) o3 0 (Waits U) U (λ r. d3 r ∷ [])
         (over_exit τ (Waits U) l w last refl (λ r m. m) (λ y h z. subst (λ ms. Exits (ahead U [] y) p (Some c) n ms (ahead U [] y) None) (sym h) (still y z)))
         (ap (λ z. z.fate) q) (ap (λ z. z.outs) q) (refl, a) tt
     exit_ran τ l w last (unfits m ms g a f x q) =
         broke (d1 ∷ (τ ++ d2 ∷ [])) o3 0 Unfits U (λ r. d3 r ∷ [])
-        (over_exit τ Unfits l w last refl (λ r m2. m2) (λ y h z. subst (λ ms2. Exits (ahead U [] y) p (Some c) n ms2 (ahead U [] y) None) (sym (h ∙ a)) (exits_unfit (ahead U [] y) (ahead U [] y) p c n m ms (subst (λ l2. suits l2 (Some c) m ≡ false) last f) (still y z))))
+        (over_exit τ Unfits l w last refl (λ r m2. m2) (λ y h z. subst (λ ms2. Exits (ahead U [] y) p (Some c) n ms2 (ahead U [] y) None) (sym (h ∙ a)) (exits_unfit (ahead U [] y) (ahead U [] y) p c n m ms U p (subst (λ l2. suits l2 U p (Some c) m ≡ false) last f) (still y z))))
         (ap (λ z. z.fate) q) (ap (λ z. z.outs) q) (m, ms, a) tt
     exit_ran τ l w last (passes f g x q) = not_some o3.fate f w.goes_on g
 
@@ -231,6 +220,6 @@ module _ {O I : Type 0} (prog : Table O I) where
         exit_ran τ l (visit_way t i (Exit n) o o1 o2 o3 τ into l.way q tt) (done_end t (Exit n) o2 o3 q) (answers_at U (Some c) p c.0 (Replied (Exit n)) o3 o4 e s3)
     entered_exiting_by (broke τ w j f S σ l h x st en) s3 =
         let same : o3 ≡ o2 = done_over U t (Exit n) f o2 o3 s2 h in
-        ended_at_once prog U o3 o4 (Some c) (Replied (Exit n)) f (answers_at U (Some c) p c.0 (Replied (Exit n)) o3 o4 e s3) (ap (λ v. v.fate) same ∙ h)
-        (λ q y. broke (d1 ∷ τ) w (suc j) f S (λ b. σ b ++ event t (Done None b) ∷ d3 b ∷ []) (inside_leads T U o o1 o2 o3 p (Some c) k t i e into τ w j f S σ (fits_open O c) l)
+        ended_at_once prog U p o3 o4 (Some c) (Replied (Exit n)) f (answers_at U (Some c) p c.0 (Replied (Exit n)) o3 o4 e s3) (ap (λ v. v.fate) same ∙ h)
+        (λ q y. broke (d1 ∷ τ) w (suc j) f S (λ b. σ b ++ event t (Done None b) ∷ d3 b ∷ []) (inside_leads T U o o1 o2 o3 p (Some c) k t i e into τ w j f S σ (fits_open O U p c) l)
         (ap (λ v. v.fate) (q ∙ same) ∙ h) (ap (λ v. v.outs) (q ∙ same) ∙ x) (stops_more f S σ (λ b. event t (Done None b) ∷ d3 b ∷ []) w st) tt)

@@ -4,6 +4,7 @@ use Rattle.std.specs.Prelude.{pos}
 use Rattle.tcl_core.specs.Endings.{Reply, ok}
 use Rattle.tcl_core.specs.Endings.Cause.{Above, Over}
 use Rattle.tcl_core.specs.Endings.Meter.{Count}
+use Rattle.tcl_core.specs.Endings.Kind.{Full, Gone}
 use Rattle.tcl_core.specs.Endings.Reply.{Completed, Cut, Exit, Stop}
 use Rattle.tcl_core.specs.Entries.{Answer, Request}
 use Rattle.tcl_core.specs.Entries.Answer.{Replied, Heard}
@@ -37,7 +38,7 @@ entered ms = record { left = ms; steps = 1; outs = []; fate = None }
 abbrev called : List (Move ℕ) → Player ℕ
 called ms = telling (entered ms) asked
 
-asks : (ms : List (Move ℕ)) (z : Player ℕ) (r : Reply) → Runs asking child_alone (called ms) (wait (Some (Some 1, Eval [])) finish) child_alone z r → Runs asking child_alone (entered ms) (asking.entry (Eval [])) child_alone z r
+asks : (ms : List (Move ℕ)) (z : Player ℕ) (r : Reply) → Runs asking child_alone (called ms) (wait (Some (Some 1, Eval [], 0)) finish) child_alone z r → Runs asking child_alone (entered ms) (asking.entry (Eval [])) child_alone z r
 asks ms z r t = called_out {u = called ms} refl (record { told = refl }) t
 
 waiting : Comes_to asking one_entry 1 Waiting (asked ∷ [])
@@ -188,7 +189,8 @@ worked_misfits = record {
   channel_refused = no_request (Open [] []) (Heard (Fails 261)) refl;
   opening_refused = no_request (ReadAll []) (Heard (Fails 267)) refl;
   completed = no_request (ReadLine []) (Replied (Completed (ok []))) refl;
-  stopped = no_request (ReadLine []) (Replied (Stop 0 Count)) refl;
+  stopped = no_request (ReadLine []) (Replied (Stop 0 (Full Count))) refl;
+  deleted = no_request (ReadLine []) (Replied (Stop 0 Gone)) refl;
   heard = no_alias (Heard (Line [])) refl;
-  stopped_from_above = no_alias (Replied (Stop 1 Count)) refl;
+  stopped_from_above = no_alias (Replied (Stop 1 (Full Count))) refl;
 }

@@ -3,6 +3,7 @@ use Rattle.std.specs.Prelude.{◌≡◌, ℕ, pos, List, [], ◌∷◌, ◌++◌
 use Rattle.tcl_core.specs.Endings.{Reply, ok}
 use Rattle.tcl_core.specs.Endings.Cause.{Above}
 use Rattle.tcl_core.specs.Endings.Meter.{Count}
+use Rattle.tcl_core.specs.Endings.Kind.{Full, Gone}
 use Rattle.tcl_core.specs.Endings.Reply.{Completed, Cut, Exit, Stop}
 use Rattle.tcl_core.specs.Entries.{Answer, Request}
 use Rattle.tcl_core.specs.Entries.Answer.{Replied, Heard}
@@ -110,7 +111,9 @@ pub record WorkedMisfits : Type 0 where
   pub opening_refused : AnswersNoRequest (ReadAll []) (Heard (Fails 267))
   -- a completion and a stop of a request; what a host says of an alias
   pub completed : AnswersNoRequest (ReadLine []) (Replied (Completed (ok [])))
-  pub stopped : AnswersNoRequest (ReadLine []) (Replied (Stop 0 Count))
+  pub stopped : AnswersNoRequest (ReadLine []) (Replied (Stop 0 (Full Count)))
+  -- what ends a caller that is gone, of one that isn't
+  pub deleted : AnswersNoRequest (ReadLine []) (Replied (Stop 0 Gone))
   pub heard : AnswersNoAlias (Heard (Line []))
   -- a stop that names the interpreter to which the call goes up
-  pub stopped_from_above : AnswersNoAlias (Replied (Stop 1 Count))
+  pub stopped_from_above : AnswersNoAlias (Replied (Stop 1 (Full Count)))

@@ -8,16 +8,16 @@ use Rattle.tcl_core.specs.Endings.Cause.{Over}
 use Rattle.tcl_core.specs.Endings.Reply.{Exit, Cut}
 use Rattle.tcl_core.specs.Entries.{Entry, Answer}
 use Rattle.tcl_core.specs.Entries.Answer.{Replied}
-use Rattle.tcl_core.specs.Trees.{Event, Tree, Move, What, at}
+use Rattle.tcl_core.specs.Trees.{Event, Tree, Move, What, at, depth_of}
 use Rattle.tcl_core.specs.Trees.Move.{Come}
 use Rattle.tcl_core.specs.Trees.What.{Charged, Refused, Dropped, Out, In, Done, Back}
 use Rattle.tcl_core.specs.Programs.{Table}
-use Rattle.tcl_core.specs.Runs.{Runs, Visits, World, is_own}
+use Rattle.tcl_core.specs.Runs.{Runs, Visits, World, gone, is_told}
 use Rattle.tcl_core.specs.Views.{moves_of, steps_of, view}
 use Rattle.tcl_core.specs.Execution.{event}
 use Rattle.tcl_core.specs.Lives.{Outcome, React, begun, ended, outcome_of, outs_of}
 use Rattle.tcl_core.specs.Lives.Outcome.{Ended, Exited, Finished, Waiting}
-use Rattle.tcl_core.specs.Laws.{IsUnended, IsUpright, KeepsTop, ReadsMove, after, depth_of}
+use Rattle.tcl_core.specs.Laws.{IsUnended, IsUpright, KeepsTop, ReadsMove, after}
 use Rattle.tcl_reactions.specs.Playing.{Fate, Player, Lived, IsOver, beginner, last_end, outcome}
 use Rattle.tcl_reactions.specs.Playing.{plays, tree_left}
 
@@ -28,12 +28,13 @@ PlayedIsReact O I = (prog : Table O I) (S V : Tree O) (ms : List (Move O)) (n : 
     Lived prog S (beginner ms n) V z → IsOver z →
     React prog S ms n (outcome z) z.outs (tree_left z V)
 
--- What is played leaves each depth as it was, where above each interpreter that stands all stand
--- and are in use as deeply: all entries came to their end by then, also where the playing was cut
--- short.
+-- What is played leaves each depth as it was, or 0 where who stood there was dropped, where above
+-- each interpreter that stands all stand and are in use as deeply: all entries came to their end by
+-- then, also where the playing was cut short. So where nothing was in progress nothing is.
 abbrev pub DepthsStay : Type 0 → Type 0 → Type 0
 DepthsStay O I = (prog : Table O I) (S V : Tree O) (o z : Player O) →
-    Lived prog S o V z → IsUpright S → (q : Place) → depth_of (V q) ≡ depth_of (S q)
+    Lived prog S o V z → IsUpright S → (q : Place) →
+    (depth_of (V q) ≡ depth_of (S q)) ⊎ (depth_of (V q) ≡ 0)
 
 -- each end from outside among these moves is one by what is above
 abbrev pub AreFromAbove : {O : Type 0} → List (Move O) → Type 0
@@ -118,14 +119,15 @@ pub record NeverStuck (O : Type 0) : Type 0 where
   pub comes_back : (T : Tree O) (p a : Place) (h : Height) (y : Answer) (o : Player O) →
       rise_to h p ≡ Some a → (z : Player O) × plays T o None (event p (Back h y)) z
   -- to a call that left the tree an entry comes next, or an answer of its own
-  pub next : (T : Tree O) (p : Place) (h : Height) (i : Entry) (o : Player O) → rise_to h p ≡ None →
+  pub next : (T : Tree O) (p : Place) (h : Height) (i : Entry) (d : ℕ) (o : Player O) →
+      rise_to h p ≡ None →
       KeepsTop o.left →
       ((t : Path) × (e : Entry) × (z : Player O) × plays T o None (event t (In None e)) z) ⊎
-      ((a : Answer) × (z : Player O) × plays T o (Some (h, i)) (event p (Back h a)) z ×
-      (is_own h i a ≡ true))
+      ((a : Answer) × (z : Player O) × plays T o (Some (h, i, d)) (event p (Back h a)) z ×
+      (is_told (gone d T p) h i a ≡ true))
   -- and after an entry of it that ended by an exit the call ends by that exit
   pub has_exited : (T : Tree O) (t : Path) (n : ℤ) (o z : Player O) →
       plays T o None (event t (Done None (Exit n))) z → HasExited z n
-  pub exits : (T : Tree O) (p : Place) (h : Height) (i : Entry) (n : ℤ) (o : Player O) →
+  pub exits : (T : Tree O) (p : Place) (h : Height) (i : Entry) (d : ℕ) (n : ℤ) (o : Player O) →
       rise_to h p ≡ None → HasExited o n → (z : Player O) ×
-      plays T o (Some (h, i)) (event p (Back h (Replied (Exit n)))) z
+      plays T o (Some (h, i, d)) (event p (Back h (Replied (Exit n)))) z
