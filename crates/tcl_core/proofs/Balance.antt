@@ -6,12 +6,12 @@ use Rattle.tcl_core.specs.Endings.Reply.{Exit}
 use Rattle.tcl_core.specs.Entries.{Entry, Answer}
 use Rattle.tcl_core.specs.Entries.Answer.{Replied}
 use Rattle.tcl_core.specs.Trees.{What, Event, Move, seen_what, Node}
-use Rattle.tcl_core.specs.Trees.What.{Made, Dropped, Out, In, Done, Back}
+use Rattle.tcl_core.specs.Trees.What.{Made, Dropped, Out, In, Done, Back, Unfound}
 use Rattle.tcl_core.specs.Trees.Move.{Born, Fall, Enter, Come}
 use Rattle.tcl_core.specs.Programs.{Deed, spot, Act, Wrap, Wait, Prog, Table, decide, opens, closes}
 use Rattle.tcl_core.specs.Runs.{World, Step, Ending, Halts, Exits, Exiting, ends_call, height_of}
 use Rattle.tcl_core.specs.Rules.{Derives}
-use Rattle.tcl_core.specs.Rules.Derives.{completed, exited, acted, refused, unheard, went, passed, halted, wrapped, wrapped_passed, wrapped_halted, too_deep, shut, unheard_inside, called, called_passed, called_halted, unreached, called_out, unanswered, unfit, answered, heard, answered_passed, entered, entered_halted, entered_exiting, born, fallen}
+use Rattle.tcl_core.specs.Rules.Derives.{completed, exited, acted, refused, unheard, went, passed, halted, wrapped, wrapped_passed, wrapped_halted, too_deep, shut, unheard_inside, called, called_passed, called_halted, unreached, called_out, unanswered, unfit, answered, heard, answered_passed, entered, entered_halted, entered_exiting, born, fallen, unfound}
 use Rattle.tcl_core.specs.Views.{view, kept, from_above}
 use Rattle.tcl_core.proofs.PathLaws.{seen_rise, strip_own, strip-sound}
 use Rattle.tcl_core.proofs.MoreMoves.{none_not}
@@ -188,11 +188,12 @@ module _ {O I : Type 0} (top : Place) (prog : Table O I) where
   owes (answered w p s k c u v e f g t a) = answer_owes top w p (height_of s) _ u v e t (owes a)
   owes (heard w p s k y u v e f g t a) = answer_owes top w p (height_of s) _ u v e t (owes a)
   owes (answered_passed w p s k r u q f g t) = answer_owes top w p (height_of s) _ u u _ t (at_once top u _)
-  owes (entered w p s k t i inner left told v r e f s1 a s2 n b) = then_owes top w told v r e (visit_owes top w inner left told None t i r s1 (owes a) s2) (owes b)
-  owes (entered_halted w p s k t i inner left f s1 a) = halted_owes top w inner left None t i s1 (owes a)
-  owes (entered_exiting w p s k t i inner left told v n e f s1 a s2 b) = then_owes top w told v (Exit n) e (visit_owes top w inner left told None t i (Exit n) s1 (owes a) s2) (exits_owe top told p s n told.moves v e b)
+  owes (entered w p s k t i inner left told v r e f here s1 a s2 n b) = then_owes top w told v r e (visit_owes top w inner left told None t i r s1 (owes a) s2) (owes b)
+  owes (entered_halted w p s k t i inner left f here s1 a) = halted_owes top w inner left None t i s1 (owes a)
+  owes (entered_exiting w p s k t i inner left told v n e f here s1 a s2 b) = then_owes top w told v (Exit n) e (visit_owes top w inner left told None t i (Exit n) s1 (owes a) s2) (exits_owe top told p s n told.moves v e b)
   owes (born w p s k o b u v e f t a) = plain_owes top w [] (Made o b) u v e tt t (owes a)
   owes (fallen w p s k u v e f t a) = plain_owes top w [] Dropped u v e tt t (owes a)
+  owes (unfound w p s k t i u v e f here b a) = step_owes top w [] (Unfound t i (prog.lost t)) u v e b (λ n. refl) (λ n. refl) (owes a)
 
 -- in a subtree they are seen as they are
 module _ {O : Type 0} where

@@ -9,7 +9,7 @@ use Rattle.tcl_core.specs.Entries.Answer.{Replied}
 use Rattle.tcl_core.specs.Trees.{Tree, Grants, granted, denied, What, Move, paid, Grant, Event}
 use Rattle.tcl_core.specs.Trees.Grant.{Allow, Deny}
 use Rattle.tcl_core.specs.Trees.Grants.{Listed, Budget}
-use Rattle.tcl_core.specs.Trees.What.{Charged, Refused, Nested, Made, Dropped, Out, In, Done, Back}
+use Rattle.tcl_core.specs.Trees.What.{Charged, Refused, Nested, Made, Dropped, Out, In, Done, Back, Unfound}
 use Rattle.tcl_core.specs.Trees.Move.{Born, Fall, Enter, Come}
 use Rattle.tcl_core.specs.Programs.{Deed, spot, Act, Wrap, Wait, metered, blocked, is_spent, is_deep, Prog, Table, decide, opens}
 use Rattle.tcl_core.specs.Programs.Next.{On, Off}
@@ -17,7 +17,7 @@ use Rattle.tcl_core.specs.Programs.Act.{Charge}
 use Rattle.tcl_core.specs.Programs.Wrap.{Deeper, Framed}
 use Rattle.tcl_core.specs.Runs.{World, Step, Ending, Halts, Exits, Exiting, ends_call, height_of}
 use Rattle.tcl_core.specs.Rules.{Derives}
-use Rattle.tcl_core.specs.Rules.Derives.{completed, exited, acted, refused, unheard, went, passed, halted, wrapped, wrapped_passed, wrapped_halted, too_deep, shut, unheard_inside, called, called_passed, called_halted, unreached, called_out, unanswered, unfit, answered, heard, answered_passed, entered, entered_halted, entered_exiting, born, fallen}
+use Rattle.tcl_core.specs.Rules.Derives.{completed, exited, acted, refused, unheard, went, passed, halted, wrapped, wrapped_passed, wrapped_halted, too_deep, shut, unheard_inside, called, called_passed, called_halted, unreached, called_out, unanswered, unfit, answered, heard, answered_passed, entered, entered_halted, entered_exiting, born, fallen, unfound}
 use Rattle.tcl_core.specs.Views.{steps_of, IsDue}
 use Rattle.tcl_core.specs.Lives.{IsUncut, Uncut}
 use Rattle.tcl_core.proofs.PathLaws.{not_both, Some-inj}
@@ -156,13 +156,14 @@ module _ {O I : Type 0} (prog : Table O I) (k : ℕ) where
   derived_budget (answered w p s y c u v e g j t a) f z q = answered (bud w) p s y c (bud u) (bud v) e g j (st w p _ u t) (derived_budget a (after_step w p _ u t f) z q)
   derived_budget (heard w p s y x u v e g j t a) f z q = heard (bud w) p s y x (bud u) (bud v) e g j (st w p _ u t) (derived_budget a (after_step w p _ u t f) z q)
   derived_budget (answered_passed w p s y r u l g j t) f z q = answered_passed (bud w) p s y r (bud u) l g j (st w p _ u t)
-  derived_budget (entered w p s y t i inner left told v r e g s1 a s2 n b) f z q =
+  derived_budget (entered w p s y t i inner left told v r e g here s1 a s2 n b) f z q =
       let f1 = after_step w t _ inner s1 f in
-      entered (bud w) p s y t i (bud inner) (bud left) (bud told) (bud v) r e g (st w t _ inner s1) (derived_budget a f1 r refl) (st left t _ told s2) n (derived_budget b (after_step left t _ told s2 (after_run a f1)) z q)
-  derived_budget (entered_halted w p s y t i inner left g s1 a) f z q = none_not z q
-  derived_budget (entered_exiting w p s y t i inner left told v n e g s1 a s2 b) f z q =
-      entered_exiting (bud w) p s y t i (bud inner) (bud left) (bud told) (bud v) n e g (st w t _ inner s1) (derived_budget a (after_step w t _ inner s1 f) (Exit n) refl) (st left t _ told s2) (exits_budget told p s n told.moves v e z q b)
+      entered (bud w) p s y t i (bud inner) (bud left) (bud told) (bud v) r e g here (st w t _ inner s1) (derived_budget a f1 r refl) (st left t _ told s2) n (derived_budget b (after_step left t _ told s2 (after_run a f1)) z q)
+  derived_budget (entered_halted w p s y t i inner left g here s1 a) f z q = none_not z q
+  derived_budget (entered_exiting w p s y t i inner left told v n e g here s1 a s2 b) f z q =
+      entered_exiting (bud w) p s y t i (bud inner) (bud left) (bud told) (bud v) n e g here (st w t _ inner s1) (derived_budget a (after_step w t _ inner s1 f) (Exit n) refl) (st left t _ told s2) (exits_budget told p s n told.moves v e z q b)
   derived_budget (born w p s y o b u v e g t a) f z q = born (bud w) p s y o b (bud u) (bud v) e g (st w [] _ u t) (derived_budget a (after_step w [] _ u t f) z q)
+  derived_budget (unfound w p s y t i u v e g here b a) f z q = unfound (bud w) p s y t i (bud u) (bud v) e g here (st w [] _ u b) (derived_budget a (after_step w [] _ u b f) z q)
   derived_budget (fallen w p s y u v e g t a) f z q = fallen (bud w) p s y (bud u) (bud v) e g (st w [] _ u t) (derived_budget a (after_step w [] _ u t f) z q)
 
 -- A RUN THAT HALTS
@@ -264,13 +265,14 @@ module _ {O I : Type 0} (prog : Table O I) (k : ℕ) where
   halting (answered w p s y c u v e g j t a) f h q = answered (budgeted k w) p s y c (budgeted k u) (budgeted k v) e g j (st prog k w p _ u t) (halting a (after_step prog k w p _ u t f) (rich_on w p (Back (height_of s) (Replied (Completed c))) u tt t h) q)
   halting (heard w p s y x u v e g j t a) f h q = heard (budgeted k w) p s y x (budgeted k u) (budgeted k v) e g j (st prog k w p _ u t) (halting a (after_step prog k w p _ u t f) (rich_on w p (Back (height_of s) (Heard x)) u tt t h) q)
   halting (answered_passed w p s y r u l g j t) f h q = ends_not _ _ refl q
-  halting (entered w p s y t i inner left told v r e g s1 a s2 n b) f h q =
+  halting (entered w p s y t i inner left told v r e g here s1 a s2 n b) f h q =
       let f1 = after_step prog k w t _ inner s1 f in
       let h1 = rich_on w t (In None i) inner tt s1 h in
-      entered (budgeted k w) p s y t i (budgeted k inner) (budgeted k left) (budgeted k told) (budgeted k v) r e g (st prog k w t _ inner s1) (derived_budget prog k a f1 r refl) (st prog k left t _ told s2) n
+      entered (budgeted k w) p s y t i (budgeted k inner) (budgeted k left) (budgeted k told) (budgeted k v) r e g here (st prog k w t _ inner s1) (derived_budget prog k a f1 r refl) (st prog k left t _ told s2) n
       (halting b (after_step prog k left t _ told s2 (after_run prog k a f1)) (rich_on left t (Done None r) told tt s2 (rich_run a h1)) q)
-  halting (entered_halted w p s y t i inner left g s1 a) f h q = entered_halted (budgeted k w) p s y t i (budgeted k inner) (budgeted k left) g (st prog k w t _ inner s1) (halting a (after_step prog k w t _ inner s1 f) (rich_on w t (In None i) inner tt s1 h) refl)
-  halting (entered_exiting w p s y t i inner left told v n e g s1 a s2 b) f h q =
-      entered_exiting (budgeted k w) p s y t i (budgeted k inner) (budgeted k left) (budgeted k told) (budgeted k v) n e g (st prog k w t _ inner s1) (derived_budget prog k a (after_step prog k w t _ inner s1 f) (Exit n) refl) (st prog k left t _ told s2) (exits_any told p s n told.moves v e b)
+  halting (entered_halted w p s y t i inner left g here s1 a) f h q = entered_halted (budgeted k w) p s y t i (budgeted k inner) (budgeted k left) g here (st prog k w t _ inner s1) (halting a (after_step prog k w t _ inner s1 f) (rich_on w t (In None i) inner tt s1 h) refl)
+  halting (entered_exiting w p s y t i inner left told v n e g here s1 a s2 b) f h q =
+      entered_exiting (budgeted k w) p s y t i (budgeted k inner) (budgeted k left) (budgeted k told) (budgeted k v) n e g here (st prog k w t _ inner s1) (derived_budget prog k a (after_step prog k w t _ inner s1 f) (Exit n) refl) (st prog k left t _ told s2) (exits_any told p s n told.moves v e b)
   halting (born w p s y o b u v e g t a) f h q = born (budgeted k w) p s y o b (budgeted k u) (budgeted k v) e g (st prog k w [] _ u t) (halting a (after_step prog k w [] _ u t f) (rich_on w [] (Made o b) u tt t h) q)
+  halting (unfound w p s y t i u v e g here b a) f h q = unfound (budgeted k w) p s y t i (budgeted k u) (budgeted k v) e g here (st prog k w [] _ u b) (halting a (after_step prog k w [] _ u b f) (rich_on w [] (Unfound t i (prog.lost t)) u tt b h) q)
   halting (fallen w p s y u v e g t a) f h q = fallen (budgeted k w) p s y (budgeted k u) (budgeted k v) e g (st prog k w [] _ u t) (halting a (after_step prog k w [] _ u t f) (rich_on w [] Dropped u tt t h) q)

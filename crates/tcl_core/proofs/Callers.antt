@@ -5,7 +5,6 @@ use Rattle.tcl_core.specs.Trees.{Node}
 use Rattle.tcl_core.specs.Programs.{Calls_only, Prog, Table}
 pub use Rattle.tcl_core.specs.Execution.{Fits, waits_for}
 use Rattle.tcl_core.specs.Programs.Prog.{done, exit, act, go, inside, call, wait}
-use Rattle.tcl_core.specs.Runs.{entering}
 
 module _ {O I : Type 0} where
   -- what calls waits for nothing
@@ -27,8 +26,3 @@ module _ {O I : Type 0} where
   fit (inside b i k) f = f
   fit (call h down i lost k) f = f
   fit (wait s k) f = absurd f
-
-  -- what an entry does calls
-  pub entering_calls : (prog : Table O I) (n : Option (Node O)) (i : Entry) → Calls_only (entering prog n i)
-  entering_calls prog None i = tt
-  entering_calls prog (Some n) i = prog.entries_call i

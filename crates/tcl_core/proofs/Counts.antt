@@ -6,7 +6,7 @@ use Rattle.tcl_core.specs.Paths.{Place, strip}
 use Rattle.tcl_core.specs.Paths.{rise_to}
 use Rattle.tcl_core.specs.Trees.Grants.{Listed, Budget}
 use Rattle.tcl_core.specs.Trees.{asked, Grants, granted, denied, Tree, What, Event, Node, paid, at_end, where_some, effect, with_own, with_limit, with_depth_limit, counted, deeper, shallower, fresh, seen_what}
-use Rattle.tcl_core.specs.Trees.What.{Seen, Changed, Charged, Refused, Nested, Unnested, Limited, DepthLimited, Made, Dropped, Out, In, Done, Back}
+use Rattle.tcl_core.specs.Trees.What.{Seen, Changed, Charged, Refused, Nested, Unnested, Limited, DepthLimited, Made, Dropped, Out, In, Done, Back, Unfound}
 use Rattle.tcl_core.specs.Programs.{Prog, Table, blocked, full_at, nearer, is_spent, limit_or}
 use Rattle.tcl_core.specs.Runs.{World, Ending, Runs}
 use Rattle.tcl_core.specs.Views.{IsDue, from_above, steps_of, kept, view}
@@ -90,6 +90,7 @@ module _ {O : Type 0} where
   meters c p (Out h d i) T n s e = free c p (Out h d i) T n (λ k. refl) refl (n, e, refl, refl)
   meters c p (Back h r) T n s e = free c p (Back h r) T n (λ k. refl) refl (n, e, refl, refl)
   meters c p (In h r) T n s e = free c p (In h r) T n (λ k. refl) refl (n, e, refl, refl)
+  meters c p (Unfound t i y) T n s e = free c p (Unfound t i y) T n (λ k. refl) refl (n, e, refl, refl)
   meters c p (Done h r) T n s e = free c p (Done h r) T n (λ k. refl) refl (n, e, refl, refl)
 
   steps_above : (b : Option Place) (x : What O) (τ : List (Event O)) → steps_of (from_above b x τ) ≡ steps_of τ

@@ -8,10 +8,10 @@ use Rattle.tcl_core.specs.Trees.{Event, Grant, Grants, Move, Node, Tree, What, a
 use Rattle.tcl_core.specs.Trees.Grant.{Allow}
 use Rattle.tcl_core.specs.Trees.Grants.{Listed, Budget}
 use Rattle.tcl_core.specs.Trees.Move.{Born, Fall, Enter, Come}
-use Rattle.tcl_core.specs.Trees.What.{Made, Dropped, In, Done}
+use Rattle.tcl_core.specs.Trees.What.{Made, Dropped, In, Done, Unfound}
 use Rattle.tcl_core.specs.Programs.{Prog, Table}
 use Rattle.tcl_core.specs.Programs.Prog.{wait}
-use Rattle.tcl_core.specs.Runs.{World, Step, Ending, Halts, Runs, RunsIn, Stays, Visits, Waits, entering}
+use Rattle.tcl_core.specs.Runs.{World, Step, Ending, Halts, Runs, RunsIn, Stays, Visits, Waits, Enters}
 use Rattle.tcl_core.specs.Rules.{Derives, IsNoExit}
 use Rattle.tcl_core.specs.Views.{IsDue, from_above, grants_of, moves_of, steps_of, view, inside_of, kept}
 use Rattle.tcl_core.specs.Lives.{Lives, Outcome, React, Reacts, alone, begun, ended, idle, never, IsUncut, InProgress, outcome_of, ending_of, outs_of}
@@ -26,12 +26,12 @@ use Rattle.tcl_core.proofs.Standing.{held_left, stands_of}
 use Rattle.tcl_core.proofs.Counts.{Meters, happenings, meters}
 use Rattle.tcl_core.proofs.Budgets.{IsRich, budgeted, halting, words_for}
 use Rattle.tcl_core.proofs.Balance.{Owes, dones, ins, owes}
-use Rattle.tcl_core.proofs.Reacting.{IsHanded, IsLasting, balanced_after, exits_idle, lasting, life_of, lift_visits, never_halts}
+use Rattle.tcl_core.proofs.Reacting.{IsHanded, IsLasting, balanced_after, exits_idle, lasting, life_of, lift_visits, never_halts, handed_step}
 use Rattle.tcl_core.proofs.Halts.{halted_tape}
 use Rattle.tcl_core.proofs.Conclusions.{lives_within, moments}
 use Rattle.tcl_core.proofs.Unended.{uncut}
 use Rattle.tcl_core.proofs.Worlds.{begun_ins, ended_dones, within_done}
-use Rattle.tcl_core.proofs.UpToDrop.{Goes_to, UpTo, at_top_drop, at_top_made, drop, handed_after, in_no_drop, is_no_drop, no_cons, not_nil, only, visited, words_more}
+use Rattle.tcl_core.proofs.UpToDrop.{Goes_to, UpTo, at_top_drop, at_top_made, drop, handed_after, in_no_drop, is_no_drop, no_cons, not_nil, only, visited, words_more, unfound_to, unfound_no_drop}
 
 abbrev halted : Ending
 halted = None
@@ -58,13 +58,26 @@ module _ {O I : Type 0} (prog : Table O I) where
       subst (λ y2. UpTo prog z (y2 ∷ b)) same (visited prog z u t i a v b r h rest l.1
       (follows n ih z u y t i a r (handed_after prog z u t i a v b r h) (balanced_after prog 0 z t i u a v d) f s))
 
+  enters_to : (n : ℕ) → Goes_to prog n → (z y : World O) (b r : List (Event O)) → IsHanded z → IsLasting b → ins [] z.tape ≡ dones [] z.tape → y.tape ≡ [] → (t : Path) (i : Entry) (x : Option (Node O)) → z.tree t ≡ x → Enters prog (RunsIn prog n) z [] idle never t i x y None → z.tape ≡ b ++ drop ∷ r → UpTo prog z b
+  enters_to n ih z y b r a l d f t i (Some x) g (u, None, v, s) e = never_halts prog 0 z t i u (lift_visits prog 0 n z t i u None v) d (ap (λ (w : World O). w.tape) (sym s.0) ∙ f)
+  enters_to n ih z y b r a l d f t i (Some x) g (u, Some c, v, s) e = entry_to n ih z u y b r t i c a l d f (lift_visits prog 0 n z t i u (Some c) v) s e
+  enters_to n ih z y [] r a l d f t i None g (u, s, h) e =
+      let q : record { place = []; what = Unfound t i (prog.lost t) } ∷ u.tape ≡ drop {O = O} ∷ r = sym s.tape ∙ e in
+      let same : record { place = []; what = Unfound t i (prog.lost t) } ≡ drop {O = O} = cc in
+      is_no_drop [] (Unfound t i (prog.lost t)) same (λ j. unfound_no_drop t i (prog.lost t) j)
+  enters_to n ih z y (ev ∷ b) r a l d f t i None g (u, s, h) e =
+      let q : record { place = []; what = Unfound t i (prog.lost t) } ∷ u.tape ≡ ev ∷ (b ++ drop ∷ r) = sym s.tape ∙ e in
+      let same : record { place = []; what = Unfound t i (prog.lost t) } ≡ ev = cc in
+      let rest : u.tape ≡ b ++ drop ∷ r = cc in
+      let still : ins [] u.tape ≡ dones [] u.tape = sym (ap (ins []) s.tape) ∙ d ∙ ap (dones []) s.tape in
+      subst (λ y2. UpTo prog z (y2 ∷ b)) same (unfound_to prog z u t i b g s (ih u y b r (handed_step z [] (Unfound t i (prog.lost t)) u tt s a) l.1 still f h rest))
+
   waits_to : (n : ℕ) → Goes_to prog n → (z y : World O) (b r : List (Event O)) → IsHanded z → IsLasting b → ins [] z.tape ≡ dones [] z.tape → y.tape ≡ [] → (ms : List (Move O)) → Waits prog (RunsIn prog n) z [] idle never ms y None → z.tape ≡ b ++ drop ∷ r → UpTo prog z b
   waits_to n ih z y b r a l d f [] h e = not_nil b drop r (sym e ∙ h.tape)
   waits_to n ih z y b r a l d f (Come w ∷ ms) h e = not_nil b drop r (sym e ∙ h.tape)
   waits_to n ih z y b r a l d f (Born o s ∷ ms) (u, t, h) e = at_top_made prog o s z u b r l t e
   waits_to n ih z y b r a l d f (Fall ∷ ms) (u, t, h) e = at_top_drop prog z u b r l t e
-  waits_to n ih z y b r a l d f (Enter t i ∷ ms) (u, None, v, s) e = never_halts prog 0 z t i u (lift_visits prog 0 n z t i u None v) d (ap (λ (w : World O). w.tape) (sym s.0) ∙ f)
-  waits_to n ih z y b r a l d f (Enter t i ∷ ms) (u, Some x, v, s) e = entry_to n ih z u y b r t i x a l d f (lift_visits prog 0 n z t i u (Some x) v) s e
+  waits_to n ih z y b r a l d f (Enter t i ∷ ms) h e = enters_to n ih z y b r a l d f t i (z.tree t) refl h e
 
   pub goes_to : (n : ℕ) → Goes_to prog n
   goes_to zero z y b r a l d f g e = absurd g

@@ -10,7 +10,7 @@ use Rattle.tcl_core.specs.Trees.Move.{Born, Fall, Enter, Come}
 use Rattle.tcl_core.specs.Programs.{Deed, Wrap, Wait, Next, Prog, Table, decide, opens}
 use Rattle.tcl_core.specs.Programs.Next.{On, TooDeep, Off}
 use Rattle.tcl_core.specs.Programs.Prog.{done, exit, act, go, inside, call, wait}
-use Rattle.tcl_core.specs.Runs.{World, Ending, Run, Follows, Then, Closes, Acted, Acts, Opened, Opens, Hears, Answered, Visits, Returns, Reaches, Calls, Stays, Moves, Fitting, Waits, Unrolled, RunsIn, Runs, carried, reached, fits, height_of, gone}
+use Rattle.tcl_core.specs.Runs.{World, Ending, Run, Follows, Then, Closes, Acted, Acts, Opened, Opens, Hears, Answered, Visits, Returns, Reaches, Calls, Stays, Moves, Fitting, Waits, Unrolled, RunsIn, Runs, carried, reached, fits, height_of, gone, Enters}
 
 module _ {O I : Type 0} where
   abbrev pub Implies : Run O I → Run O I → Type 0
@@ -56,7 +56,7 @@ module _ {O I : Type 0} where
 
     module _ (prog : Table O I) where
       visits_map : (w : World O) (h : Height) (t : Place) (i : Entry) (v : World O) (e : Ending) → Visits prog R w h t i v e → Visits prog S w h t i v e
-      visits_map w h t i v e a = record { entered = a.entered; left = a.left; entry = a.entry; run = f a.entered t _ a.left e a.run; leaving = a.leaving }
+      visits_map w h t i v e a = record { node = a.node; stands = a.stands; entered = a.entered; left = a.left; entry = a.entry; run = f a.entered t _ a.left e a.run; leaving = a.leaving }
 
       opened_map : (w : World O) (p : Place) (b : Wrap O) (i : I) (k : Completion → Prog O I) (x : Next) (v : World O) (e : Ending) → Opened prog R w p b i k x v e → Opened prog S w p b i k x v e
       opened_map w p b i k (Off r) v e a = a
@@ -75,11 +75,15 @@ module _ {O I : Type 0} where
       calls_map w p h down i lost k None v e a = f w p _ v e a
       calls_map w p h down i lost k (Some t) v e a = reaches_map w p h down i lost k (reached w.tree t down) v e a
 
+      enters_map : (w : World O) (p : Place) (s : Wait) (k : Said → Prog O I) (t : Path) (i : Entry) (n : Option (Node O)) (v : World O) (e : Ending) → Enters prog R w p s k t i n v e → Enters prog S w p s k t i n v e
+      enters_map w p s k t i None v e (u, a, b) = (u, a, f u p _ v e b)
+      enters_map w p s k t i (Some n) v e (u, o, a, b) = (u, o, visits_map w None t i u o a, stays_map u p s k o v e b)
+
       moves_map : (w : World O) (p : Place) (s : Wait) (k : Said → Prog O I) (m : Move O) (v : World O) (e : Ending) → Moves prog R w p s k m v e → Moves prog S w p s k m v e
       moves_map w p s k (Come a) v e b = answered_map w p (height_of s) k a v e b
       moves_map w p s k (Born o b) v e (u, t, a) = (u, t, f u p _ v e a)
       moves_map w p s k Fall v e (u, t, a) = (u, t, f u p _ v e a)
-      moves_map w p s k (Enter t i) v e (u, o, a, b) = (u, o, visits_map w None t i u o a, stays_map u p s k o v e b)
+      moves_map w p s k (Enter t i) v e a = enters_map w p s k t i (w.tree t) v e a
 
       fitting_map : (w : World O) (p : Place) (s : Wait) (k : Said → Prog O I) (b : Bool) (m : Move O) (v : World O) (e : Ending) → Fitting prog R w p s k b m v e → Fitting prog S w p s k b m v e
       fitting_map w p s k false m v e a = a
@@ -160,7 +164,7 @@ module _ {O I : Type 0} where
     answered_deep w p h k a v e (u, s, b) = let d : (n : ℕ) × Hears (RunsIn prog n) u p k a v e = hears_deep u p k a v e b in (d.0, (u, s, d.1))
 
     visits_deep : (w : World O) (h : Height) (t : Place) (i : Entry) (v : World O) (e : Ending) → Visits prog (Runs prog) w h t i v e → (n : ℕ) × Visits prog (RunsIn prog n) w h t i v e
-    visits_deep w h t i v e a = (a.run.0, record { entered = a.entered; left = a.left; entry = a.entry; run = a.run.1; leaving = a.leaving })
+    visits_deep w h t i v e a = (a.run.0, record { node = a.node; stands = a.stands; entered = a.entered; left = a.left; entry = a.entry; run = a.run.1; leaving = a.leaving })
 
     returns_deep : (d : ℕ) (w : World O) (p : Place) (h : Height) (down : Path) (k : Said → Prog O I) (o : Ending) (v : World O) (e : Ending) → Returns (Runs prog) d w p h down k o v e → (n : ℕ) × Returns (RunsIn prog n) d w p h down k o v e
     returns_deep d w p h down k None v e a = (0, a)
@@ -182,14 +186,18 @@ module _ {O I : Type 0} where
     calls_deep w p h down i lost k None v e a = a
     calls_deep w p h down i lost k (Some t) v e a = reaches_deep w p h down i lost k (reached w.tree t down) v e a
 
+    enters_deep : (w : World O) (p : Place) (s : Wait) (k : Said → Prog O I) (t : Path) (i : Entry) (n : Option (Node O)) (v : World O) (e : Ending) → Enters prog (Runs prog) w p s k t i n v e → (n2 : ℕ) × Enters prog (RunsIn prog n2) w p s k t i n v e
+    enters_deep w p s k t i None v e (u, a, (n2, b)) = (n2, (u, a, b))
+    enters_deep w p s k t i (Some n) v e (u, o, a, b) =
+        let c : (n : ℕ) × Visits prog (RunsIn prog n) w None t i u o = visits_deep w None t i u o a in
+        let d : (n : ℕ) × Stays (RunsIn prog n) u p s k o v e = stays_deep u p s k o v e b in
+        (c.0 + d.0, (u, o, visits_map (RunsIn prog c.0) (RunsIn prog (c.0 + d.0)) (left_of c.0 d.0) prog w None t i u o c.1, stays_map (RunsIn prog d.0) (RunsIn prog (c.0 + d.0)) (deeper_by c.0 d.0) u p s k o v e d.1))
+
     moves_deep : (w : World O) (p : Place) (s : Wait) (k : Said → Prog O I) (m : Move O) (v : World O) (e : Ending) → Moves prog (Runs prog) w p s k m v e → (n : ℕ) × Moves prog (RunsIn prog n) w p s k m v e
     moves_deep w p s k (Come a) v e b = answered_deep w p (height_of s) k a v e b
     moves_deep w p s k (Born o b) v e (u, t, (n, a)) = (n, (u, t, a))
     moves_deep w p s k Fall v e (u, t, (n, a)) = (n, (u, t, a))
-    moves_deep w p s k (Enter t i) v e (u, o, a, b) =
-        let c : (n : ℕ) × Visits prog (RunsIn prog n) w None t i u o = visits_deep w None t i u o a in
-        let d : (n : ℕ) × Stays (RunsIn prog n) u p s k o v e = stays_deep u p s k o v e b in
-        (c.0 + d.0, (u, o, visits_map (RunsIn prog c.0) (RunsIn prog (c.0 + d.0)) (left_of c.0 d.0) prog w None t i u o c.1, stays_map (RunsIn prog d.0) (RunsIn prog (c.0 + d.0)) (deeper_by c.0 d.0) u p s k o v e d.1))
+    moves_deep w p s k (Enter t i) v e a = enters_deep w p s k t i (w.tree t) v e a
 
     fitting_deep : (w : World O) (p : Place) (s : Wait) (k : Said → Prog O I) (b : Bool) (m : Move O) (v : World O) (e : Ending) → Fitting prog (Runs prog) w p s k b m v e → (n : ℕ) × Fitting prog (RunsIn prog n) w p s k b m v e
     fitting_deep w p s k false m v e a = (0, a)

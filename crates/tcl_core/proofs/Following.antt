@@ -9,15 +9,15 @@ use Rattle.tcl_core.specs.Endings.Reply.{Completed, Exit}
 use Rattle.tcl_core.specs.Entries.Answer.{Replied, Heard}
 use Rattle.tcl_core.specs.Trees.{Tree, What, Event, Move, Grant, Grants, at, effect, asked, granted, depth_of}
 use Rattle.tcl_core.specs.Trees.Grants.{Listed}
-use Rattle.tcl_core.specs.Trees.What.{Out, In, Done, Back}
+use Rattle.tcl_core.specs.Trees.What.{Out, In, Done, Back, Unfound}
 use Rattle.tcl_core.specs.Programs.{Calls_only, Deed, Wait, spot, Act, Wrap, Prog, Table, decide, opens, closes}
 use Rattle.tcl_core.specs.Programs.Prog.{call}
-use Rattle.tcl_core.specs.Runs.{World, Step, Runs, answers_call, carried, entering, height_of, gone, gone_from}
+use Rattle.tcl_core.specs.Runs.{World, Step, Runs, answers_call, carried, height_of, gone, gone_from}
 use Rattle.tcl_core.specs.Rules.{Derives}
 use Rattle.tcl_core.specs.Execution.{Executes, Chain, none, more, before, event, Makes, Decides, Open, Opens_so, answers_to, calls_after, last_call, pending, with_call, without_call}
-use Rattle.tcl_core.specs.Execution.Executes.{completed, exited, acted, refused, went, passed, wrapped, wrapped_passed, too_deep, shut, called, called_passed, unreached, called_out, answered, heard, answered_passed, entered, entered_exiting}
+use Rattle.tcl_core.specs.Execution.Executes.{completed, exited, acted, refused, went, passed, wrapped, wrapped_passed, too_deep, shut, called, called_passed, unreached, called_out, answered, heard, answered_passed, entered, entered_exiting, unfound}
 use Rattle.tcl_core.specs.Views.{moves_of, grants_of}
-use Rattle.tcl_core.proofs.Callers.{Fits, entering_calls, fit, no_wait, waits_for}
+use Rattle.tcl_core.proofs.Callers.{Fits, fit, no_wait, waits_for}
 use Rattle.tcl_core.proofs.Plain.{IsPlain, closes_plain, decide_plain, opens_plain}
 use Rattle.tcl_core.proofs.TreeLaws.{listed_one}
 use Rattle.tcl_core.proofs.Seeing.{is_exit_self}
@@ -232,29 +232,29 @@ module _ {O I S : Type 0} (step : Tree O → S → Wait → Event O → S → Ty
         runs = λ y. Derives.shut _ p b i k x r (ahead (effect (spot p x.0) x.1 T) [] y) (opened b T p x is_so [] y) off (next T (spot p x.0) x.1 [] y);
       }
   follows calls (called {T} {U} {V} {o} {o1} {o2} {o3} {o4} {o5} {z} {p} {h} {down} {i} {lost} {k} {s} {r} {c} a t e there s1 s2 m s3 so s4 n) =
-      let f = follows (fit (entering prog (T t) i) (entering_calls prog (T t) i)) m in
+      let f = follows (fit (prog.entry i) (prog.entries_call i)) m in
       let g = follows (fit (k (Finished c)) (calls (Finished c))) n in
       let last : List (Event O) = event p (Back h (Replied (carried (gone (depth_of (T p)) U p) h p down s))) ∷ g.events in
       let tail : List (Event O) = event t (Done (Some (length down)) s) ∷ last in
       record {
         events = event p (Out h down i) ∷ event t (In (Some (length down)) i) ∷ (f.events ++ tail);
-        chain = λ cs. goes_within step e s1 (more s2 (chain-append step (called_on step (entering prog (T t) i) (entering_calls prog (T t) i) (f.chain cs)) (more s3 (back_within step e s4 (called_on step (k (Finished c)) (calls (Finished c)) (g.chain cs))))));
+        chain = λ cs. goes_within step e s1 (more s2 (chain-append step (called_on step (prog.entry i) (prog.entries_call i) (f.chain cs)) (more s3 (back_within step e s4 (called_on step (k (Finished c)) (calls (Finished c)) (g.chain cs))))));
         runs = λ y. Derives.called _ p h down i lost k a t (ahead T (event t (In (Some (length down)) i) ∷ (f.events ++ tail)) y) (ahead T (f.events ++ tail) y) (ahead U tail y) (ahead U last y) (ahead U g.events y) _ s c _ e
             (next T p (Out h down i) (event t (In (Some (length down)) i) ∷ (f.events ++ tail)) y) there (next T t (In (Some (length down)) i) (f.events ++ tail) y)
-            (first T U t (entering prog (T t) i) s f.events tail y (f.runs (later tail y)))
+            (first T U t (prog.entry i) s f.events tail y (f.runs (later tail y)))
             (next U t (Done (Some (length down)) s) last y) so (next U p (Back h (Replied (carried (gone (depth_of (T p)) U p) h p down s))) g.events y) (g.runs y);
       }
   follows calls (called_passed {T} {U} {o} {o1} {o2} {o3} {o4} {o5} {p} {h} {down} {i} {lost} {k} {s} {r} a t e there s1 s2 m s3 so q s4) =
-      let f = follows (fit (entering prog (T t) i) (entering_calls prog (T t) i)) m in
+      let f = follows (fit (prog.entry i) (prog.entries_call i)) m in
       let last : List (Event O) = event p (Back h (Replied (carried (gone (depth_of (T p)) U p) h p down s))) ∷ [] in
       let tail : List (Event O) = event t (Done (Some (length down)) s) ∷ last in
       record {
         events = event p (Out h down i) ∷ event t (In (Some (length down)) i) ∷ (f.events ++ tail);
-        chain = λ cs. goes_within step e s1 (more s2 (chain-append step (called_on step (entering prog (T t) i) (entering_calls prog (T t) i) (f.chain cs)) (more s3 (back_within step e (subst (λ l. step U o4 None (event p (Back h (Replied l))) o5) (sym so) s4) none))));
+        chain = λ cs. goes_within step e s1 (more s2 (chain-append step (called_on step (prog.entry i) (prog.entries_call i) (f.chain cs)) (more s3 (back_within step e (subst (λ l. step U o4 None (event p (Back h (Replied l))) o5) (sym so) s4) none))));
         runs = λ y. subst (λ l. Derives prog (ahead T (event p (Out h down i) ∷ event t (In (Some (length down)) i) ∷ (f.events ++ tail)) y) p (call h down i lost k) (ahead U [] y) (Some l)) so
             (Derives.called_passed _ p h down i lost k a t (ahead T (event t (In (Some (length down)) i) ∷ (f.events ++ tail)) y) (ahead T (f.events ++ tail) y) (ahead U tail y) (ahead U last y) (ahead U [] y) s e
             (next T p (Out h down i) (event t (In (Some (length down)) i) ∷ (f.events ++ tail)) y) there (next T t (In (Some (length down)) i) (f.events ++ tail) y)
-            (first T U t (entering prog (T t) i) s f.events tail y (f.runs (later tail y)))
+            (first T U t (prog.entry i) s f.events tail y (f.runs (later tail y)))
             (next U t (Done (Some (length down)) s) last y) (subst IsQuit (sym so) q) (next U p (Back h (Replied (carried (gone (depth_of (T p)) U p) h p down s))) [] y));
       }
   follows calls (unreached {T} {V} {o} {o1} {o2} {z} {p} {h} {down} {i} {lost} {k} {r} a e there s1 s2 t) =
@@ -292,26 +292,34 @@ module _ {O I S : Type 0} (step : Tree O → S → Wait → Event O → S → Ty
         chain = λ cs. replied step s p e (Replied r) (gone_from s T p) own j none;
         runs = λ y. Derives.answered_passed _ p s k r (ahead T [] y) q e own (next T p (Back (height_of s) (Replied r)) [] y);
       }
-  follows calls (entered {T} {U} {V} {o} {o1} {o2} {o3} {z} {p} {s} {k} {y = j} {r} t i e s1 m s2 calm n) =
-      let f = follows (fit (entering prog (T t) i) (entering_calls prog (T t) i)) m in
+  follows calls (entered {T = T} {U = U} {p = p} {s = s} {k = k} {y = j} t i e here s1 m s2 calm n) =
+      let f = follows (fit (prog.entry i) (prog.entries_call i)) m in
       let g = follows calls n in
       let tail : List (Event O) = event t (Done None j) ∷ g.events in
       record {
         events = event t (In None i) ∷ (f.events ++ tail);
-        chain = λ cs. more s1 (chain-append step (called_on step (entering prog (T t) i) (entering_calls prog (T t) i) (f.chain (pending s cs))) (more s2 (g.chain cs)));
-        runs = λ y. Derives.entered _ p s k t i (ahead T (f.events ++ tail) y) (ahead U tail y) (ahead U g.events y) _ j _ e
-            (next T t (In None i) (f.events ++ tail) y) (first T U t (entering prog (T t) i) j f.events tail y (f.runs (later tail y))) (next U t (Done None j) g.events y) calm (g.runs y);
+        chain = λ cs. more s1 (chain-append step (called_on step (prog.entry i) (prog.entries_call i) (f.chain (pending s cs))) (more s2 (g.chain cs)));
+        runs = λ y. Derives.entered _ p s k t i (ahead T (f.events ++ tail) y) (ahead U tail y) (ahead U g.events y) _ j _ e here
+            (next T t (In None i) (f.events ++ tail) y) (first T U t (prog.entry i) j f.events tail y (f.runs (later tail y))) (next U t (Done None j) g.events y) calm (g.runs y);
       }
-  follows calls (entered_exiting {T} {U} {o} {o1} {o2} {o3} {o4} {p} {c} {k} {n} t i e s1 m s2 s3) =
-      let f = follows (fit (entering prog (T t) i) (entering_calls prog (T t) i)) m in
+  follows calls (entered_exiting {T = T} {U = U} {p = p} {c = c} {k = k} {n = n} t i e here s1 m s2 s3) =
+      let f = follows (fit (prog.entry i) (prog.entries_call i)) m in
       let last : List (Event O) = event p (Back c.0 (Replied (Exit n))) ∷ [] in
       let tail : List (Event O) = event t (Done None (Exit n)) ∷ last in
       record {
         events = event t (In None i) ∷ (f.events ++ tail);
-        chain = λ cs. more s1 (chain-append step (called_on step (entering prog (T t) i) (entering_calls prog (T t) i) (f.chain (c ∷ cs))) (more s2 (comes_back step e s3 none)));
-        runs = λ y. Derives.entered_exiting _ p (Some c) k t i (ahead T (f.events ++ tail) y) (ahead U tail y) (ahead U last y) (ahead U [] y) n (Some (Exit n)) e
-            (next T t (In None i) (f.events ++ tail) y) (first T U t (entering prog (T t) i) (Exit n) f.events tail y (f.runs (later tail y))) (next U t (Done None (Exit n)) last y)
+        chain = λ cs. more s1 (chain-append step (called_on step (prog.entry i) (prog.entries_call i) (f.chain (c ∷ cs))) (more s2 (comes_back step e s3 none)));
+        runs = λ y. Derives.entered_exiting _ p (Some c) k t i (ahead T (f.events ++ tail) y) (ahead U tail y) (ahead U last y) (ahead U [] y) n (Some (Exit n)) e here
+            (next T t (In None i) (f.events ++ tail) y) (first T U t (prog.entry i) (Exit n) f.events tail y (f.runs (later tail y))) (next U t (Done None (Exit n)) last y)
             (exit_answer (ahead U last y) p (Some c) n (ahead U [] y) e (is_exit_self n) (next U p (Back c.0 (Replied (Exit n))) [] y));
+      }
+
+  follows calls (unfound {T = T} {p = p} {s = s} {k = k} t i e here j n) =
+      let g = follows calls n in
+      record {
+        events = event [] (Unfound t i (prog.lost t)) ∷ g.events;
+        chain = λ cs. more j (g.chain cs);
+        runs = λ y. Derives.unfound _ p s k t i (ahead T g.events y) _ _ e here (next T [] (Unfound t i (prog.lost t)) g.events y) (g.runs y);
       }
 
   pub makes : {T V : Tree O} {o z : S} {p : Place} {x : Prog O I} {r : Reply} → Fits x → Executes step prog T o p x V z r → Makes step prog T o p x V z r

@@ -10,14 +10,14 @@ use Rattle.tcl_core.specs.Trees.{Grants, Tree, Node, What, Move}
 use Rattle.tcl_core.specs.Trees.Grant.{Allow, Deny}
 use Rattle.tcl_core.specs.Trees.Grants.{Listed, Budget}
 use Rattle.tcl_core.specs.Trees.Move.{Born, Fall, Enter, Come}
-use Rattle.tcl_core.specs.Trees.What.{Seen, Charged, Refused, Nested, Limited, DepthLimited, Made, Dropped, Out, In, Done, Back}
+use Rattle.tcl_core.specs.Trees.What.{Seen, Charged, Refused, Nested, Limited, DepthLimited, Made, Dropped, Out, In, Done, Back, Unfound}
 use Rattle.tcl_core.specs.Programs.{Act, Wrap, Deed, Wait, Prog, Table, spot, decide, opens, closes, changing, making, dropping, metered, by_limit, blocked, is_spent, is_deep}
 use Rattle.tcl_core.specs.Programs.Next.{On, Off}
 use Rattle.tcl_core.specs.Programs.Act.{Look, Change, Charge, Limit, LimitDepth, Make, Drop}
 use Rattle.tcl_core.specs.Programs.Wrap.{Deeper, Framed}
 use Rattle.tcl_core.specs.Runs.{World, Step, Ending, Exits, Exiting, Halts, Runs, ends_call, height_of}
 use Rattle.tcl_core.specs.Rules.{Derives}
-use Rattle.tcl_core.specs.Rules.Derives.{completed, exited, acted, refused, unheard, went, passed, halted, wrapped, wrapped_passed, wrapped_halted, too_deep, shut, unheard_inside, called, called_passed, called_halted, unreached, called_out, unanswered, unfit, answered, heard, answered_passed, entered, entered_halted, entered_exiting, born, fallen}
+use Rattle.tcl_core.specs.Rules.Derives.{completed, exited, acted, refused, unheard, went, passed, halted, wrapped, wrapped_passed, wrapped_halted, too_deep, shut, unheard_inside, called, called_passed, called_halted, unreached, called_out, unanswered, unfit, answered, heard, answered_passed, entered, entered_halted, entered_exiting, born, fallen, unfound}
 use Rattle.tcl_core.specs.Views.{IsFree, IsDue}
 use Rattle.tcl_core.proofs.PathLaws.{not_both, Some-inj}
 use Rattle.tcl_core.proofs.RuleLaws.{runs_derived}
@@ -121,13 +121,14 @@ module _ {O I : Type 0} (P : World O → Type 0) (t : KeepsSteps P) (prog : Tabl
   derived_keep (answered w p s k c u v e f g z a) b = derived_keep a (t w p (Back (height_of s) (Replied (Completed c))) u tt z b)
   derived_keep (heard w p s k y u v e f g z a) b = derived_keep a (t w p (Back (height_of s) (Heard y)) u tt z b)
   derived_keep (answered_passed w p s k r u q f g z) b = t w p (Back (height_of s) (Replied r)) u tt z b
-  derived_keep (entered w p s k y i inner left told v r e f s1 a s2 n d) b =
+  derived_keep (entered w p s k y i inner left told v r e f here s1 a s2 n d) b =
       derived_keep d (t left y (Done None r) told tt s2 (derived_keep a (t w y (In None i) inner tt s1 b)))
-  derived_keep (entered_halted w p s k y i inner left f s1 a) b = derived_keep a (t w y (In None i) inner tt s1 b)
-  derived_keep (entered_exiting w p s k y i inner left told v n e f s1 a s2 d) b =
+  derived_keep (entered_halted w p s k y i inner left f here s1 a) b = derived_keep a (t w y (In None i) inner tt s1 b)
+  derived_keep (entered_exiting w p s k y i inner left told v n e f here s1 a s2 d) b =
       exits_keep P t told p s n told.moves v e d (t left y (Done None (Exit n)) told tt s2 (derived_keep a (t w y (In None i) inner tt s1 b)))
   derived_keep (born w p s k o l u v e f z a) b = derived_keep a (t w [] (Made o l) u tt z b)
   derived_keep (fallen w p s k u v e f z a) b = derived_keep a (t w [] Dropped u tt z b)
+  derived_keep (unfound w p s k y i u v e f here z a) b = derived_keep a (t w [] (Unfound y i (prog.lost y)) u tt z b)
 
   pub runs_keep : (w : World O) (p : Place) (x : Prog O I) (v : World O) (e : Ending) → Runs prog w p x v e → P w → P v
   runs_keep w p x v e a b = derived_keep (runs_derived prog w p x v e a) b

@@ -12,12 +12,12 @@ use Rattle.tcl_core.specs.Trees.Grants.{Listed, Budget}
 use Rattle.tcl_core.specs.Programs.Act.{Look, Change, Charge, Limit, LimitDepth, Make, Drop}
 use Rattle.tcl_core.specs.Programs.Wrap.{Deeper, Framed}
 use Rattle.tcl_core.proofs.PathLaws.{not_both}
-use Rattle.tcl_core.specs.Trees.What.{Charged, Nested, Refused, Made, Dropped, Out, In, Done, Back}
+use Rattle.tcl_core.specs.Trees.What.{Charged, Nested, Refused, Made, Dropped, Out, In, Done, Back, Unfound}
 use Rattle.tcl_core.specs.Trees.Move.{Born, Fall, Enter, Come}
 use Rattle.tcl_core.specs.Programs.{Act, Deed, spot, Wrap, Wait, Next, Prog, Table, decide, opens, closes, metered, blocked, is_spent, is_deep}
 use Rattle.tcl_core.specs.Programs.Next.{On, TooDeep, Off}
 use Rattle.tcl_core.specs.Programs.Prog.{done, exit, act, go, inside, call, wait}
-use Rattle.tcl_core.specs.Runs.{World, Step, Ending, Run, Halts, Follows, Then, Closes, Acted, Acts, Opened, Opens, Hears, Answered, Leaves, Visits, Returns, Reaches, Calls, Exiting, Exits, Stays, Moves, Fitting, Waits, Unrolled, RunsIn, Runs, carried, reached, entering, fits, ends_call, height_of, gone}
+use Rattle.tcl_core.specs.Runs.{World, Step, Ending, Run, Halts, Follows, Then, Closes, Acted, Acts, Opened, Opens, Hears, Answered, Leaves, Visits, Returns, Reaches, Calls, Exiting, Exits, Stays, Moves, Fitting, Waits, Unrolled, RunsIn, Runs, carried, reached, fits, ends_call, height_of, gone, Enters}
 use Rattle.tcl_core.specs.Views.{moves_of, steps_of}
 use Rattle.tcl_core.proofs.Folding.{unroll}
 use Rattle.tcl_core.specs.Laws.{AtMove}
@@ -279,7 +279,7 @@ module _ {O : Type 0} (k : ℕ) (b0 y0 : List (Move O)) where
 
       visits_meet : (w : World O) (a0 : List (Move O)) (τ : List (Event O)) (m0 : Has w a0) (g : Height) (t : Place) (i : Entry) (a1 : List (Move O)) → a0 ≡ asked t (In g i) a1 → (v : World O) (e : Ending) (y : World O) (o : Ending) → Visits prog R w g t i v e → Visits prog S (lent w a0 τ) g t i y o → Alike w a0 τ v e y o
       visits_meet w a0 τ m0 g t i a1 q v e y o a b =
-          let inner : Alike w a0 τ a.left e b.left o = step_goes_on w a0 τ m0 t t (In g i) a1 q a.entered b.entered (entering prog (w.tree t) i) a.left e b.left o a.entry b.entry a.run b.run in
+          let inner : Alike w a0 τ a.left e b.left o = step_goes_on w a0 τ m0 t t (In g i) a1 q a.entered b.entered (prog.entry i) a.left e b.left o a.entry b.entry a.run b.run in
           after_run w a0 τ a.left e b.left o inner v e y o (λ n.
           let out : Leaves (lent a.left n.left n.rest) g t e y = subst (λ l. Leaves (lent a.left n.left n.rest) g t l y) n.ending (subst (λ l. Leaves l g t o y) n.world b.leaving) in
           subst (λ l. Alike a.left n.left n.rest v e y l) (sym n.ending) (leaves_meet a.left n.left n.rest n.moves g t e v y a.leaving out))
@@ -313,11 +313,15 @@ module _ {O : Type 0} (k : ℕ) (b0 y0 : List (Move O)) where
           by (Fall ∷ ms) x = halt x
           by (Enter u i ∷ ms) x = halt x
 
+      enters_at : (Q : Run O I) (w : World O) (p : Place) (s : Wait) (f : Said → Prog O I) (t : Path) (i : Entry) (n : Option (Node O)) (v : World O) (e : Ending) → Enters prog Q w p s f t i n v e → AtMove w.tape
+      enters_at Q w p s f t i None v e (u, a, b) = reads_at w u [] (Unfound t i (prog.lost t)) a (λ ms. (Enter t i, refl))
+      enters_at Q w p s f t i (Some n) v e (u, m, a, b) = reads_at w a.entered t (In None i) a.entry (λ ms. (Enter t i, refl))
+
       moves_at : (Q : Run O I) (w : World O) (p : Place) (s : Wait) (f : Said → Prog O I) (m : Move O) (v : World O) (e : Ending) → rise_to (height_of s) p ≡ None → Moves prog Q w p s f m v e → AtMove w.tape
       moves_at Q w p s f (Come a) v e g (u, t, b) = reads_at w u p (Back (height_of s) a) t (λ ms. (Come a, sym (back_reads prog p (height_of s) a g ms)))
       moves_at Q w p s f (Born x l) v e g (u, t, b) = reads_at w u [] (Made x l) t (λ ms. (Born x l, refl))
       moves_at Q w p s f Fall v e g (u, t, b) = reads_at w u [] Dropped t (λ ms. (Fall, refl))
-      moves_at Q w p s f (Enter t i) v e g (u, m, a, b) = reads_at w a.entered t (In None i) a.entry (λ ms. (Enter t i, refl))
+      moves_at Q w p s f (Enter t i) v e g a = enters_at Q w p s f t i (w.tree t) v e a
 
       fitting_at : (Q : Run O I) (w : World O) (p : Place) (s : Wait) (f : Said → Prog O I) (l : Bool) (m : Move O) (v : World O) (e : Ending) → rise_to (height_of s) p ≡ None → Fitting prog Q w p s f l m v e → AtMove w.tape
       fitting_at Q w p s f false m v e g a = subst AtMove (sym a.tape) tt
@@ -348,14 +352,18 @@ module _ {O : Type 0} (k : ℕ) (b0 y0 : List (Move O)) where
       stays_meet w a0 τ m0 p s f g (Some (Stop n m)) v e y o a b = det w a0 τ m0 p (wait s f) v e y o a b
       stays_meet w a0 τ m0 p s f g (Some (Cut c)) v e y o a b = det w a0 τ m0 p (wait s f) v e y o a b
 
+      enters_meet : (w : World O) (a0 : List (Move O)) (τ : List (Event O)) (m0 : Has w a0) (p : Place) (s : Wait) (f : Said → Prog O I) → rise_to (height_of s) p ≡ None → (t : Path) (i : Entry) (x : Option (Node O)) (a1 : List (Move O)) → a0 ≡ Enter t i ∷ a1 → (v : World O) (e : Ending) (y : World O) (o : Ending) → Enters prog R w p s f t i x v e → Enters prog S (lent w a0 τ) p s f t i x y o → Alike w a0 τ v e y o
+      enters_meet w a0 τ m0 p s f g t i None a1 q v e y o (u, t2, a) (z, t3, b) = step_goes_on w a0 τ m0 p [] (Unfound t i (prog.lost t)) a1 q u z (wait s f) v e y o t2 t3 a b
+      enters_meet w a0 τ m0 p s f g t i (Some x) a1 q v e y o (u, m, a, a2) (z, n, b, b2) =
+          let vis : Alike w a0 τ u m z n = visits_meet w a0 τ m0 None t i a1 q u m z n a b in
+          after_run w a0 τ u m z n vis v e y o (λ d. stays_meet u d.left d.rest d.moves p s f g m v e y o a2
+          (subst (λ l. Stays S (lent u d.left d.rest) p s f l y o) d.ending (subst (λ l. Stays S l p s f n y o) d.world b2)))
+
       moves_meet : (w : World O) (a0 : List (Move O)) (τ : List (Event O)) (m0 : Has w a0) (p : Place) (s : Wait) (f : Said → Prog O I) → rise_to (height_of s) p ≡ None → (m : Move O) (a1 : List (Move O)) → a0 ≡ m ∷ a1 → (v : World O) (e : Ending) (y : World O) (o : Ending) → Moves prog R w p s f m v e → Moves prog S (lent w a0 τ) p s f m y o → Alike w a0 τ v e y o
       moves_meet w a0 τ m0 p s f g (Come a) a1 q v e y o b c = answered_meet w a0 τ m0 p (height_of s) f a a1 (q ∙ back_reads prog p (height_of s) a g a1) v e y o b c
       moves_meet w a0 τ m0 p s f g (Born x l) a1 q v e y o (u, t, a) (z, t2, b) = step_goes_on w a0 τ m0 p [] (Made x l) a1 q u z (wait s f) v e y o t t2 a b
       moves_meet w a0 τ m0 p s f g Fall a1 q v e y o (u, t, a) (z, t2, b) = step_goes_on w a0 τ m0 p [] Dropped a1 q u z (wait s f) v e y o t t2 a b
-      moves_meet w a0 τ m0 p s f g (Enter t i) a1 q v e y o (u, m, a, a2) (z, n, b, b2) =
-          let vis : Alike w a0 τ u m z n = visits_meet w a0 τ m0 None t i a1 q u m z n a b in
-          after_run w a0 τ u m z n vis v e y o (λ d. stays_meet u d.left d.rest d.moves p s f g m v e y o a2
-          (subst (λ l. Stays S (lent u d.left d.rest) p s f l y o) d.ending (subst (λ l. Stays S l p s f n y o) d.world b2)))
+      moves_meet w a0 τ m0 p s f g (Enter t i) a1 q v e y o a b = enters_meet w a0 τ m0 p s f g t i (w.tree t) a1 q v e y o a b
 
       fitting_meet : (w : World O) (a0 : List (Move O)) (τ : List (Event O)) (m0 : Has w a0) (p : Place) (s : Wait) (f : Said → Prog O I) → rise_to (height_of s) p ≡ None → (l : Bool) (m : Move O) (a1 : List (Move O)) → a0 ≡ m ∷ a1 → (v : World O) (e : Ending) (y : World O) (o : Ending) → Fitting prog R w p s f l m v e → Fitting prog S (lent w a0 τ) p s f l m y o → Alike w a0 τ v e y o
       fitting_meet w a0 τ m0 p s f g false m a1 q v e y o a b = both_halt w a0 τ m0 v e y o a b

@@ -8,7 +8,7 @@ use Rattle.tcl_core.specs.Endings.Cause.{Above, Over}
 use Rattle.tcl_core.specs.Trees.{Grants, Tree, Node, What}
 use Rattle.tcl_core.specs.Trees.Grant.{Allow, Deny}
 use Rattle.tcl_core.specs.Trees.Grants.{Listed, Budget}
-use Rattle.tcl_core.specs.Trees.What.{Seen, Charged, Refused, Nested, Limited, DepthLimited, Out, In, Done, Back}
+use Rattle.tcl_core.specs.Trees.What.{Seen, Charged, Refused, Nested, Limited, DepthLimited, Out, In, Done, Back, Unfound}
 use Rattle.tcl_core.specs.Programs.{Act, Wrap, Deed, decide, opens, closes, changing, making, dropping, metered, by_limit, blocked, is_spent, is_deep}
 use Rattle.tcl_core.specs.Programs.Next.{On, Off}
 use Rattle.tcl_core.specs.Programs.Act.{Look, Change, Charge, Limit, LimitDepth, Make, Drop}
@@ -22,6 +22,7 @@ module _ {O : Type 0} where
   IsPlain (Back h a) = Prim.⊥
   IsPlain (In h i) = Prim.⊥
   IsPlain (Done h r) = Prim.⊥
+  IsPlain (Unfound t i c) = Prim.⊥
   IsPlain _ = Unit {0}
 
   plain_of : (y x : Deed O) → IsPlain y.1 → Some y ≡ Some x → IsPlain x.1

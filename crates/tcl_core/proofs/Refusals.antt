@@ -8,7 +8,7 @@ use Rattle.tcl_core.specs.Entries.Answer.{Replied}
 use Rattle.tcl_core.specs.Trees.{Grants, Tree, Node, What, Event, Move, depth_of}
 use Rattle.tcl_core.specs.Trees.Grant.{Allow, Deny}
 use Rattle.tcl_core.specs.Trees.Grants.{Listed, Budget}
-use Rattle.tcl_core.specs.Trees.What.{Seen, Charged, Nested, Limited, DepthLimited, Refused, Out, Done, Back}
+use Rattle.tcl_core.specs.Trees.What.{Seen, Charged, Nested, Limited, DepthLimited, Refused, Out, Done, Back, Unfound}
 use Rattle.tcl_core.specs.Trees.Move.{Born, Fall, Enter, Come}
 use Rattle.tcl_core.specs.Programs.{Deed, spot, Act, Wrap, Wait, Next, Prog, Table, decide, opens, closes, changing, making, dropping, metered, by_limit, blocked, is_spent, is_deep}
 use Rattle.tcl_core.specs.Programs.Act.{Look, Change, Charge, Limit, LimitDepth, Make, Drop}
@@ -17,7 +17,7 @@ use Rattle.tcl_core.specs.Programs.Next.{On, TooDeep, Off}
 use Rattle.tcl_core.specs.Programs.Wrap.{Deeper, Framed}
 use Rattle.tcl_core.specs.Runs.{World, Step, Ending, Halts, Exits, Exiting, carried, reached, ends_call, height_of, gone}
 use Rattle.tcl_core.specs.Rules.{Derives, IsOn}
-use Rattle.tcl_core.specs.Rules.Derives.{completed, exited, acted, refused, unheard, went, passed, halted, wrapped, wrapped_passed, wrapped_halted, too_deep, shut, unheard_inside, called, called_passed, called_halted, unreached, called_out, unanswered, unfit, answered, heard, answered_passed, entered, entered_halted, entered_exiting, born, fallen}
+use Rattle.tcl_core.specs.Rules.Derives.{completed, exited, acted, refused, unheard, went, passed, halted, wrapped, wrapped_passed, wrapped_halted, too_deep, shut, unheard_inside, called, called_passed, called_halted, unreached, called_out, unanswered, unfit, answered, heard, answered_passed, entered, entered_halted, entered_exiting, born, fallen, unfound}
 use Rattle.tcl_core.specs.Lives.{outs_of, put, told}
 use Rattle.tcl_core.specs.Laws.{Unended, IsUnended}
 use Rattle.tcl_core.proofs.PathLaws.{not_both, Some-inj, rise_back}
@@ -125,6 +125,7 @@ module _ {O : Type 0} where
   hush p (Done h (Cut c)) t = where_out (rise_to h p) (Unit {0}) t
   hush p (Done h r) t = where_out (rise_to h p) Prim.⊥ t
   hush p (Out h down i) t = where_out (rise_to h p) Prim.⊥ t
+  hush p (Unfound t2 i c) t = Prim.⊥
   hush p x t = t
 
   -- nothing is told to the outside but that an entry is cut off
@@ -243,12 +244,13 @@ module _ {O I : Type 0} (prog : Table O I) where
   shutting (answered w p s k y u v e g j t a) d h = quiet w p _ u t (λ z. absurd z) (shutting a d h)
   shutting (heard w p s k y u v e g j t a) d h = quiet w p _ u t (λ z. absurd z) (shutting a d h)
   shutting (answered_passed w p s k r u q g j t) d h = quiet w p _ u t (λ z. absurd z) h
-  shutting (entered w p s k t i inner left told v r e g s1 a s2 n b) d h =
+  shutting (entered w p s k t i inner left told v r e g here s1 a s2 n b) d h =
       quiet w t _ inner s1 (λ z. absurd z) (shutting a (cut_entry left t r told s2) (quiet left t _ told s2 (λ z. absurd z) (shutting b d h)))
-  shutting (entered_halted w p s k t i inner left g s1 a) d h = quiet w t _ inner s1 (λ z. absurd z) (shutting a (none_demand left) h)
-  shutting (entered_exiting w p s k t i inner left told v n e g s1 a s2 b) d h =
+  shutting (entered_halted w p s k t i inner left g here s1 a) d h = quiet w t _ inner s1 (λ z. absurd z) (shutting a (none_demand left) h)
+  shutting (entered_exiting w p s k t i inner left told v n e g here s1 a s2 b) d h =
       quiet w t _ inner s1 (λ z. absurd z) (shutting a (exit_demand n left) (quiet left t _ told s2 (λ z. absurd z) (exits_shut told p s n told.moves v e b h)))
   shutting (born w p s k o b u v e g t a) d h = quiet w [] _ u t (λ z. absurd z) (shutting a d h)
+  shutting (unfound w p s k t i u v e g here b a) d h = quiet w [] _ u b (λ z. absurd z) (shutting a d h)
   shutting (fallen w p s k u v e g t a) d h = quiet w [] _ u t (λ z. absurd z) (shutting a d h)
 
 module _ {O : Type 0} where
@@ -266,6 +268,7 @@ module _ {O : Type 0} where
   quiet_told p (Done h (Stop n m)) τ t f u g = put_in (rise_to h p) p (Done h (Stop n m)) τ t f g
   quiet_told p (Done h (Exit n)) τ t f u g = put_in (rise_to h p) p (Done h (Exit n)) τ t f g
   quiet_told p (Done h (Cut c)) τ t f u g = cut_in (rise_to h p) p (Done h (Cut c)) τ t u f g
+  quiet_told p (Unfound t2 i c) τ t f u g = absurd f
   quiet_told p x τ t f u g = g f
 
   -- where nothing is ended from outside, nothing is told

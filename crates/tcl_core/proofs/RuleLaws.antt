@@ -1,21 +1,22 @@
 -- The rules say what `Runs` says.
+use Rattle.tcl_core.proofs.TreeLaws.{reached_stands}
 use Rattle.std.proofs.Common.{◌≡◌, ℕ, zero, suc, Bool, true, false, List, [], ◌∷◌, Option, Some, None, refl, sym, ◌∙◌, ap, subst}
 use Rattle.tcl_core.specs.Paths.{Path, Place, Height, rise_to}
 use Rattle.tcl_core.specs.Endings.{Completion, Reply, IsQuit}
 use Rattle.tcl_core.specs.Endings.Reply.{Completed, Stop, Exit, Cut}
 use Rattle.tcl_core.specs.Entries.{Entry, Answer, Said}
 use Rattle.tcl_core.specs.Entries.Answer.{Replied, Heard}
-use Rattle.tcl_core.specs.Trees.{Tree, Move, at, depth_of}
+use Rattle.tcl_core.specs.Trees.{Tree, Move, at, depth_of, Node}
 use Rattle.tcl_core.specs.Trees.What.{Out}
 use Rattle.tcl_core.specs.Trees.Move.{Born, Fall, Enter, Come}
 use Rattle.tcl_core.specs.Programs.{Deed, spot, Act, Wrap, Wait, Next, Prog, Table, decide, opens}
 use Rattle.tcl_core.specs.Programs.Next.{On, TooDeep, Off}
 use Rattle.tcl_core.specs.Programs.Prog.{done, exit, act, go, inside, call, wait}
-use Rattle.tcl_core.specs.Runs.{World, Step, Ending, Run, Halts, Then, Closes, Acted, Acts, Opened, Opens, Hears, Answered, Visits, Reaches, Calls, Stays, Moves, Fitting, Waits, Unrolled, RunsIn, Runs, carried, reached, fits, height_of, gone}
+use Rattle.tcl_core.specs.Runs.{World, Step, Ending, Run, Halts, Then, Closes, Acted, Acts, Opened, Opens, Hears, Answered, Visits, Reaches, Calls, Stays, Moves, Fitting, Waits, Unrolled, RunsIn, Runs, carried, reached, fits, height_of, gone, Enters}
 use Rattle.tcl_core.specs.Rules.{Derives, IsOn, IsNoExit}
-use Rattle.tcl_core.specs.Rules.Derives.{completed, exited, acted, refused, unheard, went, passed, halted, wrapped, wrapped_passed, wrapped_halted, too_deep, shut, unheard_inside, called, called_passed, called_halted, unreached, called_out, unanswered, unfit, answered, heard, answered_passed, entered, entered_halted, entered_exiting, born, fallen}
+use Rattle.tcl_core.specs.Rules.Derives.{completed, exited, acted, refused, unheard, went, passed, halted, wrapped, wrapped_passed, wrapped_halted, too_deep, shut, unheard_inside, called, called_passed, called_halted, unreached, called_out, unanswered, unfit, answered, heard, answered_passed, entered, entered_halted, entered_exiting, born, fallen, unfound}
 use Rattle.tcl_core.proofs.Folding.{roll, Implies, unrolled_map}
-use Rattle.tcl_core.proofs.Subtrees.{wait_born, wait_fall, wait_halt, wait_answer, wait_enter, quits, hears_quit}
+use Rattle.tcl_core.proofs.Subtrees.{wait_born, wait_fall, wait_halt, wait_answer, wait_enter, quits, hears_quit, wait_unfound}
 
 module _ {O I : Type 0} (prog : Table O I) where
   calls_at : (w : World O) (p : Place) (h : Height) (down : Path) (i : Entry) (lost : Completion) (k : Said → Prog O I) (u : World O) (a : Option Place) (v : World O) (e : Ending) → rise_to h p ≡ a → Step w p (Out h down i) u → Calls prog (Runs prog) u p h down i lost k a v e → Runs prog w p (call h down i lost k) v e
@@ -69,18 +70,18 @@ module _ {O I : Type 0} (prog : Table O I) where
       reaches_at w p h down i lost k out a (Some t) v e f g s1 (
         told,
         Some r,
-        record { entered = inner; left = left; entry = s2; run = derived_runs x; leaving = s3 },
+        record { node = (reached_stands out.tree a down t g).0; stands = (reached_stands out.tree a down t g).1; entered = inner; left = left; entry = s2; run = derived_runs x; leaving = s3 },
         (back, s4, subst (λ l. Hears (Runs prog) back p k (Replied l) v e) (sym y) (derived_runs z)),
       )
   derived_runs (called_passed w p h down i lost k a t out inner left told back r f s1 g s2 x s3 q s4) =
       reaches_at w p h down i lost k out a (Some t) back (Some (carried (gone (depth_of (out.tree p)) told.tree p) h p down r)) f g s1 (
         told,
         Some r,
-        record { entered = inner; left = left; entry = s2; run = derived_runs x; leaving = s3 },
+        record { node = (reached_stands out.tree a down t g).0; stands = (reached_stands out.tree a down t g).1; entered = inner; left = left; entry = s2; run = derived_runs x; leaving = s3 },
         (back, s4, hears_quit prog back p k (carried (gone (depth_of (out.tree p)) told.tree p) h p down r) back (Some (carried (gone (depth_of (out.tree p)) told.tree p) h p down r)) q refl refl),
       )
   derived_runs (called_halted w p h down i lost k a t out inner left f s1 g s2 x) =
-      reaches_at w p h down i lost k out a (Some t) left None f g s1 (left, None, record { entered = inner; left = left; entry = s2; run = derived_runs x; leaving = refl }, (refl, refl))
+      reaches_at w p h down i lost k out a (Some t) left None f g s1 (left, None, record { node = (reached_stands out.tree a down t g).0; stands = (reached_stands out.tree a down t g).1; entered = inner; left = left; entry = s2; run = derived_runs x; leaving = refl }, (refl, refl))
   derived_runs (unreached w p h down i lost k a out back v e f s1 g s2 x) = reaches_at w p h down i lost k out a None v e f g s1 (back, s2, derived_runs x)
   derived_runs (called_out w p h down i lost k u v e f s a) = calls_at w p h down i lost k u None v e f s (derived_runs a)
   derived_runs (unanswered w p s k f m t) = wait_halt prog w p s k w None f m (record { tape = t; same = refl; ending = refl })
@@ -88,14 +89,15 @@ module _ {O I : Type 0} (prog : Table O I) where
   derived_runs (answered w p s k c u v e f g t a) = wait_answer prog w p s k (Replied (Completed c)) v e f g (u, t, derived_runs a)
   derived_runs (heard w p s k y u v e f g t a) = wait_answer prog w p s k (Heard y) v e f g (u, t, derived_runs a)
   derived_runs (answered_passed w p s k r u q f g t) = wait_answer prog w p s k (Replied r) u (Some r) f g (u, t, hears_quit prog u p k r u (Some r) q refl refl)
-  derived_runs (entered w p s k t i inner left told v r e f s1 a s2 n b) =
-      wait_enter prog w p s k t i told (Some r) v e f (record { entered = inner; left = left; entry = s1; run = derived_runs a; leaving = s2 }) (stays_on told p s k r v e n (derived_runs b))
-  derived_runs (entered_halted w p s k t i inner left f s1 a) =
-      wait_enter prog w p s k t i left None left None f (record { entered = inner; left = left; entry = s1; run = derived_runs a; leaving = refl }) (refl, refl)
-  derived_runs (entered_exiting w p s k t i inner left told v n e f s1 a s2 b) =
-      wait_enter prog w p s k t i told (Some (Exit n)) v e f (record { entered = inner; left = left; entry = s1; run = derived_runs a; leaving = s2 }) b
+  derived_runs (entered w p s k t i inner left told v r e f here s1 a s2 n b) =
+      wait_enter prog w p s k t i told (Some r) v e f (record { node = _; stands = here; entered = inner; left = left; entry = s1; run = derived_runs a; leaving = s2 }) (stays_on told p s k r v e n (derived_runs b))
+  derived_runs (entered_halted w p s k t i inner left f here s1 a) =
+      wait_enter prog w p s k t i left None left None f (record { node = _; stands = here; entered = inner; left = left; entry = s1; run = derived_runs a; leaving = refl }) (refl, refl)
+  derived_runs (entered_exiting w p s k t i inner left told v n e f here s1 a s2 b) =
+      wait_enter prog w p s k t i told (Some (Exit n)) v e f (record { node = _; stands = here; entered = inner; left = left; entry = s1; run = derived_runs a; leaving = s2 }) b
   derived_runs (born w p s k o b u v e f t a) = wait_born prog w p s k o b u v e f t (derived_runs a)
   derived_runs (fallen w p s k u v e f t a) = wait_fall prog w p s k u v e f t (derived_runs a)
+  derived_runs (unfound w p s k t i u v e f here b a) = wait_unfound prog w p s k t i u v e f here b (derived_runs a)
 
   -- the other way
   abbrev pub Ruled : Run O I
@@ -169,17 +171,21 @@ module _ {O I : Type 0} (prog : Table O I) where
 
   pub enter_rule : (w : World O) (p : Place) (s : Wait) (k : Said → Prog O I) (t : Path) (i : Entry) (u : World O) (o : Ending) (v : World O) (e : Ending) → rise_to (height_of s) p ≡ None → Visits prog Ruled w None t i u o → Stays Ruled u p s k o v e → Derives prog w p (wait s k) v e
   enter_rule w p s k t i u None v e f c b =
-      ended_at w u v p (wait s k) None e b.0 b.1 (subst (λ z. Derives prog w p (wait s k) z None) (sym c.leaving) (entered_halted w p s k t i c.entered c.left f c.entry c.run))
-  enter_rule w p s k t i u (Some (Exit n)) v e f c b = entered_exiting w p s k t i c.entered c.left u v n e f c.entry c.run c.leaving b
-  enter_rule w p s k t i u (Some (Completed x)) v e f c b = entered w p s k t i c.entered c.left u v (Completed x) e f c.entry c.run c.leaving tt b
-  enter_rule w p s k t i u (Some (Stop n m)) v e f c b = entered w p s k t i c.entered c.left u v (Stop n m) e f c.entry c.run c.leaving tt b
-  enter_rule w p s k t i u (Some (Cut x)) v e f c b = entered w p s k t i c.entered c.left u v (Cut x) e f c.entry c.run c.leaving tt b
+      ended_at w u v p (wait s k) None e b.0 b.1 (subst (λ z. Derives prog w p (wait s k) z None) (sym c.leaving) (entered_halted w p s k t i c.entered c.left f c.stands c.entry c.run))
+  enter_rule w p s k t i u (Some (Exit n)) v e f c b = entered_exiting w p s k t i c.entered c.left u v n e f c.stands c.entry c.run c.leaving b
+  enter_rule w p s k t i u (Some (Completed x)) v e f c b = entered w p s k t i c.entered c.left u v (Completed x) e f c.stands c.entry c.run c.leaving tt b
+  enter_rule w p s k t i u (Some (Stop n m)) v e f c b = entered w p s k t i c.entered c.left u v (Stop n m) e f c.stands c.entry c.run c.leaving tt b
+  enter_rule w p s k t i u (Some (Cut x)) v e f c b = entered w p s k t i c.entered c.left u v (Cut x) e f c.stands c.entry c.run c.leaving tt b
+
+  enters_rule : (w : World O) (p : Place) (s : Wait) (k : Said → Prog O I) (t : Path) (i : Entry) (n : Option (Node O)) (v : World O) (e : Ending) → rise_to (height_of s) p ≡ None → w.tree t ≡ n → Enters prog Ruled w p s k t i n v e → Derives prog w p (wait s k) v e
+  enters_rule w p s k t i None v e f g (u, a, b) = unfound w p s k t i u v e f g a b
+  enters_rule w p s k t i (Some n) v e f g (u, o, a, b) = enter_rule w p s k t i u o v e f a b
 
   move_rule : (w : World O) (p : Place) (s : Wait) (k : Said → Prog O I) (m : Move O) (v : World O) (e : Ending) → rise_to (height_of s) p ≡ None → fits w.tree p s m ≡ true → Moves prog Ruled w p s k m v e → Derives prog w p (wait s k) v e
   move_rule w p s k (Come a) v e f g x = answer_rule w p s k a v e f g x
   move_rule w p s k (Born o b) v e f g (u, t, a) = born w p s k o b u v e f t a
   move_rule w p s k Fall v e f g (u, t, a) = fallen w p s k u v e f t a
-  move_rule w p s k (Enter t i) v e f g (u, o, a, b) = enter_rule w p s k t i u o v e f a b
+  move_rule w p s k (Enter t i) v e f g a = enters_rule w p s k t i (w.tree t) v e f refl a
 
   fitting_rule : (w : World O) (p : Place) (s : Wait) (k : Said → Prog O I) (m : Move O) (ms : List (Move O)) (l : Bool) (v : World O) (e : Ending) → rise_to (height_of s) p ≡ None → w.moves ≡ m ∷ ms → fits w.tree p s m ≡ l → Fitting prog Ruled w p s k l m v e → Derives prog w p (wait s k) v e
   fitting_rule w p s k m ms false v e f g h a = halted_at w v p (wait s k) e a (unfit w p s k m ms f g h a.tape)

@@ -10,12 +10,12 @@ use Rattle.tcl_core.specs.Entries.Said.{Finished, Told}
 use Rattle.tcl_core.specs.Trees.{Tree, Grants, Grant, granted, denied, allowing, What, Event, Move, asked, at_top, where_none, at, depth_of, Node}
 use Rattle.tcl_core.specs.Trees.Grant.{Allow, Deny}
 use Rattle.tcl_core.specs.Trees.Grants.{Listed, Budget}
-use Rattle.tcl_core.specs.Trees.What.{Made, Dropped, Charged, Refused, Nested, Out, In, Done, Back}
+use Rattle.tcl_core.specs.Trees.What.{Made, Dropped, Charged, Refused, Nested, Out, In, Done, Back, Unfound}
 use Rattle.tcl_core.specs.Trees.Move.{Born, Fall, Enter, Come}
 use Rattle.tcl_core.specs.Programs.{Deed, spot, Wrap, Wait, Next, Prog, Table, decide, opens, closes}
 use Rattle.tcl_core.specs.Programs.Next.{On, TooDeep, Off}
 use Rattle.tcl_core.specs.Programs.Prog.{done, exit, act, go, inside, call, wait}
-use Rattle.tcl_core.specs.Runs.{World, Step, Ending, Run, Halts, Follows, Then, Closes, Acted, Acts, Opened, Opens, Hears, Answered, Leaves, Visits, Returns, Reaches, Calls, Exiting, Exits, Stays, Moves, Fitting, Waits, Unrolled, RunsIn, Runs, carried, reached, entering, fits, ends_call, height_of, gone}
+use Rattle.tcl_core.specs.Runs.{World, Step, Ending, Run, Halts, Follows, Then, Closes, Acted, Acts, Opened, Opens, Hears, Answered, Leaves, Visits, Returns, Reaches, Calls, Exiting, Exits, Stays, Moves, Fitting, Waits, Unrolled, RunsIn, Runs, carried, reached, fits, ends_call, height_of, gone, Enters}
 use Rattle.tcl_core.specs.Laws.{retape, Agrees}
 use Rattle.tcl_core.proofs.Folding.{unroll}
 use Rattle.tcl_core.specs.Endings.Kind.{Full}
@@ -29,11 +29,15 @@ module _ {O : Type 0} where
   where_none-inj None m a b e = cc
   where_none-inj (Some z) m a b e = e
 
+  enter-inj : (t : Path) (i : Entry) (a b : List (Move O)) → Enter t i ∷ a ≡ Enter t i ∷ b → a ≡ b
+  enter-inj t i a b e = cc
+
   pub asked-inj : (p : Place) (x : What O) (a b : List (Move O)) → asked p x a ≡ asked p x b → a ≡ b
   asked-inj p (In h i) a b e = where_none-inj (rise_to h p) (Enter p i) a b e
   asked-inj p (Back h r) a b e = where_none-inj (rise_to h p) (Come r) a b e
   asked-inj p (Made o s) a b e = at_top-inj p (Born o s) a b e
   asked-inj p Dropped a b e = at_top-inj p Fall a b e
+  asked-inj p (Unfound t i c) a b e = enter-inj t i a b e
   asked-inj p _ a b e = e
 
 listed-inj : (a b : List Grant) (g : Grant) → Listed (g ∷ a) ≡ Listed (g ∷ b) → Listed a ≡ Listed b
@@ -167,7 +171,7 @@ module _ {O I : Type 0} where
 
     pub visits_same : (w : World O) (τ : List (Event O)) (g : Height) (t : Place) (i : Entry) (v : World O) (e : Ending) (y : World O) (o : Ending) → Visits prog R w g t i v e → Visits prog S (retape w τ) g t i y o → Agrees w τ v e y o
     visits_same w τ g t i v e y o a b =
-        let inner : Agrees w τ a.left e b.left o = step_goes_on w τ t t (In g i) a.entered b.entered (entering prog (w.tree t) i) a.left e b.left o a.entry b.entry a.run b.run in
+        let inner : Agrees w τ a.left e b.left o = step_goes_on w τ t t (In g i) a.entered b.entered (prog.entry i) a.left e b.left o a.entry b.entry a.run b.run in
         let out : Leaves (retape a.left inner.rest) g t e y = subst (λ l. Leaves (retape a.left inner.rest) g t l y) inner.ending (subst (λ l. Leaves l g t o y) inner.world b.leaving) in
         let whole : Agrees w τ v e y e = after_run w τ a.left e b.left o inner v e y e (leaves_same a.left inner.rest g t e v y a.leaving out) in
         subst (λ l. Agrees w τ v e y l) (sym inner.ending) whole
@@ -201,14 +205,18 @@ module _ {O I : Type 0} where
     stays_same w τ p s k (Some (Stop n m)) v e y o a b = det w τ p (wait s k) v e y o a b
     stays_same w τ p s k (Some (Cut c)) v e y o a b = det w τ p (wait s k) v e y o a b
 
+    enters_same : (w : World O) (τ : List (Event O)) (p : Place) (s : Wait) (k : Said → Prog O I) (t : Path) (i : Entry) (n : Option (Node O)) (v : World O) (e : Ending) (y : World O) (o : Ending) → Enters prog R w p s k t i n v e → Enters prog S (retape w τ) p s k t i n y o → Agrees w τ v e y o
+    enters_same w τ p s k t i None v e y o (u, a, b) (z, a2, b2) = step_goes_on w τ p [] (Unfound t i (prog.lost t)) u z (wait s k) v e y o a a2 b b2
+    enters_same w τ p s k t i (Some x) v e y o (u, m, a, a2) (z, n, b, b2) =
+        let vis : Agrees w τ u m z n = visits_same w τ None t i u m z n a b in
+        after_run w τ u m z n vis v e y o (stays_same u vis.rest p s k m v e y o a2
+        (subst (λ l. Stays S (retape u vis.rest) p s k l y o) vis.ending (subst (λ l. Stays S l p s k n y o) vis.world b2)))
+
     moves_same : (w : World O) (τ : List (Event O)) (p : Place) (s : Wait) (k : Said → Prog O I) (m : Move O) (v : World O) (e : Ending) (y : World O) (o : Ending) → Moves prog R w p s k m v e → Moves prog S (retape w τ) p s k m y o → Agrees w τ v e y o
     moves_same w τ p s k (Come a) v e y o b c = answered_same w τ p (height_of s) k a v e y o b c
     moves_same w τ p s k (Born x l) v e y o (u, t, a) (z, t2, b) = step_goes_on w τ p [] (Made x l) u z (wait s k) v e y o t t2 a b
     moves_same w τ p s k Fall v e y o (u, t, a) (z, t2, b) = step_goes_on w τ p [] Dropped u z (wait s k) v e y o t t2 a b
-    moves_same w τ p s k (Enter t i) v e y o (u, m, a, a2) (z, n, b, b2) =
-        let vis : Agrees w τ u m z n = visits_same w τ None t i u m z n a b in
-        after_run w τ u m z n vis v e y o (stays_same u vis.rest p s k m v e y o a2
-        (subst (λ l. Stays S (retape u vis.rest) p s k l y o) vis.ending (subst (λ l. Stays S l p s k n y o) vis.world b2)))
+    moves_same w τ p s k (Enter t i) v e y o a b = enters_same w τ p s k t i (w.tree t) v e y o a b
 
     fitting_same : (w : World O) (τ : List (Event O)) (p : Place) (s : Wait) (k : Said → Prog O I) (l : Bool) (m : Move O) (v : World O) (e : Ending) (y : World O) (o : Ending) → Fitting prog R w p s k l m v e → Fitting prog S (retape w τ) p s k l m y o → Agrees w τ v e y o
     fitting_same w τ p s k false m v e y o a b = both_halt w τ v e y o a b

@@ -11,13 +11,13 @@ use Rattle.tcl_core.specs.Entries.Answer.{Replied, Heard}
 use Rattle.tcl_core.specs.Entries.Said.{Finished, Told}
 use Rattle.tcl_core.specs.Trees.{Tree, Node, Grants, Grant, granted, at, What, Move, where_none, seen_reply, seen_answer, seen_what, stopped, depth_of}
 use Rattle.tcl_core.specs.Trees.Grants.{Listed}
-use Rattle.tcl_core.specs.Trees.What.{Made, Dropped, Out, In, Done, Back}
+use Rattle.tcl_core.specs.Trees.What.{Made, Dropped, Out, In, Done, Back, Unfound}
 use Rattle.tcl_core.specs.Trees.Move.{Born, Fall, Enter, Come}
 use Rattle.tcl_core.specs.Programs.{Deed, spot, Act, Wrap, Wait, Next, Prog, Table, decide, opens, closes, brought_back}
 use Rattle.tcl_core.specs.Programs.Next.{On, TooDeep, Off}
 use Rattle.tcl_core.specs.Programs.Wrap.{Deeper, Framed}
 use Rattle.tcl_core.specs.Programs.Prog.{done, exit, act, go, inside, call, wait}
-use Rattle.tcl_core.specs.Runs.{World, Step, Ending, Run, Halts, Follows, Then, Closes, Acted, Acts, Opened, Opens, Hears, Answered, Leaves, Visits, Returns, Reaches, Calls, Exiting, Exits, Stays, Moves, Fitting, Waits, Unrolled, RunsIn, Runs, carried, where_stands, entering, fits, answers_call, ends_call, height_of, gone, gone_from, is_told, carried_by, gone_by, levels, idle_up}
+use Rattle.tcl_core.specs.Runs.{World, Step, Ending, Run, Halts, Follows, Then, Closes, Acted, Acts, Opened, Opens, Hears, Answered, Leaves, Visits, Returns, Reaches, Calls, Exiting, Exits, Stays, Moves, Fitting, Waits, Unrolled, RunsIn, Runs, carried, where_stands, fits, answers_call, ends_call, height_of, gone, gone_from, is_told, carried_by, gone_by, levels, idle_up, Enters}
 use Rattle.tcl_core.specs.Views.{grants_of, moves_of, view, inside_of}
 use Rattle.tcl_core.proofs.PathLaws.{child_in, not_both, Some-inj, strip-sound, rise_to_within, rise_to_out, rise_to_elsewhere, rise_to_past, rise_into, seen_out, seen_near}
 use Rattle.tcl_core.proofs.TreeLaws.{seen_next, listed, decide_none, opens_none, decide_within, opens_within, closes_seen, step_within, step_apart, step_fall, spot_within, IsBeside, IsLife, elsewhere_life, opens_here}
@@ -90,7 +90,10 @@ module _ {O I : Type 0} where
       fitted prog w q s k (Come a) u.moves v e f (t.moves ∙ ap (λ o. where_none o (Come a) u.moves) f) g (u, t, b)
 
   pub wait_enter : (prog : Table O I) (w : World O) (q : Place) (s : Wait) (k : Said → Prog O I) (t : Place) (i : Entry) (u : World O) (o : Ending) (v : World O) (e : Ending) → rise_to (height_of s) q ≡ None → Visits prog (Runs prog) w None t i u o → Stays (Runs prog) u q s k o v e → Runs prog w q (wait s k) v e
-  wait_enter prog w q s k t i u o v e f a b = fitted prog w q s k (Enter t i) a.entered.moves v e f a.entry.moves refl (u, o, a, b)
+  wait_enter prog w q s k t i u o v e f a b = fitted prog w q s k (Enter t i) a.entered.moves v e f a.entry.moves refl (subst (λ n. Enters prog (Runs prog) w q s k t i n v e) (sym a.stands) (u, o, a, b))
+
+  pub wait_unfound : (prog : Table O I) (w : World O) (q : Place) (s : Wait) (k : Said → Prog O I) (t : Path) (i : Entry) (u v : World O) (e : Ending) → rise_to (height_of s) q ≡ None → w.tree t ≡ None → Step w [] (Unfound t i (prog.lost t)) u → Runs prog u q (wait s k) v e → Runs prog w q (wait s k) v e
+  wait_unfound prog w q s k t i u v e f g a b = fitted prog w q s k (Enter t i) u.moves v e f a.moves refl (subst (λ n. Enters prog (Runs prog) w q s k t i n v e) (sym g) (u, a, b))
 
   pub wait_born : (prog : Table O I) (w : World O) (q : Place) (s : Wait) (k : Said → Prog O I) (o : O) (b : Bool) (u v : World O) (e : Ending) → rise_to (height_of s) q ≡ None → Step w [] (Made o b) u → Runs prog u q (wait s k) v e → Runs prog w q (wait s k) v e
   wait_born prog w q s k o b u v e f t a = fitted prog w q s k (Born o b) u.moves v e f t.moves refl (u, t, a)
@@ -147,6 +150,11 @@ module _ {O I : Type 0} where
           let y : (q2 ≡ []) × IsLife x = l q2 e in
           wait_life prog (inside_of c w) q2 x (inside_of c u) q s k z o (step_within c q2 x w u (subst (λ p. Step w p x u) (strip-sound c t q2 e) a)) y.0 y.1 f r
 
+  -- c, waiting while an entry into the whole finds nobody
+  unfound_meanwhile : (prog : Table O I) (c : Place) (t : Path) (i : Entry) (w u : World O) (q : Place) (s : Wait) (k : Said → Prog O I) (z : World O) (o : Ending) → w.tree t ≡ None → Step w [] (Unfound t i (prog.lost t)) u → rise_to (height_of s) q ≡ None → Runs prog (inside_of c u) q (wait s k) z o → Runs prog (inside_of c w) q (wait s k) z o
+  unfound_meanwhile prog [] t i w u q s k z o g a f r = wait_unfound prog (inside_of [] w) q s k t i (inside_of [] u) z o f g (step_within [] [] (Unfound t i (prog.lost t)) w u a) r
+  unfound_meanwhile prog (x ∷ c) t i w u q s k z o g a f r = subst (λ m. Runs prog m q (wait s k) z o) (step_apart (x ∷ c) [] (Unfound t i (prog.lost t)) w u a refl tt) r
+
   pub quits : (prog : Table O I) (w : World O) (q : Place) (k : Completion → Prog O I) (r : Reply) (v : World O) (e : Ending) → IsQuit r → v ≡ w → e ≡ Some r → Follows (Runs prog) w q k r v e
   quits prog w q k (Completed c) v e f a b = absurd f
   quits prog w q k (Stop n m) v e f a b = (a, b)
@@ -196,10 +204,12 @@ module _ {O I : Type 0} where
 
     visits_within : (w : World O) (g : Height) (q : Place) (i : Entry) (v : World O) (e : Ending) → Visits prog R w g (c ++ q) i v e → Visits prog (Runs prog) (inside_of c w) (seen_height q g) q i (inside_of c v) (seen_end q e)
     visits_within w g q i v e a = record {
+      node = a.node;
+      stands = a.stands;
       entered = inside_of c a.entered;
       left = inside_of c a.left;
       entry = step_within c q (In g i) w a.entered a.entry;
-      run = ins a.entered q (entering prog (w.tree (c ++ q)) i) a.left e a.run;
+      run = ins a.entered q (prog.entry i) a.left e a.run;
       leaving = leaves_within a.left g q e v a.leaving;
     }
 
@@ -211,7 +221,7 @@ module _ {O I : Type 0} where
         by : (y : Option Place) → strip c t ≡ y → Runs prog (inside_of c w) q (wait s k) z o
         by None y =
             let l : Stands prog (inside_of c a.left) q s k e z o = subst (λ u. Stands prog u q s k e z o) (leaves_apart a.left g t e v y a.leaving) b in
-            let m : Runs prog (inside_of c a.entered) q (wait s k) z o = out a.entered t (entering prog (w.tree t) i) a.left e y a.run q s k z o f l in
+            let m : Runs prog (inside_of c a.entered) q (wait s k) z o = out a.entered t (prog.entry i) a.left e y a.run q s k z o f l in
             subst (λ u. Runs prog u q (wait s k) z o) (step_apart c t (In g i) w a.entered a.entry y tt) m
         by (Some q2) y =
             let a2 : Visits prog R w g (c ++ q2) i v e = subst (λ t2. Visits prog R w g t2 i v e) (strip-sound c t q2 y) a in
@@ -409,12 +419,15 @@ module _ {O I : Type 0} where
     stays_within w q s k (Some (Stop n m)) v e f a = let y : Runs prog (inside_of c w) q (wait s k) (inside_of c v) (seen_end q e) = ins w q (wait s k) v e a in (y, y)
     stays_within w q s k (Some (Cut x)) v e f a = let y : Runs prog (inside_of c w) q (wait s k) (inside_of c v) (seen_end q e) = ins w q (wait s k) v e a in (y, y)
 
+    enters_within : (w : World O) (q : Place) (s : Wait) (k : Said → Prog O I) (t : Path) (i : Entry) (n : Option (Node O)) (v : World O) (e : Ending) → rise_to (height_of s) q ≡ None → w.tree t ≡ n → Enters prog R w (c ++ q) s k t i n v e → Runs prog (inside_of c w) q (wait s k) (inside_of c v) (seen_end q e)
+    enters_within w q s k t i None v e f g (u, a, b) = unfound_meanwhile prog c t i w u q s k (inside_of c v) (seen_end q e) g a f (ins u q (wait s k) v e b)
+    enters_within w q s k t i (Some n) v e f g (u, o, x, y) = visits_around w None t i u o x (λ q2 z. refl) q s k (inside_of c v) (seen_end q e) f (stays_within u q s k o v e f y)
+
     moves_within : (w : World O) (q : Place) (s : Wait) (k : Said → Prog O I) (m : Move O) (v : World O) (e : Ending) → rise_to (height_of s) q ≡ None → fits w.tree (c ++ q) s m ≡ true → Moves prog R w (c ++ q) s k m v e → Runs prog (inside_of c w) q (wait s k) (inside_of c v) (seen_end q e)
     moves_within w q s k (Come a) v e f g x = wait_answer prog (inside_of c w) q s k (seen_answer q a) (inside_of c v) (seen_end q e) f (answers_seen q (gone_from s w.tree (c ++ q)) (gone_from s (at w.tree c) q) s a (gone_from_within c q w.tree s) g) (answered_within w q (height_of s) k a v e x)
     moves_within w q s k (Born o b) v e f g (u, t, a) = meanwhile prog c [] (Made o b) w u q s k (inside_of c v) (seen_end q e) t (λ q2 y. (top_only c q2 y, tt)) f (ins u q (wait s k) v e a)
     moves_within w q s k Fall v e f g (u, t, a) = meanwhile prog c [] Dropped w u q s k (inside_of c v) (seen_end q e) t (λ q2 y. (top_only c q2 y, tt)) f (ins u q (wait s k) v e a)
-    moves_within w q s k (Enter t i) v e f g (u, o, x, y) =
-        visits_around w None t i u o x (λ q2 z. refl) q s k (inside_of c v) (seen_end q e) f (stays_within u q s k o v e f y)
+    moves_within w q s k (Enter t i) v e f g a = enters_within w q s k t i (w.tree t) v e f refl a
 
     fitting_within : (w : World O) (q : Place) (s : Wait) (k : Said → Prog O I) (b : Bool) (m : Move O) (v : World O) (e : Ending) → rise_to (height_of s) q ≡ None → fits w.tree (c ++ q) s m ≡ b → Fitting prog R w (c ++ q) s k b m v e → Runs prog (inside_of c w) q (wait s k) (inside_of c v) (seen_end q e)
     fitting_within w q s k false m v e f g a = wait_halt prog (inside_of c w) q s k (inside_of c v) (seen_end q e) f (no_moves c w v e a) (halts_within c w v e q a)
@@ -502,12 +515,17 @@ module _ {O I : Type 0} where
     stays_apart w p s2 k2 (Some (Stop n m)) v e d a q s k z o f b = let y : Runs prog (inside_of c w) q (wait s k) z o = out w p (wait s2 k2) v e d a q s k z o f b in (y, y)
     stays_apart w p s2 k2 (Some (Cut x)) v e d a q s k z o f b = let y : Runs prog (inside_of c w) q (wait s k) z o = out w p (wait s2 k2) v e d a q s k z o f b in (y, y)
 
+    enters_apart : (w : World O) (p : Place) (s2 : Wait) (k2 : Said → Prog O I) (t : Path) (i : Entry) (n : Option (Node O)) (v : World O) (e : Ending) → strip c p ≡ None → w.tree t ≡ n → Enters prog R w p s2 k2 t i n v e →
+        (q : Place) (s : Wait) (k : Said → Prog O I) (z : World O) (o : Ending) → rise_to (height_of s) q ≡ None → Stands prog (inside_of c v) q s k e z o → Runs prog (inside_of c w) q (wait s k) z o
+    enters_apart w p s2 k2 t i None v e d g (u, a, x) q s k z o f b = unfound_meanwhile prog c t i w u q s k z o g a f (out u p (wait s2 k2) v e d x q s k z o f b)
+    enters_apart w p s2 k2 t i (Some n) v e d g (u, o2, x, y) q s k z o f b = visits_around w None t i u o2 x (λ q2 j. refl) q s k z o f (stays_apart u p s2 k2 o2 v e d y q s k z o f b)
+
     moves_apart : (w : World O) (p : Place) (s2 : Wait) (k2 : Said → Prog O I) (m : Move O) (v : World O) (e : Ending) → strip c p ≡ None → Moves prog R w p s2 k2 m v e →
         (q : Place) (s : Wait) (k : Said → Prog O I) (z : World O) (o : Ending) → rise_to (height_of s) q ≡ None → Stands prog (inside_of c v) q s k e z o → Runs prog (inside_of c w) q (wait s k) z o
     moves_apart w p s2 k2 (Come a) v e d x q s k z o f b = answer_apart w p (height_of s2) k2 a v e d x q s k z o f b
     moves_apart w p s2 k2 (Born y l) v e d (u, t, a) q s k z o f b = meanwhile prog c [] (Made y l) w u q s k z o t (λ q2 g. (top_only c q2 g, tt)) f (out u p (wait s2 k2) v e d a q s k z o f b)
     moves_apart w p s2 k2 Fall v e d (u, t, a) q s k z o f b = meanwhile prog c [] Dropped w u q s k z o t (λ q2 g. (top_only c q2 g, tt)) f (out u p (wait s2 k2) v e d a q s k z o f b)
-    moves_apart w p s2 k2 (Enter t i) v e d (u, o2, x, y) q s k z o f b = visits_around w None t i u o2 x (λ q2 j. refl) q s k z o f (stays_apart u p s2 k2 o2 v e d y q s k z o f b)
+    moves_apart w p s2 k2 (Enter t i) v e d a q s k z o f b = enters_apart w p s2 k2 t i (w.tree t) v e d refl a q s k z o f b
 
     fitting_apart : (w : World O) (p : Place) (s2 : Wait) (k2 : Said → Prog O I) (l : Bool) (m : Move O) (v : World O) (e : Ending) → strip c p ≡ None → Fitting prog R w p s2 k2 l m v e →
         (q : Place) (s : Wait) (k : Said → Prog O I) (z : World O) (o : Ending) → rise_to (height_of s) q ≡ None → Stands prog (inside_of c v) q s k e z o → Runs prog (inside_of c w) q (wait s k) z o

@@ -15,7 +15,7 @@ use Rattle.tcl_core.specs.Programs.{Wrap, Next, Deed, spot, Act, decide, opens, 
 use Rattle.tcl_core.specs.Programs.Next.{On, TooDeep, Off}
 use Rattle.tcl_core.specs.Programs.Act.{Look, Change, Charge, Limit, LimitDepth, Make, Drop}
 use Rattle.tcl_core.specs.Programs.Wrap.{Deeper, Framed}
-use Rattle.tcl_core.specs.Runs.{World, Step, where_stands}
+use Rattle.tcl_core.specs.Runs.{World, Step, where_stands, reached}
 use Rattle.tcl_core.specs.Views.{grants_of, moves_of, kept, view, inside_of, from_above}
 use Rattle.tcl_core.proofs.PathLaws.{strip-sound, beside, not_both, Some-inj, strip-append, strip_own, apart, at_end-apart, seen_past, seen_near}
 
@@ -362,6 +362,15 @@ spot_in c p q s e = ap (λ r. strip c (spot r s)) (strip-sound c p q e) ∙ ap (
 pub reached_at : {O : Type 0} (n : Option (Node O)) (t p : Place) → where_stands n p ≡ Some t → t ≡ p
 reached_at None t p e = absurd (not_both refl e)
 reached_at (Some n) t p e = sym (Some-inj p e)
+
+where_stood : {O : Type 0} (n : Option (Node O)) (t p : Place) → where_stands n p ≡ Some t → (m : Node O) × (n ≡ Some m)
+where_stood None t p e = absurd (not_both refl e)
+where_stood (Some n) t p e = (n, refl)
+
+pub reached_stands : {O : Type 0} (T : Tree O) (a down t : Place) → reached T a down ≡ Some t → (m : Node O) × (T t ≡ Some m)
+reached_stands T a down t e =
+    let h = where_stood (T (a ++ down)) t (a ++ down) e in
+    (h.0, ap T (reached_at (T (a ++ down)) t (a ++ down) e) ∙ h.1)
 
 -- a budget says nothing more where it refuses
 pub denied_budget : (o : Option Place) (n : ℕ) → denied o (Budget n) ≡ Budget n

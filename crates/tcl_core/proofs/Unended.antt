@@ -18,7 +18,7 @@ use Rattle.tcl_core.specs.Programs.Act.{Look, Change, Charge, Limit, LimitDepth,
 use Rattle.tcl_core.specs.Programs.Wrap.{Deeper, Framed}
 use Rattle.tcl_core.specs.Runs.{World, Step, Ending, Halts, Exits, Exiting, carried, ends_call, height_of, gone}
 use Rattle.tcl_core.specs.Rules.{Derives, IsOn}
-use Rattle.tcl_core.specs.Rules.Derives.{completed, exited, acted, refused, unheard, went, passed, halted, wrapped, wrapped_passed, wrapped_halted, too_deep, shut, unheard_inside, called, called_passed, called_halted, unreached, called_out, unanswered, unfit, answered, heard, answered_passed, entered, entered_halted, entered_exiting, born, fallen}
+use Rattle.tcl_core.specs.Rules.Derives.{completed, exited, acted, refused, unheard, went, passed, halted, wrapped, wrapped_passed, wrapped_halted, too_deep, shut, unheard_inside, called, called_passed, called_halted, unreached, called_out, unanswered, unfit, answered, heard, answered_passed, entered, entered_halted, entered_exiting, born, fallen, unfound}
 use Rattle.tcl_core.specs.Lives.{Uncut, IsUncut}
 use Rattle.tcl_core.specs.Laws.{Unended, IsUnended}
 use Rattle.tcl_core.proofs.PathLaws.{not_both, Some-inj, rise_some}
@@ -194,12 +194,13 @@ module _ {O I : Type 0} (prog : Table O I) where
   uncut (answered w p s k c u v e g j t a) f n h = before w p _ u t tt (uncut a (after w p _ u t f).1 n h)
   uncut (heard w p s k y u v e g j t a) f n h = before w p _ u t tt (uncut a (after w p _ u t f).1 n h)
   uncut (answered_passed w p s k r u q g j t) f n h = before w p _ u t (back_uncut O p (height_of s) (Replied r) (after w p _ u t f).0) h
-  uncut (entered w p s k t i inner left told v r e g s1 a s2 q b) f n h =
+  uncut (entered w p s k t i inner left told v r e g here s1 a s2 q b) f n h =
       let f1 = (after w t _ inner s1 f).1 in
       let f2 = after left t _ told s2 (rest_of a f1) in
       before w t _ inner s1 tt (uncut a f1 (entry_cut O t r f2.0) (before left t _ told s2 (done_uncut O t None r f2.0) (uncut b f2.1 n h)))
-  uncut (entered_halted w p s k t i inner left g s1 a) f n h = before w t _ inner s1 tt (uncut a (after w t _ inner s1 f).1 n h)
-  uncut (entered_exiting w p s k t i inner left told v y e g s1 a s2 b) f n h =
+  uncut (entered_halted w p s k t i inner left g here s1 a) f n h = before w t _ inner s1 tt (uncut a (after w t _ inner s1 f).1 n h)
+  uncut (entered_exiting w p s k t i inner left told v y e g here s1 a s2 b) f n h =
       before w t _ inner s1 tt (uncut a (after w t _ inner s1 f).1 tt (before left t _ told s2 tt (exits_uncut told p s y told.moves v e b h)))
   uncut (born w p s k o b u v e g t a) f n h = before w [] _ u t tt (uncut a (after w [] _ u t f).1 n h)
+  uncut (unfound w p s k t i u v e g here b a) f n h = before w [] _ u b tt (uncut a (after w [] _ u b f).1 n h)
   uncut (fallen w p s k u v e g t a) f n h = before w [] _ u t tt (uncut a (after w [] _ u t f).1 n h)

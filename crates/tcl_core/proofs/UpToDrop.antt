@@ -1,19 +1,19 @@
 -- What a subtree does up to where it is dropped is what it does by itself with the moves until then.
 use Rattle.std.proofs.Common.{sym, ◌≡◌, ◌⊎◌, inl, inr, ℕ, zero, suc, ◌+◌, ◌-◌, ◌≤◌, Bool, true, false, List, [], ◌∷◌, ◌++◌, Option, Some, None, length, refl, ◌∙◌, ap, subst, arith, append-nil, append_assoc, length-append}
 use Rattle.tcl_core.specs.Paths.{Path, Place, strip, rise_to}
-use Rattle.tcl_core.specs.Endings.{Reply}
+use Rattle.tcl_core.specs.Endings.{Reply, Completion}
 use Rattle.tcl_core.specs.Endings.Reply.{Completed, Stop, Exit, Cut}
 use Rattle.tcl_core.specs.Entries.{Entry}
 use Rattle.tcl_core.specs.Trees.{Event, Grant, Grants, Move, Node, Tree, What, asked, at, effect, granted}
 use Rattle.tcl_core.specs.Trees.Grant.{Allow}
 use Rattle.tcl_core.specs.Trees.Grants.{Listed, Budget}
 use Rattle.tcl_core.specs.Trees.Move.{Born, Fall, Enter, Come}
-use Rattle.tcl_core.specs.Trees.What.{Made, Dropped, In, Done}
+use Rattle.tcl_core.specs.Trees.What.{Made, Dropped, In, Done, Unfound}
 use Rattle.tcl_core.specs.Programs.{Prog, Table}
 use Rattle.tcl_core.specs.Programs.Prog.{wait}
-use Rattle.tcl_core.specs.Runs.{World, Step, Ending, Halts, Runs, RunsIn, Stays, Visits, Waits, entering}
+use Rattle.tcl_core.specs.Runs.{World, Step, Ending, Halts, Runs, RunsIn, Stays, Visits, Waits}
 use Rattle.tcl_core.specs.Rules.{Derives, IsNoExit}
-use Rattle.tcl_core.specs.Rules.Derives.{entered, entered_halted, unanswered}
+use Rattle.tcl_core.specs.Rules.Derives.{entered, entered_halted, unanswered, unfound}
 use Rattle.tcl_core.specs.Views.{IsDue, moves_of, steps_of, view, inside_of, kept}
 use Rattle.tcl_core.specs.Lives.{Lives, Outcome, React, Reacts, alone, begun, ended, idle, never, IsUncut, InProgress, outcome_at, outcome_of, ending_of, outs_of}
 use Rattle.tcl_core.specs.Lives.Outcome.{Finished, Waiting}
@@ -69,6 +69,12 @@ module _ {O : Type 0} where
       bad : In None i ≡ dropped → Prim.⊥
       bad f = cc
 
+  pub unfound_no_drop : {A : Type 0} (t : Path) (i : Entry) (c : Completion) → Unfound t i c ≡ dropped → A
+  unfound_no_drop t i c e = absurd (bad e)
+    where
+      bad : Unfound t i c ≡ dropped → Prim.⊥
+      bad f = cc
+
   done_no_drop : {A : Type 0} (r : Reply) → Done None r ≡ dropped → A
   done_no_drop r e = absurd (bad e)
     where
@@ -100,6 +106,7 @@ module _ {O : Type 0} where
       by : (o : Option Place) → Rattle.tcl_core.specs.Trees.where_none o (Come y) (a ++ b) ≡ Rattle.tcl_core.specs.Trees.where_none o (Come y) a ++ b
       by None = refl
       by (Some z) = refl
+  asked_front p (Unfound t i c) a b = refl
   asked_front [] (Made o s) a b = refl
   asked_front (y ∷ p) (Made o s) a b = refl
   asked_front [] Dropped a b = refl
@@ -165,6 +172,15 @@ module _ {O I : Type 0} (prog : Table O I) where
       let g : Rattle.tcl_core.proofs.Reacting.Lasting [] (Made o s) = subst (λ (y : Event O). Rattle.tcl_core.proofs.Reacting.Lasting y.place y.what) (sym same) l.0 in
       absurd (g refl)
 
+  -- an entry that finds nobody, before the drop
+  pub unfound_to : (z u : World O) (t : Path) (i : Entry) (b : List (Event O)) → z.tree t ≡ None → Step z [] (Unfound t i (prog.lost t)) u → UpTo u b → UpTo z (record { place = []; what = Unfound t i (prog.lost t) } ∷ b)
+  unfound_to z u t i b here s g = record {
+    last = g.last;
+    life = unfound (only z (record { place = []; what = Unfound t i (prog.lost t) } ∷ b)) [] idle never t i (only u b) g.last None refl here (record { tape = refl; tree = s.tree; moves = refl; grants = ap (more_grants (Allow ∷ [])) s.grants }) g.life;
+    moves = g.moves;
+    outcome = g.outcome;
+  }
+
   -- AN ENTRY
   module _ (z u : World O) (t : Path) (i : Entry) (r : Reply) (v : Visits prog (Runs prog) z None t i u (Some r)) (b later : List (Event O)) (handed : IsHanded z) where
     abbrev into : Event O
@@ -179,8 +195,8 @@ module _ {O I : Type 0} (prog : Table O I) where
     step_in : Step (only z (into ∷ b)) t (In None i) (cut (more v.entered) (moves_of b) b)
     step_in = record { tape = refl; tree = v.entry.tree; moves = refl; grants = ap (more_grants (Allow ∷ [])) v.entry.grants }
 
-    inner : Derives prog (more v.entered) t (entering prog (z.tree t) i) (more v.left) (Some r)
-    inner = runs_derived prog (more v.entered) t (entering prog (z.tree t) i) (more v.left) (Some r) (more_moves prog v.entered t (entering prog (z.tree t) i) v.left r [] (Allow ∷ []) v.run)
+    inner : Derives prog (more v.entered) t (prog.entry i) (more v.left) (Some r)
+    inner = runs_derived prog (more v.entered) t (prog.entry i) (more v.left) (Some r) (more_moves prog v.entered t (prog.entry i) v.left r [] (Allow ∷ []) v.run)
 
     inside_handed : IsHanded v.entered
     inside_handed = handed_step z t (In None i) v.entered tt v.entry handed
@@ -192,13 +208,13 @@ module _ {O I : Type 0} (prog : Table O I) where
     moves_there e = append-nil v.entered.moves ∙ inside_handed ∙ ap moves_of e ∙ moves_append b (drop ∷ later)
 
     abbrev Parted : Type 0
-    Parted = Result (more v.entered) (more v.left) (Run_of prog (more v.entered) (moves_of b) t (entering prog (z.tree t) i)) (Some r) after_it
+    Parted = Result (more v.entered) (more v.left) (Run_of prog (more v.entered) (moves_of b) t (prog.entry i)) (Some r) after_it
 
     parted : v.entered.tape ≡ b ++ drop ∷ later → Parted
     parted e = part prog inner (moves_of b) after_it (moves_there e)
 
     -- it halts in it
-    halts_in : (last : World O) → Derives prog (cut (more v.entered) (moves_of b) b) t (entering prog (z.tree t) i) last None → last.moves ≡ [] → UpTo z (into ∷ b)
+    halts_in : (last : World O) → Derives prog (cut (more v.entered) (moves_of b) b) t (prog.entry i) last None → last.moves ≡ [] → UpTo z (into ∷ b)
     halts_in last d m =
         let n : last.tape ≡ [] = halted_tape prog d refl in
         let o : Owes [] (cut (more v.entered) (moves_of b) b) last None = owes [] prog d in
@@ -207,12 +223,12 @@ module _ {O I : Type 0} (prog : Table O I) where
         let d0 : dones [] last.tape ≡ 0 = ap (dones []) n in
         record {
           last = last;
-          life = entered_halted (only z (into ∷ b)) [] idle never t i (cut (more v.entered) (moves_of b) b) last refl step_in d;
+          life = entered_halted (only z (into ∷ b)) [] idle never t i (cut (more v.entered) (moves_of b) b) last refl v.stands step_in d;
           moves = m;
           outcome = λ q. absurd (let y : Prim.⊥ = omega arith in y);
         }
 
-    stops_there : Stops (more v.entered) (Run_of prog (more v.entered) (moves_of b) t (entering prog (z.tree t) i)) → v.entered.tape ≡ b ++ drop ∷ later → UpTo z (into ∷ b)
+    stops_there : Stops (more v.entered) (Run_of prog (more v.entered) (moves_of b) t (prog.entry i)) → v.entered.tape ≡ b ++ drop ∷ later → UpTo z (into ∷ b)
     stops_there g e = by (nested g.made g.rest b (drop ∷ later) (sym g.tape ∙ e))
       where
         n : g.last.tape ≡ []
@@ -222,7 +238,7 @@ module _ {O I : Type 0} (prog : Table O I) where
         read = reads_them g.made g.runs (sym (append-nil g.made) ∙ ap (λ l. g.made ++ l) (sym n)) n
 
         same : b ≡ g.made → UpTo z (into ∷ b)
-        same f = halts_in g.last (subst (λ τ. Derives prog (cut (more v.entered) (moves_of b) τ) t (entering prog (z.tree t) i) g.last None) (sym f) g.runs)
+        same f = halts_in g.last (subst (λ τ. Derives prog (cut (more v.entered) (moves_of b) τ) t (prog.entry i) g.last None) (sym f) g.runs)
             (sym (cancel_front (moves_of g.made) [] g.last.moves (append-nil (moves_of g.made) ∙ ap moves_of (sym f) ∙ read)))
 
         further : (q : List (Event O)) → b ≡ g.made ++ q → g.rest ≡ q ++ drop ∷ later → Beyond g.last.moves g.rest → UpTo z (into ∷ b)
@@ -246,9 +262,9 @@ module _ {O I : Type 0} (prog : Table O I) where
         by (inr (q, f, h)) = beyond_it q f h
 
     -- it comes to its end, and the life goes on
-    goes_past : (made left : List (Event O)) (m : List (Move O)) → b ≡ made ++ out ∷ left → ((σ : List (Event O)) → Derives prog (cut (more v.entered) (moves_of b) (made ++ σ)) t (entering prog (z.tree t) i) (cut (more v.left) m σ) (Some r)) → IsNoExit r → ending_of r ≡ Finished → UpTo u left → UpTo z (into ∷ b)
+    goes_past : (made left : List (Event O)) (m : List (Move O)) → b ≡ made ++ out ∷ left → ((σ : List (Event O)) → Derives prog (cut (more v.entered) (moves_of b) (made ++ σ)) t (prog.entry i) (cut (more v.left) m σ) (Some r)) → IsNoExit r → ending_of r ≡ Finished → UpTo u left → UpTo z (into ∷ b)
     goes_past made left m f runs nx fin g =
-        let d : Derives prog (cut (more v.entered) (moves_of b) b) t (entering prog (z.tree t) i) (cut (more v.left) m (out ∷ left)) (Some r) = subst (λ τ. Derives prog (cut (more v.entered) (moves_of b) τ) t (entering prog (z.tree t) i) (cut (more v.left) m (out ∷ left)) (Some r)) (sym f) (runs (out ∷ left)) in
+        let d : Derives prog (cut (more v.entered) (moves_of b) b) t (prog.entry i) (cut (more v.left) m (out ∷ left)) (Some r) = subst (λ τ. Derives prog (cut (more v.entered) (moves_of b) τ) t (prog.entry i) (cut (more v.left) m (out ∷ left)) (Some r)) (sym f) (runs (out ∷ left)) in
         let h : m ≡ moves_of left = derived_keep IsHanded handed_step prog d refl in
         let step_out : Step (cut (more v.left) m (out ∷ left)) t (Done None r) (only u left) = record { tape = refl; tree = v.leaving.tree; moves = h; grants = ap (more_grants (Allow ∷ [])) v.leaving.grants } in
         let o : Owes [] (only z (into ∷ b)) (only u left) (Some r) = visit_owes [] (only z (into ∷ b)) (cut (more v.entered) (moves_of b) b) (cut (more v.left) m (out ∷ left)) (only u left) None t i r step_in (owes [] prog d) step_out in
@@ -257,7 +273,7 @@ module _ {O I : Type 0} (prog : Table O I) where
         let k : Ending_as (outcome_of (into ∷ b) Finished) (cut (more v.left) m (out ∷ left)) = derived_keep (Ending_as (outcome_of (into ∷ b) Finished)) (ending_step (outcome_of (into ∷ b) Finished)) prog d (Finished, refl) in
         record {
           last = g.last;
-          life = entered (only z (into ∷ b)) [] idle never t i (cut (more v.entered) (moves_of b) b) (cut (more v.left) m (out ∷ left)) (only u left) g.last r None refl step_in d step_out nx g.life;
+          life = entered (only z (into ∷ b)) [] idle never t i (cut (more v.entered) (moves_of b) b) (cut (more v.left) m (out ∷ left)) (only u left) g.last r None refl v.stands step_in d step_out nx g.life;
           moves = g.moves;
           outcome = λ q. k.1 ∙ ap (outcome_of left) fin ∙ g.outcome (omega arith);
         }
@@ -270,7 +286,7 @@ module _ {O I : Type 0} (prog : Table O I) where
     lasting_back [] ev c f = f.1
     lasting_back (y ∷ a) ev c f = lasting_back a ev c f.1
 
-    ends_there : Goes (more v.entered) (more v.left) (Run_of prog (more v.entered) (moves_of b) t (entering prog (z.tree t) i)) (Some r) after_it → v.entered.tape ≡ b ++ drop ∷ later → IsLasting b → Follows_so → UpTo z (into ∷ b)
+    ends_there : Goes (more v.entered) (more v.left) (Run_of prog (more v.entered) (moves_of b) t (prog.entry i)) (Some r) after_it → v.entered.tape ≡ b ++ drop ∷ later → IsLasting b → Follows_so → UpTo z (into ∷ b)
     ends_there g e l on = by (nested g.made (out ∷ u.tape) b (drop ∷ later) (ap (λ τ. g.made ++ τ) (sym v.leaving.tape) ∙ sym g.tape ∙ e))
       where
         further : (q : List (Event O)) → b ≡ g.made ++ q → out ∷ u.tape ≡ q ++ drop ∷ later → UpTo z (into ∷ b)
@@ -303,4 +319,4 @@ module _ {O I : Type 0} (prog : Table O I) where
     visited e l on = by_part (parted e) e l on
 
     pub handed_after : IsHanded u
-    handed_after = handed_step v.left t (Done None r) u tt v.leaving (derived_keep IsHanded handed_step prog (runs_derived prog v.entered t (entering prog (z.tree t) i) v.left (Some r) v.run) inside_handed)
+    handed_after = handed_step v.left t (Done None r) u tt v.leaving (derived_keep IsHanded handed_step prog (runs_derived prog v.entered t (prog.entry i) v.left (Some r) v.run) inside_handed)

@@ -74,7 +74,7 @@ root_run : Derives commands w1 [] (entry tell) w12 (Some (Completed (ok [])))
 root_run = wrapped _ _ _ _ _ (None, Nested, On) w2 w11 w12 _ (ok []) _ refl refl s2 tell_run s12 (completed _ _ _)
 
 life : Derives commands start [] (wait idle never) w13 None
-life = entered _ _ _ _ [] tell w1 w12 w13 _ (Completed (ok [])) _ refl s1 root_run s13 tt (unanswered _ _ _ _ refl refl refl)
+life = entered _ _ _ _ [] tell w1 w12 w13 _ (Completed (ok [])) _ refl refl s1 root_run s13 tt (unanswered _ _ _ _ refl refl refl)
 
 pub worked_life : WorkedLife
 worked_life = record { life = derived_runs commands life; child_ends = refl; root_ends = refl; child_is_handed = refl; child_tells = refl }
@@ -110,7 +110,7 @@ alone_run = wrapped _ _ _ _ _ (None, Nested, On) a2 a4 a5 _ (ok []) _ refl refl 
     (record { tape = refl; tree = refl; moves = refl; grants = refl }) (completed _ _ _)
 
 alone_life : Derives commands a0 [] (wait idle never) a6 None
-alone_life = entered _ _ _ _ [] (Eval []) a1 a5 a6 _ (Completed (ok [])) _ refl (record { tape = refl; tree = refl; moves = refl; grants = refl }) alone_run
+alone_life = entered _ _ _ _ [] (Eval []) a1 a5 a6 _ (Completed (ok [])) _ refl refl (record { tape = refl; tree = refl; moves = refl; grants = refl }) alone_run
     (record { tape = refl; tree = refl; moves = refl; grants = refl }) tt (unanswered _ _ _ _ refl refl refl)
 
 -- no step is left
@@ -146,7 +146,7 @@ spent_run = wrapped_passed _ _ _ _ _ (None, Nested, On) b2 b3 b4 (Cut Over) tt r
     (record { tape = refl; tree = refl; moves = refl; grants = refl })
 
 spent_life : Derives commands b0 [] (wait idle never) b5 None
-spent_life = entered _ _ _ _ [] (Eval []) b1 b4 b5 _ (Cut Over) _ refl (record { tape = refl; tree = refl; moves = refl; grants = refl }) spent_run
+spent_life = entered _ _ _ _ [] (Eval []) b1 b4 b5 _ (Cut Over) _ refl refl (record { tape = refl; tree = refl; moves = refl; grants = refl }) spent_run
     (record { tape = refl; tree = refl; moves = refl; grants = refl }) tt (unanswered _ _ _ _ refl refl refl)
 
 abbrev c0 : World ℕ

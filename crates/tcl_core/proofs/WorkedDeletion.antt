@@ -189,7 +189,7 @@ d_root : Derives (commands asks_parent) d1 [] (entry (Eval tells_c)) d22 (Some (
 d_root = wrapped _ _ _ _ _ (None, Nested, On) d2 d21 d22 _ (refusal Gone) _ refl refl d_s2 d_tells d_s22 (completed _ _ _)
 
 d_life : Derives (commands asks_parent) d0 [] (wait idle never) d23 None
-d_life = entered _ _ _ _ [] (Eval tells_c) d1 d22 d23 _ (Completed (refusal Gone)) _ refl d_s1 d_root d_s23 tt (unanswered _ _ _ _ refl refl refl)
+d_life = entered _ _ _ _ [] (Eval tells_c) d1 d22 d23 _ (Completed (refusal Gone)) _ refl refl d_s1 d_root d_s23 tt (unanswered _ _ _ _ refl refl refl)
 
 abbrev f0 : World ℕ
 f0 = start from_below
@@ -385,7 +385,7 @@ f_root : Derives (commands tells_g) f1 [] (entry (Eval tells_c)) f27 (Some (Comp
 f_root = wrapped _ _ _ _ _ (None, Nested, On) f2 f26 f27 _ (refusal Gone) _ refl refl f_s2 f_tells f_s27 (completed _ _ _)
 
 f_life : Derives (commands tells_g) f0 [] (wait idle never) f28 None
-f_life = entered _ _ _ _ [] (Eval tells_c) f1 f27 f28 _ (Completed (refusal Gone)) _ refl f_s1 f_root f_s28 tt (unanswered _ _ _ _ refl refl refl)
+f_life = entered _ _ _ _ [] (Eval tells_c) f1 f27 f28 _ (Completed (refusal Gone)) _ refl refl f_s1 f_root f_s28 tt (unanswered _ _ _ _ refl refl refl)
 
 -- THE CHILD ALONE, up to the deletion
 abbrev alone_next : Place → What ℕ → ℕ → World ℕ → World ℕ
@@ -420,7 +420,7 @@ a_child : Derives (commands asks_parent) a1 [] (entry (Eval asks_parent)) a5 Non
 a_child = wrapped_halted _ _ _ _ _ (None, Nested, On) a2 a5 refl refl (record { tape = refl; tree = refl; moves = refl; grants = refl }) a_framed
 
 a_life : Derives (commands asks_parent) a0 [] (wait idle never) a5 None
-a_life = entered_halted _ _ _ _ [] (Eval asks_parent) a1 a5 refl (record { tape = refl; tree = refl; moves = refl; grants = refl }) a_child
+a_life = entered_halted _ _ _ _ [] (Eval asks_parent) a1 a5 refl refl (record { tape = refl; tree = refl; moves = refl; grants = refl }) a_child
 
 pub worked_deletion : WorkedDeletion
 worked_deletion = record {

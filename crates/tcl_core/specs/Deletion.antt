@@ -109,7 +109,7 @@ abbrev pub commands : Text → Table ℕ Script
 commands next = record {
   program = program next;
   entry = entry;
-  lost = lost;
+  lost = λ path. lost;
   programs_call = program_calls next;
   entries_call = entry_calls;
 }

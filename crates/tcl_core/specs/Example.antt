@@ -2,7 +2,7 @@
 -- its one variable to 7. An interpreter's own part is a number here, its variable; what can go on
 -- in one is one of two scripts.
 use Rattle.std.specs.Prelude.{◌≡◌, ℕ, true, false, List, [], ◌∷◌, Some, None}
-use Rattle.tcl_core.specs.Paths.{Text, Place}
+use Rattle.tcl_core.specs.Paths.{Text, Path, Place}
 use Rattle.tcl_core.specs.Endings.{Completion, ok, error}
 use Rattle.tcl_core.specs.Endings.Reply.{Completed}
 use Rattle.tcl_core.specs.Entries.{Entry, Said}
@@ -37,6 +37,11 @@ script_of (x ∷ t) = TellChild
 abbrev pub lost : Completion
 lost = error []
 
+-- an entry from outside that finds nobody is told whom it didn't find
+abbrev pub nobody : Path → Completion
+nobody [] = lost
+nobody (name ∷ path) = error name
+
 abbrev pub finish : Said → Prog ℕ Script
 finish (Finished c) = done c
 finish (Told a) = done lost
@@ -65,7 +70,7 @@ abbrev pub commands : Table ℕ Script
 commands = record {
   program = program;
   entry = entry;
-  lost = lost;
+  lost = nobody;
   programs_call = program_calls;
   entries_call = entry_calls;
 }

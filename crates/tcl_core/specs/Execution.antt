@@ -13,13 +13,13 @@ use Rattle.tcl_core.specs.Entries.Answer.{Replied, Heard}
 use Rattle.tcl_core.specs.Entries.Said.{Finished, Told}
 use Rattle.tcl_core.specs.Trees.{Tree, Node, What, Event, Grant, effect, granted, at, depth_of}
 use Rattle.tcl_core.specs.Trees.Grants.{Listed}
-use Rattle.tcl_core.specs.Trees.What.{Charged, Refused, Dropped, Out, In, Done, Back}
+use Rattle.tcl_core.specs.Trees.What.{Charged, Refused, Dropped, Out, In, Done, Back, Unfound}
 use Rattle.tcl_core.specs.Trees.Move.{Come}
 use Rattle.tcl_core.specs.Programs.{Calls_only, Deed, spot, Act, Wrap, Wait, Prog, Table, decide}
 use Rattle.tcl_core.specs.Programs.{opens, closes}
 use Rattle.tcl_core.specs.Programs.Next.{On, TooDeep, Off}
 use Rattle.tcl_core.specs.Programs.Prog.{done, exit, act, go, inside, call, wait}
-use Rattle.tcl_core.specs.Runs.{World, Runs, returned, reached, entering, fits}
+use Rattle.tcl_core.specs.Runs.{World, Runs, returned, reached, fits}
 use Rattle.tcl_core.specs.Runs.{height_of}
 use Rattle.tcl_core.specs.Rules.{IsOn, IsNoExit}
 use Rattle.tcl_core.specs.Views.{moves_of, grants_of}
@@ -86,7 +86,7 @@ pub data Executes {O I S : Type 0} (step : Tree O → S → Wait → Event O →
       rise_to h p ≡ Some a → reached T a down ≡ Some t →
       step T o None (event p (Out h down i)) o1 →
       step T o1 None (event t (In (Some (length down)) i)) o2 →
-      Executes step prog T o2 t (entering prog (T t) i) U o3 s →
+      Executes step prog T o2 t (prog.entry i) U o3 s →
       step U o3 None (event t (Done (Some (length down)) s)) o4 →
       returned T U h p down s ≡ Completed c →
       step U o4 None (event p (Back h (Replied (returned T U h p down s)))) o5 →
@@ -97,7 +97,7 @@ pub data Executes {O I S : Type 0} (step : Tree O → S → Wait → Event O →
       rise_to h p ≡ Some a → reached T a down ≡ Some t →
       step T o None (event p (Out h down i)) o1 →
       step T o1 None (event t (In (Some (length down)) i)) o2 →
-      Executes step prog T o2 t (entering prog (T t) i) U o3 s →
+      Executes step prog T o2 t (prog.entry i) U o3 s →
       step U o3 None (event t (Done (Some (length down)) s)) o4 →
       returned T U h p down s ≡ r →
       IsQuit r → step U o4 None (event p (Back h (Replied r))) o5 →
@@ -131,18 +131,22 @@ pub data Executes {O I S : Type 0} (step : Tree O → S → Wait → Event O →
       step T o s (event p (Back (height_of s) (Replied r))) u →
       Executes step prog T o p (wait s k) T u r
   entered : {T U V : Tree O} {o o1 o2 o3 z : S} {p : Place} {s : Wait} {k : Said → Prog O I}
-      {y r : Reply} (t : Path) (i : Entry) → rise_to (height_of s) p ≡ None →
-      step T o None (event t (In None i)) o1 →
-      Executes step prog T o1 t (entering prog (T t) i) U o2 y →
+      {node : Node O} {y r : Reply} (t : Path) (i : Entry) → rise_to (height_of s) p ≡ None →
+      T t ≡ Some node → step T o None (event t (In None i)) o1 →
+      Executes step prog T o1 t (prog.entry i) U o2 y →
       step U o2 None (event t (Done None y)) o3 → IsNoExit y →
       Executes step prog U o3 p (wait s k) V z r → Executes step prog T o p (wait s k) V z r
   entered_exiting : {T U : Tree O} {o o1 o2 o3 o4 : S} {p : Place} {c : Height × Entry × ℕ}
-      {k : Said → Prog O I} {n : ℤ} (t : Path) (i : Entry) → rise_to c.0 p ≡ None →
-      step T o None (event t (In None i)) o1 →
-      Executes step prog T o1 t (entering prog (T t) i) U o2 (Exit n) →
+      {k : Said → Prog O I} {node : Node O} {n : ℤ} (t : Path) (i : Entry) → rise_to c.0 p ≡ None →
+      T t ≡ Some node → step T o None (event t (In None i)) o1 →
+      Executes step prog T o1 t (prog.entry i) U o2 (Exit n) →
       step U o2 None (event t (Done None (Exit n))) o3 →
       step U o3 (Some c) (event p (Back c.0 (Replied (Exit n)))) o4 →
       Executes step prog T o p (wait (Some c) k) U o4 (Exit n)
+  unfound : {T V : Tree O} {o u z : S} {p : Place} {s : Wait} {k : Said → Prog O I} {r : Reply}
+      (t : Path) (i : Entry) → rise_to (height_of s) p ≡ None → T t ≡ None →
+      step T o None (event [] (Unfound t i (prog.lost t))) u →
+      Executes step prog T u p (wait s k) V z r → Executes step prog T o p (wait s k) V z r
 
 -- what passes the top
 abbrev pub passing : {O S : Type 0} → Option Place → (Tree O → S → Wait → Event O → S → Type 0) →
@@ -156,6 +160,7 @@ sees goes T o s p (Out h down i) u = passing (rise_to h p) goes T o s (event p (
 sees goes T o s p (In h i) u = passing (rise_to h p) goes T o s (event p (In h i)) u
 sees goes T o s p (Done h r) u = passing (rise_to h p) goes T o s (event p (Done h r)) u
 sees goes T o s p (Back h a) u = passing (rise_to h p) goes T o s (event p (Back h a)) u
+sees goes T o s p (Unfound t i c) u = goes T o s (event p (Unfound t i c)) u
 sees goes T o s p _ u = u ≡ o
 
 -- How an outside goes that is told what passes the top of the tree alone, and who it is that calls;
@@ -173,6 +178,7 @@ hears goes T o s p (Back h a) u = goes T o s (event p (Back h a)) u
 hears goes T o s p Charged u = goes T o s (event p Charged) u
 hears goes T o s p (Refused m None) u = goes T o s (event p (Refused m None)) u
 hears goes T o s p Dropped u = goes T o s (event p Dropped) u
+hears goes T o s p (Unfound t i c) u = goes T o s (event p (Unfound t i c)) u
 hears goes T o s p _ u = u ≡ o
 
 -- How an outside goes that is told of all crossings, those between two interpreters of the tree

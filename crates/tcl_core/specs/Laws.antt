@@ -12,6 +12,7 @@ use Rattle.tcl_core.specs.Trees.{on_some, depth_of}
 use Rattle.tcl_core.specs.Trees.Grants.{Listed, Budget}
 use Rattle.tcl_core.specs.Trees.Move.{Born, Fall, Enter, Come}
 use Rattle.tcl_core.specs.Trees.What.{Charged, Refused, Limited, Made, Dropped, Out, In, Done, Back}
+use Rattle.tcl_core.specs.Trees.What.{Unfound}
 use Rattle.tcl_core.specs.Programs.{Act, Wrap, Wait, Deed, Prog, Table, spot, decide, opens}
 use Rattle.tcl_core.specs.Programs.Next.{On, Off}
 use Rattle.tcl_core.specs.Programs.Prog.{act, go, inside, call, wait}
@@ -247,6 +248,7 @@ turn_in q (Done h r) = goes_out (rise_to h q)
 turn_in q (Out h down i) = goes_out (rise_to h q)
 turn_in q (Made o s) = life_at q
 turn_in q Dropped = life_at q
+turn_in q (Unfound t i c) = life_at q
 turn_in q _ = Inside
 
 abbrev pub turn_at : {O : Type 0} → Option Place → What O → Turn

@@ -63,12 +63,11 @@ Calls_only (call h down i lost k) = (s : Said) → Calls_only (k s)
 Calls_only (wait s k) = Prim.⊥
 
 -- What the interpreters' commands are: the program of each instruction and of each entry, and what
--- an entry into no interpreter is told (its path is put in where that is shown). All of them call,
--- and none waits.
+-- an entry from outside is told whose path finds nobody. All programs call, and none waits.
 pub record Table (O I : Type 0) : Type 0 where
   pub program : I → Prog O I
   pub entry : Entry → Prog O I
-  pub lost : Completion
+  pub lost : Path → Completion
   pub programs_call : (i : I) → Calls_only (program i)
   pub entries_call : (i : Entry) → Calls_only (entry i)
 

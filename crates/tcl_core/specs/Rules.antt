@@ -9,14 +9,14 @@ use Rattle.tcl_core.specs.Endings.Reply.{Completed, Exit}
 use Rattle.tcl_core.specs.Entries.{Entry, HostReply, Said}
 use Rattle.tcl_core.specs.Entries.Answer.{Replied, Heard}
 use Rattle.tcl_core.specs.Entries.Said.{Finished, Told}
-use Rattle.tcl_core.specs.Trees.{Tree, Move, at, depth_of}
-use Rattle.tcl_core.specs.Trees.What.{Made, Dropped, Out, In, Done, Back}
+use Rattle.tcl_core.specs.Trees.{Node, Tree, Move, at, depth_of}
+use Rattle.tcl_core.specs.Trees.What.{Made, Dropped, Out, In, Done, Back, Unfound}
 use Rattle.tcl_core.specs.Trees.Move.{Come}
 use Rattle.tcl_core.specs.Programs.{Deed, spot, Act, Wrap, Wait, Next, Prog, Table, decide, opens}
 use Rattle.tcl_core.specs.Programs.{closes}
 use Rattle.tcl_core.specs.Programs.Next.{On, TooDeep, Off}
 use Rattle.tcl_core.specs.Programs.Prog.{done, exit, act, go, inside, call, wait}
-use Rattle.tcl_core.specs.Runs.{World, Ending, Step, Exits, returned, reached, entering, fits}
+use Rattle.tcl_core.specs.Runs.{World, Ending, Step, Exits, returned, reached, fits}
 use Rattle.tcl_core.specs.Runs.{height_of}
 
 -- the program goes on after the act
@@ -88,7 +88,7 @@ pub data Derives {O I : Type 0} (prog : Table O I) : World O → Place → Prog 
       (c : Completion) (e : Ending) →
       rise_to h p ≡ Some a → Step w p (Out h down i) out → reached out.tree a down ≡ Some t →
       Step out t (In (Some (length down)) i) entered →
-      Derives prog entered t (entering prog (out.tree t) i) left (Some r) →
+      Derives prog entered t (prog.entry i) left (Some r) →
       Step left t (Done (Some (length down)) r) told →
       returned out.tree told.tree h p down r ≡ Completed c →
       Step told p (Back h (Replied (returned out.tree told.tree h p down r))) back →
@@ -98,7 +98,7 @@ pub data Derives {O I : Type 0} (prog : Table O I) : World O → Place → Prog 
       (r : Reply) →
       rise_to h p ≡ Some a → Step w p (Out h down i) out → reached out.tree a down ≡ Some t →
       Step out t (In (Some (length down)) i) entered →
-      Derives prog entered t (entering prog (out.tree t) i) left (Some r) →
+      Derives prog entered t (prog.entry i) left (Some r) →
       Step left t (Done (Some (length down)) r) told →
       IsQuit (returned out.tree told.tree h p down r) →
       Step told p (Back h (Replied (returned out.tree told.tree h p down r))) back →
@@ -108,7 +108,7 @@ pub data Derives {O I : Type 0} (prog : Table O I) : World O → Place → Prog 
       (lost : Completion) (k : Said → Prog O I) (a t : Place) (out entered left : World O) →
       rise_to h p ≡ Some a → Step w p (Out h down i) out → reached out.tree a down ≡ Some t →
       Step out t (In (Some (length down)) i) entered →
-      Derives prog entered t (entering prog (out.tree t) i) left None →
+      Derives prog entered t (prog.entry i) left None →
       Derives prog w p (call h down i lost k) left None
   unreached : (w : World O) (p : Place) (h : Height) (down : Path) (i : Entry) (lost : Completion)
       (k : Said → Prog O I) (a : Place) (out back v : World O) (e : Ending) →
@@ -143,23 +143,28 @@ pub data Derives {O I : Type 0} (prog : Table O I) : World O → Place → Prog 
       rise_to (height_of s) p ≡ None → fits w.tree p s (Come (Replied r)) ≡ true →
       Step w p (Back (height_of s) (Replied r)) u → Derives prog w p (wait s k) u (Some r)
   entered : (w : World O) (p : Place) (s : Wait) (k : Said → Prog O I) (t : Path) (i : Entry)
-      (inner left told v : World O) (r : Reply) (e : Ending) →
-      rise_to (height_of s) p ≡ None → Step w t (In None i) inner →
-      Derives prog inner t (entering prog (w.tree t) i) left (Some r) →
+      {node : Node O} (inner left told v : World O) (r : Reply) (e : Ending) →
+      rise_to (height_of s) p ≡ None → w.tree t ≡ Some node → Step w t (In None i) inner →
+      Derives prog inner t (prog.entry i) left (Some r) →
       Step left t (Done None r) told → IsNoExit r → Derives prog told p (wait s k) v e →
       Derives prog w p (wait s k) v e
   entered_halted : (w : World O) (p : Place) (s : Wait) (k : Said → Prog O I) (t : Path) (i : Entry)
-      (inner left : World O) →
-      rise_to (height_of s) p ≡ None → Step w t (In None i) inner →
-      Derives prog inner t (entering prog (w.tree t) i) left None →
+      {node : Node O} (inner left : World O) →
+      rise_to (height_of s) p ≡ None → w.tree t ≡ Some node → Step w t (In None i) inner →
+      Derives prog inner t (prog.entry i) left None →
       Derives prog w p (wait s k) left None
   -- an entry that exits: the call that is open can only end by that exit
   entered_exiting : (w : World O) (p : Place) (s : Wait) (k : Said → Prog O I) (t : Path)
-      (i : Entry) (inner left told v : World O) (n : ℤ) (e : Ending) →
-      rise_to (height_of s) p ≡ None → Step w t (In None i) inner →
-      Derives prog inner t (entering prog (w.tree t) i) left (Some (Exit n)) →
+      (i : Entry) {node : Node O} (inner left told v : World O) (n : ℤ) (e : Ending) →
+      rise_to (height_of s) p ≡ None → w.tree t ≡ Some node → Step w t (In None i) inner →
+      Derives prog inner t (prog.entry i) left (Some (Exit n)) →
       Step left t (Done None (Exit n)) told → Exits told p s n told.moves v e →
       Derives prog w p (wait s k) v e
+  -- an entry that finds nobody
+  unfound : (w : World O) (p : Place) (s : Wait) (k : Said → Prog O I) (t : Path) (i : Entry)
+      (u v : World O) (e : Ending) →
+      rise_to (height_of s) p ≡ None → w.tree t ≡ None → Step w [] (Unfound t i (prog.lost t)) u →
+      Derives prog u p (wait s k) v e → Derives prog w p (wait s k) v e
   born : (w : World O) (p : Place) (s : Wait) (k : Said → Prog O I) (o : O) (b : Bool)
       (u v : World O) (e : Ending) →
       rise_to (height_of s) p ≡ None → Step w [] (Made o b) u → Derives prog u p (wait s k) v e →

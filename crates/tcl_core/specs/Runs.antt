@@ -13,7 +13,7 @@ use Rattle.tcl_core.specs.Entries.Answer.{Replied, Heard}
 use Rattle.tcl_core.specs.Entries.Said.{Finished, Told}
 use Rattle.tcl_core.specs.Trees.{Grants, granted, Node, Tree, at, What, Event, Move, effect, asked}
 use Rattle.tcl_core.specs.Trees.{depth_of}
-use Rattle.tcl_core.specs.Trees.What.{Made, Dropped, Out, In, Done, Back}
+use Rattle.tcl_core.specs.Trees.What.{Made, Dropped, Out, In, Done, Back, Unfound}
 use Rattle.tcl_core.specs.Trees.Move.{Born, Fall, Enter, Come}
 use Rattle.tcl_core.specs.Programs.{Wait, Wrap, Next, Deed, spot, Prog, Table, decide, opens}
 use Rattle.tcl_core.specs.Programs.{closes}
@@ -122,11 +122,6 @@ where_stands (Some n) p = Some p
 
 abbrev pub reached : {O : Type 0} → Tree O → Place → Path → Option Place
 reached T a down = where_stands (T (a ++ down)) (a ++ down)
-
--- what an entry does at the interpreter that is there, if one is
-abbrev pub entering : {O I : Type 0} → Table O I → Option (Node O) → Entry → Prog O I
-entering prog None i = done prog.lost
-entering prog (Some n) i = prog.entry i
 
 -- An alias is answered by how its evaluation ended; a request by one of its own answers, or by an
 -- end from outside. A stop that answers an alias names an interpreter below the one to which the
@@ -256,13 +251,15 @@ module _ {O I : Type 0} where
       Ending → Type 0
   Answered R w p h k a v e = (u : World O) × Step w p (Back h a) u × Hears R u p k a v e
 
-  -- control enters t, what is asked for is done there, and control leaves
+  -- control enters t, where somebody stands; what is asked for is done there, and control leaves
   pub record Visits (prog : Table O I) (R : Run O I) (w : World O) (h : Height) (t : Place)
       (i : Entry) (v : World O) (e : Ending) : Type 0 where
+    pub node : Node O
+    pub stands : w.tree t ≡ Some node
     pub entered : World O
     pub left : World O
     pub entry : Step w t (In h i) entered
-    pub run : R entered t (entering prog (w.tree t) i) left e
+    pub run : R entered t (prog.entry i) left e
     pub leaving : Leaves left h t e v
 
   abbrev pub Returns : Run O I → ℕ → World O → Place → Height → Path → (Said → Prog O I) → Ending →
@@ -292,14 +289,21 @@ module _ {O I : Type 0} where
   Stays R w p s k (Some (Exit n)) v e = Exits w p s n w.moves v e
   Stays R w p s k (Some r) v e = R w p (wait s k) v e
 
+  -- an entry from outside, by who stands at its path
+  abbrev pub Enters : Table O I → Run O I → World O → Place → Wait → (Said → Prog O I) → Path →
+      Entry → Option (Node O) → World O → Ending → Type 0
+  Enters prog R w p s k t i None v e = (u : World O) × Step w [] (Unfound t i (prog.lost t)) u ×
+      R u p (wait s k) v e
+  Enters prog R w p s k t i (Some n) v e = (u : World O) × (o : Ending) ×
+      Visits prog R w None t i u o × Stays R u p s k o v e
+
   abbrev pub Moves : Table O I → Run O I → World O → Place → Wait → (Said → Prog O I) → Move O →
       World O → Ending → Type 0
   Moves prog R w p s k (Come a) v e = Answered R w p (height_of s) k a v e
   Moves prog R w p s k (Born o b) v e = (u : World O) × Step w [] (Made o b) u ×
       R u p (wait s k) v e
   Moves prog R w p s k Fall v e = (u : World O) × Step w [] Dropped u × R u p (wait s k) v e
-  Moves prog R w p s k (Enter t i) v e = (u : World O) × (o : Ending) ×
-      Visits prog R w None t i u o × Stays R u p s k o v e
+  Moves prog R w p s k (Enter t i) v e = Enters prog R w p s k t i (w.tree t) v e
 
   abbrev pub Fitting : Table O I → Run O I → World O → Place → Wait → (Said → Prog O I) → Bool →
       Move O → World O → Ending → Type 0

@@ -4,7 +4,7 @@
 use Rattle.std.specs.Prelude.{ℕ, suc, pred, Bool, true, false, List, [], ◌∷◌, ◌++◌, Option, Some}
 use Rattle.std.specs.Prelude.{None, nat_lt, length}
 use Rattle.tcl_core.specs.Paths.{Path, Place, Height, strip, rise_to, seen_height}
-use Rattle.tcl_core.specs.Endings.{Meter, Kind, Reply}
+use Rattle.tcl_core.specs.Endings.{Meter, Kind, Completion, Reply}
 use Rattle.tcl_core.specs.Endings.Kind.{Full, Gone}
 use Rattle.tcl_core.specs.Endings.Reply.{Stop, Cut}
 use Rattle.tcl_core.specs.Endings.Cause.{Above}
@@ -63,6 +63,9 @@ pub data What (O : Type 0) : Type 0 where
   -- an entry comes in, from so many levels up or from outside the tree; and its reply goes there
   In : (height : Height) (entry : Entry) → What O
   Done : (height : Height) (reply : Reply) → What O
+  -- An entry from outside finds nobody at its path, and is told this completion. It happens at the
+  -- top of the tree, where the path is read: so in no subtree below.
+  Unfound : (path : Path) (entry : Entry) (completion : Completion) → What O
 
 pub record Event (O : Type 0) : Type 0 where
   pub place : Place
@@ -161,6 +164,7 @@ module _ {O : Type 0} where
   asked p (Back h a) ms = where_none (rise_to h p) (Come a) ms
   asked p (Made o s) ms = at_top p (Born o s) ms
   asked p Dropped ms = at_top p Fall ms
+  asked p (Unfound t i c) ms = Enter t i ∷ ms
   asked p _ ms = ms
 
 -- what the outside says to a step that is to be counted, or an evaluation that is to begin

@@ -17,7 +17,7 @@ use Rattle.tcl_core.specs.Trees.Grants.{Budget}
 use Rattle.tcl_core.specs.Programs.{Deed, Wait, Prog, Table, spot, decide, opens, closes}
 use Rattle.tcl_core.specs.Programs.Next.{On, TooDeep, Off}
 use Rattle.tcl_core.specs.Programs.Prog.{done, exit, act, go, inside, call, wait}
-use Rattle.tcl_core.specs.Runs.{returned, reached, entering, fits}
+use Rattle.tcl_core.specs.Runs.{returned, reached, fits}
 
 module _ {O I : Type 0} (prog : Table O I) where
   abbrev pub Played : Type 0
@@ -76,7 +76,7 @@ module _ {O I : Type 0} (prog : Table O I) where
       (λ V r. on_completed (λ W c. play n W p (k c)) (effect p (closes b (U p) (V p)) V) r))
       (λ U. play n U p (k (refusal (Full Depth)))) T p (opens b T p (Budget 1000))
   play (suc n) T p (call h down i lost k) =
-      risen_by (λ a. reached_by (λ t. follow (play n T t (entering prog (T t) i))
+      risen_by (λ a. reached_by (λ t. follow (play n T t (prog.entry i))
       (λ U r. on_completed (λ V c. play n V p (k (Finished c))) U (returned T U h p down r)))
       (play n T p (k (Finished lost))) (reached T a down))
       (where_fit (accepts T p h i) (play n T p (k (Told Accepted)))) (rise_to h p)

@@ -14,11 +14,11 @@ use Rattle.tcl_core.specs.Trees.Move.{Come}
 use Rattle.tcl_core.specs.Programs.{Deed, spot, Act, Wrap, Wait, Next, Prog, Table, closes}
 use Rattle.tcl_core.specs.Programs.Next.{On, TooDeep, Off}
 use Rattle.tcl_core.specs.Programs.Prog.{act, go, inside, call, wait}
-use Rattle.tcl_core.specs.Runs.{World, Ending, Runs, Then, Closes, Acted, Acts, Opened, Opens, Hears, Answered, Leaves, Visits, Returns, Reaches, Calls, Stays, Fitting, Waits, carried, reached, entering, fits, height_of, gone, gone_from}
+use Rattle.tcl_core.specs.Runs.{World, Ending, Runs, Then, Closes, Acted, Acts, Opened, Opens, Hears, Answered, Leaves, Visits, Returns, Reaches, Calls, Stays, Fitting, Waits, carried, reached, fits, height_of, gone, gone_from}
 use Rattle.tcl_core.specs.Rules.{IsOn, IsNoExit}
 use Rattle.tcl_core.specs.Execution.{Executes, Chain, Open, none, more, Decides, Opens_so, event, pending, with_call}
 use Rattle.tcl_core.proofs.Folding.{unroll}
-use Rattle.tcl_core.proofs.Callers.{Fits, entering_calls, fit}
+use Rattle.tcl_core.proofs.Callers.{Fits, fit}
 use Rattle.tcl_core.proofs.Following.{back_within, called_on, chain-append, goes_out, goes_within, plain_deed, plain_more, plain_open, replied, waiting}
 use Rattle.tcl_core.proofs.Plain.{closes_plain}
 use Rattle.tcl_partial_runs.specs.Beginnings.{Begun, handed, handing, Begins, BeginsEach}
@@ -95,18 +95,18 @@ module _ {O I : Type 0} (prog : Table O I) where
       out_leads T p h down i lost k (Some a) τ f (λ ms g su t v e y. j ms g su t v e (subst (λ m. Reaches prog (Runs prog) (handing T τ ms g t) p h down i lost k m v e) there y))
 
   -- an entry came in, and what is asked for is being done
-  visit_leads : (T : Tree O) (h : Height) (t : Place) (i : Entry) (τ : List (Event O)) → Leads T t (entering prog (T t) i) τ → Leads_at T (λ u v e. Visits prog (Runs prog) u h t i v e) (event t (In h i) ∷ τ)
+  visit_leads : (T : Tree O) (h : Height) (t : Place) (i : Entry) (τ : List (Event O)) → Leads T t (prog.entry i) τ → Leads_at T (λ u v e. Visits prog (Runs prog) u h t i v e) (event t (In h i) ∷ τ)
   visit_leads T h t i τ j ms g su l v e y =
-      after_step (λ u. Runs prog u t (entering prog (T t) i) y.left e) T t (In h i) τ ms g l y.entered y.entry y.run (λ s q. j ms g (suits_next (event t (In h i)) τ g su) s y.left e q)
+      after_step (λ u. Runs prog u t (prog.entry i) y.left e) T t (In h i) τ ms g l y.entered y.entry y.run (λ s q. j ms g (suits_next (event t (In h i)) τ g su) s y.left e q)
 
   -- it was done, and what follows is at this point: D says where
-  visited_leads : (T U : Tree O) (h : Height) (t : Place) (i : Entry) (r : Reply) (a τ : List (Event O)) (D : World O → Ending → World O → Ending → Type 0) → Whole prog T t (entering prog (T t) i) U r a →
+  visited_leads : (T U : Tree O) (h : Height) (t : Place) (i : Entry) (r : Reply) (a τ : List (Event O)) (D : World O → Ending → World O → Ending → Type 0) → Whole prog T t (prog.entry i) U r a →
       Leads_at U (λ u v e. D u (Some r) v e) τ → Leads_at T (λ w v e. (u : World O) × (o : Ending) × Visits prog (Runs prog) w h t i u o × D u o v e) (event t (In h i) ∷ (a ++ event t (Done h r) ∷ τ))
   visited_leads T U h t i r a τ D whole j ms g su l v e y =
       let tail : List (Event O) = event t (Done h r) ∷ τ in
       let su2 : Suits g (a ++ tail) = suits_next (event t (In h i)) (a ++ tail) g su in
-      after_step (λ u. Runs prog u t (entering prog (T t) i) y.2.left y.1) T t (In h i) (a ++ tail) ms g l y.2.entered y.2.entry y.2.run
-      (λ s q. after_run prog (λ u o. Leaves u h t o y.0 × D y.0 o v e) T U t (entering prog (T t) i) r a tail ms g s y.2.left y.1 whole su2 q (y.2.leaving, y.3)
+      after_step (λ u. Runs prog u t (prog.entry i) y.2.left y.1) T t (In h i) (a ++ tail) ms g l y.2.entered y.2.entry y.2.run
+      (λ s q. after_run prog (λ u o. Leaves u h t o y.0 × D y.0 o v e) T U t (prog.entry i) r a tail ms g s y.2.left y.1 whole su2 q (y.2.leaving, y.3)
       (λ s2 q2. after_step (λ u. D u (Some r) v e) U t (Done h r) τ ms g s2 y.0 q2.0 q2.1
       (λ s3 q3. j ms g (suits_next (event t (Done h r)) τ g (suits_after a tail g su2)) s3 v e q3)))
 
@@ -184,28 +184,28 @@ module _ {O I S : Type 0} (step : Tree O → S → Wait → Event O → S → Ty
   goes f (calling_out {T} {p = p} {h = h} {down = down} {i = i} {lost = lost} {k = k} s) =
       record { told = event p (Out h down i) ∷ []; last = T; calls = with_call (rise_to h p) (h, i, depth_of (T p)); chain = λ cs. more s none; leads = out_leads prog T p h down i lost k (rise_to h p) [] refl (at_end prog T (λ u v e. Calls prog (Runs prog) u p h down i lost k (rise_to h p) v e)) }
   goes calls (calling {T} {p = p} {h = h} {down = down} {i = i} {lost = lost} {k = k} a t e there s1 s2 b) =
-      let f = goes (fit (entering prog (T t) i) (entering_calls prog (T t) i)) b in
+      let f = goes (fit (prog.entry i) (prog.entries_call i)) b in
       let tail : List (Event O) = event t (In (Some (length down)) i) ∷ f.told in
       record {
         told = event p (Out h down i) ∷ tail;
         last = f.last;
         calls = f.calls;
-        chain = λ cs. goes_within step e s1 (more s2 (called_on step (entering prog (T t) i) (entering_calls prog (T t) i) (f.chain cs)));
+        chain = λ cs. goes_within step e s1 (more s2 (called_on step (prog.entry i) (prog.entries_call i) (f.chain cs)));
         leads = reach_leads prog T p h down i lost k a (Some t) tail e there (λ ms g su l v o y. visit_leads prog T (Some (length down)) t i f.told f.leads ms g su l y.0 y.1 y.2);
       }
   goes calls (returning {T} {U} {p = p} {h = h} {down = down} {i = i} {lost = lost} {k = k} {s = s} a t e there s1 s2 m s3) =
-      let f = came step prog (fit (entering prog (T t) i) (entering_calls prog (T t) i)) m in
+      let f = came step prog (fit (prog.entry i) (prog.entries_call i)) m in
       let tail : List (Event O) = event t (In (Some (length down)) i) ∷ (f.events ++ event t (Done (Some (length down)) s) ∷ []) in
       record {
         told = event p (Out h down i) ∷ tail;
         last = U;
         calls = λ cs. cs;
-        chain = λ cs. goes_within step e s1 (more s2 (chain-append step (called_on step (entering prog (T t) i) (entering_calls prog (T t) i) (f.chain cs)) (more s3 none)));
+        chain = λ cs. goes_within step e s1 (more s2 (chain-append step (called_on step (prog.entry i) (prog.entries_call i) (f.chain cs)) (more s3 none)));
         leads = reach_leads prog T p h down i lost k a (Some t) tail e there
             (visited_leads prog T U (Some (length down)) t i s f.events [] (λ u o v y. Returns (Runs prog) (depth_of (T p)) u p h down k o v y) f.whole (at_end prog U (λ u v y. Returns (Runs prog) (depth_of (T p)) u p h down k (Some s) v y)));
       }
   goes calls (called {T} {U} {p = p} {h = h} {down = down} {i = i} {lost = lost} {k = k} {s = s} {c = c} a t e there s1 s2 m s3 so s4 b) =
-      let f = came step prog (fit (entering prog (T t) i) (entering_calls prog (T t) i)) m in
+      let f = came step prog (fit (prog.entry i) (prog.entries_call i)) m in
       let n = goes (fit (k (Finished c)) (calls (Finished c))) b in
       let last : List (Event O) = event p (Back h (Replied (carried (gone (depth_of (T p)) U p) h p down s))) ∷ n.told in
       let tail : List (Event O) = event t (In (Some (length down)) i) ∷ (f.events ++ event t (Done (Some (length down)) s) ∷ last) in
@@ -213,7 +213,7 @@ module _ {O I S : Type 0} (step : Tree O → S → Wait → Event O → S → Ty
         told = event p (Out h down i) ∷ tail;
         last = n.last;
         calls = n.calls;
-        chain = λ cs. goes_within step e s1 (more s2 (chain-append step (called_on step (entering prog (T t) i) (entering_calls prog (T t) i) (f.chain cs)) (more s3 (back_within step e s4 (called_on step (k (Finished c)) (calls (Finished c)) (n.chain cs))))));
+        chain = λ cs. goes_within step e s1 (more s2 (chain-append step (called_on step (prog.entry i) (prog.entries_call i) (f.chain cs)) (more s3 (back_within step e s4 (called_on step (k (Finished c)) (calls (Finished c)) (n.chain cs))))));
         leads = reach_leads prog T p h down i lost k a (Some t) tail e there
             (visited_leads prog T U (Some (length down)) t i s f.events last (λ u o v y. Returns (Runs prog) (depth_of (T p)) u p h down k o v y) f.whole
             (back_leads prog U p h k (Replied (carried (gone (depth_of (T p)) U p) h p down s)) n.told (λ ms g su l v y z. n.leads ms g su l v y (subst (λ r. Hears (Runs prog) (handing U n.told ms g l) p k (Replied r) v y) so z))));
@@ -238,42 +238,42 @@ module _ {O I S : Type 0} (step : Tree O → S → Wait → Event O → S → Ty
       let n = goes (fit (k (Told a)) (calls (Told a))) b in
       record { told = event p (Back (height_of s) (Heard a)) ∷ n.told; last = n.last; calls = n.calls; chain = λ cs. replied step s p e (Heard a) (gone_from s T p) own j (called_on step (k (Told a)) (calls (Told a)) (n.chain cs)); leads = answer_leads prog T p s k (Heard a) n.told e own n.leads }
   goes calls (entering_in {T} {p = p} {s = s} {k = k} t i e s1 b) =
-      let n = goes (fit (entering prog (T t) i) (entering_calls prog (T t) i)) b in
+      let n = goes (fit (prog.entry i) (prog.entries_call i)) b in
       record {
         told = event t (In None i) ∷ n.told;
         last = n.last;
         calls = λ cs. n.calls (pending s cs);
-        chain = λ cs. more s1 (called_on step (entering prog (T t) i) (entering_calls prog (T t) i) (n.chain (pending s cs)));
+        chain = λ cs. more s1 (called_on step (prog.entry i) (prog.entries_call i) (n.chain (pending s cs)));
         leads = entry_leads prog T p s k t i n.told (λ ms g su l v o y. visit_leads prog T None t i n.told n.leads ms g su l y.0 y.1 y.2);
       }
   goes calls (leaving {T} {U} {p = p} {s = s} {k = k} {y = y} t i e s1 m) =
-      let n = over (fit (entering prog (T t) i) (entering_calls prog (T t) i)) m in
+      let n = over (fit (prog.entry i) (prog.entries_call i)) m in
       record {
         told = event t (In None i) ∷ n.told;
         last = n.last;
         calls = λ cs. n.calls (pending s cs);
-        chain = λ cs. more s1 (called_on step (entering prog (T t) i) (entering_calls prog (T t) i) (n.chain (pending s cs)));
+        chain = λ cs. more s1 (called_on step (prog.entry i) (prog.entries_call i) (n.chain (pending s cs)));
         leads = entry_leads prog T p s k t i n.told (λ ms g su l v o y. visit_leads prog T None t i n.told n.leads ms g su l y.0 y.1 y.2);
       }
   goes calls (left {T} {U} {p = p} {s = s} {k = k} {y = y} t i e s1 m s2) =
-      let f = came step prog (fit (entering prog (T t) i) (entering_calls prog (T t) i)) m in
+      let f = came step prog (fit (prog.entry i) (prog.entries_call i)) m in
       record {
         told = event t (In None i) ∷ (f.events ++ event t (Done None y) ∷ []);
         last = U;
         calls = pending s;
-        chain = λ cs. more s1 (chain-append step (called_on step (entering prog (T t) i) (entering_calls prog (T t) i) (f.chain (pending s cs))) (more s2 none));
+        chain = λ cs. more s1 (chain-append step (called_on step (prog.entry i) (prog.entries_call i) (f.chain (pending s cs))) (more s2 none));
         leads = entry_leads prog T p s k t i (f.events ++ event t (Done None y) ∷ [])
             (visited_leads prog T U None t i y f.events [] (λ u o v z. Stays (Runs prog) u p s k o v z) f.whole (at_end prog U (λ u v z. Stays (Runs prog) u p s k (Some y) v z)));
       }
   goes calls (entered {T} {U} {p = p} {s = s} {k = k} {y = y} t i e s1 m s2 calm b) =
-      let f = came step prog (fit (entering prog (T t) i) (entering_calls prog (T t) i)) m in
+      let f = came step prog (fit (prog.entry i) (prog.entries_call i)) m in
       let n = goes calls b in
       let tail : List (Event O) = event t (Done None y) ∷ n.told in
       record {
         told = event t (In None i) ∷ (f.events ++ tail);
         last = n.last;
         calls = n.calls;
-        chain = λ cs. more s1 (chain-append step (called_on step (entering prog (T t) i) (entering_calls prog (T t) i) (f.chain (pending s cs))) (more s2 (n.chain cs)));
+        chain = λ cs. more s1 (chain-append step (called_on step (prog.entry i) (prog.entries_call i) (f.chain (pending s cs))) (more s2 (n.chain cs)));
         leads = entry_leads prog T p s k t i (f.events ++ tail)
             (visited_leads prog T U None t i y f.events n.told (λ u o v z. Stays (Runs prog) u p s k o v z) f.whole
             (λ ms g su l v z q. n.leads ms g su l v z (stays_on prog (handing U n.told ms g l) p s k y v z calm q)));

@@ -10,11 +10,11 @@ use Rattle.tcl_core.specs.Trees.{Tree, What, Event, Move, Grants, at, effect, de
 use Rattle.tcl_core.specs.Trees.What.{Out, In, Done, Back}
 use Rattle.tcl_core.specs.Programs.{Wait, spot, Prog, Table, closes}
 use Rattle.tcl_core.specs.Programs.Prog.{call}
-use Rattle.tcl_core.specs.Runs.{World, Step, Runs, carried, entering, height_of, gone, gone_from}
+use Rattle.tcl_core.specs.Runs.{World, Step, Runs, carried, height_of, gone, gone_from}
 use Rattle.tcl_core.specs.Rules.{Derives}
 use Rattle.tcl_core.specs.Execution.{Executes, Chain, Open, none, more, event, pending}
 use Rattle.tcl_core.specs.Execution.Executes.{completed, exited, acted, refused, went, passed, wrapped, wrapped_passed, too_deep, shut, called, called_passed, unreached, called_out, answered, heard, answered_passed, entered, entered_exiting}
-use Rattle.tcl_core.proofs.Callers.{Fits, entering_calls, fit}
+use Rattle.tcl_core.proofs.Callers.{Fits, fit}
 use Rattle.tcl_core.proofs.Following.{back_within, called_on, chain-append, comes_back, goes_out, goes_within, plain_deed, plain_more, plain_open, replied, waiting}
 use Rattle.tcl_core.proofs.Plain.{closes_plain}
 use Rattle.tcl_core.proofs.RuleLaws.{derived_runs}
@@ -111,32 +111,32 @@ module _ {O I S : Type 0} (step : Tree O → S → Wait → Event O → S → Ty
         runs = λ ms g l su. Derives.shut _ p b i k x r (ahead (effect (spot p x.0) x.1 T) [] ms g l) (opened b T p x is_so [] g su) off (next T (spot p x.0) x.1 [] ms g l);
       }
   follows calls (called {T} {U} {V} {o} {o1} {o2} {o3} {o4} {o5} {z} {p} {h} {down} {i} {lost} {k} {s} {r} {c} a t e there s1 s2 m s3 so s4 j) =
-      let f = follows (fit (entering prog (T t) i) (entering_calls prog (T t) i)) m in
+      let f = follows (fit (prog.entry i) (prog.entries_call i)) m in
       let n = follows (fit (k (Finished c)) (calls (Finished c))) j in
       let last : List (Event O) = event p (Back h (Replied (carried (gone (depth_of (T p)) U p) h p down s))) ∷ n.events in
       let tail : List (Event O) = event t (Done (Some (length down)) s) ∷ last in
       let inner : List (Event O) = event t (In (Some (length down)) i) ∷ (f.events ++ tail) in
       record {
         events = event p (Out h down i) ∷ inner;
-        chain = λ cs. goes_within step e s1 (more s2 (chain-append step (called_on step (entering prog (T t) i) (entering_calls prog (T t) i) (f.chain cs)) (more s3 (back_within step e s4 (called_on step (k (Finished c)) (calls (Finished c)) (n.chain cs))))));
+        chain = λ cs. goes_within step e s1 (more s2 (chain-append step (called_on step (prog.entry i) (prog.entries_call i) (f.chain cs)) (more s3 (back_within step e s4 (called_on step (k (Finished c)) (calls (Finished c)) (n.chain cs))))));
         runs = λ ms g l su. let su2 : Suits g (f.events ++ tail) = suits_next _ _ _ (suits_next _ inner _ su) in
             Derives.called _ p h down i lost k a t (ahead T inner ms g l) (ahead T (f.events ++ tail) ms g l) (ahead U tail ms g l) (ahead U last ms g l) (ahead U n.events ms g l) _ s c _ e
             (next T p (Out h down i) inner ms g l) there (next T t (In (Some (length down)) i) (f.events ++ tail) ms g l)
-            (first T U t (entering prog (T t) i) s f.events tail ms g l su2 f.runs)
+            (first T U t (prog.entry i) s f.events tail ms g l su2 f.runs)
             (next U t (Done (Some (length down)) s) last ms g l) so (next U p (Back h (Replied (carried (gone (depth_of (T p)) U p) h p down s))) n.events ms g l) (n.runs ms g l (suits_next _ _ _ (suits_next _ last _ (suits_after f.events tail g su2))));
       }
   follows calls (called_passed {T} {U} {o} {o1} {o2} {o3} {o4} {o5} {p} {h} {down} {i} {lost} {k} {s} {r} a t e there s1 s2 m s3 so q s4) =
-      let f = follows (fit (entering prog (T t) i) (entering_calls prog (T t) i)) m in
+      let f = follows (fit (prog.entry i) (prog.entries_call i)) m in
       let last : List (Event O) = event p (Back h (Replied (carried (gone (depth_of (T p)) U p) h p down s))) ∷ [] in
       let tail : List (Event O) = event t (Done (Some (length down)) s) ∷ last in
       let inner : List (Event O) = event t (In (Some (length down)) i) ∷ (f.events ++ tail) in
       record {
         events = event p (Out h down i) ∷ inner;
-        chain = λ cs. goes_within step e s1 (more s2 (chain-append step (called_on step (entering prog (T t) i) (entering_calls prog (T t) i) (f.chain cs)) (more s3 (back_within step e (subst (λ y. step U o4 None (event p (Back h (Replied y))) o5) (sym so) s4) none))));
+        chain = λ cs. goes_within step e s1 (more s2 (chain-append step (called_on step (prog.entry i) (prog.entries_call i) (f.chain cs)) (more s3 (back_within step e (subst (λ y. step U o4 None (event p (Back h (Replied y))) o5) (sym so) s4) none))));
         runs = λ ms g l su. subst (λ y. Derives prog (ahead T (event p (Out h down i) ∷ inner) ms g l) p (call h down i lost k) (ahead U [] ms g l) (Some y)) so
             (Derives.called_passed _ p h down i lost k a t (ahead T inner ms g l) (ahead T (f.events ++ tail) ms g l) (ahead U tail ms g l) (ahead U last ms g l) (ahead U [] ms g l) s e
             (next T p (Out h down i) inner ms g l) there (next T t (In (Some (length down)) i) (f.events ++ tail) ms g l)
-            (first T U t (entering prog (T t) i) s f.events tail ms g l (suits_next _ _ _ (suits_next _ inner _ su)) f.runs)
+            (first T U t (prog.entry i) s f.events tail ms g l (suits_next _ _ _ (suits_next _ inner _ su)) f.runs)
             (next U t (Done (Some (length down)) s) last ms g l) (subst IsQuit (sym so) q) (next U p (Back h (Replied (carried (gone (depth_of (T p)) U p) h p down s))) [] ms g l));
       }
   follows calls (unreached {T} {V} {o} {o1} {o2} {z} {p} {h} {down} {i} {lost} {k} {r} a e there s1 s2 t) =
@@ -175,25 +175,25 @@ module _ {O I S : Type 0} (step : Tree O → S → Wait → Event O → S → Ty
         runs = λ ms g l su. Derives.answered_passed _ p s k r (ahead T [] ms g l) q e own (next T p (Back (height_of s) (Replied r)) [] ms g l);
       }
   follows calls (entered {T} {U} {V} {o} {o1} {o2} {o3} {z} {p} {s} {k} {y = j} {r} t i e s1 m s2 calm b) =
-      let f = follows (fit (entering prog (T t) i) (entering_calls prog (T t) i)) m in
+      let f = follows (fit (prog.entry i) (prog.entries_call i)) m in
       let n = follows calls b in
       let tail : List (Event O) = event t (Done None j) ∷ n.events in
       record {
         events = event t (In None i) ∷ (f.events ++ tail);
-        chain = λ cs. more s1 (chain-append step (called_on step (entering prog (T t) i) (entering_calls prog (T t) i) (f.chain (pending s cs))) (more s2 (n.chain cs)));
+        chain = λ cs. more s1 (chain-append step (called_on step (prog.entry i) (prog.entries_call i) (f.chain (pending s cs))) (more s2 (n.chain cs)));
         runs = λ ms g l su. Derives.entered _ p s k t i (ahead T (f.events ++ tail) ms g l) (ahead U tail ms g l) (ahead U n.events ms g l) _ j _ e
-            (next T t (In None i) (f.events ++ tail) ms g l) (first T U t (entering prog (T t) i) j f.events tail ms g l (suits_next _ _ _ su) f.runs) (next U t (Done None j) n.events ms g l) calm
+            (next T t (In None i) (f.events ++ tail) ms g l) (first T U t (prog.entry i) j f.events tail ms g l (suits_next _ _ _ su) f.runs) (next U t (Done None j) n.events ms g l) calm
             (n.runs ms g l (suits_next _ _ _ (suits_after f.events tail g (suits_next _ _ _ su))));
       }
   follows calls (entered_exiting {T} {U} {o} {o1} {o2} {o3} {o4} {p} {c} {k} {n} t i e s1 m s2 s3) =
-      let f = follows (fit (entering prog (T t) i) (entering_calls prog (T t) i)) m in
+      let f = follows (fit (prog.entry i) (prog.entries_call i)) m in
       let last : List (Event O) = event p (Back c.0 (Replied (Exit n))) ∷ [] in
       let tail : List (Event O) = event t (Done None (Exit n)) ∷ last in
       record {
         events = event t (In None i) ∷ (f.events ++ tail);
-        chain = λ cs. more s1 (chain-append step (called_on step (entering prog (T t) i) (entering_calls prog (T t) i) (f.chain (c ∷ cs))) (more s2 (comes_back step e s3 none)));
+        chain = λ cs. more s1 (chain-append step (called_on step (prog.entry i) (prog.entries_call i) (f.chain (c ∷ cs))) (more s2 (comes_back step e s3 none)));
         runs = λ ms g l su. Derives.entered_exiting _ p (Some c) k t i (ahead T (f.events ++ tail) ms g l) (ahead U tail ms g l) (ahead U last ms g l) (ahead U [] ms g l) n (Some (Exit n)) e
-            (next T t (In None i) (f.events ++ tail) ms g l) (first T U t (entering prog (T t) i) (Exit n) f.events tail ms g l (suits_next _ _ _ su) f.runs) (next U t (Done None (Exit n)) last ms g l)
+            (next T t (In None i) (f.events ++ tail) ms g l) (first T U t (prog.entry i) (Exit n) f.events tail ms g l (suits_next _ _ _ su) f.runs) (next U t (Done None (Exit n)) last ms g l)
             (exit_answer (ahead U last ms g l) p (Some c) n (ahead U [] ms g l) e (is_exit_self n) (next U p (Back c.0 (Replied (Exit n))) [] ms g l));
       }
 

@@ -17,7 +17,7 @@ use Rattle.tcl_core.specs.Trees.Move.{Come}
 use Rattle.tcl_core.specs.Programs.{Deed, spot, Act, Wrap, Wait, Prog, Table, closes}
 use Rattle.tcl_core.specs.Programs.Next.{On, TooDeep}
 use Rattle.tcl_core.specs.Programs.Prog.{act, go, inside, call, wait}
-use Rattle.tcl_core.specs.Runs.{World, Ending, Runs, returned, reached, entering, fits}
+use Rattle.tcl_core.specs.Runs.{World, Ending, Runs, returned, reached, fits}
 use Rattle.tcl_core.specs.Runs.{height_of}
 use Rattle.tcl_core.specs.Rules.{IsOn, IsNoExit}
 use Rattle.tcl_core.specs.Execution.{Executes, Chain, Decides, Fits, Open, Opens_so, event}
@@ -75,7 +75,7 @@ pub data Begun {O I S : Type 0} (step : Tree O → S → Wait → Event O → S 
       rise_to h p ≡ Some a → reached T a down ≡ Some t →
       step T o None (event p (Out h down i)) o1 →
       step T o1 None (event t (In (Some (length down)) i)) o2 →
-      Begun step prog T o2 t (entering prog (T t) i) z →
+      Begun step prog T o2 t (prog.entry i) z →
       Begun step prog T o p (call h down i lost k) z
   -- it was done, and the answer did not come back
   returning : {T U : Tree O} {o o1 o2 o3 o4 : S} {p : Place} {h : Height} {down : Path} {i : Entry}
@@ -83,7 +83,7 @@ pub data Begun {O I S : Type 0} (step : Tree O → S → Wait → Event O → S 
       rise_to h p ≡ Some a → reached T a down ≡ Some t →
       step T o None (event p (Out h down i)) o1 →
       step T o1 None (event t (In (Some (length down)) i)) o2 →
-      Executes step prog T o2 t (entering prog (T t) i) U o3 s →
+      Executes step prog T o2 t (prog.entry i) U o3 s →
       step U o3 None (event t (Done (Some (length down)) s)) o4 →
       Begun step prog T o p (call h down i lost k) o4
   -- after the answer
@@ -93,7 +93,7 @@ pub data Begun {O I S : Type 0} (step : Tree O → S → Wait → Event O → S 
       rise_to h p ≡ Some a → reached T a down ≡ Some t →
       step T o None (event p (Out h down i)) o1 →
       step T o1 None (event t (In (Some (length down)) i)) o2 →
-      Executes step prog T o2 t (entering prog (T t) i) U o3 s →
+      Executes step prog T o2 t (prog.entry i) U o3 s →
       step U o3 None (event t (Done (Some (length down)) s)) o4 →
       returned T U h p down s ≡ Completed c →
       step U o4 None (event p (Back h (Replied (returned T U h p down s)))) o5 →
@@ -125,24 +125,24 @@ pub data Begun {O I S : Type 0} (step : Tree O → S → Wait → Event O → S 
   -- in an entry from outside, while the call is waited for
   entering_in : {T : Tree O} {o o1 z : S} {p : Place} {s : Wait} {k : Said → Prog O I} (t : Path)
       (i : Entry) → rise_to (height_of s) p ≡ None →
-      step T o None (event t (In None i)) o1 → Begun step prog T o1 t (entering prog (T t) i) z →
+      step T o None (event t (In None i)) o1 → Begun step prog T o1 t (prog.entry i) z →
       Begun step prog T o p (wait s k) z
   -- it was done, and its reply was not told; or it was told
   leaving : {T U : Tree O} {o o1 o2 : S} {p : Place} {s : Wait} {k : Said → Prog O I} {y : Reply}
       (t : Path) (i : Entry) → rise_to (height_of s) p ≡ None →
       step T o None (event t (In None i)) o1 →
-      Executes step prog T o1 t (entering prog (T t) i) U o2 y →
+      Executes step prog T o1 t (prog.entry i) U o2 y →
       Begun step prog T o p (wait s k) o2
   left : {T U : Tree O} {o o1 o2 o3 : S} {p : Place} {s : Wait} {k : Said → Prog O I} {y : Reply}
       (t : Path) (i : Entry) → rise_to (height_of s) p ≡ None →
       step T o None (event t (In None i)) o1 →
-      Executes step prog T o1 t (entering prog (T t) i) U o2 y →
+      Executes step prog T o1 t (prog.entry i) U o2 y →
       step U o2 None (event t (Done None y)) o3 → Begun step prog T o p (wait s k) o3
   -- after such an entry, unless it exited
   entered : {T U : Tree O} {o o1 o2 o3 z : S} {p : Place} {s : Wait} {k : Said → Prog O I}
       {y : Reply} (t : Path) (i : Entry) → rise_to (height_of s) p ≡ None →
       step T o None (event t (In None i)) o1 →
-      Executes step prog T o1 t (entering prog (T t) i) U o2 y →
+      Executes step prog T o1 t (prog.entry i) U o2 y →
       step U o2 None (event t (Done None y)) o3 → IsNoExit y →
       Begun step prog U o3 p (wait s k) z → Begun step prog T o p (wait s k) z
 

@@ -11,7 +11,7 @@ use Rattle.tcl_core.specs.Trees.{Tree, Event, Move, Grants, depth_of}
 use Rattle.tcl_core.specs.Trees.What.{In, Out, Done, Back}
 use Rattle.tcl_core.specs.Programs.{Prog, Table}
 use Rattle.tcl_core.specs.Programs.Prog.{call, wait}
-use Rattle.tcl_core.specs.Runs.{Step, carried, lessened, entering, reached, gone, carried_by, ended}
+use Rattle.tcl_core.specs.Runs.{Step, carried, lessened, reached, gone, carried_by, ended}
 use Rattle.tcl_core.specs.Rules.{Derives, IsNoExit}
 use Rattle.tcl_core.specs.Execution.{Crossings, event}
 use Rattle.tcl_core.proofs.PathLaws.{rise_back}
@@ -113,7 +113,7 @@ module _ {O I : Type 0} (prog : Table O I) where
     calm_after : Calm (last_end o3) → Calm (last_end o5)
     calm_after c = subst (λ z. Calm (last_end z)) (sym answers_same) c
 
-    pub called_by : (V : Tree O) (z : Player O) (c : Completion) (r : Reply) → o.fate ≡ None → carried (gone (depth_of (T p)) U p) h p down s ≡ Completed c → Result prog T o2 t (entering prog (T t) i) U o3 s →
+    pub called_by : (V : Tree O) (z : Player O) (c : Completion) (r : Reply) → o.fate ≡ None → carried (gone (depth_of (T p)) U p) h p down s ≡ Completed c → Result prog T o2 t (prog.entry i) U o3 s →
         (o5.fate ≡ None → Calm (last_end o5) → Result prog U o5 p (k (Finished c)) V z r) → Result prog T o p (call h down i lost k) V z r
     called_by V z c r n so (broke τ w j f S σ l q x y d) g = completed_fine c s (sym (end_carried (gone (depth_of (T p)) U p) h p down s d) ∙ so) d
     called_by V z c r n so (ran τ l q m) g =
@@ -122,26 +122,26 @@ module _ {O I : Type 0} (prog : Table O I) where
           way = w;
           builds = λ y b v d x. Derives.called (ahead T (e1 ∷ e2 ∷ (τ ++ e3 s ∷ e4 s ∷ [])) y) p h down i lost k a t (ahead T (e2 ∷ (τ ++ e3 s ∷ e4 s ∷ [])) y) (ahead T (τ ++ e3 s ∷ e4 s ∷ []) y) (ahead U (e3 s ∷ e4 s ∷ []) y) (ahead U (e4 s ∷ []) y) (ahead U [] y) v s c d e
               (next T p (Out h down i) (e2 ∷ (τ ++ e3 s ∷ e4 s ∷ [])) y) there (next T t (In (Some (length down)) i) (τ ++ e3 s ∷ e4 s ∷ []) y)
-              (first prog T U t (entering prog (T t) i) s o2 o3 τ (e3 s ∷ e4 s ∷ []) y b l)
+              (first prog T U t (prog.entry i) s o2 o3 τ (e3 s ∷ e4 s ∷ []) y b l)
               (next U t (Done (Some (length down)) s) (e4 s ∷ []) y) so (next U p (Back h (Replied (carried (gone (depth_of (T p)) U p) h p down s))) [] y) x;
         }) (g w.goes_on (calm_after (m (no_exit_of (gone (depth_of (T p)) U p) h p down s c so))))
 
     back_step : (ms : List (Move O)) (gs : Grants) (ρ : List (Event O)) (r : Reply) → Step (world U ms gs (e4 r ∷ ρ)) p (Back h (Replied (carried (gone (depth_of (T p)) U p) h p down r))) (world U ms gs ρ)
     back_step ms gs ρ r = record { tape = refl; tree = refl; moves = sym (inner_asked p (Back h (Replied (carried (gone (depth_of (T p)) U p) h p down r))) a e ms); grants = refl }
 
-    pub called_passed_by : (r : Reply) → o.fate ≡ None → carried (gone (depth_of (T p)) U p) h p down s ≡ r → IsQuit r → Result prog T o2 t (entering prog (T t) i) U o3 s → Result prog T o p (call h down i lost k) U o5 r
+    pub called_passed_by : (r : Reply) → o.fate ≡ None → carried (gone (depth_of (T p)) U p) h p down s ≡ r → IsQuit r → Result prog T o2 t (prog.entry i) U o3 s → Result prog T o p (call h down i lost k) U o5 r
     called_passed_by r n so q (ran τ l f m) =
         ran (e1 ∷ e2 ∷ (τ ++ e3 s ∷ e4 s ∷ [])) (record {
           way = whole_way τ n l.way;
           runs = came_to prog T U p (call h down i lost k) r (e1 ∷ e2 ∷ (τ ++ e3 s ∷ e4 s ∷ [])) (λ y b. subst (λ x. Derives prog (ahead T (e1 ∷ e2 ∷ (τ ++ e3 s ∷ e4 s ∷ [])) y) p (call h down i lost k) (ahead U [] y) (Some x)) so
               (Derives.called_passed (ahead T (e1 ∷ e2 ∷ (τ ++ e3 s ∷ e4 s ∷ [])) y) p h down i lost k a t (ahead T (e2 ∷ (τ ++ e3 s ∷ e4 s ∷ [])) y) (ahead T (τ ++ e3 s ∷ e4 s ∷ []) y) (ahead U (e3 s ∷ e4 s ∷ []) y) (ahead U (e4 s ∷ []) y) (ahead U [] y) s e
               (next T p (Out h down i) (e2 ∷ (τ ++ e3 s ∷ e4 s ∷ [])) y) there (next T t (In (Some (length down)) i) (τ ++ e3 s ∷ e4 s ∷ []) y)
-              (first prog T U t (entering prog (T t) i) s o2 o3 τ (e3 s ∷ e4 s ∷ []) y b l)
+              (first prog T U t (prog.entry i) s o2 o3 τ (e3 s ∷ e4 s ∷ []) y b l)
               (next U t (Done (Some (length down)) s) (e4 s ∷ []) y) (subst IsQuit (sym so) q) (next U p (Back h (Replied (carried (gone (depth_of (T p)) U p) h p down s))) [] y)));
         }) (subst NotCut so (carried_fine (gone (depth_of (T p)) U p) h p down s f)) (λ x. calm_after (m (no_exit_in (gone (depth_of (T p)) U p) h p down s r so x)))
     called_passed_by r n so q (broke τ w j f S σ l x y d g) =
         broke (e1 ∷ e2 ∷ τ) w j f S (λ b. σ b ++ e3 b ∷ e4 b ∷ [])
-        (around prog T T S U U o o2 w p t (call h down i lost k) (entering prog (T t) i) j j 0 f τ (e1 ∷ e2 ∷ τ) σ (λ b. e3 b ∷ e4 b ∷ []) (plus_none (calls f j)) (after_way j o o2 w (e1 ∷ e2 ∷ []) τ (starts n) l.way) l
+        (around prog T T S U U o o2 w p t (call h down i lost k) (prog.entry i) j j 0 f τ (e1 ∷ e2 ∷ τ) σ (λ b. e3 b ∷ e4 b ∷ []) (plus_none (calls f j)) (after_way j o o2 w (e1 ∷ e2 ∷ []) τ (starts n) l.way) l
         (λ y2 b d2. Derives.called_halted (ahead T (e1 ∷ e2 ∷ τ) y2) p h down i lost k a t (ahead T (e2 ∷ τ) y2) (ahead T τ y2) (ahead S [] y2) e
         (next T p (Out h down i) (e2 ∷ τ) y2) there (next T t (In (Some (length down)) i) τ y2) d2)
         (λ b ms y2 ρ c en d2. subst (λ x2. Derives prog (ahead T (e1 ∷ e2 ∷ τ) y2) p (call h down i lost k) (world U ms y2.grants ρ) (Some x2)) (end_carried (gone (depth_of (T p)) U p) h p down b en)

@@ -19,8 +19,7 @@ use Rattle.tcl_core.specs.Trees.Move.{Born, Fall, Enter, Come}
 use Rattle.tcl_core.specs.Trees.What.{Seen, Charged, Refused, Limited, DepthLimited, Nested, Made, Dropped, In, Back}
 use Rattle.tcl_core.specs.Views.{moves_of}
 use Rattle.tcl_core.proofs.Depths.{steady}
-use Rattle.tcl_core.specs.Runs.{entering}
-use Rattle.tcl_core.proofs.Callers.{Fits, entering_calls, fit}
+use Rattle.tcl_core.proofs.Callers.{Fits, fit}
 use Rattle.tcl_core.proofs.Following.{makes}
 use Rattle.tcl_core.proofs.PathLaws.{not_both, Some-inj, child_no_top}
 use Rattle.tcl_core.proofs.Reacting.{IsLasting, Lasting}
@@ -165,7 +164,7 @@ module _ {O I : Type 0} (prog : Table O I) where
   lived_steady begun up = (up, λ q. inl refl)
   lived_steady {S} (came {U} {V} {u} {w} {v} {z} t i r l calm last enters run leaves) up =
       let h = lived_steady l up in
-      let k = run_steady (Crossings plays) prog U V w v t _ r (fit (entering prog (U t) i) (entering_calls prog (U t) i)) run h.0 in
+      let k = run_steady (Crossings plays) prog U V w v t _ r (fit (prog.entry i) (prog.entries_call i)) run h.0 in
       (k.0, λ q. one_more (depth_of (S q)) (depth_of (U q)) (depth_of (V q)) (h.1 q) (k.1 q))
 
 module _ {O I : Type 0} where

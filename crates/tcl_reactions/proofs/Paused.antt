@@ -17,7 +17,7 @@ use Rattle.tcl_core.specs.Programs.{Deed, spot, Next, Wrap, Wait, Prog, Table, o
 use Rattle.tcl_core.specs.Programs.Next.{On, Off}
 use Rattle.tcl_core.specs.Programs.Prog.{done, exit, act, go, inside, call, wait}
 use Rattle.tcl_core.specs.Runs
-use Rattle.tcl_core.specs.Runs.{World, Step, Ending, Halts, Exits, Exiting, Follows, Hears, Leaves, Visits, Returns, Reaches, Closes, Opened, Stays, returned, reached, entering, ends_call, height_of}
+use Rattle.tcl_core.specs.Runs.{World, Step, Ending, Halts, Exits, Exiting, Follows, Hears, Leaves, Visits, Returns, Reaches, Closes, Opened, Stays, returned, reached, ends_call, height_of}
 use Rattle.tcl_core.specs.Rules.{Derives, IsNoExit}
 use Rattle.tcl_core.specs.Rules.Derives.{completed, exited, acted, refused, unheard, went, passed, halted, wrapped, wrapped_passed, wrapped_halted, too_deep, shut, unheard_inside, called, called_passed, called_halted, unreached, called_out, unanswered, unfit, answered, heard, answered_passed, entered, entered_halted, entered_exiting, born, fallen}
 use Rattle.tcl_core.specs.Rules.{IsOn}
@@ -205,7 +205,7 @@ module _ {O I : Type 0} (prog : Table O I) (k : ℕ) (next : Event O) (late : Li
   Visit_of T h t i a z o = Visits prog (Ruled prog) (given T a) h t i z o
 
   abbrev Left_of : World O → World O → Height → Place → Entry → List (Event O) → World O → Ending → Type 0
-  Left_of w inner h t i a z o = (y : World O) × Derives prog (given inner.tree a) t (entering prog (w.tree t) i) y o × Leaves y h t o z
+  Left_of w inner h t i a z o = (y : World O) × Derives prog (given inner.tree a) t (prog.entry i) y o × Leaves y h t o z
 
   abbrev Told_of : World O → Height → Place → Reply → List (Event O) → World O → Ending → Type 0
   Told_of left h t r a z o = (o ≡ Some r) × Step (given left.tree a) t (Done h r) z
@@ -217,14 +217,14 @@ module _ {O I : Type 0} (prog : Table O I) (k : ℕ) (next : Event O) (late : Li
 
   visited : (w inner left told : World O) (h : Height) (t : Place) (i : Entry) (r : Reply) (a : List (Event O)) → Step w t (In h i) inner → Meets w a → IsUnended a →
       (a ≡ [] → next ∷ late ≡ event t (In h i) ∷ inner.tape → Of (Unended {O = O} t (Done h r)) w told (Visit_of w.tree h t i []) (Some r) []) →
-      Goes inner t (entering prog (w.tree t) i) left (Some r) → Step left t (Done h r) told → Of (Unended {O = O} t (Done h r)) w told (Visit_of w.tree h t i a) (Some r) a
+      Goes inner t (prog.entry i) left (Some r) → Step left t (Done h r) told → Of (Unended {O = O} t (Done h r)) w told (Visit_of w.tree h t i a) (Some r) a
   visited w inner left told h t i r a s1 q n none sub s2 =
       taken k next late (Unended {O = O} t (Done h r)) w inner told t (In h i) (Left_of w inner h t i) (Visit_of w.tree h t i) (Some r) a s1 q n none
       (λ a1 z o st d. record { entered = given inner.tree a1; left = d.0; entry = st; run = d.1; leaving = d.2 })
-      (λ a1 q1 n1. joined k next late (Unit {0}) (Unended {O = O} t (Done h r)) inner left told (Run_of inner.tree t (entering prog (w.tree t) i) a1) (Told_of left h t r) (Left_of w inner h t i a1) (Some r) (Some r) a1 (sub a1 q1 n1)
+      (λ a1 q1 n1. joined k next late (Unit {0}) (Unended {O = O} t (Done h r)) inner left told (Run_of inner.tree t (prog.entry i) a1) (Told_of left h t r) (Left_of w inner h t i a1) (Some r) (Some r) a1 (sub a1 q1 n1)
       (λ z d. (z, d, refl))
       (λ c a2 q2 n2 e u. let g = peeled k next late reads left t (Done h r) told a2 s2 (λ ms. refl) q2 n2 in gone c g.0 g.1 g.3 e g.2)
-      (λ a2 z o d e. (given left.tree a2, subst (λ y. Derives prog (given inner.tree a1) t (entering prog (w.tree t) i) (given left.tree a2) y) (sym e.0) d, subst (λ y. Leaves (given left.tree a2) h t y z) (sym e.0) e.1))
+      (λ a2 z o d e. (given left.tree a2, subst (λ y. Derives prog (given inner.tree a1) t (prog.entry i) (given left.tree a2) y) (sym e.0) d, subst (λ y. Leaves (given left.tree a2) h t y z) (sym e.0) e.1))
       (λ a2 q2 n2. told_so left told h t r a2 s2 q2 n2))
 
   -- after an entry that ended by an exit
@@ -276,7 +276,7 @@ module _ {O I : Type 0} (prog : Table O I) (k : ℕ) (next : Event O) (late : Li
   comes w u v p t x s y D e a f st q n build rec = taken k next late (Unit {0}) w u v t x D (Run_of w.tree p (wait s y)) e a st q n (λ g h. stops_here w v p s y e f) build rec
 
   enters : (w inner left told v : World O) (p : Place) (s : Wait) (y : Said → Prog O I) (t : Path) (i : Entry) (r : Reply) (e : Ending) (F : List (Event O) → World O → Ending → Type 0) → rise_to (height_of s) p ≡ None → Step w t (In None i) inner →
-      Goes inner t (entering prog (w.tree t) i) left (Some r) → Step left t (Done None r) told →
+      Goes inner t (prog.entry i) left (Some r) → Step left t (Done None r) told →
       ((a1 : List (Event O)) (z : World O) (o : Ending) → F a1 z o → Stays (Ruled prog) (given told.tree a1) p s y (Some r) z o) →
       ((a1 : List (Event O)) → Meets told a1 → IsUnended a1 → Of (Unit {0}) told v (F a1) e a1) → Goes w p (wait s y) v e
   enters w inner left told v p s y t i r e F f s1 sub s2 stay rest [] q n = stops_here w v p s y e f
@@ -306,7 +306,7 @@ module _ {O I : Type 0} (prog : Table O I) (k : ℕ) (next : Event O) (late : Li
 
   -- a call within the tree
   inward : (w out inner left told back v : World O) (p a0 t : Place) (h : Height) (down : Path) (i : Entry) (lost : Completion) (y : Said → Prog O I) (r : Reply) (e : Ending) (F : List (Event O) → World O → Ending → Type 0) → rise_to h p ≡ Some a0 → Step w p (Out h down i) out →
-      reached out.tree a0 down ≡ Some t → Step out t (In (Some (length down)) i) inner → Goes inner t (entering prog (out.tree t) i) left (Some r) → Step left t (Done (Some (length down)) r) told → Step told p (Back h (Replied (returned out.tree told.tree h p down r))) back →
+      reached out.tree a0 down ≡ Some t → Step out t (In (Some (length down)) i) inner → Goes inner t (prog.entry i) left (Some r) → Step left t (Done (Some (length down)) r) told → Step told p (Back h (Replied (returned out.tree told.tree h p down r))) back →
       ((c : Cause) → Some r ≡ Some (Cut c) → (v.tape ≡ back.tape) × (e ≡ Some (Cut c))) →
       ((a : List (Event O)) (z : World O) (o : Ending) → F a z o → Hears (Ruled prog) (given back.tree a) p y (Replied (returned out.tree told.tree h p down r)) z o) →
       ((a : List (Event O)) → Meets back a → IsUnended a → Of (Unit {0}) back v (F a) e a) → Goes w p (call h down i lost y) v e
@@ -364,9 +364,9 @@ module _ {O I : Type 0} (prog : Table O I) (k : ℕ) (next : Event O) (late : Li
   paused (called_halted w p h down i lost y a0 t out inner left f s1 g s2 x) a q n =
       silent k next late reads (Unit {0}) w out left p (Out h down i) (λ a1 z o. Reaches prog (Ruled prog) (given out.tree a1) p h down i lost y (Some t) z o) (Run_of w.tree p (call h down i lost y)) None a s1 (λ ms. refl) q n
       (λ a1 z o st d. reach_rule prog (given w.tree (event p (Out h down i) ∷ a1)) p h down i lost y (given out.tree a1) a0 (Some t) z o f g st d)
-      (λ a1 q1 n1. silent k next late reads (Unit {0}) out inner left t (In (Some (length down)) i) (λ a2 z o. (o ≡ None) × Derives prog (given inner.tree a2) t (entering prog (out.tree t) i) z None) (λ a2 z o. Reaches prog (Ruled prog) (given out.tree a2) p h down i lost y (Some t) z o) None a1 s2 (λ ms. sym (in_silent prog out a0 t down i g ms)) q1 n1
+      (λ a1 q1 n1. silent k next late reads (Unit {0}) out inner left t (In (Some (length down)) i) (λ a2 z o. (o ≡ None) × Derives prog (given inner.tree a2) t (prog.entry i) z None) (λ a2 z o. Reaches prog (Ruled prog) (given out.tree a2) p h down i lost y (Some t) z o) None a1 s2 (λ ms. sym (in_silent prog out a0 t down i g ms)) q1 n1
       (λ a2 z o st d. (z, None, record { entered = given inner.tree a2; left = z; entry = st; run = d.1; leaving = refl }, (refl, d.0)))
-      (λ a2 q2 n2. halts k next late (Unit {0}) (Unit {0}) inner left (Run_of inner.tree t (entering prog (out.tree t) i) a2) (λ z o. (o ≡ None) × Derives prog (given inner.tree a2) t (entering prog (out.tree t) i) z None) a2 (halted_tape prog x refl) (paused x a2 q2 n2) (λ z d. (refl, d))))
+      (λ a2 q2 n2. halts k next late (Unit {0}) (Unit {0}) inner left (Run_of inner.tree t (prog.entry i) a2) (λ z o. (o ≡ None) × Derives prog (given inner.tree a2) t (prog.entry i) z None) a2 (halted_tape prog x refl) (paused x a2 q2 n2) (λ z d. (refl, d))))
   paused (unreached w p h down i lost y a0 out back v e f s1 g s2 x) a q n =
       silent k next late reads (Unit {0}) w out v p (Out h down i) (λ a1 z o. Reaches prog (Ruled prog) (given out.tree a1) p h down i lost y None z o) (Run_of w.tree p (call h down i lost y)) e a s1 (λ ms. refl) q n
       (λ a1 z o st d. reach_rule prog (given w.tree (event p (Out h down i) ∷ a1)) p h down i lost y (given out.tree a1) a0 None z o f g st d)
@@ -389,9 +389,9 @@ module _ {O I : Type 0} (prog : Table O I) (k : ℕ) (next : Event O) (late : Li
   paused (entered_exiting w p s y t i inner left told v m e f s1 x s2 z) a q n =
       enters w inner left told v p s y t i (Exit m) e (Exits_of told.tree p s m) f s1 (λ a1 q1 n1. paused x a1 q1 n1) s2 (λ a1 z2 o d. d) (λ a1 q1 n1. exits_paused told p s m told.moves v e f refl z a1 q1 n1) a q n
   paused (entered_halted w p s y t i inner left f s1 x) a q n =
-      comes w inner left p t (In None i) s y (λ a1 z o. (o ≡ None) × Derives prog (given inner.tree a1) t (entering prog (w.tree t) i) z None) None a f s1 q n
+      comes w inner left p t (In None i) s y (λ a1 z o. (o ≡ None) × Derives prog (given inner.tree a1) t (prog.entry i) z None) None a f s1 q n
       (λ a1 z o st d. subst (λ o2. Derives prog (given w.tree (event t (In None i) ∷ a1)) p (wait s y) z o2) (sym d.0) (entered_halted (given w.tree (event t (In None i) ∷ a1)) p s y t i (given inner.tree a1) z f st d.1))
-      (λ a1 q1 n1. halts k next late (Unit {0}) (Unit {0}) inner left (Run_of inner.tree t (entering prog (w.tree t) i) a1) (λ z o. (o ≡ None) × Derives prog (given inner.tree a1) t (entering prog (w.tree t) i) z None) a1 (halted_tape prog x refl) (paused x a1 q1 n1) (λ z d. (refl, d)))
+      (λ a1 q1 n1. halts k next late (Unit {0}) (Unit {0}) inner left (Run_of inner.tree t (prog.entry i) a1) (λ z o. (o ≡ None) × Derives prog (given inner.tree a1) t (prog.entry i) z None) a1 (halted_tape prog x refl) (paused x a1 q1 n1) (λ z d. (refl, d)))
   paused (born w p s y o c u v e f t r) a q n =
       comes w u v p [] (Made o c) s y (Run_of u.tree p (wait s y)) e a f t q n (λ a1 z o2 st d. born (given w.tree (event [] (Made o c) ∷ a1)) p s y o c (given u.tree a1) z o2 f st d) (λ a1 q1 n1. paused r a1 q1 n1)
   paused (fallen w p s y u v e f t r) a q n =

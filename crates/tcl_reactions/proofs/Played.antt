@@ -10,7 +10,7 @@ use Rattle.tcl_core.specs.Trees.What.{In, Out, Done, Back}
 use Rattle.tcl_core.specs.Trees.Move.{Born, Fall, Enter, Come}
 use Rattle.tcl_core.specs.Programs.{Prog, Table, spot}
 use Rattle.tcl_core.specs.Programs.Prog.{done, exit, wait}
-use Rattle.tcl_core.specs.Runs.{World, Ending, Halts, Exits, carried, entering, height_of, gone}
+use Rattle.tcl_core.specs.Runs.{World, Ending, Halts, Exits, carried, height_of, gone}
 use Rattle.tcl_core.specs.Rules.{Derives, IsNoExit}
 use Rattle.tcl_core.specs.Execution.{Crossings, Executes, event}
 use Rattle.tcl_core.specs.Execution.Executes.{completed, exited, acted, refused, went, passed, wrapped, wrapped_passed, too_deep, shut, called, called_passed, unreached, called_out, answered, heard, answered_passed, entered, entered_exiting}
@@ -116,23 +116,23 @@ module _ {O I : Type 0} (prog : Table O I) where
     abbrev e2 : Reply → Event O
     e2 r = event t (Done None r)
 
-    goes_on : (τ : List (Event O)) (r : Reply) → Leads prog U w t (entering prog (U t) i) 0 τ v (Comes V r) → z ≡ telling v (e2 r) → NotCut r → IsNoExit r → Prefixed U u (e1 ∷ (τ ++ e2 r ∷ [])) V z
+    goes_on : (τ : List (Event O)) (r : Reply) → Leads prog U w t (prog.entry i) 0 τ v (Comes V r) → z ≡ telling v (e2 r) → NotCut r → IsNoExit r → Prefixed U u (e1 ∷ (τ ++ e2 r ∷ [])) V z
     goes_on τ r l q n nx = record {
       way = visit_way t i r u w v z τ into l.way q n;
       builds = λ y b x d h. Derives.entered (ahead U (e1 ∷ (τ ++ e2 r ∷ [])) y) [] idle never t i (ahead U (τ ++ e2 r ∷ []) y) (ahead V (e2 r ∷ []) y) (ahead V [] y) x r d refl
-          (next U t (In None i) (τ ++ e2 r ∷ []) y) (first prog U V t (entering prog (U t) i) r w v τ (e2 r ∷ []) y b l) (next V t (Done None r) [] y) nx h;
+          (next U t (In None i) (τ ++ e2 r ∷ []) y) (first prog U V t (prog.entry i) r w v τ (e2 r ∷ []) y b l) (next V t (Done None r) [] y) nx h;
     }
 
-    exits_there : (τ : List (Event O)) (n : ℤ) → Leads prog U w t (entering prog (U t) i) 0 τ v (Comes V (Exit n)) → z ≡ telling v (e2 (Exit n)) → Life U u 0 (e1 ∷ (τ ++ e2 (Exit n) ∷ [])) z (Rests V)
+    exits_there : (τ : List (Event O)) (n : ℤ) → Leads prog U w t (prog.entry i) 0 τ v (Comes V (Exit n)) → z ≡ telling v (e2 (Exit n)) → Life U u 0 (e1 ∷ (τ ++ e2 (Exit n) ∷ [])) z (Rests V)
     exits_there τ n l q = record { way = visit_way t i (Exit n) u w v z τ into l.way q tt; runs = runs }
       where
         runs : (y : Rest O) → IsBudget y.grants → (x : World O) (d : Ending) → Rests V y x d → Derives prog (ahead U (e1 ∷ (τ ++ e2 (Exit n) ∷ [])) y) [] (wait idle never) x d
         runs y b x d (rests y2 h) =
             Derives.entered_exiting (ahead U (e1 ∷ (τ ++ e2 (Exit n) ∷ [])) y2) [] idle never t i (ahead U (τ ++ e2 (Exit n) ∷ []) y2) (ahead V (e2 (Exit n) ∷ []) y2) (ahead V [] y2) (ahead V [] y2) n None refl
-            (next U t (In None i) (τ ++ e2 (Exit n) ∷ []) y2) (first prog U V t (entering prog (U t) i) (Exit n) w v τ (e2 (Exit n) ∷ []) y2 b l) (next V t (Done None (Exit n)) [] y2)
+            (next U t (In None i) (τ ++ e2 (Exit n) ∷ []) y2) (first prog U V t (prog.entry i) (Exit n) w v τ (e2 (Exit n) ∷ []) y2 b l) (next V t (Done None (Exit n)) [] y2)
             (exits_idle (ahead V [] y2) (ahead V [] y2) n y2.moves (record { tape = h; same = refl; ending = refl }))
 
-    unwound_so : (τ : List (Event O)) (r : Reply) (y : Rest O) → IsEnd (Replied r) → Derives prog (ahead U τ y) t (entering prog (U t) i) (world V [] y.grants (e2 r ∷ [])) (Some r) → Derives prog (ahead U (e1 ∷ τ) y) [] (wait idle never) (world V [] y.grants []) None
+    unwound_so : (τ : List (Event O)) (r : Reply) (y : Rest O) → IsEnd (Replied r) → Derives prog (ahead U τ y) t (prog.entry i) (world V [] y.grants (e2 r ∷ [])) (Some r) → Derives prog (ahead U (e1 ∷ τ) y) [] (wait idle never) (world V [] y.grants []) None
     unwound_so τ (Completed c) y en d = absurd en
     unwound_so τ (Stop n m) y en d = absurd en
     unwound_so τ (Cut c) y en d =
@@ -142,7 +142,7 @@ module _ {O I : Type 0} (prog : Table O I) where
         Derives.entered_exiting (ahead U (e1 ∷ τ) y) [] idle never t i (ahead U τ y) (world V [] y.grants (e2 (Exit n) ∷ [])) (world V [] y.grants []) (world V [] y.grants []) n None refl
         (next U t (In None i) τ y) d (record { tape = refl; tree = refl; moves = refl; grants = refl }) (record { tape = refl; same = refl; ending = refl })
 
-    stops_there : (τ : List (Event O)) (x : Player O) (j : ℕ) (f : Fate O) (S : Tree O) (σ : Reply → List (Event O)) → Leads prog U w t (entering prog (U t) i) j τ x (Breaks f S V x j σ) → Life U u (suc j) (e1 ∷ τ) x (Ends f S V x j (λ r. σ r ++ e2 r ∷ []))
+    stops_there : (τ : List (Event O)) (x : Player O) (j : ℕ) (f : Fate O) (S : Tree O) (σ : Reply → List (Event O)) → Leads prog U w t (prog.entry i) j τ x (Breaks f S V x j σ) → Life U u (suc j) (e1 ∷ τ) x (Ends f S V x j (λ r. σ r ++ e2 r ∷ []))
     stops_there τ x j f S σ l = record { way = in_way j t i u w x τ into l.way; runs = runs }
       where
         runs : (y : Rest O) → IsBudget y.grants → (q : World O) (d : Ending) → Ends f S V x j (λ r. σ r ++ e2 r ∷ []) y q d → Derives prog (ahead U (e1 ∷ τ) y) [] (wait idle never) q d
@@ -159,7 +159,7 @@ module _ {O I : Type 0} (prog : Table O I) where
     finished_by (Cut c) n q = done_end t (Cut c) v z q
     finished_by (Exit k) n q = absurd n
 
-    visited : (T : Tree O) (o : Player O) (r : Reply) (a : List (Event O)) → Prefixed T o a U u → Result prog U w t (entering prog (U t) i) V v r → Crossings plays V v None (e2 r) z → Becomes T o V z
+    visited : (T : Tree O) (o : Player O) (r : Reply) (a : List (Event O)) → Prefixed T o a U u → Result prog U w t (prog.entry i) V v r → Crossings plays V v None (e2 r) z → Becomes T o V z
     visited T o (Completed c) a f (ran τ l n m) s =
         let q : z ≡ telling v (e2 (Completed c)) = done_on V t (Completed c) v z s l.way.goes_on in
         on (a ++ e1 ∷ (τ ++ e2 (Completed c) ∷ [])) (then_on T U V o u z a (e1 ∷ (τ ++ e2 (Completed c) ∷ [])) f (goes_on τ (Completed c) l q n tt)) (finished_by (Completed c) tt q)

@@ -12,7 +12,7 @@ use Rattle.tcl_core.specs.Trees.What.{In, Done, Back}
 use Rattle.tcl_core.specs.Trees.Move.{Born, Fall, Enter, Come}
 use Rattle.tcl_core.specs.Programs.{Prog, Table, Wait}
 use Rattle.tcl_core.specs.Programs.Prog.{wait}
-use Rattle.tcl_core.specs.Runs.{World, Ending, Step, Halts, Exits, Exiting, entering, ends_call, fits, height_of}
+use Rattle.tcl_core.specs.Runs.{World, Ending, Step, Halts, Exits, Exiting, ends_call, fits, height_of}
 use Rattle.tcl_core.specs.Rules.{Derives, IsNoExit}
 use Rattle.tcl_core.specs.Execution.{Crossings, event}
 use Rattle.tcl_core.specs.Lives.{Outcome, copies}
@@ -123,7 +123,7 @@ module _ {O I : Type 0} (prog : Table O I) where
     e3 r = event p (Back (height_of s) (Replied r))
 
     unwound_by : (τ : List (Event O)) (b : Reply) (ms : List (Move O)) (y : Rest O) (ρ : List (Event O)) → IsEnd (Replied b) → fits U p s (Come (Replied b)) ≡ true →
-        Derives prog (ahead T τ y) t (entering prog (T t) i) (world U (Come (Replied b) ∷ ms) y.grants (e2 b ∷ e3 b ∷ ρ)) (Some b) → Derives prog (ahead T (e1 ∷ τ) y) p (wait s k) (world U ms y.grants ρ) (Some b)
+        Derives prog (ahead T τ y) t (prog.entry i) (world U (Come (Replied b) ∷ ms) y.grants (e2 b ∷ e3 b ∷ ρ)) (Some b) → Derives prog (ahead T (e1 ∷ τ) y) p (wait s k) (world U ms y.grants ρ) (Some b)
     unwound_by τ (Completed c) ms y ρ en fit d = absurd en
     unwound_by τ (Stop n m) ms y ρ en fit d = absurd en
     unwound_by τ (Cut c) ms y ρ en fit d =
@@ -137,13 +137,13 @@ module _ {O I : Type 0} (prog : Table O I) where
 
     -- the playing is over in it
     inside_leads : (τ : List (Event O)) (w : Player O) (j : ℕ) (f : Fate O) (S : Tree O) (σ : Reply → List (Event O)) → ((b : Reply) → IsEnd (Replied b) → fits U p s (Come (Replied b)) ≡ true) →
-        Leads prog T o1 t (entering prog (T t) i) j τ w (Breaks f S U w j σ) → Leads prog T o p (wait s k) (suc j) (e1 ∷ τ) w (Breaks f S U w (suc j) (λ b. σ b ++ e2 b ∷ e3 b ∷ []))
+        Leads prog T o1 t (prog.entry i) j τ w (Breaks f S U w j σ) → Leads prog T o p (wait s k) (suc j) (e1 ∷ τ) w (Breaks f S U w (suc j) (λ b. σ b ++ e2 b ∷ e3 b ∷ []))
     inside_leads τ w j f S σ fit l =
-        around prog T T S U U o o1 w p t (wait s k) (entering prog (T t) i) j (suc j) 1 f τ (e1 ∷ τ) σ (λ b. e2 b ∷ e3 b ∷ []) (one_call f j) (in_way j t i o o1 w τ into l.way) l
+        around prog T T S U U o o1 w p t (wait s k) (prog.entry i) j (suc j) 1 f τ (e1 ∷ τ) σ (λ b. e2 b ∷ e3 b ∷ []) (one_call f j) (in_way j t i o o1 w τ into l.way) l
         (λ y b d. Derives.entered_halted (ahead T (e1 ∷ τ) y) p s k t i (ahead T τ y) (ahead S [] y) e (next T t (In None i) τ y) d)
         (λ b ms y ρ c en d. unwound_by τ b ms y ρ en (fit b en) d)
 
-    pub entered_by : (V : Tree O) (z : Player O) (y r : Reply) → Result prog T o1 t (entering prog (T t) i) U o2 y → Crossings plays U o2 None (e2 y) o3 → IsNoExit y →
+    pub entered_by : (V : Tree O) (z : Player O) (y r : Reply) → Result prog T o1 t (prog.entry i) U o2 y → Crossings plays U o2 None (e2 y) o3 → IsNoExit y →
         (o3.fate ≡ None → Calm (last_end o3) → Result prog U o3 p (wait s k) V z r) → After prog U o3 (wait s k) V z r → Result prog T o p (wait s k) V z r
     entered_by V z y r (ran τ l n m) s2 nx g a =
         let q : o3 ≡ telling o2 (e2 y) = done_on U t y o2 o3 s2 l.way.goes_on in
@@ -151,7 +151,7 @@ module _ {O I : Type 0} (prog : Table O I) where
         tail prog T U V o o3 z p p (wait s k) (wait s k) r (e1 ∷ (τ ++ e2 y ∷ [])) (record {
           way = w;
           builds = λ x b v d h. Derives.entered (ahead T (e1 ∷ (τ ++ e2 y ∷ [])) x) p s k t i (ahead T (τ ++ e2 y ∷ []) x) (ahead U (e2 y ∷ []) x) (ahead U [] x) v y d e
-              (next T t (In None i) (τ ++ e2 y ∷ []) x) (first prog T U t (entering prog (T t) i) y o1 o2 τ (e2 y ∷ []) x b l) (next U t (Done None y) [] x) nx h;
+              (next T t (In None i) (τ ++ e2 y ∷ []) x) (first prog T U t (prog.entry i) y o1 o2 τ (e2 y ∷ []) x b l) (next U t (Done None y) [] x) nx h;
         }) (g w.goes_on (subst Calm (sym (done_end t y o2 o3 q)) (calm_ending y nx)))
     entered_by V z y r (broke τ w j f S σ l h x st en) s2 nx g a =
         let same : o3 ≡ o2 = done_over U t y f o2 o3 s2 h in
@@ -172,12 +172,12 @@ module _ {O I : Type 0} (prog : Table O I) where
     abbrev d3 : Reply → Event O
     d3 r = event p (Back c.0 (Replied r))
 
-    exits_so : (τ : List (Event O)) → Leads prog T o1 t (entering prog (T t) i) 0 τ o2 (Comes U (Exit n)) → (y : Rest O) → IsBudget y.grants → (v : World O) (d : Ending) → Exits (ahead U [] y) p (Some c) n y.moves v d → Derives prog (ahead T (d1 ∷ (τ ++ d2 ∷ [])) y) p (wait (Some c) k) v d
+    exits_so : (τ : List (Event O)) → Leads prog T o1 t (prog.entry i) 0 τ o2 (Comes U (Exit n)) → (y : Rest O) → IsBudget y.grants → (v : World O) (d : Ending) → Exits (ahead U [] y) p (Some c) n y.moves v d → Derives prog (ahead T (d1 ∷ (τ ++ d2 ∷ [])) y) p (wait (Some c) k) v d
     exits_so τ l y b v d x =
         Derives.entered_exiting (ahead T (d1 ∷ (τ ++ d2 ∷ [])) y) p (Some c) k t i (ahead T (τ ++ d2 ∷ []) y) (ahead U (d2 ∷ []) y) (ahead U [] y) v n d e
-        (next T t (In None i) (τ ++ d2 ∷ []) y) (first prog T U t (entering prog (T t) i) (Exit n) o1 o2 τ (d2 ∷ []) y b l) (next U t (Done None (Exit n)) [] y) x
+        (next T t (In None i) (τ ++ d2 ∷ []) y) (first prog T U t (prog.entry i) (Exit n) o1 o2 τ (d2 ∷ []) y b l) (next U t (Done None (Exit n)) [] y) x
 
-    over_exit : (τ : List (Event O)) (f : Fate O) → Leads prog T o1 t (entering prog (T t) i) 0 τ o2 (Comes U (Exit n)) → Way 0 o (d1 ∷ (τ ++ d2 ∷ [])) o3 → last_end o3 ≡ Exited n → calls f 0 ≡ 1 → ((r : Reply) → May f (Exited n) r → r ≡ Exit n) →
+    over_exit : (τ : List (Event O)) (f : Fate O) → Leads prog T o1 t (prog.entry i) 0 τ o2 (Comes U (Exit n)) → Way 0 o (d1 ∷ (τ ++ d2 ∷ [])) o3 → last_end o3 ≡ Exited n → calls f 0 ≡ 1 → ((r : Reply) → May f (Exited n) r → r ≡ Exit n) →
         ((y : Rest O) → Halting f o3 y.moves → y.tape ≡ [] → Exits (ahead U [] y) p (Some c) n y.moves (ahead U [] y) None) → Leads prog T o p (wait (Some c) k) 0 (d1 ∷ (τ ++ d2 ∷ [])) o3 (Breaks f U U o3 0 (λ r. d3 r ∷ []))
     over_exit τ f l w last one may halt = record { way = w; runs = runs }
       where
@@ -196,7 +196,7 @@ module _ {O I : Type 0} (prog : Table O I) where
     still : (y : Rest O) → y.tape ≡ [] → Halts (ahead U [] y) (ahead U [] y) None
     still y z = record { tape = z; same = refl; ending = refl }
 
-    exit_ran : (τ : List (Event O)) → Leads prog T o1 t (entering prog (T t) i) 0 τ o2 (Comes U (Exit n)) → Way 0 o (d1 ∷ (τ ++ d2 ∷ [])) o3 → last_end o3 ≡ Exited n → Answers U p o3 (Some c) (Replied (Exit n)) o4 → Result prog T o p (wait (Some c) k) U o4 (Exit n)
+    exit_ran : (τ : List (Event O)) → Leads prog T o1 t (prog.entry i) 0 τ o2 (Comes U (Exit n)) → Way 0 o (d1 ∷ (τ ++ d2 ∷ [])) o3 → last_end o3 ≡ Exited n → Answers U p o3 (Some c) (Replied (Exit n)) o4 → Result prog T o p (wait (Some c) k) U o4 (Exit n)
     exit_ran τ l w last (reads ms g a f b q) =
         ran ((d1 ∷ (τ ++ d2 ∷ [])) ++ d3 (Exit n) ∷ []) (record {
           way = after_way 0 o o3 o4 (d1 ∷ (τ ++ d2 ∷ [])) (d3 (Exit n) ∷ []) w (back_way p c.0 (Replied (Exit n)) o3 o4 ms e g a b q);
@@ -214,7 +214,7 @@ module _ {O I : Type 0} (prog : Table O I) where
         (ap (λ z. z.fate) q) (ap (λ z. z.outs) q) (m, ms, a) tt
     exit_ran τ l w last (passes f g x q) = not_some o3.fate f w.goes_on g
 
-    pub entered_exiting_by : Result prog T o1 t (entering prog (T t) i) U o2 (Exit n) → Crossings plays U o3 (Some c) (event p (Back c.0 (Replied (Exit n)))) o4 → Result prog T o p (wait (Some c) k) U o4 (Exit n)
+    pub entered_exiting_by : Result prog T o1 t (prog.entry i) U o2 (Exit n) → Crossings plays U o3 (Some c) (event p (Back c.0 (Replied (Exit n)))) o4 → Result prog T o p (wait (Some c) k) U o4 (Exit n)
     entered_exiting_by (ran τ l m g) s3 =
         let q : o3 ≡ telling o2 d2 = done_on U t (Exit n) o2 o3 s2 l.way.goes_on in
         exit_ran τ l (visit_way t i (Exit n) o o1 o2 o3 τ into l.way q tt) (done_end t (Exit n) o2 o3 q) (answers_at U (Some c) p c.0 (Replied (Exit n)) o3 o4 e s3)

@@ -12,7 +12,7 @@ use Rattle.tcl_core.specs.Trees.{Tree, What, Event, Move}
 use Rattle.tcl_core.specs.Trees.What.{Charged, Refused, Out, In, Done, Back}
 use Rattle.tcl_core.specs.Trees.Move.{Enter, Come}
 use Rattle.tcl_core.specs.Programs.{Wait, Table}
-use Rattle.tcl_core.specs.Runs.{answers_call, entering, gone_from, is_exit}
+use Rattle.tcl_core.specs.Runs.{answers_call, gone_from, is_exit}
 use Rattle.tcl_core.specs.Execution.{Crossings, Executes, event}
 use Rattle.tcl_core.specs.Lives.{Outcome, outcome_of}
 use Rattle.tcl_core.specs.Lives.Outcome.{Finished, Waiting, Ended, Exited, Spent, Misfit}
@@ -147,7 +147,7 @@ pub data Lived {O I : Type 0} (prog : Table O I) (T : Tree O) (o : Player O) : T
   entered : {U V : Tree O} {u w v z : Player O} (t : Path) (i : Entry) (r : Reply) →
       Lived prog T o U u → u.fate ≡ None → last_end u ≡ Finished →
       plays U u None (event t (In None i)) w →
-      Executes (Crossings plays) prog U w t (entering prog (U t) i) V v r →
+      Executes (Crossings plays) prog U w t (prog.entry i) V v r →
       plays V v None (event t (Done None r)) z → Lived prog T o V z
 
 module _ {O : Type 0} where
