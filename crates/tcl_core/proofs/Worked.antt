@@ -8,17 +8,17 @@ use Rattle.tcl_core.specs.Entries.Entry.{Eval}
 use Rattle.tcl_core.specs.Entries.Answer.{Replied}
 use Rattle.tcl_core.specs.Trees.{Event}
 use Rattle.tcl_core.specs.Trees.Move.{Come}
-use Rattle.tcl_core.specs.Trees.What.{Refused, Changed, Charged, Nested, Unnested, Out, In, Done, Back}
+use Rattle.tcl_core.specs.Trees.What.{Refused, Changed, Charged, Nested, Unnested, Out, In, Done, Back, Unfound}
 use Rattle.tcl_core.specs.Programs.Next.{On, Off}
 use Rattle.tcl_core.specs.Programs.Prog.{wait}
 use Rattle.tcl_core.specs.Runs.{World, Step}
 use Rattle.tcl_core.specs.Views.{view}
 use Rattle.tcl_core.specs.Execution.{event}
 use Rattle.tcl_core.specs.Rules.{Derives}
-use Rattle.tcl_core.specs.Rules.Derives.{completed, acted, refused, wrapped, wrapped_passed, called, unanswered, unfit, entered}
+use Rattle.tcl_core.specs.Rules.Derives.{completed, acted, refused, wrapped, wrapped_passed, called, unanswered, unfit, entered, unfound}
 use Rattle.tcl_core.specs.Lives.{Outcome, alone, idle, never, spent_at, unwound}
 use Rattle.tcl_core.specs.Lives.Reacts.{over, uncalled, spent}
-use Rattle.tcl_core.specs.Example.{WorkedLife, WorkedReactions, child_alone, one_entry, an_answer, log, next, Script, child, commands, entry, program, tell, start, w1, w2, w3, w4, w5, w6, w7, w8, w9, w10, w11, w12, w13}
+use Rattle.tcl_core.specs.Example.{WorkedLife, WorkedReactions, child_alone, one_entry, an_answer, log, next, Script, child, commands, entry, program, tell, start, w1, w2, w3, w4, w5, w6, w7, w8, w9, w10, w11, w12, w13, WorkedUnfound, two_entries, stray, stranger, nobody, first_tree}
 use Rattle.tcl_core.proofs.RuleLaws.{derived_runs}
 
 s1 : Step start [] (In None tell) w1
@@ -157,4 +157,65 @@ worked_reactions = record {
   served = (a6.tree, record { tape = view (child ∷ []) log; last = a6; run = over a0 a6 Outcome.Finished (derived_runs commands alone_life) (tt, (tt, (tt, (tt, (tt, (tt, tt)))))) refl refl refl; told = refl; left = refl }, refl);
   spent = (b5.tree, record { tape = told_then; last = b5; run = spent (alone child_alone one_entry 0 told_then) b5 0 one_entry [] [] then_undone refl refl (tt, (tt, tt)) refl (derived_runs commands spent_life) refl; told = refl; left = refl }, refl);
   uncalled = record { tape = []; last = c0; run = uncalled c0 c0 (Come (Replied (Completed (ok [])))) [] (derived_runs commands (unfit _ _ _ _ _ [] refl refl refl refl)) tt refl refl refl; told = refl; left = refl };
+}
+
+-- AN ENTRY THAT FINDS NOBODY
+abbrev d0 : World ℕ
+d0 = alone first_tree two_entries 1 stray
+
+abbrev the_second : List (Move ℕ)
+the_second = Enter (child ∷ []) (Eval []) ∷ []
+
+abbrev d1 : World ℕ
+d1 = next [] (Unfound stranger (Eval []) (nobody stranger)) the_second 1 d0
+
+abbrev d2 : World ℕ
+d2 = next (child ∷ []) (In None (Eval [])) [] 1 d1
+
+abbrev d3 : World ℕ
+d3 = next (child ∷ []) Nested [] 1 d2
+
+abbrev d4 : World ℕ
+d4 = next (child ∷ []) Charged [] 0 d3
+
+abbrev d5 : World ℕ
+d5 = next (child ∷ []) (Changed 7) [] 0 d4
+
+abbrev d6 : World ℕ
+d6 = next (child ∷ []) Unnested [] 0 d5
+
+abbrev d7 : World ℕ
+d7 = next (child ∷ []) (Done None (Completed (ok []))) [] 0 d6
+
+stray_set : Derives commands d3 (child ∷ []) (program Script.SetSeven) d5 (Some (Completed (ok [])))
+stray_set = acted _ _ _ _ (None, Charged, On) d4 _ _ refl tt (record { tape = refl; tree = refl; moves = refl; grants = refl })
+    (acted _ _ _ _ (None, Changed 7, On) d5 _ _ refl tt (record { tape = refl; tree = refl; moves = refl; grants = refl }) (completed _ _ _))
+
+stray_run : Derives commands d2 (child ∷ []) (entry (Eval [])) d6 (Some (Completed (ok [])))
+stray_run = wrapped _ _ _ _ _ (None, Nested, On) d3 d5 d6 _ (ok []) _ refl refl (record { tape = refl; tree = refl; moves = refl; grants = refl }) stray_set
+    (record { tape = refl; tree = refl; moves = refl; grants = refl }) (completed _ _ _)
+
+stray_life : Derives commands d0 [] (wait idle never) d7 None
+stray_life = unfound _ _ _ _ stranger (Eval []) d1 _ _ refl refl (record { tape = refl; tree = refl; moves = refl; grants = refl })
+    (entered _ _ _ _ (child ∷ []) (Eval []) d2 d6 d7 _ (Completed (ok [])) _ refl refl (record { tape = refl; tree = refl; moves = refl; grants = refl }) stray_run
+    (record { tape = refl; tree = refl; moves = refl; grants = refl }) tt (unanswered _ _ _ _ refl refl refl))
+
+abbrev nobody_below : List (Event ℕ)
+nobody_below = event [] (Unfound (child ∷ []) (Eval []) (nobody (child ∷ []))) ∷ []
+
+abbrev e0 : World ℕ
+e0 = alone child_alone the_second 0 nobody_below
+
+abbrev e1 : World ℕ
+e1 = next [] (Unfound (child ∷ []) (Eval []) (nobody (child ∷ []))) [] 0 e0
+
+below_life : Derives commands e0 [] (wait idle never) e1 None
+below_life = unfound _ _ _ _ (child ∷ []) (Eval []) e1 _ _ refl refl (record { tape = refl; tree = refl; moves = refl; grants = refl }) (unanswered _ _ _ _ refl refl refl)
+
+pub worked_unfound : WorkedUnfound
+worked_unfound = record {
+  life = (d7.tree, record { tape = stray; last = d7; run = over d0 d7 Outcome.Finished (derived_runs commands stray_life) (tt, (tt, (tt, (tt, (tt, (tt, (tt, tt))))))) refl refl refl; told = refl; left = refl }, refl);
+  handed = refl;
+  told = refl;
+  alone = record { tape = nobody_below; last = e1; run = over e0 e1 Outcome.Finished (derived_runs commands below_life) (tt, tt) refl refl refl; told = refl; left = refl };
 }

@@ -1,7 +1,7 @@
 -- A small life, step by step: the outside has the root evaluate a script, which has its child set
 -- its one variable to 7. An interpreter's own part is a number here, its variable; what can go on
 -- in one is one of two scripts.
-use Rattle.std.specs.Prelude.{◌≡◌, ℕ, true, false, List, [], ◌∷◌, Some, None}
+use Rattle.std.specs.Prelude.{◌≡◌, ℕ, true, false, List, [], ◌∷◌, ◌++◌, Some, None}
 use Rattle.tcl_core.specs.Paths.{Text, Path, Place}
 use Rattle.tcl_core.specs.Endings.{Completion, ok, error}
 use Rattle.tcl_core.specs.Endings.Reply.{Completed}
@@ -12,6 +12,7 @@ use Rattle.tcl_core.specs.Entries.Answer.{Replied}
 use Rattle.tcl_core.specs.Trees.{Node, Tree, Event, What, Move, at, effect}
 use Rattle.tcl_core.specs.Trees.Grants.{Budget}
 use Rattle.tcl_core.specs.Trees.What.{Changed, Charged, Nested, Unnested, Out, In, Done, Back}
+use Rattle.tcl_core.specs.Trees.What.{Unfound}
 use Rattle.tcl_core.specs.Trees.Move.{Enter, Come}
 use Rattle.tcl_core.specs.Programs.{Prog, Calls_only, Table}
 use Rattle.tcl_core.specs.Programs.Act.{Charge, Change}
@@ -37,10 +38,14 @@ script_of (x ∷ t) = TellChild
 abbrev pub lost : Completion
 lost = error []
 
--- an entry from outside that finds nobody is told whom it didn't find
+-- an entry from outside that finds nobody is told whom it didn't find: the names of its path, one
+-- behind the other
+abbrev pub joined : Path → Text
+joined [] = []
+joined (name ∷ path) = name ++ joined path
+
 abbrev pub nobody : Path → Completion
-nobody [] = lost
-nobody (name ∷ path) = error name
+nobody path = error (joined path)
 
 abbrev pub finish : Said → Prog ℕ Script
 finish (Finished c) = done c
@@ -199,3 +204,33 @@ pub record WorkedReactions : Type 0 where
       (V [] ≡ Some safe_child)
   -- an answer to a call that it didn't make
   pub uncalled : React commands child_alone an_answer 1 Outcome.Misfit [] child_alone
+
+-- AN ENTRY THAT FINDS NOBODY: the child has no child.
+abbrev pub stranger : Path
+stranger = child ∷ child ∷ []
+
+-- an entry for it, and then one for the child
+abbrev pub two_entries : List (Move ℕ)
+two_entries = Enter stranger (Eval []) ∷ Enter (child ∷ []) (Eval []) ∷ []
+
+-- all that happens
+abbrev pub stray : List (Event ℕ)
+stray =
+    event [] (Unfound stranger (Eval []) (nobody stranger))
+    ∷ event (child ∷ []) (In None (Eval [])) ∷ event (child ∷ []) Nested
+    ∷ event (child ∷ []) Charged ∷ event (child ∷ []) (Changed 7)
+    ∷ event (child ∷ []) Unnested ∷ event (child ∷ []) (Done None (Completed (ok []))) ∷ []
+
+pub record WorkedUnfound : Type 0 where
+  -- the whole tree tells that nobody is there, by the whole path, and goes on to the next entry
+  pub life : (V : Tree ℕ) × React commands first_tree two_entries 1 Outcome.Finished
+      (event stranger (Done None (Completed (error (child ++ child))))
+      ∷ event (child ∷ []) (Done None (Completed (ok []))) ∷ []) V ×
+      (V (child ∷ []) ≡ Some (record safe_child { own = 7; count = 1 }))
+  -- the child sees nothing of the first, though that was to come into it: it is handed the second
+  -- alone
+  pub handed : moves_of (view (child ∷ []) stray) ≡ one_entry
+  pub told : outs_of (view (child ∷ []) stray) ≡ event [] (Done None (Completed (ok []))) ∷ []
+  -- by itself it is told of an entry by the path that leads from it
+  pub alone : React commands child_alone (Enter (child ∷ []) (Eval []) ∷ []) 0 Outcome.Finished
+      (event (child ∷ []) (Done None (Completed (error child))) ∷ []) child_alone

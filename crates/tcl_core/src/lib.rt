@@ -4,7 +4,7 @@
 #![tactic(auto)]
 
 ghost use Rattle.tcl_core.specs.Deletion.{WorkedDeletion};
-ghost use Rattle.tcl_core.specs.Example.{WorkedLife, WorkedReactions};
+ghost use Rattle.tcl_core.specs.Example.{WorkedLife, WorkedReactions, WorkedUnfound};
 ghost use Rattle.tcl_core.specs.Laws.{AllAgree, Bounded, Counting, Determinism, Disciplined};
 ghost use Rattle.tcl_core.specs.Laws.{GoneIsDropped, Happenings, Inner, Isolation};
 ghost use Rattle.tcl_core.specs.Laws.{IsolationToDrop, IsolationUntil, Limiting, LimitsKept};
@@ -174,6 +174,11 @@ pub fn worked_life()
 /// what it did not ask for.
 pub fn worked_reactions()
     ensures { WorkedReactions }
+{}
+
+/// A worked life in which an entry from outside finds nobody.
+pub fn worked_unfound()
+    ensures { WorkedUnfound }
 {}
 
 /// Worked lives in which an interpreter is deleted while it is in use.

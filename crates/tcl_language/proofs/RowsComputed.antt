@@ -177,4 +177,6 @@ rows calls = record {
   no_procedure = refl;
   info_commands = refl;
   info_complete = refl;
+  nobody_there = refl;
+  nobody_at_the_top = refl;
 }

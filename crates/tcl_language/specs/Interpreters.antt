@@ -44,6 +44,11 @@ use Rattle.tcl_language.specs.Words.{concat}
 abbrev pub no_interpreter : Text → Text
 no_interpreter x = quoted (codes "could not find interpreter ") x []
 
+-- what an entry from outside is told whose path finds nobody: the path is shown as a list
+abbrev pub nobody_at : Path → Completion
+nobody_at path = either (fits (no_interpreter (written_list path)))
+    (error (no_interpreter (written_list path))) too_long
+
 abbrev pub in_use : Text → Text
 in_use x = quoted (codes "interpreter ") x (codes " is in use")
 

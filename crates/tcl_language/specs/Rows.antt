@@ -1,7 +1,7 @@
 -- Worked scripts, each run in a new interpreter, by the commands of a table.
 use Rattle.std.specs.Prelude.{◌≡◌, ℕ, pos, true, false, List, [], ◌∷◌, ◌++◌, Option, Some, None}
 use Rattle.std.specs.Prelude.{codes}
-use Rattle.tcl_core.specs.Paths.{Text}
+use Rattle.tcl_core.specs.Paths.{Text, Path}
 use Rattle.tcl_core.specs.Endings.{Reply, ok, error}
 use Rattle.tcl_core.specs.Endings.Reply.{Completed, Stop, Exit}
 use Rattle.tcl_core.specs.Endings.Meter.{Count}
@@ -61,6 +61,10 @@ module _ (language : Integers → Table Own Instr) where
   -- the same in the other style of integer texts
   abbrev pub Gives9 : Text → Text → Type 0
   Gives9 script text = outcome_in Tcl9 None script ≡ Some (Completed (ok text))
+
+  -- an entry from outside by this path, where nobody is, is told this error
+  abbrev pub FindsNobody : Path → Text → Type 0
+  FindsNobody path text = (language Tcl8).lost path ≡ error text
 
   pub record AreRows : Type 0 where
     pub empty : Gives [] []
@@ -406,3 +410,6 @@ module _ (language : Integers → Table Own Instr) where
     pub info_complete : Gives (codes
         "list [info complete {list a}] [info complete \\{] [info complete \"{a}b\"]")
         (codes "1 0 1")
+    pub nobody_there : FindsNobody (codes "a" ∷ codes "b c" ∷ [])
+        (codes "could not find interpreter \"a {b c}\"")
+    pub nobody_at_the_top : FindsNobody [] (codes "could not find interpreter \"\"")

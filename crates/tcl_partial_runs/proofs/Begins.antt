@@ -7,14 +7,14 @@ use Rattle.tcl_core.specs.Entries.Said.{Finished, Told}
 use Rattle.tcl_core.specs.Endings.Reply.{Completed, Stop, Exit, Cut}
 use Rattle.tcl_core.specs.Entries.{Entry, Answer, Said}
 use Rattle.tcl_core.specs.Entries.Answer.{Replied, Heard}
-use Rattle.tcl_core.specs.Trees.{Tree, Event, Move, Grants, at, effect, where_none, depth_of}
+use Rattle.tcl_core.specs.Trees.{Tree, Event, Move, Grants, at, effect, where_none, depth_of, Node}
 use Rattle.tcl_core.specs.Trees.Grants.{Listed}
-use Rattle.tcl_core.specs.Trees.What.{Out, In, Done, Back}
+use Rattle.tcl_core.specs.Trees.What.{Out, In, Done, Back, Unfound}
 use Rattle.tcl_core.specs.Trees.Move.{Come}
 use Rattle.tcl_core.specs.Programs.{Deed, spot, Act, Wrap, Wait, Next, Prog, Table, closes}
 use Rattle.tcl_core.specs.Programs.Next.{On, TooDeep, Off}
 use Rattle.tcl_core.specs.Programs.Prog.{act, go, inside, call, wait}
-use Rattle.tcl_core.specs.Runs.{World, Ending, Runs, Then, Closes, Acted, Acts, Opened, Opens, Hears, Answered, Leaves, Visits, Returns, Reaches, Calls, Stays, Fitting, Waits, carried, reached, fits, height_of, gone, gone_from}
+use Rattle.tcl_core.specs.Runs.{World, Ending, Runs, Then, Closes, Acted, Acts, Opened, Opens, Hears, Answered, Leaves, Visits, Returns, Reaches, Calls, Stays, Fitting, Waits, carried, reached, fits, height_of, gone, gone_from, Enters}
 use Rattle.tcl_core.specs.Rules.{IsOn, IsNoExit}
 use Rattle.tcl_core.specs.Execution.{Executes, Chain, Open, none, more, Decides, Opens_so, event, pending, with_call}
 use Rattle.tcl_core.proofs.Folding.{unroll}
@@ -22,7 +22,7 @@ use Rattle.tcl_core.proofs.Callers.{Fits, fit}
 use Rattle.tcl_core.proofs.Following.{back_within, called_on, chain-append, goes_out, goes_within, plain_deed, plain_more, plain_open, replied, waiting}
 use Rattle.tcl_core.proofs.Plain.{closes_plain}
 use Rattle.tcl_partial_runs.specs.Beginnings.{Begun, handed, handing, Begins, BeginsEach}
-use Rattle.tcl_partial_runs.specs.Beginnings.Begun.{stopped, ended, acted, going, went, within, wrapped, too_deep, calling_out, calling, returning, called, unreached, called_out, answered, heard, entering_in, leaving, left, entered}
+use Rattle.tcl_partial_runs.specs.Beginnings.Begun.{stopped, ended, acted, going, went, within, wrapped, too_deep, calling_out, calling, returning, called, unreached, called_out, answered, heard, entering_in, leaving, left, entered, unfound}
 use Rattle.tcl_partial_runs.proofs.Worlds.{Suits, suits_after, suits_next, decided, opened, after_step, after_run, Whole}
 use Rattle.tcl_partial_runs.proofs.Worlds.Suits.{as_listed, as_granted}
 use Rattle.tcl_partial_runs.proofs.Wholes.{came}
@@ -125,9 +125,20 @@ module _ {O I : Type 0} (prog : Table O I) where
       let z : Waits prog (Runs prog) w p s k (Come a ∷ handed τ ms) v e = subst (λ l. Waits prog (Runs prog) w p s k l v e) moves y.1 in
       back_leads T p (height_of s) k a τ j ms g su t v e (subst (λ l. Fitting prog (Runs prog) w p s k l (Come a) v e) fit z)
 
-  entry_leads : (T : Tree O) (p : Place) (s : Wait) (k : Said → Prog O I) (t : Path) (i : Entry) (τ : List (Event O)) →
+  entry_leads : (T : Tree O) (p : Place) (s : Wait) (k : Said → Prog O I) (t : Path) (i : Entry) (τ : List (Event O)) {node : Node O} → T t ≡ Some node →
       Leads_at T (λ w v e. (u : World O) × (o : Ending) × Visits prog (Runs prog) w None t i u o × Stays (Runs prog) u p s k o v e) (event t (In None i) ∷ τ) → Leads T p (wait s k) (event t (In None i) ∷ τ)
-  entry_leads T p s k t i τ j ms g su l v e run = let y = unroll prog (handing T (event t (In None i) ∷ τ) ms g l) p (wait s k) v e run in j ms g su l v e y.1
+  entry_leads T p s k t i τ here j ms g su l v e run =
+      let w : World O = handing T (event t (In None i) ∷ τ) ms g l in
+      let y = unroll prog w p (wait s k) v e run in
+      j ms g su l v e (subst (λ n. Enters prog (Runs prog) w p s k t i n v e) here y.1)
+
+  -- an entry that finds nobody
+  unfound_leads : (T : Tree O) (p : Place) (s : Wait) (k : Said → Prog O I) (t : Path) (i : Entry) (τ : List (Event O)) → T t ≡ None → Leads T p (wait s k) τ → Leads T p (wait s k) (event [] (Unfound t i (prog.lost t)) ∷ τ)
+  unfound_leads T p s k t i τ here j ms g su l v e run =
+      let w : World O = handing T (event [] (Unfound t i (prog.lost t)) ∷ τ) ms g l in
+      let y = unroll prog w p (wait s k) v e run in
+      let z : Enters prog (Runs prog) w p s k t i None v e = subst (λ n. Enters prog (Runs prog) w p s k t i n v e) here y.1 in
+      after_step (λ u. Runs prog u p (wait s k) v e) T [] (Unfound t i (prog.lost t)) τ ms g l z.0 z.1 z.2 (λ s2 q. j ms g (suits_next (event [] (Unfound t i (prog.lost t))) τ g su) s2 v e q)
 
   -- nothing more is asked
   at_end : (T : Tree O) (D : World O → World O → Ending → Type 0) → Leads_at T D []
@@ -237,35 +248,35 @@ module _ {O I S : Type 0} (step : Tree O → S → Wait → Event O → S → Ty
   goes calls (heard {T} {p = p} {s = s} {k = k} {a = a} e own j b) =
       let n = goes (fit (k (Told a)) (calls (Told a))) b in
       record { told = event p (Back (height_of s) (Heard a)) ∷ n.told; last = n.last; calls = n.calls; chain = λ cs. replied step s p e (Heard a) (gone_from s T p) own j (called_on step (k (Told a)) (calls (Told a)) (n.chain cs)); leads = answer_leads prog T p s k (Heard a) n.told e own n.leads }
-  goes calls (entering_in {T} {p = p} {s = s} {k = k} t i e s1 b) =
+  goes calls (entering_in {T} {p = p} {s = s} {k = k} t i e here s1 b) =
       let n = goes (fit (prog.entry i) (prog.entries_call i)) b in
       record {
         told = event t (In None i) ∷ n.told;
         last = n.last;
         calls = λ cs. n.calls (pending s cs);
         chain = λ cs. more s1 (called_on step (prog.entry i) (prog.entries_call i) (n.chain (pending s cs)));
-        leads = entry_leads prog T p s k t i n.told (λ ms g su l v o y. visit_leads prog T None t i n.told n.leads ms g su l y.0 y.1 y.2);
+        leads = entry_leads prog T p s k t i n.told here (λ ms g su l v o y. visit_leads prog T None t i n.told n.leads ms g su l y.0 y.1 y.2);
       }
-  goes calls (leaving {T} {U} {p = p} {s = s} {k = k} {y = y} t i e s1 m) =
+  goes calls (leaving {T} {U} {p = p} {s = s} {k = k} {y = y} t i e here s1 m) =
       let n = over (fit (prog.entry i) (prog.entries_call i)) m in
       record {
         told = event t (In None i) ∷ n.told;
         last = n.last;
         calls = λ cs. n.calls (pending s cs);
         chain = λ cs. more s1 (called_on step (prog.entry i) (prog.entries_call i) (n.chain (pending s cs)));
-        leads = entry_leads prog T p s k t i n.told (λ ms g su l v o y. visit_leads prog T None t i n.told n.leads ms g su l y.0 y.1 y.2);
+        leads = entry_leads prog T p s k t i n.told here (λ ms g su l v o y. visit_leads prog T None t i n.told n.leads ms g su l y.0 y.1 y.2);
       }
-  goes calls (left {T} {U} {p = p} {s = s} {k = k} {y = y} t i e s1 m s2) =
+  goes calls (left {T} {U} {p = p} {s = s} {k = k} {y = y} t i e here s1 m s2) =
       let f = came step prog (fit (prog.entry i) (prog.entries_call i)) m in
       record {
         told = event t (In None i) ∷ (f.events ++ event t (Done None y) ∷ []);
         last = U;
         calls = pending s;
         chain = λ cs. more s1 (chain-append step (called_on step (prog.entry i) (prog.entries_call i) (f.chain (pending s cs))) (more s2 none));
-        leads = entry_leads prog T p s k t i (f.events ++ event t (Done None y) ∷ [])
+        leads = entry_leads prog T p s k t i (f.events ++ event t (Done None y) ∷ []) here
             (visited_leads prog T U None t i y f.events [] (λ u o v z. Stays (Runs prog) u p s k o v z) f.whole (at_end prog U (λ u v z. Stays (Runs prog) u p s k (Some y) v z)));
       }
-  goes calls (entered {T} {U} {p = p} {s = s} {k = k} {y = y} t i e s1 m s2 calm b) =
+  goes calls (entered {T} {U} {p = p} {s = s} {k = k} {y = y} t i e here s1 m s2 calm b) =
       let f = came step prog (fit (prog.entry i) (prog.entries_call i)) m in
       let n = goes calls b in
       let tail : List (Event O) = event t (Done None y) ∷ n.told in
@@ -274,10 +285,14 @@ module _ {O I S : Type 0} (step : Tree O → S → Wait → Event O → S → Ty
         last = n.last;
         calls = n.calls;
         chain = λ cs. more s1 (chain-append step (called_on step (prog.entry i) (prog.entries_call i) (f.chain (pending s cs))) (more s2 (n.chain cs)));
-        leads = entry_leads prog T p s k t i (f.events ++ tail)
+        leads = entry_leads prog T p s k t i (f.events ++ tail) here
             (visited_leads prog T U None t i y f.events n.told (λ u o v z. Stays (Runs prog) u p s k o v z) f.whole
             (λ ms g su l v z q. n.leads ms g su l v z (stays_on prog (handing U n.told ms g l) p s k y v z calm q)));
       }
+
+  goes calls (unfound {T} {p = p} {s = s} {k = k} t i e here s1 b) =
+      let n = goes calls b in
+      record { told = event [] (Unfound t i (prog.lost t)) ∷ n.told; last = n.last; calls = n.calls; chain = λ cs. more s1 (n.chain cs); leads = unfound_leads prog T p s k t i n.told here n.leads }
 
   pub begins : {T : Tree O} {o z : S} {p : Place} {x : Prog O I} → Fits x → Begun step prog T o p x z → BeginsEach step prog T o p x z
   begins f b =

@@ -7,13 +7,13 @@ use Rattle.tcl_core.specs.Endings.Reply.{Completed, Exit}
 use Rattle.tcl_core.specs.Entries.Answer.{Replied, Heard}
 use Rattle.tcl_core.specs.Entries.Said.{Finished, Told}
 use Rattle.tcl_core.specs.Trees.{Tree, What, Event, Move, Grants, at, effect, depth_of}
-use Rattle.tcl_core.specs.Trees.What.{Out, In, Done, Back}
+use Rattle.tcl_core.specs.Trees.What.{Out, In, Done, Back, Unfound}
 use Rattle.tcl_core.specs.Programs.{Wait, spot, Prog, Table, closes}
 use Rattle.tcl_core.specs.Programs.Prog.{call}
 use Rattle.tcl_core.specs.Runs.{World, Step, Runs, carried, height_of, gone, gone_from}
 use Rattle.tcl_core.specs.Rules.{Derives}
 use Rattle.tcl_core.specs.Execution.{Executes, Chain, Open, none, more, event, pending}
-use Rattle.tcl_core.specs.Execution.Executes.{completed, exited, acted, refused, went, passed, wrapped, wrapped_passed, too_deep, shut, called, called_passed, unreached, called_out, answered, heard, answered_passed, entered, entered_exiting}
+use Rattle.tcl_core.specs.Execution.Executes.{completed, exited, acted, refused, went, passed, wrapped, wrapped_passed, too_deep, shut, called, called_passed, unreached, called_out, answered, heard, answered_passed, entered, entered_exiting, unfound}
 use Rattle.tcl_core.proofs.Callers.{Fits, fit}
 use Rattle.tcl_core.proofs.Following.{back_within, called_on, chain-append, comes_back, goes_out, goes_within, plain_deed, plain_more, plain_open, replied, waiting}
 use Rattle.tcl_core.proofs.Plain.{closes_plain}
@@ -174,27 +174,35 @@ module _ {O I S : Type 0} (step : Tree O → S → Wait → Event O → S → Ty
         chain = λ cs. replied step s p e (Replied r) (gone_from s T p) own j none;
         runs = λ ms g l su. Derives.answered_passed _ p s k r (ahead T [] ms g l) q e own (next T p (Back (height_of s) (Replied r)) [] ms g l);
       }
-  follows calls (entered {T} {U} {V} {o} {o1} {o2} {o3} {z} {p} {s} {k} {y = j} {r} t i e s1 m s2 calm b) =
+  follows calls (entered {T = T} {U = U} {p = p} {s = s} {k = k} {y = j} t i e here s1 m s2 calm b) =
       let f = follows (fit (prog.entry i) (prog.entries_call i)) m in
       let n = follows calls b in
       let tail : List (Event O) = event t (Done None j) ∷ n.events in
       record {
         events = event t (In None i) ∷ (f.events ++ tail);
         chain = λ cs. more s1 (chain-append step (called_on step (prog.entry i) (prog.entries_call i) (f.chain (pending s cs))) (more s2 (n.chain cs)));
-        runs = λ ms g l su. Derives.entered _ p s k t i (ahead T (f.events ++ tail) ms g l) (ahead U tail ms g l) (ahead U n.events ms g l) _ j _ e
+        runs = λ ms g l su. Derives.entered _ p s k t i (ahead T (f.events ++ tail) ms g l) (ahead U tail ms g l) (ahead U n.events ms g l) _ j _ e here
             (next T t (In None i) (f.events ++ tail) ms g l) (first T U t (prog.entry i) j f.events tail ms g l (suits_next _ _ _ su) f.runs) (next U t (Done None j) n.events ms g l) calm
             (n.runs ms g l (suits_next _ _ _ (suits_after f.events tail g (suits_next _ _ _ su))));
       }
-  follows calls (entered_exiting {T} {U} {o} {o1} {o2} {o3} {o4} {p} {c} {k} {n} t i e s1 m s2 s3) =
+  follows calls (entered_exiting {T = T} {U = U} {p = p} {c = c} {k = k} {n = n} t i e here s1 m s2 s3) =
       let f = follows (fit (prog.entry i) (prog.entries_call i)) m in
       let last : List (Event O) = event p (Back c.0 (Replied (Exit n))) ∷ [] in
       let tail : List (Event O) = event t (Done None (Exit n)) ∷ last in
       record {
         events = event t (In None i) ∷ (f.events ++ tail);
         chain = λ cs. more s1 (chain-append step (called_on step (prog.entry i) (prog.entries_call i) (f.chain (c ∷ cs))) (more s2 (comes_back step e s3 none)));
-        runs = λ ms g l su. Derives.entered_exiting _ p (Some c) k t i (ahead T (f.events ++ tail) ms g l) (ahead U tail ms g l) (ahead U last ms g l) (ahead U [] ms g l) n (Some (Exit n)) e
+        runs = λ ms g l su. Derives.entered_exiting _ p (Some c) k t i (ahead T (f.events ++ tail) ms g l) (ahead U tail ms g l) (ahead U last ms g l) (ahead U [] ms g l) n (Some (Exit n)) e here
             (next T t (In None i) (f.events ++ tail) ms g l) (first T U t (prog.entry i) (Exit n) f.events tail ms g l (suits_next _ _ _ su) f.runs) (next U t (Done None (Exit n)) last ms g l)
             (exit_answer (ahead U last ms g l) p (Some c) n (ahead U [] ms g l) e (is_exit_self n) (next U p (Back c.0 (Replied (Exit n))) [] ms g l));
+      }
+
+  follows calls (unfound {T = T} {p = p} {s = s} {k = k} t i e here s1 b) =
+      let n = follows calls b in
+      record {
+        events = event [] (Unfound t i (prog.lost t)) ∷ n.events;
+        chain = λ cs. more s1 (n.chain cs);
+        runs = λ ms g l su. Derives.unfound _ p s k t i (ahead T n.events ms g l) _ _ e here (next T [] (Unfound t i (prog.lost t)) n.events ms g l) (n.runs ms g l (suits_next _ _ _ su));
       }
 
   -- what happens in a run that came to its end

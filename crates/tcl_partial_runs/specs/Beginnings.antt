@@ -9,10 +9,10 @@ use Rattle.tcl_core.specs.Endings.Reply.{Completed}
 use Rattle.tcl_core.specs.Entries.{Entry, HostReply, Said}
 use Rattle.tcl_core.specs.Entries.Answer.{Replied, Heard}
 use Rattle.tcl_core.specs.Entries.Said.{Finished, Told}
-use Rattle.tcl_core.specs.Trees.{Tree, What, Event, Move, Grant, Grants, effect, asked, granted, at}
+use Rattle.tcl_core.specs.Trees.{Tree, What, Event, Move, Grant, Grants, effect, asked, granted, at, Node}
 use Rattle.tcl_core.specs.Trees.{depth_of}
 use Rattle.tcl_core.specs.Trees.Grants.{Listed}
-use Rattle.tcl_core.specs.Trees.What.{Refused, Out, In, Done, Back}
+use Rattle.tcl_core.specs.Trees.What.{Refused, Out, In, Done, Back, Unfound}
 use Rattle.tcl_core.specs.Trees.Move.{Come}
 use Rattle.tcl_core.specs.Programs.{Deed, spot, Act, Wrap, Wait, Prog, Table, closes}
 use Rattle.tcl_core.specs.Programs.Next.{On, TooDeep}
@@ -123,28 +123,33 @@ pub data Begun {O I S : Type 0} (step : Tree O → S → Wait → Event O → S 
       step T o s (event p (Back (height_of s) (Heard a))) u → Begun step prog T u p (k (Told a)) z →
       Begun step prog T o p (wait s k) z
   -- in an entry from outside, while the call is waited for
-  entering_in : {T : Tree O} {o o1 z : S} {p : Place} {s : Wait} {k : Said → Prog O I} (t : Path)
-      (i : Entry) → rise_to (height_of s) p ≡ None →
+  entering_in : {T : Tree O} {o o1 z : S} {p : Place} {s : Wait} {k : Said → Prog O I}
+      {node : Node O} (t : Path) (i : Entry) → rise_to (height_of s) p ≡ None → T t ≡ Some node →
       step T o None (event t (In None i)) o1 → Begun step prog T o1 t (prog.entry i) z →
       Begun step prog T o p (wait s k) z
   -- it was done, and its reply was not told; or it was told
   leaving : {T U : Tree O} {o o1 o2 : S} {p : Place} {s : Wait} {k : Said → Prog O I} {y : Reply}
-      (t : Path) (i : Entry) → rise_to (height_of s) p ≡ None →
+      {node : Node O} (t : Path) (i : Entry) → rise_to (height_of s) p ≡ None → T t ≡ Some node →
       step T o None (event t (In None i)) o1 →
       Executes step prog T o1 t (prog.entry i) U o2 y →
       Begun step prog T o p (wait s k) o2
   left : {T U : Tree O} {o o1 o2 o3 : S} {p : Place} {s : Wait} {k : Said → Prog O I} {y : Reply}
-      (t : Path) (i : Entry) → rise_to (height_of s) p ≡ None →
+      {node : Node O} (t : Path) (i : Entry) → rise_to (height_of s) p ≡ None → T t ≡ Some node →
       step T o None (event t (In None i)) o1 →
       Executes step prog T o1 t (prog.entry i) U o2 y →
       step U o2 None (event t (Done None y)) o3 → Begun step prog T o p (wait s k) o3
   -- after such an entry, unless it exited
   entered : {T U : Tree O} {o o1 o2 o3 z : S} {p : Place} {s : Wait} {k : Said → Prog O I}
-      {y : Reply} (t : Path) (i : Entry) → rise_to (height_of s) p ≡ None →
-      step T o None (event t (In None i)) o1 →
+      {y : Reply} {node : Node O} (t : Path) (i : Entry) → rise_to (height_of s) p ≡ None →
+      T t ≡ Some node → step T o None (event t (In None i)) o1 →
       Executes step prog T o1 t (prog.entry i) U o2 y →
       step U o2 None (event t (Done None y)) o3 → IsNoExit y →
       Begun step prog U o3 p (wait s k) z → Begun step prog T o p (wait s k) z
+  -- after one that finds nobody
+  unfound : {T : Tree O} {o u z : S} {p : Place} {s : Wait} {k : Said → Prog O I} (t : Path)
+      (i : Entry) → rise_to (height_of s) p ≡ None → T t ≡ None →
+      step T o None (event [] (Unfound t i (prog.lost t))) u →
+      Begun step prog T u p (wait s k) z → Begun step prog T o p (wait s k) z
 
 module _ {O : Type 0} where
   -- the moves that these happenings read, in front of others

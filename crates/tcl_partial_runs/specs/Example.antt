@@ -47,7 +47,7 @@ abbrev pub reading : Table ℕ Reading
 reading = record {
   program = λ i. reads_line;
   entry = λ i. done lost;
-  lost = lost;
+  lost = λ path. lost;
   programs_call = λ i. λ T.
       after_line_calls;
   entries_call = λ i. tt;

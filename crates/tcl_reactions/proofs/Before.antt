@@ -1,7 +1,7 @@
 -- What a subtree does by itself, up to where control comes in.
 use Rattle.std.proofs.Common.{sym, ◌≡◌, ℕ, zero, suc, ◌≤◌, ◌<◌, ◌+◌, true, false, nat_lt, List, [], ◌∷◌, ◌++◌, Option, Some, None, refl, ◌∙◌, ap, subst, arith}
 use Rattle.std.proofs.lemmas.Bool.Decides.{nat_tests}
-use Rattle.tcl_core.specs.Paths.{Place, rise_to}
+use Rattle.tcl_core.specs.Paths.{Place, rise_to, Path}
 use Rattle.tcl_core.specs.Endings.{Reply}
 use Rattle.tcl_core.specs.Endings.Reply.{Completed, Stop, Exit, Cut}
 use Rattle.tcl_core.specs.Entries.{Entry}
@@ -14,10 +14,10 @@ use Rattle.tcl_core.specs.Lives.Reacts.{over, waiting}
 use Rattle.tcl_core.specs.Programs.{Table}
 use Rattle.tcl_core.specs.Programs.Prog.{wait}
 use Rattle.tcl_core.specs.Rules.{Derives}
-use Rattle.tcl_core.specs.Runs.{Step, RunsIn, Stays, Waits, World}
-use Rattle.tcl_core.specs.Trees.{Event, Move, Tree, What}
+use Rattle.tcl_core.specs.Runs.{Step, RunsIn, Stays, Waits, World, Enters}
+use Rattle.tcl_core.specs.Trees.{Event, Move, Tree, What, Node}
 use Rattle.tcl_core.specs.Trees.Move.{Born, Fall, Enter, Come}
-use Rattle.tcl_core.specs.Trees.What.{Made, Dropped, In, Done}
+use Rattle.tcl_core.specs.Trees.What.{Made, Dropped, In, Done, Unfound}
 use Rattle.tcl_core.proofs.Balance
 use Rattle.tcl_core.proofs.Balance.{Owes, done_at, dones, in_at, ins, owes}
 use Rattle.tcl_core.proofs.Halts.{halted_tape}
@@ -168,18 +168,23 @@ module _ {O I : Type 0} (prog : Table O I) (k : ℕ) (next : Event O) (late : Li
     after_entry n ih u y (Cut c) a t m f s = ih u y a t m f s
     after_entry n ih u y (Exit l) a t m f s = no_more k next late u a (exits_idle u l u.moves y s).tape t
 
+    open_entry : (n : ℕ) → Opens n → (z y : World O) (a : List (Event O)) → Meets z a → IsUnended a → y.tape ≡ [] → (q : Path) (i : Entry) (x : Option (Node O)) → Enters prog (RunsIn prog n) z [] idle never q i x y None → Open a
+    unfolding Opens Open
+    open_entry n ih z y a t m f q i None (u, st, h) = let p = passed z [] (Unfound q i (prog.lost q)) u a st (λ j. j) t m in subst Open (sym p.1) (ih u y p.0 p.2 p.3 f h)
+    open_entry n ih z y a t m f q i (Some x) (u, None, v, s) =
+        let p = passed z q (In None i) v.entered a v.entry (λ j. j) t m in
+        subst Open (sym p.1) (entered_none z v.entered v.left q i p.0 (runs_derived prog v.entered q (prog.entry i) v.left None (n, v.run)) p.2 p.3)
+    open_entry n ih z y a t m f q i (Some x) (u, Some r, v, s) =
+        let p = passed z q (In None i) v.entered a v.entry (λ j. j) t m in
+        subst Open (sym p.1) (entered_some z v.entered v.left u q i r p.0 (runs_derived prog v.entered q (prog.entry i) v.left (Some r) (n, v.run)) v.leaving p.2 p.3 (λ a1 t1 n1. after_entry n ih u y r a1 t1 n1 f s))
+
     open_next : (n : ℕ) → Opens n → (z y : World O) (a : List (Event O)) → Meets z a → IsUnended a → y.tape ≡ [] → (ms : List (Move O)) → Waits prog (RunsIn prog n) z [] idle never ms y None → Open a
     unfolding Opens Open
     open_next n ih z y a t m f [] h = no_more k next late z a h.tape t
     open_next n ih z y a t m f (Come x ∷ ms) h = no_more k next late z a h.tape t
     open_next n ih z y a t m f (Born o s ∷ ms) (u, st, h) = let p = passed z [] (Made o s) u a st (λ j. j) t m in subst Open (sym p.1) (ih u y p.0 p.2 p.3 f h)
     open_next n ih z y a t m f (Fall ∷ ms) (u, st, h) = let p = passed z [] Dropped u a st (λ j. j) t m in subst Open (sym p.1) (ih u y p.0 p.2 p.3 f h)
-    open_next n ih z y a t m f (Enter q i ∷ ms) (u, None, v, s) =
-        let p = passed z q (In None i) v.entered a v.entry (λ j. j) t m in
-        subst Open (sym p.1) (entered_none z v.entered v.left q i p.0 (runs_derived prog v.entered q (prog.entry i) v.left None (n, v.run)) p.2 p.3)
-    open_next n ih z y a t m f (Enter q i ∷ ms) (u, Some r, v, s) =
-        let p = passed z q (In None i) v.entered a v.entry (λ j. j) t m in
-        subst Open (sym p.1) (entered_some z v.entered v.left u q i r p.0 (runs_derived prog v.entered q (prog.entry i) v.left (Some r) (n, v.run)) v.leaving p.2 p.3 (λ a1 t1 n1. after_entry n ih u y r a1 t1 n1 f s))
+    open_next n ih z y a t m f (Enter q i ∷ ms) h = open_entry n ih z y a t m f q i (z.tree q) h
 
     opens : (n : ℕ) → Opens n
     unfolding Opens

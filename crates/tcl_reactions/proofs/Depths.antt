@@ -5,7 +5,7 @@ use Rattle.tcl_core.specs.Endings.Meter.{Count, Depth}
 use Rattle.tcl_core.specs.Endings.Reply.{Cut}
 use Rattle.tcl_core.specs.Endings.Cause.{Above, Over}
 use Rattle.tcl_core.specs.Execution.{Chain, Crossings, Open, Decides, Executes, Opens_so, before, more, none}
-use Rattle.tcl_core.specs.Execution.Executes.{completed, exited, acted, refused, went, passed, wrapped, wrapped_passed, too_deep, shut, called, called_passed, unreached, called_out, answered, heard, answered_passed, entered, entered_exiting}
+use Rattle.tcl_core.specs.Execution.Executes.{completed, exited, acted, refused, went, passed, wrapped, wrapped_passed, too_deep, shut, called, called_passed, unreached, called_out, answered, heard, answered_passed, entered, entered_exiting, unfound}
 use Rattle.tcl_core.specs.Laws.{IsSteady, IsUpright, KeepsTop, is_spared, depth_left}
 use Rattle.tcl_core.specs.Paths.{Place, rise_to}
 use Rattle.tcl_core.specs.Programs.{Act, Deed, Prog, Table, Wait, Wrap, spot, closes, changing, making, dropping, metered, by_limit, blocked, is_spent, is_deep}
@@ -16,7 +16,7 @@ use Rattle.tcl_core.specs.Trees.{Event, Grants, Move, Node, Tree, What, asked, a
 use Rattle.tcl_core.specs.Trees.Grant.{Allow, Deny}
 use Rattle.tcl_core.specs.Trees.Grants.{Listed, Budget}
 use Rattle.tcl_core.specs.Trees.Move.{Born, Fall, Enter, Come}
-use Rattle.tcl_core.specs.Trees.What.{Seen, Charged, Refused, Limited, DepthLimited, Nested, Made, Dropped, In, Back}
+use Rattle.tcl_core.specs.Trees.What.{Seen, Charged, Refused, Limited, DepthLimited, Nested, Made, Dropped, In, Back, Unfound}
 use Rattle.tcl_core.specs.Views.{moves_of}
 use Rattle.tcl_core.proofs.Depths.{steady}
 use Rattle.tcl_core.proofs.Callers.{Fits, fit}
@@ -24,7 +24,7 @@ use Rattle.tcl_core.proofs.Following.{makes}
 use Rattle.tcl_core.proofs.PathLaws.{not_both, Some-inj, child_no_top}
 use Rattle.tcl_core.proofs.Reacting.{IsLasting, Lasting}
 use Rattle.tcl_reactions.specs.Laws.{DepthsStay}
-use Rattle.tcl_reactions.specs.Playing.Lived.{begun, entered as came}
+use Rattle.tcl_reactions.specs.Playing.Lived.{begun, entered as came, unfound as strayed}
 use Rattle.tcl_reactions.specs.Playing.{Lived, Player, plays}
 use Rattle.tcl_core.proofs.TreeLaws.{any_close}
 
@@ -111,8 +111,9 @@ module _ {O I S : Type 0} (step : Tree O → S → Wait → Event O → S → Ty
   lasts (answered up fit s t) = answered up fit (stays step _ _ _ _ _ s tt) (lasts t)
   lasts (heard up fit s t) = heard up fit (stays step _ _ _ _ _ s tt) (lasts t)
   lasts (answered_passed q up fit s) = answered_passed q up fit (stays step _ _ _ _ _ s tt)
-  lasts (entered t i up s1 run s2 calm rest) = entered t i up (stays step _ _ _ _ _ s1 tt) (lasts run) (stays step _ _ _ _ _ s2 tt) calm (lasts rest)
-  lasts (entered_exiting t i up s1 run s2 s3) = entered_exiting t i up (stays step _ _ _ _ _ s1 tt) (lasts run) (stays step _ _ _ _ _ s2 tt) (stays step _ _ _ _ _ s3 tt)
+  lasts (entered t i up here s1 run s2 calm rest) = entered t i up here (stays step _ _ _ _ _ s1 tt) (lasts run) (stays step _ _ _ _ _ s2 tt) calm (lasts rest)
+  lasts (entered_exiting t i up here s1 run s2 s3) = entered_exiting t i up here (stays step _ _ _ _ _ s1 tt) (lasts run) (stays step _ _ _ _ _ s2 tt) (stays step _ _ _ _ _ s3 tt)
+  lasts (unfound t i up here s rest) = unfound t i up here (stays step _ _ _ _ _ s tt) (lasts rest)
 
 -- ## And so it reads no move of the top
 
@@ -130,6 +131,7 @@ module _ {O : Type 0} where
   keeps_one p (Back h a) ms f k = keeps_none (rise_to h p) (Come a) ms (λ j. j) k
   keeps_one p (Made o s) ms f k = keeps_at_top p (Born o s) ms f k
   keeps_one p Dropped ms f k = keeps_at_top p Fall ms f k
+  keeps_one p (Unfound t i c) ms f k = k
   keeps_one p _ ms f k = k
 
   keeps_top : (τ : List (Event O)) → IsLasting τ → KeepsTop (moves_of τ)
@@ -162,10 +164,12 @@ module _ {O I S : Type 0} (step : Tree O → S → Wait → Event O → S → Ty
 module _ {O I : Type 0} (prog : Table O I) where
   lived_steady : {S : Tree O} {o : Player O} {V : Tree O} {z : Player O} → Lived prog S o V z → IsUpright S → IsUpright V × ((q : Place) → SameOrNone (depth_of (S q)) (depth_of (V q)))
   lived_steady begun up = (up, λ q. inl refl)
-  lived_steady {S} (came {U} {V} {u} {w} {v} {z} t i r l calm last enters run leaves) up =
+  lived_steady {S} (came {U = U} {V = V} {w = w} {v = v} t i r l calm last here enters run leaves) up =
       let h = lived_steady l up in
       let k = run_steady (Crossings plays) prog U V w v t _ r (fit (prog.entry i) (prog.entries_call i)) run h.0 in
       (k.0, λ q. one_more (depth_of (S q)) (depth_of (U q)) (depth_of (V q)) (h.1 q) (k.1 q))
+
+  lived_steady (strayed t i l calm last here reads) up = lived_steady l up
 
 module _ {O I : Type 0} where
   pub depths_stay : DepthsStay O I

@@ -1,4 +1,5 @@
 -- Who plays moves is never at a loss.
+use Rattle.tcl_core.specs.Endings.{Completion}
 use Rattle.std.proofs.Common.{sym, ◌≡◌, ◌⊎◌, inl, inr, ℕ, zero, suc, ℤ, Bool, true, false, List, [], ◌∷◌, Option, Some, None, refl, ◌∙◌, ap, subst, arith}
 use Rattle.std.proofs.lemmas.Bool.Decides.{Decides-int_eq}
 use Rattle.std.proofs.lemmas.Bool.{false≢true}
@@ -10,7 +11,7 @@ use Rattle.tcl_core.specs.Entries.{Entry, Answer}
 use Rattle.tcl_core.specs.Entries.Answer.{Replied, Heard}
 use Rattle.tcl_core.specs.Trees.{Tree, Event, Move}
 use Rattle.tcl_core.specs.Trees.Move.{Born, Fall, Enter, Come}
-use Rattle.tcl_core.specs.Trees.What.{Charged, Refused, Out, In, Done, Back}
+use Rattle.tcl_core.specs.Trees.What.{Charged, Refused, Out, In, Done, Back, Unfound}
 use Rattle.tcl_core.specs.Programs.{Wait}
 use Rattle.tcl_core.specs.Runs.{is_exit, is_own, is_told, gone}
 use Rattle.tcl_core.specs.Execution.{event}
@@ -98,8 +99,8 @@ module _ {O : Type 0} where
   next_of T p h i d o None (m ∷ ms) e l k = next_move T p h i d o m ms e l k (suits (last_end o) T p (Some (h, i, d)) m) refl
 
   next_at : (T : Tree O) (p : Place) (h : Height) (i : Entry) (d : ℕ) (o : Player O) → rise_to h p ≡ None → Next T p h i d o →
-      ((t : Path) × (e : Entry) × (z : Player O) × plays T o None (event t (In None e)) z) ⊎ ((a : Answer) × (z : Player O) × plays T o (Some (h, i, d)) (event p (Back h a)) z × (is_told (gone d T p) h i a ≡ true))
-  next_at T p h i d o e (inl g) = inl g
+      ((t : Path) × (e : Entry) × ((z : Player O) × plays T o None (event t (In None e)) z) × ((c : Completion) → (z : Player O) × plays T o None (event [] (Unfound t e c)) z)) ⊎ ((a : Answer) × (z : Player O) × plays T o (Some (h, i, d)) (event p (Back h a)) z × (is_told (gone d T p) h i a ≡ true))
+  next_at T p h i d o e (inl (t, q, z, g)) = inl (t, q, (z, g), (λ c. (telling z (event t (Done None (Completed c))), (z, g, refl))))
   next_at T p h i d o e (inr (a, z, g, w)) = inr (a, z, outer (rise_to h p) o z (Answers T p o (Some (h, i, d)) a z) e g, w)
 
   exit_told : (f : Option (Fate O)) (t : Path) (n : ℤ) (o z : Player O) → o.fate ≡ f → Tells f o (event t (Done None (Exit n))) z → HasExited z n

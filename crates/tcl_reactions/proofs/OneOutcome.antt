@@ -8,7 +8,7 @@ use Rattle.tcl_core.specs.Endings.Cause.{Above, Over}
 use Rattle.tcl_core.specs.Entries.Answer.{Replied, Heard}
 use Rattle.tcl_core.specs.Trees.{Tree, What, Event, Move}
 use Rattle.tcl_core.specs.Trees.Grants.{Budget}
-use Rattle.tcl_core.specs.Trees.What.{Done}
+use Rattle.tcl_core.specs.Trees.What.{Done, Unfound}
 use Rattle.tcl_core.specs.Trees.Move.{Born, Fall, Enter, Come}
 use Rattle.tcl_core.specs.Programs.{Table}
 use Rattle.tcl_core.specs.Programs.Prog.{wait}
@@ -78,6 +78,7 @@ module _ {O : Type 0} where
 
       at : (p : Place) (w : What O) → StopsByItself (outcome_at p w x)
       at p (Done h r) = last (rise_to h p) r
+      at p (Unfound t i c) = tt
       at p w = f
 
   as_many : (τ σ : List (Event O)) (j k : ℕ) → τ ≡ σ → InProgress (suc j) τ → InProgress (suc k) σ → j ≡ k

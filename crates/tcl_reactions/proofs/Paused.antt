@@ -1,5 +1,6 @@
 -- A run up to where control next comes in from outside: it is one with the moves until then alone, and under each budget of the steps
 -- until then, or more.
+use Rattle.tcl_core.proofs.TreeLaws.{reached_stands}
 use Rattle.std.proofs.Common.{sym, ◌≡◌, ◌⊎◌, inl, inr, ℕ, ℤ, ◌+◌, Bool, true, false, List, [], ◌∷◌, ◌++◌, Some, None, length, refl, ◌∙◌, ap, subst}
 use Rattle.tcl_core.specs.Paths.{Path, Place, Height, rise_to}
 use Rattle.tcl_core.specs.Endings.{Completion, Reply, Cause, IsQuit, refusal}
@@ -9,17 +10,17 @@ use Rattle.tcl_core.specs.Endings.Reply.{Completed, Stop, Exit, Cut}
 use Rattle.tcl_core.specs.Entries.{Entry, Answer, Said}
 use Rattle.tcl_core.specs.Entries.Answer.{Replied, Heard}
 use Rattle.tcl_core.specs.Entries.Said.{Finished, Told}
-use Rattle.tcl_core.specs.Trees.{Tree, What, Event, Move, at, depth_of, granted}
+use Rattle.tcl_core.specs.Trees.{Tree, What, Event, Move, at, depth_of, granted, Node}
 use Rattle.tcl_core.specs.Trees.Grants.{Listed}
 use Rattle.tcl_core.specs.Trees.Move.{Born, Fall, Enter, Come}
-use Rattle.tcl_core.specs.Trees.What.{Made, Dropped, Out, In, Done, Back}
+use Rattle.tcl_core.specs.Trees.What.{Made, Dropped, Out, In, Done, Back, Unfound}
 use Rattle.tcl_core.specs.Programs.{Deed, spot, Next, Wrap, Wait, Prog, Table, opens, closes}
 use Rattle.tcl_core.specs.Programs.Next.{On, Off}
 use Rattle.tcl_core.specs.Programs.Prog.{done, exit, act, go, inside, call, wait}
 use Rattle.tcl_core.specs.Runs
 use Rattle.tcl_core.specs.Runs.{World, Step, Ending, Halts, Exits, Exiting, Follows, Hears, Leaves, Visits, Returns, Reaches, Closes, Opened, Stays, returned, reached, ends_call, height_of}
 use Rattle.tcl_core.specs.Rules.{Derives, IsNoExit}
-use Rattle.tcl_core.specs.Rules.Derives.{completed, exited, acted, refused, unheard, went, passed, halted, wrapped, wrapped_passed, wrapped_halted, too_deep, shut, unheard_inside, called, called_passed, called_halted, unreached, called_out, unanswered, unfit, answered, heard, answered_passed, entered, entered_halted, entered_exiting, born, fallen}
+use Rattle.tcl_core.specs.Rules.Derives.{completed, exited, acted, refused, unheard, went, passed, halted, wrapped, wrapped_passed, wrapped_halted, too_deep, shut, unheard_inside, called, called_passed, called_halted, unreached, called_out, unanswered, unfit, answered, heard, answered_passed, entered, entered_halted, entered_exiting, born, fallen, unfound}
 use Rattle.tcl_core.specs.Rules.{IsOn}
 use Rattle.tcl_core.specs.Execution.{event}
 use Rattle.tcl_core.specs.Laws.{IsUnended, ReadsMove, Unended, after}
@@ -215,12 +216,12 @@ module _ {O I : Type 0} (prog : Table O I) (k : ℕ) (next : Event O) (late : Li
       silent k next late reads (Unended {O = O} t (Done h r)) left told told t (Done h r) (Ends_so r told) (Told_of left h t r) (Some r) a s (λ ms. refl) q n
       (λ a1 z o st d. (d.0, subst (λ y. Step (given left.tree (event t (Done h r) ∷ a1)) t (Done h r) y) (sym d.1) st)) (λ a1 q1 n1. ended (Unended {O = O} t (Done h r)) told r a1 q1 n1)
 
-  visited : (w inner left told : World O) (h : Height) (t : Place) (i : Entry) (r : Reply) (a : List (Event O)) → Step w t (In h i) inner → Meets w a → IsUnended a →
+  visited : (w inner left told : World O) (h : Height) (t : Place) (i : Entry) (r : Reply) (a : List (Event O)) {node : Node O} → w.tree t ≡ Some node → Step w t (In h i) inner → Meets w a → IsUnended a →
       (a ≡ [] → next ∷ late ≡ event t (In h i) ∷ inner.tape → Of (Unended {O = O} t (Done h r)) w told (Visit_of w.tree h t i []) (Some r) []) →
       Goes inner t (prog.entry i) left (Some r) → Step left t (Done h r) told → Of (Unended {O = O} t (Done h r)) w told (Visit_of w.tree h t i a) (Some r) a
-  visited w inner left told h t i r a s1 q n none sub s2 =
+  visited w inner left told h t i r a here s1 q n none sub s2 =
       taken k next late (Unended {O = O} t (Done h r)) w inner told t (In h i) (Left_of w inner h t i) (Visit_of w.tree h t i) (Some r) a s1 q n none
-      (λ a1 z o st d. record { entered = given inner.tree a1; left = d.0; entry = st; run = d.1; leaving = d.2 })
+      (λ a1 z o st d. record { node = _; stands = here; entered = given inner.tree a1; left = d.0; entry = st; run = d.1; leaving = d.2 })
       (λ a1 q1 n1. joined k next late (Unit {0}) (Unended {O = O} t (Done h r)) inner left told (Run_of inner.tree t (prog.entry i) a1) (Told_of left h t r) (Left_of w inner h t i a1) (Some r) (Some r) a1 (sub a1 q1 n1)
       (λ z d. (z, d, refl))
       (λ c a2 q2 n2 e u. let g = peeled k next late reads left t (Done h r) told a2 s2 (λ ms. refl) q2 n2 in gone c g.0 g.1 g.3 e g.2)
@@ -275,14 +276,14 @@ module _ {O I : Type 0} (prog : Table O I) (k : ℕ) (next : Event O) (late : Li
       ((a1 : List (Event O)) → Meets u a1 → IsUnended a1 → Of (Unit {0}) u v (D a1) e a1) → Paused w p (wait s y) v e a
   comes w u v p t x s y D e a f st q n build rec = taken k next late (Unit {0}) w u v t x D (Run_of w.tree p (wait s y)) e a st q n (λ g h. stops_here w v p s y e f) build rec
 
-  enters : (w inner left told v : World O) (p : Place) (s : Wait) (y : Said → Prog O I) (t : Path) (i : Entry) (r : Reply) (e : Ending) (F : List (Event O) → World O → Ending → Type 0) → rise_to (height_of s) p ≡ None → Step w t (In None i) inner →
+  enters : (w inner left told v : World O) (p : Place) (s : Wait) (y : Said → Prog O I) (t : Path) (i : Entry) (r : Reply) (e : Ending) (F : List (Event O) → World O → Ending → Type 0) {node : Node O} → rise_to (height_of s) p ≡ None → w.tree t ≡ Some node → Step w t (In None i) inner →
       Goes inner t (prog.entry i) left (Some r) → Step left t (Done None r) told →
       ((a1 : List (Event O)) (z : World O) (o : Ending) → F a1 z o → Stays (Ruled prog) (given told.tree a1) p s y (Some r) z o) →
       ((a1 : List (Event O)) → Meets told a1 → IsUnended a1 → Of (Unit {0}) told v (F a1) e a1) → Goes w p (wait s y) v e
-  enters w inner left told v p s y t i r e F f s1 sub s2 stay rest [] q n = stops_here w v p s y e f
-  enters w inner left told v p s y t i r e F f s1 sub s2 stay rest (ev ∷ a) q n =
+  enters w inner left told v p s y t i r e F f here s1 sub s2 stay rest [] q n = stops_here w v p s y e f
+  enters w inner left told v p s y t i r e F f here s1 sub s2 stay rest (ev ∷ a) q n =
       joined k next late (Unended {O = O} t (Done None r)) (Unit {0}) w told v (Visit_of w.tree None t i (ev ∷ a)) F (Run_of w.tree p (wait s y) (ev ∷ a)) (Some r) e (ev ∷ a)
-      (visited w inner left told None t i r (ev ∷ a) s1 q n (λ g h. not_cons ev a (sym g)) sub s2)
+      (visited w inner left told None t i r (ev ∷ a) here s1 q n (λ g h. not_cons ev a (sym g)) sub s2)
       (λ z d. enter_rule prog (given w.tree (ev ∷ a)) p s y t i z None z None f d (refl, refl))
       (λ c a1 q1 n1 g u. done_not_cut O t r c u g)
       (λ a1 z o d1 d2. enter_rule prog (given w.tree (ev ∷ a)) p s y t i (given told.tree a1) (Some r) z o f d1 (stay a1 z o d2)) rest
@@ -314,7 +315,7 @@ module _ {O I : Type 0} (prog : Table O I) (k : ℕ) (next : Event O) (late : Li
       silent k next late reads (Unit {0}) w out v p (Out h down i) (λ a1 z o. Reaches prog (Ruled prog) (given out.tree a1) p h down i lost y (Some t) z o) (Run_of w.tree p (call h down i lost y)) e a s1 (λ ms. refl) q n
       (λ a1 z o st d. reach_rule prog (given w.tree (event p (Out h down i) ∷ a1)) p h down i lost y (given out.tree a1) a0 (Some t) z o f g st d)
       (λ a1 q1 n1. joined k next late (Unended {O = O} t (Done (Some (length down)) r)) (Unit {0}) out told v (Visit_of out.tree (Some (length down)) t i a1) (λ a2 z o. Returns (Ruled prog) (depth_of (out.tree p)) (given told.tree a2) p h down y (Some r) z o) (λ z o. Reaches prog (Ruled prog) (given out.tree a1) p h down i lost y (Some t) z o) (Some r) e a1
-      (visited out inner left told (Some (length down)) t i r a1 s2 q1 n1 (λ _ j. not_next k next late reads t (In (Some (length down)) i) inner.tape (λ ms. sym (in_silent prog out a0 t down i g ms)) j) sub s3)
+      (visited out inner left told (Some (length down)) t i r a1 (reached_stands out.tree a0 down t g).1 s2 q1 n1 (λ _ j. not_next k next late reads t (In (Some (length down)) i) inner.tape (λ ms. sym (in_silent prog out a0 t down i g ms)) j) sub s3)
       (λ z d. (z, None, d, (refl, refl)))
       (λ c a2 q2 n2 j u. let m = peeled k next late reads told p (Back h (Replied (returned out.tree told.tree h p down r))) back a2 s4 (back_silent prog p a0 h (Replied (returned out.tree told.tree h p down r)) f) q2 n2 in gone c m.0 ((ends c j).0 ∙ m.1) m.3 (ends c j).1 tt)
       (λ a2 z o d1 d2. (given told.tree a2, Some r, d1, d2))
@@ -365,7 +366,7 @@ module _ {O I : Type 0} (prog : Table O I) (k : ℕ) (next : Event O) (late : Li
       silent k next late reads (Unit {0}) w out left p (Out h down i) (λ a1 z o. Reaches prog (Ruled prog) (given out.tree a1) p h down i lost y (Some t) z o) (Run_of w.tree p (call h down i lost y)) None a s1 (λ ms. refl) q n
       (λ a1 z o st d. reach_rule prog (given w.tree (event p (Out h down i) ∷ a1)) p h down i lost y (given out.tree a1) a0 (Some t) z o f g st d)
       (λ a1 q1 n1. silent k next late reads (Unit {0}) out inner left t (In (Some (length down)) i) (λ a2 z o. (o ≡ None) × Derives prog (given inner.tree a2) t (prog.entry i) z None) (λ a2 z o. Reaches prog (Ruled prog) (given out.tree a2) p h down i lost y (Some t) z o) None a1 s2 (λ ms. sym (in_silent prog out a0 t down i g ms)) q1 n1
-      (λ a2 z o st d. (z, None, record { entered = given inner.tree a2; left = z; entry = st; run = d.1; leaving = refl }, (refl, d.0)))
+      (λ a2 z o st d. (z, None, record { node = (reached_stands out.tree a0 down t g).0; stands = (reached_stands out.tree a0 down t g).1; entered = given inner.tree a2; left = z; entry = st; run = d.1; leaving = refl }, (refl, d.0)))
       (λ a2 q2 n2. halts k next late (Unit {0}) (Unit {0}) inner left (Run_of inner.tree t (prog.entry i) a2) (λ z o. (o ≡ None) × Derives prog (given inner.tree a2) t (prog.entry i) z None) a2 (halted_tape prog x refl) (paused x a2 q2 n2) (λ z d. (refl, d))))
   paused (unreached w p h down i lost y a0 out back v e f s1 g s2 x) a q n =
       silent k next late reads (Unit {0}) w out v p (Out h down i) (λ a1 z o. Reaches prog (Ruled prog) (given out.tree a1) p h down i lost y None z o) (Run_of w.tree p (call h down i lost y)) e a s1 (λ ms. refl) q n
@@ -384,15 +385,17 @@ module _ {O I : Type 0} (prog : Table O I) (k : ℕ) (next : Event O) (late : Li
   paused (answered_passed w p s y r u j f g t) a q n =
       comes w u u p p (Back (height_of s) (Replied r)) s y (Ends_so r u) (Some r) a f t q n
       (λ a1 z o st d. ends_so (given w.tree (event p (Back (height_of s) (Replied r)) ∷ a1)) u z p (wait s y) r a1 o (answered_passed (given w.tree (event p (Back (height_of s) (Replied r)) ∷ a1)) p s y r (given u.tree a1) j f g st) d) (λ a1 q1 n1. ended (Unit {0}) u r a1 q1 n1)
-  paused (entered w p s y t i inner left told v r e f s1 x s2 j z) a q n =
-      enters w inner left told v p s y t i r e (Run_of told.tree p (wait s y)) f s1 (λ a1 q1 n1. paused x a1 q1 n1) s2 (λ a1 z2 o d. stays_ruled (given told.tree a1) p s y r z2 o j d) (λ a1 q1 n1. paused z a1 q1 n1) a q n
-  paused (entered_exiting w p s y t i inner left told v m e f s1 x s2 z) a q n =
-      enters w inner left told v p s y t i (Exit m) e (Exits_of told.tree p s m) f s1 (λ a1 q1 n1. paused x a1 q1 n1) s2 (λ a1 z2 o d. d) (λ a1 q1 n1. exits_paused told p s m told.moves v e f refl z a1 q1 n1) a q n
-  paused (entered_halted w p s y t i inner left f s1 x) a q n =
+  paused (entered w p s y t i inner left told v r e f here s1 x s2 j z) a q n =
+      enters w inner left told v p s y t i r e (Run_of told.tree p (wait s y)) f here s1 (λ a1 q1 n1. paused x a1 q1 n1) s2 (λ a1 z2 o d. stays_ruled (given told.tree a1) p s y r z2 o j d) (λ a1 q1 n1. paused z a1 q1 n1) a q n
+  paused (entered_exiting w p s y t i inner left told v m e f here s1 x s2 z) a q n =
+      enters w inner left told v p s y t i (Exit m) e (Exits_of told.tree p s m) f here s1 (λ a1 q1 n1. paused x a1 q1 n1) s2 (λ a1 z2 o d. d) (λ a1 q1 n1. exits_paused told p s m told.moves v e f refl z a1 q1 n1) a q n
+  paused (entered_halted w p s y t i inner left f here s1 x) a q n =
       comes w inner left p t (In None i) s y (λ a1 z o. (o ≡ None) × Derives prog (given inner.tree a1) t (prog.entry i) z None) None a f s1 q n
-      (λ a1 z o st d. subst (λ o2. Derives prog (given w.tree (event t (In None i) ∷ a1)) p (wait s y) z o2) (sym d.0) (entered_halted (given w.tree (event t (In None i) ∷ a1)) p s y t i (given inner.tree a1) z f st d.1))
+      (λ a1 z o st d. subst (λ o2. Derives prog (given w.tree (event t (In None i) ∷ a1)) p (wait s y) z o2) (sym d.0) (entered_halted (given w.tree (event t (In None i) ∷ a1)) p s y t i (given inner.tree a1) z f here st d.1))
       (λ a1 q1 n1. halts k next late (Unit {0}) (Unit {0}) inner left (Run_of inner.tree t (prog.entry i) a1) (λ z o. (o ≡ None) × Derives prog (given inner.tree a1) t (prog.entry i) z None) a1 (halted_tape prog x refl) (paused x a1 q1 n1) (λ z d. (refl, d)))
   paused (born w p s y o c u v e f t r) a q n =
       comes w u v p [] (Made o c) s y (Run_of u.tree p (wait s y)) e a f t q n (λ a1 z o2 st d. born (given w.tree (event [] (Made o c) ∷ a1)) p s y o c (given u.tree a1) z o2 f st d) (λ a1 q1 n1. paused r a1 q1 n1)
+  paused (unfound w p s y t i u v e f here b r) a q n =
+      comes w u v p [] (Unfound t i (prog.lost t)) s y (Run_of u.tree p (wait s y)) e a f b q n (λ a1 z o2 st d. unfound (given w.tree (event [] (Unfound t i (prog.lost t)) ∷ a1)) p s y t i (given u.tree a1) z o2 f here st d) (λ a1 q1 n1. paused r a1 q1 n1)
   paused (fallen w p s y u v e f t r) a q n =
       comes w u v p [] Dropped s y (Run_of u.tree p (wait s y)) e a f t q n (λ a1 z o2 st d. fallen (given w.tree (event [] Dropped ∷ a1)) p s y (given u.tree a1) z o2 f st d) (λ a1 q1 n1. paused r a1 q1 n1)

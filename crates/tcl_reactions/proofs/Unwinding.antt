@@ -17,13 +17,13 @@ use Rattle.tcl_core.specs.Programs.Act.{Look, Change, Charge, Limit, LimitDepth,
 use Rattle.tcl_core.specs.Programs.Prog.{done, exit, act, go, inside, call, wait}
 use Rattle.tcl_core.specs.Programs.Wrap.{Deeper, Framed}
 use Rattle.tcl_core.specs.Rules.{Derives, IsNoExit}
-use Rattle.tcl_core.specs.Rules.Derives.{completed, exited, acted, refused, unheard, went, passed, halted, wrapped, wrapped_passed, wrapped_halted, too_deep, shut, unheard_inside, called, called_passed, called_halted, unreached, called_out, unanswered, unfit, answered, heard, answered_passed, entered, entered_halted, entered_exiting, born, fallen}
+use Rattle.tcl_core.specs.Rules.Derives.{completed, exited, acted, refused, unheard, went, passed, halted, wrapped, wrapped_passed, wrapped_halted, too_deep, shut, unheard_inside, called, called_passed, called_halted, unreached, called_out, unanswered, unfit, answered, heard, answered_passed, entered, entered_halted, entered_exiting, born, fallen, unfound}
 use Rattle.tcl_core.specs.Runs
-use Rattle.tcl_core.specs.Runs.{Ending, Exiting, Exits, RunsIn, Stays, Step, Waits, World, ends_call, fits, height_of, reached, returned}
+use Rattle.tcl_core.specs.Runs.{Ending, Exiting, Exits, RunsIn, Stays, Step, Waits, World, ends_call, fits, height_of, reached, returned, Enters}
 use Rattle.tcl_core.specs.Trees.{Event, Grants, Move, Node, Tree, What, at, depth_of, effect, granted}
 use Rattle.tcl_core.specs.Trees.Grants.{Budget}
 use Rattle.tcl_core.specs.Trees.Move.{Born, Fall, Enter, Come}
-use Rattle.tcl_core.specs.Trees.What.{Made, Dropped, Out, In, Done, Back}
+use Rattle.tcl_core.specs.Trees.What.{Made, Dropped, Out, In, Done, Back, Unfound}
 use Rattle.tcl_core.proofs.Balance.{Owes, dones, ins, owes}
 use Rattle.tcl_core.proofs.Keeping.{KeepsSteps, derived_keep}
 use Rattle.tcl_core.proofs.LifeMoves.{not_cons}
@@ -244,8 +244,8 @@ module _ {O I : Type 0} (prog : Table O I) where
       U = effect p (closes b (inner.tree p) (a.tree p)) a.tree
 
   -- an entry is ended, and so is the call in which it came in
-  ending_entry : (w inner : World O) (p : Place) (s : Wait) (k : Said → Prog O I) (t : Path) (i : Entry) (gs : Grants) → rise_to (height_of s) p ≡ None → Calling (wait s k) → Step w t (In None i) inner → Unwound inner t (prog.entry i) gs → Unwound w p (wait s k) gs
-  ending_entry w inner p s k t i gs f c s1 a = record {
+  ending_entry : (w inner : World O) (p : Place) (s : Wait) (k : Said → Prog O I) (t : Path) (i : Entry) (gs : Grants) {node : Node O} → rise_to (height_of s) p ≡ None → w.tree t ≡ Some node → Calling (wait s k) → Step w t (In None i) inner → Unwound inner t (prog.entry i) gs → Unwound w p (wait s k) gs
+  ending_entry w inner p s k t i gs f here c s1 a = record {
     count = suc a.count;
     events = a.events ++ gone ∷ back ∷ [];
     tree = a.tree;
@@ -259,7 +259,7 @@ module _ {O I : Type 0} (prog : Table O I) where
         λ ms τ.
         subst (λ l. Derives prog (longer w (copies (suc (suc a.count)) ending ++ ms) l) p (wait s k) (placed a.tree ms gs τ) (Some (Cut Above))) (sym (append_assoc a.events (gone ∷ back ∷ []) τ))
         (subst (λ l. Derives prog (longer w l (a.events ++ gone ∷ back ∷ τ)) p (wait s k) (placed a.tree ms gs τ) (Some (Cut Above))) (sym (copies_last (Move O) (suc a.count) ending ms))
-        (entered (longer w (moves ms) (a.events ++ gone ∷ back ∷ τ)) p s k t i (longer inner (moves ms) (a.events ++ gone ∷ back ∷ τ)) (placed a.tree (ending ∷ ms) gs (gone ∷ back ∷ τ)) (placed a.tree (ending ∷ ms) gs (back ∷ τ)) (placed a.tree ms gs τ) (Cut Above) (Some (Cut Above)) f
+        (entered (longer w (moves ms) (a.events ++ gone ∷ back ∷ τ)) p s k t i (longer inner (moves ms) (a.events ++ gone ∷ back ∷ τ)) (placed a.tree (ending ∷ ms) gs (gone ∷ back ∷ τ)) (placed a.tree (ending ∷ ms) gs (back ∷ τ)) (placed a.tree ms gs τ) (Cut Above) (Some (Cut Above)) f here
         (st (moves ms) (a.events ++ gone ∷ back ∷ τ) w t (In None i) inner s1) (a.runs (ending ∷ ms) (gone ∷ back ∷ τ)) (record { tape = refl; tree = refl; moves = refl; grants = refl }) tt
         (answered_passed (placed a.tree (ending ∷ ms) gs (back ∷ τ)) p s k (Cut Above) (placed a.tree ms gs τ) tt f (may_end a.tree p s k c)
         (record { tape = refl; tree = refl; moves = back_reads prog p (height_of s) (Replied (Cut Above)) f ms; grants = refl }))));
@@ -387,14 +387,16 @@ module _ {O I : Type 0} (prog : Table O I) where
       on w u p p (wait s y) (y (Told x)) v.grants (step_balanced w p _ u t (λ k. refl) (λ k. refl)) (unwinding n a q m b (calling (y (Told x)) (goes_on s y (Told x) f)) (after_step w p _ u t z))
       (λ ms τ o k. heard (longer w ms τ) p s y x (longer u ms τ) o (Some (Cut Above)) g j (st ms τ w p _ u t) k)
   unwinding n (answered_passed w p s y r u l g j t) q m b f z = some_none r q
-  unwinding n (entered w p s y t i inner left told v r e g s1 x s2 l a) q m b f z =
+  unwinding n (entered w p s y t i inner left told v r e g here s1 x s2 l a) q m b f z =
       on w told p p (wait s y) (wait s y) v.grants (visit_balanced w inner left told None t i r s1 (run_balanced x) s2) (unwinding n a q m b f (after_step left t _ told s2 (later x (after_step w t _ inner s1 z))))
-      (λ ms τ o k. entered (longer w ms τ) p s y t i (longer inner ms τ) (longer left ms τ) (longer told ms τ) o r (Some (Cut Above)) g (st ms τ w t _ inner s1) (ex ms τ x) (st ms τ left t _ told s2) l k)
-  unwinding n (entered_halted w p s y t i inner left g s1 x) q m b f z =
-      ending_entry w inner p s y t i left.grants g f s1 (unwinding n x refl m b (calling (prog.entry i) (prog.entries_call i)) (after_step w t _ inner s1 z))
-  unwinding n (entered_exiting w p s y t i inner left told v l e g s1 x s2 a) q m b f z = exit_not_last left told t l (later x (after_step w t _ inner s1 z)) s2 (exits_end told p s l told.moves v e q a)
+      (λ ms τ o k. entered (longer w ms τ) p s y t i (longer inner ms τ) (longer left ms τ) (longer told ms τ) o r (Some (Cut Above)) g here (st ms τ w t _ inner s1) (ex ms τ x) (st ms τ left t _ told s2) l k)
+  unwinding n (entered_halted w p s y t i inner left g here s1 x) q m b f z =
+      ending_entry w inner p s y t i left.grants g here f s1 (unwinding n x refl m b (calling (prog.entry i) (prog.entries_call i)) (after_step w t _ inner s1 z))
+  unwinding n (entered_exiting w p s y t i inner left told v l e g here s1 x s2 a) q m b f z = exit_not_last left told t l (later x (after_step w t _ inner s1 z)) s2 (exits_end told p s l told.moves v e q a)
   unwinding n (born w p s y o c u v e g t a) q m b f z =
       on w u p p (wait s y) (wait s y) v.grants (step_balanced w [] _ u t (λ k. refl) (λ k. refl)) (unwinding n a q m b f (after_step w [] _ u t z)) (λ ms τ j k. born (longer w ms τ) p s y o c (longer u ms τ) j (Some (Cut Above)) g (st ms τ w [] _ u t) k)
+  unwinding n (unfound w p s y t i u v e g here s1 a) q m b f z =
+      on w u p p (wait s y) (wait s y) v.grants (step_balanced w [] _ u s1 (λ k. refl) (λ k. refl)) (unwinding n a q m b f (after_step w [] _ u s1 z)) (λ ms τ j k. unfound (longer w ms τ) p s y t i (longer u ms τ) j (Some (Cut Above)) g here (st ms τ w [] _ u s1) k)
   unwinding n (fallen w p s y u v e g t a) q m b f z =
       on w u p p (wait s y) (wait s y) v.grants (step_balanced w [] _ u t (λ k. refl) (λ k. refl)) (unwinding n a q m b f (after_step w [] _ u t z)) (λ ms τ j k. fallen (longer w ms τ) p s y (longer u ms τ) j (Some (Cut Above)) g (st ms τ w [] _ u t) k)
 
@@ -412,14 +414,14 @@ module _ {O I : Type 0} (prog : Table O I) where
   nothing_on : (w : World O) (gs : Grants) → w.tape ≡ [] → Stood w gs
   nothing_on w gs t = quiet (let a : begun w.tape ≡ 0 = ap begun t in let b : ended w.tape ≡ 0 = ap ended t in omega arith)
 
-  entry_on : (w inner : World O) (t : Path) (i : Entry) (gs : Grants) → Step w t (In None i) inner → Unwound inner t (prog.entry i) gs → Stood w gs
-  entry_on w inner t i gs s1 a =
+  entry_on : (w inner : World O) (t : Path) (i : Entry) (gs : Grants) {node : Node O} → w.tree t ≡ Some node → Step w t (In None i) inner → Unwound inner t (prog.entry i) gs → Stood w gs
+  entry_on w inner t i gs here s1 a =
       ends a.count (a.events ++ gone ∷ []) a.tree
       (let b : begun w.tape ≡ suc (begun inner.tape) = ap begun s1.tape in
       let d : ended w.tape ≡ ended inner.tape = ap ended s1.tape in
       let e : begun inner.tape ≡ ended inner.tape + a.count = a.owes_so in
       omega arith)
-      (entered (longer w over (a.events ++ gone ∷ [])) [] idle never t i (longer inner over (a.events ++ gone ∷ [])) (placed a.tree [] gs (gone ∷ [])) (placed a.tree [] gs []) (placed a.tree [] gs []) (Cut Above) None refl
+      (entered (longer w over (a.events ++ gone ∷ [])) [] idle never t i (longer inner over (a.events ++ gone ∷ [])) (placed a.tree [] gs (gone ∷ [])) (placed a.tree [] gs []) (placed a.tree [] gs []) (Cut Above) None refl here
       (st over (a.events ++ gone ∷ []) w t (In None i) inner s1)
       (subst (λ l. Derives prog (longer inner l (a.events ++ gone ∷ [])) t (prog.entry i) (placed a.tree [] gs (gone ∷ [])) (Some (Cut Above))) (append-nil over) (a.runs [] (gone ∷ [])))
       (record { tape = refl; tree = refl; moves = refl; grants = refl }) tt (unanswered (placed a.tree [] gs []) [] idle never refl refl refl))
@@ -433,8 +435,8 @@ module _ {O I : Type 0} (prog : Table O I) where
   Standing : ℕ → ℕ → Type 0
   Standing k n = (z y : World O) → y.moves ≡ [] → y.grants ≡ Budget k → NoExitLast z → RunsIn prog n z [] (wait idle never) y None → Stood z y.grants
 
-  left_halted : (n : ℕ) (z left : World O) (entered_at : World O) (q : Path) (i : Entry) (k : ℕ) → left.moves ≡ [] → left.grants ≡ Budget k → NoExitLast z → Step z q (In None i) entered_at → Derives prog entered_at q (prog.entry i) left None → Stood z left.grants
-  left_halted n z left inner q i k m b f s d = entry_on z inner q i left.grants s (unwinding k d refl m b (calling (prog.entry i) (prog.entries_call i)) (after_step z q (In None i) inner s f))
+  left_halted : (n : ℕ) (z left : World O) (entered_at : World O) (q : Path) (i : Entry) (k : ℕ) {node : Node O} → left.moves ≡ [] → left.grants ≡ Budget k → NoExitLast z → z.tree q ≡ Some node → Step z q (In None i) entered_at → Derives prog entered_at q (prog.entry i) left None → Stood z left.grants
+  left_halted n z left inner q i k m b f here s d = entry_on z inner q i left.grants here s (unwinding k d refl m b (calling (prog.entry i) (prog.entries_call i)) (after_step z q (In None i) inner s f))
 
   stays_on : (k n : ℕ) → Standing k n → (u y : World O) (r : Reply) → y.moves ≡ [] → y.grants ≡ Budget k → NoExitLast u → Stays (RunsIn prog n) u [] idle never (Some r) y None → (Stood u y.grants × IsNoExit r) ⊎ (u.tape ≡ [])
   unfolding Standing
@@ -443,15 +445,27 @@ module _ {O I : Type 0} (prog : Table O I) where
   stays_on k n ih u y (Cut c) m b f s = inl (ih u y m b f s, tt)
   stays_on k n ih u y (Exit l) m b f s = inr (exits_idle u l u.moves y s).tape
 
-  entry_past : (z inner left u : World O) (q : Path) (i : Entry) (r : Reply) (gs : Grants) → Step z q (In None i) inner → Derives prog inner q (prog.entry i) left (Some r) → Step left q (Done None r) u → (Stood u gs × IsNoExit r) ⊎ (u.tape ≡ []) → Stood z gs
-  entry_past z inner left u q i r gs s1 d s2 (inl g) =
+  entry_past : (z inner left u : World O) (q : Path) (i : Entry) (r : Reply) (gs : Grants) {node : Node O} → z.tree q ≡ Some node → Step z q (In None i) inner → Derives prog inner q (prog.entry i) left (Some r) → Step left q (Done None r) u → (Stood u gs × IsNoExit r) ⊎ (u.tape ≡ []) → Stood z gs
+  entry_past z inner left u q i r gs here s1 d s2 (inl g) =
       stood_on z u gs (visit_balanced z inner left u None q i r s1 (run_balanced d) s2)
-      (λ ms τ o e. entered (longer z ms τ) [] idle never q i (longer inner ms τ) (longer left ms τ) (longer u ms τ) o r None refl (st ms τ z q (In None i) inner s1) (ex ms τ d) (st ms τ left q (Done None r) u s2) g.1 e) g.0
-  entry_past z inner left u q i r gs s1 d s2 (inr t) =
+      (λ ms τ o e. entered (longer z ms τ) [] idle never q i (longer inner ms τ) (longer left ms τ) (longer u ms τ) o r None refl here (st ms τ z q (In None i) inner s1) (ex ms τ d) (st ms τ left q (Done None r) u s2) g.1 e) g.0
+  entry_past z inner left u q i r gs here s1 d s2 (inr t) =
       quiet (let c : begun z.tape + ended u.tape ≡ ended z.tape + begun u.tape = visit_balanced z inner left u None q i r s1 (run_balanced d) s2 in
       let a : begun u.tape ≡ 0 = ap begun t in
       let b : ended u.tape ≡ 0 = ap ended t in
       omega arith)
+
+  stands_entry : (k n : ℕ) → Standing k n → (z y : World O) → y.moves ≡ [] → y.grants ≡ Budget k → NoExitLast z → (q : Path) (i : Entry) (x : Option (Node O)) → z.tree q ≡ x → Enters prog (RunsIn prog n) z [] idle never q i x y None → Stood z y.grants
+  unfolding Standing
+  stands_entry k n ih z y m b f q i None here (u, st2, h) =
+      stood_on z u y.grants (step_balanced z [] (Unfound q i (prog.lost q)) u st2 (λ j. refl) (λ j. refl)) (λ l τ j d. unfound (longer z l τ) [] idle never q i (longer u l τ) j None refl here (st l τ z [] (Unfound q i (prog.lost q)) u st2) d) (ih u y m b (after_step z [] (Unfound q i (prog.lost q)) u st2 f) h)
+  stands_entry k n ih z y m b f q i (Some x) here (u, None, v, s) =
+      let same : y ≡ v.left = s.0 ∙ v.leaving in
+      subst (λ j. Stood z j.grants) (sym same) (left_halted n z v.left v.entered q i k (ap (λ j. j.moves) (sym same) ∙ m) (ap (λ j. j.grants) (sym same) ∙ b) f here v.entry (runs_derived prog v.entered q (prog.entry i) v.left None (n, v.run)))
+  stands_entry k n ih z y m b f q i (Some x) here (u, Some r, v, s) =
+      let d = runs_derived prog v.entered q (prog.entry i) v.left (Some r) (n, v.run) in
+      let g : NoExitLast u = after_step v.left q (Done None r) u v.leaving (later d (after_step z q (In None i) v.entered v.entry f)) in
+      entry_past z v.entered v.left u q i r y.grants here v.entry d v.leaving (stays_on k n ih u y r m b g s)
 
   stands_next : (k n : ℕ) → Standing k n → (z y : World O) → y.moves ≡ [] → y.grants ≡ Budget k → NoExitLast z → (ms : List (Move O)) → Waits prog (RunsIn prog n) z [] idle never ms y None → Stood z y.grants
   unfolding Standing
@@ -461,13 +475,7 @@ module _ {O I : Type 0} (prog : Table O I) where
       stood_on z u y.grants (step_balanced z [] (Made o s) u st2 (λ j. refl) (λ j. refl)) (λ l τ j d. born (longer z l τ) [] idle never o s (longer u l τ) j None refl (st l τ z [] (Made o s) u st2) d) (ih u y m b (after_step z [] (Made o s) u st2 f) h)
   stands_next k n ih z y m b f (Fall ∷ ms) (u, st2, h) =
       stood_on z u y.grants (step_balanced z [] Dropped u st2 (λ j. refl) (λ j. refl)) (λ l τ j d. fallen (longer z l τ) [] idle never (longer u l τ) j None refl (st l τ z [] Dropped u st2) d) (ih u y m b (after_step z [] Dropped u st2 f) h)
-  stands_next k n ih z y m b f (Enter q i ∷ ms) (u, None, v, s) =
-      let same : y ≡ v.left = s.0 ∙ v.leaving in
-      subst (λ j. Stood z j.grants) (sym same) (left_halted n z v.left v.entered q i k (ap (λ j. j.moves) (sym same) ∙ m) (ap (λ j. j.grants) (sym same) ∙ b) f v.entry (runs_derived prog v.entered q (prog.entry i) v.left None (n, v.run)))
-  stands_next k n ih z y m b f (Enter q i ∷ ms) (u, Some r, v, s) =
-      let d = runs_derived prog v.entered q (prog.entry i) v.left (Some r) (n, v.run) in
-      let g : NoExitLast u = after_step v.left q (Done None r) u v.leaving (later d (after_step z q (In None i) v.entered v.entry f)) in
-      entry_past z v.entered v.left u q i r y.grants v.entry d v.leaving (stays_on k n ih u y r m b g s)
+  stands_next k n ih z y m b f (Enter q i ∷ ms) h = stands_entry k n ih z y m b f q i (z.tree q) refl h
 
   stands : (k n : ℕ) → Standing k n
   unfolding Standing

@@ -7,8 +7,8 @@ use Rattle.tcl_core.specs.Endings.Reply.{Completed, Stop, Exit, Cut}
 use Rattle.tcl_core.specs.Entries.{Answer, Entry, HostReply, Said}
 use Rattle.tcl_core.specs.Entries.Answer.{Replied, Heard}
 use Rattle.tcl_core.specs.Entries.Said.{Finished, Told}
-use Rattle.tcl_core.specs.Trees.{Tree, Event, Move, Grants, where_none}
-use Rattle.tcl_core.specs.Trees.What.{In, Done, Back}
+use Rattle.tcl_core.specs.Trees.{Tree, Event, Move, Grants, where_none, Node}
+use Rattle.tcl_core.specs.Trees.What.{In, Done, Back, Unfound}
 use Rattle.tcl_core.specs.Trees.Move.{Born, Fall, Enter, Come}
 use Rattle.tcl_core.specs.Programs.{Prog, Table, Wait}
 use Rattle.tcl_core.specs.Programs.Prog.{wait}
@@ -19,7 +19,7 @@ use Rattle.tcl_core.specs.Lives.{Outcome, copies}
 use Rattle.tcl_core.specs.Lives.Outcome.{Exited}
 use Rattle.tcl_core.proofs.Seeing.{is_exit_self}
 use Rattle.tcl_core.proofs.Subtrees.{exit_answer}
-use Rattle.tcl_reactions.specs.Playing.{Answers, Fate, HandsIn, IsEnd, Player, last_end, plays, suits, telling}
+use Rattle.tcl_reactions.specs.Playing.{Answers, Fate, HandsIn, IsEnd, Player, last_end, plays, suits, telling, FindsNobody}
 use Rattle.tcl_reactions.specs.Playing.Answers.{reads, ends, waits, unfits, passes}
 use Rattle.tcl_reactions.specs.Playing.Fate.{Waits, Unfits, EndsAbove}
 use Rattle.tcl_reactions.proofs.Ways.{allowed_budget, Calm, IsBudget, Rest, Way, ahead, ahead-append, calm_suits, here, later, next}
@@ -27,7 +27,7 @@ use Rattle.tcl_reactions.proofs.Leads.{Breaks, Comes, Halting, Leads, May, Resul
 use Rattle.tcl_reactions.proofs.Leads.Breaks.{halts, unwinds}
 use Rattle.tcl_reactions.proofs.Leads.Result.{ran, broke}
 use Rattle.tcl_reactions.proofs.Plays.{came_to}
-use Rattle.tcl_reactions.proofs.Turns.{After, answers_at, back_way, calm_ending, cut_of, done_end, done_on, done_over, ended_at_once, in_way, not_some, reply_no_cut, same_end, visit_way}
+use Rattle.tcl_reactions.proofs.Turns.{After, answers_at, back_way, calm_ending, cut_of, done_end, done_on, done_over, ended_at_once, in_way, not_some, reply_no_cut, same_end, visit_way, unfound_way, unfound_end}
 use Rattle.tcl_reactions.proofs.Ways.{fits_end}
 use Rattle.tcl_reactions.proofs.Ways.{fits_open}
 
@@ -112,7 +112,7 @@ module _ {O I : Type 0} (prog : Table O I) where
   answered_passed_by T o u p s k r qu e fit (passes f n h q) n0 m = not_some o.fate f n0 n
 
   -- AN ENTRY COMES NEXT
-  module _ (T U : Tree O) (o o1 o2 o3 : Player O) (p : Place) (s : Wait) (k : Said → Prog O I) (t : Path) (i : Entry) (e : rise_to (height_of s) p ≡ None) (into : HandsIn o t i o1) where
+  module _ (T U : Tree O) (o o1 o2 o3 : Player O) (p : Place) (s : Wait) (k : Said → Prog O I) (t : Path) (i : Entry) (e : rise_to (height_of s) p ≡ None) {node : Node O} (here_now : T t ≡ Some node) (into : HandsIn o t i o1) where
     abbrev e1 : Event O
     e1 = event t (In None i)
 
@@ -127,11 +127,11 @@ module _ {O I : Type 0} (prog : Table O I) where
     unwound_by τ (Completed c) ms y ρ en fit d = absurd en
     unwound_by τ (Stop n m) ms y ρ en fit d = absurd en
     unwound_by τ (Cut c) ms y ρ en fit d =
-        Derives.entered (ahead T (e1 ∷ τ) y) p s k t i (ahead T τ y) (world U (Come (Replied (Cut c)) ∷ ms) y.grants (e2 (Cut c) ∷ e3 (Cut c) ∷ ρ)) (world U (Come (Replied (Cut c)) ∷ ms) y.grants (e3 (Cut c) ∷ ρ)) (world U ms y.grants ρ) (Cut c) (Some (Cut c)) e
+        Derives.entered (ahead T (e1 ∷ τ) y) p s k t i (ahead T τ y) (world U (Come (Replied (Cut c)) ∷ ms) y.grants (e2 (Cut c) ∷ e3 (Cut c) ∷ ρ)) (world U (Come (Replied (Cut c)) ∷ ms) y.grants (e3 (Cut c) ∷ ρ)) (world U ms y.grants ρ) (Cut c) (Some (Cut c)) e here_now
         (next T t (In None i) τ y) d (record { tape = refl; tree = refl; moves = refl; grants = refl }) tt
         (Derives.answered_passed (world U (Come (Replied (Cut c)) ∷ ms) y.grants (e3 (Cut c) ∷ ρ)) p s k (Cut c) (world U ms y.grants ρ) tt e fit (back_step U p (height_of s) (Replied (Cut c)) ms y.grants ρ e))
     unwound_by τ (Exit n) ms y ρ en fit d =
-        Derives.entered_exiting (ahead T (e1 ∷ τ) y) p s k t i (ahead T τ y) (world U (Come (Replied (Exit n)) ∷ ms) y.grants (e2 (Exit n) ∷ e3 (Exit n) ∷ ρ)) (world U (Come (Replied (Exit n)) ∷ ms) y.grants (e3 (Exit n) ∷ ρ)) (world U ms y.grants ρ) n (Some (Exit n)) e
+        Derives.entered_exiting (ahead T (e1 ∷ τ) y) p s k t i (ahead T τ y) (world U (Come (Replied (Exit n)) ∷ ms) y.grants (e2 (Exit n) ∷ e3 (Exit n) ∷ ρ)) (world U (Come (Replied (Exit n)) ∷ ms) y.grants (e3 (Exit n) ∷ ρ)) (world U ms y.grants ρ) n (Some (Exit n)) e here_now
         (next T t (In None i) τ y) d (record { tape = refl; tree = refl; moves = refl; grants = refl })
         (exit_answer (world U (Come (Replied (Exit n)) ∷ ms) y.grants (e3 (Exit n) ∷ ρ)) p s n (world U ms y.grants ρ) e (ends_fit O U p s n fit) (back_step U p (height_of s) (Replied (Exit n)) ms y.grants ρ e))
 
@@ -140,7 +140,7 @@ module _ {O I : Type 0} (prog : Table O I) where
         Leads prog T o1 t (prog.entry i) j τ w (Breaks f S U w j σ) → Leads prog T o p (wait s k) (suc j) (e1 ∷ τ) w (Breaks f S U w (suc j) (λ b. σ b ++ e2 b ∷ e3 b ∷ []))
     inside_leads τ w j f S σ fit l =
         around prog T T S U U o o1 w p t (wait s k) (prog.entry i) j (suc j) 1 f τ (e1 ∷ τ) σ (λ b. e2 b ∷ e3 b ∷ []) (one_call f j) (in_way j t i o o1 w τ into l.way) l
-        (λ y b d. Derives.entered_halted (ahead T (e1 ∷ τ) y) p s k t i (ahead T τ y) (ahead S [] y) e (next T t (In None i) τ y) d)
+        (λ y b d. Derives.entered_halted (ahead T (e1 ∷ τ) y) p s k t i (ahead T τ y) (ahead S [] y) e here_now (next T t (In None i) τ y) d)
         (λ b ms y ρ c en d. unwound_by τ b ms y ρ en (fit b en) d)
 
     pub entered_by : (V : Tree O) (z : Player O) (y r : Reply) → Result prog T o1 t (prog.entry i) U o2 y → Crossings plays U o2 None (e2 y) o3 → IsNoExit y →
@@ -150,7 +150,7 @@ module _ {O I : Type 0} (prog : Table O I) where
         let w : Way 0 o (e1 ∷ (τ ++ e2 y ∷ [])) o3 = visit_way t i y o o1 o2 o3 τ into l.way q n in
         tail prog T U V o o3 z p p (wait s k) (wait s k) r (e1 ∷ (τ ++ e2 y ∷ [])) (record {
           way = w;
-          builds = λ x b v d h. Derives.entered (ahead T (e1 ∷ (τ ++ e2 y ∷ [])) x) p s k t i (ahead T (τ ++ e2 y ∷ []) x) (ahead U (e2 y ∷ []) x) (ahead U [] x) v y d e
+          builds = λ x b v d h. Derives.entered (ahead T (e1 ∷ (τ ++ e2 y ∷ [])) x) p s k t i (ahead T (τ ++ e2 y ∷ []) x) (ahead U (e2 y ∷ []) x) (ahead U [] x) v y d e here_now
               (next T t (In None i) (τ ++ e2 y ∷ []) x) (first prog T U t (prog.entry i) y o1 o2 τ (e2 y ∷ []) x b l) (next U t (Done None y) [] x) nx h;
         }) (g w.goes_on (subst Calm (sym (done_end t y o2 o3 q)) (calm_ending y nx)))
     entered_by V z y r (broke τ w j f S σ l h x st en) s2 nx g a =
@@ -160,8 +160,18 @@ module _ {O I : Type 0} (prog : Table O I) where
         (broke (e1 ∷ τ) w (suc j) f S (λ c. σ c ++ e2 c ∷ e3 c ∷ []) (inside_leads τ w j f S σ (fits_end O U U [] p s (Replied r) b.3) l)
         (ap (λ v. v.fate) (b.1 ∙ same) ∙ h) (ap (λ v. v.outs) (b.1 ∙ same) ∙ x) (stops_more f S σ (λ c. e2 c ∷ e3 c ∷ []) w st) b.2)
 
+  -- that finds nobody
+  pub unfound_by : (T V : Tree O) (o u z : Player O) (p : Place) (s : Wait) (k : Said → Prog O I) (t : Path) (i : Entry) (r : Reply) → rise_to (height_of s) p ≡ None → T t ≡ None → FindsNobody o t i (prog.lost t) u →
+      (u.fate ≡ None → Calm (last_end u) → Result prog T u p (wait s k) V z r) → Result prog T o p (wait s k) V z r
+  unfound_by T V o u z p s k t i r e gone g next_one =
+      let w : Way 0 o (event [] (Unfound t i (prog.lost t)) ∷ []) u = unfound_way t i (prog.lost t) o u g in
+      tail prog T T V o u z p p (wait s k) (wait s k) r (event [] (Unfound t i (prog.lost t)) ∷ []) (record {
+        way = w;
+        builds = λ y b v d x. Derives.unfound (ahead T (event [] (Unfound t i (prog.lost t)) ∷ []) y) p s k t i (ahead T [] y) v d e gone (next T [] (Unfound t i (prog.lost t)) [] y) x;
+      }) (next_one w.goes_on (subst Calm (sym (unfound_end t i (prog.lost t) o u g)) tt))
+
   -- and ends by an exit
-  module _ (T U : Tree O) (o o1 o2 o3 o4 : Player O) (p : Place) (c : Height × Entry × ℕ) (k : Said → Prog O I) (t : Path) (i : Entry) (n : ℤ) (e : rise_to c.0 p ≡ None) (into : HandsIn o t i o1)
+  module _ (T U : Tree O) (o o1 o2 o3 o4 : Player O) (p : Place) (c : Height × Entry × ℕ) (k : Said → Prog O I) (t : Path) (i : Entry) (n : ℤ) (e : rise_to c.0 p ≡ None) {node : Node O} (here_now : T t ≡ Some node) (into : HandsIn o t i o1)
       (s2 : Crossings plays U o2 None (event t (Done None (Exit n))) o3) where
     abbrev d1 : Event O
     d1 = event t (In None i)
@@ -174,7 +184,7 @@ module _ {O I : Type 0} (prog : Table O I) where
 
     exits_so : (τ : List (Event O)) → Leads prog T o1 t (prog.entry i) 0 τ o2 (Comes U (Exit n)) → (y : Rest O) → IsBudget y.grants → (v : World O) (d : Ending) → Exits (ahead U [] y) p (Some c) n y.moves v d → Derives prog (ahead T (d1 ∷ (τ ++ d2 ∷ [])) y) p (wait (Some c) k) v d
     exits_so τ l y b v d x =
-        Derives.entered_exiting (ahead T (d1 ∷ (τ ++ d2 ∷ [])) y) p (Some c) k t i (ahead T (τ ++ d2 ∷ []) y) (ahead U (d2 ∷ []) y) (ahead U [] y) v n d e
+        Derives.entered_exiting (ahead T (d1 ∷ (τ ++ d2 ∷ [])) y) p (Some c) k t i (ahead T (τ ++ d2 ∷ []) y) (ahead U (d2 ∷ []) y) (ahead U [] y) v n d e here_now
         (next T t (In None i) (τ ++ d2 ∷ []) y) (first prog T U t (prog.entry i) (Exit n) o1 o2 τ (d2 ∷ []) y b l) (next U t (Done None (Exit n)) [] y) x
 
     over_exit : (τ : List (Event O)) (f : Fate O) → Leads prog T o1 t (prog.entry i) 0 τ o2 (Comes U (Exit n)) → Way 0 o (d1 ∷ (τ ++ d2 ∷ [])) o3 → last_end o3 ≡ Exited n → calls f 0 ≡ 1 → ((r : Reply) → May f (Exited n) r → r ≡ Exit n) →
@@ -221,5 +231,5 @@ module _ {O I : Type 0} (prog : Table O I) where
     entered_exiting_by (broke τ w j f S σ l h x st en) s3 =
         let same : o3 ≡ o2 = done_over U t (Exit n) f o2 o3 s2 h in
         ended_at_once prog U p o3 o4 (Some c) (Replied (Exit n)) f (answers_at U (Some c) p c.0 (Replied (Exit n)) o3 o4 e s3) (ap (λ v. v.fate) same ∙ h)
-        (λ q y. broke (d1 ∷ τ) w (suc j) f S (λ b. σ b ++ event t (Done None b) ∷ d3 b ∷ []) (inside_leads T U o o1 o2 o3 p (Some c) k t i e into τ w j f S σ (fits_open O U p c) l)
+        (λ q y. broke (d1 ∷ τ) w (suc j) f S (λ b. σ b ++ event t (Done None b) ∷ d3 b ∷ []) (inside_leads T U o o1 o2 o3 p (Some c) k t i e here_now into τ w j f S σ (fits_open O U p c) l)
         (ap (λ v. v.fate) (q ∙ same) ∙ h) (ap (λ v. v.outs) (q ∙ same) ∙ x) (stops_more f S σ (λ b. event t (Done None b) ∷ d3 b ∷ []) w st) tt)

@@ -8,7 +8,7 @@ use Rattle.tcl_core.specs.Entries.Answer.{Replied}
 use Rattle.tcl_core.specs.Trees.{Tree, Node, What, Event, Move, Grants, effect, asked, granted, paid, where_none}
 use Rattle.tcl_core.specs.Trees.Grants.{Budget}
 use Rattle.tcl_core.specs.Trees.Move.{Enter, Come}
-use Rattle.tcl_core.specs.Trees.What.{Charged, Refused, Nested, Out, In, Done, Back}
+use Rattle.tcl_core.specs.Trees.What.{Charged, Refused, Nested, Out, In, Done, Back, Unfound}
 use Rattle.tcl_core.specs.Programs.{Wait, Wrap, closes}
 use Rattle.tcl_core.specs.Programs.Wrap.{Deeper, Framed}
 use Rattle.tcl_core.specs.Runs.{World, Step, fits, is_told, gone}
@@ -180,6 +180,7 @@ module _ {O : Type 0} where
   by_plain T s p (Back h a) o u f g c = absurd f
   by_plain T s p (In h i) o u f g c = absurd f
   by_plain T s p (Done h r) o u f g c = absurd f
+  by_plain T s p (Unfound t i y) o u f g c = absurd f
   by_plain T s p Charged o u f g c =
       let e : u ≡ record { left = o.left; steps = u.steps; outs = o.outs; fate = o.fate } = c.told.2 in
       record { left = ap (λ z. z.left) e; steps = ap Budget c.told.1; outs = ap (λ z. z.outs) e; fate = ap (λ z. z.fate) e }
@@ -190,6 +191,7 @@ module _ {O : Type 0} where
   plain_told : (p : Place) (x : What O) → IsPlain x → told p x [] ≡ []
   plain_told p (Out h d i) f = absurd f
   plain_told p (Done h r) f = absurd f
+  plain_told p (Unfound t i y) f = absurd f
   plain_told p x f = refl
 
   plain_open : (p : Place) (x : What O) → IsPlain x → begun (event p x ∷ []) ≡ ended (event p x ∷ []) + 0

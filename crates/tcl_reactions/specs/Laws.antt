@@ -2,7 +2,7 @@
 use Rattle.std.specs.Prelude.{◌≡◌, ◌⊎◌, ◌≤◌, ℕ, ℤ, Bool, true, false, nat_lt, List, [], ◌∷◌, ◌++◌}
 use Rattle.std.specs.Prelude.{Some, None}
 use Rattle.tcl_core.specs.Paths.{Path, Place, Height, rise_to}
-use Rattle.tcl_core.specs.Endings.{Cause, Reply}
+use Rattle.tcl_core.specs.Endings.{Cause, Completion, Reply}
 use Rattle.tcl_core.specs.Endings.Meter.{Count}
 use Rattle.tcl_core.specs.Endings.Cause.{Over}
 use Rattle.tcl_core.specs.Endings.Reply.{Exit, Cut}
@@ -10,7 +10,7 @@ use Rattle.tcl_core.specs.Entries.{Entry, Answer}
 use Rattle.tcl_core.specs.Entries.Answer.{Replied}
 use Rattle.tcl_core.specs.Trees.{Event, Tree, Move, What, at, depth_of}
 use Rattle.tcl_core.specs.Trees.Move.{Come}
-use Rattle.tcl_core.specs.Trees.What.{Charged, Refused, Dropped, Out, In, Done, Back}
+use Rattle.tcl_core.specs.Trees.What.{Charged, Refused, Dropped, Out, In, Done, Back, Unfound}
 use Rattle.tcl_core.specs.Programs.{Table}
 use Rattle.tcl_core.specs.Runs.{Runs, Visits, World, gone, is_told}
 use Rattle.tcl_core.specs.Views.{moves_of, steps_of, view}
@@ -118,11 +118,13 @@ pub record NeverStuck (O : Type 0) : Type 0 where
       plays T o None (event p (Done h r)) z
   pub comes_back : (T : Tree O) (p a : Place) (h : Height) (y : Answer) (o : Player O) →
       rise_to h p ≡ Some a → (z : Player O) × plays T o None (event p (Back h y)) z
-  -- to a call that left the tree an entry comes next, or an answer of its own
+  -- to a call that left the tree an entry comes next, whether it finds somebody or nobody; or an
+  -- answer of its own
   pub next : (T : Tree O) (p : Place) (h : Height) (i : Entry) (d : ℕ) (o : Player O) →
       rise_to h p ≡ None →
       KeepsTop o.left →
-      ((t : Path) × (e : Entry) × (z : Player O) × plays T o None (event t (In None e)) z) ⊎
+      ((t : Path) × (e : Entry) × ((z : Player O) × plays T o None (event t (In None e)) z) ×
+      ((c : Completion) → (z : Player O) × plays T o None (event [] (Unfound t e c)) z)) ⊎
       ((a : Answer) × (z : Player O) × plays T o (Some (h, i, d)) (event p (Back h a)) z ×
       (is_told (gone d T p) h i a ≡ true))
   -- and after an entry of it that ended by an exit the call ends by that exit

@@ -3,13 +3,13 @@
 use Rattle.std.specs.Prelude.{◌≡◌, ℕ, suc, Bool, true, false, List, [], ◌∷◌, ◌++◌, Option, Some}
 use Rattle.std.specs.Prelude.{None}
 use Rattle.tcl_core.specs.Paths.{Path, Place, rise_to}
-use Rattle.tcl_core.specs.Endings.{Reply}
+use Rattle.tcl_core.specs.Endings.{Completion, Reply}
 use Rattle.tcl_core.specs.Endings.Meter.{Count}
-use Rattle.tcl_core.specs.Endings.Reply.{Exit, Cut}
+use Rattle.tcl_core.specs.Endings.Reply.{Completed, Exit, Cut}
 use Rattle.tcl_core.specs.Entries.{Entry, Answer}
 use Rattle.tcl_core.specs.Entries.Answer.{Replied}
-use Rattle.tcl_core.specs.Trees.{Tree, What, Event, Move}
-use Rattle.tcl_core.specs.Trees.What.{Charged, Refused, Out, In, Done, Back}
+use Rattle.tcl_core.specs.Trees.{Tree, Node, What, Event, Move}
+use Rattle.tcl_core.specs.Trees.What.{Charged, Refused, Out, In, Done, Back, Unfound}
 use Rattle.tcl_core.specs.Trees.Move.{Enter, Come}
 use Rattle.tcl_core.specs.Programs.{Wait, Table}
 use Rattle.tcl_core.specs.Runs.{answers_call, gone_from, is_exit}
@@ -113,6 +113,11 @@ module _ {O : Type 0} where
   abbrev pub HandsIn : Player O → Path → Entry → Player O → Type 0
   HandsIn o t i z = (o.fate ≡ None) × (o.left ≡ Enter t i ∷ z.left) × (z ≡ reading o z.left)
 
+  -- or finds nobody: it is handed in, and its end is told
+  abbrev pub FindsNobody : Player O → Path → Entry → Completion → Player O → Type 0
+  FindsNobody o t i c z = (u : Player O) × HandsIn o t i u ×
+      (z ≡ telling u (event t (Done None (Completed c))))
+
   -- what is told is kept as long as the playing goes on
   abbrev pub Tells : Option (Fate O) → Player O → Event O → Player O → Type 0
   Tells None o ev z = z ≡ telling o ev
@@ -132,6 +137,7 @@ module _ {O : Type 0} where
   meets T o s p (Done h r) z = past (rise_to h p) o z (Tells o.fate o (event p (Done h r)) z)
   meets T o s p (In h i) z = past (rise_to h p) o z (HandsIn o p i z)
   meets T o s p (Back h a) z = past (rise_to h p) o z (Answers T p o s a z)
+  meets T o s p (Unfound t i c) z = FindsNobody o t i c z
   meets T o s p _ z = z ≡ o
 
   -- The player goes from o to z by a happening, which finds the tree T. It refuses no evaluation:
@@ -144,11 +150,15 @@ module _ {O : Type 0} where
 pub data Lived {O I : Type 0} (prog : Table O I) (T : Tree O) (o : Player O) : Tree O → Player O →
     Type 0 where
   begun : Lived prog T o T o
-  entered : {U V : Tree O} {u w v z : Player O} (t : Path) (i : Entry) (r : Reply) →
-      Lived prog T o U u → u.fate ≡ None → last_end u ≡ Finished →
+  entered : {U V : Tree O} {u w v z : Player O} {node : Node O} (t : Path) (i : Entry) (r : Reply) →
+      Lived prog T o U u → u.fate ≡ None → last_end u ≡ Finished → U t ≡ Some node →
       plays U u None (event t (In None i)) w →
       Executes (Crossings plays) prog U w t (prog.entry i) V v r →
       plays V v None (event t (Done None r)) z → Lived prog T o V z
+  -- it finds nobody
+  unfound : {U : Tree O} {u z : Player O} (t : Path) (i : Entry) → Lived prog T o U u →
+      u.fate ≡ None → last_end u ≡ Finished → U t ≡ None →
+      plays U u None (event [] (Unfound t i (prog.lost t))) z → Lived prog T o U z
 
 module _ {O : Type 0} where
   -- who is to play these moves, with so many steps
