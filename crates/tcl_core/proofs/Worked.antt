@@ -6,8 +6,8 @@ use Rattle.tcl_core.specs.Endings.Reply.{Completed, Cut}
 use Rattle.tcl_core.specs.Endings.Cause.{Over}
 use Rattle.tcl_core.specs.Entries.Entry.{Eval}
 use Rattle.tcl_core.specs.Entries.Answer.{Replied}
-use Rattle.tcl_core.specs.Trees.{Event}
-use Rattle.tcl_core.specs.Trees.Move.{Come}
+use Rattle.tcl_core.specs.Trees.{Event, Move}
+use Rattle.tcl_core.specs.Trees.Move.{Come, Enter}
 use Rattle.tcl_core.specs.Trees.What.{Refused, Changed, Charged, Nested, Unnested, Out, In, Done, Back, Unfound}
 use Rattle.tcl_core.specs.Programs.Next.{On, Off}
 use Rattle.tcl_core.specs.Programs.Prog.{wait}
