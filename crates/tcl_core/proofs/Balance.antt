@@ -11,7 +11,7 @@ use Rattle.tcl_core.specs.Trees.Move.{Born, Fall, Enter, Come}
 use Rattle.tcl_core.specs.Programs.{Deed, spot, Act, Wrap, Wait, Prog, Table, decide, opens, closes}
 use Rattle.tcl_core.specs.Runs.{World, Step, Ending, Halts, Exits, Exiting, ends_call, height_of}
 use Rattle.tcl_core.specs.Rules.{Derives}
-use Rattle.tcl_core.specs.Rules.Derives.{completed, exited, acted, refused, unheard, went, passed, halted, wrapped, wrapped_passed, wrapped_halted, too_deep, shut, unheard_inside, called, called_passed, called_halted, unreached, called_out, unanswered, unfit, answered, heard, answered_passed, entered, entered_halted, entered_exiting, born, fallen, unfound}
+use Rattle.tcl_core.specs.Rules.Derives.{completed, exited, acted, refused, unheard, went, passed, halted, wrapped, wrapped_passed, wrapped_halted, too_deep, shut, unheard_inside, called, called_passed, called_halted, unreached, called_out, unanswered, unfit, answered, heard, missed, answered_passed, entered, entered_halted, entered_exiting, born, fallen, unfound}
 use Rattle.tcl_core.specs.Views.{view, kept, from_above}
 use Rattle.tcl_core.proofs.PathLaws.{seen_rise, strip_own, strip-sound}
 use Rattle.tcl_core.proofs.MoreMoves.{none_not}
@@ -187,6 +187,7 @@ module _ {O I : Type 0} (top : Place) (prog : Table O I) where
   owes (unfit w p s k m ms f g h t) = at_once top w None
   owes (answered w p s k c u v e f g t a) = answer_owes top w p (height_of s) _ u v e t (owes a)
   owes (heard w p s k y u v e f g t a) = answer_owes top w p (height_of s) _ u v e t (owes a)
+  owes (missed w p s k u v e f g t a) = answer_owes top w p (height_of s) _ u v e t (owes a)
   owes (answered_passed w p s k r u q f g t) = answer_owes top w p (height_of s) _ u u _ t (at_once top u _)
   owes (entered w p s k t i inner left told v r e f here s1 a s2 n b) = then_owes top w told v r e (visit_owes top w inner left told None t i r s1 (owes a) s2) (owes b)
   owes (entered_halted w p s k t i inner left f here s1 a) = halted_owes top w inner left None t i s1 (owes a)

@@ -5,7 +5,7 @@ use Rattle.tcl_core.specs.Endings.{Meter, Reply, Completed}
 use Rattle.tcl_core.specs.Endings.Meter.{Count, Depth}
 use Rattle.tcl_core.specs.Endings.Reply.{Exit, Cut}
 use Rattle.tcl_core.specs.Endings.Cause.{Above, Over}
-use Rattle.tcl_core.specs.Entries.Answer.{Replied}
+use Rattle.tcl_core.specs.Entries.Answer.{Replied, Nobody}
 use Rattle.tcl_core.specs.Trees.{Tree, Grants, granted, denied, What, Move, paid, Grant, Event}
 use Rattle.tcl_core.specs.Trees.Grant.{Allow, Deny}
 use Rattle.tcl_core.specs.Trees.Grants.{Listed, Budget}
@@ -17,7 +17,7 @@ use Rattle.tcl_core.specs.Programs.Act.{Charge}
 use Rattle.tcl_core.specs.Programs.Wrap.{Deeper, Framed}
 use Rattle.tcl_core.specs.Runs.{World, Step, Ending, Halts, Exits, Exiting, ends_call, height_of}
 use Rattle.tcl_core.specs.Rules.{Derives}
-use Rattle.tcl_core.specs.Rules.Derives.{completed, exited, acted, refused, unheard, went, passed, halted, wrapped, wrapped_passed, wrapped_halted, too_deep, shut, unheard_inside, called, called_passed, called_halted, unreached, called_out, unanswered, unfit, answered, heard, answered_passed, entered, entered_halted, entered_exiting, born, fallen, unfound}
+use Rattle.tcl_core.specs.Rules.Derives.{completed, exited, acted, refused, unheard, went, passed, halted, wrapped, wrapped_passed, wrapped_halted, too_deep, shut, unheard_inside, called, called_passed, called_halted, unreached, called_out, unanswered, unfit, answered, heard, missed, answered_passed, entered, entered_halted, entered_exiting, born, fallen, unfound}
 use Rattle.tcl_core.specs.Views.{steps_of, IsDue}
 use Rattle.tcl_core.specs.Lives.{IsUncut, Uncut}
 use Rattle.tcl_core.proofs.PathLaws.{not_both, Some-inj}
@@ -155,6 +155,7 @@ module _ {O I : Type 0} (prog : Table O I) (k : ℕ) where
   derived_budget (unfit w p s y a ms g j h t) f z q = none_not z q
   derived_budget (answered w p s y c u v e g j t a) f z q = answered (bud w) p s y c (bud u) (bud v) e g j (st w p _ u t) (derived_budget a (after_step w p _ u t f) z q)
   derived_budget (heard w p s y x u v e g j t a) f z q = heard (bud w) p s y x (bud u) (bud v) e g j (st w p _ u t) (derived_budget a (after_step w p _ u t f) z q)
+  derived_budget (missed w p s y u v e g j t a) f z q = missed (bud w) p s y (bud u) (bud v) e g j (st w p _ u t) (derived_budget a (after_step w p _ u t f) z q)
   derived_budget (answered_passed w p s y r u l g j t) f z q = answered_passed (bud w) p s y r (bud u) l g j (st w p _ u t)
   derived_budget (entered w p s y t i inner left told v r e g here s1 a s2 n b) f z q =
       let f1 = after_step w t _ inner s1 f in
@@ -264,6 +265,7 @@ module _ {O I : Type 0} (prog : Table O I) (k : ℕ) where
   halting (unfit w p s y a ms g j l t) f h q = unfit (budgeted k w) p s y a ms g j l t
   halting (answered w p s y c u v e g j t a) f h q = answered (budgeted k w) p s y c (budgeted k u) (budgeted k v) e g j (st prog k w p _ u t) (halting a (after_step prog k w p _ u t f) (rich_on w p (Back (height_of s) (Replied (Completed c))) u tt t h) q)
   halting (heard w p s y x u v e g j t a) f h q = heard (budgeted k w) p s y x (budgeted k u) (budgeted k v) e g j (st prog k w p _ u t) (halting a (after_step prog k w p _ u t f) (rich_on w p (Back (height_of s) (Heard x)) u tt t h) q)
+  halting (missed w p s y u v e g j t a) f h q = missed (budgeted k w) p s y (budgeted k u) (budgeted k v) e g j (st prog k w p _ u t) (halting a (after_step prog k w p _ u t f) (rich_on w p (Back (height_of s) Nobody) u tt t h) q)
   halting (answered_passed w p s y r u l g j t) f h q = ends_not _ _ refl q
   halting (entered w p s y t i inner left told v r e g here s1 a s2 n b) f h q =
       let f1 = after_step prog k w t _ inner s1 f in

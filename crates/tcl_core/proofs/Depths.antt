@@ -19,7 +19,7 @@ use Rattle.tcl_core.specs.Programs.Act.{Look, Change, Charge, Limit, LimitDepth,
 use Rattle.tcl_core.specs.Programs.Wrap.{Deeper, Framed}
 use Rattle.tcl_core.specs.Runs.{World, Step, Ending, Halts, Exits, Exiting, ends_call, height_of}
 use Rattle.tcl_core.specs.Rules.{Derives}
-use Rattle.tcl_core.specs.Rules.Derives.{completed, exited, acted, refused, unheard, went, passed, halted, wrapped, wrapped_passed, wrapped_halted, too_deep, shut, unheard_inside, called, called_passed, called_halted, unreached, called_out, unanswered, unfit, answered, heard, answered_passed, entered, entered_halted, entered_exiting, born, fallen, unfound}
+use Rattle.tcl_core.specs.Rules.Derives.{completed, exited, acted, refused, unheard, went, passed, halted, wrapped, wrapped_passed, wrapped_halted, too_deep, shut, unheard_inside, called, called_passed, called_halted, unreached, called_out, unanswered, unfit, answered, heard, missed, answered_passed, entered, entered_halted, entered_exiting, born, fallen, unfound}
 use Rattle.tcl_core.specs.Laws.{depth_left, is_spared, none_there, spares, Stands, IsStanding, Beneath, IsUpright, KeepsTop, Steady}
 use Rattle.tcl_core.proofs.PathLaws.{not_both, Some-inj, strip_own, strip-sound, child_in}
 use Rattle.tcl_core.proofs.RuleLaws.{runs_derived}
@@ -564,6 +564,7 @@ module _ {O I : Type 0} (prog : Table O I) where
   steady_run (unfit w p s k y ms f g h t) j m = at_once w _ j m
   steady_run (answered w p s k c u v e f g t a) h m = pass w p _ u v e (t, refl, (λ c. tt), (λ q. refl)) h m (λ h2 m2. steady_run a h2 m2)
   steady_run (heard w p s k y u v e f g t a) h m = pass w p _ u v e (t, refl, (λ c. tt), (λ q. refl)) h m (λ h2 m2. steady_run a h2 m2)
+  steady_run (missed w p s k u v e f g t a) h m = pass w p _ u v e (t, refl, (λ c. tt), (λ q. refl)) h m (λ h2 m2. steady_run a h2 m2)
   steady_run (answered_passed w p s k r u q f g t) h m = pass w p _ u u _ (t, refl, (λ c. tt), (λ q. refl)) h m (λ h2 m2. at_once u _ h2 m2)
   steady_run (entered w p s k t i inner left told v r e f here s1 a s2 n b) h m =
       pass w t _ inner v e (s1, refl, (λ c. tt), (λ q. refl)) h m (λ h2 m2. runs inner left v r e h2 (steady_run a h2 m2) (λ h3 m3. pass left t _ told v e (s2, refl, (λ c. tt), (λ q. refl)) h3 m3 (λ h4 m4. steady_run b h4 m4)))

@@ -1,4 +1,5 @@
 -- What a discipline forbids does not happen.
+use Rattle.tcl_core.proofs.Callers.{or_lost_all}
 use Rattle.std.proofs.Common.{sym, ◌≡◌, inl, inr, ℕ, zero, suc, ℤ, Bool, true, false, List, [], ◌∷◌, ◌++◌, Option, Some, None, refl, ◌∙◌, ap, subst, nat_lt}
 use Rattle.tcl_core.specs.Paths.{Path, Place, Height, strip, rise_to}
 use Rattle.tcl_core.specs.Endings.{Meter}
@@ -19,7 +20,7 @@ use Rattle.tcl_core.specs.Programs.Wrap.{Deeper, Framed}
 use Rattle.tcl_core.specs.Programs.Prog.{done, exit, act, go, inside, call, wait}
 use Rattle.tcl_core.specs.Runs.{World, Step, Ending, Exits, height_of}
 use Rattle.tcl_core.specs.Rules.{Derives}
-use Rattle.tcl_core.specs.Rules.Derives.{completed, exited, acted, refused, unheard, went, passed, halted, wrapped, wrapped_passed, wrapped_halted, too_deep, shut, unheard_inside, called, called_passed, called_halted, unreached, called_out, unanswered, unfit, answered, heard, answered_passed, entered, entered_halted, entered_exiting, born, fallen, unfound}
+use Rattle.tcl_core.specs.Rules.Derives.{completed, exited, acted, refused, unheard, went, passed, halted, wrapped, wrapped_passed, wrapped_halted, too_deep, shut, unheard_inside, called, called_passed, called_halted, unreached, called_out, unanswered, unfit, answered, heard, missed, answered_passed, entered, entered_halted, entered_exiting, born, fallen, unfound}
 use Rattle.tcl_core.specs.Views.{view, inside_of}
 use Rattle.tcl_core.specs.Lives.{idle, never}
 use Rattle.tcl_core.specs.Tables.{Discipline, IsGoodNode, IsGood, Modest_act, Modest_wrap, Modest_call, Modest, Keeps_to, Tame_move, AreTame, Limitable, Allowed, AreAllowed}
@@ -242,11 +243,12 @@ module _ {O I : Type 0} (R : Discipline O I) where
         step_kept w p _ out v tt s1 (step_kept out p _ back v tt s2 (keep q0 x lic (fit_of q0 _ (f.1 _)) (good_step out p _ back tt s2 g1)))
     keep q0 (called_out w p h down i lost k u v e z s a) lic f g =
         let l : Allowed R p (Out h down i) = out_allowed p h down i f.0 in
-        step_kept w p _ u v l s (keep q0 a lic f.1 (good_step w p _ u l s g))
+        step_kept w p _ u v l s (keep q0 a lic (or_lost_all (Modest R q0) lost k f.1) (good_step w p _ u l s g))
     keep q0 (unanswered w p s k j m t) lic f g = here w g
     keep q0 (unfit w p s k m ms j l n t) lic f g = here w g
     keep q0 (answered w p s k y u v e j l t a) lic f g = step_kept w p _ u v tt t (keep q0 a lic (fit_of q0 _ (f _)) (good_step w p _ u tt t g))
     keep q0 (heard w p s k y u v e j l t a) lic f g = step_kept w p _ u v tt t (keep q0 a lic (fit_of q0 _ (f _)) (good_step w p _ u tt t g))
+    keep q0 (missed w p s k u v e j l t a) lic f g = step_kept w p _ u v tt t (keep q0 a lic (fit_of q0 _ (f _)) (good_step w p _ u tt t g))
     keep q0 (answered_passed w p s k r u q j l t) lic f g = step_kept w p _ u u tt t (here u (good_step w p _ u tt t g))
     keep q0 (entered w p s k t i inner left told v r e j here s1 a s2 n b) lic f g =
         let m = (let y = fit_move t i (entry_tame w t i inner s1 g) in keep y.0 a y.1 y.2) (good_step w t _ inner tt s1 g) in

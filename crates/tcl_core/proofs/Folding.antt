@@ -4,7 +4,7 @@ use Rattle.tcl_core.specs.Paths.{Path, Place, Height, rise_to}
 use Rattle.tcl_core.specs.Endings.{Completion, Reply}
 use Rattle.tcl_core.specs.Endings.Reply.{Completed, Exit}
 use Rattle.tcl_core.specs.Entries.{Entry, Answer, Said}
-use Rattle.tcl_core.specs.Entries.Answer.{Replied, Heard}
+use Rattle.tcl_core.specs.Entries.Answer.{Replied, Heard, Nobody}
 use Rattle.tcl_core.specs.Trees.{Move, Tree, depth_of, Node}
 use Rattle.tcl_core.specs.Trees.Move.{Born, Fall, Enter, Come}
 use Rattle.tcl_core.specs.Programs.{Deed, Wrap, Wait, Next, Prog, Table, decide, opens}
@@ -39,6 +39,7 @@ module _ {O I : Type 0} where
 
     hears_map : (w : World O) (p : Place) (k : Said → Prog O I) (a : Answer) (v : World O) (e : Ending) → Hears R w p k a v e → Hears S w p k a v e
     hears_map w p k (Heard a) v e b = f w p _ v e b
+    hears_map w p k Nobody v e b = f w p _ v e b
     hears_map w p k (Replied (Completed c)) v e b = f w p _ v e b
     hears_map w p k (Replied _) v e b = b
 
@@ -157,6 +158,7 @@ module _ {O I : Type 0} where
 
     hears_deep : (w : World O) (p : Place) (k : Said → Prog O I) (a : Answer) (v : World O) (e : Ending) → Hears (Runs prog) w p k a v e → (n : ℕ) × Hears (RunsIn prog n) w p k a v e
     hears_deep w p k (Heard a) v e b = b
+    hears_deep w p k Nobody v e b = b
     hears_deep w p k (Replied (Completed c)) v e b = b
     hears_deep w p k (Replied _) v e b = (0, b)
 

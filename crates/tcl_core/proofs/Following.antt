@@ -4,9 +4,9 @@ use Rattle.tcl_core.specs.Paths.{Height, Path, Place, rise_to}
 use Rattle.tcl_core.specs.Endings.{Reply, IsQuit, refusal}
 use Rattle.tcl_core.specs.Endings.Meter.{Depth}
 use Rattle.tcl_core.specs.Entries.{Answer, Entry}
-use Rattle.tcl_core.specs.Entries.Said.{Finished, Told}
+use Rattle.tcl_core.specs.Entries.Said.{Finished, Told, Missed}
 use Rattle.tcl_core.specs.Endings.Reply.{Completed, Exit}
-use Rattle.tcl_core.specs.Entries.Answer.{Replied, Heard}
+use Rattle.tcl_core.specs.Entries.Answer.{Replied, Heard, Nobody}
 use Rattle.tcl_core.specs.Trees.{Tree, What, Event, Move, Grant, Grants, at, effect, asked, granted, depth_of}
 use Rattle.tcl_core.specs.Trees.Grants.{Listed}
 use Rattle.tcl_core.specs.Trees.What.{Out, In, Done, Back, Unfound}
@@ -15,9 +15,9 @@ use Rattle.tcl_core.specs.Programs.Prog.{call}
 use Rattle.tcl_core.specs.Runs.{World, Step, Runs, answers_call, carried, height_of, gone, gone_from}
 use Rattle.tcl_core.specs.Rules.{Derives}
 use Rattle.tcl_core.specs.Execution.{Executes, Chain, none, more, before, event, Makes, Decides, Open, Opens_so, answers_to, calls_after, last_call, pending, with_call, without_call}
-use Rattle.tcl_core.specs.Execution.Executes.{completed, exited, acted, refused, went, passed, wrapped, wrapped_passed, too_deep, shut, called, called_passed, unreached, called_out, answered, heard, answered_passed, entered, entered_exiting, unfound}
+use Rattle.tcl_core.specs.Execution.Executes.{completed, exited, acted, refused, went, passed, wrapped, wrapped_passed, too_deep, shut, called, called_passed, unreached, called_out, answered, heard, missed, answered_passed, entered, entered_exiting, unfound}
 use Rattle.tcl_core.specs.Views.{moves_of, grants_of}
-use Rattle.tcl_core.proofs.Callers.{Fits, fit, no_wait, waits_for}
+use Rattle.tcl_core.proofs.Callers.{Fits, fit, no_wait, waits_for, or_lost_all}
 use Rattle.tcl_core.proofs.Plain.{IsPlain, closes_plain, decide_plain, opens_plain}
 use Rattle.tcl_core.proofs.TreeLaws.{listed_one}
 use Rattle.tcl_core.proofs.Seeing.{is_exit_self}
@@ -266,7 +266,7 @@ module _ {O I S : Type 0} (step : Tree O → S → Wait → Event O → S → Ty
         runs = λ y. Derives.unreached _ p h down i lost k a (ahead T tail y) (ahead T g.events y) _ _ e (next T p (Out h down i) tail y) there (next T p (Back h (Replied (Completed lost))) g.events y) (g.runs y);
       }
   follows calls (called_out {T} {V} {o} {u} {z} {p} {h} {down} {i} {lost} {k} {r} e s t) =
-      let g = follows calls t in
+      let g = follows (or_lost_all Calls_only lost k calls) t in
       record {
         events = event p (Out h down i) ∷ g.events;
         chain = λ cs. goes_out step e s (g.chain cs);
@@ -285,6 +285,13 @@ module _ {O I S : Type 0} (step : Tree O → S → Wait → Event O → S → Ty
         events = event p (Back (height_of s) (Heard a)) ∷ g.events;
         chain = λ cs. replied step s p e (Heard a) (gone_from s T p) own j (called_on step (k (Told a)) (calls (Told a)) (g.chain cs));
         runs = λ y. Derives.heard _ p s k a (ahead T g.events y) _ _ e own (next T p (Back (height_of s) (Heard a)) g.events y) (g.runs y);
+      }
+  follows calls (missed {T} {V} {o} {u} {z} {p} {s} {k} {r} e own j t) =
+      let g = follows (fit (k Missed) (calls Missed)) t in
+      record {
+        events = event p (Back (height_of s) Nobody) ∷ g.events;
+        chain = λ cs. replied step s p e Nobody (gone_from s T p) own j (called_on step (k Missed) (calls Missed) (g.chain cs));
+        runs = λ y. Derives.missed _ p s k (ahead T g.events y) _ _ e own (next T p (Back (height_of s) Nobody) g.events y) (g.runs y);
       }
   follows calls (answered_passed {T} {o} {u} {p} {s} {k} {r} q e own j) =
       record {

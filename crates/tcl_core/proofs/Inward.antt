@@ -7,7 +7,7 @@ use Rattle.tcl_core.specs.Programs.{spot, Prog, Table}
 use Rattle.tcl_core.specs.Programs.{Calls_only}
 use Rattle.tcl_core.specs.Runs.{World, Step, Ending, where_stands}
 use Rattle.tcl_core.specs.Rules.{Derives}
-use Rattle.tcl_core.specs.Rules.Derives.{completed, exited, acted, refused, unheard, went, passed, halted, wrapped, wrapped_passed, wrapped_halted, too_deep, shut, unheard_inside, called, called_passed, called_halted, unreached, called_out, unanswered, unfit, answered, heard, answered_passed, entered, entered_halted, entered_exiting, born, fallen, unfound}
+use Rattle.tcl_core.specs.Rules.Derives.{completed, exited, acted, refused, unheard, went, passed, halted, wrapped, wrapped_passed, wrapped_halted, too_deep, shut, unheard_inside, called, called_passed, called_halted, unreached, called_out, unanswered, unfit, answered, heard, missed, answered_passed, entered, entered_halted, entered_exiting, born, fallen, unfound}
 use Rattle.tcl_core.specs.Laws.{rest, Inward, AreInward, Untouched}
 use Rattle.tcl_core.proofs.PathLaws.{Some-inj, strip_own, strip-sound, rise_to_within, rise_to_past}
 use Rattle.tcl_core.proofs.TreeLaws.{reached_at, spot_in}
@@ -91,6 +91,7 @@ module _ {O I : Type 0} (c : Place) (prog : Table O I) where
   keep (unfit w p s k m ms g j l t) q n f h = absurd f
   keep (answered w p s k y u v e g j t a) q n f h = absurd f
   keep (heard w p s k y u v e g j t a) q n f h = absurd f
+  keep (missed w p s k u v e g j t a) q n f h = absurd f
   keep (answered_passed w p s k r u l g j t) q n f h = absurd f
   keep (entered w p s k t i inner left told v r e g here s1 a s2 m b) q n f h = absurd f
   keep (entered_halted w p s k t i inner left g here s1 a) q n f h = absurd f

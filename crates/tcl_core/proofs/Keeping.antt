@@ -5,7 +5,7 @@ use Rattle.tcl_core.specs.Endings.{Meter}
 use Rattle.tcl_core.specs.Endings.Meter.{Count, Depth}
 use Rattle.tcl_core.specs.Endings.Reply.{Completed, Exit, Cut}
 use Rattle.tcl_core.specs.Endings.Cause.{Above, Over}
-use Rattle.tcl_core.specs.Entries.Answer.{Replied, Heard}
+use Rattle.tcl_core.specs.Entries.Answer.{Replied, Heard, Nobody}
 use Rattle.tcl_core.specs.Trees.{Grants, Tree, Node, What, Move}
 use Rattle.tcl_core.specs.Trees.Grant.{Allow, Deny}
 use Rattle.tcl_core.specs.Trees.Grants.{Listed, Budget}
@@ -17,7 +17,7 @@ use Rattle.tcl_core.specs.Programs.Act.{Look, Change, Charge, Limit, LimitDepth,
 use Rattle.tcl_core.specs.Programs.Wrap.{Deeper, Framed}
 use Rattle.tcl_core.specs.Runs.{World, Step, Ending, Exits, Exiting, Halts, Runs, ends_call, height_of}
 use Rattle.tcl_core.specs.Rules.{Derives}
-use Rattle.tcl_core.specs.Rules.Derives.{completed, exited, acted, refused, unheard, went, passed, halted, wrapped, wrapped_passed, wrapped_halted, too_deep, shut, unheard_inside, called, called_passed, called_halted, unreached, called_out, unanswered, unfit, answered, heard, answered_passed, entered, entered_halted, entered_exiting, born, fallen, unfound}
+use Rattle.tcl_core.specs.Rules.Derives.{completed, exited, acted, refused, unheard, went, passed, halted, wrapped, wrapped_passed, wrapped_halted, too_deep, shut, unheard_inside, called, called_passed, called_halted, unreached, called_out, unanswered, unfit, answered, heard, missed, answered_passed, entered, entered_halted, entered_exiting, born, fallen, unfound}
 use Rattle.tcl_core.specs.Views.{IsFree, IsDue}
 use Rattle.tcl_core.proofs.PathLaws.{not_both, Some-inj}
 use Rattle.tcl_core.proofs.RuleLaws.{runs_derived}
@@ -120,6 +120,7 @@ module _ {O I : Type 0} (P : World O → Type 0) (t : KeepsSteps P) (prog : Tabl
   derived_keep (unfit w p s k m ms f g h z) b = b
   derived_keep (answered w p s k c u v e f g z a) b = derived_keep a (t w p (Back (height_of s) (Replied (Completed c))) u tt z b)
   derived_keep (heard w p s k y u v e f g z a) b = derived_keep a (t w p (Back (height_of s) (Heard y)) u tt z b)
+  derived_keep (missed w p s k u v e f g z a) b = derived_keep a (t w p (Back (height_of s) Nobody) u tt z b)
   derived_keep (answered_passed w p s k r u q f g z) b = t w p (Back (height_of s) (Replied r)) u tt z b
   derived_keep (entered w p s k y i inner left told v r e f here s1 a s2 n d) b =
       derived_keep d (t left y (Done None r) told tt s2 (derived_keep a (t w y (In None i) inner tt s1 b)))

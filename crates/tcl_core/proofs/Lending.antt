@@ -5,8 +5,8 @@ use Rattle.tcl_core.specs.Endings.{Meter, Completion, Reply, Cause, refusal}
 use Rattle.tcl_core.specs.Endings.Meter.{Count, Depth}
 use Rattle.tcl_core.specs.Endings.Reply.{Completed, Stop, Exit, Cut}
 use Rattle.tcl_core.specs.Entries.{Entry, Answer, Said}
-use Rattle.tcl_core.specs.Entries.Answer.{Replied, Heard}
-use Rattle.tcl_core.specs.Entries.Said.{Finished, Told}
+use Rattle.tcl_core.specs.Entries.Answer.{Replied, Heard, Nobody}
+use Rattle.tcl_core.specs.Entries.Said.{Finished, Told, Missed}
 use Rattle.tcl_core.specs.Trees.{Tree, What, Event, Move, Grants, granted, allowing, denied, at, asked, depth_of, Node}
 use Rattle.tcl_core.specs.Trees.Grants.{Listed, Budget}
 use Rattle.tcl_core.specs.Programs.Act.{Look, Change, Charge, Limit, LimitDepth, Make, Drop}
@@ -14,7 +14,7 @@ use Rattle.tcl_core.specs.Programs.Wrap.{Deeper, Framed}
 use Rattle.tcl_core.proofs.PathLaws.{not_both}
 use Rattle.tcl_core.specs.Trees.What.{Charged, Nested, Refused, Made, Dropped, Out, In, Done, Back, Unfound}
 use Rattle.tcl_core.specs.Trees.Move.{Born, Fall, Enter, Come}
-use Rattle.tcl_core.specs.Programs.{Act, Deed, spot, Wrap, Wait, Next, Prog, Table, decide, opens, closes, metered, blocked, is_spent, is_deep}
+use Rattle.tcl_core.specs.Programs.{Act, Deed, spot, Wrap, Wait, Next, Prog, Table, decide, opens, closes, metered, blocked, is_spent, is_deep, or_lost}
 use Rattle.tcl_core.specs.Programs.Next.{On, TooDeep, Off}
 use Rattle.tcl_core.specs.Programs.Prog.{done, exit, act, go, inside, call, wait}
 use Rattle.tcl_core.specs.Runs.{World, Step, Ending, Run, Halts, Follows, Then, Closes, Acted, Acts, Opened, Opens, Hears, Answered, Leaves, Visits, Returns, Reaches, Calls, Exiting, Exits, Stays, Moves, Fitting, Waits, Unrolled, RunsIn, Runs, carried, reached, fits, ends_call, height_of, gone, Enters}
@@ -260,6 +260,7 @@ module _ {O : Type 0} (k : ℕ) (b0 y0 : List (Move O)) where
 
       hears_meet : (w : World O) (a0 : List (Move O)) (τ : List (Event O)) (m0 : Has w a0) (p : Place) (k : Said → Prog O I) (a : Answer) (v : World O) (e : Ending) (y : World O) (o : Ending) → Hears R w p k a v e → Hears S (lent w a0 τ) p k a y o → Alike w a0 τ v e y o
       hears_meet w a0 τ m0 p k (Heard x) v e y o a b = det w a0 τ m0 p (k (Told x)) v e y o a b
+      hears_meet w a0 τ m0 p k Nobody v e y o a b = det w a0 τ m0 p (k Missed) v e y o a b
       hears_meet w a0 τ m0 p k (Replied (Completed c)) v e y o a b = det w a0 τ m0 p (k (Finished c)) v e y o a b
       hears_meet w a0 τ m0 p k (Replied (Stop n m)) v e y o a b = both_end w a0 τ m0 v e y o (Some (Stop n m)) a.0 a.1 b.0 b.1
       hears_meet w a0 τ m0 p k (Replied (Exit n)) v e y o a b = both_end w a0 τ m0 v e y o (Some (Exit n)) a.0 a.1 b.0 b.1
@@ -292,7 +293,7 @@ module _ {O : Type 0} (k : ℕ) (b0 y0 : List (Move O)) where
           (subst (λ l. Returns S (depth_of (w.tree p)) (lent u d.left d.rest) p h down f l y o) d.ending (subst (λ l. Returns S (depth_of (w.tree p)) l p h down f n y o) d.world b2)))
 
       calls_meet : (w : World O) (a0 : List (Move O)) (τ : List (Event O)) (m0 : Has w a0) (p : Place) (h : Height) (down : Path) (i : Entry) (lost : Completion) (f : Said → Prog O I) (a : Option Place) → rise_to h p ≡ a → (v : World O) (e : Ending) (y : World O) (o : Ending) → Calls prog R w p h down i lost f a v e → Calls prog S (lent w a0 τ) p h down i lost f a y o → Alike w a0 τ v e y o
-      calls_meet w a0 τ m0 p h down i lost f None g v e y o a b = det w a0 τ m0 p (wait (Some (h, i, depth_of (w.tree p))) f) v e y o a b
+      calls_meet w a0 τ m0 p h down i lost f None g v e y o a b = det w a0 τ m0 p (wait (Some (h, i, depth_of (w.tree p))) (or_lost lost f)) v e y o a b
       calls_meet w a0 τ m0 p h down i lost f (Some t) g v e y o a b = reaches_meet w a0 τ m0 p h down i lost f t g (reached w.tree t down) refl v e y o a b
 
       -- what comes next where a move is waited for

@@ -5,12 +5,12 @@ use Rattle.tcl_core.specs.Endings.{Meter, Completion, Reply, IsQuit, refusal}
 use Rattle.tcl_core.specs.Endings.Meter.{Count, Depth}
 use Rattle.tcl_core.specs.Endings.Reply.{Completed, Stop, Exit, Cut}
 use Rattle.tcl_core.specs.Entries.{Entry, Answer, Said}
-use Rattle.tcl_core.specs.Entries.Answer.{Replied, Heard}
-use Rattle.tcl_core.specs.Entries.Said.{Finished, Told}
+use Rattle.tcl_core.specs.Entries.Answer.{Replied, Heard, Nobody}
+use Rattle.tcl_core.specs.Entries.Said.{Finished, Told, Missed}
 use Rattle.tcl_core.specs.Trees.{at, Grants, Tree, Node, What, Event, Move, asked, where_none, at_top, depth_of}
 use Rattle.tcl_core.specs.Trees.What.{Seen, Charged, Refused, Nested, Limited, DepthLimited, Made, Dropped, Out, In, Done, Back, Unfound}
 use Rattle.tcl_core.specs.Trees.Move.{Born, Fall, Enter, Come}
-use Rattle.tcl_core.specs.Programs.{Deed, spot, Act, Wrap, Wait, Prog, Table, decide, opens, closes, changing, making, dropping, either, metered, by_limit, blocked, is_spent, is_deep}
+use Rattle.tcl_core.specs.Programs.{Deed, spot, Act, Wrap, Wait, Prog, Table, decide, opens, closes, changing, making, dropping, either, metered, by_limit, blocked, is_spent, is_deep, or_lost}
 use Rattle.tcl_core.specs.Programs.Act.{Look, Change, Charge, Limit, LimitDepth, Make, Drop}
 use Rattle.tcl_core.specs.Programs.Wrap.{Deeper, Framed}
 use Rattle.tcl_core.specs.Programs.Next.{On, Off}
@@ -20,7 +20,7 @@ use Rattle.tcl_core.specs.Trees.Grants.{Listed, Budget}
 use Rattle.tcl_core.specs.Programs.Prog.{done, exit, act, go, inside, call, wait}
 use Rattle.tcl_core.specs.Runs.{World, Step, Ending, Halts, fits, Exits, Exiting, Follows, Hears, Leaves, Visits, Returns, Reaches, Closes, Opened, Stays, carried, reached, ends_call, height_of, gone}
 use Rattle.tcl_core.specs.Rules.{Derives, IsNoExit}
-use Rattle.tcl_core.specs.Rules.Derives.{completed, exited, acted, refused, unheard, went, passed, halted, wrapped, wrapped_passed, wrapped_halted, too_deep, shut, unheard_inside, called, called_passed, called_halted, unreached, called_out, unanswered, unfit, answered, heard, answered_passed, entered, entered_halted, entered_exiting, born, fallen, unfound}
+use Rattle.tcl_core.specs.Rules.Derives.{completed, exited, acted, refused, unheard, went, passed, halted, wrapped, wrapped_passed, wrapped_halted, too_deep, shut, unheard_inside, called, called_passed, called_halted, unreached, called_out, unanswered, unfit, answered, heard, missed, answered_passed, entered, entered_halted, entered_exiting, born, fallen, unfound}
 use Rattle.tcl_core.specs.Laws.{ReadsMove, AtMove}
 use Rattle.tcl_core.proofs.PathLaws.{not_both, Some-inj, rise_back}
 use Rattle.tcl_core.proofs.Plain.{IsPlain}
@@ -421,7 +421,7 @@ module _ {O I : Type 0} (prog : Table O I) where
       (stepped out back v p (Back h (Replied (Completed lost))) (Run_of back a p (k (Finished lost))) (λ τ y o. Reaches prog (Ruled prog) (cut out a τ) p h down i lost k None y o) e a a b s2 (sym (back_silent p a0 h (Replied (Completed lost)) f a))
       (λ τ y o st d. (cut back a τ, st, d)) (part x a b (silent_moves out p (Back h (Replied (Completed lost))) back a b (back_silent p a0 h (Replied (Completed lost)) f) s2 (sym s1.moves ∙ m))))
   part (called_out w p h down i lost k u v e f s r) a b m =
-      stepped w u v p (Out h down i) (Run_of u a p (wait (Some (h, i, depth_of (u.tree p))) k)) (Run_of w a p (call h down i lost k)) e a a b s refl
+      stepped w u v p (Out h down i) (Run_of u a p (wait (Some (h, i, depth_of (u.tree p))) (or_lost lost k))) (Run_of w a p (call h down i lost k)) e a a b s refl
       (λ τ y o st d. called_out (cut w a (record { place = p; what = Out h down i } ∷ τ)) p h down i lost k (cut u a τ) y o f st d) (part r a b (sym s.moves ∙ m))
   part (unanswered w p s k f g t) a b m = halts_here w (Run_of w a p (wait s k)) None a b t (unanswered (cut w a []) p s k f (nil_of a b (sym g ∙ m)) refl)
   part (unfit w p s k y ms f g h t) a b m = by a m
@@ -443,6 +443,13 @@ module _ {O I : Type 0} (prog : Table O I) where
       by (inr (a1, z, n)) rec =
           stepped w u v p (Back (height_of s) (Heard x)) (Run_of u a1 p (k (Told x))) (Run_of w a p (wait s k)) e a a1 b t (z ∙ back_reads p (height_of s) (Heard x) f a1)
           (λ τ y o st d. heard (cut w a (record { place = p; what = Back (height_of s) (Heard x) } ∷ τ)) p s k x (cut u a1 τ) y o f g st d) (rec a1 n)
+  part (missed w p s k u v e f g t r) a b m = by (split w u (Come Nobody) a b m (t.moves ∙ sym (back_reads p (height_of s) Nobody f u.moves))) (λ l. part r l b)
+    where
+      by : Split w u (Come Nobody) a b → ((l : List (Move O)) → u.moves ≡ l ++ b → Parts u p (k Missed) v e l b) → Parts w p (wait s k) v e a b
+      by (inl z) rec = stop_here w u p p (Back (height_of s) Nobody) (Come Nobody) s k a e v b f t (λ ms. sym (back_reads p (height_of s) Nobody f ms)) z
+      by (inr (a1, z, n)) rec =
+          stepped w u v p (Back (height_of s) Nobody) (Run_of u a1 p (k Missed)) (Run_of w a p (wait s k)) e a a1 b t (z ∙ back_reads p (height_of s) Nobody f a1)
+          (λ τ y o st d. missed (cut w a (record { place = p; what = Back (height_of s) Nobody } ∷ τ)) p s k (cut u a1 τ) y o f g st d) (rec a1 n)
   part (answered_passed w p s k r u q f g t) a b m = by (split w u (Come (Replied r)) a b m (t.moves ∙ sym (back_reads p (height_of s) (Replied r) f u.moves)))
     where
       by : Split w u (Come (Replied r)) a b → Parts w p (wait s k) u (Some r) a b

@@ -4,7 +4,7 @@ use Rattle.tcl_core.specs.Paths.{Path, Place, Height, rise_to}
 use Rattle.tcl_core.specs.Endings.{Completion, Reply, IsQuit}
 use Rattle.tcl_core.specs.Endings.Reply.{Completed, Stop, Exit, Cut}
 use Rattle.tcl_core.specs.Entries.{Entry, Said, Answer}
-use Rattle.tcl_core.specs.Entries.Answer.{Replied, Heard}
+use Rattle.tcl_core.specs.Entries.Answer.{Replied, Heard, Nobody}
 use Rattle.tcl_core.specs.Trees.{Tree, What, Move, depth_of}
 use Rattle.tcl_core.specs.Trees.What.{Out}
 use Rattle.tcl_core.specs.Trees.Move.{Come}
@@ -37,6 +37,7 @@ ends_quit n h (Cut c) e = tt
 
 told_quit : (n : ℕ) (h : Height) (i : Entry) (y : Answer) → is_told (Some n) h i y ≡ true → (q : Reply) × IsQuit q × (y ≡ Replied q)
 told_quit n h i (Heard x) e = let x2 : false ≡ true = e in cc
+told_quit n h i Nobody e = let x2 : false ≡ true = e in cc
 told_quit n h i (Replied r) e = (r, ends_quit n h r e, refl)
 
 ousts_outside : {O : Type 0} (T : Tree O) (p : Place) (s : Wait) (y : Answer) (n : ℕ) → gone_from s T p ≡ Some n → fits T p s (Come y) ≡ true → (q : Reply) × IsQuit q × (y ≡ Replied q)

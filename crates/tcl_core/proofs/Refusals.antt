@@ -17,7 +17,7 @@ use Rattle.tcl_core.specs.Programs.Next.{On, TooDeep, Off}
 use Rattle.tcl_core.specs.Programs.Wrap.{Deeper, Framed}
 use Rattle.tcl_core.specs.Runs.{World, Step, Ending, Halts, Exits, Exiting, carried, reached, ends_call, height_of, gone}
 use Rattle.tcl_core.specs.Rules.{Derives, IsOn}
-use Rattle.tcl_core.specs.Rules.Derives.{completed, exited, acted, refused, unheard, went, passed, halted, wrapped, wrapped_passed, wrapped_halted, too_deep, shut, unheard_inside, called, called_passed, called_halted, unreached, called_out, unanswered, unfit, answered, heard, answered_passed, entered, entered_halted, entered_exiting, born, fallen, unfound}
+use Rattle.tcl_core.specs.Rules.Derives.{completed, exited, acted, refused, unheard, went, passed, halted, wrapped, wrapped_passed, wrapped_halted, too_deep, shut, unheard_inside, called, called_passed, called_halted, unreached, called_out, unanswered, unfit, answered, heard, missed, answered_passed, entered, entered_halted, entered_exiting, born, fallen, unfound}
 use Rattle.tcl_core.specs.Lives.{outs_of, put, told}
 use Rattle.tcl_core.specs.Laws.{Unended, IsUnended}
 use Rattle.tcl_core.proofs.PathLaws.{not_both, Some-inj, rise_back}
@@ -243,6 +243,7 @@ module _ {O I : Type 0} (prog : Table O I) where
   shutting (unfit w p s k m ms g j l t) d h = h
   shutting (answered w p s k y u v e g j t a) d h = quiet w p _ u t (λ z. absurd z) (shutting a d h)
   shutting (heard w p s k y u v e g j t a) d h = quiet w p _ u t (λ z. absurd z) (shutting a d h)
+  shutting (missed w p s k u v e g j t a) d h = quiet w p _ u t (λ z. absurd z) (shutting a d h)
   shutting (answered_passed w p s k r u q g j t) d h = quiet w p _ u t (λ z. absurd z) h
   shutting (entered w p s k t i inner left told v r e g here s1 a s2 n b) d h =
       quiet w t _ inner s1 (λ z. absurd z) (shutting a (cut_entry left t r told s2) (quiet left t _ told s2 (λ z. absurd z) (shutting b d h)))

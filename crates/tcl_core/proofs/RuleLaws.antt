@@ -5,7 +5,7 @@ use Rattle.tcl_core.specs.Paths.{Path, Place, Height, rise_to}
 use Rattle.tcl_core.specs.Endings.{Completion, Reply, IsQuit}
 use Rattle.tcl_core.specs.Endings.Reply.{Completed, Stop, Exit, Cut}
 use Rattle.tcl_core.specs.Entries.{Entry, Answer, Said}
-use Rattle.tcl_core.specs.Entries.Answer.{Replied, Heard}
+use Rattle.tcl_core.specs.Entries.Answer.{Replied, Heard, Nobody}
 use Rattle.tcl_core.specs.Trees.{Tree, Move, at, depth_of, Node}
 use Rattle.tcl_core.specs.Trees.What.{Out}
 use Rattle.tcl_core.specs.Trees.Move.{Born, Fall, Enter, Come}
@@ -14,7 +14,7 @@ use Rattle.tcl_core.specs.Programs.Next.{On, TooDeep, Off}
 use Rattle.tcl_core.specs.Programs.Prog.{done, exit, act, go, inside, call, wait}
 use Rattle.tcl_core.specs.Runs.{World, Step, Ending, Run, Halts, Then, Closes, Acted, Acts, Opened, Opens, Hears, Answered, Visits, Reaches, Calls, Stays, Moves, Fitting, Waits, Unrolled, RunsIn, Runs, carried, reached, fits, height_of, gone, Enters}
 use Rattle.tcl_core.specs.Rules.{Derives, IsOn, IsNoExit}
-use Rattle.tcl_core.specs.Rules.Derives.{completed, exited, acted, refused, unheard, went, passed, halted, wrapped, wrapped_passed, wrapped_halted, too_deep, shut, unheard_inside, called, called_passed, called_halted, unreached, called_out, unanswered, unfit, answered, heard, answered_passed, entered, entered_halted, entered_exiting, born, fallen, unfound}
+use Rattle.tcl_core.specs.Rules.Derives.{completed, exited, acted, refused, unheard, went, passed, halted, wrapped, wrapped_passed, wrapped_halted, too_deep, shut, unheard_inside, called, called_passed, called_halted, unreached, called_out, unanswered, unfit, answered, heard, missed, answered_passed, entered, entered_halted, entered_exiting, born, fallen, unfound}
 use Rattle.tcl_core.proofs.Folding.{roll, Implies, unrolled_map}
 use Rattle.tcl_core.proofs.Subtrees.{wait_born, wait_fall, wait_halt, wait_answer, wait_enter, quits, hears_quit, wait_unfound}
 
@@ -88,6 +88,7 @@ module _ {O I : Type 0} (prog : Table O I) where
   derived_runs (unfit w p s k m ms f g h t) = fitted_at w p s k m ms false w None f g h (record { tape = t; same = refl; ending = refl })
   derived_runs (answered w p s k c u v e f g t a) = wait_answer prog w p s k (Replied (Completed c)) v e f g (u, t, derived_runs a)
   derived_runs (heard w p s k y u v e f g t a) = wait_answer prog w p s k (Heard y) v e f g (u, t, derived_runs a)
+  derived_runs (missed w p s k u v e f g t a) = wait_answer prog w p s k Nobody v e f g (u, t, derived_runs a)
   derived_runs (answered_passed w p s k r u q f g t) = wait_answer prog w p s k (Replied r) u (Some r) f g (u, t, hears_quit prog u p k r u (Some r) q refl refl)
   derived_runs (entered w p s k t i inner left told v r e f here s1 a s2 n b) =
       wait_enter prog w p s k t i told (Some r) v e f (record { node = _; stands = here; entered = inner; left = left; entry = s1; run = derived_runs a; leaving = s2 }) (stays_on told p s k r v e n (derived_runs b))
@@ -164,6 +165,7 @@ module _ {O I : Type 0} (prog : Table O I) where
 
   pub answer_rule : (w : World O) (p : Place) (s : Wait) (k : Said → Prog O I) (a : Answer) (v : World O) (e : Ending) → rise_to (height_of s) p ≡ None → fits w.tree p s (Come a) ≡ true → Answered Ruled w p (height_of s) k a v e → Derives prog w p (wait s k) v e
   answer_rule w p s k (Heard y) v e f g (u, t, b) = heard w p s k y u v e f g t b
+  answer_rule w p s k Nobody v e f g (u, t, b) = missed w p s k u v e f g t b
   answer_rule w p s k (Replied (Completed c)) v e f g (u, t, b) = answered w p s k c u v e f g t b
   answer_rule w p s k (Replied (Stop n m)) v e f g (u, t, b) = ended_at w u v p (wait s k) (Some (Stop n m)) e b.0 b.1 (answered_passed w p s k (Stop n m) u tt f g t)
   answer_rule w p s k (Replied (Exit n)) v e f g (u, t, b) = ended_at w u v p (wait s k) (Some (Exit n)) e b.0 b.1 (answered_passed w p s k (Exit n) u tt f g t)

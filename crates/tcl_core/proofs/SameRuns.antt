@@ -5,14 +5,14 @@ use Rattle.tcl_core.specs.Endings.{Meter, Completion, Reply, refusal}
 use Rattle.tcl_core.specs.Endings.Meter.{Count, Depth}
 use Rattle.tcl_core.specs.Endings.Reply.{Completed, Stop, Exit, Cut}
 use Rattle.tcl_core.specs.Entries.{Entry, Answer, Said}
-use Rattle.tcl_core.specs.Entries.Answer.{Replied, Heard}
-use Rattle.tcl_core.specs.Entries.Said.{Finished, Told}
+use Rattle.tcl_core.specs.Entries.Answer.{Replied, Heard, Nobody}
+use Rattle.tcl_core.specs.Entries.Said.{Finished, Told, Missed}
 use Rattle.tcl_core.specs.Trees.{Tree, Grants, Grant, granted, denied, allowing, What, Event, Move, asked, at_top, where_none, at, depth_of, Node}
 use Rattle.tcl_core.specs.Trees.Grant.{Allow, Deny}
 use Rattle.tcl_core.specs.Trees.Grants.{Listed, Budget}
 use Rattle.tcl_core.specs.Trees.What.{Made, Dropped, Charged, Refused, Nested, Out, In, Done, Back, Unfound}
 use Rattle.tcl_core.specs.Trees.Move.{Born, Fall, Enter, Come}
-use Rattle.tcl_core.specs.Programs.{Deed, spot, Wrap, Wait, Next, Prog, Table, decide, opens, closes}
+use Rattle.tcl_core.specs.Programs.{Deed, spot, Wrap, Wait, Next, Prog, Table, decide, opens, closes, or_lost}
 use Rattle.tcl_core.specs.Programs.Next.{On, TooDeep, Off}
 use Rattle.tcl_core.specs.Programs.Prog.{done, exit, act, go, inside, call, wait}
 use Rattle.tcl_core.specs.Runs.{World, Step, Ending, Run, Halts, Follows, Then, Closes, Acted, Acts, Opened, Opens, Hears, Answered, Leaves, Visits, Returns, Reaches, Calls, Exiting, Exits, Stays, Moves, Fitting, Waits, Unrolled, RunsIn, Runs, carried, reached, fits, ends_call, height_of, gone, Enters}
@@ -152,6 +152,7 @@ module _ {O I : Type 0} where
 
     hears_same : (w : World O) (τ : List (Event O)) (p : Place) (k : Said → Prog O I) (a : Answer) (v : World O) (e : Ending) (y : World O) (o : Ending) → Hears R w p k a v e → Hears S (retape w τ) p k a y o → Agrees w τ v e y o
     hears_same w τ p k (Heard x) v e y o a b = det w τ p (k (Told x)) v e y o a b
+    hears_same w τ p k Nobody v e y o a b = det w τ p (k Missed) v e y o a b
     hears_same w τ p k (Replied (Completed c)) v e y o a b = det w τ p (k (Finished c)) v e y o a b
     hears_same w τ p k (Replied (Stop n m)) v e y o a b = both_end w τ v e y o (Some (Stop n m)) a.0 a.1 b.0 b.1
     hears_same w τ p k (Replied (Exit n)) v e y o a b = both_end w τ v e y o (Some (Exit n)) a.0 a.1 b.0 b.1
@@ -184,7 +185,7 @@ module _ {O I : Type 0} where
         (subst (λ l. Returns S (depth_of (w.tree p)) (retape u vis.rest) p h down k l y o) vis.ending (subst (λ l. Returns S (depth_of (w.tree p)) l p h down k n y o) vis.world b2)))
 
     calls_same : (w : World O) (τ : List (Event O)) (p : Place) (h : Height) (down : Path) (i : Entry) (lost : Completion) (k : Said → Prog O I) (a : Option Place) (v : World O) (e : Ending) (y : World O) (o : Ending) → Calls prog R w p h down i lost k a v e → Calls prog S (retape w τ) p h down i lost k a y o → Agrees w τ v e y o
-    calls_same w τ p h down i lost k None v e y o a b = det w τ p (wait (Some (h, i, depth_of (w.tree p))) k) v e y o a b
+    calls_same w τ p h down i lost k None v e y o a b = det w τ p (wait (Some (h, i, depth_of (w.tree p))) (or_lost lost k)) v e y o a b
     calls_same w τ p h down i lost k (Some t) v e y o a b = reaches_same w τ p h down i lost k (reached w.tree t down) v e y o a b
 
     exits_same : (w : World O) (τ : List (Event O)) (p : Place) (s : Wait) (n : ℤ) (ms : List (Move O)) (v : World O) (e : Ending) (y : World O) (o : Ending) → Exits w p s n ms v e → Exits (retape w τ) p s n ms y o → Agrees w τ v e y o

@@ -7,7 +7,7 @@ use Rattle.tcl_core.specs.Endings.Kind.{Full, Gone}
 use Rattle.tcl_core.specs.Endings.Reply.{Completed, Stop, Exit, Cut}
 use Rattle.tcl_core.specs.Endings.Cause.{Above}
 use Rattle.tcl_core.specs.Entries.{Entry, Answer}
-use Rattle.tcl_core.specs.Entries.Answer.{Replied, Heard}
+use Rattle.tcl_core.specs.Entries.Answer.{Replied, Heard, Nobody}
 use Rattle.tcl_core.specs.Trees.{Tree, at, depth_of, nearest, seen_reply, seen_answer, seen_stop, stopped}
 use Rattle.tcl_core.specs.Programs.{Wait}
 use Rattle.tcl_core.specs.Runs.{Ending, carried, carried_by, ended, ends_gone, gone, gone_by, gone_from, grown, idle_up, is_told, idle_at, levels, names_gone, onward, lessened, is_own, answers_call, is_exit}
@@ -259,11 +259,13 @@ own_seen q (Some h) i (Replied (Stop n m)) e = own_stopped h i (length q) n m e
 own_seen q (Some h) i (Replied (Exit n)) e = refl
 own_seen q (Some h) i (Replied (Cut c)) e = refl
 own_seen q (Some n) i (Heard a) e = e
+own_seen q (Some n) i Nobody e = e
 own_seen q None i (Replied (Completed c)) e = e
 own_seen q None i (Replied (Stop n m)) e = let x : false ≡ true = e in cc
 own_seen q None i (Replied (Exit n)) e = refl
 own_seen q None i (Replied (Cut c)) e = refl
 own_seen q None i (Heard a) e = e
+own_seen q None i Nobody e = e
 
 -- and so it does where the caller is gone
 gone_stopped : (j h l n : ℕ) (k : Kind) → nat_lt n h ≡ true → ends_gone j (Some h) (seen_stop l n k) ≡ true
@@ -294,6 +296,7 @@ told_gone q j m h (Cut c) f e = refl
 told_seen : (q : Place) (g k : Option ℕ) (h : Height) (i : Entry) (a : Answer) → SeenGone q g k → is_told g h i a ≡ true → is_told k h i (seen_answer q a) ≡ true
 told_seen q None k h i a s e = ap (λ y. is_told y h i (seen_answer q a)) s ∙ own_seen q h i a e
 told_seen q (Some j) k h i (Heard a) s e = let x : false ≡ true = e in cc
+told_seen q (Some j) k h i Nobody s e = let x : false ≡ true = e in cc
 told_seen q (Some j) k h i (Replied r) (l, s, f) e = ap (λ y. is_told y h i (Replied (seen_reply q r))) s ∙ told_gone q j l h r f e
 
 near_far : (l n h : ℕ) → l < h → nat_lt (nearest (nat_lt l n) l n) h ≡ true

@@ -19,7 +19,7 @@ use Rattle.tcl_core.specs.Programs.Act.{Look, Change, Charge, Limit, LimitDepth,
 use Rattle.tcl_core.specs.Programs.Wrap.{Deeper, Framed}
 use Rattle.tcl_core.specs.Runs.{World, Step, Ending, Halts, Exits, Exiting, carried, lessened, reached, ends_call, height_of, gone, ended, carried_by}
 use Rattle.tcl_core.specs.Rules.{Derives, IsOn}
-use Rattle.tcl_core.specs.Rules.Derives.{completed, exited, acted, refused, unheard, went, passed, halted, wrapped, wrapped_passed, wrapped_halted, too_deep, shut, unheard_inside, called, called_passed, called_halted, unreached, called_out, unanswered, unfit, answered, heard, answered_passed, entered, entered_halted, entered_exiting, born, fallen, unfound}
+use Rattle.tcl_core.specs.Rules.Derives.{completed, exited, acted, refused, unheard, went, passed, halted, wrapped, wrapped_passed, wrapped_halted, too_deep, shut, unheard_inside, called, called_passed, called_halted, unreached, called_out, unanswered, unfit, answered, heard, missed, answered_passed, entered, entered_halted, entered_exiting, born, fallen, unfound}
 use Rattle.tcl_core.specs.Laws.{ends_in, raised_in, raised_at, freed, unmoved_by, Unmoved, Obeys, Stopping}
 use Rattle.tcl_core.proofs.PathLaws.{not_both, Some-inj, strip_own, strip-sound, rise_to_within, rise_to_out, rise_to_elsewhere, rise_back}
 use Rattle.tcl_core.proofs.TreeLaws.{metered_here, opens_here, reached_at, any_close}
@@ -301,6 +301,7 @@ module _ {O I : Type 0} (c : Place) (prog : Table O I) where
   stopping_derived (unfit w p s k m ms g j l t) d h = h
   stopping_derived (answered w p s k y u v e g j t a) d h = obey_quiet c w p _ u t (λ q. refl) (stopping_derived a d h)
   stopping_derived (heard w p s k y u v e g j t a) d h = obey_quiet c w p _ u t (λ q. refl) (stopping_derived a d h)
+  stopping_derived (missed w p s k u v e g j t a) d h = obey_quiet c w p _ u t (λ q. refl) (stopping_derived a d h)
   stopping_derived (answered_passed w p s k r u q g j t) d h = back_obeys w p (height_of s) r u t d h
   stopping_derived (entered w p s k t i inner left told v r e g here s1 a s2 n b) d h =
       obey_quiet c w t _ inner s1 (λ q. refl) (stopping_derived a (done_demand c left t None r told s2 (λ q z l m n2. absurd (not_both refl m))) (obey_quiet c left t _ told s2 (λ q. refl) (stopping_derived b d h)))

@@ -7,13 +7,13 @@ use Rattle.tcl_core.specs.Endings.{Completion, Reply, IsQuit, refusal}
 use Rattle.tcl_core.specs.Endings.Meter.{Depth}
 use Rattle.tcl_core.specs.Endings.Reply.{Completed, Stop, Exit, Cut}
 use Rattle.tcl_core.specs.Entries.{Entry, Answer, Said}
-use Rattle.tcl_core.specs.Entries.Answer.{Replied, Heard}
-use Rattle.tcl_core.specs.Entries.Said.{Finished, Told}
+use Rattle.tcl_core.specs.Entries.Answer.{Replied, Heard, Nobody}
+use Rattle.tcl_core.specs.Entries.Said.{Finished, Told, Missed}
 use Rattle.tcl_core.specs.Trees.{Tree, Node, Grants, Grant, granted, at, What, Move, where_none, seen_reply, seen_answer, seen_what, stopped, depth_of}
 use Rattle.tcl_core.specs.Trees.Grants.{Listed}
 use Rattle.tcl_core.specs.Trees.What.{Made, Dropped, Out, In, Done, Back, Unfound}
 use Rattle.tcl_core.specs.Trees.Move.{Born, Fall, Enter, Come}
-use Rattle.tcl_core.specs.Programs.{Deed, spot, Act, Wrap, Wait, Next, Prog, Table, decide, opens, closes, brought_back}
+use Rattle.tcl_core.specs.Programs.{Deed, spot, Act, Wrap, Wait, Next, Prog, Table, decide, opens, closes, brought_back, or_lost}
 use Rattle.tcl_core.specs.Programs.Next.{On, TooDeep, Off}
 use Rattle.tcl_core.specs.Programs.Wrap.{Deeper, Framed}
 use Rattle.tcl_core.specs.Programs.Prog.{done, exit, act, go, inside, call, wait}
@@ -186,6 +186,7 @@ module _ {O I : Type 0} where
 
     hears_within : (w : World O) (q : Place) (k : Said → Prog O I) (a : Answer) (v : World O) (e : Ending) → Hears R w (c ++ q) k a v e → Hears (Runs prog) (inside_of c w) q k (seen_answer q a) (inside_of c v) (seen_end q e)
     hears_within w q k (Heard x) v e a = ins w q (k (Told x)) v e a
+    hears_within w q k Nobody v e a = ins w q (k Missed) v e a
     hears_within w q k (Replied (Completed x)) v e a = ins w q (k (Finished x)) v e a
     hears_within w q k (Replied (Stop n m)) v e a = hears_quit prog (inside_of c w) q k (seen_reply q (Stop n m)) (inside_of c v) (seen_end q e) (seen_quit q (Stop n m) tt) (ap (inside_of c) a.0) (ap (seen_end q) a.1)
     hears_within w q k (Replied (Exit n)) v e a = (ap (inside_of c) a.0, ap (seen_end q) a.1)
@@ -261,6 +262,7 @@ module _ {O I : Type 0} where
     answer_apart : (w : World O) (p : Place) (h : Height) (k2 : Said → Prog O I) (a : Answer) (v : World O) (e : Ending) → strip c p ≡ None → Answered R w p h k2 a v e →
         (q : Place) (s : Wait) (k : Said → Prog O I) (z : World O) (o : Ending) → rise_to (height_of s) q ≡ None → Stands prog (inside_of c v) q s k e z o → Runs prog (inside_of c w) q (wait s k) z o
     answer_apart w p h k2 (Heard x) v e d (u, t, a) q s k z o f b = subst (λ m. Runs prog m q (wait s k) z o) (step_apart c p (Back h (Heard x)) w u t d tt) (out u p (k2 (Told x)) v e d a q s k z o f b)
+    answer_apart w p h k2 Nobody v e d (u, t, a) q s k z o f b = subst (λ m. Runs prog m q (wait s k) z o) (step_apart c p (Back h Nobody) w u t d tt) (out u p (k2 Missed) v e d a q s k z o f b)
     answer_apart w p h k2 (Replied r) v e d (u, t, a) q s k z o f b =
         stands_wait prog (inside_of c w) q s k r z o (subst (λ m. Stands prog m q s k (Some r) z o) (step_apart c p (Back h (Replied r)) w u t d tt) (hears_apart u p k2 r v e d a q s k z o f b))
 
@@ -309,6 +311,17 @@ module _ {O I : Type 0} where
     returns_answer d w q n down i k None v e f a = (ap (inside_of c) a.0, ap (seen_end q) a.1)
     returns_answer d w q n down i k (Some r) v e f a =
         returned_stands d w q (Some n) i k r (carried (gone d w.tree (c ++ q)) (Some n) (c ++ q) down r) v e f (told_own n q i (gone d w.tree (c ++ q)) (gone d (at w.tree c) q) (carried_by r (Some n) (c ++ q) down) (gone_within c q w.tree d) f) (carried_exit (gone d w.tree (c ++ q)) (Some n) (c ++ q) down r) a
+
+    -- after an answer that is a reply a call that left c goes on as one that didn't
+    hears_or : (w : World O) (p : Place) (lost : Completion) (k : Said → Prog O I) (r : Reply) (v : World O) (e : Ending) → Hears R w p k (Replied r) v e → Hears R w p (or_lost lost k) (Replied r) v e
+    hears_or w p lost k (Completed x) v e a = a
+    hears_or w p lost k (Stop n m) v e a = a
+    hears_or w p lost k (Exit n) v e a = a
+    hears_or w p lost k (Cut x) v e a = a
+
+    returns_or : (d : ℕ) (w : World O) (p : Place) (h : Height) (down : Path) (lost : Completion) (k : Said → Prog O I) (o : Ending) (v : World O) (e : Ending) → Returns R d w p h down k o v e → Returns R d w p h down (or_lost lost k) o v e
+    returns_or d w p h down lost k None v e a = a
+    returns_or d w p h down lost k (Some r) v e (u, t, a) = (u, t, hears_or u p lost k (carried (gone d w.tree p) h p down r) v e a)
 
     halted_wait : (w v : World O) (e : Ending) (q : Place) (s : Wait) (k : Said → Prog O I) (z : World O) (o : Ending) → Halts w v e → rise_to (height_of s) q ≡ None → Stands prog (inside_of c v) q s k e z o → Runs prog (inside_of c w) q (wait s k) z o
     halted_wait w v e q s k z o a f b = wait_halt prog (inside_of c w) q s k z o f (no_moves c w v e a) (stands_halt prog c w v e q s k z o a b)
@@ -367,15 +380,15 @@ module _ {O I : Type 0} where
         ap (λ b. is_told (gone_by b (levels (idle_up T q))) (Some n) i (Replied (Completed lost))) e
 
     reaches_out : (w : World O) (q : Place) (n : ℕ) (down : Path) (i : Entry) (lost : Completion) (k : Said → Prog O I) (v : World O) (e : Ending) (a : Place) → rise_to (Some n) q ≡ None → strip c a ≡ None → (t : Option (Node O)) →
-        Reaches prog R w (c ++ q) (Some n) down i lost k (where_stands t (a ++ down)) v e → Runs prog (inside_of c w) q (wait (Some (Some n, i, depth_of (w.tree (c ++ q)))) k) (inside_of c v) (seen_end q e)
+        Reaches prog R w (c ++ q) (Some n) down i lost k (where_stands t (a ++ down)) v e → Runs prog (inside_of c w) q (wait (Some (Some n, i, depth_of (w.tree (c ++ q)))) (or_lost lost k)) (inside_of c v) (seen_end q e)
     reaches_out w q n down i lost k v e a g f None x =
-        wait_answer prog (inside_of c w) q (Some (Some n, i, depth_of (w.tree (c ++ q)))) k (Replied (Completed lost)) (inside_of c v) (seen_end q e) g (lost_told q n i lost (at w.tree c)) (answered_within w q (Some n) k (Replied (Completed lost)) v e x)
+        wait_answer prog (inside_of c w) q (Some (Some n, i, depth_of (w.tree (c ++ q)))) (or_lost lost k) (Replied (Completed lost)) (inside_of c v) (seen_end q e) g (lost_told q n i lost (at w.tree c)) (answered_within w q (Some n) k (Replied (Completed lost)) v e x)
     reaches_out w q n down i lost k v e a g f (Some t) (u, o, x, y) =
-        visits_around w (Some (length down)) (a ++ down) i u o x (λ q2 s. rise_into c a down q2 f s) q (Some (Some n, i, depth_of (w.tree (c ++ q)))) k (inside_of c v) (seen_end q e) g (returns_answer (depth_of (w.tree (c ++ q))) u q n down i k o v e g y)
+        visits_around w (Some (length down)) (a ++ down) i u o x (λ q2 s. rise_into c a down q2 f s) q (Some (Some n, i, depth_of (w.tree (c ++ q)))) (or_lost lost k) (inside_of c v) (seen_end q e) g (returns_answer (depth_of (w.tree (c ++ q))) u q n down i (or_lost lost k) o v e g (returns_or (depth_of (w.tree (c ++ q))) u (c ++ q) (Some n) down lost k o v e y))
 
     calls_within : (w : World O) (q : Place) (h : Height) (down : Path) (i : Entry) (lost : Completion) (k : Said → Prog O I) (v : World O) (e : Ending) (a : Option Place) → rise_to h (c ++ q) ≡ a → Calls prog R w (c ++ q) h down i lost k a v e →
         (b : Option Place) → rise_to h q ≡ b → Calls prog (Runs prog) (inside_of c w) q h down i lost k b (inside_of c v) (seen_end q e)
-    calls_within w q h down i lost k v e None f x None g = ins w q (wait (Some (h, i, depth_of (w.tree (c ++ q)))) k) v e x
+    calls_within w q h down i lost k v e None f x None g = ins w q (wait (Some (h, i, depth_of (w.tree (c ++ q)))) (or_lost lost k)) v e x
     calls_within w q h down i lost k v e None f x (Some b) g = absurd (not_both f (rise_to_within c q h b g))
     calls_within w q None down i lost k v e (Some a) f x None g = absurd (not_both refl f)
     calls_within w q (Some n) down i lost k v e (Some a) f x None g =
@@ -484,7 +497,7 @@ module _ {O I : Type 0} where
 
     calls_apart : (w : World O) (p : Place) (h2 : Height) (down : Path) (i : Entry) (lost : Completion) (k2 : Said → Prog O I) (v : World O) (e : Ending) → strip c p ≡ None → (a : Option Place) → rise_to h2 p ≡ a → Calls prog R w p h2 down i lost k2 a v e →
         (q : Place) (s : Wait) (k : Said → Prog O I) (z : World O) (o : Ending) → rise_to (height_of s) q ≡ None → Stands prog (inside_of c v) q s k e z o → Runs prog (inside_of c w) q (wait s k) z o
-    calls_apart w p h2 down i lost k2 v e d None f2 x q s k z o f b = out w p (wait (Some (h2, i, depth_of (w.tree p))) k2) v e d x q s k z o f b
+    calls_apart w p h2 down i lost k2 v e d None f2 x q s k z o f b = out w p (wait (Some (h2, i, depth_of (w.tree p))) (or_lost lost k2)) v e d x q s k z o f b
     calls_apart w p h2 down i lost k2 v e d (Some a) f2 x q s k z o f b = reaches_apart w p h2 down i lost k2 v e a d (rise_to_elsewhere c p h2 a d f2) (w.tree (a ++ down)) x q s k z o f b
 
     exits_apart : (w : World O) (p : Place) (s2 : Wait) (n : ℤ) (ms : List (Move O)) (v : World O) (e : Ending) → strip c p ≡ None → Exits w p s2 n ms v e →

@@ -8,19 +8,19 @@ use Rattle.tcl_core.specs.Entries.Answer.{Replied}
 use Rattle.tcl_core.specs.Trees.{Grants, Tree, What, Event, Move, Node}
 use Rattle.tcl_core.specs.Trees.What.{Made, Dropped, Out, In, Done, Back, Unfound}
 use Rattle.tcl_core.specs.Trees.Move.{Born, Fall, Enter, Come}
-use Rattle.tcl_core.specs.Programs.{Deed, spot, Act, Wrap, Wait, Prog, Table, decide, opens, closes}
+use Rattle.tcl_core.specs.Programs.{Deed, spot, Act, Wrap, Wait, Prog, Table, decide, opens, closes, Calls_only}
 use Rattle.tcl_core.specs.Programs.Prog.{done, exit, act, go, inside, call, wait}
 use Rattle.tcl_core.specs.Programs.{Calls_only}
 use Rattle.tcl_core.specs.Runs.{World, Step, Ending, Halts, Exits, Exiting, reached, ends_call, height_of}
 use Rattle.tcl_core.specs.Rules.{Derives}
-use Rattle.tcl_core.specs.Rules.Derives.{completed, exited, acted, refused, unheard, went, passed, halted, wrapped, wrapped_passed, wrapped_halted, too_deep, shut, unheard_inside, called, called_passed, called_halted, unreached, called_out, unanswered, unfit, answered, heard, answered_passed, entered, entered_halted, entered_exiting, born, fallen, unfound}
+use Rattle.tcl_core.specs.Rules.Derives.{completed, exited, acted, refused, unheard, went, passed, halted, wrapped, wrapped_passed, wrapped_halted, too_deep, shut, unheard_inside, called, called_passed, called_halted, unreached, called_out, unanswered, unfit, answered, heard, missed, answered_passed, entered, entered_halted, entered_exiting, born, fallen, unfound}
 use Rattle.tcl_core.specs.Laws.{Turn, comes_in, goes_out, life_at, turn_in, turn_at, turn}
 use Rattle.tcl_core.specs.Laws.Turn.{Enters, Leaves, Inside, Elsewhere, Life}
 use Rattle.tcl_core.proofs.PathLaws.{not_both, Some-inj, strip_own, strip-sound, child_in, rise_to_within, rise_to_out, rise_to_elsewhere, rise_to_past, rise_into, rise_back}
 use Rattle.tcl_core.proofs.TreeLaws.{IsLife, elsewhere_life, opens_here, reached_at, spot_in}
 use Rattle.tcl_core.proofs.Subtrees.{top_only}
 use Rattle.tcl_core.proofs.Plain.{IsPlain, decide_plain, opens_plain, closes_plain}
-use Rattle.tcl_core.proofs.Callers.{Fits, fit}
+use Rattle.tcl_core.proofs.Callers.{Fits, fit, or_lost_all}
 use Rattle.tcl_core.proofs.Halts.{halted_tape}
 
 abbrev pub is_in : Option Place → Bool
@@ -279,11 +279,12 @@ module _ {O I : Type 0} (top : Place) (prog : Table O I) where
       out_here top w p h down i out s1 (in_here top out t (Some (length down)) i inner (gone (strip top p) h) (called_comes out p a t h down g j) s2
       (control_here inner t _ (prog.entries_call i) (track x (fit _ (prog.entries_call i)) (no_tape left _ (halted_tape prog x refl)))))
   track (unreached w p h down i lost k a out back v e g s1 j s2 x) f n = out_here top w p h down i out s1 (back_here top out p h _ back s2 (control_here back p _ (f _) (track x (fit _ (f _)) n)))
-  track (called_out w p h down i lost k u v e g s a) f n = out_here top w p h down i u s (track a f n)
+  track (called_out w p h down i lost k u v e g s a) f n = out_here top w p h down i u s (track a (or_lost_all Calls_only lost k f) n)
   track (unanswered w p s k g m t) f h = no_tape w _ t
   track (unfit w p s k m ms g j l t) f h = no_tape w _ t
   track (answered w p s k c u v e g j t a) f h = back_here top w p (height_of s) _ u t (control_here u p _ (f _) (track a (fit _ (f _)) h))
   track (heard w p s k y u v e g j t a) f h = back_here top w p (height_of s) _ u t (control_here u p _ (f _) (track a (fit _ (f _)) h))
+  track (missed w p s k u v e g j t a) f h = back_here top w p (height_of s) _ u t (control_here u p _ (f _) (track a (fit _ (f _)) h))
   track (answered_passed w p s k r u q g j t) f h = back_here top w p (height_of s) _ u t h
   track (entered w p s k t i inner left told v r e g here s1 a s2 n b) f h =
       waits_out w p s g (visit_here w inner left told None t i r false (outer_comes top t) s1 (λ l. control_here inner t _ (prog.entries_call i) (track a (fit _ (prog.entries_call i)) l)) s2 (waits_in told p s g (track b f h)))

@@ -6,7 +6,7 @@ use Rattle.tcl_core.specs.Endings.Meter.{Count, Depth}
 use Rattle.tcl_core.specs.Endings.Reply.{Completed, Stop, Exit, Cut}
 use Rattle.tcl_core.specs.Endings.Cause.{Above, Over}
 use Rattle.tcl_core.specs.Entries.{Answer}
-use Rattle.tcl_core.specs.Entries.Answer.{Replied, Heard}
+use Rattle.tcl_core.specs.Entries.Answer.{Replied, Heard, Nobody}
 use Rattle.tcl_core.specs.Trees.{Grants, Tree, Node, What, Move, depth_of}
 use Rattle.tcl_core.specs.Trees.Grant.{Allow, Deny}
 use Rattle.tcl_core.specs.Trees.Grants.{Listed, Budget}
@@ -18,7 +18,7 @@ use Rattle.tcl_core.specs.Programs.Act.{Look, Change, Charge, Limit, LimitDepth,
 use Rattle.tcl_core.specs.Programs.Wrap.{Deeper, Framed}
 use Rattle.tcl_core.specs.Runs.{World, Step, Ending, Halts, Exits, Exiting, carried, ends_call, height_of, gone}
 use Rattle.tcl_core.specs.Rules.{Derives, IsOn}
-use Rattle.tcl_core.specs.Rules.Derives.{completed, exited, acted, refused, unheard, went, passed, halted, wrapped, wrapped_passed, wrapped_halted, too_deep, shut, unheard_inside, called, called_passed, called_halted, unreached, called_out, unanswered, unfit, answered, heard, answered_passed, entered, entered_halted, entered_exiting, born, fallen, unfound}
+use Rattle.tcl_core.specs.Rules.Derives.{completed, exited, acted, refused, unheard, went, passed, halted, wrapped, wrapped_passed, wrapped_halted, too_deep, shut, unheard_inside, called, called_passed, called_halted, unreached, called_out, unanswered, unfit, answered, heard, missed, answered_passed, entered, entered_halted, entered_exiting, born, fallen, unfound}
 use Rattle.tcl_core.specs.Lives.{Uncut, IsUncut}
 use Rattle.tcl_core.specs.Laws.{Unended, IsUnended}
 use Rattle.tcl_core.proofs.PathLaws.{not_both, Some-inj, rise_some}
@@ -56,6 +56,7 @@ done_uncut O p h (Cut c) f = f
 
 back_uncut : (O : Type 0) (p : Place) (h : Height) (y : Answer) → Unended {O = O} p (Back h y) → Uncut {O = O} p (Back h y)
 back_uncut O p h (Heard x) f = tt
+back_uncut O p h Nobody f = tt
 back_uncut O p h (Replied (Completed c)) f = tt
 back_uncut O p h (Replied (Stop n m)) f = tt
 back_uncut O p h (Replied (Exit n)) f = tt
@@ -193,6 +194,7 @@ module _ {O I : Type 0} (prog : Table O I) where
   uncut (unfit w p s k m ms g j l t) f n h = h
   uncut (answered w p s k c u v e g j t a) f n h = before w p _ u t tt (uncut a (after w p _ u t f).1 n h)
   uncut (heard w p s k y u v e g j t a) f n h = before w p _ u t tt (uncut a (after w p _ u t f).1 n h)
+  uncut (missed w p s k u v e g j t a) f n h = before w p _ u t tt (uncut a (after w p _ u t f).1 n h)
   uncut (answered_passed w p s k r u q g j t) f n h = before w p _ u t (back_uncut O p (height_of s) (Replied r) (after w p _ u t f).0) h
   uncut (entered w p s k t i inner left told v r e g here s1 a s2 q b) f n h =
       let f1 = (after w t _ inner s1 f).1 in

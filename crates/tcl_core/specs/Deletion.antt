@@ -6,7 +6,7 @@ use Rattle.tcl_core.specs.Endings.Kind.{Gone}
 use Rattle.tcl_core.specs.Endings.Reply.{Completed, Stop}
 use Rattle.tcl_core.specs.Entries.{Entry, Said}
 use Rattle.tcl_core.specs.Entries.Entry.{Eval}
-use Rattle.tcl_core.specs.Entries.Said.{Finished, Told}
+use Rattle.tcl_core.specs.Entries.Said.{Finished, Told, Missed}
 use Rattle.tcl_core.specs.Entries.Answer.{Replied}
 use Rattle.tcl_core.specs.Trees.{Node, Tree, Event, What, Move, at, fresh}
 use Rattle.tcl_core.specs.Trees.Grants.{Budget}
@@ -46,10 +46,12 @@ lost = error []
 abbrev pub goes_on : Said → Prog ℕ Script
 goes_on (Finished x) = act (Change 2) (λ T. done (ok []))
 goes_on (Told a) = done lost
+goes_on Missed = done lost
 
 abbrev pub finish : Said → Prog ℕ Script
 finish (Finished x) = done x
 finish (Told a) = done lost
+finish Missed = done lost
 
 -- the scripts, as texts
 abbrev pub tells_c : Text
@@ -88,10 +90,12 @@ entry i = done lost
 abbrev pub finish_calls : (a : Said) → Calls_only (finish a)
 finish_calls (Finished x) = tt
 finish_calls (Told a) = tt
+finish_calls Missed = tt
 
 abbrev pub goes_on_calls : (a : Said) → Calls_only (goes_on a)
 goes_on_calls (Finished x) = λ T. tt
 goes_on_calls (Told a) = tt
+goes_on_calls Missed = tt
 
 abbrev pub program_calls : (next : Text) (i : Script) → Calls_only (program next i)
 program_calls next TellsC = λ T. finish_calls

@@ -7,7 +7,7 @@ use Rattle.tcl_core.specs.Endings.{Completion, ok, error}
 use Rattle.tcl_core.specs.Endings.Reply.{Completed}
 use Rattle.tcl_core.specs.Entries.{Entry, Said}
 use Rattle.tcl_core.specs.Entries.Entry.{Eval}
-use Rattle.tcl_core.specs.Entries.Said.{Finished, Told}
+use Rattle.tcl_core.specs.Entries.Said.{Finished, Told, Missed}
 use Rattle.tcl_core.specs.Entries.Answer.{Replied}
 use Rattle.tcl_core.specs.Trees.{Node, Tree, Event, What, Move, at, effect}
 use Rattle.tcl_core.specs.Trees.Grants.{Budget}
@@ -50,6 +50,7 @@ nobody path = error (joined path)
 abbrev pub finish : Said → Prog ℕ Script
 finish (Finished c) = done c
 finish (Told a) = done lost
+finish Missed = done lost
 
 abbrev pub program : Script → Prog ℕ Script
 program SetSeven = act Charge (λ T. act (Change 7) (λ U. done (ok [])))
@@ -62,6 +63,7 @@ entry i = done lost
 abbrev pub finish_calls : (a : Said) → Calls_only (finish a)
 finish_calls (Finished c) = tt
 finish_calls (Told a) = tt
+finish_calls Missed = tt
 
 abbrev pub program_calls : (i : Script) → Calls_only (program i)
 program_calls SetSeven = λ T. λ U. tt

@@ -9,14 +9,14 @@ use Rattle.tcl_core.specs.Endings.Meter.{Depth}
 use Rattle.tcl_core.specs.Endings.Kind.{Full}
 use Rattle.tcl_core.specs.Endings.Reply.{Completed, Exit}
 use Rattle.tcl_core.specs.Entries.{Entry, HostReply, Said}
-use Rattle.tcl_core.specs.Entries.Answer.{Replied, Heard}
-use Rattle.tcl_core.specs.Entries.Said.{Finished, Told}
+use Rattle.tcl_core.specs.Entries.Answer.{Replied, Heard, Nobody}
+use Rattle.tcl_core.specs.Entries.Said.{Finished, Told, Missed}
 use Rattle.tcl_core.specs.Trees.{Tree, Node, What, Event, Grant, effect, granted, at, depth_of}
 use Rattle.tcl_core.specs.Trees.Grants.{Listed}
 use Rattle.tcl_core.specs.Trees.What.{Charged, Refused, Dropped, Out, In, Done, Back, Unfound}
 use Rattle.tcl_core.specs.Trees.Move.{Come}
 use Rattle.tcl_core.specs.Programs.{Calls_only, Deed, spot, Act, Wrap, Wait, Prog, Table, decide}
-use Rattle.tcl_core.specs.Programs.{opens, closes}
+use Rattle.tcl_core.specs.Programs.{opens, closes, or_lost}
 use Rattle.tcl_core.specs.Programs.Next.{On, TooDeep, Off}
 use Rattle.tcl_core.specs.Programs.Prog.{done, exit, act, go, inside, call, wait}
 use Rattle.tcl_core.specs.Runs.{World, Runs, returned, reached, fits}
@@ -112,7 +112,7 @@ pub data Executes {O I S : Type 0} (step : Tree O → S → Wait → Event O →
   called_out : {T V : Tree O} {o u z : S} {p : Place} {h : Height} {down : Path} {i : Entry}
       {lost : Completion} {k : Said → Prog O I} {r : Reply} → rise_to h p ≡ None →
       step T o None (event p (Out h down i)) u →
-      Executes step prog T u p (wait (Some (h, i, depth_of (T p))) k) V z r →
+      Executes step prog T u p (wait (Some (h, i, depth_of (T p))) (or_lost lost k)) V z r →
       Executes step prog T o p (call h down i lost k) V z r
   answered : {T V : Tree O} {o u z : S} {p : Place} {s : Wait} {k : Said → Prog O I}
       {c : Completion} {r : Reply} → rise_to (height_of s) p ≡ None →
@@ -125,6 +125,10 @@ pub data Executes {O I S : Type 0} (step : Tree O → S → Wait → Event O →
       fits T p s (Come (Heard a)) ≡ true →
       step T o s (event p (Back (height_of s) (Heard a))) u →
       Executes step prog T u p (k (Told a)) V z r → Executes step prog T o p (wait s k) V z r
+  missed : {T V : Tree O} {o u z : S} {p : Place} {s : Wait} {k : Said → Prog O I} {r : Reply} →
+      rise_to (height_of s) p ≡ None → fits T p s (Come Nobody) ≡ true →
+      step T o s (event p (Back (height_of s) Nobody)) u → Executes step prog T u p (k Missed) V z r →
+      Executes step prog T o p (wait s k) V z r
   answered_passed : {T : Tree O} {o u : S} {p : Place} {s : Wait} {k : Said → Prog O I} {r : Reply}
       → IsQuit r → rise_to (height_of s) p ≡ None →
       fits T p s (Come (Replied r)) ≡ true →

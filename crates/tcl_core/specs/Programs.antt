@@ -9,6 +9,7 @@ use Rattle.tcl_core.specs.Endings.Kind.{Full}
 use Rattle.tcl_core.specs.Endings.Reply.{Stop, Cut}
 use Rattle.tcl_core.specs.Endings.Cause.{Above, Over}
 use Rattle.tcl_core.specs.Entries.{Entry, Said}
+use Rattle.tcl_core.specs.Entries.Said.{Finished, Missed}
 use Rattle.tcl_core.specs.Trees.{Grants, Node, Tree, What, depth_of}
 use Rattle.tcl_core.specs.Trees.Grant.{Allow, Deny}
 use Rattle.tcl_core.specs.Trees.Grants.{Listed, Budget}
@@ -47,9 +48,15 @@ pub data Prog (O I : Type 0) : Type 0 where
   go : I → (Completion → Prog O I) → Prog O I
   inside : Wrap O → I → (Completion → Prog O I) → Prog O I
   -- to the interpreter so many levels up and these names down, or to the host; `lost` is the
-  -- completion where it doesn't stand
+  -- completion where nobody stands there
   call : Height → (down : Path) → Entry → (lost : Completion) → (Said → Prog O I) → Prog O I
   wait : Wait → (Said → Prog O I) → Prog O I
+
+-- How a program goes on after a call that left the tree: where nobody is there, by the call's own
+-- `lost`.
+abbrev pub or_lost : {O I : Type 0} → Completion → (Said → Prog O I) → Said → Prog O I
+or_lost lost k Missed = k (Finished lost)
+or_lost lost k said = k said
 
 -- A program calls, and doesn't wait without a call. (A program that waits for an answer is what a
 -- run makes of a call.)

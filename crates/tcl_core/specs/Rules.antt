@@ -7,13 +7,13 @@ use Rattle.tcl_core.specs.Endings.Meter.{Depth}
 use Rattle.tcl_core.specs.Endings.Kind.{Full}
 use Rattle.tcl_core.specs.Endings.Reply.{Completed, Exit}
 use Rattle.tcl_core.specs.Entries.{Entry, HostReply, Said}
-use Rattle.tcl_core.specs.Entries.Answer.{Replied, Heard}
-use Rattle.tcl_core.specs.Entries.Said.{Finished, Told}
+use Rattle.tcl_core.specs.Entries.Answer.{Replied, Heard, Nobody}
+use Rattle.tcl_core.specs.Entries.Said.{Finished, Told, Missed}
 use Rattle.tcl_core.specs.Trees.{Node, Tree, Move, at, depth_of}
 use Rattle.tcl_core.specs.Trees.What.{Made, Dropped, Out, In, Done, Back, Unfound}
 use Rattle.tcl_core.specs.Trees.Move.{Come}
 use Rattle.tcl_core.specs.Programs.{Deed, spot, Act, Wrap, Wait, Next, Prog, Table, decide, opens}
-use Rattle.tcl_core.specs.Programs.{closes}
+use Rattle.tcl_core.specs.Programs.{closes, or_lost}
 use Rattle.tcl_core.specs.Programs.Next.{On, TooDeep, Off}
 use Rattle.tcl_core.specs.Programs.Prog.{done, exit, act, go, inside, call, wait}
 use Rattle.tcl_core.specs.Runs.{World, Ending, Step, Exits, returned, reached, fits}
@@ -119,7 +119,7 @@ pub data Derives {O I : Type 0} (prog : Table O I) : World O → Place → Prog 
   called_out : (w : World O) (p : Place) (h : Height) (down : Path) (i : Entry) (lost : Completion)
       (k : Said → Prog O I) (u v : World O) (e : Ending) →
       rise_to h p ≡ None → Step w p (Out h down i) u →
-      Derives prog u p (wait (Some (h, i, depth_of (u.tree p))) k) v e →
+      Derives prog u p (wait (Some (h, i, depth_of (u.tree p))) (or_lost lost k)) v e →
       Derives prog w p (call h down i lost k) v e
   unanswered : (w : World O) (p : Place) (s : Wait) (k : Said → Prog O I) →
       rise_to (height_of s) p ≡ None → w.moves ≡ [] → w.tape ≡ [] →
@@ -137,6 +137,10 @@ pub data Derives {O I : Type 0} (prog : Table O I) : World O → Place → Prog 
       (e : Ending) →
       rise_to (height_of s) p ≡ None → fits w.tree p s (Come (Heard a)) ≡ true →
       Step w p (Back (height_of s) (Heard a)) u → Derives prog u p (k (Told a)) v e →
+      Derives prog w p (wait s k) v e
+  missed : (w : World O) (p : Place) (s : Wait) (k : Said → Prog O I) (u v : World O) (e : Ending) →
+      rise_to (height_of s) p ≡ None → fits w.tree p s (Come Nobody) ≡ true →
+      Step w p (Back (height_of s) Nobody) u → Derives prog u p (k Missed) v e →
       Derives prog w p (wait s k) v e
   answered_passed : (w : World O) (p : Place) (s : Wait) (k : Said → Prog O I) (r : Reply)
       (u : World O) → IsQuit r →

@@ -9,14 +9,14 @@ use Rattle.tcl_core.specs.Endings.Kind.{Full, Gone}
 use Rattle.tcl_core.specs.Endings.Reply.{Completed, Stop, Exit}
 use Rattle.tcl_core.specs.Entries.{Entry, Answer, Said, answers}
 use Rattle.tcl_core.specs.Entries.Entry.{AskHost}
-use Rattle.tcl_core.specs.Entries.Answer.{Replied, Heard}
-use Rattle.tcl_core.specs.Entries.Said.{Finished, Told}
+use Rattle.tcl_core.specs.Entries.Answer.{Replied, Heard, Nobody}
+use Rattle.tcl_core.specs.Entries.Said.{Finished, Told, Missed}
 use Rattle.tcl_core.specs.Trees.{Grants, granted, Node, Tree, at, What, Event, Move, effect, asked}
 use Rattle.tcl_core.specs.Trees.{depth_of}
 use Rattle.tcl_core.specs.Trees.What.{Made, Dropped, Out, In, Done, Back, Unfound}
 use Rattle.tcl_core.specs.Trees.Move.{Born, Fall, Enter, Come}
 use Rattle.tcl_core.specs.Programs.{Wait, Wrap, Next, Deed, spot, Prog, Table, decide, opens}
-use Rattle.tcl_core.specs.Programs.{closes}
+use Rattle.tcl_core.specs.Programs.{closes, or_lost}
 use Rattle.tcl_core.specs.Programs.Next.{On, TooDeep, Off}
 use Rattle.tcl_core.specs.Programs.Prog.{done, exit, act, go, inside, call, wait}
 
@@ -123,21 +123,23 @@ where_stands (Some n) p = Some p
 abbrev pub reached : {O : Type 0} → Tree O → Place → Path → Option Place
 reached T a down = where_stands (T (a ++ down)) (a ++ down)
 
--- An alias is answered by how its evaluation ended; a request by one of its own answers, or by an
--- end from outside. A stop that answers an alias names an interpreter below the one to which the
+-- An alias is answered by how its evaluation ended, or since nobody is there; a request by one of its
+-- own answers, or by an end from outside. A stop that answers an alias names an interpreter below the one to which the
 -- call goes up: what a stop further up ends is ended from outside.
 abbrev pub is_own : Height → Entry → Answer → Bool
 is_own (Some h) i (Replied (Stop n m)) = nat_lt n h
 is_own (Some h) i (Replied r) = true
 is_own (Some h) i (Heard a) = false
+is_own (Some h) i Nobody = true
 is_own None i (Replied (Completed c)) = false
 is_own None i (Replied (Stop n m)) = false
 is_own None i (Replied r) = true
 is_own None (AskHost q) (Heard a) = answers q a
 is_own None i (Heard a) = false
+is_own None i Nobody = false
 
--- A caller that is gone is answered by no completion and by no word of the host: what they would
--- have been is the stop of a gone interpreter.
+-- A caller that is gone is answered by no completion and by no word of the host, nor since nobody
+-- is there: what they would have been is the stop of a gone interpreter.
 abbrev pub names_gone : ℕ → Kind → ℕ → Bool
 names_gone l (Full m) n = false
 names_gone l Gone n = nat_eq n l
@@ -151,6 +153,7 @@ ends_gone l h r = true
 abbrev pub is_told : Option ℕ → Height → Entry → Answer → Bool
 is_told None h i a = is_own h i a
 is_told (Some l) h i (Heard a) = false
+is_told (Some l) h i Nobody = false
 is_told (Some l) h i (Replied r) = ends_gone l h r
 
 -- whether a move fits where this call is open
@@ -244,6 +247,7 @@ module _ {O I : Type 0} where
   abbrev pub Hears : Run O I → World O → Place → (Said → Prog O I) → Answer → World O → Ending →
       Type 0
   Hears R w p k (Heard a) v e = R w p (k (Told a)) v e
+  Hears R w p k Nobody v e = R w p (k Missed) v e
   Hears R w p k (Replied (Completed c)) v e = R w p (k (Finished c)) v e
   Hears R w p k (Replied r) v e = (v ≡ w) × (e ≡ Some r)
 
@@ -278,7 +282,7 @@ module _ {O I : Type 0} where
   abbrev pub Calls : Table O I → Run O I → World O → Place → Height → Path → Entry → Completion →
       (Said → Prog O I) → Option Place → World O → Ending → Type 0
   Calls prog R w p h down i lost k None v e =
-      R w p (wait (Some (h, i, depth_of (w.tree p))) k) v e
+      R w p (wait (Some (h, i, depth_of (w.tree p))) (or_lost lost k)) v e
   Calls prog R w p h down i lost k (Some a) v e = Reaches prog R w p h down i lost k
       (reached w.tree a down) v e
 

@@ -9,7 +9,7 @@ use Rattle.tcl_core.specs.Endings.Kind.{Full, Gone}
 use Rattle.tcl_core.specs.Endings.Reply.{Stop, Cut}
 use Rattle.tcl_core.specs.Endings.Cause.{Above}
 use Rattle.tcl_core.specs.Entries.{Entry, Answer}
-use Rattle.tcl_core.specs.Entries.Answer.{Replied, Heard}
+use Rattle.tcl_core.specs.Entries.Answer.{Replied, Heard, Nobody}
 
 -- An interpreter: its own part, which its own commands may change; whether it is safe, and whether
 -- it is the root of its tree, which stay; and its meters, which only their own happenings move.
@@ -225,6 +225,7 @@ seen_reply q r = r
 abbrev pub seen_answer : List (List ℕ) → Answer → Answer
 seen_answer q (Replied r) = Replied (seen_reply q r)
 seen_answer q (Heard a) = Heard a
+seen_answer q Nobody = Nobody
 
 -- a happening as it is seen in a tree where it is at q
 abbrev pub seen_what : {O : Type 0} → List (List ℕ) → What O → What O

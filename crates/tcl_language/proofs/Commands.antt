@@ -10,7 +10,7 @@ use Rattle.tcl_core.specs.Entries.Entry.{Eval, CallWords, InvokeHidden, SetAlias
 use Rattle.tcl_core.specs.Entries.HostReply.{Opened, Line, TheEnd, TheRest, Is, Fails}
 use Rattle.tcl_core.specs.Entries.Question.{Exists, IsSafe, Aliases, AliasOf, Hidden as HiddenNames, Slaves, CountLimitOf, DepthLimitOf}
 use Rattle.tcl_core.specs.Entries.Request.{Write}
-use Rattle.tcl_core.specs.Entries.Said.{Finished, Told}
+use Rattle.tcl_core.specs.Entries.Said.{Finished, Told, Missed}
 use Rattle.tcl_core.specs.Paths.{Path, Text}
 use Rattle.tcl_core.specs.Programs.Act.{Limit, LimitDepth, Look}
 use Rattle.tcl_core.specs.Programs.Prog.{act, done, exit, go}
@@ -623,6 +623,7 @@ module _ (P : Demands) (F : Facts P) where
   by_heard : (k : HostReply → Program) → ((r : HostReply) → Holds (k r)) → (s : Said) → Holds (hosting.heard k s)
   by_heard k f (Finished c) = tt
   by_heard k f (Told r) = f r
+  by_heard k f Missed = tt
 
   writes : (channel text : Text) → AsksHost P → Holds (hosting.writes channel text)
   writes channel text h = (h (Write channel text), by_heard (hosting.accepted channel) (accepted channel))
@@ -750,6 +751,7 @@ module _ (P : Demands) (F : Facts P) where
   by_finished : (k : Completion → Program) → ((c : Completion) → Holds (k c)) → (s : Said) → Holds (interpreters.finished k s)
   by_finished k f (Finished c) = f c
   by_finished k f (Told r) = tt
+  by_finished k f Missed = tt
 
   by_asks : (path : Path) (entry : Entry) (k : Completion → Program) → Asks path entry → ((c : Completion) → Holds (k c)) → Holds (interpreters.asks_at path entry k)
   by_asks [] entry k a f = (a, f)

@@ -14,7 +14,7 @@ use Rattle.tcl_core.specs.Entries.Entry.{Eval, CallWords, InvokeHidden, SetAlias
 use Rattle.tcl_core.specs.Entries.Entry.{Expose, SetCountLimit, SetDepthLimit, Create, Delete, Ask}
 use Rattle.tcl_core.specs.Entries.Question.{Exists, IsSafe, Aliases, AliasOf, Hidden as HiddenNames}
 use Rattle.tcl_core.specs.Entries.Question.{Slaves, CountLimitOf, DepthLimitOf}
-use Rattle.tcl_core.specs.Entries.Said.{Finished, Told}
+use Rattle.tcl_core.specs.Entries.Said.{Finished, Told, Missed}
 use Rattle.tcl_core.specs.Trees.{Node}
 use Rattle.tcl_core.specs.Programs.{most_steps}
 use Rattle.tcl_core.specs.Programs.Act.{Look, Make, Drop, Limit, LimitDepth}
@@ -66,9 +66,12 @@ denied = messages.denied
 
 -- ## Asking
 
+-- on with the completion; nothing else answers such a call (where nobody is there, that is the
+-- call's own)
 abbrev pub finished : (Completion → Program) → Said → Program
 finished k (Finished c) = k c
 finished k (Told reply) = done (ok [])
+finished k Missed = done (ok [])
 
 -- what is asked of the interpreter at a path: of itself at the empty one, and else of one below
 abbrev pub asks_at : Path → Entry → (Completion → Program) → Program

@@ -1,13 +1,13 @@
--- A run, computed: what comes of a program by itself, where no limit from outside is in the way and
--- the host accepts all that is asked of it.
+-- A run, computed: what comes of a program by itself, where no limit from outside is in the way, the
+-- host accepts all that is asked of it, and above the top nobody is.
 use Rattle.std.specs.Prelude.{◌≡◌, ℕ, zero, suc, Bool, true, false, Option, Some, None}
 use Rattle.tcl_core.specs.Paths.{Place, Height, rise_to}
 use Rattle.tcl_core.specs.Endings.{Completion, Reply, refusal}
 use Rattle.tcl_core.specs.Endings.Meter.{Depth}
 use Rattle.tcl_core.specs.Endings.Kind.{Full}
 use Rattle.tcl_core.specs.Endings.Reply.{Completed, Stop, Exit, Cut}
-use Rattle.tcl_core.specs.Entries.{Entry}
-use Rattle.tcl_core.specs.Entries.Answer.{Heard}
+use Rattle.tcl_core.specs.Entries.{Entry, Answer, Said}
+use Rattle.tcl_core.specs.Entries.Answer.{Heard, Nobody}
 use Rattle.tcl_core.specs.Entries.HostReply.{Accepted}
 use Rattle.tcl_core.specs.Entries.Said.{Finished, Told}
 use Rattle.tcl_core.specs.Execution.{Executes}
@@ -59,9 +59,18 @@ module _ {O I : Type 0} (prog : Table O I) where
   where_fit true y = y
   where_fit false y = None
 
-  -- the host accepts what is asked of it
-  abbrev pub accepts : Tree O → Place → Height → Entry → Bool
-  accepts T p h i = fits T p (Some (h, i, depth_of (T p))) (Come (Heard Accepted))
+  -- How a call that leaves the tree is answered: the host accepts what is asked of it, and nobody is
+  -- there for an alias. And what the program is told.
+  abbrev pub from_outside : Height → Answer
+  from_outside None = Heard Accepted
+  from_outside (Some h) = Nobody
+
+  abbrev pub told_so : Completion → Height → Said
+  told_so lost None = Told Accepted
+  told_so lost (Some h) = Finished lost
+
+  abbrev pub suits : Tree O → Place → Height → Entry → Bool
+  suits T p h i = fits T p (Some (h, i, depth_of (T p))) (Come (from_outside h))
 
   -- what comes of it within so many turns
   abbrev pub play : ℕ → Tree O → Place → Prog O I → Played
@@ -79,7 +88,7 @@ module _ {O I : Type 0} (prog : Table O I) where
       risen_by (λ a. reached_by (λ t. follow (play n T t (prog.entry i))
       (λ U r. on_completed (λ V c. play n V p (k (Finished c))) U (returned T U h p down r)))
       (play n T p (k (Finished lost))) (reached T a down))
-      (where_fit (accepts T p h i) (play n T p (k (Told Accepted)))) (rise_to h p)
+      (where_fit (suits T p h i) (play n T p (k (told_so lost h)))) (rise_to h p)
   play (suc n) T p (wait s k) = None
 
 -- how it ends

@@ -18,7 +18,7 @@ use Rattle.tcl_core.specs.Programs.Next.{On, TooDeep, Off}
 use Rattle.tcl_core.specs.Programs.Prog.{done, exit, act, go, inside, call, wait}
 use Rattle.tcl_core.specs.Runs.{returned, reached}
 use Rattle.tcl_core.specs.Execution.{Executes, Decides, Opens_so}
-use Rattle.tcl_core.specs.Execution.Executes.{completed, exited, acted as acts, refused, went, passed, wrapped as wraps, wrapped_passed, too_deep, shut, called, called_passed, unreached, called_out, heard}
+use Rattle.tcl_core.specs.Execution.Executes.{completed, exited, acted as acts, refused, went, passed, wrapped as wraps, wrapped_passed, too_deep, shut, called, called_passed, unreached, called_out, heard, missed}
 use Rattle.tcl_language.specs.Playing as playing
 use Rattle.tcl_language.specs.Playing.{Played, play, Any}
 
@@ -130,17 +130,18 @@ module _ {O I : Type 0} (prog : Table O I) where
   by_reach T p a h down i lost k c inner f g e (Some t) z =
       after T T p t (call h down i lost k) (prog.entry i) _ (λ U s y. by_carried T U p a t h down i lost k c f e z s y (returned T U h p down s) refl) (inner t) (g t)
 
-  by_fit : (T : Tree O) (p : Place) (h : Height) (down : Path) (i : Entry) (lost : Completion) (k : Said → Prog O I) (y : Played prog) → IsRun T p (k (Told Accepted)) y → rise_to h p ≡ None →
-      (b : Bool) → playing.accepts prog T p h i ≡ b → IsRun T p (call h down i lost k) (playing.where_fit prog b y)
-  by_fit T p h down i lost k y t e true z = onward T T p p (call h down i lost k) (k (Told Accepted)) (λ V r u. called_out e tt (heard e z tt u)) y t
+  by_fit : (T : Tree O) (p : Place) (h : Height) (down : Path) (i : Entry) (lost : Completion) (k : Said → Prog O I) (y : Played prog) → IsRun T p (k (playing.told_so prog lost h)) y → rise_to h p ≡ None →
+      (b : Bool) → playing.suits prog T p h i ≡ b → IsRun T p (call h down i lost k) (playing.where_fit prog b y)
+  by_fit T p None down i lost k y t e true z = onward T T p p (call None down i lost k) (k (Told Accepted)) (λ V r u. called_out e tt (heard e z tt u)) y t
+  by_fit T p (Some h) down i lost k y t e true z = onward T T p p (call (Some h) down i lost k) (k (Finished lost)) (λ V r u. called_out e tt (missed e z tt u)) y t
   by_fit T p h down i lost k y t e false z = tt
 
   by_rise : (T : Tree O) (p : Place) (h : Height) (down : Path) (i : Entry) (lost : Completion) (k : Said → Prog O I) (c : Tree O → Completion → Played prog) (inner : Place → Played prog) (out : Played prog) →
-      ((V : Tree O) (e : Completion) → IsRun V p (k (Finished e)) (c V e)) → ((t : Place) → IsRun T t (prog.entry i) (inner t)) → IsRun T p (k (Told Accepted)) out →
+      ((V : Tree O) (e : Completion) → IsRun V p (k (Finished e)) (c V e)) → ((t : Place) → IsRun T t (prog.entry i) (inner t)) → IsRun T p (k (playing.told_so prog lost h)) out →
       (o : Option Place) → rise_to h p ≡ o →
       IsRun T p (call h down i lost k) (playing.risen_by prog (λ a. playing.reached_by prog (λ t. playing.follow prog (inner t) (λ U r. playing.on_completed prog c U (returned T U h p down r))) (c T lost) (reached T a down))
-      (playing.where_fit prog (playing.accepts prog T p h i) out) o)
-  by_rise T p h down i lost k c inner out f g t None e = by_fit T p h down i lost k out t e (playing.accepts prog T p h i) refl
+      (playing.where_fit prog (playing.suits prog T p h i) out) o)
+  by_rise T p h down i lost k c inner out f g t None e = by_fit T p h down i lost k out t e (playing.suits prog T p h i) refl
   by_rise T p h down i lost k c inner out f g t (Some a) e = by_reach T p a h down i lost k c inner f g e (reached T a down) refl
 
   runs : (n : ℕ) (T : Tree O) (p : Place) (x : Prog O I) → IsRun T p x (play prog n T p x)
@@ -156,8 +157,8 @@ module _ {O I : Type 0} (prog : Table O I) where
       (λ U. play prog n U p (k (refusal (Full Depth)))) T p o)) (sym (opened b T p).1)
       (by_wrap T p b i k (λ V c. play prog n V p (k c)) (λ U. play prog n U p (prog.program i)) (λ V c. runs n V p (k c)) (λ U. runs n U p (prog.program i)) (opened b T p).0 (opened b T p).2)
   runs (suc n) T p (call h down i lost k) =
-      by_rise T p h down i lost k (λ V c. play prog n V p (k (Finished c))) (λ t. play prog n T t (prog.entry i)) (play prog n T p (k (Told Accepted)))
-      (λ V c. runs n V p (k (Finished c))) (λ t. runs n T t (prog.entry i)) (runs n T p (k (Told Accepted))) (rise_to h p) refl
+      by_rise T p h down i lost k (λ V c. play prog n V p (k (Finished c))) (λ t. play prog n T t (prog.entry i)) (play prog n T p (k (playing.told_so prog lost h)))
+      (λ V c. runs n V p (k (Finished c))) (λ t. runs n T t (prog.entry i)) (runs n T p (k (playing.told_so prog lost h))) (rise_to h p) refl
   runs (suc n) T p (wait s k) = tt
 
   pub play_is_run : (n : ℕ) (T V : Tree O) (p : Place) (x : Prog O I) (r : Reply) → play prog n T p x ≡ Some (V, r) → Goes T p x V r

@@ -3,26 +3,26 @@ use Rattle.std.proofs.Common.{◌≡◌, true, List, [], ◌∷◌, ◌++◌, Op
 use Rattle.tcl_core.specs.Paths.{Path, Place, Height, rise_to}
 use Rattle.tcl_core.specs.Endings.{Completion, Reply, refusal}
 use Rattle.tcl_core.specs.Endings.Meter.{Depth}
-use Rattle.tcl_core.specs.Entries.Said.{Finished, Told}
+use Rattle.tcl_core.specs.Entries.Said.{Finished, Told, Missed}
 use Rattle.tcl_core.specs.Endings.Reply.{Completed, Stop, Exit, Cut}
 use Rattle.tcl_core.specs.Entries.{Entry, Answer, Said}
-use Rattle.tcl_core.specs.Entries.Answer.{Replied, Heard}
+use Rattle.tcl_core.specs.Entries.Answer.{Replied, Heard, Nobody}
 use Rattle.tcl_core.specs.Trees.{Tree, Event, Move, Grants, at, effect, where_none, depth_of, Node}
 use Rattle.tcl_core.specs.Trees.Grants.{Listed}
 use Rattle.tcl_core.specs.Trees.What.{Out, In, Done, Back, Unfound}
 use Rattle.tcl_core.specs.Trees.Move.{Come}
-use Rattle.tcl_core.specs.Programs.{Deed, spot, Act, Wrap, Wait, Next, Prog, Table, closes}
+use Rattle.tcl_core.specs.Programs.{Deed, spot, Act, Wrap, Wait, Next, Prog, Table, closes, Calls_only}
 use Rattle.tcl_core.specs.Programs.Next.{On, TooDeep, Off}
 use Rattle.tcl_core.specs.Programs.Prog.{act, go, inside, call, wait}
 use Rattle.tcl_core.specs.Runs.{World, Ending, Runs, Then, Closes, Acted, Acts, Opened, Opens, Hears, Answered, Leaves, Visits, Returns, Reaches, Calls, Stays, Fitting, Waits, carried, reached, fits, height_of, gone, gone_from, Enters}
 use Rattle.tcl_core.specs.Rules.{IsOn, IsNoExit}
 use Rattle.tcl_core.specs.Execution.{Executes, Chain, Open, none, more, Decides, Opens_so, event, pending, with_call}
 use Rattle.tcl_core.proofs.Folding.{unroll}
-use Rattle.tcl_core.proofs.Callers.{Fits, fit}
+use Rattle.tcl_core.proofs.Callers.{Fits, fit, or_lost_all}
 use Rattle.tcl_core.proofs.Following.{back_within, called_on, chain-append, goes_out, goes_within, plain_deed, plain_more, plain_open, replied, waiting}
 use Rattle.tcl_core.proofs.Plain.{closes_plain}
 use Rattle.tcl_partial_runs.specs.Beginnings.{Begun, handed, handing, Begins, BeginsEach}
-use Rattle.tcl_partial_runs.specs.Beginnings.Begun.{stopped, ended, acted, going, went, within, wrapped, too_deep, calling_out, calling, returning, called, unreached, called_out, answered, heard, entering_in, leaving, left, entered, unfound}
+use Rattle.tcl_partial_runs.specs.Beginnings.Begun.{stopped, ended, acted, going, went, within, wrapped, too_deep, calling_out, calling, returning, called, unreached, called_out, answered, heard, missed, entering_in, leaving, left, entered, unfound}
 use Rattle.tcl_partial_runs.proofs.Worlds.{Suits, suits_after, suits_next, decided, opened, after_step, after_run, Whole}
 use Rattle.tcl_partial_runs.proofs.Worlds.Suits.{as_listed, as_granted}
 use Rattle.tcl_partial_runs.proofs.Wholes.{came}
@@ -240,7 +240,7 @@ module _ {O I S : Type 0} (step : Tree O → S → Wait → Event O → S → Ty
         leads = reach_leads prog T p h down i lost k a None tail e there (back_leads prog T p h k (Replied (Completed lost)) n.told n.leads);
       }
   goes calls (called_out {T} {p = p} {h = h} {down = down} {i = i} {lost = lost} {k = k} e s b) =
-      let n = goes calls b in
+      let n = goes (or_lost_all Calls_only lost k calls) b in
       record { told = event p (Out h down i) ∷ n.told; last = n.last; calls = n.calls; chain = λ cs. goes_out step e s (n.chain cs); leads = out_leads prog T p h down i lost k None n.told e n.leads }
   goes calls (answered {T} {p = p} {s = s} {k = k} {c = c} e own j b) =
       let n = goes (fit (k (Finished c)) (calls (Finished c))) b in
@@ -248,6 +248,9 @@ module _ {O I S : Type 0} (step : Tree O → S → Wait → Event O → S → Ty
   goes calls (heard {T} {p = p} {s = s} {k = k} {a = a} e own j b) =
       let n = goes (fit (k (Told a)) (calls (Told a))) b in
       record { told = event p (Back (height_of s) (Heard a)) ∷ n.told; last = n.last; calls = n.calls; chain = λ cs. replied step s p e (Heard a) (gone_from s T p) own j (called_on step (k (Told a)) (calls (Told a)) (n.chain cs)); leads = answer_leads prog T p s k (Heard a) n.told e own n.leads }
+  goes calls (missed {T} {p = p} {s = s} {k = k} e own j b) =
+      let n = goes (fit (k Missed) (calls Missed)) b in
+      record { told = event p (Back (height_of s) Nobody) ∷ n.told; last = n.last; calls = n.calls; chain = λ cs. replied step s p e Nobody (gone_from s T p) own j (called_on step (k Missed) (calls Missed) (n.chain cs)); leads = answer_leads prog T p s k Nobody n.told e own n.leads }
   goes calls (entering_in {T} {p = p} {s = s} {k = k} t i e here s1 b) =
       let n = goes (fit (prog.entry i) (prog.entries_call i)) b in
       record {

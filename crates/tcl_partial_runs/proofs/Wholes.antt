@@ -4,17 +4,17 @@ use Rattle.tcl_core.specs.Paths.{Place}
 use Rattle.tcl_core.specs.Endings.{Reply, IsQuit, refusal}
 use Rattle.tcl_core.specs.Endings.Meter.{Depth}
 use Rattle.tcl_core.specs.Endings.Reply.{Completed, Exit}
-use Rattle.tcl_core.specs.Entries.Answer.{Replied, Heard}
-use Rattle.tcl_core.specs.Entries.Said.{Finished, Told}
+use Rattle.tcl_core.specs.Entries.Answer.{Replied, Heard, Nobody}
+use Rattle.tcl_core.specs.Entries.Said.{Finished, Told, Missed}
 use Rattle.tcl_core.specs.Trees.{Tree, What, Event, Move, Grants, at, effect, depth_of}
 use Rattle.tcl_core.specs.Trees.What.{Out, In, Done, Back, Unfound}
-use Rattle.tcl_core.specs.Programs.{Wait, spot, Prog, Table, closes}
+use Rattle.tcl_core.specs.Programs.{Wait, spot, Prog, Table, closes, Calls_only}
 use Rattle.tcl_core.specs.Programs.Prog.{call}
 use Rattle.tcl_core.specs.Runs.{World, Step, Runs, carried, height_of, gone, gone_from}
 use Rattle.tcl_core.specs.Rules.{Derives}
 use Rattle.tcl_core.specs.Execution.{Executes, Chain, Open, none, more, event, pending}
-use Rattle.tcl_core.specs.Execution.Executes.{completed, exited, acted, refused, went, passed, wrapped, wrapped_passed, too_deep, shut, called, called_passed, unreached, called_out, answered, heard, answered_passed, entered, entered_exiting, unfound}
-use Rattle.tcl_core.proofs.Callers.{Fits, fit}
+use Rattle.tcl_core.specs.Execution.Executes.{completed, exited, acted, refused, went, passed, wrapped, wrapped_passed, too_deep, shut, called, called_passed, unreached, called_out, answered, heard, missed, answered_passed, entered, entered_exiting, unfound}
+use Rattle.tcl_core.proofs.Callers.{Fits, fit, or_lost_all}
 use Rattle.tcl_core.proofs.Following.{back_within, called_on, chain-append, comes_back, goes_out, goes_within, plain_deed, plain_more, plain_open, replied, waiting}
 use Rattle.tcl_core.proofs.Plain.{closes_plain}
 use Rattle.tcl_core.proofs.RuleLaws.{derived_runs}
@@ -148,7 +148,7 @@ module _ {O I S : Type 0} (step : Tree O → S → Wait → Event O → S → Ty
         runs = λ ms g l su. Derives.unreached _ p h down i lost k a (ahead T tail ms g l) (ahead T n.events ms g l) _ _ e (next T p (Out h down i) tail ms g l) there (next T p (Back h (Replied (Completed lost))) n.events ms g l) (n.runs ms g l (suits_next _ _ _ (suits_next _ tail _ su)));
       }
   follows calls (called_out {T} {V} {o} {u} {z} {p} {h} {down} {i} {lost} {k} {r} e s t) =
-      let n = follows calls t in
+      let n = follows (or_lost_all Calls_only lost k calls) t in
       record {
         events = event p (Out h down i) ∷ n.events;
         chain = λ cs. goes_out step e s (n.chain cs);
@@ -167,6 +167,13 @@ module _ {O I S : Type 0} (step : Tree O → S → Wait → Event O → S → Ty
         events = event p (Back (height_of s) (Heard a)) ∷ n.events;
         chain = λ cs. replied step s p e (Heard a) (gone_from s T p) own j (called_on step (k (Told a)) (calls (Told a)) (n.chain cs));
         runs = λ ms g l su. Derives.heard _ p s k a (ahead T n.events ms g l) _ _ e own (next T p (Back (height_of s) (Heard a)) n.events ms g l) (n.runs ms g l (suits_next _ _ _ su));
+      }
+  follows calls (missed {T} {V} {o} {u} {z} {p} {s} {k} {r} e own j t) =
+      let n = follows (fit (k Missed) (calls Missed)) t in
+      record {
+        events = event p (Back (height_of s) Nobody) ∷ n.events;
+        chain = λ cs. replied step s p e Nobody (gone_from s T p) own j (called_on step (k Missed) (calls Missed) (n.chain cs));
+        runs = λ ms g l su. Derives.missed _ p s k (ahead T n.events ms g l) _ _ e own (next T p (Back (height_of s) Nobody) n.events ms g l) (n.runs ms g l (suits_next _ _ _ su));
       }
   follows calls (answered_passed {T} {o} {u} {p} {s} {k} {r} q e own j) =
       record {

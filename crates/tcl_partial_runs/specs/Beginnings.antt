@@ -7,14 +7,14 @@ use Rattle.tcl_core.specs.Endings.Meter.{Depth}
 use Rattle.tcl_core.specs.Endings.Kind.{Full}
 use Rattle.tcl_core.specs.Endings.Reply.{Completed}
 use Rattle.tcl_core.specs.Entries.{Entry, HostReply, Said}
-use Rattle.tcl_core.specs.Entries.Answer.{Replied, Heard}
-use Rattle.tcl_core.specs.Entries.Said.{Finished, Told}
+use Rattle.tcl_core.specs.Entries.Answer.{Replied, Heard, Nobody}
+use Rattle.tcl_core.specs.Entries.Said.{Finished, Told, Missed}
 use Rattle.tcl_core.specs.Trees.{Tree, What, Event, Move, Grant, Grants, effect, asked, granted, at, Node}
 use Rattle.tcl_core.specs.Trees.{depth_of}
 use Rattle.tcl_core.specs.Trees.Grants.{Listed}
 use Rattle.tcl_core.specs.Trees.What.{Refused, Out, In, Done, Back, Unfound}
 use Rattle.tcl_core.specs.Trees.Move.{Come}
-use Rattle.tcl_core.specs.Programs.{Deed, spot, Act, Wrap, Wait, Prog, Table, closes}
+use Rattle.tcl_core.specs.Programs.{Deed, spot, Act, Wrap, Wait, Prog, Table, closes, or_lost}
 use Rattle.tcl_core.specs.Programs.Next.{On, TooDeep}
 use Rattle.tcl_core.specs.Programs.Prog.{act, go, inside, call, wait}
 use Rattle.tcl_core.specs.Runs.{World, Ending, Runs, returned, reached, fits}
@@ -109,7 +109,7 @@ pub data Begun {O I S : Type 0} (step : Tree O → S → Wait → Event O → S 
   called_out : {T : Tree O} {o u z : S} {p : Place} {h : Height} {down : Path} {i : Entry}
       {lost : Completion} {k : Said → Prog O I} → rise_to h p ≡ None →
       step T o None (event p (Out h down i)) u →
-      Begun step prog T u p (wait (Some (h, i, depth_of (T p))) k) z →
+      Begun step prog T u p (wait (Some (h, i, depth_of (T p))) (or_lost lost k)) z →
       Begun step prog T o p (call h down i lost k) z
   -- after its answer
   answered : {T : Tree O} {o u z : S} {p : Place} {s : Wait} {k : Said → Prog O I} {c : Completion}
@@ -121,6 +121,10 @@ pub data Begun {O I S : Type 0} (step : Tree O → S → Wait → Event O → S 
       rise_to (height_of s) p ≡ None →
       fits T p s (Come (Heard a)) ≡ true →
       step T o s (event p (Back (height_of s) (Heard a))) u → Begun step prog T u p (k (Told a)) z →
+      Begun step prog T o p (wait s k) z
+  missed : {T : Tree O} {o u z : S} {p : Place} {s : Wait} {k : Said → Prog O I} →
+      rise_to (height_of s) p ≡ None → fits T p s (Come Nobody) ≡ true →
+      step T o s (event p (Back (height_of s) Nobody)) u → Begun step prog T u p (k Missed) z →
       Begun step prog T o p (wait s k) z
   -- in an entry from outside, while the call is waited for
   entering_in : {T : Tree O} {o o1 z : S} {p : Place} {s : Wait} {k : Said → Prog O I}

@@ -9,7 +9,7 @@ use Rattle.tcl_core.specs.Entries.Answer.{Replied}
 use Rattle.tcl_core.specs.Entries.Said.{Finished}
 use Rattle.tcl_core.specs.Trees.{Tree, Event, Move, Grants, depth_of}
 use Rattle.tcl_core.specs.Trees.What.{In, Out, Done, Back}
-use Rattle.tcl_core.specs.Programs.{Prog, Table}
+use Rattle.tcl_core.specs.Programs.{Prog, Table, or_lost}
 use Rattle.tcl_core.specs.Programs.Prog.{call, wait}
 use Rattle.tcl_core.specs.Runs.{Step, carried, lessened, reached, gone, carried_by, ended}
 use Rattle.tcl_core.specs.Rules.{Derives, IsNoExit}
@@ -167,10 +167,10 @@ module _ {O I : Type 0} (prog : Table O I) where
 
   -- it leaves the tree
   pub called_out_by : (T V : Tree O) (o u z : Player O) (p : Place) (h : Height) (down : Path) (i : Entry) (lost : Completion) (k : Said → Prog O I) (r : Reply) → rise_to h p ≡ None →
-      Crossings plays T o None (event p (Out h down i)) u → o.fate ≡ None → Calm (last_end o) → (u.fate ≡ None → Calm (last_end u) → Result prog T u p (wait (Some (h, i, depth_of (T p))) k) V z r) → Result prog T o p (call h down i lost k) V z r
+      Crossings plays T o None (event p (Out h down i)) u → o.fate ≡ None → Calm (last_end o) → (u.fate ≡ None → Calm (last_end u) → Result prog T u p (wait (Some (h, i, depth_of (T p))) (or_lost lost k)) V z r) → Result prog T o p (call h down i lost k) V z r
   called_out_by T V o u z p h down i lost k r e s n c g =
       let w : Way 0 o (event p (Out h down i) ∷ []) u = out_way T None p h down i o u e s n in
-      tail prog T T V o u z p p (call h down i lost k) (wait (Some (h, i, depth_of (T p))) k) r (event p (Out h down i) ∷ []) (record {
+      tail prog T T V o u z p p (call h down i lost k) (wait (Some (h, i, depth_of (T p))) (or_lost lost k)) r (event p (Out h down i) ∷ []) (record {
         way = w;
         builds = λ y b v d x. Derives.called_out (ahead T (event p (Out h down i) ∷ []) y) p h down i lost k (ahead T [] y) v d e (next T p (Out h down i) [] y) x;
       }) (g w.goes_on (subst Calm (sym (way_end 0 o u (event p (Out h down i) ∷ []) w)) c))

@@ -5,7 +5,7 @@ use Rattle.tcl_core.specs.Endings.Meter.{Count, Depth}
 use Rattle.tcl_core.specs.Endings.Reply.{Cut}
 use Rattle.tcl_core.specs.Endings.Cause.{Above, Over}
 use Rattle.tcl_core.specs.Execution.{Chain, Crossings, Open, Decides, Executes, Opens_so, before, more, none}
-use Rattle.tcl_core.specs.Execution.Executes.{completed, exited, acted, refused, went, passed, wrapped, wrapped_passed, too_deep, shut, called, called_passed, unreached, called_out, answered, heard, answered_passed, entered, entered_exiting, unfound}
+use Rattle.tcl_core.specs.Execution.Executes.{completed, exited, acted, refused, went, passed, wrapped, wrapped_passed, too_deep, shut, called, called_passed, unreached, called_out, answered, heard, missed, answered_passed, entered, entered_exiting, unfound}
 use Rattle.tcl_core.specs.Laws.{IsSteady, IsUpright, KeepsTop, is_spared, depth_left}
 use Rattle.tcl_core.specs.Paths.{Place, rise_to}
 use Rattle.tcl_core.specs.Programs.{Act, Deed, Prog, Table, Wait, Wrap, spot, closes, changing, making, dropping, metered, by_limit, blocked, is_spent, is_deep}
@@ -110,6 +110,7 @@ module _ {O I S : Type 0} (step : Tree O → S → Wait → Event O → S → Ty
   lasts (called_out up s t) = called_out up (stays step _ _ _ _ _ s tt) (lasts t)
   lasts (answered up fit s t) = answered up fit (stays step _ _ _ _ _ s tt) (lasts t)
   lasts (heard up fit s t) = heard up fit (stays step _ _ _ _ _ s tt) (lasts t)
+  lasts (missed up fit s t) = missed up fit (stays step _ _ _ _ _ s tt) (lasts t)
   lasts (answered_passed q up fit s) = answered_passed q up fit (stays step _ _ _ _ _ s tt)
   lasts (entered t i up here s1 run s2 calm rest) = entered t i up here (stays step _ _ _ _ _ s1 tt) (lasts run) (stays step _ _ _ _ _ s2 tt) calm (lasts rest)
   lasts (entered_exiting t i up here s1 run s2 s3) = entered_exiting t i up here (stays step _ _ _ _ _ s1 tt) (lasts run) (stays step _ _ _ _ _ s2 tt) (stays step _ _ _ _ _ s3 tt)

@@ -10,7 +10,7 @@ use Rattle.tcl_core.specs.Trees.What.{Done, Back}
 use Rattle.tcl_core.specs.Programs.{Prog, Table, Wait, closes, spot}
 use Rattle.tcl_core.specs.Runs.{Ending, Exiting, Exits, Halts, Step, World, ends_call, height_of}
 use Rattle.tcl_core.specs.Rules.{Derives, IsNoExit}
-use Rattle.tcl_core.specs.Rules.Derives.{completed, exited, acted, refused, unheard, went, passed, halted, wrapped, wrapped_passed, wrapped_halted, too_deep, shut, unheard_inside, called, called_passed, called_halted, unreached, called_out, unanswered, unfit, answered, heard, answered_passed, entered, entered_halted, entered_exiting, born, fallen, unfound}
+use Rattle.tcl_core.specs.Rules.Derives.{completed, exited, acted, refused, unheard, went, passed, halted, wrapped, wrapped_passed, wrapped_halted, too_deep, shut, unheard_inside, called, called_passed, called_halted, unreached, called_out, unanswered, unfit, answered, heard, missed, answered_passed, entered, entered_halted, entered_exiting, born, fallen, unfound}
 use Rattle.tcl_core.proofs.Plain.{IsPlain, closes_plain, decide_plain, opens_plain}
 
 module _ {O : Type 0} where
@@ -99,6 +99,7 @@ module _ {O I : Type 0} (prog : Table O I) where
   exiting (unfit w p s k m ms g j l t) h = h
   exiting (answered w p s k y u v e g j t a) h = goes w p _ u t (λ z. absurd z) (exiting a h)
   exiting (heard w p s k y u v e g j t a) h = goes w p _ u t (λ z. absurd z) (exiting a h)
+  exiting (missed w p s k u v e g j t a) h = goes w p _ u t (λ z. absurd z) (exiting a h)
   exiting (answered_passed w p s k r u q g j t) h = goes w p _ u t (λ z. absurd z) h
   exiting (entered w p s k t i inner left told v r e g here s1 a s2 n b) h = goes w t _ inner s1 (λ z. absurd z) (exiting a (goes left t _ told s2 (no_exit O r told.tape n) (exiting b h)))
   exiting (entered_halted w p s k t i inner left g here s1 a) h = goes w t _ inner s1 (λ z. absurd z) (exiting a h)

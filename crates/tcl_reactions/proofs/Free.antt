@@ -8,7 +8,7 @@ use Rattle.tcl_core.specs.Endings.Meter.{Count}
 use Rattle.tcl_core.specs.Endings.Reply.{Completed, Stop, Exit, Cut}
 use Rattle.tcl_core.specs.Endings.Cause.{Over}
 use Rattle.tcl_core.specs.Entries.{Entry, Answer}
-use Rattle.tcl_core.specs.Entries.Answer.{Replied, Heard}
+use Rattle.tcl_core.specs.Entries.Answer.{Replied, Heard, Nobody}
 use Rattle.tcl_core.specs.Trees.{Tree, Event, Move}
 use Rattle.tcl_core.specs.Trees.Move.{Born, Fall, Enter, Come}
 use Rattle.tcl_core.specs.Trees.What.{Charged, Refused, Out, In, Done, Back, Unfound}
@@ -28,6 +28,7 @@ use Rattle.tcl_reactions.proofs.Ways.{fits_open}
 
 cut_or_not : (a : Answer) → IsCut a ⊎ IsNoCut a
 cut_or_not (Heard a) = inr tt
+cut_or_not Nobody = inr tt
 cut_or_not (Replied (Completed c)) = inr tt
 cut_or_not (Replied (Stop n m)) = inr tt
 cut_or_not (Replied (Exit n)) = inr tt
@@ -35,6 +36,7 @@ cut_or_not (Replied (Cut c)) = inl tt
 
 pub same_exit : (n : ℤ) (a : Answer) → is_exit n a ≡ true → a ≡ Replied (Exit n)
 same_exit n (Heard a) e = absurd (false≢true e)
+same_exit n Nobody e = absurd (false≢true e)
 same_exit n (Replied (Completed c)) e = absurd (false≢true e)
 same_exit n (Replied (Stop k m)) e = absurd (false≢true e)
 same_exit n (Replied (Cut c)) e = absurd (false≢true e)

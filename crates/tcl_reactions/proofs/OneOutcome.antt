@@ -5,7 +5,7 @@ use Rattle.tcl_core.specs.Endings.{Cause}
 use Rattle.tcl_core.specs.Endings.{Reply}
 use Rattle.tcl_core.specs.Endings.Reply.{Completed, Stop, Exit, Cut}
 use Rattle.tcl_core.specs.Endings.Cause.{Above, Over}
-use Rattle.tcl_core.specs.Entries.Answer.{Replied, Heard}
+use Rattle.tcl_core.specs.Entries.Answer.{Replied, Heard, Nobody}
 use Rattle.tcl_core.specs.Trees.{Tree, What, Event, Move}
 use Rattle.tcl_core.specs.Trees.Grants.{Budget}
 use Rattle.tcl_core.specs.Trees.What.{Done, Unfound}
@@ -277,6 +277,7 @@ module _ {O I : Type 0} (prog : Table O I) (S : Tree O) (n : ℕ) where
         later (Come (Replied (Stop i j))) k g = g
         later (Come (Replied (Exit i))) k g = g
         later (Come (Heard d)) k g = g
+        later (Come Nobody) k g = g
         later (Enter d i) k g = g
         later (Born o b) k g = g
         later Fall k g = g

@@ -8,19 +8,19 @@ use Rattle.tcl_core.specs.Endings.Meter.{Depth}
 use Rattle.tcl_core.specs.Endings.Kind.{Full}
 use Rattle.tcl_core.specs.Endings.Reply.{Completed, Stop, Exit, Cut}
 use Rattle.tcl_core.specs.Entries.{Entry, Answer, Said}
-use Rattle.tcl_core.specs.Entries.Answer.{Replied, Heard}
-use Rattle.tcl_core.specs.Entries.Said.{Finished, Told}
+use Rattle.tcl_core.specs.Entries.Answer.{Replied, Heard, Nobody}
+use Rattle.tcl_core.specs.Entries.Said.{Finished, Told, Missed}
 use Rattle.tcl_core.specs.Trees.{Tree, What, Event, Move, at, depth_of, granted, Node}
 use Rattle.tcl_core.specs.Trees.Grants.{Listed}
 use Rattle.tcl_core.specs.Trees.Move.{Born, Fall, Enter, Come}
 use Rattle.tcl_core.specs.Trees.What.{Made, Dropped, Out, In, Done, Back, Unfound}
-use Rattle.tcl_core.specs.Programs.{Deed, spot, Next, Wrap, Wait, Prog, Table, opens, closes}
+use Rattle.tcl_core.specs.Programs.{Deed, spot, Next, Wrap, Wait, Prog, Table, opens, closes, or_lost}
 use Rattle.tcl_core.specs.Programs.Next.{On, Off}
 use Rattle.tcl_core.specs.Programs.Prog.{done, exit, act, go, inside, call, wait}
 use Rattle.tcl_core.specs.Runs
 use Rattle.tcl_core.specs.Runs.{World, Step, Ending, Halts, Exits, Exiting, Follows, Hears, Leaves, Visits, Returns, Reaches, Closes, Opened, Stays, returned, reached, ends_call, height_of}
 use Rattle.tcl_core.specs.Rules.{Derives, IsNoExit}
-use Rattle.tcl_core.specs.Rules.Derives.{completed, exited, acted, refused, unheard, went, passed, halted, wrapped, wrapped_passed, wrapped_halted, too_deep, shut, unheard_inside, called, called_passed, called_halted, unreached, called_out, unanswered, unfit, answered, heard, answered_passed, entered, entered_halted, entered_exiting, born, fallen, unfound}
+use Rattle.tcl_core.specs.Rules.Derives.{completed, exited, acted, refused, unheard, went, passed, halted, wrapped, wrapped_passed, wrapped_halted, too_deep, shut, unheard_inside, called, called_passed, called_halted, unreached, called_out, unanswered, unfit, answered, heard, missed, answered_passed, entered, entered_halted, entered_exiting, born, fallen, unfound}
 use Rattle.tcl_core.specs.Rules.{IsOn}
 use Rattle.tcl_core.specs.Execution.{event}
 use Rattle.tcl_core.specs.Laws.{IsUnended, ReadsMove, Unended, after}
@@ -374,7 +374,7 @@ module _ {O I : Type 0} (prog : Table O I) (k : ℕ) (next : Event O) (late : Li
       (λ a1 q1 n1. silent k next late reads (Unit {0}) out back v p (Back h (Replied (Completed lost))) (Run_of back.tree p (y (Finished lost))) (λ a2 z o. Reaches prog (Ruled prog) (given out.tree a2) p h down i lost y None z o) e a1 s2 (back_silent prog p a0 h (Replied (Completed lost)) f) q1 n1
       (λ a2 z o st d. (given back.tree a2, st, d)) (λ a2 q2 n2. paused x a2 q2 n2))
   paused (called_out w p h down i lost y u v e f s r) a q n =
-      silent k next late reads (Unit {0}) w u v p (Out h down i) (Run_of u.tree p (wait (Some (h, i, depth_of (u.tree p))) y)) (Run_of w.tree p (call h down i lost y)) e a s (λ ms. refl) q n
+      silent k next late reads (Unit {0}) w u v p (Out h down i) (Run_of u.tree p (wait (Some (h, i, depth_of (u.tree p))) (or_lost lost y))) (Run_of w.tree p (call h down i lost y)) e a s (λ ms. refl) q n
       (λ a1 z o st d. called_out (given w.tree (event p (Out h down i) ∷ a1)) p h down i lost y (given u.tree a1) z o f st d) (λ a1 q1 n1. paused r a1 q1 n1)
   paused (unanswered w p s y f g t) a q n = no_more k next late w a t q
   paused (unfit w p s y m ms f g h t) a q n = no_more k next late w a t q
@@ -382,6 +382,8 @@ module _ {O I : Type 0} (prog : Table O I) (k : ℕ) (next : Event O) (late : Li
       comes w u v p p (Back (height_of s) (Replied (Completed c))) s y (Run_of u.tree p (y (Finished c))) e a f t q n (λ a1 z o st d. answered (given w.tree (event p (Back (height_of s) (Replied (Completed c))) ∷ a1)) p s y c (given u.tree a1) z o f g st d) (λ a1 q1 n1. paused r a1 q1 n1)
   paused (heard w p s y x u v e f g t r) a q n =
       comes w u v p p (Back (height_of s) (Heard x)) s y (Run_of u.tree p (y (Told x))) e a f t q n (λ a1 z o st d. heard (given w.tree (event p (Back (height_of s) (Heard x)) ∷ a1)) p s y x (given u.tree a1) z o f g st d) (λ a1 q1 n1. paused r a1 q1 n1)
+  paused (missed w p s y u v e f g t r) a q n =
+      comes w u v p p (Back (height_of s) Nobody) s y (Run_of u.tree p (y Missed)) e a f t q n (λ a1 z o st d. missed (given w.tree (event p (Back (height_of s) Nobody) ∷ a1)) p s y (given u.tree a1) z o f g st d) (λ a1 q1 n1. paused r a1 q1 n1)
   paused (answered_passed w p s y r u j f g t) a q n =
       comes w u u p p (Back (height_of s) (Replied r)) s y (Ends_so r u) (Some r) a f t q n
       (λ a1 z o st d. ends_so (given w.tree (event p (Back (height_of s) (Replied r)) ∷ a1)) u z p (wait s y) r a1 o (answered_passed (given w.tree (event p (Back (height_of s) (Replied r)) ∷ a1)) p s y r (given u.tree a1) j f g st) d) (λ a1 q1 n1. ended (Unit {0}) u r a1 q1 n1)

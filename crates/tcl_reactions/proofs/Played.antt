@@ -4,7 +4,7 @@ use Rattle.tcl_core.specs.Paths.{Path, Place}
 use Rattle.tcl_core.specs.Endings.{Reply}
 use Rattle.tcl_core.specs.Endings.Reply.{Completed, Stop, Exit, Cut}
 use Rattle.tcl_core.specs.Entries.{Entry}
-use Rattle.tcl_core.specs.Entries.Answer.{Replied, Heard}
+use Rattle.tcl_core.specs.Entries.Answer.{Replied, Heard, Nobody}
 use Rattle.tcl_core.specs.Trees.{Tree, Event, Move, Grants, depth_of, Node}
 use Rattle.tcl_core.specs.Trees.What.{In, Out, Done, Back, Unfound}
 use Rattle.tcl_core.specs.Trees.Move.{Born, Fall, Enter, Come}
@@ -13,7 +13,7 @@ use Rattle.tcl_core.specs.Programs.Prog.{done, exit, wait}
 use Rattle.tcl_core.specs.Runs.{World, Ending, Halts, Exits, carried, height_of, gone}
 use Rattle.tcl_core.specs.Rules.{Derives, IsNoExit}
 use Rattle.tcl_core.specs.Execution.{Crossings, Executes, event}
-use Rattle.tcl_core.specs.Execution.Executes.{completed, exited, acted, refused, went, passed, wrapped, wrapped_passed, too_deep, shut, called, called_passed, unreached, called_out, answered, heard, answered_passed, entered, entered_exiting, unfound}
+use Rattle.tcl_core.specs.Execution.Executes.{completed, exited, acted, refused, went, passed, wrapped, wrapped_passed, too_deep, shut, called, called_passed, unreached, called_out, answered, heard, missed, answered_passed, entered, entered_exiting, unfound}
 use Rattle.tcl_core.specs.Lives.{Outcome, copies, idle, never}
 use Rattle.tcl_core.specs.Lives.Outcome.{Finished, Exited}
 use Rattle.tcl_core.proofs.Unended
@@ -27,7 +27,7 @@ use Rattle.tcl_reactions.proofs.Leads.Result.{ran, broke}
 use Rattle.tcl_reactions.proofs.Deeds.{act_calm, act_way, open_calm, open_way}
 use Rattle.tcl_reactions.proofs.Plays.{acted_by, at_once, passed_by, refused_by, shut_by, too_deep_by, went_by, wrapped_by, wrapped_passed_by}
 use Rattle.tcl_reactions.proofs.Crossed.{called_by, called_out_by, called_passed_by, starts, starts_same, unreached_by}
-use Rattle.tcl_reactions.proofs.Waited.{answered_by, answered_passed_by, entered_by, entered_exiting_by, heard_by, unfound_by}
+use Rattle.tcl_reactions.proofs.Waited.{answered_by, answered_passed_by, entered_by, entered_exiting_by, heard_by, unfound_by, missed_by}
 use Rattle.tcl_reactions.proofs.Turns.{after_end, answers_at, done_end, done_on, done_over, in_way, not_some, same_end, visit_way, unfound_way, unfound_end}
 
 module _ {O I : Type 0} (prog : Table O I) where
@@ -64,6 +64,7 @@ module _ {O I : Type 0} (prog : Table O I) where
   played (answered {T} {V} {o} {u} {z} {p} {s} {k} {c} {r} e fit st t) n m =
       answered_by prog T V o u z p s k c r e fit (answers_at T s p (height_of s) (Replied (Completed c)) o u e st) m (λ f g. played t f g)
   played (heard {T} {V} {o} {u} {z} {p} {s} {k} {a} {r} e fit st t) n m = heard_by prog T V o u z p s k a r e fit (answers_at T s p (height_of s) (Heard a) o u e st) m (λ f g. played t f g)
+  played (missed {T} {V} {o} {u} {z} {p} {s} {k} {r} e fit st t) n m = missed_by prog T V o u z p s k r e fit (answers_at T s p (height_of s) Nobody o u e st) m (λ f g. played t f g)
   played (answered_passed {T} {o} {u} {p} {s} {k} {r} q e fit st) n m = answered_passed_by prog T o u p s k r q e fit (answers_at T s p (height_of s) (Replied r) o u e st) n m
   played (entered {T = T} {U = U} {V = V} {o = o} {o1 = o1} {o2 = o2} {o3 = o3} {z = z} {p = p} {s = s} {k = k} {y = y} {r = r} t i e here s1 a s2 nx b) n m =
       let into : HandsIn o t i o1 = s1.told in

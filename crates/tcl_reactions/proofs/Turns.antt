@@ -4,7 +4,7 @@ use Rattle.tcl_core.specs.Paths.{Path, Place, Height, rise_to}
 use Rattle.tcl_core.specs.Endings.{Reply, Cause, Completion}
 use Rattle.tcl_core.specs.Endings.Reply.{Completed, Stop, Exit, Cut}
 use Rattle.tcl_core.specs.Entries.{Entry, Answer}
-use Rattle.tcl_core.specs.Entries.Answer.{Replied, Heard}
+use Rattle.tcl_core.specs.Entries.Answer.{Replied, Heard, Nobody}
 use Rattle.tcl_core.specs.Trees.{Tree, Event, Move, where_none}
 use Rattle.tcl_core.specs.Trees.Grants.{Budget}
 use Rattle.tcl_core.specs.Trees.What.{In, Done, Back, Unfound}
@@ -14,7 +14,7 @@ use Rattle.tcl_core.specs.Programs.Prog.{wait}
 use Rattle.tcl_core.specs.Runs.{fits, height_of}
 use Rattle.tcl_core.specs.Rules.{IsNoExit}
 use Rattle.tcl_core.specs.Execution.{Crossings, Executes, event}
-use Rattle.tcl_core.specs.Execution.Executes.{completed, exited, acted, refused, went, passed, wrapped, wrapped_passed, too_deep, shut, called, called_passed, unreached, called_out, answered, heard, answered_passed, entered, entered_exiting, unfound}
+use Rattle.tcl_core.specs.Execution.Executes.{completed, exited, acted, refused, went, passed, wrapped, wrapped_passed, too_deep, shut, called, called_passed, unreached, called_out, answered, heard, missed, answered_passed, entered, entered_exiting, unfound}
 use Rattle.tcl_core.specs.Lives.{Uncut, begun, ended, ending_of, outs_of}
 use Rattle.tcl_core.specs.Lives.Outcome.{Finished}
 use Rattle.tcl_core.proofs.Beginnings.{outs_append}
@@ -33,6 +33,7 @@ not_some o x e f = absurd (bad e f)
 
 pub cut_of : (b : Answer) → IsCut b → (c : Cause) × (b ≡ Replied (Cut c))
 cut_of (Heard a) f = absurd f
+cut_of Nobody f = absurd f
 cut_of (Replied (Completed c)) f = absurd f
 cut_of (Replied (Stop n m)) f = absurd f
 cut_of (Replied (Exit n)) f = absurd f
@@ -46,6 +47,7 @@ reply_no_cut (Cut c) f = f
 
 back_uncut : (O : Type 0) (p : Place) (h : Height) (a : Answer) → IsNoCut a → Uncut {O = O} p (Back h a)
 back_uncut O p h (Heard x) f = tt
+back_uncut O p h Nobody f = tt
 back_uncut O p h (Replied (Completed c)) f = tt
 back_uncut O p h (Replied (Stop n m)) f = tt
 back_uncut O p h (Replied (Exit n)) f = tt
@@ -175,6 +177,7 @@ module _ {O I : Type 0} (prog : Table O I) where
   after_end (called_out e s t) = tt
   after_end (answered {T} {V} {o} {u} {z} {p} {s} {k} {c} {r} e fit st t) = λ f g. ended_at_once T p o u s (Replied (Completed c)) f (answers_at T s p (height_of s) (Replied (Completed c)) o u e st) g (λ q d. absurd d)
   after_end (heard {T} {V} {o} {u} {z} {p} {s} {k} {a} {r} e fit st t) = λ f g. ended_at_once T p o u s (Heard a) f (answers_at T s p (height_of s) (Heard a) o u e st) g (λ q d. absurd d)
+  after_end (missed {T} {V} {o} {u} {z} {p} {s} {k} {r} e fit st t) = λ f g. ended_at_once T p o u s Nobody f (answers_at T s p (height_of s) Nobody o u e st) g (λ q d. absurd d)
   after_end (answered_passed {T} {o} {u} {p} {s} {k} {r} q e fit st) = λ f g. ended_at_once T p o u s (Replied r) f (answers_at T s p (height_of s) (Replied r) o u e st) g (λ q2 d. (refl, q2, d, fits_end O T T p [] s (Replied r) fit r d))
   after_end (entered {o = o} t i e here s1 a s2 n b) = λ f g. not_some o.fate f s1.told.0 g
   after_end (entered_exiting {o = o} t i e here s1 a s2 s3) = λ f g. not_some o.fate f s1.told.0 g

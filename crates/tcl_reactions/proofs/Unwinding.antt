@@ -1,4 +1,5 @@
 -- A run that waits for an answer, where each call that is open is ended from outside.
+use Rattle.tcl_core.proofs.Callers.{or_lost_all}
 use Rattle.std.proofs.Common.{◌≡◌, ◌⊎◌, inl, inr, ℕ, zero, suc, ◌+◌, ℤ, Bool, true, false, List, [], ◌∷◌, ◌++◌, Option, Some, None, length, refl, sym, ◌∙◌, ap, subst, arith, append_assoc, append-nil}
 use Rattle.tcl_core.specs.Paths.{Path, Place, Height, rise_to}
 use Rattle.tcl_core.specs.Endings.{Completion, IsQuit, Meter, Reply, refusal}
@@ -8,16 +9,16 @@ use Rattle.tcl_core.specs.Endings.Reply.{Completed, Stop, Exit, Cut}
 use Rattle.tcl_core.specs.Endings.Cause.{Above}
 use Rattle.tcl_core.specs.Entries.{Entry, Said}
 use Rattle.tcl_core.specs.Entries.Answer.{Replied}
-use Rattle.tcl_core.specs.Entries.Said.{Finished, Told}
+use Rattle.tcl_core.specs.Entries.Said.{Finished, Told, Missed}
 use Rattle.tcl_core.specs.Execution.{event}
 use Rattle.tcl_core.specs.Lives
 use Rattle.tcl_core.specs.Lives.{begun, begun_at, copies, ended, ended_at, idle, never}
-use Rattle.tcl_core.specs.Programs.{Act, Calls_only, Deed, Prog, Table, Wait, Wrap, blocked, closes, decide, is_deep, is_spent, metered, opens, spot}
+use Rattle.tcl_core.specs.Programs.{Act, Calls_only, Deed, Prog, Table, Wait, Wrap, blocked, closes, decide, is_deep, is_spent, metered, opens, spot, or_lost}
 use Rattle.tcl_core.specs.Programs.Act.{Look, Change, Charge, Limit, LimitDepth, Make, Drop}
 use Rattle.tcl_core.specs.Programs.Prog.{done, exit, act, go, inside, call, wait}
 use Rattle.tcl_core.specs.Programs.Wrap.{Deeper, Framed}
 use Rattle.tcl_core.specs.Rules.{Derives, IsNoExit}
-use Rattle.tcl_core.specs.Rules.Derives.{completed, exited, acted, refused, unheard, went, passed, halted, wrapped, wrapped_passed, wrapped_halted, too_deep, shut, unheard_inside, called, called_passed, called_halted, unreached, called_out, unanswered, unfit, answered, heard, answered_passed, entered, entered_halted, entered_exiting, born, fallen, unfound}
+use Rattle.tcl_core.specs.Rules.Derives.{completed, exited, acted, refused, unheard, went, passed, halted, wrapped, wrapped_passed, wrapped_halted, too_deep, shut, unheard_inside, called, called_passed, called_halted, unreached, called_out, unanswered, unfit, answered, heard, missed, answered_passed, entered, entered_halted, entered_exiting, born, fallen, unfound}
 use Rattle.tcl_core.specs.Runs
 use Rattle.tcl_core.specs.Runs.{Ending, Exiting, Exits, RunsIn, Stays, Step, Waits, World, ends_call, fits, height_of, reached, returned, Enters}
 use Rattle.tcl_core.specs.Trees.{Event, Grants, Move, Node, Tree, What, at, depth_of, effect, granted}
@@ -376,7 +377,7 @@ module _ {O I : Type 0} (prog : Table O I) where
       (unwinding n x q m b (calling (y (Finished lost)) (f (Finished lost))) (after_step out p _ back s2 (after_step w p _ out s1 z)))
       (λ ms τ o k. unreached (longer w ms τ) p h down i lost y a0 (longer out ms τ) (longer back ms τ) o (Some (Cut Above)) g (st ms τ w p _ out s1) j (st ms τ out p _ back s2) k)
   unwinding n (called_out w p h down i lost y u v e g s a) q m b f z =
-      on w u p p (call h down i lost y) (wait (Some (h, i, depth_of (u.tree p))) y) v.grants (step_balanced w p (Out h down i) u s (λ k. refl) (λ k. refl)) (unwinding n a q m b f (after_step w p _ u s z))
+      on w u p p (call h down i lost y) (wait (Some (h, i, depth_of (u.tree p))) (or_lost lost y)) v.grants (step_balanced w p (Out h down i) u s (λ k. refl) (λ k. refl)) (unwinding n a q m b (or_lost_all Calls_only lost y f) (after_step w p _ u s z))
       (λ ms τ o k. called_out (longer w ms τ) p h down i lost y (longer u ms τ) o (Some (Cut Above)) g (st ms τ w p _ u s) k)
   unwinding n (unanswered w p s y g j t) q m b f z = ends_here w p s y g f j t
   unwinding n (unfit w p s y a ms g j h t) q m b f z = no_moves w a ms m j
@@ -386,6 +387,9 @@ module _ {O I : Type 0} (prog : Table O I) where
   unwinding n (heard w p s y x u v e g j t a) q m b f z =
       on w u p p (wait s y) (y (Told x)) v.grants (step_balanced w p _ u t (λ k. refl) (λ k. refl)) (unwinding n a q m b (calling (y (Told x)) (goes_on s y (Told x) f)) (after_step w p _ u t z))
       (λ ms τ o k. heard (longer w ms τ) p s y x (longer u ms τ) o (Some (Cut Above)) g j (st ms τ w p _ u t) k)
+  unwinding n (missed w p s y u v e g j t a) q m b f z =
+      on w u p p (wait s y) (y Missed) v.grants (step_balanced w p _ u t (λ k. refl) (λ k. refl)) (unwinding n a q m b (calling (y Missed) (goes_on s y Missed f)) (after_step w p _ u t z))
+      (λ ms τ o k. missed (longer w ms τ) p s y (longer u ms τ) o (Some (Cut Above)) g j (st ms τ w p _ u t) k)
   unwinding n (answered_passed w p s y r u l g j t) q m b f z = some_none r q
   unwinding n (entered w p s y t i inner left told v r e g here s1 x s2 l a) q m b f z =
       on w told p p (wait s y) (wait s y) v.grants (visit_balanced w inner left told None t i r s1 (run_balanced x) s2) (unwinding n a q m b f (after_step left t _ told s2 (later x (after_step w t _ inner s1 z))))

@@ -5,8 +5,8 @@ use Rattle.tcl_core.specs.Paths.{Path, Place, Height, rise_to}
 use Rattle.tcl_core.specs.Endings.{Completion, Reply, IsQuit, Cause}
 use Rattle.tcl_core.specs.Endings.Reply.{Completed, Stop, Exit, Cut}
 use Rattle.tcl_core.specs.Entries.{Answer, Entry, HostReply, Said}
-use Rattle.tcl_core.specs.Entries.Answer.{Replied, Heard}
-use Rattle.tcl_core.specs.Entries.Said.{Finished, Told}
+use Rattle.tcl_core.specs.Entries.Answer.{Replied, Heard, Nobody}
+use Rattle.tcl_core.specs.Entries.Said.{Finished, Told, Missed}
 use Rattle.tcl_core.specs.Trees.{Tree, Event, Move, Grants, where_none, Node}
 use Rattle.tcl_core.specs.Trees.What.{In, Done, Back, Unfound}
 use Rattle.tcl_core.specs.Trees.Move.{Born, Fall, Enter, Come}
@@ -75,6 +75,19 @@ module _ {O I : Type 0} (prog : Table O I) where
   heard_by T V o u z p s k a r e fit (waits n l h q) m next_one = absurd h
   heard_by T V o u z p s k a r e fit (unfits b ms n l f h q) m next_one = absurd h
   heard_by T V o u z p s k a r e fit (passes f n h q) m next_one = absurd h
+
+  pub missed_by : (T V : Tree O) (o u z : Player O) (p : Place) (s : Wait) (k : Said → Prog O I) (r : Reply) → rise_to (height_of s) p ≡ None → fits T p s (Come Nobody) ≡ true → Answers T p o s Nobody u →
+      Calm (last_end o) → (u.fate ≡ None → Calm (last_end u) → Result prog T u p (k Missed) V z r) → Result prog T o p (wait s k) V z r
+  missed_by T V o u z p s k r e fit (reads ms n l f g q) m next_one =
+      let w : Way 0 o (event p (Back (height_of s) Nobody) ∷ []) u = back_way p (height_of s) Nobody o u ms e n l g q in
+      tail prog T T V o u z p p (wait s k) (k Missed) r (event p (Back (height_of s) Nobody) ∷ []) (record {
+        way = w;
+        builds = λ y b v d x. Derives.missed (ahead T (event p (Back (height_of s) Nobody) ∷ []) y) p s k (ahead T [] y) v d e fit (next T p (Back (height_of s) Nobody) [] y) x;
+      }) (next_one w.goes_on (subst Calm (sym (same_end o u ms q)) m))
+  missed_by T V o u z p s k r e fit (ends b ms n l f g h q) m next_one = absurd h
+  missed_by T V o u z p s k r e fit (waits n l h q) m next_one = absurd h
+  missed_by T V o u z p s k r e fit (unfits b ms n l f h q) m next_one = absurd h
+  missed_by T V o u z p s k r e fit (passes f n h q) m next_one = absurd h
 
   -- THE PLAYING IS OVER AT IT
   over_leads : (T : Tree O) (o : Player O) (p : Place) (s : Wait) (k : Said → Prog O I) (f : Fate O) (a : Answer) → rise_to (height_of s) p ≡ None → fits T p s (Come a) ≡ true → o.fate ≡ None → calls f 0 ≡ 1 →

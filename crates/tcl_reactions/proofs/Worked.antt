@@ -7,18 +7,18 @@ use Rattle.tcl_core.specs.Endings.Meter.{Count}
 use Rattle.tcl_core.specs.Endings.Kind.{Full, Gone}
 use Rattle.tcl_core.specs.Endings.Reply.{Completed, Cut, Exit, Stop}
 use Rattle.tcl_core.specs.Entries.{Answer, Request}
-use Rattle.tcl_core.specs.Entries.Answer.{Replied, Heard}
+use Rattle.tcl_core.specs.Entries.Answer.{Replied, Heard, Nobody}
 use Rattle.tcl_core.specs.Entries.Entry.{AskHost, Eval}
 use Rattle.tcl_core.specs.Entries.HostReply.{Line, TheEnd, TheRest, Fails}
 use Rattle.tcl_core.specs.Entries.Request.{Open, ReadAll, ReadLine}
-use Rattle.tcl_core.specs.Example.{Script, an_answer, child_alone, commands, finish, one_entry, child}
+use Rattle.tcl_core.specs.Example.{Script, an_answer, child_alone, commands, finish, one_entry, child, lost}
 use Rattle.tcl_core.specs.Lives.Outcome.{Finished, Waiting, Ended, Exited, Spent, Misfit}
-use Rattle.tcl_core.specs.Programs.{Deed, Prog, Table}
+use Rattle.tcl_core.specs.Programs.{Deed, Prog, Table, or_lost}
 use Rattle.tcl_core.specs.Programs.Next.{On, Off}
 use Rattle.tcl_core.specs.Programs.Prog.{wait}
 use Rattle.tcl_core.specs.Runs.{is_own}
 use Rattle.tcl_core.specs.Execution.{Crossings, Executes, event}
-use Rattle.tcl_core.specs.Execution.Executes.{completed, exited, acted, refused, wrapped, wrapped_passed, called_out, answered, answered_passed, unfound}
+use Rattle.tcl_core.specs.Execution.Executes.{completed, exited, acted, refused, wrapped, wrapped_passed, called_out, answered, missed, answered_passed, unfound}
 use Rattle.tcl_core.specs.Trees.{Move, Tree, effect, Event}
 use Rattle.tcl_core.specs.Trees.Move.{Come}
 use Rattle.tcl_core.specs.Trees.What.{Changed, Charged, Nested, Refused, Unnested, Done, Out}
@@ -38,7 +38,7 @@ entered ms = record { left = ms; steps = 1; outs = []; fate = None }
 abbrev called : List (Move ℕ) → Player ℕ
 called ms = telling (entered ms) asked
 
-asks : (ms : List (Move ℕ)) (z : Player ℕ) (r : Reply) → Runs asking child_alone (called ms) (wait (Some (Some 1, Eval [], 0)) finish) child_alone z r → Runs asking child_alone (entered ms) (asking.entry (Eval [])) child_alone z r
+asks : (ms : List (Move ℕ)) (z : Player ℕ) (r : Reply) → Runs asking child_alone (called ms) (wait (Some (Some 1, Eval [], 0)) (or_lost lost finish)) child_alone z r → Runs asking child_alone (entered ms) (asking.entry (Eval [])) child_alone z r
 asks ms z r t = called_out {u = called ms} refl (record { told = refl }) t
 
 waiting : Comes_to asking one_entry 1 Waiting (asked ∷ [])
@@ -64,6 +64,21 @@ answered_so =
       player = z;
       playing = Lived.entered {U = child_alone} {V = child_alone} {u = beginner (one_entry_and (Completed (ok []))) 1} {w = entered ms} {v = y} {z = z} [] (Eval []) (Completed (ok [])) Lived.begun refl refl refl (refl, refl, refl)
           (asks ms y (Completed (ok [])) (answered {u = y} refl refl (record { told = reads [] refl refl refl tt refl }) completed)) refl;
+      is_over = tt;
+      outcome = refl;
+      told = refl;
+    }
+
+missed_so : Comes_to asking (one_entry ++ Come Nobody ∷ []) 1 Finished (asked ∷ event [] (Done None (Completed lost)) ∷ [])
+missed_so =
+    let ms : List (Move ℕ) = Come Nobody ∷ [] in
+    let y : Player ℕ = called [] in
+    let z : Player ℕ = telling y (event [] (Done None (Completed lost))) in
+    record {
+      last = child_alone;
+      player = z;
+      playing = Lived.entered {U = child_alone} {V = child_alone} {u = beginner (one_entry ++ Come Nobody ∷ []) 1} {w = entered ms} {v = y} {z = z} [] (Eval []) (Completed lost) Lived.begun refl refl refl (refl, refl, refl)
+          (asks ms y (Completed lost) (missed {u = y} refl refl (record { told = reads [] refl refl refl tt refl }) completed)) refl;
       is_over = tt;
       outcome = refl;
       told = refl;
@@ -207,7 +222,7 @@ unfound_first =
     served_after (stray_entry ++ one_entry) (nobody_there ∷ []) (Lived.unfound {u = o} {z = ready (nobody_there ∷ [])} (child ∷ []) (Eval []) Lived.begun refl refl refl (ready [], (refl, refl, refl), refl)) refl refl
 
 pub worked_playings : WorkedPlayings
-worked_playings = record { served = served; spent = spent; uncalled = uncalled; answered = answered_so; waiting = waiting; ended = ended_so; unfit = no_alias (Heard TheEnd) refl; exited = leaves; unfound = unfound_first; unfound_meanwhile = unfound_meanwhile }
+worked_playings = record { served = served; spent = spent; uncalled = uncalled; answered = answered_so; waiting = waiting; ended = ended_so; unfit = no_alias (Heard TheEnd) refl; exited = leaves; missed = missed_so; unfound = unfound_first; unfound_meanwhile = unfound_meanwhile }
 
 pub worked_misfits : WorkedMisfits
 worked_misfits = record {
@@ -220,5 +235,6 @@ worked_misfits = record {
   stopped = no_request (ReadLine []) (Replied (Stop 0 (Full Count))) refl;
   deleted = no_request (ReadLine []) (Replied (Stop 0 Gone)) refl;
   heard = no_alias (Heard (Line [])) refl;
+  missed = no_request (ReadLine []) Nobody refl;
   stopped_from_above = no_alias (Replied (Stop 1 (Full Count))) refl;
 }

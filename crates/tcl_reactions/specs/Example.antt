@@ -6,7 +6,7 @@ use Rattle.tcl_core.specs.Endings.Meter.{Count}
 use Rattle.tcl_core.specs.Endings.Kind.{Full, Gone}
 use Rattle.tcl_core.specs.Endings.Reply.{Completed, Cut, Exit, Stop}
 use Rattle.tcl_core.specs.Entries.{Answer, Request}
-use Rattle.tcl_core.specs.Entries.Answer.{Replied, Heard}
+use Rattle.tcl_core.specs.Entries.Answer.{Replied, Heard, Nobody}
 use Rattle.tcl_core.specs.Entries.Entry.{AskHost, Eval}
 use Rattle.tcl_core.specs.Entries.HostReply.{Line, TheEnd, TheRest, Fails}
 use Rattle.tcl_core.specs.Entries.Request.{Open, ReadAll, ReadLine}
@@ -83,6 +83,9 @@ pub record WorkedPlayings : Type 0 where
   pub answered : Comes_to asking (one_entry_and (Completed (ok []))) 1 Finished
       (asked ∷ done_so ∷ [])
   pub waiting : Comes_to asking one_entry 1 Waiting (asked ∷ [])
+  -- that nobody is there to answer it: it goes on by its own completion for that
+  pub missed : Comes_to asking (one_entry ++ Come Nobody ∷ []) 1 Finished
+      (asked ∷ event [] (Done None (Completed lost)) ∷ [])
   pub ended : Comes_to asking (one_entry_and (Cut Above)) 1 Ended (asked ∷ [])
   pub unfit : Comes_to asking one_entry_heard 1 Misfit (asked ∷ [])
   -- an entry that finds nobody is told so, before another one and while a call is open
@@ -126,5 +129,7 @@ pub record WorkedMisfits : Type 0 where
   -- what ends a caller that is gone, of one that isn't
   pub deleted : AnswersNoRequest (ReadLine []) (Replied (Stop 0 Gone))
   pub heard : AnswersNoAlias (Heard (Line []))
+  -- that nobody is there, of a request
+  pub missed : AnswersNoRequest (ReadLine []) Nobody
   -- a stop that names the interpreter to which the call goes up
   pub stopped_from_above : AnswersNoAlias (Replied (Stop 1 (Full Count)))
