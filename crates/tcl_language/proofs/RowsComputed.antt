@@ -179,4 +179,5 @@ rows calls = record {
   info_complete = refl;
   nobody_there = refl;
   nobody_at_the_top = refl;
+  nobody_above = refl;
 }

@@ -6,7 +6,7 @@ use Rattle.tcl_core.specs.Endings.{Reply, ok, error}
 use Rattle.tcl_core.specs.Endings.Reply.{Completed, Stop, Exit}
 use Rattle.tcl_core.specs.Endings.Meter.{Count}
 use Rattle.tcl_core.specs.Endings.Kind.{Full}
-use Rattle.tcl_core.specs.Entries.Entry.{Eval}
+use Rattle.tcl_core.specs.Entries.Entry.{Eval, SetAlias}
 use Rattle.tcl_core.specs.Programs.{Table}
 use Rattle.tcl_core.specs.Trees.{Node}
 use Rattle.tcl_text.specs.declared.integer.Integers.{Integers}
@@ -14,7 +14,7 @@ use Rattle.tcl_text.specs.declared.integer.Integers.TheVariants.{Tcl8, Tcl9}
 use Rattle.tcl_tree.specs.Own.{Own, new_own}
 use Rattle.tcl_language.specs.Instructions.{Instr}
 use Rattle.tcl_language.specs.Table.{serve}
-use Rattle.tcl_language.specs.Playing.{play, ends}
+use Rattle.tcl_language.specs.Playing.{play, ends, follow}
 
 abbrev pub root : Option ℕ → Node Own
 root limit = record {
@@ -61,6 +61,13 @@ module _ (language : Integers → Table Own Instr) where
   -- the same in the other style of integer texts
   abbrev pub Gives9 : Text → Text → Type 0
   Gives9 script text = outcome_in Tcl9 None script ≡ Some (Completed (ok text))
+
+  -- a script in an interpreter with an alias `f` that leads past its top, where nobody is, gives
+  abbrev pub GivesWithAlias : Text → Text → Type 0
+  GivesWithAlias script text = ends (follow (language Tcl8) (play (language Tcl8) 1000 (start None)
+      [] (serve Tcl8 (SetAlias (codes "f") 1 [] (codes "g" ∷ []))))
+      (λ T r. play (language Tcl8) 1000 T [] (serve Tcl8 (Eval script))))
+      ≡ Some (Completed (ok text))
 
   -- an entry from outside by this path, where nobody is, is told this error
   abbrev pub FindsNobody : Path → Text → Type 0
@@ -413,3 +420,5 @@ module _ (language : Integers → Table Own Instr) where
     pub nobody_there : FindsNobody (codes "a" ∷ codes "b c" ∷ [])
         (codes "could not find interpreter \"a {b c}\"")
     pub nobody_at_the_top : FindsNobody [] (codes "could not find interpreter \"\"")
+    pub nobody_above : GivesWithAlias (codes "list [catch {f 1} m] $m")
+        (codes "1 {could not find the target of alias \"f\"}")
