@@ -10,7 +10,7 @@ use Rattle.slab.specs.Slab.{Slab, Updates}
 use Rattle.tcl_interpreter.specs.Nodes.{eased, eased_by}
 use Rattle.tcl_interpreter.specs.Paths.{Text, Path}
 use Rattle.tcl_interpreter.specs.declared.node.Node.{Node}
-use Rattle.tcl_tree.specs.Nodes.{Heap, NodeView, view_of, child_in, follow, tree_in, link_in, level_in, safe_in, children_in, IsSound, IsGuarded}
+use Rattle.tcl_tree.specs.Nodes.{Heap, NodeView, view_of, link_of, child_in, follow, tree_in, link_in, level_in, safe_in, children_in, IsSound, IsGuarded}
 use Rattle.tcl_tree.specs.Held.{Held, Keys, held_by, held_in, above_at, depth_at, gone_at, Over, HighestGone, IsInnermost, Shallows, shallower, left_by, IsOrdered}
 use Rattle.tcl_tree.specs.Held.Over.{here, up}
 use Rattle.tcl_tree.specs.Held.HighestGone.{itself, further}
@@ -89,6 +89,10 @@ module _ (h h₁ : Heap) (root key : ℕ) (b : Beside h h₁ root key) where
 
 -- ## A level of depth is taken from one that is gone
 
+pred_one : (d : ℕ) → 1 ≤ d → pred d + 1 ≡ d
+pred_one zero l = absurd (omega arith)
+pred_one (suc d) l = omega arith
+
 eased_held : (node : Node) → node.gone ≡ true → option_map held_by (eased node) ≡ shallower (Some (held_by node))
 eased_held node g = by (nat_le node.state.depth 1) ∙ ap (λ b. left_by (b && nat_le node.state.depth 1) (held_by node)) (sym g)
   where
@@ -134,7 +138,7 @@ module _ (h h₁ : Heap) (root key : ℕ) (s : IsSound h root) (g : IsGuarded h)
     where
       same_link_at : h₁ key ≡ Some (record node { state = record node.state { depth = pred node.state.depth } }) → link_in h key ≡ link_in h₁ key
       unfolding link_in
-      same_link_at f = ap (option_map Rattle.tcl_tree.specs.Nodes.link_of) is ∙ sym (ap (option_map Rattle.tcl_tree.specs.Nodes.link_of) f)
+      same_link_at f = ap (option_map link_of) is ∙ sym (ap (option_map link_of) f)
 
   pub ease_beside : Beside h h₁ root key
   ease_beside = record {
@@ -182,7 +186,7 @@ module _ (h h₁ : Heap) (root key : ℕ) (s : IsSound h root) (g : IsGuarded h)
         let one = o.used key ease_gone in
         let x = ap depth_at ease_here in
         let y = left_depth (held_in h key) (gone-there (held_in h key) ease_gone) in
-        omega arith
+        ap (λ n. n + 1) (x ∙ y) ∙ pred_one (depth_at (held_in h key)) one
       where
         left_depth : (x : Option Held) → is_some x ≡ true → depth_at (shallower x) ≡ pred (depth_at x)
         left_depth None t = refl
@@ -311,20 +315,20 @@ module _ (h h₁ : Heap) (root key : ℕ) (s : IsSound h root) (g : IsGuarded h)
 
     -- the way up from the next one is as it was
     ease_over : (a : ℕ) → Over (held_in h) a j → Over (held_in h₁) a j
-    ease_over a w = along a j (λ k. not_over_above h root o key j name above) w
+    ease_over a w = along a j (not_over_above h root o key j name above) w
       where
-        along : (a k : ℕ) → (ℕ → Over (held_in h) key k → Prim.⊥) → Over (held_in h) a k → Over (held_in h₁) a k
-        along a a n here = here
-        along a k n (up {x} {i} m e w) =
-            let other : k ≢ key = λ same. n 0 (subst (λ y. Over (held_in h) key y) (sym same) here) in
-            up m (ap above_at (ease_others k other) ∙ e) (along a i (λ z v. n 0 (up m e v)) w)
+        along : (a k : ℕ) → (Over (held_in h) key k → Prim.⊥) → Over (held_in h) a k → Over (held_in h₁) a k
+        along a k n here = here
+        along a k n (up {j = i} m e w) =
+            let other : k ≢ key = λ same. n (subst (λ y. Over (held_in h) key y) (sym same) here) in
+            up m (ap above_at (ease_others k other) ∙ e) (along a i (λ v. n (up m e v)) w)
 
     ease_over_back : (a : ℕ) → Over (held_in h₁) a j → Over (held_in h) a j
     ease_over_back a w = along a j w
       where
         along : (a k : ℕ) → Over (held_in h₁) a k → Over (held_in h) a k
-        along a a here = here
-        along a k (up {x} {i} m e w) = up m (ease_above k i m e) (along a i w)
+        along a k here = here
+        along a k (up {j = i} m e w) = up m (ease_above k i m e) (along a i w)
 
     -- the evaluation that ends is in use more deeply on the rest of the way, too
     pub ease_innermost : IsInnermost (held_in h₁) j
@@ -365,16 +369,16 @@ module _ (h h₁ : Heap) (root key : ℕ) (s : IsSound h root) (g : IsGuarded h)
 -- ## How many levels up the highest is that is gone
 
 pub highest_gone : (H : Keys) (k n : ℕ) → HighestGone H k n → gone_at (H k) ≡ true
-highest_gone H k 0 (itself {k} {j} m g a s) = g
-highest_gone H k (suc i) (further {k} {j} {i} m g a r) = g
+highest_gone H k n (itself m g a s) = g
+highest_gone H k n (further m g a r) = g
 
 pub highest_same : (H : Keys) (k n m : ℕ) → HighestGone H k n → HighestGone H k m → n ≡ m
 highest_same H k n m (itself x g a s) (itself y h b t) = refl
-highest_same H k n m (itself {k} {i} x g a s) (further {k} {j} {l} y h b r) =
+highest_same H k n m (itself {j = i} x g a s) (further {j = j} {m = l} y h b r) =
     not_gone (gone_at (H j)) (highest_gone H j l r) (ap (λ z. gone_at (H z)) (sym (same_above i j x y (sym a ∙ b)).0) ∙ s)
-highest_same H k n m (further {k} {j} {l} x g a r) (itself {k} {i} y h b t) =
+highest_same H k n m (further {j = j} {m = l} x g a r) (itself {j = i} y h b t) =
     not_gone (gone_at (H j)) (highest_gone H j l r) (ap (λ z. gone_at (H z)) (sym (same_above i j y x (sym b ∙ a)).0) ∙ t)
-highest_same H k n m (further {k} {i} {p} x g a r) (further {k} {j} {q} y h b t) =
+highest_same H k n m (further {j = i} {m = p} x g a r) (further {j = j} {m = q} y h b t) =
     ap (λ z. suc z) (highest_same H i p q r (subst (λ z. HighestGone H z q) (sym (same_above i j x y (sym a ∙ b)).0) t))
 
 -- ## Nodes

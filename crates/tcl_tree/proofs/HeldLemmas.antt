@@ -60,6 +60,14 @@ root-above h k e = by (h k) e
     by None e = refl
     by (Some node) e = same_Some _ _ e
 
+pub none_link : (h : Heap) (k : ℕ) → held_in h k ≡ None → link_in h k ≡ None
+unfolding link_in held_in
+none_link h k e = by (h k) e
+  where
+    by : (o : Option Node) → option_map held_by o ≡ None → option_map link_of o ≡ None
+    by None e = refl
+    by (Some node) e = let x : ◌≡◌ {A = Option Held} (Some (held_by node)) None = e in cc
+
 -- none above one that is there: the root
 pub above-root : (h : Heap) (k : ℕ) → is_some (held_in h k) ≡ true → above_at (held_in h k) ≡ None → link_in h k ≡ Some None
 unfolding link_in held_in
@@ -114,15 +122,7 @@ module _ (h : Heap) (root : ℕ) (s : IsSound h root) (o : IsOrdered h root) whe
     where
       by : (x : Option Held) → held_in h k ≡ x → is_some x ≡ true
       by (Some x) f = refl
-      by None f = absurd (linked h root s q k e (none-link f))
-        where
-          none-link : held_in h k ≡ None → link_in h k ≡ None
-          unfolding link_in held_in
-          none-link = inner (h k)
-            where
-              inner : (y : Option Node) → option_map held_by y ≡ None → option_map link_of y ≡ None
-              inner None f = refl
-              inner (Some y) f = let x : ◌≡◌ {A = Option Held} (Some (held_by y)) None = f in cc
+      by None f = absurd (linked h root s q k e (none_link h k f))
 
   parent_stands : (k j : ℕ) (n : Text) → child_in h j n ≡ Some k → gone_at (held_in h j) ≡ false
   parent_stands k j n c = cases (gone_at (held_in h j)) refl
@@ -173,22 +173,22 @@ module _ (h : Heap) (root : ℕ) (s : IsSound h root) (o : IsOrdered h root) whe
 
 -- what is over one is the same or is over the one above
 pub over_next : (H : Keys) (a key j : ℕ) (n : Text) → key ≢ a → above_at (H key) ≡ Some (j, n) → Over H a key → Over H a j
-over_next H a a j n other e here = absurd (other refl)
-over_next H a key j n other e (up {k} {i} m f w) = subst (λ x. Over H a x) (same_above i j m n (sym f ∙ e)).0 w
+over_next H a key j n other e here = absurd (other refl)
+over_next H a key j n other e (up {j = i} m f w) = subst (λ x. Over H a x) (same_above i j m n (sym f ∙ e)).0 w
 
 over_none : (H : Keys) (a key : ℕ) → key ≢ a → above_at (H key) ≡ None → Over H a key → Prim.⊥
-over_none H a a other e here = other refl
-over_none H a key other e (up {k} {i} m f w) = no_above (i, m) (above_at (H key)) f e
+over_none H a key other e here = other refl
+over_none H a key other e (up {j = i} m f w) = no_above (i, m) (above_at (H key)) f e
 
 -- the one above one that is over is over, too
 pub over_more : (H : Keys) (c k key : ℕ) (n : Text) → above_at (H c) ≡ Some (k, n) → Over H c key → Over H k key
-over_more H c k c n e here = up n e here
-over_more H c k key n e (up {a} {i} m f w) = up m f (over_more H c k i n e w)
+over_more H c k key n e here = up n e here
+over_more H c k key n e (up {j = i} m f w) = up m f (over_more H c k i n e w)
 
 -- The keys alone say what is above what, so where they do so alike the same is over the same.
 pub over_same : (H H₁ : Keys) → ((k : ℕ) → above_at (H₁ k) ≡ above_at (H k)) → (a key : ℕ) → Over H a key → Over H₁ a key
-over_same H H₁ same a a here = here
-over_same H H₁ same a key (up {k} {i} m f w) = up m (same key ∙ f) (over_same H H₁ same a i w)
+over_same H H₁ same a key here = here
+over_same H H₁ same a key (up {j = i} m f w) = up m (same key ∙ f) (over_same H H₁ same a i w)
 
 module _ (h : Heap) (root : ℕ) (o : IsOrdered h root) where
   over_step : (a key : ℕ) → key ≢ a → (x : Option (ℕ × Text)) → above_at (held_in h key) ≡ x
@@ -216,8 +216,8 @@ module _ (h : Heap) (root : ℕ) (o : IsOrdered h root) where
 
   -- what is over another isn't below it
   pub over_level : (a key : ℕ) → Over (held_in h) a key → level_in h a ≤ level_in h key
-  over_level a a here = omega arith
-  over_level a key (up {k} {j} n e w) = let f = o.levels key j n e in let g = over_level a j w in omega arith
+  over_level a key here = omega arith
+  over_level a key (up {j = j} n e w) = let f = o.levels key j n e in let g = over_level a j w in omega arith
 
   -- none is over the one above it
   pub not_over_above : (key j : ℕ) (n : Text) → above_at (held_in h key) ≡ Some (j, n) → Over (held_in h) key j → Prim.⊥
@@ -226,8 +226,8 @@ module _ (h : Heap) (root : ℕ) (o : IsOrdered h root) where
   module _ (s : IsSound h root) where
     -- what is over one in the tree are those at the paths above
     pub over_path : (p : Path) (a key : ℕ) → follow h root p ≡ Some key → Over (held_in h) a key → (q : Path) × (is_above q p ≡ true) × (follow h root q ≡ Some a)
-    over_path p a a at here = (p, above_self p, at)
-    over_path p a key at (up {k} {j} n e w) =
+    over_path p a key at here = (p, above_self p, at)
+    over_path p a key at (up {j = j} n e w) =
         let b = above_path h root s o p key j n at e in
         let r = over_path b.0 a j b.2 w in
         (r.0, ap (is_above r.0) b.1 ∙ above_longer r.0 b.0 n r.1, r.2)

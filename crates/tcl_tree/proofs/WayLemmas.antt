@@ -41,8 +41,8 @@ module _ (h : Heap) (root : ℕ) (s : IsSound h root) (o : IsOrdered h root) whe
       below n (link-above h k l.parent n (s.down l.parent n k l.child)) (ih l.parent l.front))
 
   pub stood_follow : (p : Path) (k : ℕ) → StoodAt (held_in h) k p → gone_at (held_in h k) ≡ false → follow h root p ≡ Some k
-  stood_follow [] k (top there none) stands = follow-nil h root ∙ ap Some (sym (s.alone k (above-root h k there none)))
-  stood_follow p k (below {x} {j} {q} n e w) stands =
+  stood_follow p k (top there none) stands = follow-nil h root ∙ ap Some (sym (s.alone k (above-root h k there none)))
+  stood_follow p k (below {j = j} {p = q} n e w) stands =
       let c = o.child k j n stands e in
       then_child h root q n j (stood_follow q j w (parent j n c)) ∙ c
     where
@@ -55,19 +55,19 @@ module _ (h : Heap) (root : ℕ) (s : IsSound h root) (o : IsOrdered h root) whe
 
 -- the last step of the names is that of the key
 pub stood_last : (H : Keys) (k j : ℕ) (n : Text) (p : Path) → above_at (H k) ≡ Some (j, n) → StoodAt H k p → (q : Path) × (p ≡ q ++ n ∷ []) × StoodAt H j q
-stood_last H k j n [] e (top there none) = no_above (j, n) (above_at (H k)) e none
-stood_last H k j n p e (below {x} {i} {q} m f w) =
+stood_last H k j n p e (top there none) = no_above (j, n) (above_at (H k)) e none
+stood_last H k j n p e (below {j = i} {p = q} m f w) =
     let same = same_above i j m n (sym f ∙ e) in
     (q, ap (λ t. q ++ t ∷ []) same.1, subst (λ y. StoodAt H y q) same.0 w)
 
 -- the same keys on the way up, the same names
 pub stood_along : (H H₁ : Keys) (k : ℕ) (p : Path) → ((a : ℕ) → Over H a k → (above_at (H₁ a) ≡ above_at (H a)) × (is_some (H a) ≡ true → is_some (H₁ a) ≡ true)) → StoodAt H k p → StoodAt H₁ k p
-stood_along H H₁ k [] same (top there none) = top ((same k here).1 there) ((same k here).0 ∙ none)
-stood_along H H₁ k p same (below {x} {j} {q} n e w) = below n ((same k here).0 ∙ e) (stood_along H H₁ j q (λ a v. same a (up n e v)) w)
+stood_along H H₁ k p same (top there none) = top ((same k here).1 there) ((same k here).0 ∙ none)
+stood_along H H₁ k p same (below {j = j} {p = q} n e w) = below n ((same k here).0 ∙ e) (stood_along H H₁ j q (λ a v. same a (up n e v)) w)
 
 pub highest_along : (H H₁ : Keys) (k m : ℕ) → ((a : ℕ) → Over H a k → (above_at (H₁ a) ≡ above_at (H a)) × (gone_at (H₁ a) ≡ gone_at (H a))) → HighestGone H k m → HighestGone H₁ k m
-highest_along H H₁ k 0 same (itself {x} {j} n g e f) = itself n ((same k here).1 ∙ g) ((same k here).0 ∙ e) ((same j (up n e here)).1 ∙ f)
-highest_along H H₁ k (suc i) same (further {x} {j} {i} n g e w) = further n ((same k here).1 ∙ g) ((same k here).0 ∙ e) (highest_along H H₁ j i (λ a v. same a (up n e v)) w)
+highest_along H H₁ k m same (itself {j = j} n g e f) = itself n ((same k here).1 ∙ g) ((same k here).0 ∙ e) ((same j (up n e here)).1 ∙ f)
+highest_along H H₁ k m same (further {j = j} {m = i} n g e w) = further n ((same k here).1 ∙ g) ((same k here).0 ∙ e) (highest_along H H₁ j i (λ a v. same a (up n e v)) w)
 
 -- ## Where nothing is in progress
 
@@ -106,18 +106,18 @@ idle_low T (x ∷ xs) n e [] above low = by (idle_up (λ p. T (x ∷ p)) xs) (na
 idle_low T (x ∷ xs) n e (y ∷ q) above low = elim (text_cases y x) [
   | inl w ↦
       let rest : is_above q xs ≡ true = sym (ap (λ b. b && is_above q xs) w.1) ∙ above in
-      ap (λ z. depth_of (T (z ∷ q))) w.0 ∙ by (idle_up (λ p. T (x ∷ p)) xs) refl (nat_eq (depth_of (T [])) 0) e rest
+      ap (λ z. depth_of (T (z ∷ q))) w.0 ∙ by (idle_up (λ p. T (x ∷ p)) xs) (nat_eq (depth_of (T [])) 0) e (λ m f l. idle_low (λ p. T (x ∷ p)) xs m f q rest l)
   | inr w ↦ let z : false ≡ true = sym (ap (λ b. b && is_above q xs) w.1) ∙ above in absurd (cc)
 ]
   where
-    by : (o : Option ℕ) → idle_up (λ p. T (x ∷ p)) xs ≡ o → (b : Bool) → onward o (length xs) b ≡ Some n → is_above q xs ≡ true → depth_of (T (x ∷ q)) ≡ 0
-    by None f b e rest = let z : ◌≡◌ {A = Option ℕ} None (Some n) = e in absurd (cc)
-    by (Some m) f false e rest = let z = same_Some _ _ e in idle_low (λ p. T (x ∷ p)) xs m f q rest (omega arith)
-    by (Some m) f true e rest = cases (nat_le (length xs) m) refl (same_Some _ _ e)
+    by : (o : Option ℕ) (b : Bool) → onward o (length xs) b ≡ Some n → ((m : ℕ) → o ≡ Some m → length xs ≤ length q + m → depth_of (T (x ∷ q)) ≡ 0) → depth_of (T (x ∷ q)) ≡ 0
+    by None b e ih = let z : ◌≡◌ {A = Option ℕ} None (Some n) = e in absurd (cc)
+    by (Some m) false e ih = let z = same_Some _ _ e in ih m refl (omega arith)
+    by (Some m) true e ih = cases (nat_le (length xs) m) refl (same_Some _ _ e)
       where
         cases : (t : Bool) → nat_le (length xs) m ≡ t → grown t m ≡ n → depth_of (T (x ∷ q)) ≡ 0
-        cases true g e = let l : length xs ≤ m = grind (arith, nat_tests) in idle_low (λ p. T (x ∷ p)) xs m f q rest (omega arith)
-        cases false g e = idle_low (λ p. T (x ∷ p)) xs m f q rest (omega arith)
+        cases true g e = let l : length xs ≤ m = grind (arith, nat_tests) in ih m refl (omega arith)
+        cases false g e = ih m refl (omega arith)
 
 -- ## From the one whose evaluation ends to one that stands
 
@@ -176,10 +176,10 @@ climbed_more H H₁ T p key j n g e same c =
     by : (m : ℕ) → HighestGone H key m → (front : Path) → length c.front ≡ length front + 1 → ((q : Path) → is_above q p ≡ true → length c.front ≤ length q + m → depth_of (T q) ≡ 0)
         → ((gone_at (H₁ j) ≡ false) × ((q : Path) → is_above q p ≡ true → length front < length q → depth_of (T q) ≡ 0))
         ⊎ ((m : ℕ) × HighestGone H₁ j m × ((q : Path) → is_above q p ≡ true → length front ≤ length q + m → depth_of (T q) ≡ 0))
-    by 0 (itself {x} {i} y a b f) front longer low =
+    by m (itself {j = i} y a b f) front longer low =
         let is = same_above i j y n (sym b ∙ e) in
         inl (ap gone_at (same j here) ∙ ap (λ z. gone_at (H z)) (sym is.0) ∙ f, λ q above l. low q above (omega arith))
-    by (suc k) (further {x} {i} {k} y a b f) front longer low =
+    by m (further {j = i} {m = k} y a b f) front longer low =
         let is = same_above i j y n (sym b ∙ e) in
         inr (k, highest_along H H₁ j k (λ a w. (ap above_at (same a w), ap gone_at (same a w))) (subst (λ z. HighestGone H z k) is.0 f), λ q above l. low q above (omega arith))
 
