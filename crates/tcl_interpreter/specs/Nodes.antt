@@ -1,6 +1,6 @@
 -- What a contract sees of an interpreter, and of one more or one less in a table.
 use Rattle.std.specs.Prelude.{◌≡◌, ◌≢◌, ℕ, suc, pred, Bool, true, false, cond, List, [], ◌∷◌, ◌++◌}
-use Rattle.std.specs.Prelude.{Option, Some, None, ◌==◌, nat_le}
+use Rattle.std.specs.Prelude.{Option, Some, None, ◌==◌, ◌<◌, ◌≤◌}
 use Rattle.std.specs.Option.{option_map}
 use Rattle.std.specs.Str.{bytes_eq}
 use Rattle.indexmap.specs.IndexMap.{get, keys}
@@ -161,11 +161,17 @@ pub record Departed (s t : Slab Node) (key : ℕ) (node : Node) (pk : ℕ) : Typ
   pub out : Detached s middle key node pk
   pub left : slab.Updates middle t key (left_of node)
 
--- a node with one level of depth less; nothing where that was its last
-abbrev pub eased_by : Bool → Node → Option Node
-eased_by true node = None
-eased_by false node = Some (record node
-    { state = record node.state { depth = pred node.state.depth } })
+-- a node with one level of depth less, in the same place
+pub record IsEased (old new : Node) : Type 0 where
+  pub parent : new.parent ≡ old.parent
+  pub name : new.name ≡ old.name
+  pub level : new.level ≡ old.level
+  pub children : new.children.entries ≡ old.children.entries
+  pub gone : new.gone ≡ old.gone
+  pub depth : new.state.depth ≡ pred old.state.depth
 
-abbrev pub eased : Node → Option Node
-eased node = eased_by (nat_le node.state.depth 1) node
+-- t is s with that under the key; with nothing where that was the node's last level
+pub record Eased (s t : Slab Node) (key : ℕ) (node : Node) : Type 0 where
+  pub last : node.state.depth ≤ 1 → slab.get t key ≡ None
+  pub less : 1 < node.state.depth → (new : Node) × (slab.get t key ≡ Some new) × IsEased node new
+  pub others : (k : ℕ) → k ≢ key → slab.get t k ≡ slab.get s k

@@ -2,11 +2,11 @@
 ghost use Rattle.std.specs.Prelude.{◌≡◌, ◌≢◌, ◌<◌, ◌++◌, ◌∷◌, [], List, ℕ, cond, Some, None};
 ghost use Rattle.std.specs.Prelude.{OnOk, IfOk, IfSome, IsSome};
 ghost use Rattle.std.specs.Str.{bytes_eq};
-ghost use Rattle.slab.specs.Slab.{get, HasRoomFor, Updates};
+ghost use Rattle.slab.specs.Slab.{get, HasRoomFor};
 ghost use Rattle.indexmap.specs.IndexMap as map;
 ghost use Rattle.tcl_interpreter.specs.declared.node.Node.{Node};
 ghost use Rattle.tcl_interpreter.specs.Nodes.{SameTable, Attached, Joined, Detached, shape_of};
-ghost use Rattle.tcl_interpreter.specs.Nodes.{Departed, view_of, with_child, without_child, eased};
+ghost use Rattle.tcl_interpreter.specs.Nodes.{Departed, Eased, view_of, with_child, without_child};
 
 use crate::command::Command;
 use crate::node::Node;
@@ -173,7 +173,7 @@ pub fn detach(nodes: &mut Slab<Node>, key: usize, parent: usize)
 pub fn ease(nodes: &mut Slab<Node>, key: usize)
     requires there { IsSome (get nodes.old key) }
     ensures eased { (node : Node) → get nodes.old key ≡ Some node →
-        Updates nodes.old nodes.new key (eased node) }
+        Eased nodes.old nodes.new key node }
 {
     let Some(node) = nodes.get(key) else {
         unreachable!();

@@ -59,7 +59,7 @@ nothing_left t idle k = by (gone_at (held_of t k)) refl
 
 -- ## Up to there nothing is in progress, and above it something
 
-idle_there : (q : Path) (T : Path → Option NodeView) (n : ℕ) → n ≤ length q → ((p z : Path) → q ≡ p ++ z → length z ≤ n → depth_of (T p) ≡ 0) → ((p z : Path) → q ≡ p ++ z → n < length z → 1 ≤ depth_of (T p)) → idle_up T q ≡ Some n
+pub idle_there : (q : Path) (T : Path → Option NodeView) (n : ℕ) → n ≤ length q → ((p z : Path) → q ≡ p ++ z → length z ≤ n → depth_of (T p) ≡ 0) → ((p z : Path) → q ≡ p ++ z → n < length z → 1 ≤ depth_of (T p)) → idle_up T q ≡ Some n
 idle_there [] T n le f g =
     let d : depth_of (T []) ≡ 0 = f [] [] refl (omega arith) in
     let e : nat_eq (depth_of (T [])) 0 ≡ true = grind (arith, nat_tests) in

@@ -5,9 +5,9 @@ use Rattle.std.specs.Option.{option_and_then, option_map}
 use Rattle.std.proofs.lemmas.Bool.{cases_eq}
 use Rattle.std.proofs.lemmas.Bool.Decides.{nat_tests}
 use Rattle.std.proofs.lemmas.Option.{same_Some}
-use Rattle.slab.specs.Slab as slab
-use Rattle.slab.specs.Slab.{Slab, Updates}
-use Rattle.tcl_interpreter.specs.Nodes.{eased, eased_by}
+use Rattle.std.specs.Map.{keys_of, lookup}
+use Rattle.std.specs.Str.{bytes_eq}
+use Rattle.tcl_interpreter.specs.Nodes.{IsEased}
 use Rattle.tcl_interpreter.specs.Paths.{Text, Path}
 use Rattle.tcl_interpreter.specs.declared.node.Node.{Node}
 use Rattle.tcl_tree.specs.Nodes.{Heap, NodeView, view_of, link_of, child_in, follow, tree_in, link_in, level_in, safe_in, children_in, IsSound, IsGuarded}
@@ -15,7 +15,7 @@ use Rattle.tcl_tree.specs.Held.{Held, Keys, held_by, held_in, above_at, depth_at
 use Rattle.tcl_tree.specs.Held.Over.{here, up}
 use Rattle.tcl_tree.specs.Held.HighestGone.{itself, further}
 use Rattle.tcl_tree.proofs.HeapLemmas.{follow_along, tree-at, tree-none}
-use Rattle.tcl_tree.proofs.StepLemmas.{child-at, child-eq, child-none, link-none, link-eq, level-eq, level-none, safe-eq, children-at, children-eq, children-none, level-at}
+use Rattle.tcl_tree.proofs.StepLemmas.{child-at, child-eq, child-none, link-at, link-none, link-eq, level-eq, level-none, safe-eq, children-at, children-eq, children-none, level-at}
 use Rattle.tcl_interpreter.specs.declared.node.Meter.TheVariants.{Back}
 use Rattle.tcl_tree.proofs.DepthLemmas.{with_depth, stepped}
 use Rattle.tcl_tree.proofs.HeldLemmas.{above-root, held-at, held-eq, held-none, held-some, no_above, not_gone, same_above, gone-there, above-there, above-link, over_next, over_none, over_same, over_cases, not_over_above, over_more, follow_stands}
@@ -93,38 +93,53 @@ pred_one : (d : ℕ) → 1 ≤ d → pred d + 1 ≡ d
 pred_one zero l = absurd (omega arith)
 pred_one (suc d) l = omega arith
 
-eased_held : (node : Node) → node.gone ≡ true → option_map held_by (eased node) ≡ shallower (Some (held_by node))
-eased_held node g = by (nat_le node.state.depth 1) ∙ ap (λ b. left_by (b && nat_le node.state.depth 1) (held_by node)) (sym g)
+shallow_low : (x : Held) → x.gone ≡ true → x.depth ≤ 1 → shallower (Some x) ≡ None
+shallow_low x g l =
+    let test : nat_le x.depth 1 ≡ true = grind (arith, nat_tests) in
+    (λ i. left_by (g i && test i) x)
+
+shallow_high : (x : Held) → 1 < x.depth → shallower (Some x) ≡ Some (record x { depth = pred x.depth })
+shallow_high x l =
+    let test : nat_le x.depth 1 ≡ false = grind (arith, nat_tests) in
+    ap (λ b. left_by (x.gone && b) x) test ∙ by x.gone
   where
-    by : (b : Bool) → option_map held_by (eased_by b node) ≡ left_by (true && b) (held_by node)
+    by : (b : Bool) → left_by (b && false) x ≡ Some (record x { depth = pred x.depth })
     by true = refl
     by false = refl
 
+split : (d : ℕ) → (d ≤ 1) ⊎ (1 < d)
+split d = grind arith
+
 module _ (h h₁ : Heap) (root key : ℕ) (s : IsSound h root) (g : IsGuarded h) (o : IsOrdered h root) (node : Node) (is : h key ≡ Some node) (gone : node.gone ≡ true)
     (j : ℕ) (name : Text) (above : above_at (held_in h key) ≡ Some (j, name))
-    (changed : h₁ key ≡ eased node) (others : (k : ℕ) → k ≢ key → h₁ k ≡ h k) where
+    (last : node.state.depth ≤ 1 → h₁ key ≡ None) (less : 1 < node.state.depth → (new : Node) × (h₁ key ≡ Some new) × IsEased node new) (others : (k : ℕ) → k ≢ key → h₁ k ≡ h k) where
   ease_gone : gone_at (held_in h key) ≡ true
   ease_gone = ap gone_at (held-at h key node is) ∙ gone
 
+  -- what is left under the key: nothing, or the same but for its depth
+  ease_cases : (h₁ key ≡ None) ⊎ ((new : Node) × (h₁ key ≡ Some new) × IsEased node new)
+  ease_cases = elim (split node.state.depth) [
+    | inl l ↦ inl (last l)
+    | inr l ↦ inr (less l)
+  ]
+
   pub ease_here : held_in h₁ key ≡ shallower (held_in h key)
-  unfolding held_in
-  ease_here = ap (option_map held_by) changed ∙ eased_held node gone ∙ ap shallower (sym (held-at h key node is))
+  ease_here = elim (split node.state.depth) [
+    | inl l ↦ held-none h₁ key (last l) ∙ sym (ap shallower (held-at h key node is) ∙ shallow_low (held_by node) gone l)
+    | inr l ↦
+        let w = less l in
+        held-at h₁ key w.0 w.1
+        ∙ (λ i. Some (record { above = option_map (λ k. (k, w.2.name i)) (w.2.parent i); depth = w.2.depth i; gone = w.2.gone i }))
+        ∙ sym (ap shallower (held-at h key node is) ∙ shallow_high (held_by node) l)
+  ]
 
   pub ease_others : (k : ℕ) → k ≢ key → held_in h₁ k ≡ held_in h k
   ease_others k other = held-eq h h₁ k (others k other)
 
-  -- what is left under the key: nothing, or the same but for its depth
-  ease_cases : (h₁ key ≡ None) ⊎ (h₁ key ≡ Some (record node { state = record node.state { depth = pred node.state.depth } }))
-  ease_cases = by (nat_le node.state.depth 1) changed
-    where
-      by : (b : Bool) → h₁ key ≡ eased_by b node → (h₁ key ≡ None) ⊎ (h₁ key ≡ Some (record node { state = record node.state { depth = pred node.state.depth } }))
-      by true e = inl e
-      by false e = inr e
-
   ease_bare : (n : Text) → child_in h₁ key n ≡ None
   ease_bare n = elim ease_cases [
     | inl e ↦ child-none h₁ key n e
-    | inr e ↦ child-at h₁ key n _ e ∙ sym (child-at h key n node is) ∙ o.bare key n ease_gone
+    | inr e ↦ child-at h₁ key n e.0 e.1 ∙ ap (lookup (bytes_eq n)) e.2.children ∙ sym (child-at h key n node is) ∙ o.bare key n ease_gone
   ]
 
   ease_no_root : link_in h₁ key ≢ Some None
@@ -132,13 +147,10 @@ module _ (h h₁ : Heap) (root key : ℕ) (s : IsSound h root) (g : IsGuarded h)
     | inl f ↦ let x : ◌≡◌ {A = Option (Option (ℕ × Text))} None (Some None) = sym (link-none h₁ key f) ∙ e in absurd (cc)
     | inr f ↦
         let was = above-link h key j name above in
-        let x : ◌≡◌ {A = Option (Option (ℕ × Text))} (Some (Some (j, name))) (Some None) = sym was ∙ same_link_at f ∙ e in
+        let same : link_in h key ≡ link_in h₁ key = link-at h key node is ∙ (λ i. Some (option_map (λ k. (k, (sym f.2.name) i)) ((sym f.2.parent) i))) ∙ sym (link-at h₁ key f.0 f.1) in
+        let x : ◌≡◌ {A = Option (Option (ℕ × Text))} (Some (Some (j, name))) (Some None) = sym was ∙ same ∙ e in
         absurd (cc)
   ]
-    where
-      same_link_at : h₁ key ≡ Some (record node { state = record node.state { depth = pred node.state.depth } }) → link_in h key ≡ link_in h₁ key
-      unfolding link_in
-      same_link_at f = ap (option_map link_of) is ∙ sym (ap (option_map link_of) f)
 
   pub ease_beside : Beside h h₁ root key
   ease_beside = record {
@@ -150,11 +162,11 @@ module _ (h h₁ : Heap) (root key : ℕ) (s : IsSound h root) (g : IsGuarded h)
     no_root = ease_no_root;
     fits = elim ease_cases [
       | inl e ↦ let x = level-none h₁ key e in omega arith
-      | inr e ↦ let x = level-at h₁ key _ e in let y = level-at h key node is in let z = s.fits key in omega arith
+      | inr e ↦ let x = level-at h₁ key e.0 e.1 in let u = e.2.level in let y = level-at h key node is in let z = s.fits key in omega arith
     ];
     few = elim ease_cases [
       | inl e ↦ let x = children-none h₁ key e in omega arith
-      | inr e ↦ let x = children-at h₁ key _ e in let y = children-at h key node is in let z = g.few key in omega (arith, x, y, z)
+      | inr e ↦ let x = children-at h₁ key e.0 e.1 ∙ ap (λ es. length (keys_of es)) e.2.children in let y = children-at h key node is in let z = g.few key in omega (arith, x, y, z)
     ];
   }
 
@@ -219,7 +231,7 @@ module _ (h h₁ : Heap) (root key : ℕ) (s : IsSound h root) (g : IsGuarded h)
     ease_level : is_some (held_in h₁ key) ≡ true → level_in h₁ key ≡ level_in h key
     ease_level t = elim ease_cases [
       | inl e ↦ not_gone (is_some (held_in h₁ key)) t (ap (λ x. is_some x) (held-none h₁ key e))
-      | inr e ↦ level-at h₁ key _ e ∙ sym (level-at h key node is)
+      | inr e ↦ level-at h₁ key e.0 e.1 ∙ e.2.level ∙ sym (level-at h key node is)
     ]
 
     pub ease_ordered : IsOrdered h₁ root
@@ -285,9 +297,9 @@ module _ (h h₁ : Heap) (root key : ℕ) (s : IsSound h root) (g : IsGuarded h)
         still : (c : ℕ) → c ≡ key → is_some (held_in h₁ c) ≡ true → gone_at (held_in h₁ c) ≡ true
         still c same t = ap (λ i. gone_at (held_in h₁ i)) same ∙ by ease_cases
           where
-            by : (h₁ key ≡ None) ⊎ (h₁ key ≡ Some (record node { state = record node.state { depth = pred node.state.depth } })) → gone_at (held_in h₁ key) ≡ true
+            by : (h₁ key ≡ None) ⊎ ((new : Node) × (h₁ key ≡ Some new) × IsEased node new) → gone_at (held_in h₁ key) ≡ true
             by (inl e) = not_gone (is_some (held_in h₁ key)) (ap (λ i. is_some (held_in h₁ i)) (sym same) ∙ t) (ap (λ x. is_some x) (held-none h₁ key e))
-            by (inr e) = ap gone_at (held-at h₁ key _ e) ∙ gone
+            by (inr e) = ap gone_at (held-at h₁ key e.0 e.1) ∙ e.2.gone ∙ gone
 
         level_of : (c : ℕ) → is_some (held_in h₁ c) ≡ true → level_in h₁ c ≡ level_in h c
         level_of c t = elim (cases_eq c key) [

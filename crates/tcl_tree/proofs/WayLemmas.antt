@@ -69,6 +69,41 @@ pub highest_along : (H H₁ : Keys) (k m : ℕ) → ((a : ℕ) → Over H a k �
 highest_along H H₁ k m same (itself {j = j} n g e f) = itself n ((same k here).1 ∙ g) ((same k here).0 ∙ e) ((same j (up n e here)).1 ∙ f)
 highest_along H H₁ k m same (further {j = j} {m = i} n g e w) = further n ((same k here).1 ∙ g) ((same k here).0 ∙ e) (highest_along H H₁ j i (λ a v. same a (up n e v)) w)
 
+-- no more is gone than was on the way up
+pub highest_bound : (H : Keys) (k n : ℕ) (p : Path) → HighestGone H k n → StoodAt H k p → n ≤ length p
+highest_bound H k n p (itself y g e f) w = omega arith
+highest_bound H k n p (further {j = j} {m = i} y g e r) w =
+    let l = stood_last H k j y p e w in
+    let b = highest_bound H j i l.0 r l.2 in
+    let x = ap length l.1 ∙ length-append l.0 (y ∷ []) in
+    omega arith
+
+-- above one that stands is one that stands
+pub above_stands : (h : Heap) (root : ℕ) → IsOrdered h root → (k j : ℕ) (n : Text) → gone_at (held_in h k) ≡ false → above_at (held_in h k) ≡ Some (j, n) → gone_at (held_in h j) ≡ false
+above_stands h root o k j n stands e = by (gone_at (held_in h j)) refl
+  where
+    by : (b : Bool) → gone_at (held_in h j) ≡ b → gone_at (held_in h j) ≡ false
+    by false f = f
+    by true f = let x : ◌≡◌ {A = Option ℕ} None (Some k) = sym (o.bare j n f) ∙ o.child k j n stands e in absurd (cc)
+
+-- of one that is gone there is a highest above it
+highest_step : (h : Heap) (root : ℕ) → IsSound h root → IsOrdered h root → (k : ℕ) → gone_at (held_in h k) ≡ true → (a : Option (ℕ × Text)) → above_at (held_in h k) ≡ a
+    → ((j : ℕ) (n : Text) → above_at (held_in h k) ≡ Some (j, n) → gone_at (held_in h j) ≡ true → (m : ℕ) × HighestGone (held_in h) j m) → (m : ℕ) × HighestGone (held_in h) k m
+highest_step h root s o k g None e ih =
+    not_gone (gone_at (held_in h k)) g (ap (λ i. gone_at (held_in h i)) (s.alone k (above-root h k (gone-there (held_in h k) g) e)) ∙ o.root_stands)
+highest_step h root s o k g (Some a) e ih = by (gone_at (held_in h a.0)) refl
+  where
+    by : (b : Bool) → gone_at (held_in h a.0) ≡ b → (m : ℕ) × HighestGone (held_in h) k m
+    by false f = (0, itself a.1 g e f)
+    by true f = let r = ih a.0 a.1 e f in (suc r.0, further a.1 g e r.1)
+
+highest_within : (h : Heap) (root : ℕ) → IsSound h root → IsOrdered h root → (l k : ℕ) → level_in h k ≡ l → gone_at (held_in h k) ≡ true → (m : ℕ) × HighestGone (held_in h) k m
+highest_within h root s o zero k e g = highest_step h root s o k g (above_at (held_in h k)) refl (λ j n a f. let x = o.levels k j n a in absurd (omega arith))
+highest_within h root s o (suc l) k e g = highest_step h root s o k g (above_at (held_in h k)) refl (λ j n a f. highest_within h root s o l j (let x = o.levels k j n a in omega arith) f)
+
+pub some_highest : (h : Heap) (root : ℕ) → IsSound h root → IsOrdered h root → (k : ℕ) → gone_at (held_in h k) ≡ true → (m : ℕ) × HighestGone (held_in h) k m
+some_highest h root s o k g = highest_within h root s o (level_in h k) k refl g
+
 -- ## Where nothing is in progress
 
 idle_bound : (T : Path → Option NodeView) (p : Path) (n : ℕ) → idle_up T p ≡ Some n → n ≤ length p

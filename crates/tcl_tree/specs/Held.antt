@@ -117,6 +117,13 @@ pub record Gains (H H₁ : Keys) : Type 0 where
   pub kept : (k : ℕ) (x : Held) → H k ≡ Some x → H₁ k ≡ Some x
   pub idle : (k : ℕ) → H k ≡ None → (depth_at (H₁ k) ≡ 0) × (gone_at (H₁ k) ≡ false)
 
+-- Who is in use stays so, under its key, as deeply, and below the same one; who is gone stays gone;
+-- and in whom nothing is in progress, in that one nothing is.
+pub record Stays (H H₁ : Keys) : Type 0 where
+  pub above : (k : ℕ) → 1 ≤ depth_at (H k) → above_at (H₁ k) ≡ above_at (H k)
+  pub depth : (k : ℕ) → depth_at (H₁ k) ≡ depth_at (H k)
+  pub gone : (k : ℕ) → gone_at (H k) ≡ true → gone_at (H₁ k) ≡ true
+
 -- ## What holds of them in every table
 
 -- Who stands is the child of the one above; who is gone is nobody's, has no children, and is in

@@ -46,9 +46,9 @@ invariant_of-self c =
     let gone_node = sym (node_gone (get c.gone.self.nodes) c.gone.at node.0 node.1) ∙ g.0 in
     let u = c.ease.ensures.eased node.0 node.1 in
     record {
-      sound = beside_sound (get c.gone.self.nodes) (get c.ease.new.nodes) c.gone.self.root c.gone.at (ease_beside (get c.gone.self.nodes) (get c.ease.new.nodes) c.gone.self.root c.gone.at c.gone.self.sound c.gone.self.guarded c.gone.self.ordered node.0 node.1 gone_node c.in-Some.above g.1 g.2 u.changed u.others) c.gone.self.sound;
-      guarded = beside_guarded (get c.gone.self.nodes) (get c.ease.new.nodes) c.gone.self.root c.gone.at (ease_beside (get c.gone.self.nodes) (get c.ease.new.nodes) c.gone.self.root c.gone.at c.gone.self.sound c.gone.self.guarded c.gone.self.ordered node.0 node.1 gone_node c.in-Some.above g.1 g.2 u.changed u.others) c.gone.self.guarded;
-      ordered = ease_ordered (get c.gone.self.nodes) (get c.ease.new.nodes) c.gone.self.root c.gone.at c.gone.self.sound c.gone.self.guarded c.gone.self.ordered node.0 node.1 gone_node c.in-Some.above g.1 g.2 u.changed u.others i.innermost;
+      sound = beside_sound (get c.gone.self.nodes) (get c.ease.new.nodes) c.gone.self.root c.gone.at (ease_beside (get c.gone.self.nodes) (get c.ease.new.nodes) c.gone.self.root c.gone.at c.gone.self.sound c.gone.self.guarded c.gone.self.ordered node.0 node.1 gone_node c.in-Some.above g.1 g.2 u.last u.less u.others) c.gone.self.sound;
+      guarded = beside_guarded (get c.gone.self.nodes) (get c.ease.new.nodes) c.gone.self.root c.gone.at (ease_beside (get c.gone.self.nodes) (get c.ease.new.nodes) c.gone.self.root c.gone.at c.gone.self.sound c.gone.self.guarded c.gone.self.ordered node.0 node.1 gone_node c.in-Some.above g.1 g.2 u.last u.less u.others) c.gone.self.guarded;
+      ordered = ease_ordered (get c.gone.self.nodes) (get c.ease.new.nodes) c.gone.self.root c.gone.at c.gone.self.sound c.gone.self.guarded c.gone.self.ordered node.0 node.1 gone_node c.in-Some.above g.1 g.2 u.last u.less u.others i.innermost;
     }
 
 pub gone-smaller : goal.gone-smaller
@@ -76,12 +76,12 @@ gone-preserved c =
     record {
       marks = i.marks;
       root = i.root;
-      keys = λ q. beside_follow (get c.gone.self.nodes) (get c.ease.new.nodes) c.gone.self.root c.gone.at (ease_beside (get c.gone.self.nodes) (get c.ease.new.nodes) c.gone.self.root c.gone.at c.gone.self.sound c.gone.self.guarded c.gone.self.ordered node.0 node.1 gone_node c.in-Some.above g.1 g.2 u.changed u.others) q c.gone.self.root ∙ i.keys q;
-      tree = λ q. beside_tree (get c.gone.self.nodes) (get c.ease.new.nodes) c.gone.self.root c.gone.at (ease_beside (get c.gone.self.nodes) (get c.ease.new.nodes) c.gone.self.root c.gone.at c.gone.self.sound c.gone.self.guarded c.gone.self.ordered node.0 node.1 gone_node c.in-Some.above g.1 g.2 u.changed u.others) (ease_away (get c.gone.self.nodes) (get c.ease.new.nodes) c.gone.self.root c.gone.at c.gone.self.sound c.gone.self.guarded c.gone.self.ordered node.0 node.1 gone_node c.in-Some.above g.1 g.2 u.changed u.others) q ∙ i.tree q;
-      there = ap (λ x. is_some x) (ease_others (get c.gone.self.nodes) (get c.ease.new.nodes) c.gone.self.root c.gone.at c.gone.self.sound c.gone.self.guarded c.gone.self.ordered node.0 node.1 gone_node c.in-Some.above g.1 g.2 u.changed u.others c.in-Some.above (λ e. away (subst (λ x. Over H c.gone.at x) (sym e) here))) ∙ c.gone.self.ordered.there _ _ _ g.2;
-      innermost = ease_innermost (get c.gone.self.nodes) (get c.ease.new.nodes) c.gone.self.root c.gone.at c.gone.self.sound c.gone.self.guarded c.gone.self.ordered node.0 node.1 gone_node c.in-Some.above g.1 g.2 u.changed u.others i.innermost;
-      lowered = λ X w. i.lowered X (ease_then (get c.gone.self.nodes) (get c.ease.new.nodes) c.gone.self.root c.gone.at c.gone.self.sound c.gone.self.guarded c.gone.self.ordered node.0 node.1 gone_node c.in-Some.above g.1 g.2 u.changed u.others i.innermost X w);
-      climbed = λ p d w. climbed_more H (held_in (get c.ease.new.nodes)) (tree_of c.args.self.now) p c.gone.at c.in-Some.above g.1 g.0 g.2 (λ a v. ease_others (get c.gone.self.nodes) (get c.ease.new.nodes) c.gone.self.root c.gone.at c.gone.self.sound c.gone.self.guarded c.gone.self.ordered node.0 node.1 gone_node c.in-Some.above g.1 g.2 u.changed u.others a (λ e. away (subst (λ x. Over H x c.in-Some.above) e v))) (i.climbed p d w);
+      keys = λ q. beside_follow (get c.gone.self.nodes) (get c.ease.new.nodes) c.gone.self.root c.gone.at (ease_beside (get c.gone.self.nodes) (get c.ease.new.nodes) c.gone.self.root c.gone.at c.gone.self.sound c.gone.self.guarded c.gone.self.ordered node.0 node.1 gone_node c.in-Some.above g.1 g.2 u.last u.less u.others) q c.gone.self.root ∙ i.keys q;
+      tree = λ q. beside_tree (get c.gone.self.nodes) (get c.ease.new.nodes) c.gone.self.root c.gone.at (ease_beside (get c.gone.self.nodes) (get c.ease.new.nodes) c.gone.self.root c.gone.at c.gone.self.sound c.gone.self.guarded c.gone.self.ordered node.0 node.1 gone_node c.in-Some.above g.1 g.2 u.last u.less u.others) (ease_away (get c.gone.self.nodes) (get c.ease.new.nodes) c.gone.self.root c.gone.at c.gone.self.sound c.gone.self.guarded c.gone.self.ordered node.0 node.1 gone_node c.in-Some.above g.1 g.2 u.last u.less u.others) q ∙ i.tree q;
+      there = ap (λ x. is_some x) (ease_others (get c.gone.self.nodes) (get c.ease.new.nodes) c.gone.self.root c.gone.at c.gone.self.sound c.gone.self.guarded c.gone.self.ordered node.0 node.1 gone_node c.in-Some.above g.1 g.2 u.last u.less u.others c.in-Some.above (λ e. away (subst (λ x. Over H c.gone.at x) (sym e) here))) ∙ c.gone.self.ordered.there _ _ _ g.2;
+      innermost = ease_innermost (get c.gone.self.nodes) (get c.ease.new.nodes) c.gone.self.root c.gone.at c.gone.self.sound c.gone.self.guarded c.gone.self.ordered node.0 node.1 gone_node c.in-Some.above g.1 g.2 u.last u.less u.others i.innermost;
+      lowered = λ X w. i.lowered X (ease_then (get c.gone.self.nodes) (get c.ease.new.nodes) c.gone.self.root c.gone.at c.gone.self.sound c.gone.self.guarded c.gone.self.ordered node.0 node.1 gone_node c.in-Some.above g.1 g.2 u.last u.less u.others i.innermost X w);
+      climbed = λ p d w. climbed_more H (held_in (get c.ease.new.nodes)) (tree_of c.args.self.now) p c.gone.at c.in-Some.above g.1 g.0 g.2 (λ a v. ease_others (get c.gone.self.nodes) (get c.ease.new.nodes) c.gone.self.root c.gone.at c.gone.self.sound c.gone.self.guarded c.gone.self.ordered node.0 node.1 gone_node c.in-Some.above g.1 g.2 u.last u.less u.others a (λ e. away (subst (λ x. Over H x c.in-Some.above) e v))) (i.climbed p d w);
     }
 
 pub raise-requires : goal.raise-requires
