@@ -39,7 +39,7 @@ pub returns-in-Some-get_mut : goal.returns-in-Some-get_mut
 returns-in-Some-get_mut c = record {
   eased = λ node is.
       let here = sym c.in-Some-get_mut.ensures.value in
-      let same : c.in-Some.node.now ≡ c.in-Some-get_mut.node.now = same_Some _ _ (c.in-Some.ensures ∙ sym here) in
+      let same : c.in-Some.node.now ≡ c.in-Some-get_mut.node.now = same_Some _ _ (c.in-Some.ensures ∙ here) in
       let levels = ap (λ (x : Node). x.state.depth) same in
       let high = c.if-node-le1.false in
       written _ _ c.in-Some-get_mut.node.now _ here node is (record { parent = refl; name = refl; level = refl; children = refl; gone = refl; depth = one_less _ }) (omega arith);
