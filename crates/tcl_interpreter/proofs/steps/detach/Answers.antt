@@ -1,33 +1,5 @@
-use Rattle.std.proofs.Common.{◌≡◌, ◌+◌, sym, ◌∙◌, ap, subst}
-use Rattle.std.specs.Prelude.{is_some}
+use Rattle.std.proofs.Common.{◌≡◌, refl, sym, ◌∙◌, ap, subst}
 use Rattle.std.proofs.lemmas.Option.{same_Some}
-use Rattle.slab.specs.Slab.{with_value}
-use Rattle.slab.proofs.SlabLemmas.{Updates-with_value}
-use Rattle.tcl_interpreter.specs.Nodes.{Detached}
+use Rattle.tcl_interpreter.specs.Nodes.{Departed, Detached}
 use Rattle.tcl_interpreter.specs.declared.node.Node.{Node}
-use Rattle.tcl_interpreter.proofs.TableLemmas.{len_kept}
 use Rattle.tcl_interpreter.proofs.steps.detach.Goals as goal
-
-pub returns-in-Some-clause-detached : goal.returns-in-Some-clause-detached
-returns-in-Some-clause-detached c = λ node is.
-    let u = c.remove-node.ensures.updates in
-    let up_is = sym c.in-Some.ensures.value in
-    let same : c.remove-node.result ≡ node = same_Some _ _ (sym c.remove-node.ensures.value ∙ is) in
-    let wrote = Updates-with_value c.remove-node.new.self c.args.parent c.remove_child.new.up (ap is_some up_is) in
-    let P : Node → Type 0 = λ n. Detached c.args.nodes.now (with_value c.remove-node.new.self c.args.parent c.remove_child.new.up) c.args.key n c.args.parent in
-    subst P same (record {
-      gone = wrote.others c.args.key (λ e. c.requires.apart (sym e)) ∙ u.changed;
-      old = c.in-Some.up.now;
-      old_is = sym (u.others c.args.parent c.requires.apart) ∙ up_is;
-      new = c.remove_child.new.up;
-      new_is = wrote.changed;
-      parent = c.remove_child.ensures.parent;
-      name = c.remove_child.ensures.name;
-      level = c.remove_child.ensures.level;
-      view = c.remove_child.ensures.view;
-      gets = c.remove_child.ensures.gets;
-      others = λ k a b. wrote.others k a ∙ u.others k b;
-    })
-
-pub returns-in-Some-clause-len : goal.returns-in-Some-clause-len
-returns-in-Some-clause-len c = ap (λ n. n + 1) (len_kept c.remove-node.new.self c.args.parent c.in-Some.up.now c.remove_child.new.up (sym c.in-Some.ensures.value)) ∙ c.remove-node.ensures.len
