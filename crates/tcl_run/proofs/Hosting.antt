@@ -7,7 +7,15 @@ use Rattle.tcl_run.specs.declared.outside.Happening.{Happening}
 use Rattle.tcl_run.proofs.Quiet.{unchanged}
 use Rattle.tcl_tree.specs.TreeOf.{tree_of}
 use Rattle.tcl_tree.specs.declared.tree.Tree.{Tree as Table}
+use Rattle.std.specs.Prelude.{true}
 use Rattle.tcl_core.specs.Endings.{Reply}
+use Rattle.tcl_core.specs.Entries.Answer.{Heard, Nobody}
+use Rattle.tcl_core.specs.Entries.Entry.{AskHost}
+use Rattle.tcl_core.specs.Runs.{gone}
+use Rattle.tcl_core.specs.Trees.What.{Back}
+use Rattle.tcl_host.specs.Replies.{is_reply_to}
+use Rattle.tcl_run.specs.Entering.{request_of}
+use Rattle.tcl_run.proofs.Fitting.{own_reply, told_fits}
 use Rattle.tcl_core.specs.Entries.{Entry}
 use Rattle.tcl_core.specs.Paths.{Path, Place, rise}
 use Rattle.tcl_core.specs.Programs.{Wait}
@@ -16,7 +24,7 @@ use Rattle.tcl_core.specs.Trees.{Event, Tree}
 use Rattle.tcl_core.proofs.PathLaws.{rise_back}
 use Rattle.tcl_host.specs.declared.reply.HostReply.{HostReply}
 use Rattle.tcl_host.specs.declared.request.Request.{Request}
-use Rattle.tcl_run.specs.Outsides.{Enters, Misses, Returns, hosted, hosted_at}
+use Rattle.tcl_run.specs.Outsides.{AnswersFor, Enters, Misses, Returns, hosted, hosted_at, reply_of, told_to}
 use Rattle.tcl_tree.specs.Own.{Own}
 
 module _ {S : Type 0} (step : S → Request → HostReply → S → Type 0) where
@@ -36,3 +44,23 @@ module _ {S : Type 0} (step : S → Request → HostReply → S → Type 0) wher
   pub unheard : (t : Table) (o : S) (w : Happening) → Notified (hosted step) Prim.⊥ t o w o
   unheard t o w = unchanged (hosted step) t o w (λ T p. refl) (enters_unheard (tree_of t) o) (returns_unheard (tree_of t) o) (misses_unheard (tree_of t) o)
       (λ p h down i e. subst (λ (x : Option Place). passing x (hosted_at step) (tree_of t) o None (event p (Out h down i)) o) (sym e) refl) (λ q r. refl)
+
+  -- The host's reply to a request, and that nobody is there who could answer an alias, are told to
+  -- who made the call, or what it is told for them where it is gone.
+  heard_told : (T : Tree Own) (o u : S) (p : Place) (d : ℕ) (g : Option ℕ) (q : Request) (a : HostReply) → step o q a u → hosted step T o (Some (None, AskHost (request_of q), d)) (event p (Back None (told_to g (Heard (reply_of a))))) u
+  heard_told T o u p d None q a made = (q, a, refl, refl, made)
+  heard_told T o u p d (Some n) q a made = (q, a, refl, made)
+
+  pub heard_answers : (T : Tree Own) (o u : S) (p : Place) (d : ℕ) (q : Request) (a : HostReply) → step o q a u → is_reply_to a q ≡ true → AnswersFor (hosted step) T o p d None (AskHost (request_of q)) u (Heard (reply_of a))
+  heard_answers T o u p d q a made fits = (heard_told T o u p d (gone d T p) q a made, told_fits d T p None (AskHost (request_of q)) (Heard (reply_of a)) refl (own_reply a q fits))
+
+  nobody_told : (T : Tree Own) (o : S) (p : Place) (n d : ℕ) (i : Entry) (g : Option ℕ) (h : Option Place) → h ≡ None → passing h (hosted_at step) T o (Some (Some n, i, d)) (event p (Back (Some n) (told_to g Nobody))) o
+  nobody_told T o p n d i None h e = subst (λ (x : Option Place). passing x (hosted_at step) T o (Some (Some n, i, d)) (event p (Back (Some n) Nobody)) o) (sym e) refl
+  nobody_told T o p n d i (Some l) h e = subst (λ (x : Option Place). passing x (hosted_at step) T o (Some (Some n, i, d)) (event p (Back (Some n) (told_to (Some l) Nobody))) o) (sym e) refl
+
+  pub nobody_answers : (T : Tree Own) (o : S) (p : Place) (n d : ℕ) (i : Entry) → rise n p ≡ None → AnswersFor (hosted step) T o p d (Some n) i o Nobody
+  nobody_answers T o p n d i up = (back (gone d T p), told_fits d T p (Some n) i Nobody up refl)
+    where
+      back : (g : Option ℕ) → hosted step T o (Some (Some n, i, d)) (event p (Back (Some n) (told_to g Nobody))) o
+      back None = nobody_told T o p n d i None (rise n p) up
+      back (Some l) = nobody_told T o p n d i (Some l) (rise n p) up

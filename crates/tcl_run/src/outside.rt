@@ -132,8 +132,8 @@ pub trait Outside {
     // from one state to the next, by what it is told, the tree being what it then is
     ghost goes: { core.Tree Own → Self → Wait → Event Own → Self → Type 0 };
 
-    // what may have become of a state, where an evaluation is given up, by all that it is told, and
-    // by a question for which it wants memory
+    // what may have become of a state, where an evaluation is given up, by all that it is told, by a
+    // question for which it wants memory, and by an entry that it hands in
     ghost loses: { Self → Self → Type 0 };
 
     // how many entries it may still hand in
@@ -197,6 +197,7 @@ pub trait Outside {
             ComesNext goes hands_in (tree_of tree.now) self.old p d up (whole_entry entry.now)
             self.new result }
         ensures lost { WhereMemory result (loses self.old self.new) }
+        ensures handed { OnEntry result (loses self.old self.new) }
         ensures fewer { OnEntry result (entries_left self.new < entries_left self.old) }
         ensures left { entries_left self.new ≤ entries_left self.old };
 }
