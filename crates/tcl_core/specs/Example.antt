@@ -1,6 +1,6 @@
 -- A small life, step by step: the outside has the root evaluate a script, which has its child set
 -- its one variable to 7. An interpreter's own part is a number here, its variable; what can go on
--- in one is one of two scripts.
+-- in one is one of three scripts.
 use Rattle.std.specs.Prelude.{◌≡◌, ℕ, true, false, List, [], ◌∷◌, ◌++◌, Some, None}
 use Rattle.tcl_core.specs.Paths.{Text, Path, Place}
 use Rattle.tcl_core.specs.Endings.{Completion, ok, error}
@@ -8,7 +8,7 @@ use Rattle.tcl_core.specs.Endings.Reply.{Completed}
 use Rattle.tcl_core.specs.Entries.{Entry, Said}
 use Rattle.tcl_core.specs.Entries.Entry.{Eval}
 use Rattle.tcl_core.specs.Entries.Said.{Finished, Told, Missed}
-use Rattle.tcl_core.specs.Entries.Answer.{Replied}
+use Rattle.tcl_core.specs.Entries.Answer.{Replied, Nobody}
 use Rattle.tcl_core.specs.Trees.{Node, Tree, Event, What, Move, at, effect}
 use Rattle.tcl_core.specs.Trees.Grants.{Budget}
 use Rattle.tcl_core.specs.Trees.What.{Changed, Charged, Nested, Unnested, Out, In, Done, Back}
@@ -26,17 +26,24 @@ use Rattle.tcl_core.specs.Execution.{event}
 pub data Script : Type 0 where
   SetSeven : Script
   TellChild : Script
+  AskAbove : Script
 
 abbrev pub child : Text
 child = 99 ∷ []
 
--- the empty text sets the variable, and every other one tells the child
+-- the empty text sets the variable, one character tells the child, and more ask the interpreter
+-- above
 abbrev pub script_of : Text → Script
 script_of [] = SetSeven
-script_of (x ∷ t) = TellChild
+script_of (x ∷ []) = TellChild
+script_of (x ∷ y ∷ t) = AskAbove
 
 abbrev pub lost : Completion
 lost = error []
+
+-- who asks the interpreter above, where nobody is, goes on by this
+abbrev pub nobody_above : Completion
+nobody_above = error (117 ∷ [])
 
 -- an entry from outside that finds nobody is told whom it didn't find: the names of its path, one
 -- behind the other
@@ -55,6 +62,7 @@ finish Missed = done lost
 abbrev pub program : Script → Prog ℕ Script
 program SetSeven = act Charge (λ T. act (Change 7) (λ U. done (ok [])))
 program TellChild = act Charge (λ T. call (Some 0) (child ∷ []) (Eval []) lost finish)
+program AskAbove = act Charge (λ T. call (Some 1) [] (Eval []) nobody_above finish)
 
 abbrev pub entry : Entry → Prog ℕ Script
 entry (Eval t) = inside Deeper (script_of t) done
@@ -68,6 +76,7 @@ finish_calls Missed = tt
 abbrev pub program_calls : (i : Script) → Calls_only (program i)
 program_calls SetSeven = λ T. λ U. tt
 program_calls TellChild = λ T. finish_calls
+program_calls AskAbove = λ T. finish_calls
 
 abbrev pub entry_calls : (i : Entry) → Calls_only (entry i)
 entry_calls (Eval t) = λ c. tt
@@ -188,7 +197,8 @@ pub record WorkedLife : Type 0 where
   pub child_tells : outs_of (view (child ∷ []) log) ≡ event [] (Done None (Completed (ok []))) ∷ []
 
 -- THE CHILD ALONE, handed that entry. With a budget of one step it does what it did in the life
--- above; with none it is spent at its first step, tells nothing, and is left as it was.
+-- above; with none it is spent at its first step, tells nothing, and is left as it was. And handed
+-- one by which it asks whoever is above, where nobody is.
 abbrev pub child_alone : Tree ℕ
 child_alone = at first_tree (child ∷ [])
 
@@ -198,12 +208,19 @@ one_entry = Enter [] (Eval []) ∷ []
 abbrev pub an_answer : List (Move ℕ)
 an_answer = Come (Replied (Completed (ok []))) ∷ []
 
+abbrev pub asks_nobody : List (Move ℕ)
+asks_nobody = Enter [] (Eval (1 ∷ 1 ∷ [])) ∷ Come Nobody ∷ []
+
 pub record WorkedReactions : Type 0 where
   pub served : (V : Tree ℕ) × React commands child_alone one_entry 1 Outcome.Finished
       (event [] (Done None (Completed (ok []))) ∷ []) V ×
       (V [] ≡ Some (record safe_child { own = 7; count = 1 }))
   pub spent : (V : Tree ℕ) × React commands child_alone one_entry 0 Outcome.Spent [] V ×
       (V [] ≡ Some safe_child)
+  -- it is told so, and goes on by the completion that its call has for that
+  pub missed : (V : Tree ℕ) × React commands child_alone asks_nobody 1 Outcome.Finished
+      (event [] (Out (Some 1) [] (Eval [])) ∷ event [] (Done None (Completed nobody_above)) ∷ [])
+      V × (V [] ≡ Some (record safe_child { count = 1 }))
   -- an answer to a call that it didn't make
   pub uncalled : React commands child_alone an_answer 1 Outcome.Misfit [] child_alone
 

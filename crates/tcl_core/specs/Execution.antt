@@ -127,8 +127,8 @@ pub data Executes {O I S : Type 0} (step : Tree O → S → Wait → Event O →
       Executes step prog T u p (k (Told a)) V z r → Executes step prog T o p (wait s k) V z r
   missed : {T V : Tree O} {o u z : S} {p : Place} {s : Wait} {k : Said → Prog O I} {r : Reply} →
       rise_to (height_of s) p ≡ None → fits T p s (Come Nobody) ≡ true →
-      step T o s (event p (Back (height_of s) Nobody)) u → Executes step prog T u p (k Missed) V z r →
-      Executes step prog T o p (wait s k) V z r
+      step T o s (event p (Back (height_of s) Nobody)) u →
+      Executes step prog T u p (k Missed) V z r → Executes step prog T o p (wait s k) V z r
   answered_passed : {T : Tree O} {o u : S} {p : Place} {s : Wait} {k : Said → Prog O I} {r : Reply}
       → IsQuit r → rise_to (height_of s) p ≡ None →
       fits T p s (Come (Replied r)) ≡ true →
@@ -186,8 +186,8 @@ hears goes T o s p (Unfound t i c) u = goes T o s (event p (Unfound t i c)) u
 hears goes T o s p _ u = u ≡ o
 
 -- How an outside goes that is told of all crossings, those between two interpreters of the tree
--- among them, of the steps that it grants or refuses, and of each interpreter that is dropped; all
--- else leaves it as it is.
+-- among them, of an entry that finds nobody, of the steps that it grants or refuses, and of each
+-- interpreter that is dropped; all else leaves it as it is.
 pub record Crossings {O S : Type 0} (goes : Tree O → S → Wait → Event O → S → Type 0) (T : Tree O)
     (o : S) (s : Wait) (ev : Event O) (u : S) : Type 0 where
   pub told : hears goes T o s ev.place ev.what u

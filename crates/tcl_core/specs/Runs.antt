@@ -123,9 +123,9 @@ where_stands (Some n) p = Some p
 abbrev pub reached : {O : Type 0} → Tree O → Place → Path → Option Place
 reached T a down = where_stands (T (a ++ down)) (a ++ down)
 
--- An alias is answered by how its evaluation ended, or since nobody is there; a request by one of its
--- own answers, or by an end from outside. A stop that answers an alias names an interpreter below the one to which the
--- call goes up: what a stop further up ends is ended from outside.
+-- An alias is answered by how its evaluation ended, or since nobody is there; a request by one of
+-- its own answers, or by an end from outside. A stop that answers an alias names an interpreter
+-- below the one to which the call goes up: what a stop further up ends is ended from outside.
 abbrev pub is_own : Height → Entry → Answer → Bool
 is_own (Some h) i (Replied (Stop n m)) = nat_lt n h
 is_own (Some h) i (Replied r) = true

@@ -1,5 +1,5 @@
--- A run, computed: what comes of a program by itself, where no limit from outside is in the way, the
--- host accepts all that is asked of it, and above the top nobody is.
+-- A run, computed: what comes of a program by itself, where no limit from outside is in the way,
+-- the host accepts all that is asked of it, and above the top nobody is.
 use Rattle.std.specs.Prelude.{◌≡◌, ℕ, zero, suc, Bool, true, false, Option, Some, None}
 use Rattle.tcl_core.specs.Paths.{Place, Height, rise_to}
 use Rattle.tcl_core.specs.Endings.{Completion, Reply, refusal}
@@ -59,8 +59,8 @@ module _ {O I : Type 0} (prog : Table O I) where
   where_fit true y = y
   where_fit false y = None
 
-  -- How a call that leaves the tree is answered: the host accepts what is asked of it, and nobody is
-  -- there for an alias. And what the program is told.
+  -- How a call that leaves the tree is answered: the host accepts what is asked of it, and nobody
+  -- is there for an alias. And what the program is told.
   abbrev pub from_outside : Height → Answer
   from_outside None = Heard Accepted
   from_outside (Some h) = Nobody

@@ -9,8 +9,8 @@ use Rattle.tcl_core.specs.Endings.Reply.{Completed}
 use Rattle.tcl_core.specs.Entries.{Entry, HostReply, Said}
 use Rattle.tcl_core.specs.Entries.Answer.{Replied, Heard, Nobody}
 use Rattle.tcl_core.specs.Entries.Said.{Finished, Told, Missed}
-use Rattle.tcl_core.specs.Trees.{Tree, What, Event, Move, Grant, Grants, effect, asked, granted, at, Node}
-use Rattle.tcl_core.specs.Trees.{depth_of}
+use Rattle.tcl_core.specs.Trees.{Tree, Node, What, Event, Move, Grant, Grants, effect, asked}
+use Rattle.tcl_core.specs.Trees.{at, granted, depth_of}
 use Rattle.tcl_core.specs.Trees.Grants.{Listed}
 use Rattle.tcl_core.specs.Trees.What.{Refused, Out, In, Done, Back, Unfound}
 use Rattle.tcl_core.specs.Trees.Move.{Come}

@@ -89,7 +89,8 @@ pub record WorkedPlayings : Type 0 where
   pub ended : Comes_to asking (one_entry_and (Cut Above)) 1 Ended (asked ∷ [])
   pub unfit : Comes_to asking one_entry_heard 1 Misfit (asked ∷ [])
   -- an entry that finds nobody is told so, before another one and while a call is open
-  pub unfound : Comes_to commands (stray_entry ++ one_entry) 1 Finished (nobody_there ∷ done_so ∷ [])
+  pub unfound : Comes_to commands (stray_entry ++ one_entry) 1 Finished
+      (nobody_there ∷ done_so ∷ [])
   pub unfound_meanwhile : Comes_to asking (one_entry ++ stray_entry) 1 Waiting
       (asked ∷ nobody_there ∷ [])
   -- an exit
