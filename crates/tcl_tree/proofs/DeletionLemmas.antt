@@ -1,6 +1,6 @@
 -- What is gone after a deletion, and that nothing of it is left in a tree where nothing is in progress.
 use Rattle.std.proofs.Common.{◌≡◌, ℕ, zero, suc, ◌+◌, ◌<◌, ◌≤◌, Bool, true, false, ◌&&◌, [], ◌∷◌, ◌++◌, length, cond, refl, sym, ◌∙◌, ap, subst, inl, inr, arith, append-nil, append_assoc, length-append, Option, Some, None}
-use Rattle.std.specs.Prelude.{◌≢◌, ◌⊎◌, is_some, nat_eq, nat_le}
+use Rattle.std.specs.Prelude.{◌≢◌, ◌⊎◌, is_some, nat_eq, nat_le, ◌==◌}
 use Rattle.std.proofs.lemmas.Bool.Decides.{nat_tests}
 use Rattle.std.proofs.lemmas.Option.{same_Some}
 use Rattle.std.proofs.lemmas.Slice.Eq.{bytes_eq-Decides}
@@ -115,7 +115,7 @@ module _ (t u : Tree) (p : Path) (n : Text) (parts : Parts (held_of t) (key_of t
 
   kept : (key : ℕ) (q : Path) → key_of t q ≡ Some key → 1 ≤ depth_at (held_of t key) → (a : ℕ) → Over (held_of t) a key → (above_at (held_of u a) ≡ above_at (held_of t a)) × (is_some (held_of t a) ≡ true → is_some (held_of u a) ≡ true)
   kept key q at deep a w =
-      let x = over_path (get t.nodes) t.root t.ordered t.sound q a key at w in
+      let x = over_path (get t.nodes) t.root t.ordered t.sound a q key at w in
       let d = over_deep a key w in
       by x.0 x.2 (omega arith) (is_above (p ++ n ∷ []) x.0) refl
     where
@@ -148,62 +148,55 @@ module _ (t u : Tree) (p : Path) (n : Text) (parts : Parts (held_of t) (key_of t
       subst (λ i. HighestGone (held_of u) k i) longer (further m (ap gone_at is ∙ z.2) (ap above_at is ∙ z.0 ∙ above) (ih s.parent s.front (omega arith))))
 
   module _ (drops : Drops (tree_of t) (tree_of u) p n) (r : Path) (place : Place) (named : Names t place ((p ++ n ∷ []) ++ r)) (deep : 1 ≤ depth_in t place) where
+    -- what is at a path above the one that is named
+    front_there : (x z : Path) → (p ++ n ∷ []) ++ r ≡ x ++ z → (a : ℕ) × (key_of t x ≡ Some a)
+    front_there x z e = by (follow (get t.nodes) t.root x) refl
+      where
+        by : (o : Option ℕ) → follow (get t.nodes) t.root x ≡ o → (a : ℕ) × (key_of t x ≡ Some a)
+        by (Some a) f = (a, f)
+        by None f =
+            let y : ◌≡◌ {A = Option ℕ} None (Some place.key) = sym (follow_append (get t.nodes) x z t.root ∙ ap (option_and_then (λ c. follow (get t.nodes) c z)) f) ∙ ap (key_of t) (sym e) ∙ named in
+            absurd (cc)
+
     parent_there : (v : NodeView) × (tree_of t p ≡ Some v)
     parent_there = by (tree_of t p) refl
       where
+        front : (a : ℕ) × (key_of t p ≡ Some a)
+        front = front_there p (n ∷ r) (append_assoc p (n ∷ []) r)
+
         by : (o : Option NodeView) → tree_of t p ≡ o → (v : NodeView) × (tree_of t p ≡ Some v)
         by (Some v) e = (v, e)
-        by None e = absurd (none_there e)
-          where
-            none_there : tree_of t p ≡ None → Prim.⊥
-            none_there e = not_gone (is_some (tree_of t p)) (tree_there t p front.0 front.1) (ap (λ o. is_some o) e)
-              where
-                front : (k : ℕ) × (key_of t p ≡ Some k)
-                front = up_from (follow (get t.nodes) t.root (p ++ n ∷ [])) refl
-                  where
-                    up_from : (o : Option ℕ) → follow (get t.nodes) t.root (p ++ n ∷ []) ≡ o → (k : ℕ) × (key_of t p ≡ Some k)
-                    up_from (Some c) e = let s = last_step (get t.nodes) t.root p n c e in (s.parent, s.front)
-                    up_from None e = absurd (gone_below e)
-
-                    gone_below : follow (get t.nodes) t.root (p ++ n ∷ []) ≡ None → Prim.⊥
-                    gone_below e =
-                        let x : ◌≡◌ {A = Option ℕ} None (Some place.key) = sym (follow_append (get t.nodes) (p ++ n ∷ []) r t.root ∙ ap (option_and_then (λ c. follow (get t.nodes) c r)) e) ∙ named in
-                        cc
+        by None e = not_gone (is_some (tree_of t p)) (tree_there t p front.0 front.1) (ap (λ o. is_some o) e)
 
     -- the tree that is left, at the path and below it, and elsewhere
     nobody : (x : Path) → is_above (p ++ n ∷ []) x ≡ true → depth_of (tree_of u x) ≡ 0
-    nobody x above = ap (λ (f : Path → Option NodeView). depth_of (f x)) (drops parent_there.0 parent_there.1) ∙ by (strip (p ++ n ∷ []) x) (sym (above_is (p ++ n ∷ []) x) ∙ above)
+    nobody x above = ap (λ (f : Path → Option NodeView). depth_of (f x)) (drops parent_there.0 parent_there.1) ∙ by _ (strip (p ++ n ∷ []) x) (sym (above_is (p ++ n ∷ []) x) ∙ above)
       where
-        by : {y : Option NodeView} (o : Option Path) → is_some o ≡ true → depth_of (where_some o (λ z. None) y) ≡ 0
-        by None e = let z : false ≡ true = e in cc
-        by (Some q) e = refl
+        by : (y : Option NodeView) (o : Option Path) → is_some o ≡ true → depth_of (where_some o (λ z. None) y) ≡ 0
+        by y None e = let z : false ≡ true = e in cc
+        by y (Some q) e = refl
 
     elsewhere : (x : Path) → is_above (p ++ n ∷ []) x ≡ false → depth_of (tree_of u x) ≡ depth_of (tree_of t x)
-    elsewhere x away = ap (λ (f : Path → Option NodeView). depth_of (f x)) (drops parent_there.0 parent_there.1) ∙ by (strip (p ++ n ∷ []) x) (sym (above_is (p ++ n ∷ []) x) ∙ away) (strip p x)
+    elsewhere x away = ap (λ (f : Path → Option NodeView). depth_of (f x)) (drops parent_there.0 parent_there.1) ∙ by _ (strip (p ++ n ∷ []) x) (sym (above_is (p ++ n ∷ []) x) ∙ away) (strip p x)
       where
         same : (own : Own) (y : Option NodeView) → depth_of (with_own own y) ≡ depth_of y
         same own None = refl
         same own (Some v) = refl
 
-        by : {own : Own} (o : Option Path) → is_some o ≡ false → (w : Option Path) → depth_of (where_some o (λ z. None) (at_end w (with_own own) (tree_of t x))) ≡ depth_of (tree_of t x)
-        by (Some q) e w = let z : true ≡ false = e in cc
-        by None e None = refl
-        by {own} None e (Some []) = same own (tree_of t x)
-        by None e (Some (y ∷ q)) = refl
+        by : (own : Own) (o : Option Path) → is_some o ≡ false → (w : Option Path) → depth_of (where_some o (λ z. None) (at_end w (with_own own) (tree_of t x))) ≡ depth_of (tree_of t x)
+        by own (Some q) e w = let z : true ≡ false = e in cc
+        by own None e None = refl
+        by own None e (Some []) = same own (tree_of t x)
+        by own None e (Some (y ∷ q)) = refl
 
     -- what stands above one that is in use is in use
     in_use : (x z : Path) → (p ++ n ∷ []) ++ r ≡ x ++ z → 1 ≤ depth_of (tree_of t x)
-    in_use x z e = by (follow (get t.nodes) t.root x) refl
-      where
-        by : (o : Option ℕ) → follow (get t.nodes) t.root x ≡ o → 1 ≤ depth_of (tree_of t x)
-        by None f =
-            let y : ◌≡◌ {A = Option ℕ} None (Some place.key) = sym (follow_append (get t.nodes) x z t.root ∙ ap (option_and_then (λ c. follow (get t.nodes) c z)) f) ∙ ap (key_of t) (sym e) ∙ named in
-            absurd (cc)
-        by (Some a) f =
-            let w = path_over (get t.nodes) t.root t.ordered t.sound ((p ++ n ∷ []) ++ r) x a place.key named (ap (is_above x) e ∙ above_append x z) f in
-            let d = over_deep a place.key w in
-            let m = depth_tree (get t.nodes) t.root t.sound t.ordered x a f in
-            omega arith
+    in_use x z e =
+        let f = front_there x z e in
+        let w = path_over (get t.nodes) t.root t.ordered t.sound ((p ++ n ∷ []) ++ r) x f.0 place.key named (ap (is_above x) e ∙ above_append x z) f.1 in
+        let d = over_deep f.0 place.key w in
+        let m = depth_tree (get t.nodes) t.root t.sound t.ordered x f.0 f.1 in
+        omega arith
 
     pub deleted_is_gone : IsGone u place ((p ++ n ∷ []) ++ r) (length r)
     deleted_is_gone = record {

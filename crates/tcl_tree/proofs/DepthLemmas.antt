@@ -189,7 +189,7 @@ module _ (m : Meter) (h h₁ : Heap) (root : ℕ) (p : Path) (key : ℕ) (s : Is
 
   pub raised_over : (a : ℕ) → Over (held_in h) a key → held_in h₁ a ≡ option_map (with_depth (stepped m)) (held_in h a)
   raised_over a w =
-      let q = over_path h root o s p a key at w in
+      let q = over_path h root o s a p key at w in
       held_moved (stepped m) (held_in h a) (held_in h₁ a) (some_placed h h₁ r.places a) (above_placed h h₁ r.places a) (gone_placed h h₁ r.places a)
       (λ t. raised_depth q.0 a q.2 ∙ ap (λ b. cond b (stepped m (depth_at (held_in h a))) (depth_at (held_in h a))) q.1)
 
@@ -227,7 +227,7 @@ module _ (m : Meter) (h h₁ : Heap) (root : ℕ) (p : Path) (key : ℕ) (s : Is
   depth_over a w t = ap depth_at (raised_over a w) ∙ depth_with (stepped m) (held_in h a) t
 
   over_there : (a : ℕ) → Over (held_in h) a key → is_some (held_in h a) ≡ true
-  over_there a w = let q = over_path h root o s p a key at w in follow_there h root s o q.0 a q.2
+  over_there a w = let q = over_path h root o s a p key at w in follow_there h root s o q.0 a q.2
 
   -- order stays where each that isn't on the way is less deep than the one above it on the way
   pub raised_ordered : ((c k : ℕ) (n : Text) → above_at (held_in h c) ≡ Some (k, n) → Over (held_in h) k key → (Over (held_in h) c key → Prim.⊥) → depth_at (held_in h c) ≤ stepped m (depth_at (held_in h k)))

@@ -18,7 +18,7 @@ use Rattle.tcl_tree.proofs.HeapLemmas.{follow_along, tree-at, tree-none}
 use Rattle.tcl_tree.proofs.StepLemmas.{child-at, child-eq, child-none, link-at, link-none, link-eq, level-eq, level-none, safe-eq, children-at, children-eq, children-none, level-at}
 use Rattle.tcl_interpreter.specs.declared.node.Meter.TheVariants.{Back}
 use Rattle.tcl_tree.proofs.DepthLemmas.{with_depth, stepped}
-use Rattle.tcl_tree.proofs.HeldLemmas.{above-root, held-at, held-eq, held-none, held-some, no_above, not_gone, same_above, gone-there, above-there, above-link, over_next, over_none, over_same, over_cases, not_over_above, over_more, follow_stands}
+use Rattle.tcl_tree.proofs.HeldLemmas.{above-root, held-at, held-eq, held-none, held-some, no_above, not_gone, same_above, gone-there, above-there, above-link, over_next, over_same, over_cases, not_over_above, over_more, follow_stands}
 
 -- ## A table that differs at a key to which no names lead
 
@@ -314,16 +314,17 @@ module _ (h h₁ : Heap) (root key : ℕ) (s : IsSound h root) (g : IsGuarded h)
             by None e g = let z : false ≡ true = g in cc
             by (Some y) e g = cases (y.gone && nat_le y.depth 1) refl e
               where
+                deep : (d : ℕ) → nat_le d 1 ≡ false → 2 ≤ d
+                deep d e = grind (arith, nat_tests)
+
                 cases : (b : Bool) → (y.gone && nat_le y.depth 1) ≡ b → held_in h₁ key ≡ left_by b y → 1 ≤ depth_at (held_in h₁ key)
                 cases true f e = not_gone (is_some (held_in h₁ key)) t (ap (λ x. is_some x) e)
                 cases false f e =
                     let x : nat_le y.depth 1 ≡ false = sym (ap (λ b. b && nat_le y.depth 1) g) ∙ f in
                     let d = ap depth_at e in
                     let l = deep y.depth x in
+                    let z = pred_one y.depth (omega arith) in
                     omega arith
-
-                deep : (d : ℕ) → nat_le d 1 ≡ false → 2 ≤ d
-                deep d e = grind (arith, nat_tests)
 
     -- the way up from the next one is as it was
     ease_over : (a : ℕ) → Over (held_in h) a j → Over (held_in h₁) a j

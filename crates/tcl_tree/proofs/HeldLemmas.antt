@@ -225,11 +225,11 @@ module _ (h : Heap) (root : ℕ) (o : IsOrdered h root) where
 
   module _ (s : IsSound h root) where
     -- what is over one in the tree are those at the paths above
-    pub over_path : (p : Path) (a key : ℕ) → follow h root p ≡ Some key → Over (held_in h) a key → (q : Path) × (is_above q p ≡ true) × (follow h root q ≡ Some a)
-    over_path p a key at here = (p, above_self p, at)
-    over_path p a key at (up {j = j} n e w) =
+    pub over_path : (a : ℕ) (p : Path) (key : ℕ) → follow h root p ≡ Some key → Over (held_in h) a key → (q : Path) × (is_above q p ≡ true) × (follow h root q ≡ Some a)
+    over_path a p key at here = (p, above_self p, at)
+    over_path a p key at (up {j = j} n e w) =
         let b = above_path h root s o p key j n at e in
-        let r = over_path b.0 a j b.2 w in
+        let r = over_path a b.0 j b.2 w in
         (r.0, ap (is_above r.0) b.1 ∙ above_longer r.0 b.0 n r.1, r.2)
 
     pub path_over : (p q : Path) (a key : ℕ) → follow h root p ≡ Some key → is_above q p ≡ true → follow h root q ≡ Some a → Over (held_in h) a key

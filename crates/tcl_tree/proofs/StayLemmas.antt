@@ -215,6 +215,10 @@ module _ (H H₁ H₂ : Keys) (order : InOrder H) (key : ℕ) (there : (a : ℕ)
 
 -- ## Who is in use is held, in the tree or gone
 
+-- how many are gone from a key upward, without a break
+abbrev Status : Keys → ℕ → ℕ → Type 0
+Status H key n = ((gone_at (H key) ≡ false) × (n ≡ 0)) ⊎ ((m : ℕ) × HighestGone H key m × (n ≡ suc m))
+
 module _ (t u : Tree) (stays : Stays (held_of t) (held_of u)) where
   deep_some : (k : ℕ) → 1 ≤ depth_at (held_of t k) → is_some (held_of u k) ≡ true
   deep_some k l = let x = stays.depth k in deep_there (held_of u k) 1 (omega arith) (omega arith)
@@ -249,8 +253,8 @@ module _ (t u : Tree) (stays : Stays (held_of t) (held_of u)) where
     pub gone : m < n → gone_at (held_of u key) ≡ true
     pub stands : n ≤ m → gone_at (held_of u key) ≡ false
 
-  above_gone : (z x p : Path) (key : ℕ) → key_of t p ≡ Some key → 1 ≤ depth_at (held_of t key) → (n : ℕ) → (gone_at (held_of u key) ≡ false) × (n ≡ 0) ⊎ ((m : ℕ) × HighestGone (held_of u) key m × (n ≡ suc m)) → p ≡ x ++ z → Above x (length z) n
-  above_gone = snoc_ind (λ z. (x p : Path) (key : ℕ) → key_of t p ≡ Some key → 1 ≤ depth_at (held_of t key) → (n : ℕ) → (gone_at (held_of u key) ≡ false) × (n ≡ 0) ⊎ ((m : ℕ) × HighestGone (held_of u) key m × (n ≡ suc m)) → p ≡ x ++ z → Above x (length z) n)
+  above_gone : (z x p : Path) (key : ℕ) → key_of t p ≡ Some key → 1 ≤ depth_at (held_of t key) → (n : ℕ) → Status (held_of u) key n → p ≡ x ++ z → Above x (length z) n
+  above_gone = snoc_ind (λ z. (x p : Path) (key : ℕ) → key_of t p ≡ Some key → 1 ≤ depth_at (held_of t key) → (n : ℕ) → Status (held_of u) key n → p ≡ x ++ z → Above x (length z) n)
       (λ x p key e l n w is. record {
         key = key;
         at = ap (key_of t) (sym (is ∙ append-nil x)) ∙ e;
@@ -288,11 +292,11 @@ module _ (t u : Tree) (stays : Stays (held_of t) (held_of u)) where
       most m zero l = omega arith
       most m (suc n) l = omega arith
 
-      parent : (key j : ℕ) (m : Text) (n : ℕ) → above_at (held_of u key) ≡ Some (j, m) → (gone_at (held_of u key) ≡ false) × (n ≡ 0) ⊎ ((i : ℕ) × HighestGone (held_of u) key i × (n ≡ suc i)) → (gone_at (held_of u j) ≡ false) × (pred n ≡ 0) ⊎ ((i : ℕ) × HighestGone (held_of u) j i × (pred n ≡ suc i))
+      parent : (key j : ℕ) (m : Text) (n : ℕ) → above_at (held_of u key) ≡ Some (j, m) → Status (held_of u) key n → Status (held_of u) j (pred n)
       parent key j m n e (inl v) = inl (above_stands (get u.nodes) u.root u.ordered key j m v.0 e, ap (λ i. pred i) v.1)
       parent key j m n e (inr v) = by v.0 v.1 v.2
         where
-          by : (i : ℕ) → HighestGone (held_of u) key i → n ≡ suc i → (gone_at (held_of u j) ≡ false) × (pred n ≡ 0) ⊎ ((i : ℕ) × HighestGone (held_of u) j i × (pred n ≡ suc i))
+          by : (i : ℕ) → HighestGone (held_of u) key i → n ≡ suc i → Status (held_of u) j (pred n)
           by i (itself {j = k} y g a f) is = let same = same_above k j y m (sym a ∙ e) in inl (ap (λ x. gone_at (held_of u x)) (sym same.0) ∙ f, ap (λ x. pred x) is)
           by i (further {j = k} {m = l} y g a r) is = let same = same_above k j y m (sym a ∙ e) in inr (l, subst (λ x. HighestGone (held_of u) x l) same.0 r, ap (λ x. pred x) is)
 

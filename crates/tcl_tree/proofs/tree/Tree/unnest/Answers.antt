@@ -125,7 +125,7 @@ returns-clause-shallower c =
     let r = c.raise.ensures c.gone.self.root k.front c.gone.self.sound lead in
     i.lowered (held_in (get c.raise.new.nodes)) (record {
       over = λ a v.
-          let q = over_path (get c.gone.self.nodes) c.gone.self.root c.gone.self.ordered c.gone.self.sound k.front a c.gone.at lead v in
+          let q = over_path (get c.gone.self.nodes) c.gone.self.root c.gone.self.ordered c.gone.self.sound a k.front c.gone.at lead v in
           raised_over Back (get c.gone.self.nodes) (get c.raise.new.nodes) c.gone.self.root k.front c.gone.at c.gone.self.sound c.gone.self.ordered lead r a v ∙ shallow_stands (held_of c.gone.self a) (follow_stands (get c.gone.self.nodes) c.gone.self.root c.gone.self.sound c.gone.self.ordered q.0 a q.2);
       others = raised_others Back (get c.gone.self.nodes) (get c.raise.new.nodes) c.gone.self.root k.front c.gone.at c.gone.self.sound c.gone.self.ordered lead r;
     })
