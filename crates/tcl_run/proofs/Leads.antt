@@ -16,7 +16,7 @@ use Rattle.tcl_core.specs.Programs.Act.{Look, Charge, Drop}
 use Rattle.tcl_core.specs.Programs.Wrap.{Deeper, Framed}
 use Rattle.tcl_core.specs.Programs.Next.{On, Off, TooDeep}
 use Rattle.tcl_core.specs.Programs.Prog.{done, act, go, inside, call}
-use Rattle.tcl_core.specs.Runs.{returned, where_stands}
+use Rattle.tcl_core.specs.Runs.{gone, gone_by, idle_up, levels, returned, where_stands}
 use Rattle.tcl_core.proofs.PathLaws.{strip_own}
 use Rattle.std.specs.Prelude.{nat_lt}
 use Rattle.tcl_core.specs.Execution.{Crossings, event, completed, acted, refused, went, passed, wrapped, wrapped_passed, too_deep, shut, called, called_passed, unreached}
@@ -42,6 +42,22 @@ pub closes_unheard : {S : Type 0} (goes : Going S) (V : Tree Own) (u : S) (p : P
 closes_unheard goes V u p b back None = record { told = refl }
 closes_unheard goes V u p true back (Some n) = record { told = refl }
 closes_unheard goes V u p false back (Some n) = record { told = refl }
+
+-- where its interpreter is gone, frames aren't brought back; where it stands they are
+pub closes_gone : (T : Tree Own) (p : Place) (d l : ℕ) (back : Own → Own) → gone d T p ≡ Some l → T ≡ effect p (brought_back (nat_lt (depth_of (T p)) d) back (T p)) T
+closes_gone T p d l back e = by (nat_lt (depth_of (T p)) d) (T p) e
+  where
+    by : (b : Bool) (o : Option (Node Own)) → gone_by b (levels (idle_up T p)) ≡ Some l → T ≡ effect p (brought_back b back o) T
+    by b None f = refl
+    by true (Some n) f = refl
+    by false (Some n) f = let clash : None ≡ Some l = f in absurd cc
+
+pub closes_here : (T : Tree Own) (p : Place) (d : ℕ) (n : Node Own) (back : Own → Own) → gone d T p ≡ None → T p ≡ Some n → effect p (Changed (back n.own)) T ≡ effect p (brought_back (nat_lt (depth_of (T p)) d) back (T p)) T
+closes_here T p d n back e there = by (nat_lt (depth_of (T p)) d) e
+  where
+    by : (b : Bool) → gone_by b (levels (idle_up T p)) ≡ None → effect p (Changed (back n.own)) T ≡ effect p (brought_back b back (T p)) T
+    by true f = let clash : Some (levels (idle_up T p)) ≡ None = f in absurd cc
+    by false f = ap (λ (o : Option (Node Own)). effect p (brought_back false back o) T) (sym there)
 
 module _ {S : Type 0} {goes : Going S} {language : Table Own Instr} where
   -- ## Along equations

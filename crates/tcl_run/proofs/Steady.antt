@@ -24,6 +24,8 @@ use Rattle.tcl_tree.proofs.HeapLemmas.{last_step, one_path}
 use Rattle.tcl_tree.proofs.HeldLemmas.{depth_tree, follow_there, link-above, over_cases, over_path, same_above}
 use Rattle.tcl_tree.proofs.StayLemmas.{stays_around, stays_held, stays_innermost, stays_same, stays_then, stood_before}
 use Rattle.tcl_tree.proofs.StepLemmas.{follow_append}
+use Rattle.tcl_tree.proofs.WayLemmas.{gone_some}
+use Rattle.tcl_core.specs.Runs.{gone}
 use Rattle.tcl_tree.specs.declared.tree.Tree.{Tree as Table}
 use Rattle.tcl_tree.specs.declared.tree.Place.{Place as TablePlace}
 use Rattle.tcl_run.specs.Runs.{meters_of, meters_at, depth_in, depth_at, steps_at, is_root, InUse, IsCounted, IsHeld, IsHere, IsSteady, IsLevel, IsAt, IsRunning, room}
@@ -314,6 +316,16 @@ steady_holds s t place p h at used =
 pub running_holds : (s : Table) (place : TablePlace) (p : Path) → Names s place p → InUse (tree_of s) p → Holds s place p (depth_of (tree_of s p))
 running_holds s place p at used = steady_holds s s place p (steady-refl s) at used
 
+-- an evaluation that isn't gone is in progress where its interpreter stood
+pub holds_named : (t : Table) (place : TablePlace) (p : Path) (d : ℕ) → Holds t place p d → gone d (tree_of t) p ≡ None → Names t place p
+holds_named t place p d h none = elim h.somewhere [
+  | inl named ↦ named
+  | inr away ↦ by (sym none) (gone_some t place p d away.0 away.1.highest h)
+]
+  where
+    by : {n : ℕ} → None ≡ gone d (tree_of t) p → Some n ≡ gone d (tree_of t) p → Names t place p
+    by {n} e f = let clash : Some n ≡ None = f ∙ sym e in absurd cc
+
 -- ## Where they came to a completion
 
 pub here-refl : (t : Table) (place : TablePlace) → IsHere t t place
@@ -357,6 +369,10 @@ here_again s t place h stands = record {
 
 pub running_again : (s t : Table) (place : TablePlace) → IsSteady s t → IsRunning s place → ((p : Path) → Names s place p → Names t place p) → IsHere s t place
 running_again s t place h r stands = here_again s t place h (λ p at. (subst (λ (q : Path). InUse (tree_of s) q) (same_path s place r.0 p r.1 at) r.2, stands p at))
+
+-- where whoever called isn't gone, all above it stand still
+pub called_here : (s t : Table) (place : TablePlace) → IsSteady s t → IsRunning s place → ((p : Path) (d : ℕ) → Holds t place p d → Names t place p) → IsHere s t place
+called_here s t place h r stands = running_again s t place h r (λ p at. stands p (depth_of (tree_of s p)) (steady_holds s t place p h at (subst (λ (q : Path). InUse (tree_of s) q) (same_path s place r.0 p r.1 at) r.2)))
 
 pub still_in_use : (s t : Table) (place : TablePlace) (q : Path) → IsHere s t place → Names s place q → InUse (tree_of s) q → InUse (tree_of t) q
 still_in_use s t place q h named used = λ a b is. subst (λ (n : ℕ). 0 < n) (sym (h.depths q a b named is)) (used a b is)
