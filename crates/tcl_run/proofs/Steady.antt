@@ -17,14 +17,14 @@ use Rattle.tcl_tree.specs.Nodes.{follow}
 use Rattle.tcl_tree.specs.TreeOf.{tree_of, key_of, marks_of, Names}
 use Rattle.tcl_tree.specs.Gone.{Holds, held_of}
 use Rattle.tcl_tree.specs.Held as keys
-use Rattle.tcl_tree.specs.Held.{Deepens, IsInnermost, Over, Shallows, Stays}
+use Rattle.tcl_tree.specs.Held.{Deepens, IsInnermost, Over, Shallows, Stays, StoodAt}
 use Rattle.tcl_interpreter.proofs.PathLemmas.{snoc_ind}
 use Rattle.tcl_tree.proofs.CoreLemmas.{tree_gone, tree_there}
 use Rattle.tcl_tree.proofs.HeapLemmas.{last_step, one_path}
 use Rattle.tcl_tree.proofs.HeldLemmas.{depth_tree, follow_there, link-above, over_cases, over_path, same_above}
 use Rattle.tcl_tree.proofs.StayLemmas.{stays_around, stays_held, stays_innermost, stays_same, stays_then, stood_before}
 use Rattle.tcl_tree.proofs.StepLemmas.{follow_append}
-use Rattle.tcl_tree.proofs.WayLemmas.{gone_some}
+use Rattle.tcl_tree.proofs.WayLemmas.{follow_stood, gone_some}
 use Rattle.tcl_core.specs.Runs.{gone}
 use Rattle.tcl_tree.specs.declared.tree.Tree.{Tree as Table}
 use Rattle.tcl_tree.specs.declared.tree.Place.{Place as TablePlace}
@@ -326,6 +326,13 @@ holds_named t place p d h none = elim h.somewhere [
     by : {n : ℕ} → None ≡ gone d (tree_of t) p → Some n ≡ gone d (tree_of t) p → Names t place p
     by {n} e f = let clash : Some n ≡ None = f ∙ sym e in absurd cc
 
+-- who is held stood at the path
+pub holds_stood : (t : Table) (place : TablePlace) (p : Path) (d : ℕ) → Holds t place p d → StoodAt (held_of t) place.key p
+holds_stood t place p d h = elim h.somewhere [
+  | inl named ↦ follow_stood (get t.nodes) t.root t.sound t.ordered p place.key named
+  | inr away ↦ away.1.stood
+]
+
 -- ## Where they came to a completion
 
 pub here-refl : (t : Table) (place : TablePlace) → IsHere t t place
@@ -446,7 +453,7 @@ module _ (s t u : Table) (place : TablePlace) (p : Path) (named : Names s place 
   over_there : (a : ℕ) → Over (held_of s) a place.key → is_some (held_of s a) ≡ true
   over_there a w =
       let q = over_path (get s.nodes) s.root s.ordered s.sound a p place.key named w in
-      follow_there (get s.nodes) s.root s.sound s.ordered q.0 a q.2.1
+      follow_there (get s.nodes) s.root s.sound s.ordered q.0 a q.2
 
   pub nested_used : InUse (tree_of t) p
   nested_used = begun_at s t place p named nested
