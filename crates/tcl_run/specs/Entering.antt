@@ -77,8 +77,8 @@ IsOwn e = Prim.⊥
 abbrev pub in_common : Path → ℕ → Path → ℕ
 in_common t up down = unless (nat_le up (length t)) (together (falls up t) down)
 
--- An entry that is handed in for the interpreter at t, as it enters there. An alias that it sets has
--- no way that goes up and comes down again by the same names.
+-- An entry that is handed in for the interpreter at t, as it enters there. An alias that it sets
+-- has no way that goes up and comes down again by the same names.
 abbrev pub handed : Path → core.Entry → core.Entry
 handed t (SetAlias name up down words) = SetAlias name (up - in_common t up down)
     (drop (in_common t up down) down) words

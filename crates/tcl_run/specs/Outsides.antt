@@ -65,8 +65,8 @@ told_to None a = a
 told_to (Some n) (Replied r) = Replied (ended (Some n) r)
 told_to (Some n) a = Replied (Stop n Gone)
 
--- The call from p, so high up and for this, that went out when d evaluations were in progress there,
--- is answered so.
+-- The call from p, so high up and for this, that went out when d evaluations were in progress
+-- there, is answered so.
 abbrev pub Answers : {S : Type 0} → Going S → Tree Own → S → Path → ℕ → Height → Entry → S →
     Answer → Type 0
 Answers goes T o p d h i z a = goes T o (Some (h, i, d)) (event p (Back h a)) z ×

@@ -113,7 +113,7 @@ pub record IsSteady (old new : table.Tree) : Type 0 where
   pub stays : Stays (held_of old) (held_of new)
   pub counts : (q : Path) (k : ℕ) → InUse (tree_of old) q → key_of old q ≡ Some k →
       key_of new q ≡ Some k → steps_at (tree_of old) q ≤ steps_at (tree_of new) q
-  -- the top keeps its depth, in use or not, since that measures how much deeper an evaluation can go
+  -- the top keeps its depth, in use or not: that measures how much deeper an evaluation can go
   pub top : depth_at (tree_of new) [] ≡ depth_at (tree_of old) []
   pub counted : IsCounted (tree_of old []) (tree_of new [])
 
@@ -147,7 +147,7 @@ pub record IsLevel (old new : table.Tree) : Type 0 where
 
 -- What any evaluation leaves as it is, however it ends: who is in use stays so, or is gone; the
 -- root's limit bounds the root's count; and the outside may hand in no more entries than before.
--- (That its own interpreter stands still where it came to a completion is said by `IsHere` besides.)
+-- (That its own interpreter stands where it came to a completion is said by `IsHere` besides.)
 pub record Keeps {S : Type 0} (entries : S → ℕ) (old new : table.Tree) (o z : S) : Type 0 where
   pub steady : IsSteady old new
   pub left : entries z ≤ entries o

@@ -183,8 +183,9 @@ impl Entry {
     ghost use Rattle.tcl_core.specs.Paths.{Path};
     ghost use Rattle.tcl_run.specs.Entering.{handed, whole_entry};
 
-    /// The entry as it enters where it is handed in for the interpreter at a path from outside of the
-    /// tree: an alias that it sets has no way that goes up and comes down again by the same names.
+    /// The entry as it enters where it is handed in for the interpreter at a path from outside of
+    /// the tree: an alias that it sets has no way that goes up and comes down again by the same
+    /// names.
     ///
     /// # Errors
     /// Want of memory.

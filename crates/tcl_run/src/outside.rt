@@ -132,8 +132,8 @@ pub trait Outside {
     // from one state to the next, by what it is told, the tree being what it then is
     ghost goes: { core.Tree Own → Self → Wait → Event Own → Self → Type 0 };
 
-    // what may have become of a state, where an evaluation is given up, by all that it is told, by a
-    // question for which it wants memory, and by an entry that it hands in
+    // what may have become of a state, where an evaluation is given up, by all that it is told, by
+    // a question for which it wants memory, and by an entry that it hands in
     ghost loses: { Self → Self → Type 0 };
 
     // how many entries it may still hand in
@@ -179,8 +179,8 @@ pub trait Outside {
         ensures lost { loses self.old self.new }
         ensures left { entries_left self.new ≤ entries_left self.old };
 
-    /// What comes next to the caller's call, which passed the top of the tree. Of an answer a caller
-    /// that is gone is told what it may be (`told_to`): no completion, and no word of the host.
+    /// What comes next to the caller's call, which passed the top of the tree. A caller that is gone
+    /// is told of no completion, and of no word of the host (`told_to`).
     ///
     /// # Errors
     /// How the call ended otherwise than by an ordinary result; want of memory.

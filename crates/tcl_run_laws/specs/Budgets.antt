@@ -74,9 +74,9 @@ module _ {O : Type 0} where
 
   -- ## Depths
 
-  -- Each is in use afterwards as deeply as before, or not at all, where nobody was in use more deeply
-  -- than one above it: not at all where it, or one above it, was dropped meanwhile. And so nobody is
-  -- in use where nobody was.
+  -- Where nobody was in use more deeply than one above it, each is in use afterwards as deeply as
+  -- before, or, where it or one above it was dropped meanwhile, not at all. And so nobody is in use
+  -- where nobody was.
   pub record DepthsComeBack (T V : Tree O) : Type 0 where
     pub same : IsNested T → (q : Place) → (depth_of (V q) ≡ depth_of (T q)) ⊎ (depth_of (V q) ≡ 0)
     pub rest : IsAtRest T → IsAtRest V
