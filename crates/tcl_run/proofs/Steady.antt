@@ -16,7 +16,7 @@ use Rattle.std.specs.Option.{option_and_then}
 use Rattle.tcl_tree.specs.Nodes.{follow}
 use Rattle.tcl_tree.specs.TreeOf.{tree_of, key_of, marks_of, Names}
 use Rattle.tcl_tree.specs.Gone.{Holds, held_of}
-use Rattle.tcl_tree.specs.Held as keys
+use Rattle.tcl_tree.specs.Held as holdings
 use Rattle.tcl_tree.specs.Held.{Deepens, IsInnermost, Over, Shallows, Stays, StoodAt}
 use Rattle.tcl_interpreter.proofs.PathLemmas.{snoc_ind}
 use Rattle.tcl_tree.proofs.CoreLemmas.{tree_gone, tree_there}
@@ -208,10 +208,10 @@ depth_is T q = by (T q)
     by None = refl
     by (Some n) = refl
 
-pub depth_key : (t : Table) (q : Path) (k : ℕ) → key_of t q ≡ Some k → depth_at (tree_of t) q ≡ keys.depth_at (held_of t k)
+pub depth_key : (t : Table) (q : Path) (k : ℕ) → key_of t q ≡ Some k → depth_at (tree_of t) q ≡ holdings.depth_at (held_of t k)
 depth_key t q k at = depth_is (tree_of t) q ∙ depth_tree (get t.nodes) t.root t.sound t.ordered q k at
 
-pub used_key : (t : Table) (q : Path) (k : ℕ) → key_of t q ≡ Some k → InUse (tree_of t) q → 1 ≤ keys.depth_at (held_of t k)
+pub used_key : (t : Table) (q : Path) (k : ℕ) → key_of t q ≡ Some k → InUse (tree_of t) q → 1 ≤ holdings.depth_at (held_of t k)
 used_key t q k at used = let d = depth_key t q k at in let u = used q [] (append-nil q) in omega arith
 
 -- who stands above one has a key
@@ -257,8 +257,8 @@ still_deep : (s t : Table) → IsSteady s t → (q : Path) (k : ℕ) → key_of 
 still_deep s t h q k at there = depth_key t q k there ∙ h.stays.depth k ∙ sym (depth_key s q k at)
 
 -- where one that was in use stands, all above it stand, under their keys
-line_kept : (s t : Table) → IsSteady s t → (b a p : Path) (key k : ℕ) → p ≡ a ++ b → key_of s p ≡ Some key → key_of t p ≡ Some key → 1 ≤ keys.depth_at (held_of s key) → key_of s a ≡ Some k → key_of t a ≡ Some k
-line_kept s t h = snoc_ind (λ b. (a p : Path) (key k : ℕ) → p ≡ a ++ b → key_of s p ≡ Some key → key_of t p ≡ Some key → 1 ≤ keys.depth_at (held_of s key) → key_of s a ≡ Some k → key_of t a ≡ Some k)
+line_kept : (s t : Table) → IsSteady s t → (b a p : Path) (key k : ℕ) → p ≡ a ++ b → key_of s p ≡ Some key → key_of t p ≡ Some key → 1 ≤ holdings.depth_at (held_of s key) → key_of s a ≡ Some k → key_of t a ≡ Some k
+line_kept s t h = snoc_ind (λ b. (a p : Path) (key k : ℕ) → p ≡ a ++ b → key_of s p ≡ Some key → key_of t p ≡ Some key → 1 ≤ holdings.depth_at (held_of s key) → key_of s a ≡ Some k → key_of t a ≡ Some k)
     (λ a p key k is at there deep here.
     let top : p ≡ a = is ∙ append-nil a in
     let same : key ≡ k = same_Some _ _ (sym at ∙ ap (key_of s) top ∙ here) in
@@ -298,13 +298,13 @@ steady-trans s t u g h = record {
 pub steady_depths : (s t : Table) → IsSteady s t → (q : Path) → (depth_at (tree_of t) q ≡ depth_at (tree_of s) q) ⊎ (depth_at (tree_of t) q ≡ 0)
 steady_depths s t h q = by (key_of t q) refl
   where
-    deep : (k d : ℕ) → key_of t q ≡ Some k → keys.depth_at (held_of t k) ≡ d → (depth_at (tree_of t) q ≡ depth_at (tree_of s) q) ⊎ (depth_at (tree_of t) q ≡ 0)
+    deep : (k d : ℕ) → key_of t q ≡ Some k → holdings.depth_at (held_of t k) ≡ d → (depth_at (tree_of t) q ≡ depth_at (tree_of s) q) ⊎ (depth_at (tree_of t) q ≡ 0)
     deep k zero at e = inr (depth_key t q k at ∙ e)
     deep k (suc d) at e = inl (still_deep s t h q k (stood_before s t h.stays q k at (omega arith)) at)
 
     by : (o : Option ℕ) → key_of t q ≡ o → (depth_at (tree_of t) q ≡ depth_at (tree_of s) q) ⊎ (depth_at (tree_of t) q ≡ 0)
     by None e = inr (ap (λ (o : Option (Node Own)). depth_in (option_map meters_of o)) (tree_gone t q e))
-    by (Some k) e = deep k (keys.depth_at (held_of t k)) e refl
+    by (Some k) e = deep k (holdings.depth_at (held_of t k)) e refl
 
 -- an evaluation that was in progress is so still, there or in one that is gone
 pub steady_holds : (s t : Table) (place : TablePlace) (p : Path) → IsSteady s t → Names s place p → InUse (tree_of s) p → Holds t place p (depth_of (tree_of s p))
@@ -447,8 +447,8 @@ changed_level s t p own m k held e = record {
 -- It begins in the interpreter at p, and others go on until control is there again.
 module _ (s t u : Table) (place : TablePlace) (p : Path) (named : Names s place p) (keys₁ : (q : Path) → key_of t q ≡ key_of s q)
     (deep : Deepens (held_of s) place.key (held_of t)) (nested : tree_of t ≡ effect p Nested (tree_of s)) (h : IsSteady t u) where
-  over : (a : ℕ) → Over (held_of s) a place.key ⊎ (Over (held_of s) a place.key → Prim.⊥)
-  over a = over_cases (get s.nodes) s.root s.ordered a place.key
+  over_or_not : (a : ℕ) → Over (held_of s) a place.key ⊎ (Over (held_of s) a place.key → Prim.⊥)
+  over_or_not a = over_cases (get s.nodes) s.root s.ordered a place.key
 
   over_there : (a : ℕ) → Over (held_of s) a place.key → is_some (held_of s a) ≡ true
   over_there a w =
@@ -466,7 +466,7 @@ module _ (s t u : Table) (place : TablePlace) (p : Path) (named : Names s place 
 
   -- and it is the last one that began there
   pub nested_innermost : IsInnermost (held_of u) place.key
-  nested_innermost = stays_innermost (held_of s) (held_of t) (held_of u) s.ordered.depths place.key over_there over deep h.stays
+  nested_innermost = stays_innermost (held_of s) (held_of t) (held_of u) s.ordered.depths place.key over_there over_or_not deep h.stays
 
   module _ (v : Table) (keys₂ : (q : Path) → key_of v q ≡ key_of u q) (shallow : Shallows (held_of u) place.key (held_of v)) (unnested : tree_of v ≡ effect p Unnested (tree_of u)) where
     steps_before : (q : Path) → steps_of (tree_of t q) ≡ steps_of (tree_of s q)
@@ -485,7 +485,7 @@ module _ (s t u : Table) (place : TablePlace) (p : Path) (named : Names s place 
     pub nested_steady : marks_of t ≡ marks_of s → marks_of v ≡ marks_of u → IsSteady s v
     nested_steady m1 m2 = record {
       marks = m2 ∙ h.marks ∙ m1;
-      stays = stays_around (held_of s) (held_of t) (held_of u) s.ordered.depths place.key over_there over deep h.stays s.ordered.used (held_of v) shallow;
+      stays = stays_around (held_of s) (held_of t) (held_of u) s.ordered.depths place.key over_there over_or_not deep h.stays s.ordered.used (held_of v) shallow;
       counts = λ q k used at there. steps_around q (h.counts q k (deeper_in_use (tree_of s) (tree_of t) p q nested used) (keys₁ q ∙ at) (sym (keys₂ q) ∙ there));
       top = back_again (tree_of s) (tree_of t) (tree_of u) (tree_of v) p [] nested unnested h.top;
       counted = counted-trans (tree_of s []) (tree_of t []) (tree_of v []) (same_counted (tree_of s []) (tree_of t []) (steps_before []))
