@@ -25,7 +25,9 @@ use Rattle.tcl_tree.specs.Own.{Own}
 use Rattle.tcl_language.specs.Instructions.{Instr, Program, look, change, at_node, or_fails, grown, either, fits, too_long as too_long_error}
 use Rattle.tcl_language.specs.Interpreters.{finished}
 use Rattle.tcl_run.specs.Ends.{IsFailure, too_deep_at}
-use Rattle.tcl_run.specs.Outsides.{Going, Enters, Returns, Misses}
+use Rattle.tcl_core.specs.Endings.Kind.{Gone}
+use Rattle.tcl_core.specs.Entries.{Answer}
+use Rattle.tcl_run.specs.Outsides.{Answers, AnswersFor, Going, Enters, Returns, Misses, told_to}
 use Rattle.tcl_run.specs.Runs.{Comes, Counts, IsLoss, Proceeds, RefusesStep, Ways}
 use Rattle.tcl_run.specs.Runs.Proceeds.{ended, given_up}
 use Rattle.tcl_run.specs.Runs.IsLoss.{unlost}
@@ -277,6 +279,18 @@ module _ {S : Type 0} {ways : Ways S} {language : Table Own Instr} where
       ways.goes T o (Some (h, i, d)) (event p (Back h Nobody)) u → Proceeds ways language T u p (k Missed) V z e → Proceeds ways language T o p (wait (Some (h, i, d)) k) V z e
   misses_on up own g (ended t) = ended (executes.missed up own (record { told = g }) t)
   misses_on up own g (given_up b l) = given_up (beginnings.missed up own (record { told = g }) b) l
+
+  -- What is told to a caller for an answer is that answer where it stands; and where it is gone, the
+  -- answer being a completion, a host's reply or none, it is ended by that.
+  pub answers_here : {T : Tree Own} {o u : S} {p : Place} {h : Height} {i : Entry} (d : ℕ) (a : Answer) → gone d T p ≡ None → AnswersFor ways.goes T o p d h i u a → Answers ways.goes T o p d h i u a
+  answers_here {T} {o} {u} {p} {h} {i} d a here x = subst (λ (g : Option ℕ). Answers ways.goes T o p d h i u (told_to g a)) here x
+
+  pub answers_gone : {T : Tree Own} {o u : S} {p : Place} {h : Height} {i : Entry} {k : Said → Program} (d n : ℕ) (a : Answer) → rise_to h p ≡ None → gone d T p ≡ Some n → told_to (Some n) a ≡ Replied (Stop n Gone) →
+      AnswersFor ways.goes T o p d h i u a → Proceeds ways language T o p (wait (Some (h, i, d)) k) T u (Some (Stop n Gone))
+  answers_gone {T} {o} {u} {p} {h} {i} {k} d n a up away same x = by (subst (λ (b : Answer). Answers ways.goes T o p d h i u b) same (subst (λ (g : Option ℕ). Answers ways.goes T o p d h i u (told_to g a)) away x))
+    where
+      by : Answers ways.goes T o p d h i u (Replied (Stop n Gone)) → Proceeds ways language T o p (wait (Some (h, i, d)) k) T u (Some (Stop n Gone))
+      by y = answers_passed tt up y.1 y.0
 
   -- an entry is handed in meanwhile, and done, and the program waits on
   pub enters_on : {T U V : Tree Own} {o o1 o2 o3 z : S} {p : Place} {d : ℕ} {h : Height} {i : Entry} {k : Said → Program} {m : Node Own} {y : Reply} {e : Ending} (t : Path) (inner : Entry) → rise_to h p ≡ None → T t ≡ Some m →

@@ -74,12 +74,12 @@ IsOwn e = Prim.⊥
 
 -- How many names the way down from the interpreter so many levels above that at t has in common
 -- with the way from there to t: none where that is above the tree.
-abbrev pub in_common : Path → ℕ → Path → ℕ
-in_common t up down = unless (nat_le up (length t)) (together (falls up t) down)
+abbrev pub detour : Path → ℕ → Path → ℕ
+detour t up down = unless (nat_le up (length t)) (together (falls up t) down)
 
 -- An entry that is handed in for the interpreter at t, as it enters there. An alias that it sets
 -- has no way that goes up and comes down again by the same names.
 abbrev pub handed : Path → core.Entry → core.Entry
-handed t (SetAlias name up down words) = SetAlias name (up - in_common t up down)
-    (drop (in_common t up down) down) words
+handed t (SetAlias name up down words) = SetAlias name (up - detour t up down)
+    (drop (detour t up down) down) words
 handed t i = i

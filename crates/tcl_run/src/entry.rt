@@ -1,6 +1,7 @@
 //! What an interpreter is asked for by another one, or from outside of the tree.
 ghost use Rattle.std.specs.Prelude.{◌≡◌, ◌≤◌, ◌-◌, IfOk, drop, length};
 ghost use Rattle.tcl_core.specs.Paths.{falls};
+ghost use Rattle.tcl_run.specs.Entering.{detour};
 
 use std::alloc::{AllocError, Global};
 use tcl_host::request::Request;
@@ -163,8 +164,8 @@ fn last_names(path: &[Text], count: usize) -> &[Text]
 /// up and comes down again by the same names.
 fn without_detour(alloc: Global, alias: &Alias, target: &[Text]) -> Result<Alias, AllocError>
     ensures { IfOk result (λ made. made ≡ record {
-      up = alias.now.up - in_common target.now alias.now.up alias.now.down;
-      down = drop (in_common target.now alias.now.up alias.now.down) alias.now.down;
+      up = alias.now.up - detour target.now alias.now.up alias.now.down;
+      down = drop (detour target.now alias.now.up alias.now.down) alias.now.down;
       words = alias.now.words;
     }) }
 {
