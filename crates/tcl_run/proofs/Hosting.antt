@@ -14,18 +14,34 @@ use Rattle.tcl_core.specs.Entries.Entry.{AskHost}
 use Rattle.tcl_core.specs.Runs.{gone}
 use Rattle.tcl_core.specs.Trees.What.{Back}
 use Rattle.tcl_host.specs.Replies.{is_reply_to}
-use Rattle.tcl_run.specs.Entering.{request_of}
+use Rattle.tcl_run.specs.Entering.{entry_of, request_of, whole_entry}
+use Rattle.tcl_run.specs.declared.entry.Entry.{Entry as CodeEntry}
+use Rattle.tcl_run.specs.declared.entry.Entry.TheVariants as entry
+use Rattle.tcl_run.specs.declared.entry.OwnEntry.{OwnEntry}
+use Rattle.tcl_run.specs.declared.entry.OwnEntry.TheVariants as own
 use Rattle.tcl_run.proofs.Fitting.{own_reply, told_fits}
 use Rattle.tcl_core.specs.Entries.{Entry}
-use Rattle.tcl_core.specs.Paths.{Path, Place, rise}
+use Rattle.tcl_core.specs.Paths.{Height, Path, Place, rise, rise_to}
 use Rattle.tcl_core.specs.Programs.{Wait}
 use Rattle.tcl_core.specs.Execution.{passing}
 use Rattle.tcl_core.specs.Trees.{Event, Tree}
 use Rattle.tcl_core.proofs.PathLaws.{rise_back}
 use Rattle.tcl_host.specs.declared.reply.HostReply.{HostReply}
 use Rattle.tcl_host.specs.declared.request.Request.{Request}
-use Rattle.tcl_run.specs.Outsides.{AnswersFor, Enters, Misses, Returns, hosted, hosted_at, reply_of, told_to}
+use Rattle.tcl_run.specs.Outsides.{AnswersFor, Enters, IsAsked, Misses, Returns, hosted, hosted_at, reply_of, told_to}
 use Rattle.tcl_tree.specs.Own.{Own}
+
+-- only a host is asked for nothing that an interpreter does by itself
+own_unasked : (i : OwnEntry) → IsAsked None (entry_of i) → Prim.⊥
+own_unasked (own.SetAlias name alias) asked = asked
+own_unasked (own.ClearAlias name) asked = asked
+own_unasked (own.Hide name hidden) asked = asked
+own_unasked (own.Expose hidden name) asked = asked
+own_unasked (own.SetCountLimit limit) asked = asked
+own_unasked (own.SetDepthLimit limit) asked = asked
+own_unasked (own.Create name safe) asked = asked
+own_unasked (own.Delete name) asked = asked
+own_unasked (own.Ask q) asked = asked
 
 module _ {S : Type 0} (step : S → Request → HostReply → S → Type 0) where
   within : (T : Tree Own) (o : S) (s : Wait) (w : Event Own) (h : Option Place) (b : Place) → h ≡ Some b → passing h (hosted_at step) T o s w o
@@ -64,3 +80,12 @@ module _ {S : Type 0} (step : S → Request → HostReply → S → Type 0) wher
       back : (g : Option ℕ) → hosted step T o (Some (Some n, i, d)) (event p (Back (Some n) (told_to g Nobody))) o
       back None = nobody_told T o p n d i None (rise n p) up
       back (Some l) = nobody_told T o p n d i (Some l) (rise n p) up
+
+  -- a host is asked for requests, and answers nothing else
+  pub nobody_comes : (T : Tree Own) (o : S) (p : Place) (d : ℕ) (h : Height) (i : CodeEntry) → IsAsked h (whole_entry i) → ((q : Request) → h ≡ None → i ≡ entry.AskHost q → Prim.⊥) → rise_to h p ≡ None → AnswersFor (hosted step) T o p d h (whole_entry i) o Nobody
+  nobody_comes T o p d (Some n) i asked none up = nobody_answers T o p n d (whole_entry i) up
+  nobody_comes T o p d None (entry.AskHost q) asked none up = absurd (none q refl refl)
+  nobody_comes T o p d None (entry.Eval script) asked none up = elim asked [ ]
+  nobody_comes T o p d None (entry.CallWords words) asked none up = elim asked [ ]
+  nobody_comes T o p d None (entry.InvokeHidden is_global words) asked none up = elim asked [ ]
+  nobody_comes T o p d None (entry.Own own) asked none up = absurd (own_unasked own asked)

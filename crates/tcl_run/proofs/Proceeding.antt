@@ -41,6 +41,10 @@ abbrev pub IsQuitting : Ending → Type 0
 IsQuitting None = Unit {0}
 IsQuitting (Some r) = IsQuit r
 
+-- what is told to a caller for an answer is that answer, where it stands
+pub answers_here : {S : Type 0} (goes : Going S) (T : Tree Own) (o u : S) (p : Place) (d : ℕ) (h : Height) (i : Entry) (a : Answer) → gone d T p ≡ None → AnswersFor goes T o p d h i u a → Answers goes T o p d h i u a
+answers_here goes T o u p d h i a here x = subst (λ (g : Option ℕ). Answers goes T o p d h i u (told_to g a)) here x
+
 module _ {S : Type 0} {ways : Ways S} {language : Table Own Instr} where
   -- ## Along equations
 
@@ -280,11 +284,7 @@ module _ {S : Type 0} {ways : Ways S} {language : Table Own Instr} where
   misses_on up own g (ended t) = ended (executes.missed up own (record { told = g }) t)
   misses_on up own g (given_up b l) = given_up (beginnings.missed up own (record { told = g }) b) l
 
-  -- What is told to a caller for an answer is that answer where it stands; and where it is gone, the
-  -- answer being a completion, a host's reply or none, it is ended by that.
-  pub answers_here : {T : Tree Own} {o u : S} {p : Place} {h : Height} {i : Entry} (d : ℕ) (a : Answer) → gone d T p ≡ None → AnswersFor ways.goes T o p d h i u a → Answers ways.goes T o p d h i u a
-  answers_here {T} {o} {u} {p} {h} {i} d a here x = subst (λ (g : Option ℕ). Answers ways.goes T o p d h i u (told_to g a)) here x
-
+  -- where the caller is gone, and the answer is a completion, a host's reply or none, it is ended by that
   pub answers_gone : {T : Tree Own} {o u : S} {p : Place} {h : Height} {i : Entry} {k : Said → Program} (d n : ℕ) (a : Answer) → rise_to h p ≡ None → gone d T p ≡ Some n → told_to (Some n) a ≡ Replied (Stop n Gone) →
       AnswersFor ways.goes T o p d h i u a → Proceeds ways language T o p (wait (Some (h, i, d)) k) T u (Some (Stop n Gone))
   answers_gone {T} {o} {u} {p} {h} {i} {k} d n a up away same x = by (subst (λ (b : Answer). Answers ways.goes T o p d h i u b) same (subst (λ (g : Option ℕ). Answers ways.goes T o p d h i u (told_to g a)) away x))

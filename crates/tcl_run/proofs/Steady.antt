@@ -18,7 +18,7 @@ use Rattle.tcl_tree.specs.TreeOf.{tree_of, key_of, marks_of, Names}
 use Rattle.tcl_tree.specs.Gone.{Holds, held_of}
 use Rattle.tcl_tree.specs.Held as holdings
 use Rattle.tcl_tree.specs.Held.{Deepens, IsInnermost, Over, Shallows, Stays, StoodAt}
-use Rattle.tcl_interpreter.proofs.PathLemmas.{snoc_ind}
+use Rattle.tcl_tree.proofs.PathLemmas.{snoc_ind}
 use Rattle.tcl_tree.proofs.CoreLemmas.{tree_gone, tree_there}
 use Rattle.tcl_tree.proofs.HeapLemmas.{last_step, one_path}
 use Rattle.tcl_tree.proofs.HeldLemmas.{depth_tree, follow_there, link-above, over_cases, over_path, same_above}

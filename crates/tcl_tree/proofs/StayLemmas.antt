@@ -231,7 +231,7 @@ module _ (t u : Tree) (stays : Stays (held_of t) (held_of u)) where
       (follow_stood (get t.nodes) t.root t.sound t.ordered x k e)
 
   -- who stands with someone in progress stood there before
-  stood_before : (x : Path) (k : ℕ) → key_of u x ≡ Some k → 1 ≤ depth_at (held_of u k) → key_of t x ≡ Some k
+  pub stood_before : (x : Path) (k : ℕ) → key_of u x ≡ Some k → 1 ≤ depth_at (held_of u k) → key_of t x ≡ Some k
   stood_before x k e l =
       let stood = stood_along (held_of u) (held_of t) k x
       (λ a w.
