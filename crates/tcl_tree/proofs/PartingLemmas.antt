@@ -41,12 +41,12 @@ unfolding tally
 tally_less f g x zero l t u e = absurd (omega arith)
 tally_less f g x (suc m) l t u e = elim (cases_eq x m) [
   | inl same ↦
-      let a = ap (λ b. cond b 1 0) (ap f (sym same) ∙ t) in
-      let b = ap (λ b. cond b 1 0) (ap g (sym same) ∙ u) in
+      let a : cond (f m) 1 0 ≡ 1 = ap (λ (b : Bool). cond b 1 0) (ap f (sym same) ∙ t) in
+      let b : cond (g m) 1 0 ≡ 0 = ap (λ (b : Bool). cond b 1 0) (ap g (sym same) ∙ u) in
       let c = tally_same f g m (λ k l. sym (e k (λ is. absurd (omega arith)))) in
       omega arith
   | inr other ↦
-      let a = ap (λ b. cond b 1 0) (e m (λ is. other (sym is))) in
+      let a : cond (g m) 1 0 ≡ cond (f m) 1 0 = ap (λ (b : Bool). cond b 1 0) (e m (λ is. other (sym is))) in
       let c = tally_less f g x m (omega arith) t u e in
       omega arith
 ]

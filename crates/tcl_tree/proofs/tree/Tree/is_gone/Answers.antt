@@ -7,8 +7,8 @@ use Rattle.tcl_tree.specs.Gone.{held_of}
 use Rattle.tcl_tree.proofs.WayLemmas.{gone_none, gone_some, holds_there}
 use Rattle.tcl_tree.proofs.tree.Tree.is_gone.Goals as goal
 
-pub above_gone-at-requires : goal.above_gone-at-requires
-above_gone-at-requires c = holds_there c.args.self.now c.args.place _ _ c.requires.2
+pub above_gone-requires : goal.above_gone-requires
+above_gone-requires c = holds_there c.args.self.now c.args.place _ _ c.requires.2
 
 pub returns-in_err-at : goal.returns-in_err-at
 returns-in_err-at c = λ p d w. gone_none c.args.self.now c.args.place p d c.in_err-at.ensures.stands w
@@ -23,8 +23,8 @@ climb-init c =
       more = λ m h. further g.1 g.0 g.2 h;
     }
 
-pub above_gone-above-requires : goal.above_gone-above-requires
-above_gone-above-requires c = c.climb.invariant.there
+pub above_gone-2-requires : goal.above_gone-2-requires
+above_gone-2-requires c = c.climb.invariant.there
 
 pub overflow_add-levels : goal.overflow_add-levels
 overflow_add-levels c =
