@@ -36,19 +36,26 @@ unfolding tally
 tally_same f g zero e = refl
 tally_same f g (suc m) e = (λ i. cond (e m (omega arith) i) 1 0 + tally_same f g m (λ k l. e k (omega arith)) i)
 
+one_here : (b d : Bool) (x y : ℕ) → b ≡ true → d ≡ false → x ≡ y → (cond d 1 0 + x) + 1 ≡ cond b 1 0 + y
+one_here true false x y p q e = omega arith
+one_here true true x y p q e = let z : true ≡ false = q in cc
+one_here false d x y p q e = let z : false ≡ true = p in cc
+
+one_below : (b d : Bool) (x y : ℕ) → d ≡ b → x + 1 ≡ y → (cond d 1 0 + x) + 1 ≡ cond b 1 0 + y
+one_below true true x y p e = omega arith
+one_below false false x y p e = omega arith
+one_below true false x y p e = let z : false ≡ true = p in cc
+one_below false true x y p e = let z : true ≡ false = p in cc
+
 pub tally_less : (f g : ℕ → Bool) (x m : ℕ) → x < m → f x ≡ true → g x ≡ false → ((k : ℕ) → k ≢ x → g k ≡ f k) → tally g m + 1 ≡ tally f m
 unfolding tally
 tally_less f g x zero l t u e = absurd (omega arith)
 tally_less f g x (suc m) l t u e = elim (cases_eq x m) [
   | inl same ↦
-      let a = ap (λ b. cond b 1 0) (ap f (sym same) ∙ t) in
-      let b = ap (λ b. cond b 1 0) (ap g (sym same) ∙ u) in
-      let c = tally_same f g m (λ k l. sym (e k (λ is. absurd (omega arith)))) in
-      omega arith
+      let c = tally_same f g m (λ k h. sym (e k (λ is. absurd (omega arith)))) in
+      one_here (f m) (g m) (tally g m) (tally f m) (ap f (sym same) ∙ t) (ap g (sym same) ∙ u) (sym c)
   | inr other ↦
-      let a = ap (λ b. cond b 1 0) (e m (λ is. other (sym is))) in
-      let c = tally_less f g x m (omega arith) t u e in
-      omega arith
+      one_below (f m) (g m) (tally g m) (tally f m) (e m (λ is. other (sym is))) (tally_less f g x m (omega arith) t u e)
 ]
 
 -- ## One that has no children is taken out

@@ -7,11 +7,11 @@ use Rattle.tcl_tree.specs.Gone.{held_of}
 use Rattle.tcl_tree.proofs.WayLemmas.{gone_none, gone_some, holds_there}
 use Rattle.tcl_tree.proofs.tree.Tree.is_gone.Goals as goal
 
-pub above_gone-at-requires : goal.above_gone-at-requires
-above_gone-at-requires c = holds_there c.args.self.now c.args.place _ _ c.requires.2
+pub above_gone-requires : goal.above_gone-requires
+above_gone-requires c = holds_there c.args.self.now c.args.place _ _ c.requires.2
 
 pub returns-in_err-at : goal.returns-in_err-at
-returns-in_err-at c = λ p d w. gone_none c.args.self.now c.args.place p d c.in_err-at.ensures.stands w
+returns-in_err-at c = λ p d w. c.from_residual.ensures ∙ gone_none c.args.self.now c.args.place p d c.in_err-at.ensures.stands w
 
 pub climb-init : goal.climb-init
 climb-init c =
@@ -20,11 +20,14 @@ climb-init c =
       there = c.args.self.now.ordered.there _ _ _ g.2;
       fits = let l = c.args.self.now.ordered.levels _ _ _ g.2 in let f = c.args.self.now.sound.fits c.args.place.key in omega arith;
       last = λ stands. itself g.1 g.0 g.2 stands;
-      more = λ m h. further g.1 g.0 g.2 h;
+      more = λ m h. subst (λ n. HighestGone (held_of c.args.self.now) c.args.place.key (suc n)) (same m) (further g.1 g.0 g.2 h);
     }
+  where
+    same : (n : ℕ) → n ≡ 0 + n
+    same n = omega arith
 
-pub above_gone-above-requires : goal.above_gone-above-requires
-above_gone-above-requires c = c.climb.invariant.there
+pub above_gone-requires-in-climb : goal.above_gone-requires-in-climb
+above_gone-requires-in-climb c = c.climb.invariant.there
 
 pub overflow_add-levels : goal.overflow_add-levels
 overflow_add-levels c =

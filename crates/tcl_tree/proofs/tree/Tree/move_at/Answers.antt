@@ -1,7 +1,7 @@
 use Rattle.std.proofs.Common.{◌≡◌, ◌≤◌, sym, ◌∙◌, ap, arith}
 use Rattle.std.specs.Option.{option_map}
 use Rattle.tcl_interpreter.specs.declared.node.Meter.{Meter}
-use Rattle.tcl_tree.specs.Held.{held_in}
+use Rattle.tcl_tree.specs.Held.{held_in, depth_at}
 use Rattle.tcl_tree.proofs.HeapLemmas.{sound_placed, guarded_placed}
 use Rattle.tcl_tree.proofs.DepthLemmas.{raised_follow, raised_ordered, raised_steps, raised_over, raised_others, steps_grow, steps_ordered, stepped, with_depth}
 use Rattle.tcl_tree.proofs.tree.Tree.move_at.Goals as goal
@@ -16,7 +16,7 @@ invariant_of-self c =
       sound = sound_placed _ _ r.places _ c.args.self.now.sound;
       guarded = guarded_placed _ _ r.places c.args.self.now.guarded;
       ordered = raised_ordered c.args.meter _ _ _ _ _ c.args.self.now.sound c.args.self.now.ordered c.requires.there.1 r
-          (λ x k n e v a. let y = c.args.self.now.ordered.depths x k n e in let z = steps_grow c.args.meter c.requires.onward _ in omega (arith, y, z))
+          (λ x k n e v a. let y = c.args.self.now.ordered.depths x k n e in let z = steps_grow c.args.meter c.requires.onward (depth_at (held_in (Rattle.slab.specs.Slab.get c.args.self.now.nodes) k)) in omega (arith, y, z))
           (steps_ordered c.args.meter);
     }
 

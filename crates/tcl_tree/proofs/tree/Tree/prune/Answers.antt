@@ -1,4 +1,4 @@
-use Rattle.std.proofs.Common.{◌≡◌, sym, []}
+use Rattle.std.proofs.Common.{rules, ◌≡◌, sym, []}
 use Rattle.tcl_interpreter.specs.declared.node.Node.{Node}
 use Rattle.tcl_tree.proofs.HeldLemmas.{follow_stands}
 use Rattle.tcl_tree.proofs.StepLemmas.{leads_somewhere, at_some}

@@ -16,7 +16,7 @@ use Rattle.tcl_tree.proofs.HeapLemmas.{sound_placed, guarded_placed}
 use Rattle.tcl_tree.proofs.HeldLemmas.{follow_stands, follow_there, held-some, not_gone, not_over_above, over_path}
 use Rattle.tcl_tree.proofs.CoreLemmas.{line_done, never_full}
 use Rattle.tcl_tree.proofs.DepthLemmas.{raised_follow, raised_ordered, raised_over, raised_others, steps_ordered}
-use Rattle.tcl_tree.proofs.GoneLemmas.{beside_follow, beside_guarded, beside_sound, beside_tree, ease_above, ease_away, ease_beside, ease_here, ease_innermost, ease_ordered, ease_others, ease_then, gone_parent, highest_gone, less_pred, node_gone, node_there, shallow_stands}
+use Rattle.tcl_tree.proofs.GoneLemmas.{beside_follow, beside_guarded, beside_sound, beside_tree, ease_away, ease_beside, ease_here, ease_innermost, ease_ordered, ease_others, ease_then, gone_parent, highest_gone, less_pred, node_gone, node_there, shallow_stands}
 use Rattle.tcl_tree.proofs.WayLemmas.{climbed_more, holds_climbed, holds_there, lowered_between, stood_follow}
 use Rattle.tcl_tree.proofs.tree.Tree.unnest.Goals as goal
 
@@ -32,11 +32,11 @@ gone-init c = record {
   climbed = λ p d w. holds_climbed c.args.self.now c.args.place p d w;
 }
 
-pub above_gone-above-requires : goal.above_gone-above-requires
-above_gone-above-requires c = c.gone.invariant.there
+pub above_gone-requires : goal.above_gone-requires
+above_gone-requires c = c.gone.invariant.there
 
 pub ease-requires : goal.ease-requires
-ease-requires c = sym (held-some _ _) ∙ c.gone.invariant.there
+ease-requires c = record { there = sym (held-some _ _) ∙ c.gone.invariant.there }
 
 pub invariant_of-self : goal.invariant_of-self
 invariant_of-self c =
