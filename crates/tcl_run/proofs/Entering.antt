@@ -10,4 +10,3 @@ last_are p count within =
     let left : length (drop k p) ≡ length p - k = length-drop k p in
     let same : length (drop k p) ≡ count = omega arith in
     take_all (length p - k) (drop k p) (omega arith) ∙ sym (falls_behind count (take k p) (drop k p) same) ∙ ap (falls count) (take-append-drop k p)
-
