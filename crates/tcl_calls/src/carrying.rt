@@ -169,9 +169,12 @@ fn unless_gone(gone: Option<usize>, told: Interruption) -> Interruption
     ensures told { Interrupts told (λ r. Interrupts result (λ e. e ≡ core.ended gone r)) }
     ensures stands { Completes result (gone ≡ None) }
 {
-    match (gone, told) {
-        (Some(levels_up), Interruption::Completed(_)) => gone_stop(levels_up),
-        (_, told) => told,
+    let Some(levels_up) = gone else {
+        return told;
+    };
+    match told {
+        Interruption::Completed(_) => gone_stop(levels_up),
+        other => other,
     }
 }
 
