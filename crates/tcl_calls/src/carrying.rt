@@ -14,7 +14,7 @@ ghost use Rattle.tcl_run.specs.Runs.{IsLoss};
 ghost use Rattle.tcl_tree.specs.Gone.{Holds};
 ghost use Rattle.tcl_tree.specs.TreeOf.{tree_of};
 ghost use Rattle.tcl_flow.specs.declared.stop.StopKind.TheVariants.{Gone};
-ghost use Rattle.tcl_run.specs.declared.interruption.Interruption.TheVariants.{Stopped};
+ghost use Rattle.tcl_run.specs.declared.interruption.Interruption.TheVariants.{Memory, Stopped};
 ghost use Rattle.tcl_calls.specs.Carrying.{ComesBack, EndedBy, IsStanding, Settles};
 
 use std::alloc::{AllocError, Global};
@@ -149,7 +149,8 @@ fn told_instead(
         Err(Interruption::Stopped(stop)) => {
             Some(unless_gone(gone, stop_for_caller(tree, alloc, caller, up, down, *stop)))
         }
-        Ok(_) | Err(Interruption::Completed(_)) => Some(gone_stop(gone?)),
+        Ok(_) => Some(gone_stop(gone?)),
+        Err(Interruption::Completed(_)) => Some(gone_stop(gone?)),
         _ => None,
     }
 }
@@ -167,6 +168,7 @@ fn gone_stop(levels_up: usize) -> Interruption
 /// What a caller is told of an end, which is no completion where the caller is gone.
 fn unless_gone(gone: Option<usize>, told: Interruption) -> Interruption
     ensures told { Interrupts told (λ r. Interrupts result (λ e. e ≡ core.ended gone r)) }
+    ensures memory { told ≡ Memory → result ≡ Memory }
     ensures stands { Completes result (gone ≡ None) }
 {
     let Some(levels_up) = gone else {

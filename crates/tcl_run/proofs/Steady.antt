@@ -30,6 +30,9 @@ use Rattle.tcl_tree.specs.declared.tree.Tree.{Tree as Table}
 use Rattle.tcl_tree.specs.declared.tree.Place.{Place as TablePlace}
 use Rattle.tcl_run.specs.Runs.{meters_of, meters_at, depth_in, depth_at, steps_at, is_root, InUse, IsCounted, IsHeld, IsHere, IsSteady, IsLevel, IsAt, IsRunning, room}
 use Rattle.tcl_text.specs.declared.integer.Integers.{Integers}
+use Rattle.tcl_frames.specs.Chain.{Chain}
+use Rattle.tcl_language.specs.Instructions.{with_chain}
+use Rattle.tcl_tree.specs.LendingTree.{HasFrames}
 
 pub meters_changed : (T U : Tree Own) (p q : Path) (own : Own) → U ≡ effect p (Changed own) T → meters_at U q ≡ meters_at T q
 meters_changed T U p q own e = ap (λ (V : Tree Own). meters_at V q) e ∙ by (strip p q) (T q)
@@ -533,3 +536,9 @@ stands (Some a) e = (a, refl)
 pub still_stands : (T : Tree Own) (l : Option ℕ) (p : Path) (n : Node Own) → T p ≡ Some n → (m : Node Own) × (effect [] (Limited l) T p ≡ Some m)
 still_stands T l [] n e = (record n { limit = l }, ap (with_limit l) e)
 still_stands T l (x ∷ p) n e = (n, e)
+
+-- other frames that were lent and given back
+pub lent_level : (s t : Table) (place : TablePlace) (p : Path) (chain : Chain) → Names s place p → HasFrames s t p chain → IsLevel s t
+lent_level s t place p chain at held =
+    let n = stands (tree_of s p) (tree_there s p place.key at) in
+    changed_level s t p (with_chain n.0.own chain) held.marks held.keys held.held (held.tree n.0 n.1)

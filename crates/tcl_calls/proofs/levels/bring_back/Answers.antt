@@ -21,4 +21,4 @@ unreachable-requires c =
     cc
 
 pub returns-in-Some-clause-back : goal.returns-in-Some-clause-back
-returns-in-Some-clause-back c = λ p d h. closes_gone (tree_of c.args.tree.now) p d c.in-Some.x level_over (sym (c.is_gone.ensures p d h) ∙ c.in-Some.is)
+returns-in-Some-clause-back c = λ p d h. closes_gone (tree_of c.args.tree.now) p d _ level_over (sym (c.is_gone.ensures p d h) ∙ c.in-Some.is)

@@ -21,4 +21,4 @@ unreachable-requires c =
     cc
 
 pub returns-in-Some-clause-left : goal.returns-in-Some-clause-left
-returns-in-Some-clause-left c = λ p d h. closes_gone (tree_of c.args.tree.now) p d c.in-Some.x out_of_frame (sym (c.is_gone.ensures p d h) ∙ c.in-Some.is)
+returns-in-Some-clause-left c = λ p d h. closes_gone (tree_of c.args.tree.now) p d _ out_of_frame (sym (c.is_gone.ensures p d h) ∙ c.in-Some.is)

@@ -8,7 +8,7 @@ use Rattle.tcl_language.specs.Instructions.{with_chain}
 use Rattle.tcl_tree.specs.Own.{Own}
 use Rattle.tcl_tree.specs.TreeOf.{tree_of}
 use Rattle.tcl_tree.proofs.CoreLemmas.{tree_there}
-use Rattle.tcl_run.proofs.Steady.{changed_level, changed_same, stands}
+use Rattle.tcl_run.proofs.Steady.{changed_same, lent_level, stands}
 use Rattle.tcl_run.proofs.steps.write_variable.Goals as goal
 
 pub returns-in-Err-clause-unchanged : goal.returns-in-Err-clause-unchanged
@@ -20,15 +20,7 @@ returns-in-Err-clause-unchanged c =
     held.tree n.0 n.1 ∙ ap (λ (x : Chain). effect p (Changed (with_chain n.0.own x)) (tree_of c.args.tree.now)) chain ∙ changed_same (tree_of c.args.tree.now) p n.0 n.1
 
 pub returns-in-Ok-clause-level : goal.returns-in-Ok-clause-level
-returns-in-Ok-clause-level c =
-    let p = c.requires.0 in
-    let n = stands (tree_of c.args.tree.now p) (tree_there c.args.tree.now p _ c.requires.1) in
-    let held = c.frames_of.follows.holds c.set.new.self (search rules) p c.requires.1 in
-    changed_level c.args.tree.now _ p (with_chain n.0.own c.set.new.self) held.marks held.keys held.held (held.tree n.0 n.1)
+returns-in-Ok-clause-level c = lent_level c.args.tree.now _ c.args.place c.requires.0 _ c.requires.1 (c.frames_of.follows.holds c.set.new.self (search rules) c.requires.0 c.requires.1)
 
 pub returns-in-Err-clause-level : goal.returns-in-Err-clause-level
-returns-in-Err-clause-level c =
-    let p = c.requires.0 in
-    let n = stands (tree_of c.args.tree.now p) (tree_there c.args.tree.now p _ c.requires.1) in
-    let held = c.frames_of.follows.holds c.set.new.self (search rules) p c.requires.1 in
-    changed_level c.args.tree.now _ p (with_chain n.0.own c.set.new.self) held.marks held.keys held.held (held.tree n.0 n.1)
+returns-in-Err-clause-level c = lent_level c.args.tree.now _ c.args.place c.requires.0 _ c.requires.1 (c.frames_of.follows.holds c.set.new.self (search rules) c.requires.0 c.requires.1)

@@ -1,0 +1,34 @@
+use Rattle.std.proofs.Common.{◌≡◌, ℕ, Option, None, sym, ◌∙◌, ap, subst, refl}
+use Rattle.std.specs.Prelude.{Result, List, Err, MatchOption}
+use Rattle.tcl_core.specs.Endings.{Reply, ok}
+use Rattle.tcl_core.specs.Endings.Reply.{Completed}
+use Rattle.tcl_core.specs.Paths.{Path}
+use Rattle.tcl_core.specs.Runs.{carried, carried_by, ended, gone}
+use Rattle.tcl_flow.specs.Stopping.{reply_of}
+use Rattle.tcl_run.specs.Ends.{Completes, Interrupts, OnCompletion}
+use Rattle.tcl_run.specs.declared.interruption.Interruption.{Interruption}
+use Rattle.tcl_run.specs.declared.interruption.Interruption.TheVariants as interruption
+use Rattle.tcl_run.proofs.Endings.{Completes-more, on_completion}
+use Rattle.tcl_run.proofs.Steady.{holds_named}
+use Rattle.tcl_tree.specs.Gone.{Holds}
+use Rattle.tcl_tree.specs.TreeOf.{tree_of}
+use Rattle.tcl_calls.specs.Carrying.{EndedBy, IsStanding}
+use Rattle.tcl_calls.proofs.Telling.{seen_told, told_gone}
+use Rattle.tcl_calls.proofs.carrying.told_instead.Goals as goal
+
+pub returns-in-Err-Stopped-clause-instead : goal.returns-in-Err-Stopped-clause-instead
+returns-in-Err-Stopped-clause-instead c =
+    let i = c.in-Err-Stopped.is in
+    let f = c.in-Err-Stopped.field-0-is in
+    let s = c.in-Err-Stopped.stop-is in
+    let e : c.args.ended.now ≡ Err (interruption.Stopped c.in-Err-Stopped.stop) = cc in
+    let T = tree_of c.args.tree.now in
+    let Sees : Reply → Type 0 = λ r. (p : Path) (d : ℕ) → Holds c.args.tree.now c.args.caller p d → r ≡ carried_by (reply_of c.in-Err-Stopped.stop) (Rattle.std.proofs.Common.Some c.args.up) p c.args.down.now in
+    let Told : Reply → Type 0 = λ r. (p : Path) (d : ℕ) → Holds c.args.tree.now c.args.caller p d → r ≡ carried (gone d T p) (Rattle.std.proofs.Common.Some c.args.up) p c.args.down.now (reply_of c.in-Err-Stopped.stop) in
+    (reply_of c.in-Err-Stopped.stop, subst (λ (x : Result (List ℕ) Interruption). EndedBy x (reply_of c.in-Err-Stopped.stop)) (sym e) refl,
+    seen_told c.stop_for_caller.result c.unless_gone.result c.is_gone-gone.result Told Sees c.unless_gone.ensures.memory c.unless_gone.ensures.told c.stop_for_caller.ensures
+    (λ r x q is p d h. is ∙ ap (λ (g : Option ℕ). ended g r) (c.is_gone-gone.ensures p d h) ∙ ap (ended (gone d T p)) (q p d h)))
+
+pub returns-in-Err-Stopped-clause-stands : goal.returns-in-Err-Stopped-clause-stands
+returns-in-Err-Stopped-clause-stands c = Completes-more c.unless_gone.result _ (IsStanding c.args.tree.now c.args.caller)
+    (λ none p d h. holds_named c.args.tree.now c.args.caller p d h (sym (c.is_gone-gone.ensures p d h) ∙ none)) c.unless_gone.ensures.stands
