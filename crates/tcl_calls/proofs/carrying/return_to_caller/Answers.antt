@@ -10,4 +10,4 @@ returns-in_ok-notify-in-Some-clause-comes g c =
 
 pub returns-in_ok-notify-in-None-clause-comes : goal.returns-in_ok-notify-in-None-clause-comes
 returns-in_ok-notify-in-None-clause-comes g c =
-    told_as_it_is g.O.Outside.goes (tree_of c.args.tree.now) (λ p d. Holds c.args.tree.now c.args.caller p d) c.args.outside.now c.notify.new.self c.args.up c.args.down.now c.args.ended c.in-None.ensures.itself c.in_ok-notify-in-None.ensures.told
+    told_as_it_is g.O.Outside.goes (tree_of c.args.tree.now) (λ p d. Holds c.args.tree.now c.args.caller p d) c.args.outside.now c.notify-in-None.new.self c.args.up c.args.down.now c.args.ended c.in-None.ensures.itself c.in_ok-notify-in-None.ensures.told

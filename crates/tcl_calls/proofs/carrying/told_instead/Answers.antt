@@ -18,10 +18,7 @@ use Rattle.tcl_calls.proofs.carrying.told_instead.Goals as goal
 
 pub returns-in-Err-Stopped-clause-instead : goal.returns-in-Err-Stopped-clause-instead
 returns-in-Err-Stopped-clause-instead c =
-    let i = c.in-Err-Stopped.is in
-    let f = c.in-Err-Stopped.field-0-is in
-    let s = c.in-Err-Stopped.stop-is in
-    let e : c.args.ended.now ≡ Err (interruption.Stopped c.in-Err-Stopped.stop) = cc in
+    let e : c.args.ended.now ≡ Err (interruption.Stopped c.in-Err-Stopped.stop) = c.in-Err-Stopped.is ∙ ap Err c.in-Err-Stopped.field-0-is in
     let T = tree_of c.args.tree.now in
     let Sees : Reply → Type 0 = λ r. (p : Path) (d : ℕ) → Holds c.args.tree.now c.args.caller p d → r ≡ carried_by (reply_of c.in-Err-Stopped.stop) (Rattle.std.proofs.Common.Some c.args.up) p c.args.down.now in
     let Told : Reply → Type 0 = λ r. (p : Path) (d : ℕ) → Holds c.args.tree.now c.args.caller p d → r ≡ carried (gone d T p) (Rattle.std.proofs.Common.Some c.args.up) p c.args.down.now (reply_of c.in-Err-Stopped.stop) in
