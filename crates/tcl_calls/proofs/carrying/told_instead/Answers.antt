@@ -23,10 +23,12 @@ returns-in-Err-Stopped-clause-instead c =
     let e : c.args.ended.now ≡ Err (interruption.Stopped c.in-Err-Stopped.stop) = c.in-Err-Stopped.is ∙ ap Err f in
     let T = tree_of c.args.tree.now in
     let Sees : Reply → Type 0 = λ r. (p : Path) (d : ℕ) → Holds c.args.tree.now c.args.caller p d → r ≡ carried_by (reply_of c.in-Err-Stopped.stop) (Rattle.std.proofs.Common.Some c.args.up) p c.args.down.now in
-    let Told : Reply → Type 0 = λ r. (p : Path) (d : ℕ) → Holds c.args.tree.now c.args.caller p d → r ≡ carried (gone d T p) (Rattle.std.proofs.Common.Some c.args.up) p c.args.down.now (reply_of c.in-Err-Stopped.stop) in
-    (reply_of c.in-Err-Stopped.stop, subst (λ (x : Result (List ℕ) Interruption). EndedBy x (reply_of c.in-Err-Stopped.stop)) (sym e) refl,
-    seen_told c.stop_for_caller.result c.unless_gone.result c.is_gone-gone.result Told Sees c.unless_gone.ensures.memory c.unless_gone.ensures.told c.stop_for_caller.ensures
-    (λ r x q is p d h. is ∙ ap (λ (g : Option ℕ). ended g r) (c.is_gone-gone.ensures p d h) ∙ ap (ended (gone d T p)) (q p d h)))
+    let Told : Reply → Type 0 = λ r. (p : Path) (d : ℕ) → Holds c.args.tree.now c.args.caller p d → r ≡ carried (gone d T p) (Rattle.std.proofs.Common.Some c.args.up) p c.args.down.now (reply_of c.in-Err-Stopped.stop) in (
+      reply_of c.in-Err-Stopped.stop,
+      subst (λ (x : Result (List ℕ) Interruption). EndedBy x (reply_of c.in-Err-Stopped.stop)) (sym e) refl,
+      seen_told c.stop_for_caller.result c.unless_gone.result c.is_gone-gone.result Told Sees c.unless_gone.ensures.memory c.unless_gone.ensures.told c.stop_for_caller.ensures
+          (λ r x q is p d h. is ∙ ap (λ (g : Option ℕ). ended g r) (c.is_gone-gone.ensures p d h) ∙ ap (ended (gone d T p)) (q p d h)),
+    )
 
 pub returns-in-Err-Stopped-clause-stands : goal.returns-in-Err-Stopped-clause-stands
 returns-in-Err-Stopped-clause-stands c = Completes-more c.unless_gone.result _ (IsStanding c.args.tree.now c.args.caller)
@@ -45,16 +47,20 @@ returns-in_err-gone-in-Err-Completed-clause-stands c =
 pub returns-in_ok-gone-in-Ok-clause-instead : goal.returns-in_ok-gone-in-Ok-clause-instead
 returns-in_ok-gone-in-Ok-clause-instead c =
     let s : Reply = Completed (ok c.in-Ok.field-0) in
-    let T = tree_of c.args.tree.now in
-    (s, subst (λ (x : Result (List ℕ) Interruption). EndedBy x s) (sym c.in-Ok.is) refl,
-    subst (λ (x : Interruption). Interrupts x (λ r. (p : Path) (d : ℕ) → Holds c.args.tree.now c.args.caller p d → r ≡ carried (gone d T p) (Rattle.std.proofs.Common.Some c.args.up) p c.args.down.now s)) (sym c.gone_stop-in-Ok.ensures)
-    (λ p d h. told_gone (gone d T p) c.args.up p c.args.down.now c.in_ok-gone-in-Ok.field-0 (ok c.in-Ok.field-0) (sym (c.is_gone-gone.ensures p d h) ∙ c.in_ok-gone-in-Ok.was)))
+    let T = tree_of c.args.tree.now in (
+      s,
+      subst (λ (x : Result (List ℕ) Interruption). EndedBy x s) (sym c.in-Ok.is) refl,
+      subst (λ (x : Interruption). Interrupts x (λ r. (p : Path) (d : ℕ) → Holds c.args.tree.now c.args.caller p d → r ≡ carried (gone d T p) (Rattle.std.proofs.Common.Some c.args.up) p c.args.down.now s)) (sym c.gone_stop-in-Ok.ensures)
+          (λ p d h. told_gone (gone d T p) c.args.up p c.args.down.now c.in_ok-gone-in-Ok.field-0 (ok c.in-Ok.field-0) (sym (c.is_gone-gone.ensures p d h) ∙ c.in_ok-gone-in-Ok.was)),
+    )
 
 pub returns-in_ok-gone-in-Err-Completed-clause-instead : goal.returns-in_ok-gone-in-Err-Completed-clause-instead
 returns-in_ok-gone-in-Err-Completed-clause-instead c =
     let f : c.in-Err-Completed.field-0 ≡ interruption.Completed c.in-Err-Completed.field-0-0 = rw c.in-Err-Completed.is at c.in-Err-Completed.field-0-is in
     let s : Reply = Completed (completion_of c.in-Err-Completed.field-0-0.value) in
-    let T = tree_of c.args.tree.now in
-    (s, subst (λ (x : Result (List ℕ) Interruption). EndedBy x s) (sym (c.in-Err-Completed.is ∙ ap Err f)) refl,
-    subst (λ (x : Interruption). Interrupts x (λ r. (p : Path) (d : ℕ) → Holds c.args.tree.now c.args.caller p d → r ≡ carried (gone d T p) (Rattle.std.proofs.Common.Some c.args.up) p c.args.down.now s)) (sym c.gone_stop.ensures)
-    (λ p d h. told_gone (gone d T p) c.args.up p c.args.down.now c.in_ok-gone-in-Err-Completed.field-0 (completion_of c.in-Err-Completed.field-0-0.value) (sym (c.is_gone-gone.ensures p d h) ∙ c.in_ok-gone-in-Err-Completed.was)))
+    let T = tree_of c.args.tree.now in (
+      s,
+      subst (λ (x : Result (List ℕ) Interruption). EndedBy x s) (sym (c.in-Err-Completed.is ∙ ap Err f)) refl,
+      subst (λ (x : Interruption). Interrupts x (λ r. (p : Path) (d : ℕ) → Holds c.args.tree.now c.args.caller p d → r ≡ carried (gone d T p) (Rattle.std.proofs.Common.Some c.args.up) p c.args.down.now s)) (sym c.gone_stop.ensures)
+          (λ p d h. told_gone (gone d T p) c.args.up p c.args.down.now c.in_ok-gone-in-Err-Completed.field-0 (completion_of c.in-Err-Completed.field-0-0.value) (sym (c.is_gone-gone.ensures p d h) ∙ c.in_ok-gone-in-Err-Completed.was)),
+    )
