@@ -1,8 +1,7 @@
 -- What is gone after a deletion, and that nothing of it is left in a tree where nothing is in progress.
-use Rattle.std.proofs.Common.{◌≡◌, ℕ, zero, suc, ◌+◌, ◌<◌, ◌≤◌, Bool, true, false, ◌&&◌, [], ◌∷◌, ◌++◌, length, cond, refl, sym, ◌∙◌, ap, subst, inl, inr, arith, append-nil, append_assoc, length-append, Option, Some, None}
-use Rattle.std.specs.Prelude.{◌≢◌, ◌⊎◌, is_some, nat_eq, nat_le, ◌==◌}
+use Rattle.std.proofs.Common.{◌≡◌, ℕ, zero, suc, ◌+◌, ◌<◌, ◌≤◌, Bool, true, false, ◌&&◌, [], ◌∷◌, ◌++◌, length, refl, sym, ◌∙◌, ap, subst, inl, inr, arith, append-nil, append_assoc, length-append, Option, Some, None}
+use Rattle.std.specs.Prelude.{is_some, nat_eq, nat_le, ◌==◌}
 use Rattle.std.proofs.lemmas.Bool.Decides.{nat_tests}
-use Rattle.std.proofs.lemmas.Option.{same_Some}
 use Rattle.std.proofs.lemmas.Slice.Eq.{bytes_eq-Decides}
 use Rattle.std.specs.Option.{option_and_then}
 use Rattle.slab.specs.Slab.{get}
@@ -13,7 +12,7 @@ use Rattle.tcl_interpreter.specs.Own.{Own}
 use Rattle.tcl_interpreter.specs.Paths.{Text, Path, is_above}
 use Rattle.tcl_interpreter.proofs.PathLemmas.{above_append, above_cases, above_self, not_above_front, snoc_ind}
 use Rattle.tcl_tree.specs.Nodes.{Heap, NodeView, follow, level_in, IsSound}
-use Rattle.tcl_tree.specs.Held.{Held, Keys, held_in, above_at, depth_at, gone_at, Over, HighestGone, Parts, parted, parted_by, IsOrdered}
+use Rattle.tcl_tree.specs.Held.{Held, held_in, above_at, depth_at, gone_at, Over, HighestGone, Parts, parted, parted_by, IsOrdered}
 use Rattle.tcl_tree.specs.Held.Over.{here, up}
 use Rattle.tcl_tree.specs.Held.HighestGone.{itself, further}
 use Rattle.tcl_tree.specs.Changes.{Drops}
@@ -24,8 +23,8 @@ use Rattle.tcl_tree.specs.declared.tree.Place.{Place}
 use Rattle.tcl_tree.proofs.HeapLemmas.{follow-nil, last_step, one_path}
 use Rattle.tcl_tree.proofs.StepLemmas.{follow_append}
 use Rattle.tcl_tree.proofs.CoreLemmas.{above_is, tree_there}
-use Rattle.tcl_tree.proofs.HeldLemmas.{above-root, above_longer, depth_tree, follow_stands, follow_there, link-above, not_gone, over_path, path_over}
-use Rattle.tcl_tree.proofs.WayLemmas.{deep_there, follow_stood, stood_along}
+use Rattle.tcl_tree.proofs.HeldLemmas.{above-root, depth_tree, follow_stands, link-above, not_gone, over_path, path_over}
+use Rattle.tcl_tree.proofs.WayLemmas.{follow_stood, stood_along}
 
 -- ## The root is in use as deeply as any
 

@@ -1,6 +1,6 @@
 -- Lemmas on depths that change on a way up.
-use Rattle.std.proofs.Common.{◌≡◌, ℕ, zero, suc, pred, ◌+◌, ◌<◌, ◌≤◌, Bool, true, false, cond, List, refl, sym, ◌∙◌, ap, inl, inr, arith, Option, Some, None}
-use Rattle.std.specs.Prelude.{◌≢◌, ◌⊎◌, is_some}
+use Rattle.std.proofs.Common.{◌≡◌, ℕ, zero, suc, pred, ◌≤◌, Bool, true, false, cond, List, refl, sym, ◌∙◌, ap, inl, inr, arith, Option, Some, None}
+use Rattle.std.specs.Prelude.{◌≢◌, is_some}
 use Rattle.std.specs.Option.{option_map}
 use Rattle.tcl_core.specs.Trees.{depth_of}
 use Rattle.tcl_interpreter.specs.Paths.{Text, Path, is_above}
@@ -8,12 +8,12 @@ use Rattle.tcl_interpreter.specs.declared.node.Node.{Node}
 use Rattle.tcl_interpreter.specs.declared.node.Meter.{Meter}
 use Rattle.tcl_interpreter.specs.declared.node.Meter.TheVariants.{Steps, Levels, Back}
 use Rattle.tcl_tree.specs.Nodes.{Heap, NodeView, Shape, shape_of, view_of, place_of, child_in, follow, tree_in, level_in, charged, moved, Raised, IsSound}
-use Rattle.tcl_tree.specs.Held.{Held, Keys, held_by, held_in, above_at, depth_at, gone_at, Over, IsInnermost, IsOrdered}
+use Rattle.tcl_tree.specs.Held.{Held, held_by, held_in, above_at, depth_at, gone_at, Over, IsOrdered}
 use Rattle.tcl_tree.proofs.HeapLemmas.{SamePlace, tree-at, child_placed, places_kept, level_placed, follow_along}
 use Rattle.slab.specs.Slab as slab
 use Rattle.slab.specs.Slab.{Slab}
 use Rattle.tcl_tree.proofs.StepLemmas.{child_write, levels_write, held_write}
-use Rattle.tcl_tree.proofs.HeldLemmas.{held-eq, not_gone, follow_stands, follow_there, stands_path, depth_tree, over_cases, over_path, path_over, over_more}
+use Rattle.tcl_tree.proofs.HeldLemmas.{held-eq, not_gone, follow_stands, follow_there, stands_path, over_cases, over_path, path_over, over_more}
 
 -- how a meter moves a depth
 abbrev pub stepped : Meter → ℕ → ℕ

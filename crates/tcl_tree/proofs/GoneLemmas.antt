@@ -1,16 +1,15 @@
 -- Lemmas on interpreters that are gone.
-use Rattle.std.proofs.Common.{◌≡◌, ℕ, zero, suc, pred, ◌+◌, ◌<◌, ◌≤◌, ◌^◌, Bool, true, false, ◌&&◌, [], ◌∷◌, ◌++◌, length, cond, refl, sym, ◌∙◌, ap, subst, inl, inr, arith, Option, Some, None}
-use Rattle.std.specs.Prelude.{◌≢◌, ◌⊎◌, is_some, nat_le, not, ◌==◌, nat_eq, IfSome}
-use Rattle.std.specs.Option.{option_and_then, option_map}
+use Rattle.std.proofs.Common.{◌≡◌, ℕ, zero, suc, pred, ◌+◌, ◌<◌, ◌≤◌, ◌^◌, Bool, true, false, ◌&&◌, length, refl, sym, ◌∙◌, ap, subst, inl, inr, arith, Option, Some, None}
+use Rattle.std.specs.Prelude.{◌≢◌, ◌⊎◌, is_some, nat_le}
+use Rattle.std.specs.Option.{option_map}
 use Rattle.std.proofs.lemmas.Bool.{cases_eq}
 use Rattle.std.proofs.lemmas.Bool.Decides.{nat_tests}
-use Rattle.std.proofs.lemmas.Option.{same_Some}
 use Rattle.std.specs.Map.{keys_of, lookup}
 use Rattle.std.specs.Str.{bytes_eq}
 use Rattle.tcl_interpreter.specs.Nodes.{IsEased}
 use Rattle.tcl_interpreter.specs.Paths.{Text, Path}
 use Rattle.tcl_interpreter.specs.declared.node.Node.{Node}
-use Rattle.tcl_tree.specs.Nodes.{Heap, NodeView, view_of, link_of, child_in, follow, tree_in, link_in, level_in, safe_in, children_in, IsSound, IsGuarded}
+use Rattle.tcl_tree.specs.Nodes.{Heap, view_of, child_in, follow, tree_in, link_in, level_in, children_in, IsSound, IsGuarded}
 use Rattle.tcl_tree.specs.Held.{Held, Keys, held_by, held_in, above_at, depth_at, gone_at, Over, HighestGone, IsInnermost, Shallows, shallower, left_by, IsOrdered}
 use Rattle.tcl_tree.specs.Held.Over.{here, up}
 use Rattle.tcl_tree.specs.Held.HighestGone.{itself, further}
@@ -18,7 +17,7 @@ use Rattle.tcl_tree.proofs.HeapLemmas.{follow_along, tree-at, tree-none}
 use Rattle.tcl_tree.proofs.StepLemmas.{child-at, child-eq, child-none, link-at, link-none, link-eq, level-eq, level-none, safe-eq, children-at, children-eq, children-none, level-at}
 use Rattle.tcl_interpreter.specs.declared.node.Meter.TheVariants.{Back}
 use Rattle.tcl_tree.proofs.DepthLemmas.{with_depth, stepped}
-use Rattle.tcl_tree.proofs.HeldLemmas.{above-root, held-at, held-eq, held-none, held-some, no_above, not_gone, same_above, gone-there, above-there, above-link, over_next, over_same, over_cases, not_over_above, over_more, follow_stands}
+use Rattle.tcl_tree.proofs.HeldLemmas.{above-root, held-at, held-eq, held-none, no_above, not_gone, same_above, gone-there, above-there, above-link, over_next, not_over_above, follow_stands}
 
 -- ## A table that differs at a key to which no names lead
 

@@ -1,16 +1,15 @@
 -- Lemmas on interpreters by their keys, in the tree or gone.
-use Rattle.std.proofs.Common.{◌≡◌, ℕ, zero, suc, pred, ◌+◌, ◌<◌, ◌≤◌, ◌^◌, Bool, true, false, ◌&&◌, [], ◌∷◌, ◌++◌, length, cond, refl, sym, ◌∙◌, ap, subst, inl, inr, arith, append-nil, append_assoc, Option, Some, None}
-use Rattle.std.specs.Prelude.{◌≢◌, ◌⊎◌, is_some, nat_le, not}
-use Rattle.std.specs.Option.{option_and_then, option_map, option_map_or}
-use Rattle.std.specs.Str.{bytes_eq}
+use Rattle.std.proofs.Common.{◌≡◌, ℕ, zero, suc, ◌≤◌, Bool, true, false, [], ◌∷◌, ◌++◌, refl, sym, ◌∙◌, ap, subst, inl, inr, arith, append-nil, append_assoc, Option, Some, None}
+use Rattle.std.specs.Prelude.{◌≢◌, ◌⊎◌, is_some}
+use Rattle.std.specs.Option.{option_map}
 use Rattle.std.proofs.lemmas.Bool.{cases_eq}
 use Rattle.std.proofs.lemmas.Option.{same_Some}
 use Rattle.tcl_core.specs.Trees.{depth_of}
 use Rattle.tcl_interpreter.specs.Paths.{Text, Path, is_above}
 use Rattle.tcl_interpreter.specs.declared.node.Node.{Node}
-use Rattle.tcl_interpreter.proofs.PathLemmas.{snoc_ind, ends_cases, snoc_same, above_cases, above_self, above_append}
-use Rattle.tcl_tree.specs.Nodes.{Heap, NodeView, view_of, link_of, child_in, follow, tree_in, link_in, level_in, IsSound}
-use Rattle.tcl_tree.specs.Held.{Held, Keys, held_by, held_in, above_at, depth_at, gone_at, Over, StoodAt, HighestGone, IsInnermost, IsOrdered}
+use Rattle.tcl_interpreter.proofs.PathLemmas.{snoc_ind, ends_cases, above_cases, above_self, above_append}
+use Rattle.tcl_tree.specs.Nodes.{Heap, view_of, link_of, child_in, follow, tree_in, link_in, level_in, IsSound}
+use Rattle.tcl_tree.specs.Held.{Held, Keys, held_by, held_in, above_at, depth_at, gone_at, Over, IsOrdered}
 use Rattle.tcl_tree.specs.Held.Over.{here, up}
 use Rattle.tcl_tree.proofs.HeapLemmas.{follow-nil, last_step, then_child, same_link, linked, tree-at}
 

@@ -1,6 +1,6 @@
 -- What is done to the commands of one interpreter, in the words of the core.
 use Rattle.std.proofs.Common.{[], ◌≡◌, ℕ, ◌∙◌, refl, sym, ap, inl, inr, true, false, List, Option, Some, None}
-use Rattle.std.specs.Prelude.{is_some, Result, Ok, Err, OnOk, OnErr, IfOk, IfErr, IfNone}
+use Rattle.std.specs.Prelude.{is_some, Result, Ok, Err, OnOk, OnErr, IfErr, IfNone}
 use Rattle.std.proofs.lemmas.Option.{same_Some}
 use Rattle.slab.specs.Slab as slab
 use Rattle.slab.specs.Slab.{Slab}

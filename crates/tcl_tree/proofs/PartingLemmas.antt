@@ -1,6 +1,6 @@
 -- Lemmas on interpreters that are taken out of the tree, and stay in the table where they are in use; and on new ones.
 use Rattle.std.proofs.Common.{◌≡◌, ℕ, zero, suc, ◌+◌, ◌<◌, ◌≤◌, ◌^◌, Bool, true, false, [], ◌∷◌, ◌++◌, length, cond, refl, sym, ◌∙◌, ap, subst, inl, inr, arith, append-nil, Option, Some, None}
-use Rattle.std.specs.Prelude.{◌≢◌, ◌⊎◌, is_some, nat_eq, not, ◌==◌, IfSome}
+use Rattle.std.specs.Prelude.{◌≢◌, ◌⊎◌, is_some, not, ◌==◌, IfSome}
 use Rattle.std.specs.Option.{option_map}
 use Rattle.std.specs.Map.{lookup, keys_of}
 use Rattle.std.specs.Str.{bytes_eq}
@@ -15,7 +15,7 @@ use Rattle.tcl_interpreter.specs.Nodes.{Departed, left_of, left_by}
 use Rattle.tcl_interpreter.specs.Paths.{Text, Path, is_above}
 use Rattle.tcl_interpreter.specs.declared.node.Node.{Node}
 use Rattle.tcl_interpreter.proofs.PathLemmas.{text_cases, above_cases, above_self, above_append}
-use Rattle.tcl_tree.specs.Nodes.{Heap, NodeView, view_of, Attached, SameTable, child_in, follow, tree_in, link_in, level_in, children_in, pruned, IsSound, IsGuarded}
+use Rattle.tcl_tree.specs.Nodes.{Heap, NodeView, Attached, SameTable, child_in, follow, tree_in, link_in, level_in, pruned, IsSound, IsGuarded}
 use Rattle.tcl_tree.specs.Held.{Held, held_by, held_in, above_at, depth_at, gone_at, parted, parted_by, stands, tally, standing, Gains, IsOrdered}
 use Rattle.tcl_tree.specs.Held.{Keys, Parts}
 use Rattle.tcl_tree.specs.Gone.{held_of}

@@ -1,12 +1,11 @@
 -- Lemmas on who stays in use, through evaluations that begin and end.
-use Rattle.std.proofs.Common.{◌≡◌, ℕ, zero, suc, pred, ◌+◌, ◌<◌, ◌≤◌, Bool, true, false, ◌&&◌, [], ◌∷◌, ◌++◌, length, refl, sym, ◌∙◌, ap, subst, inl, inr, arith, Option, Some, None}
-use Rattle.std.specs.Prelude.{◌≢◌, ◌⊎◌, is_some, nat_le, ◌==◌}
+use Rattle.std.proofs.Common.{◌≡◌, ℕ, zero, suc, pred, ◌<◌, ◌≤◌, Bool, true, false, ◌&&◌, [], ◌∷◌, ◌++◌, length, refl, sym, ◌∙◌, ap, subst, inl, inr, arith, Option, Some, None}
+use Rattle.std.specs.Prelude.{◌⊎◌, is_some, nat_le, ◌==◌}
 use Rattle.std.specs.Option.{option_map}
 use Rattle.std.proofs.lemmas.Bool.Decides.{nat_tests}
 use Rattle.slab.specs.Slab.{get}
-use Rattle.tcl_interpreter.specs.Paths.{Text, Path, is_above}
-use Rattle.tcl_tree.specs.Nodes.{Heap}
-use Rattle.tcl_tree.specs.Held.{Held, Keys, held_in, above_at, depth_at, gone_at, Over, IsInnermost, Deepens, deeper, Shallows, shallower, left_by, Parts, parted, parted_by, Gains, Stays, IsOrdered}
+use Rattle.tcl_interpreter.specs.Paths.{Text, Path}
+use Rattle.tcl_tree.specs.Held.{Held, Keys, above_at, depth_at, gone_at, Over, IsInnermost, Deepens, deeper, Shallows, shallower, left_by, parted, parted_by, Gains, Stays}
 use Rattle.tcl_tree.specs.Held.Over.{here, up}
 use Rattle.std.proofs.Common.{append-nil, append_assoc, length-append}
 use Rattle.std.proofs.lemmas.Option.{same_Some}

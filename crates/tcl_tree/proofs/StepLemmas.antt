@@ -7,7 +7,7 @@ use Rattle.std.proofs.lemmas.List.{drop_more, drop_all}
 use Rattle.std.proofs.lemmas.Bool.{cases_eq}
 use Rattle.indexmap.specs.IndexMap.{get, keys}
 use Rattle.std.proofs.lemmas.Option.{MatchOption-at_some, MatchOption-at_none, same_Some}
-use Rattle.std.specs.Prelude.{Result, Ok, Err, OnOk, OnErr, IsOk, IfSome, ⊤}
+use Rattle.std.specs.Prelude.{Result, Ok, Err, OnErr, IfSome, ⊤}
 use Rattle.std.specs.Map.{lookup, keys_of}
 use Rattle.slab.specs.Slab as slab
 use Rattle.slab.specs.Slab.{Slab}

@@ -1,30 +1,27 @@
 -- Lemmas on the way up from an interpreter that is gone to those that stand.
 use Rattle.std.proofs.Common.{◌≡◌, ℕ, zero, suc, pred, ◌+◌, ◌<◌, ◌≤◌, Bool, true, false, ◌&&◌, [], ◌∷◌, ◌++◌, length, cond, refl, sym, ◌∙◌, ap, subst, inl, inr, arith, append-nil, append_assoc, length-append, Option, Some, None}
-use Rattle.std.specs.Prelude.{◌≢◌, ◌⊎◌, is_some, nat_eq, nat_le, nat_lt}
+use Rattle.std.specs.Prelude.{◌⊎◌, is_some, nat_eq, nat_le, nat_lt}
 use Rattle.std.specs.Option.{option_map}
 use Rattle.std.specs.Str.{bytes_eq}
-use Rattle.std.proofs.lemmas.Bool.{cases_eq}
 use Rattle.std.proofs.lemmas.Bool.Decides.{nat_tests}
 use Rattle.std.proofs.lemmas.Option.{same_Some}
 use Rattle.slab.specs.Slab.{get}
-use Rattle.tcl_core.specs.Trees.{depth_of, effect}
-use Rattle.tcl_core.specs.Trees.What.{Unnested}
+use Rattle.tcl_core.specs.Trees.{depth_of}
 use Rattle.tcl_core.specs.Runs.{gone, gone_by, grown, idle_at, idle_up, levels, onward}
 use Rattle.tcl_interpreter.specs.Paths.{Text, Path, is_above}
 use Rattle.tcl_interpreter.specs.declared.node.Meter.TheVariants.{Back}
-use Rattle.tcl_interpreter.proofs.PathLemmas.{text_cases, ends_cases, snoc_same, snoc_not_empty, snoc_ind, above_append, above_fits, above_cases}
-use Rattle.tcl_tree.specs.Nodes.{Heap, NodeView, charged, moved, child_in, follow, tree_in, link_in, level_in, IsSound}
-use Rattle.tcl_tree.specs.Held.{Held, Keys, held_in, above_at, depth_at, gone_at, Over, StoodAt, HighestGone, Shallows, shallower, IsOrdered}
+use Rattle.tcl_interpreter.proofs.PathLemmas.{text_cases, snoc_ind, above_append, above_fits, above_cases}
+use Rattle.tcl_tree.specs.Nodes.{Heap, NodeView, charged, moved, child_in, follow, level_in, IsSound}
+use Rattle.tcl_tree.specs.Held.{Held, Keys, held_in, above_at, depth_at, gone_at, Over, StoodAt, HighestGone, IsOrdered}
 use Rattle.tcl_tree.specs.Held.Over.{here, up}
 use Rattle.tcl_tree.specs.Held.StoodAt.{top, below}
 use Rattle.tcl_tree.specs.Held.HighestGone.{itself, further}
-use Rattle.tcl_tree.specs.Gone.{held_of, depth_in, Holds, IsGone}
-use Rattle.tcl_tree.specs.TreeOf.{tree_of, key_of, Names}
+use Rattle.tcl_tree.specs.Gone.{held_of, Holds}
+use Rattle.tcl_tree.specs.TreeOf.{tree_of}
 use Rattle.tcl_tree.specs.declared.tree.Tree.{Tree}
 use Rattle.tcl_tree.specs.declared.tree.Place.{Place}
 use Rattle.tcl_tree.proofs.HeapLemmas.{follow-nil, last_step, then_child}
-use Rattle.tcl_tree.proofs.CoreLemmas.{line_done}
-use Rattle.tcl_tree.proofs.HeldLemmas.{link-above, root-above, above-root, above-there, gone-there, no_above, not_gone, same_above, follow_stands, follow_there, depth_tree, above_longer}
+use Rattle.tcl_tree.proofs.HeldLemmas.{link-above, root-above, above-root, gone-there, no_above, not_gone, same_above, follow_stands, follow_there, depth_tree}
 use Rattle.tcl_tree.proofs.GoneLemmas.{highest_gone, highest_same}
 
 -- ## Names on the way up

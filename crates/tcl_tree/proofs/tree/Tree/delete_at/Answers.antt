@@ -1,8 +1,5 @@
-use Rattle.std.proofs.Common.{sym, ◌∙◌, ap, arith}
-use Rattle.std.specs.Prelude.{is_some}
-use Rattle.std.proofs.lemmas.Option.{same_Some}
-use Rattle.tcl_tree.specs.Nodes.{NodeView, view_of}
-use Rattle.tcl_tree.proofs.StepLemmas.{leads_somewhere, tree_no_child, tree_some}
+use Rattle.std.proofs.Common.{sym}
+use Rattle.tcl_tree.proofs.StepLemmas.{leads_somewhere, tree_no_child}
 use Rattle.tcl_tree.proofs.MakeLemmas.{descend_leads}
 use Rattle.tcl_tree.proofs.CoreLemmas.{tree_there}
 use Rattle.tcl_tree.proofs.tree.Tree.delete_at.Goals as goal

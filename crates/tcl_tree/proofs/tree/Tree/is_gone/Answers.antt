@@ -1,6 +1,4 @@
-use Rattle.std.proofs.Common.{◌≡◌, ℕ, suc, zero, ◌+◌, sym, ◌∙◌, ap, subst, arith}
-use Rattle.slab.specs.Slab.{get}
-use Rattle.tcl_tree.specs.Nodes.{level_in}
+use Rattle.std.proofs.Common.{◌≡◌, ℕ, suc, ◌+◌, ◌∙◌, subst, arith}
 use Rattle.tcl_tree.specs.Held.{HighestGone}
 use Rattle.tcl_tree.specs.Held.HighestGone.{itself, further}
 use Rattle.tcl_tree.specs.Gone.{held_of}

@@ -1,4 +1,4 @@
-use Rattle.std.proofs.Common.{◌≡◌, ◌≤◌, sym, ◌∙◌, ap, arith}
+use Rattle.std.proofs.Common.{◌∙◌, ap, arith}
 use Rattle.std.specs.Option.{option_map}
 use Rattle.tcl_interpreter.specs.declared.node.Meter.{Meter}
 use Rattle.tcl_tree.specs.Held.{held_in, depth_at}

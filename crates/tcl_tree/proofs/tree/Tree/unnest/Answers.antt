@@ -1,4 +1,4 @@
-use Rattle.std.proofs.Common.{◌≡◌, ◌<◌, ℕ, Option, Some, true, length, refl, sym, ◌∙◌, ap, subst, inl, inr, arith}
+use Rattle.std.proofs.Common.{◌≡◌, ◌<◌, Option, true, length, refl, sym, ◌∙◌, ap, subst, inl, inr, arith}
 use Rattle.std.specs.Prelude.{is_some}
 use Rattle.slab.specs.Slab.{get}
 use Rattle.tcl_interpreter.specs.Paths.{Path}
@@ -8,15 +8,15 @@ use Rattle.tcl_interpreter.specs.Paths.{is_above}
 use Rattle.tcl_tree.specs.Held.{Over}
 use Rattle.tcl_tree.specs.Held.Over.{here}
 use Rattle.tcl_tree.proofs.StepLemmas.{level-eq}
-use Rattle.tcl_tree.specs.Nodes.{NodeView, charged, follow, moved, tree_in}
+use Rattle.tcl_tree.specs.Nodes.{NodeView, charged, moved, tree_in}
 use Rattle.tcl_tree.specs.Held.{gone_at, held_in}
 use Rattle.tcl_tree.specs.Gone.{held_of}
 use Rattle.tcl_tree.specs.TreeOf.{tree_of}
 use Rattle.tcl_tree.proofs.HeapLemmas.{sound_placed, guarded_placed}
-use Rattle.tcl_tree.proofs.HeldLemmas.{follow_stands, follow_there, held-some, not_gone, not_over_above, over_path}
+use Rattle.tcl_tree.proofs.HeldLemmas.{follow_stands, held-some, not_gone, not_over_above, over_path}
 use Rattle.tcl_tree.proofs.CoreLemmas.{line_done, never_full}
 use Rattle.tcl_tree.proofs.DepthLemmas.{raised_follow, raised_ordered, raised_over, raised_others, steps_ordered}
-use Rattle.tcl_tree.proofs.GoneLemmas.{beside_follow, beside_guarded, beside_sound, beside_tree, ease_away, ease_beside, ease_here, ease_innermost, ease_ordered, ease_others, ease_then, gone_parent, highest_gone, less_pred, node_gone, node_there, shallow_stands}
+use Rattle.tcl_tree.proofs.GoneLemmas.{beside_follow, beside_guarded, beside_sound, beside_tree, ease_away, ease_beside, ease_innermost, ease_ordered, ease_others, ease_then, highest_gone, less_pred, node_gone, node_there, shallow_stands}
 use Rattle.tcl_tree.proofs.WayLemmas.{climbed_more, holds_climbed, holds_there, lowered_between, stood_follow}
 use Rattle.tcl_tree.proofs.tree.Tree.unnest.Goals as goal
 
