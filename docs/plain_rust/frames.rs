@@ -1,4 +1,4 @@
-//! What `bench_layers` (frames) does, in plain Rust: `rustc -O frames.rs && ./frames`.
+//! What `benches` (frames) does, in plain Rust: `rustc -O frames.rs && ./frames`.
 //!
 //! A frame is a map from names of their own to values, arrays and links, and a value is a number or a shared text. The map is std's, which
 //! keeps no order, once with its own hasher and once with a fast one.

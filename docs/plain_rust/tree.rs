@@ -1,4 +1,4 @@
-//! What `bench_layers` (tree) does, in plain Rust: `rustc -O tree.rs && ./tree`.
+//! What `benches` (tree) does, in plain Rust: `rustc -O tree.rs && ./tree`.
 //!
 //! The interpreters stand in a `Vec`, each with its parent's key and its children's keys by their names, in std's map with a fast hasher. A
 //! step is counted by two climbs: one that looks for a limit that would be passed, and one that raises the counts.

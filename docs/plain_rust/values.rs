@@ -1,4 +1,4 @@
-//! The loops of `bench_layers` (values) in plain Rust: values behind `Rc`, changed in place by `Rc::make_mut`. Nothing is measured of how long
+//! The loops of `benches` (values) in plain Rust: values behind `Rc`, changed in place by `Rc::make_mut`. Nothing is measured of how long
 //! a text would be, and nothing is refused.
 //!
 //! `rustc -O -o /tmp/values values.rs && /tmp/values`

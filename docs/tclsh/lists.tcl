@@ -1,4 +1,4 @@
-# The steps of the lists of crates/bench_layers in tclsh; times go to standard error.
+# The steps of the lists of crates/benches in tclsh; times go to standard error.
 proc drawn {seed} {expr {($seed * 1103515245 + 12345) % 2147483648}}
 
 proc timed {name body} {

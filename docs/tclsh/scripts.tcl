@@ -1,6 +1,6 @@
-# The scripts of crates/bench_scripts in tclsh, each in an interpreter of its own; times go to
+# The scripts of crates/benches in tclsh, each in an interpreter of its own; times go to
 # standard error. The word full asks for the sizes of docs/PERFORMANCE.md.
-set folder [file join [file dirname [info script]] .. .. crates bench_scripts data]
+set folder [file join [file dirname [info script]] .. .. crates benches data]
 set channel [open [file join $folder scripts.txt]]
 while {[gets $channel line] >= 0} {
     regexp {^(.*?) \| (\d+) \| (\d+) \| (.*)$} $line all name small full script

@@ -88,15 +88,20 @@ fn found<W: World>(world: &mut W, alloc: Global, call: &str) -> Result<String, A
     answer.as_str().replace(alloc, "\n", NEWLINE)
 }
 
+/// Prints a row that is answered otherwise.
+fn tell(rt: &HostRuntime, call: &str, found: &str, wanted: &str) -> io::Result<()> {
+    println!(rt; "{call} => {found}, and not {wanted}")
+}
+
 /// Puts a row to a world, and prints what it answers where that isn't what it must be. Returns
 /// whether it is.
 fn see<W: World>(rt: &HostRuntime, world: &mut W, call: &str, wanted: &str) -> io::Result<bool> {
     let found = found(world, rt.alloc(), call)?;
-    if found.as_str() == wanted {
-        return Ok(true);
+    let is_met = found.as_str() == wanted;
+    if !is_met {
+        tell(rt, call, found.as_str(), wanted)?;
     }
-    println!(rt; "{call} => {found}, and not {wanted}")?;
-    Ok(false)
+    Ok(is_met)
 }
 
 /// Puts a line to a world, and returns the tally with it.

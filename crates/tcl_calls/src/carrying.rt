@@ -1,5 +1,5 @@
 //! Calls that cross to another interpreter: their words, and how their ends are told to the caller.
-ghost use Rattle.std.specs.Prelude.{◌≡◌, ℕ, ◌≤◌, ◌++◌, Some, None, IfOk, IfSome, IfNone};
+ghost use Rattle.std.specs.Prelude.{◌≡◌, ℕ, ◌≤◌, Some, None, IfOk, IfSome, IfNone};
 ghost use Rattle.std.specs.Prelude.{MatchOption};
 ghost use Rattle.tcl_core.specs.Endings.{Reply};
 ghost use Rattle.tcl_core.specs.Endings.Reply.{Completed};
@@ -26,21 +26,6 @@ use tcl_text::text::Text;
 use tcl_tree::alias::in_common;
 use tcl_tree::tree::{Place, Tree};
 use tcl_value::value::Value;
-
-/// The words with which an alias calls its target: its own, and then those of the call.
-#[inline(never)]
-pub fn target_words(alloc: Global, own: &[Value], args: &[Value]) -> Result<Vec<Value>, AllocError>
-    ensures { IfOk result (λ words. words.items ≡ own.now ++ args.now) }
-{
-    let mut words = Vec::with_capacity(alloc, own.len().saturating_add(args.len()))?;
-    'own: for word in own {
-        words.push(word.clone()?)?;
-    }
-    'args: for word in args {
-        words.push(word.clone()?)?;
-    }
-    Ok(words)
-}
 
 /// The words of a call, where no word is one empty word.
 #[inline(never)]

@@ -23,6 +23,7 @@ pub mod functions;
 pub mod hosts;
 pub mod limits;
 pub mod lists;
+pub mod moves;
 pub mod paths;
 pub mod replays;
 pub mod saving;

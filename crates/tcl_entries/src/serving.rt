@@ -15,7 +15,9 @@ ghost use Rattle.tcl_tree.specs.TreeOf.{tree_of, Names};
 ghost use Rattle.tcl_run.specs.Entering.{entry_of};
 ghost use Rattle.tcl_entries.specs.Naming.{Tells, making_text, deleting_text};
 
-use crate::failure::{bad_count, bad_depth_limit, hiding_failure, in_use, refusal_failure, too_many};
+use crate::failure::{
+    bad_count, bad_depth_limit, hiding_failure, in_use, refusal_failure, too_many,
+};
 use crate::naming::{kept_name, names_child, names_hidden};
 use crate::questions::{answer, limit_text, node, number_value};
 use std::alloc::{AllocError, Global};

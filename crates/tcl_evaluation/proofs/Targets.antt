@@ -124,10 +124,10 @@ evaluates_same ways old new o z place x y r same h = subst (λ (a : Program). Pr
 -- ## Calls
 
 -- an alias is a call behind which nothing is left
-pub alias_is : (a : AliasView) (word : Text) (args : List Text) (up : ℕ) (down : Path) (words : List Text) → up ≡ a.up → down ≡ a.down → words ≡ a.words ++ args → call_alias a word args ≡ calls up down (CallWords words) (failing (lost_alias word)) done
-alias_is a word args up down words eu ed ew =
+pub alias_is : (a : AliasView) (word : Text) (args : List Text) (up : ℕ) (down : Path) (i : Entry) → up ≡ a.up → down ≡ a.down → i ≡ CallWords (a.words ++ args) → call_alias a word args ≡ calls up down i (failing (lost_alias word)) done
+alias_is a word args up down i eu ed ei =
     ap (λ (n : ℕ). calls n a.down (CallWords (a.words ++ args)) (failing (lost_alias word)) done) (sym eu) ∙ ap (λ (d : Path). calls up d (CallWords (a.words ++ args)) (failing (lost_alias word)) done) (sym ed)
-    ∙ ap (λ (ws : List Text). calls up down (CallWords ws) (failing (lost_alias word)) done) (sym ew)
+    ∙ ap (λ (j : Entry). calls up down j (failing (lost_alias word)) done) (sym ei)
 
 -- nothing is left to do
 pub done_on : {S : Type 0} (ways : Ways S) (style : Integers) {T U : Tree Own} {o u : S} {p : Path} (x : (Completion → Program) → Program) (e : Ending) → GoesOn ways style T o p x U u e → Proceeds ways (language style) T o p (x done) U u e

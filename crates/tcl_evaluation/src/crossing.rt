@@ -21,7 +21,7 @@ use crate::commands::{call, call_hidden};
 use crate::evaluation::eval_value;
 use crate::waiting::{Said, wait};
 use std::alloc::Global;
-use tcl_calls::carrying::{return_to_caller, settled, some_words, target_words};
+use tcl_calls::carrying::{return_to_caller, settled, some_words};
 use tcl_calls::levels::{bring_back, set_aside};
 use tcl_entries::serving::serve;
 use tcl_run::entry::Entry;
@@ -53,7 +53,7 @@ pub fn call_alias<O: Outside>(
         (λ style. alias_program alias.now word.now args.now) tree.new outside.new result }
     ensures keeps { Keeps O.entries_left tree.old tree.new outside.old outside.new }
 {
-    let entry = Entry::CallWords(target_words(alloc, alias.words(), args)?);
+    let entry = Entry::of_alias(alloc, alias.words(), args)?;
     let up = alias.up();
     let down = alias.down();
     match tree.reach(place, up, down) {

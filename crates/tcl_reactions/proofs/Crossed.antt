@@ -32,14 +32,14 @@ exit_not c n e = absurd (bad e)
     bad : Exit n ≡ Completed c → Prim.⊥
     bad f = cc
 
-no_exit_of : (g : Option ℕ) (h : Height) (p : Place) (down : Path) (s : Reply) (c : Completion) → carried g h p down s ≡ Completed c → IsNoExit s
+pub no_exit_of : (g : Option ℕ) (h : Height) (p : Place) (down : Path) (s : Reply) (c : Completion) → carried g h p down s ≡ Completed c → IsNoExit s
 no_exit_of g h p down (Completed d) c e = tt
 no_exit_of g h p down (Stop n m) c e = tt
 no_exit_of g h p down (Cut d) c e = tt
 no_exit_of None h p down (Exit n) c e = exit_not c n e
 no_exit_of (Some g) h p down (Exit n) c e = exit_not c n e
 
-no_exit_in : (g : Option ℕ) (h : Height) (p : Place) (down : Path) (s r : Reply) → carried g h p down s ≡ r → IsNoExit r → IsNoExit s
+pub no_exit_in : (g : Option ℕ) (h : Height) (p : Place) (down : Path) (s r : Reply) → carried g h p down s ≡ r → IsNoExit r → IsNoExit s
 no_exit_in g h p down (Completed d) r e f = tt
 no_exit_in g h p down (Stop n m) r e f = tt
 no_exit_in g h p down (Cut d) r e f = tt

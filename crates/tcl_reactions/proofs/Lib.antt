@@ -17,3 +17,7 @@ pub mod Exiting
 pub mod Unwinding
 pub mod Pauses
 pub mod Worked
+pub mod Mapped
+pub mod Backwards
+pub mod Along
+pub mod Movements

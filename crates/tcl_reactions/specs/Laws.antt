@@ -11,13 +11,16 @@ use Rattle.tcl_core.specs.Entries.Answer.{Replied}
 use Rattle.tcl_core.specs.Trees.{Event, Tree, Move, What, at, depth_of}
 use Rattle.tcl_core.specs.Trees.Move.{Come}
 use Rattle.tcl_core.specs.Trees.What.{Charged, Refused, Dropped, Out, In, Done, Back, Unfound}
-use Rattle.tcl_core.specs.Programs.{Table}
+use Rattle.tcl_core.specs.Programs.{Table, Wait}
 use Rattle.tcl_core.specs.Runs.{Runs, Visits, World, gone, is_told}
+use Rattle.tcl_core.specs.Meaning.{by_test}
 use Rattle.tcl_core.specs.Views.{moves_of, steps_of, view}
 use Rattle.tcl_core.specs.Execution.{event}
 use Rattle.tcl_core.specs.Lives.{Outcome, React, begun, ended, outcome_of, outs_of}
 use Rattle.tcl_core.specs.Lives.Outcome.{Ended, Exited, Finished, Waiting}
 use Rattle.tcl_core.specs.Laws.{IsUnended, IsUpright, KeepsTop, ReadsMove, after}
+use Rattle.tcl_reactions.specs.Moving.{Budgeted, Moved, beginning, budgeted, result_by}
+use Rattle.tcl_reactions.specs.Moving as moving
 use Rattle.tcl_reactions.specs.Playing.{Fate, Player, Lived, IsOver, beginner, last_end, outcome}
 use Rattle.tcl_reactions.specs.Playing.{plays, tree_left}
 
@@ -27,6 +30,15 @@ abbrev pub PlayedIsReact : Type 0 → Type 0 → Type 0
 PlayedIsReact O I = (prog : Table O I) (S V : Tree O) (ms : List (Move O)) (n : ℕ) (z : Player O) →
     Lived prog S (beginner ms n) V z → IsOver z →
     React prog S ms n (outcome z) z.outs (tree_left z V)
+
+-- What comes of a life to which an outside hands in entry by entry, with a budget, is what that
+-- tree does by itself with the moves that the outside makes. (`proofs/Movements.antt` has it for an
+-- outside whose steps are any relation; here they are those that a test lets through.)
+abbrev pub MovesReact : Type 0 → Type 0 → Type 0 → Type 0
+MovesReact O I S = (goes : Tree O → S → Wait → Event O → S → Bool) (prog : Table O I) (T V : Tree O)
+    (o : S) (limit : ℕ) (c : Budgeted S) (x : Outcome) →
+    moving.Lived (budgeted (by_test goes)) prog T (beginning o limit) V c x →
+    Moved (by_test goes) prog T o limit (result_by c.halt x) V c.outside
 
 -- What is played leaves each depth as it was, or 0 where who stood there was dropped, where above
 -- each interpreter that stands all stand and are in use as deeply: all entries came to their end by

@@ -1,3 +1,4 @@
 pub mod Playing
+pub mod Moving
 pub mod Laws
 pub mod Example

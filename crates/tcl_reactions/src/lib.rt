@@ -4,12 +4,18 @@
 #![tactic(auto)]
 
 ghost use Rattle.tcl_reactions.specs.Example.{WorkedMisfits, WorkedPlayings};
-ghost use Rattle.tcl_reactions.specs.Laws.{DepthsStay, NeverStuck, OneOutcome, PlayedIsReact};
-ghost use Rattle.tcl_reactions.specs.Laws.{ReactsBefore};
+ghost use Rattle.tcl_reactions.specs.Laws.{DepthsStay, MovesReact, NeverStuck, OneOutcome};
+ghost use Rattle.tcl_reactions.specs.Laws.{PlayedIsReact, ReactsBefore};
 
 /// What comes of playing moves to a tree is what that tree does by itself with them.
 pub fn played_is_react<O, I>()
     ensures { PlayedIsReact O I }
+{}
+
+/// What comes of a life to which an outside hands in entries, with a budget of steps, is what the
+/// tree does by itself with the moves that the outside makes.
+pub fn moves_react<O, I, S>()
+    ensures { MovesReact O I S }
 {}
 
 /// A tree, moves and a budget come to one outcome, whichever of the six it is.

@@ -1,5 +1,5 @@
 //! What an interpreter is asked for by another one, or from outside of the tree.
-ghost use Rattle.std.specs.Prelude.{◌≡◌, ◌≤◌, ◌-◌, IfOk, drop, length};
+ghost use Rattle.std.specs.Prelude.{◌≡◌, ◌≤◌, ◌-◌, ◌++◌, IfOk, drop, length};
 ghost use Rattle.tcl_core.specs.Paths.{falls};
 ghost use Rattle.tcl_run.specs.Entering.{detour};
 
@@ -66,6 +66,25 @@ pub enum Entry {
     Own(OwnEntry),
     /// What only the host is asked for.
     AskHost(Request),
+}
+
+/// The words with which an alias calls its target: its own, and then those of the call. They share
+/// what they keep.
+///
+/// # Errors
+/// Want of memory.
+#[inline(never)]
+pub fn target_words(alloc: Global, own: &[Value], args: &[Value]) -> Result<Vec<Value>, AllocError>
+    ensures { IfOk result (λ words. words.items ≡ own.now ++ args.now) }
+{
+    let mut words = Vec::with_capacity(alloc, own.len().saturating_add(args.len()))?;
+    'own: for word in own {
+        words.push(word.clone()?)?;
+    }
+    'args: for word in args {
+        words.push(word.clone()?)?;
+    }
+    Ok(words)
 }
 
 impl Question {
@@ -181,6 +200,7 @@ fn without_detour(alloc: Global, alias: &Alias, target: &[Text]) -> Result<Alias
 }
 
 impl Entry {
+    ghost use Rattle.tcl_core.specs.Entries.Entry.{CallWords};
     ghost use Rattle.tcl_core.specs.Paths.{Path};
     ghost use Rattle.tcl_run.specs.Entering.{handed, whole_entry};
 
@@ -201,6 +221,19 @@ impl Entry {
             }
             other => Ok(other),
         }
+    }
+
+    /// What an alias asks its target for: that it call a command of the alias' own words and those
+    /// of the call behind them. Nothing is read again.
+    ///
+    /// # Errors
+    /// Want of memory.
+    #[inline(never)]
+    pub fn of_alias(alloc: Global, own: &[Value], args: &[Value]) -> Result<Entry, AllocError>
+        ensures { IfOk result (λ made. whole_entry made ≡ CallWords (own.now ++ args.now)) }
+    {
+        let words = target_words(alloc, own, args)?;
+        Ok(Entry::CallWords(words))
     }
 
     /// The same again. Its values share what they keep.

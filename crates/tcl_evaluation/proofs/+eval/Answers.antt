@@ -2467,36 +2467,36 @@ crossing::ask_entry-returns-clause-asks g t c =
     let some = some_is (length c.args.path.now) c.is_empty.result c.is_empty.ensures c.if-is_empty.false in
     asks_another (ways g.O.Outside.goes g.O.Outside.loses) c.args.tree.now c.ask_below.new.tree c.args.outside.now c.ask_below.new.outside c.args.place c.args.path.now (whole_entry c.args.entry) c.ask_below.result some c.ask_below.ensures.asks
 
-pub crossing::call_alias-returns-in_err-target_words-clause-runs : goal.crossing::call_alias-returns-in_err-target_words-clause-runs
-crossing::call_alias-returns-in_err-target_words-clause-runs g t c =
+pub crossing::call_alias-returns-in_err-entry-clause-runs : goal.crossing::call_alias-returns-in_err-entry-clause-runs
+crossing::call_alias-returns-in_err-entry-clause-runs g t c =
     let p = err_from_is_err_and c.from_residual.result c.from_residual.ensures.1 in
     memory_err c.from_residual.result p.0 _ _ p.1 p.2 (λ q style at. stopped)
 
 pub crossing::call_alias-returns-in-There-clause-runs : goal.crossing::call_alias-returns-in-There-clause-runs
 crossing::call_alias-returns-in-There-clause-runs g t c =
     let up : c.up-up.result ≡ c.args.alias.now.up = search rules in
-    let same = alias_is c.args.alias.now c.args.word.now c.args.args.now c.up-up.result c.down-down.result.now c.in_ok-target_words.field-0.items up c.down-down.ensures
-    (c.in_ok-target_words.ensures ∙ ap (λ (ws : List (List ℕ)). ws ++ c.args.args.now) c.words.ensures) in
+    let same = alias_is c.args.alias.now c.args.word.now c.args.args.now c.up-up.result c.down-down.result.now (whole_entry c.in_ok-entry.entry) up c.down-down.ensures
+    (c.in_ok-entry.ensures ∙ ap (λ (ws : List (List ℕ)). CallWords (ws ++ c.args.args.now)) c.words.ensures) in
     evaluates_same (ways g.O.Outside.goes g.O.Outside.loses) c.args.tree.now c.call_there.new.tree c.args.outside.now c.call_there.new.outside c.args.place (alias_program c.args.alias.now c.args.word.now c.args.args.now) _ c.call_there.result same
-    (calls_end (ways g.O.Outside.goes g.O.Outside.loses) c.args.tree.now c.call_there.new.tree c.args.outside.now c.args.place c.up-up.result c.down-down.result.now (CallWords c.in_ok-target_words.field-0.items) c.call_there.result
+    (calls_end (ways g.O.Outside.goes g.O.Outside.loses) c.args.tree.now c.call_there.new.tree c.args.outside.now c.args.place c.up-up.result c.down-down.result.now (whole_entry c.in_ok-entry.entry) c.call_there.result
     c.call_there.new.outside (failing (lost_alias c.args.word.now)) c.call_there.ensures.runs)
 
 pub crossing::call_alias-returns-in-Missing-clause-runs : goal.crossing::call_alias-returns-in-Missing-clause-runs
 crossing::call_alias-returns-in-Missing-clause-runs g t c =
     let up : c.up-up.result ≡ c.args.alias.now.up = search rules in
-    let same = alias_is c.args.alias.now c.args.word.now c.args.args.now c.up-up.result c.down-down.result.now c.in_ok-target_words.field-0.items up c.down-down.ensures
-    (c.in_ok-target_words.ensures ∙ ap (λ (ws : List (List ℕ)). ws ++ c.args.args.now) c.words.ensures) in
+    let same = alias_is c.args.alias.now c.args.word.now c.args.args.now c.up-up.result c.down-down.result.now (whole_entry c.in_ok-entry.entry) up c.down-down.ensures
+    (c.in_ok-entry.ensures ∙ ap (λ (ws : List (List ℕ)). CallWords (ws ++ c.args.args.now)) c.words.ensures) in
     evaluates_same (ways g.O.Outside.goes g.O.Outside.loses) c.args.tree.now c.args.tree.now c.args.outside.now c.miss_alias.new.outside c.args.place (alias_program c.args.alias.now c.args.word.now c.args.args.now) _ c.miss_alias.result same
-    (calls_nobody (ways g.O.Outside.goes g.O.Outside.loses) c.args.tree.now c.args.outside.now c.miss_alias.new.outside c.args.place c.up-up.result c.down-down.result.now (CallWords c.in_ok-target_words.field-0.items) c.miss_alias.result
+    (calls_nobody (ways g.O.Outside.goes g.O.Outside.loses) c.args.tree.now c.args.outside.now c.miss_alias.new.outside c.args.place c.up-up.result c.down-down.result.now (whole_entry c.in_ok-entry.entry) c.miss_alias.result
     (failing (lost_alias c.args.word.now)) (λ p at. c.in-Missing.ensures p at) c.miss_alias.ensures.told c.miss_alias.ensures.misses c.miss_alias.ensures.lost)
 
 pub crossing::call_alias-returns-in-Outside-clause-runs : goal.crossing::call_alias-returns-in-Outside-clause-runs
 crossing::call_alias-returns-in-Outside-clause-runs g t c =
     let up : c.up-up.result ≡ c.args.alias.now.up = search rules in
-    let same = alias_is c.args.alias.now c.args.word.now c.args.args.now c.up-up.result c.down-down.result.now c.in_ok-target_words.field-0.items up c.down-down.ensures
-    (c.in_ok-target_words.ensures ∙ ap (λ (ws : List (List ℕ)). ws ++ c.args.args.now) c.words.ensures) in
+    let same = alias_is c.args.alias.now c.args.word.now c.args.args.now c.up-up.result c.down-down.result.now (whole_entry c.in_ok-entry.entry) up c.down-down.ensures
+    (c.in_ok-entry.ensures ∙ ap (λ (ws : List (List ℕ)). CallWords (ws ++ c.args.args.now)) c.words.ensures) in
     evaluates_same (ways g.O.Outside.goes g.O.Outside.loses) c.args.tree.now c.call_past_top.new.tree c.args.outside.now c.call_past_top.new.outside c.args.place (alias_program c.args.alias.now c.args.word.now c.args.args.now) _ c.call_past_top.result same
-    (calls_past (ways g.O.Outside.goes g.O.Outside.loses) c.args.tree.now c.call_past_top.new.tree c.args.outside.now c.call_past_top.new.outside c.args.place c.up-up.result c.down-down.result.now (CallWords c.in_ok-target_words.field-0.items)
+    (calls_past (ways g.O.Outside.goes g.O.Outside.loses) c.args.tree.now c.call_past_top.new.tree c.args.outside.now c.call_past_top.new.outside c.args.place c.up-up.result c.down-down.result.now (whole_entry c.in_ok-entry.entry)
     c.call_past_top.result (failing (lost_alias c.args.word.now)) c.call_past_top.ensures.runs)
 
 pub crossing::call_past_top-returns-in_err-notify-clause-runs : goal.crossing::call_past_top-returns-in_err-notify-clause-runs

@@ -1,0 +1,354 @@
+-- What an outside with a budget makes of what it is told, and how lives go on.
+use Rattle.std.proofs.Common.{◌≡◌, ℕ, zero, suc, ℤ, Bool, true, false, List, [], ◌∷◌, ◌++◌, ◌≤◌, ◌<◌, ◌+◌, length, Option, Some, None, refl, sym, ap, subst, ◌∙◌, arith, inl, inr}
+use Rattle.std.specs.Option.{option_map}
+use Rattle.std.specs.Prelude.{IfErr, IfOk, IfNone, IfSome, OnOk, Result, Ok, Err, is_some}
+use Rattle.tcl_core.specs.Endings.{Reply, ok}
+use Rattle.tcl_core.specs.Endings.Cause.{Over}
+use Rattle.tcl_core.specs.Endings.Meter.{Count}
+use Rattle.tcl_core.specs.Endings.Reply.{Completed, Stop, Exit, Cut}
+use Rattle.tcl_core.specs.Entries.{Answer, Entry}
+use Rattle.tcl_core.specs.Entries.Answer.{Replied}
+use Rattle.tcl_core.specs.Execution.{Crossings, Executes, event, hears}
+use Rattle.tcl_core.specs.Lives as core_lives
+use Rattle.tcl_core.specs.Lives.{limit_at}
+use Rattle.tcl_core.specs.Paths.{Height, Path, Place, rise, rise_to}
+use Rattle.tcl_core.specs.Programs.{Wait}
+use Rattle.tcl_core.specs.Runs.{Ending, entering, is_own}
+use Rattle.tcl_core.specs.Trees as core
+use Rattle.tcl_core.specs.Trees.{Event, What}
+use Rattle.tcl_core.specs.Trees.What.{Back, Charged, Done, Dropped, In, Out, Refused}
+use Rattle.tcl_core.proofs.PathLaws.{rise_back}
+use Rattle.tcl_evaluation.specs.Waiting.{EndsEntry, ExitOf}
+use Rattle.tcl_flow.specs.Stopping as stopping
+use Rattle.tcl_flow.specs.View.{completion_of}
+use Rattle.tcl_language_laws.specs.Language.{language}
+use Rattle.tcl_reactions.specs.Moving as moving
+use Rattle.tcl_reactions.proofs.Mapped.{lives_along}
+use Rattle.tcl_reactions.proofs.Movements.{reacts}
+use Rattle.tcl_reactions.specs.Moving.{Goes, Lived, Moved, budgeted, halt_by}
+use Rattle.tcl_reactions.specs.Playing.{IsEnd}
+use Rattle.tcl_run.proofs.Endings.{IfEnded-all, IfEnded-more}
+use Rattle.tcl_run.proofs.Losing.{lost_once, lost_twice}
+use Rattle.tcl_run.proofs.Proceeding.{comes, given_up_after}
+use Rattle.tcl_run.proofs.Quiet.{within_unchanged}
+use Rattle.tcl_run.specs.Ends.{IfEnded, WhereMemory, cause_of}
+use Rattle.tcl_run.specs.Entering.{whole_entry}
+use Rattle.tcl_run.specs.Notifying.{Notified}
+use Rattle.tcl_run.specs.Outsides.{Answers, ComesNext, Enters, Going, Misses, Returns}
+use Rattle.tcl_run.specs.Runs.{Comes, IsLoss, IsSteady, Proceeds, steps_at, ways}
+use Rattle.tcl_run.specs.Runs.IsLoss.{lost, unlost}
+use Rattle.tcl_run.specs.Runs.Proceeds.{given_up}
+use Rattle.tcl_run.specs.declared.interruption.Interruption.{Interruption}
+use Rattle.tcl_run.specs.declared.interruption.Interruption.TheVariants as interruption
+use Rattle.tcl_run.specs.declared.outside.Happening.{Happening}
+use Rattle.tcl_run.specs.declared.outside.Happening.TheVariants as happening
+use Rattle.tcl_run.specs.declared.outside.Turn.{Turn}
+use Rattle.tcl_run.specs.declared.outside.Turn.TheVariants as turn
+use Rattle.tcl_text.specs.declared.integer.Integers.{Integers}
+use Rattle.tcl_tree.specs.Own.{Own}
+use Rattle.tcl_tree.specs.TreeOf.{Names, marks_of, tree_of}
+use Rattle.tcl_tree.specs.declared.tree.Tree.{Tree as Table}
+use Rattle.tcl_open_moves.specs.OpenMoves.{GivesUp, GivesUpIn, IsGivenUp, KeepsCounts, Serves, between, within, budgeted_of, by_budget, grants, hands, halt_at, halt_of, last_end, result_of}
+use Rattle.tcl_open_moves.specs.declared.moves.Outcome.{Outcome}
+use Rattle.tcl_open_moves.specs.declared.moves.Outcome.TheVariants as outcome
+use Rattle.tcl_eval.proofs.Starting.{some_way}
+use Rattle.tcl_open_moves.specs.declared.moves.Budgeted.{Budgeted}
+use Rattle.tcl_open_moves.specs.declared.moves.Halt.{Halt}
+use Rattle.tcl_open_moves.specs.declared.moves.Halt.TheVariants as halt
+
+none_of : (h : Option Halt) → is_some h ≡ false → h ≡ None
+none_of None e = refl
+none_of (Some f) e = let clash : true ≡ false = e in absurd cc
+
+some_of : (h : Option Halt) → is_some h ≡ true → (f : Halt) × (h ≡ Some f)
+some_of None e = let clash : false ≡ true = e in absurd cc
+some_of (Some f) e = (f, refl)
+
+module _ {S : Type 0} (goes : Going S) where
+  -- the outside in a state, with so many steps left, and why the life is over
+  abbrev pub at : S → ℕ → Option Halt → Budgeted S
+  at o n h = record { outside = o; left = n; halt = h }
+
+  -- ## The life goes on
+
+  enters : (T : core.Tree Own) (o : S) (n : ℕ) (p : Path) (up : ℕ) (a : Path) (down : Path) (i : Entry) (z : S) → Enters goes T o p up a down i z → Enters (by_budget goes) T (at o n None) p up a down i (at z n None)
+  enters T o n p up a down i z g = record { between = at g.between n None; leaves = record { told = g.leaves; left_so = refl; halt_so = refl }; enters = record { told = g.enters; left_so = refl; halt_so = refl } }
+
+  returns : (T : core.Tree Own) (o : S) (n : ℕ) (p : Path) (up : ℕ) (a : Path) (down : Path) (s r : Reply) (z : S) → rise up p ≡ Some a → Returns goes T o p up a down s r z → Returns (by_budget goes) T (at o n None) p up a down s r (at z n None)
+  returns T o n p up a down s r z e g = record { between = at g.between n None; leaves = record { told = g.leaves; left_so = refl; halt_so = refl }; returns = record { told = g.returns; left_so = refl; halt_so = sym (ap (λ l. halt_by l (Replied r)) e) } }
+
+  misses : (T : core.Tree Own) (o : S) (n : ℕ) (p : Path) (up : ℕ) (a : Path) (down : Path) (i : Entry) (r : Reply) (z : S) → rise up p ≡ Some a → Misses goes T o p up down i r z → Misses (by_budget goes) T (at o n None) p up down i r (at z n None)
+  misses T o n p up a down i r z e g = record { between = at g.between n None; leaves = record { told = g.leaves; left_so = refl; halt_so = refl }; returns = record { told = g.returns; left_so = refl; halt_so = sym (ap (λ l. halt_by l (Replied r)) e) } }
+
+  told_on : (hands : Type 0) (t : Table) (o : S) (n : ℕ) (w : Happening) (z : S) → Notified goes hands t o w z → Notified (by_budget goes) hands t (at o n None) w (at z n None)
+  told_on hands t o n (happening.Dropped parent name) z f = λ T p q. record { told = f T p q; left_so = refl; halt_so = refl }
+  told_on hands t o n (happening.Entered caller up down entry) z f = λ p a q e. enters (tree_of t) o n p up a down.now (whole_entry entry.now) z (f p a q e)
+  told_on hands t o n (happening.Returned caller up down ended told) z f =
+      let Inner : Reply → Reply → Type 0 = λ s r. (p a : Path) → Names t caller p → rise_to (Some up) p ≡ Some a → Returns goes (tree_of t) o p up a down.now s r z in
+      let Outer : Reply → Reply → Type 0 = λ s r. (p a : Path) → Names t caller p → rise_to (Some up) p ≡ Some a → Returns (by_budget goes) (tree_of t) (at o n None) p up a down.now s r (at z n None) in
+      IfEnded-more ended.now (λ s. IfEnded told.now (Inner s)) (λ s. IfEnded told.now (Outer s))
+      (λ s x. IfEnded-more told.now (Inner s) (Outer s) (λ r g p a q e. returns (tree_of t) o n p up a down.now s r z e (g p a q e)) x) f
+  told_on hands t o n (happening.Missed caller up down entry told) z f =
+      IfEnded-more told.now (λ r. (p a : Path) → Names t caller p → rise_to (Some up) p ≡ Some a → Misses goes (tree_of t) o p up down.now (whole_entry entry.now) r z)
+      (λ r. (p a : Path) → Names t caller p → rise_to (Some up) p ≡ Some a → Misses (by_budget goes) (tree_of t) (at o n None) p up down.now (whole_entry entry.now) r (at z n None))
+      (λ r g p a q e. misses (tree_of t) o n p up a down.now (whole_entry entry.now) r z e (g p a q e)) f
+  told_on hands t o n (happening.PassedTop caller up down entry) z f = λ p q e. record { told = f p q e; left_so = refl; halt_so = refl }
+  told_on hands t o n (happening.EntryDone target ended) z f =
+      IfEnded-more ended.now (λ r. goes (tree_of t) o None (event target.now (Done None r)) z) (λ r. by_budget goes (tree_of t) (at o n None) None (event target.now (Done None r)) (at z n None))
+      (λ r g. record { told = g; left_so = refl; halt_so = refl }) f
+  told_on hands t o n (happening.ExitCameBack caller up entry status) z f = λ h p q e. record { told = f h p q e; left_so = refl; halt_so = sym (ap (λ l. halt_by l (Replied (Exit status))) e) }
+
+  pub notified_on : (hands : Type 0) (t : Table) (o : S) (n : ℕ) (h : Option Halt) (w : Happening) (z : S) → is_some h ≡ false → Notified goes hands t o w z → Notified (by_budget goes) hands t (at o n h) w (at z n h)
+  notified_on hands t o n h w z e f = subst (λ g. Notified (by_budget goes) hands t (at o n g) w (at z n g)) (sym (none_of h e)) (told_on hands t o n w z f)
+
+  -- ## It is over
+
+  over_inner : (T : core.Tree Own) (o : S) (n : ℕ) (f : Halt) (p : Path) (h : Height) (r : Answer) (a : Path) → rise_to h p ≡ Some a → by_budget goes T (at o n (Some f)) None (event p (Back h r)) (at o n (Some f))
+  over_inner T o n f p h r a e = (subst (λ l. moving.past l (IsEnd r)) (sym e) tt, refl)
+
+  over_enters : (T : core.Tree Own) (o : S) (n : ℕ) (f : Halt) (p : Path) (up : ℕ) (a : Path) (down : Path) (i : Entry) → Enters (by_budget goes) T (at o n (Some f)) p up a down i (at o n (Some f))
+  over_enters T o n f p up a down i = record { between = at o n (Some f); leaves = (tt, refl); enters = (subst (λ l. moving.past l Prim.⊥) (sym (rise_back a down)) tt, refl) }
+
+  told_over : (hands : Type 0) (t : Table) (o : S) (n : ℕ) (f : Halt) (w : Happening) → Notified (by_budget goes) hands t (at o n (Some f)) w (at o n (Some f))
+  told_over hands t o n f w =
+      let b : Budgeted S = at o n (Some f) in
+      within_unchanged (by_budget goes) hands t b w (λ T p. (tt, refl)) (λ p up a down i e. over_enters (tree_of t) o n f p up a down i)
+      (λ p up a down s r e. record { between = b; leaves = (tt, refl); returns = over_inner (tree_of t) o n f p (Some up) (Replied r) a e })
+      (λ p up a down i r e. record { between = b; leaves = (tt, refl); returns = over_inner (tree_of t) o n f p (Some up) (Replied r) a e })
+      (λ caller up down entry is. subst (λ (v : Happening). Notified (by_budget goes) hands t b v b) (sym is) (λ p q e. (tt, refl)))
+      (λ target ended is. subst (λ (v : Happening). Notified (by_budget goes) hands t b v b) (sym is) (IfEnded-all ended.now (λ r. by_budget goes (tree_of t) b None (event target.now (Done None r)) b) (λ r. (tt, refl))))
+      (λ caller up entry status is. subst (λ (v : Happening). Notified (by_budget goes) hands t b v b) (sym is) (λ h p q e. (subst (λ l. moving.past l (IsEnd (Replied (Exit status)))) (sym e) tt, refl)))
+
+  pub notified_over : (hands : Type 0) (t : Table) (o : S) (n : ℕ) (h : Option Halt) (w : Happening) → is_some h ≡ true → Notified (by_budget goes) hands t (at o n h) w (at o n h)
+  notified_over hands t o n h w e = let g = some_of h e in subst (λ l. Notified (by_budget goes) hands t (at o n l) w (at o n l)) (sym g.1) (told_over hands t o n g.0 w)
+
+  -- ## What comes next to an open call
+
+  own_cut : (h : Height) (i : Entry) → is_own h i (Replied (Cut Over)) ≡ true
+  own_cut (Some h) i = refl
+  own_cut None i = refl
+
+  pub ended_over : (T : core.Tree Own) (o : S) (n : ℕ) (g : Option Halt) (p : Path) (h : Height) (i : Entry) → is_some g ≡ true → rise_to h p ≡ None → Answers (by_budget goes) T (at o n g) p h i (at o n g) (Replied (Cut Over))
+  ended_over T o n g p h i e top =
+      let f = some_of g e in
+      subst (λ l. Answers (by_budget goes) T (at o n l) p h i (at o n l) (Replied (Cut Over))) (sym f.1) ((subst (λ l. moving.past l (IsEnd (Replied (Cut Over)))) (sym top) tt, refl), own_cut h i)
+
+  answers : (T : core.Tree Own) (o : S) (n : ℕ) (p : Path) (h : Height) (i : Entry) (z : S) (a : Answer) (g : Option Halt) → rise_to h p ≡ None → option_map halt_of g ≡ halt_by None a → Answers goes T o p h i z a → Answers (by_budget goes) T (at o n None) p h i (at z n g) a
+  answers T o n p h i z a g top e f = (record { told = f.0; left_so = refl; halt_so = e ∙ sym (ap (λ l. halt_by l a) top) }, f.1)
+
+  comes_on : (hands : Type 0) (T : core.Tree Own) (o : S) (n : ℕ) (p : Path) (h : Height) (i : Entry) (z : S) (t : Result Turn Interruption) → rise_to h p ≡ None → ComesNext goes hands T o p h i z t → ComesNext (by_budget goes) hands T (at o n None) p h i (at z n (halt_at t)) t
+  comes_on hands T o n p h i z (Ok (turn.Entry target entry)) top f = (record { told = f.0; left_so = refl; halt_so = refl }, f.1)
+  comes_on hands T o n p h i z (Ok (turn.Completed text)) top f = answers T o n p h i z _ None top refl f
+  comes_on hands T o n p h i z (Ok (turn.Heard reply)) top f = answers T o n p h i z _ None top refl f
+  comes_on hands T o n p h i z (Err interruption.Memory) top f = tt
+  comes_on hands T o n p h i z (Err (interruption.Completed c)) top f = answers T o n p h i z _ None top refl f
+  comes_on hands T o n p h i z (Err (interruption.Stopped s)) top f = answers T o n p h i z _ None top refl f
+  comes_on hands T o n p h i z (Err (interruption.Exited s)) top f = answers T o n p h i z _ None top refl f
+  comes_on hands T o n p h i z (Err (interruption.Cut c)) top f = answers T o n p h i z _ (Some halt.Cuts) top refl f
+
+  pub comes_next : (hands : Type 0) (T : core.Tree Own) (o : S) (n : ℕ) (g : Option Halt) (p : Path) (h : Height) (i : Entry) (z : S) (t : Result Turn Interruption) → is_some g ≡ false → rise_to h p ≡ None → ComesNext goes hands T o p h i z t →
+      ComesNext (by_budget goes) hands T (at o n g) p h i (at z n (halt_at t)) t
+  comes_next hands T o n g p h i z t e top f = subst (λ l. ComesNext (by_budget goes) hands T (at o n l) p h i (at z n (halt_at t)) t) (sym (none_of g e)) (comes_on hands T o n p h i z t top f)
+
+  -- ## Steps
+
+  pub refuses_over : (T : core.Tree Own) (o : S) (n : ℕ) (g : Option Halt) (p : Path) → is_some g ≡ true → by_budget goes T (at o n g) None (event p (Refused Count None)) (at o n g)
+  refuses_over T o n g p e = let f = some_of g e in subst (λ l. by_budget goes T (at o n l) None (event p (Refused Count None)) (at o n l)) (sym f.1) (tt, refl)
+
+  pub spends : (T : core.Tree Own) (o : S) (n : ℕ) (g : Option Halt) (p : Path) → is_some g ≡ false → n ≡ 0 → by_budget goes T (at o n g) None (event p (Refused Count None)) (at o n (Some halt.Spends))
+  spends T o n g p e z = subst (λ l. by_budget goes T (at o n l) None (event p (Refused Count None)) (at o n (Some halt.Spends))) (sym (none_of g e))
+      (inl (z, ap (λ k. record { outside = o; left = k; halt = Some moving.Spends }) z))
+
+  pub refuses : (T : core.Tree Own) (o : S) (n : ℕ) (g : Option Halt) (p : Path) (z : S) → is_some g ≡ false → goes T o None (event p (Refused Count None)) z → by_budget goes T (at o n g) None (event p (Refused Count None)) (at z n (Some halt.Refuses))
+  refuses T o n g p z e f = subst (λ l. by_budget goes T (at o n l) None (event p (Refused Count None)) (at z n (Some halt.Refuses))) (sym (none_of g e)) (inr (record { told = f; left_so = refl; halt_so = refl }))
+
+  pub makes : (T : core.Tree Own) (o : S) (n k : ℕ) (g : Option Halt) (b : Bool) (p : Path) (z : S) → grants g n b ≡ true → k + 1 ≡ n → goes T o None (event p Charged) z → by_budget goes T (at o n g) None (event p Charged) (at z k g)
+  makes T o n k None b p z e less f = let s : n ≡ suc k = omega arith in (k, s, record { told = f; left_so = refl; halt_so = refl })
+  makes T o zero k (Some h) b p z e less f = let clash : false ≡ true = e in absurd cc
+  makes T o (suc n) k (Some h) b p z e less f = let clash : false ≡ true = e in absurd cc
+
+  -- the outside grants a step that is granted, where one is left
+  pub granted_there : (g : Option Halt) (n : ℕ) (b : Bool) → grants g n b ≡ true → (b ≡ true) × (0 < n)
+  granted_there None zero b e = let clash : false ≡ true = e in absurd cc
+  granted_there None (suc n) b e = (e, omega arith)
+  granted_there (Some h) zero b e = let clash : false ≡ true = e in absurd cc
+  granted_there (Some h) (suc n) b e = let clash : false ≡ true = e in absurd cc
+
+  pub grants_on : (g : Option Halt) (n : ℕ) (b : Bool) → is_some g ≡ false → 0 < n → grants g n b ≡ b
+  grants_on None zero b e less = absurd (omega (arith, less))
+  grants_on None (suc n) b e less = refl
+  grants_on (Some h) n b e less = let clash : true ≡ false = e in absurd cc
+
+  pub denies : (g : Option Halt) (n : ℕ) (b : Bool) → is_some g ≡ true → grants g n b ≡ false
+  denies None n b e = let clash : false ≡ true = e in absurd cc
+  denies (Some h) zero b e = refl
+  denies (Some h) (suc n) b e = refl
+
+  pub denies_zero : (g : Option Halt) (n : ℕ) (b : Bool) → n ≡ 0 → grants g n b ≡ false
+  denies_zero None zero b e = refl
+  denies_zero None (suc n) b e = absurd (omega (arith, e))
+  denies_zero (Some h) zero b e = refl
+  denies_zero (Some h) (suc n) b e = refl
+
+  -- an entry that is handed in
+  pub hands_on : (T : core.Tree Own) (o : S) (n : ℕ) (g : Option Halt) (t : Path) (i : Entry) (z : S) → is_some g ≡ false → goes T o None (event t (In None i)) z → by_budget goes T (at o n g) None (event t (In None i)) (at z n g)
+  hands_on T o n g t i z e f = subst (λ l. by_budget goes T (at o n l) None (event t (In None i)) (at z n l)) (sym (none_of g e)) (record { told = f; left_so = refl; halt_so = refl })
+
+-- ## Lives
+
+-- an evaluation that didn't end for want of memory ended by some reply
+ended_so : (A B : Reply → Type 0) (ended : Result (List ℕ) Interruption) (status : Option ℤ) → ExitOf ended status → IfEnded ended A → IfEnded ended B → (r : Reply) × A r × B r × (core_lives.ending_of r ≡ last_end status)
+ended_so A B (Ok text) status m a b = (Completed (ok text), a, b, sym (ap last_end m))
+ended_so A B (Err (interruption.Completed c)) status m a b = (Completed (completion_of c.value), a, b, sym (ap last_end m))
+ended_so A B (Err (interruption.Stopped s)) status m a b = (stopping.reply_of s, a, b, sym (ap last_end m))
+ended_so A B (Err (interruption.Exited n)) status m a b = (Exit n, a, b, sym (ap last_end m))
+ended_so A B (Err (interruption.Cut c)) status m a b = (Cut (cause_of c), a, b, sym (ap last_end m))
+ended_so A B (Err interruption.Memory) status m a b = absurd m
+
+module _ {S : Type 0} (goes : Going S) (loses : S → S → Type 0) (old new : Table) (o u z : S) (p target : Path) (i : Entry) where
+  runs_of : (e : Result (List ℕ) Interruption) → EndsEntry (ways goes loses) old o p i new u e →
+      IfEnded e (λ r. Comes goes (language (marks_of old).integers) (tree_of old) o p (entering (language (marks_of old).integers) (tree_of old p) i) (tree_of new) u r)
+  runs_of (Ok text) f = comes (f (marks_of old).integers refl)
+  runs_of (Err (interruption.Completed c)) f = comes (f (marks_of old).integers refl)
+  runs_of (Err (interruption.Stopped s)) f = comes (f (marks_of old).integers refl)
+  runs_of (Err (interruption.Exited n)) f = comes (f (marks_of old).integers refl)
+  runs_of (Err (interruption.Cut c)) f = comes (f (marks_of old).integers refl)
+  runs_of (Err interruption.Memory) f = tt
+
+  serves_so : (ended : Result (List ℕ) Interruption) (status : Option ℤ) → p ≡ target → ExitOf ended status → EndsEntry (ways goes loses) old o p i new u ended → IfEnded ended (λ r. goes (tree_of new) u None (event p (Done None r)) z) →
+      Serves goes (marks_of old).integers (tree_of old) o target i (tree_of new) z (last_end status)
+  serves_so ended status e m a b =
+      let x = ended_so (λ r. Comes goes (language (marks_of old).integers) (tree_of old) o p (entering (language (marks_of old).integers) (tree_of old p) i) (tree_of new) u r)
+      (λ r. goes (tree_of new) u None (event p (Done None r)) z) ended status m (runs_of ended a) b in
+      subst (λ t. Serves goes (marks_of old).integers (tree_of old) o t i (tree_of new) z (last_end status)) e
+      (record { between = u; reply = x.0; runs = x.1; told = x.2; ends = x.3 })
+
+  pub serves : {E : Type 0} (ended : Result (List ℕ) Interruption) (status : Result (Option ℤ) E) → p ≡ target → IfOk status (λ s. ExitOf ended s) → EndsEntry (ways goes loses) old o p i new u ended → IfEnded ended (λ r. goes (tree_of new) u None (event p (Done None r)) z) →
+      IfOk status (λ s. Serves goes (marks_of old).integers (tree_of old) o target i (tree_of new) z (last_end s))
+  serves ended (Ok s) e m a b = serves_so ended s e m a b
+  serves ended (Err x) e m a b = tt
+
+-- one entry more
+pub goes_on : {S : Type 0} (goes : Going S) (style : Integers) (T V : core.Tree Own) (t : Table) (o u w z : S) (target : Path) (i : Entry) (x : core_lives.Outcome) →
+    (marks_of t).integers ≡ style → Lived goes (language style) T o (tree_of t) u core_lives.Finished → ((R : core.Tree Own) → goes R u None (event target (In None i)) w) → Serves goes (marks_of t).integers (tree_of t) w target i V z x → Lived goes (language style) T o V z x
+goes_on goes style T V t o u w z target i x e l s h =
+    let r = subst (λ k. Serves goes k (tree_of t) w target i V z x) e h in
+    subst (λ y. Lived goes (language style) T o V z y) r.ends (moving.entered target i r.reply l (s (tree_of t)) r.runs r.told)
+
+pub where_some : {A : Type 0} (P : A → Type 0) (o : Option A) (a : A) → o ≡ Some a → IfSome o P → P a
+where_some P o a e h = subst (λ q. IfSome q P) e h
+
+pub where_none : {A : Type 0} (P : Type 0) (o : Option A) → o ≡ None → IfNone o P → P
+where_none P o e h = subst (λ q. IfNone q P) e h
+
+pub counts_kept : (old new : Table) → IsSteady old new → KeepsCounts old new
+counts_kept old new s = record { top = s.counted.rises; in_use = s.counts; limit = s.counted.limit; within = s.counted.within }
+
+-- ## Whether an entry comes next
+
+pub hands_there : (h : Option Halt) (b : Bool) → is_some h ≡ false → hands h b ≡ b
+hands_there None b e = refl
+hands_there (Some f) b e = let clash : true ≡ false = e in absurd cc
+
+pub hands_none : (h : Option Halt) (b : Bool) → is_some h ≡ true → hands h b ≡ false
+hands_none None b e = let clash : false ≡ true = e in absurd cc
+hands_none (Some f) b e = refl
+
+-- a life that finished wasn't over before, nor by an exit
+finished_by : (h : Option Halt) (e : Option ℤ) (b : Bool) → moving.By core_lives.Finished ≡ moving.result_by (option_map halt_of h) (last_end e) → (e ≡ None → hands h b ≡ false) → b ≡ false
+finished_by None None b is f = f refl
+finished_by None (Some n) b is f = absurd cc
+finished_by (Some h) e b is f = absurd cc
+
+pub finished_so : {S : Type 0} (P : S → Bool) (z : S) (b : Budgeted S) (h : Option Halt) (e : Option ℤ) (x : Outcome) → z ≡ b.outside → h ≡ b.halt → result_of x ≡ moving.result_by (option_map halt_of h) (last_end e) → (e ≡ None → hands b.halt (P b.outside) ≡ false) → x ≡ outcome.Finished → P z ≡ false
+finished_so P z b h e x same halted is f done =
+    ap P same ∙ finished_by b.halt e (P b.outside) (sym (ap result_of done) ∙ is ∙ ap (λ k. moving.result_by (option_map halt_of k) (last_end e)) halted) f
+
+-- ## Where memory is wanted
+
+module _ {S : Type 0} (goes : Going S) (loses : S → S → Type 0) where
+  gave_up : (style : Integers) (T V : core.Tree Own) (o z : S) (t : Path) (i : Entry) → Proceeds (ways goes loses) (language style) T o t (entering (language style) (T t) i) V z None → GivesUpIn (ways goes loses) style T o t i z
+  gave_up style T V o z t i (given_up {last = last} b l) = record { last = last; begun = b; lost = l }
+
+  -- an entry came to its end, or didn't, and then it was given up
+  pub gives_up_in : (old new : Table) (o u z : S) (p target : Path) (i : Entry) (ended : Result (List ℕ) Interruption) → p ≡ target → EndsEntry (ways goes loses) old o p i new u ended → loses u z →
+      GivesUpIn (ways goes loses) (marks_of old).integers (tree_of old) o target i z
+  gives_up_in old new o u z p target i ended e a l =
+      let Went : Ending → Type 0 = λ r. (style : Integers) → (marks_of old).integers ≡ style → Proceeds (ways goes loses) (language style) (tree_of old) o p (entering (language style) (tree_of old p) i) (tree_of new) u r in
+      subst (λ t. GivesUpIn (ways goes loses) (marks_of old).integers (tree_of old) o t i z) e
+      (some_way ended Went (GivesUpIn (ways goes loses) (marks_of old).integers (tree_of old) o p i z) a (λ r f. gave_up (marks_of old).integers (tree_of old) (tree_of new) o z p i (given_up_after (f (marks_of old).integers refl) (lost_once l))))
+
+  pub given_up_between : (style : Integers) (T U : core.Tree Own) (o u z : S) → Lived goes (language style) T o U u core_lives.Finished → loses u z → GivesUp (ways goes loses) style T o z
+  given_up_between style T U o u z l e = record { last = u; stopped = between l; lost = lost_once e }
+
+  pub given_up_within : (style : Integers) (T : core.Tree Own) (t : Table) (o u w z : S) (target : Path) (i : Entry) → (marks_of t).integers ≡ style → Lived goes (language style) T o (tree_of t) u core_lives.Finished → ((R : core.Tree Own) → goes R u None (event target (In None i)) w) →
+      GivesUpIn (ways goes loses) (marks_of t).integers (tree_of t) w target i z → GivesUp (ways goes loses) style T o z
+  given_up_within style T t o u w z target i e l s h =
+      let r = subst (λ k. GivesUpIn (ways goes loses) k (tree_of t) w target i z) e h in
+      record { last = r.last; stopped = within target i l (s (tree_of t)) r.begun; lost = r.lost }
+
+  -- what was lost by an outside with a budget was lost by the outside
+  pub lost_there : {o z : Budgeted S} → IsLoss (λ (a b : Budgeted S). IsLoss loses a.outside b.outside) o z → IsLoss loses o.outside z.outside
+  lost_there unlost = unlost
+  lost_there (lost a b) = lost_twice (lost_there a) b
+
+-- ## What is said of results
+
+pub lost_where : {A S : Type 0} (loses : S → S → Type 0) (r : Result A Interruption) (o z : S) → WhereMemory r (loses o z) → WhereMemory r (IsLoss loses o z)
+lost_where loses (Ok a) o z l = tt
+lost_where loses (Err interruption.Memory) o z l = lost_once l
+lost_where loses (Err (interruption.Completed c)) o z l = tt
+lost_where loses (Err (interruption.Stopped s)) o z l = tt
+lost_where loses (Err (interruption.Exited n)) o z l = tt
+lost_where loses (Err (interruption.Cut c)) o z l = tt
+
+pub some_more : {A E : Type 0} (r : Result (Option A) E) (P Q : A → Type 0) → ((a : A) → P a → Q a) → IfOk r (λ o. IfSome o P) → IfOk r (λ o. IfSome o Q)
+some_more (Ok None) P Q f p = tt
+some_more (Ok (Some a)) P Q f p = f a p
+some_more (Err e) P Q f p = tt
+
+pub none_more : {A E : Type 0} (r : Result (Option A) E) (P Q : Type 0) → (P → Q) → IfOk r (λ o. IfNone o P) → IfOk r (λ o. IfNone o Q)
+none_more (Ok None) P Q f p = f p
+none_more (Ok (Some a)) P Q f p = tt
+none_more (Err e) P Q f p = tt
+
+pub ok_more : {A E : Type 0} (r : Result A E) (P Q : A → Type 0) → ((a : A) → P a → Q a) → IfOk r P → IfOk r Q
+ok_more (Ok a) P Q f p = f a p
+ok_more (Err e) P Q f p = tt
+
+pub err_more : {A E : Type 0} (r : Result A E) (P Q : Type 0) → (P → Q) → IfErr r (λ _. P) → IfErr r (λ _. Q)
+err_more (Ok a) P Q f p = tt
+err_more (Err e) P Q f p = f p
+
+-- ## All of it
+
+-- a life that goes on didn't end by an exit
+pub not_exited : (e : Option ℤ) → is_some e ≡ false → last_end e ≡ core_lives.Finished
+not_exited None f = refl
+not_exited (Some n) f = let clash : true ≡ false = f in absurd cc
+
+module _ {S : Type 0} (goes : Going S) where
+  pub moved_so : (style : Integers) (T V : core.Tree Own) (o z : S) (limit : ℕ) (a b : Budgeted S) (h : Option Halt) (e : Option ℤ) (x : Outcome) → Lived (by_budget goes) (language style) T a V b (last_end e) → a ≡ at goes o limit None → z ≡ b.outside → h ≡ b.halt →
+      result_of x ≡ moving.result_by (option_map halt_of h) (last_end e) → Moved goes (language style) T o limit (result_of x) V z
+  moved_so style T V o z limit a b h e x life first same halted is =
+      let began : Lived (by_budget goes) (language style) T (at goes o limit None) V b (last_end e) = subst (λ c. Lived (by_budget goes) (language style) T c V b (last_end e)) first life in
+      let l : Lived (budgeted goes) (language style) T (moving.beginning o limit) V (budgeted_of b) (last_end e) = lives_along (by_budget goes) (budgeted goes) budgeted_of (λ U c s ev u t. t) (language style) began in
+      let by : result_of x ≡ moving.result_by (option_map halt_of b.halt) (last_end e) = is ∙ ap (λ k. moving.result_by (option_map halt_of k) (last_end e)) halted in
+      subst (λ u. Moved goes (language style) T o limit (result_of x) V u) (sym same)
+      (subst (λ r. Moved goes (language style) T o limit r V b.outside) (sym by) (reacts goes (language style) T V o limit (budgeted_of b) (last_end e) l))
+
+  pub given_up_so : (loses : S → S → Type 0) (style : Integers) (T : core.Tree Own) (o u : S) (limit : ℕ) (a z : Budgeted S) → a ≡ at goes o limit None → u ≡ z.outside → GivesUp (ways (by_budget goes) (λ c d. IsLoss loses c.outside d.outside)) style T a z → IsGivenUp (ways goes loses) style T o limit u
+  given_up_so loses style T o u limit a z first e f =
+      let r : GivesUp (ways (by_budget goes) (λ c d. IsLoss loses c.outside d.outside)) style T (at goes o limit None) z = subst (λ c. GivesUp (ways (by_budget goes) (λ b d. IsLoss loses b.outside d.outside)) style T c z) first f in
+      record { last = r.last; stopped = r.stopped; lost = subst (λ v. IsLoss loses r.last.outside v) (sym e) (lost_there goes loses r.lost) }
+
+pub counts_marked : (old last new : Table) → KeepsCounts old last → tree_of new ≡ tree_of last → KeepsCounts old new
+counts_marked old last new h same = record {
+  top = let x = h.top in let e = counts [] in omega arith;
+  in_use = λ q used. let x = h.in_use q used in let e = counts q in omega arith;
+  limit = λ r. ap (λ (X : core.Tree Own). limit_at (X [])) same ∙ h.limit r;
+  within = λ r b p q. let x = h.within r b p q in let e = counts [] in omega arith;
+}
+  where
+    counts : (q : Path) → steps_at (tree_of new) q ≡ steps_at (tree_of last) q
+    counts q = ap (λ (X : core.Tree Own). steps_at X q) same

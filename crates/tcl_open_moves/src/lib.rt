@@ -1,0 +1,4 @@
+//! Runs of the moves of an outside alone.
+#![tactic(auto)]
+
+pub mod moves;
