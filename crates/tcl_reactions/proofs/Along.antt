@@ -1,36 +1,24 @@
 -- A player goes along with an outside that has a budget, and the outside goes through what the player reads.
-use Rattle.std.proofs.Common.{sym, ◌≡◌, ℕ, suc, ◌+◌, ◌≤◌, ℤ, List, [], ◌∷◌, ◌++◌, Option, Some, None, length, refl, ◌∙◌, ap, subst, arith, append-nil, append_assoc}
-use Rattle.tcl_core.specs.Paths.{Path, Place, Height, rise_to}
-use Rattle.tcl_core.specs.Endings.{Completion, Reply, IsQuit}
-use Rattle.tcl_core.specs.Endings.Reply.{Completed, Stop, Exit, Cut}
+use Rattle.std.proofs.Common.{List, [], Option, Some, None, length}
+use Rattle.tcl_core.specs.Paths.{Place}
+use Rattle.tcl_core.specs.Endings.{Reply}
+use Rattle.tcl_core.specs.Endings.Reply.{Completed, Exit}
 use Rattle.tcl_core.specs.Entries.Answer.{Replied, Heard, Nobody}
-use Rattle.tcl_core.specs.Trees.{Tree, Event, Move, Node, What, asked, effect, granted, paid, depth_of}
+use Rattle.tcl_core.specs.Trees.{Tree, Event, Node, effect, granted, depth_of}
 use Rattle.tcl_core.specs.Trees.Grants.{Listed}
-use Rattle.tcl_core.specs.Trees.What.{Charged, Out, In, Done, Back, Unfound}
+use Rattle.tcl_core.specs.Trees.What.{Out, In, Done, Back}
 use Rattle.tcl_core.specs.Programs.{Act, Deed, Prog, Table, Wait, Wrap, closes, spot}
 use Rattle.tcl_core.specs.Programs.Prog.{done, exit}
 use Rattle.tcl_core.specs.Rules.{IsNoExit}
 use Rattle.tcl_core.specs.Runs.{gone, height_of, returned}
-use Rattle.tcl_core.specs.Views.{moves_of, steps_of}
-use Rattle.tcl_core.specs.Execution.{Chain, Crossings, Decides, Executes, Open, Opens_so, answers_to, calls_after, event, more, none}
+use Rattle.tcl_core.specs.Execution.{Crossings, Decides, Executes, Opens_so, event}
 use Rattle.tcl_core.specs.Execution.Executes.{completed, exited, acted, refused, went, passed, wrapped, wrapped_passed, too_deep, shut, called, called_passed, unreached, called_out, answered, heard, missed, answered_passed, entered, entered_exiting, unfound}
-use Rattle.tcl_core.specs.Lives.{Outcome, React, ending_of, outcome_of, outs_of, told}
-use Rattle.tcl_core.specs.Lives.Outcome.{Finished, Exited}
-use Rattle.tcl_core.proofs.Beginnings.{outs_append}
-use Rattle.tcl_core.proofs.Following.{chain-append, handed, handed-all, makes, plain_deed, plain_open}
+use Rattle.tcl_core.proofs.Following.{plain_deed, plain_open}
 use Rattle.tcl_core.proofs.Parting.{act_silent, closes_silent, opens_silent}
 use Rattle.tcl_core.proofs.Plain.{closes_plain}
-use Rattle.tcl_reactions.specs.Moving
-use Rattle.tcl_reactions.specs.Moving.{Budgeted, Halt, IsWhole, Moved, beginning, budget_of, budgeted, as_outcome, result_by}
-use Rattle.tcl_reactions.specs.Moving.Halt.{Cuts, Spends, Refuses}
-use Rattle.tcl_reactions.specs.Moving.Lived.{begun as moving_begun, entered as moving_entered}
-use Rattle.tcl_reactions.specs.Playing as playing
-use Rattle.tcl_reactions.specs.Playing.{EndsThere, Fate, IsOver, OverBy, Player, beginner, last_end, outcome, outcome_by, outcome_with, plays, telling, tree_left}
-use Rattle.tcl_reactions.proofs.Backwards.{Both, Calmly, Ended_by, Leads, Marks, None_left, After, Ready, answered_back, both, calm_after, changed, comes_in, counts, exit_back, fate_by, finds_nobody, goes_out, inner, is_done, last, passes_by, plainly, player, stands, then_leads}
+use Rattle.tcl_reactions.specs.Moving.{Budgeted, budgeted}
+use Rattle.tcl_reactions.proofs.Backwards.{Both, Calmly, Leads, After, Ready, answered_back, both, calm_after, changed, comes_in, exit_back, finds_nobody, goes_out, inner, is_done, plainly, stands, then_leads}
 use Rattle.tcl_reactions.proofs.Crossed.{no_exit_in, no_exit_of, within}
-use Rattle.tcl_reactions.proofs.Reacted.{played_is_react}
-use Rattle.tcl_reactions.proofs.Turns.{calm_ending, done_end, done_on, done_over, not_some}
-use Rattle.tcl_reactions.proofs.Ways.{Calm}
 
 module _ {O S : Type 0} (goes : Tree O → S → Wait → Event O → S → Type 0) where
   pub then_both : {b u c : Budgeted S} {A B C D : List (Event O) → Type 0} {P Q : Both goes → Both goes → Type 0} → Leads goes b u A P B → ((outs : List (Event O)) → B outs → C outs) → Leads goes u c C Q D →

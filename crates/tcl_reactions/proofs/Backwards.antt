@@ -1,21 +1,20 @@
 -- From the end of a life to its beginning: which moves and how many steps a player must have had to go along with an outside that has a budget.
-use Rattle.std.proofs.Common.{sym, ◌≡◌, ◌⊎◌, inl, inr, ℕ, suc, ◌+◌, ℤ, true, List, [], ◌∷◌, ◌++◌, Option, Some, None, length, refl, ◌∙◌, ap, subst, arith, append-nil}
-use Rattle.std.specs.Ordering.{int_eq}
+use Rattle.std.proofs.Common.{sym, ◌≡◌, inl, inr, ℕ, suc, ◌+◌, ℤ, true, List, [], ◌∷◌, ◌++◌, Option, Some, None, refl, ◌∙◌, ap, subst, arith, append-nil}
 use Rattle.tcl_core.specs.Paths.{Path, Place, Height, rise_to}
-use Rattle.tcl_core.specs.Endings.{Completion, Reply, IsQuit}
+use Rattle.tcl_core.specs.Endings.{Completion, Reply}
 use Rattle.tcl_core.specs.Endings.Meter.{Count, Depth}
 use Rattle.tcl_core.specs.Endings.Reply.{Completed, Stop, Exit, Cut}
-use Rattle.tcl_core.specs.Entries.{Answer, Entry, HostReply, Said}
+use Rattle.tcl_core.specs.Entries.{Answer, Entry}
 use Rattle.tcl_core.specs.Entries.Answer.{Replied, Heard, Nobody}
 use Rattle.tcl_core.specs.Trees.{Tree, Event, Move, What, asked, paid, where_none}
 use Rattle.tcl_core.specs.Trees.Move.{Enter, Come}
 use Rattle.tcl_core.specs.Trees.What.{Seen, Changed, Charged, Nested, Unnested, Refused, Limited, DepthLimited, Made, Dropped, Out, In, Done, Back, Unfound}
-use Rattle.tcl_core.specs.Programs.{Prog, Table, Wait}
+use Rattle.tcl_core.specs.Programs.{Wait}
 use Rattle.tcl_core.specs.Runs.{fits}
 use Rattle.tcl_core.specs.Rules.{IsNoExit}
-use Rattle.tcl_core.specs.Execution.{Crossings, Executes, event, hears}
+use Rattle.tcl_core.specs.Execution.{Crossings, event, hears}
 use Rattle.tcl_core.specs.Lives.{Outcome, ending_of, outcome_of, put, told}
-use Rattle.tcl_core.specs.Lives.Outcome.{Finished, Exited}
+use Rattle.tcl_core.specs.Lives.Outcome.{Finished}
 use Rattle.tcl_core.proofs.Plain.{IsPlain}
 use Rattle.tcl_core.proofs.Seeing.{is_exit_self}
 use Rattle.tcl_reactions.specs.Moving
@@ -25,7 +24,7 @@ use Rattle.tcl_reactions.specs.Playing as playing
 use Rattle.tcl_reactions.specs.Playing.{Answers, Fate, IsEnd, IsNoCut, Player, plays, suits, telling}
 use Rattle.tcl_reactions.specs.Playing.Answers.{reads, ends, passes}
 use Rattle.tcl_reactions.specs.Playing.Fate.{EndsAbove}
-use Rattle.tcl_reactions.proofs.Turns.{calm_ending, not_some}
+use Rattle.tcl_reactions.proofs.Turns.{calm_ending}
 use Rattle.tcl_reactions.proofs.Ways.{Calm, calm_suits, outcome_append}
 
 -- no step is left where one is refused

@@ -2,7 +2,7 @@
 use Rattle.std.proofs.Common.{sym, ◌≡◌, ℕ, ℤ, ◌+◌, Bool, true, false, List, [], ◌∷◌, ◌++◌, Some, None, length, refl, ◌∙◌, ap, subst, Option}
 use Rattle.std.specs.Prelude.{nat_lt, ◌-◌}
 use Rattle.tcl_core.specs.Paths.{falls, together, Path, Place, Height, rise_to}
-use Rattle.tcl_core.specs.Endings.{Completion, Meter, Reply, IsQuit, Kind}
+use Rattle.tcl_core.specs.Endings.{Completion, Reply, IsQuit, Kind}
 use Rattle.tcl_core.specs.Endings.Reply.{Completed, Stop, Exit, Cut}
 use Rattle.tcl_core.specs.Entries.{Entry, Said}
 use Rattle.tcl_core.specs.Entries.Answer.{Replied}

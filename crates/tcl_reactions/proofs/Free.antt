@@ -13,7 +13,7 @@ use Rattle.tcl_core.specs.Trees.{Tree, Event, Move}
 use Rattle.tcl_core.specs.Trees.Move.{Born, Fall, Enter, Come}
 use Rattle.tcl_core.specs.Trees.What.{Charged, Refused, Out, In, Done, Back, Unfound}
 use Rattle.tcl_core.specs.Programs.{Wait}
-use Rattle.tcl_core.specs.Runs.{is_exit, is_own, is_told, gone}
+use Rattle.tcl_core.specs.Runs.{is_exit, is_told, gone}
 use Rattle.tcl_core.specs.Execution.{event}
 use Rattle.tcl_core.specs.Lives.{Outcome}
 use Rattle.tcl_core.specs.Lives.Outcome.{Exited}

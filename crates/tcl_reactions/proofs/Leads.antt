@@ -9,7 +9,6 @@ use Rattle.tcl_core.specs.Trees.{Tree, Node, Event, Move, Grants, effect, grante
 use Rattle.tcl_core.specs.Trees.Grants.{Budget}
 use Rattle.tcl_core.specs.Trees.Move.{Come}
 use Rattle.tcl_core.specs.Programs.{Wrap, Prog, Table, closes}
-use Rattle.tcl_core.specs.Programs.Wrap.{Deeper, Framed}
 use Rattle.tcl_core.specs.Runs.{World, Ending, Step, carried}
 use Rattle.tcl_core.specs.Rules.{Derives, IsNoExit}
 use Rattle.tcl_core.specs.Execution.{event}

@@ -1,10 +1,10 @@
 -- The life of a tree to which an outside hands in entries, with a budget, is what the tree does by itself with its moves.
-use Rattle.std.proofs.Common.{sym, ◌≡◌, ℕ, suc, ◌+◌, ◌≤◌, List, [], ◌∷◌, ◌++◌, Option, Some, None, refl, ◌∙◌, ap, subst, arith, append-nil, append_assoc}
+use Rattle.std.proofs.Common.{sym, ◌≡◌, ℕ, suc, ◌+◌, List, [], ◌∷◌, ◌++◌, Option, Some, None, refl, ◌∙◌, ap, subst, arith, append-nil, append_assoc}
 use Rattle.tcl_core.specs.Paths.{Path, Place}
 use Rattle.tcl_core.specs.Endings.{Reply}
 use Rattle.tcl_core.specs.Endings.Reply.{Completed, Stop, Exit, Cut}
 use Rattle.tcl_core.specs.Entries.{Entry}
-use Rattle.tcl_core.specs.Trees.{Tree, Node, Event, Move, What, asked, effect, paid}
+use Rattle.tcl_core.specs.Trees.{Tree, Node, Event, What, asked, effect, paid}
 use Rattle.tcl_core.specs.Trees.What.{Charged, In, Done, Unfound}
 use Rattle.tcl_core.specs.Programs.{Prog, Table, Wait}
 use Rattle.tcl_core.specs.Rules.{IsNoExit}

@@ -10,7 +10,6 @@ use Rattle.tcl_core.specs.Trees.Grants.{Budget}
 use Rattle.tcl_core.specs.Trees.Move.{Enter, Come}
 use Rattle.tcl_core.specs.Trees.What.{Charged, Refused, Nested, Out, In, Done, Back, Unfound}
 use Rattle.tcl_core.specs.Programs.{Wait, Wrap, closes}
-use Rattle.tcl_core.specs.Programs.Wrap.{Deeper, Framed}
 use Rattle.tcl_core.specs.Runs.{World, Step, fits, is_told, gone}
 use Rattle.tcl_core.specs.Execution.{Crossings, event}
 use Rattle.tcl_core.specs.Lives.{Outcome, Uncut, IsUncut, begun, begun_at, ended, ended_at, last_of, one_more, outs_of, outcome_of, outcome_at, put, told}

@@ -8,12 +8,12 @@ use Rattle.tcl_core.specs.Endings.Reply.{Cut}
 use Rattle.tcl_core.specs.Entries.{Entry, Answer}
 use Rattle.tcl_core.specs.Entries.Answer.{Replied}
 use Rattle.tcl_core.specs.Trees.{Tree, Node, What, Event}
-use Rattle.tcl_core.specs.Trees.What.{Charged, Refused, Out, In, Done, Back, Unfound}
+use Rattle.tcl_core.specs.Trees.What.{Charged, Refused, In, Done, Back, Unfound}
 use Rattle.tcl_core.specs.Programs.{Wait, Table}
 use Rattle.tcl_core.specs.Views.{moves_of, steps_of}
 use Rattle.tcl_core.specs.Execution.{Chain, Crossings, Executes, Open, event}
 use Rattle.tcl_core.specs.Lives.{Outcome, React, ending_of, outs_of}
-use Rattle.tcl_core.specs.Lives.Outcome.{Finished, Exited, Ended, Spent}
+use Rattle.tcl_core.specs.Lives.Outcome.{Finished, Ended, Spent}
 use Rattle.tcl_reactions.specs.Playing.{IsEnd}
 
 -- The life from the tree T and the outside's state o, entry by entry: each is handed in where the
