@@ -169,7 +169,6 @@ module _ {O I : Type 0} (prog : Table O I) where
       let h = lived_steady l up in
       let k = run_steady (Crossings plays) prog U V w v t _ r (fit (prog.entry i) (prog.entries_call i)) run h.0 in
       (k.0, λ q. one_more (depth_of (S q)) (depth_of (U q)) (depth_of (V q)) (h.1 q) (k.1 q))
-
   lived_steady (strayed t i l calm last here reads) up = lived_steady l up
 
 module _ {O I : Type 0} where
